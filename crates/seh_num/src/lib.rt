@@ -1,0 +1,13 @@
+//! Numbers of a machine's widths, and what a run shows.
+//!
+//! Widths, the extensions between them and division are those of the Intel manual (volume 1,
+//! "Numeric Data Types"; volume 2, MOVSX, MOVZX, DIV, IDIV) and of C's integer types as the
+//! Microsoft compiler lays them out (C reference, "Storage of basic types"). No call takes memory.
+#![tactic(auto)]
+
+pub mod division;
+pub mod end;
+pub mod event;
+pub mod extension;
+pub mod steps;
+pub mod width;
