@@ -1,0 +1,99 @@
+-- Memory as a map from each address to what may be done there and to a byte.
+use Rattle.std.specs.Prelude.{ℕ, zero, suc, ◌+◌, ◌-◌, ◌*◌, ◌/◌, ◌%◌, ◌^◌, Bool, true, false, ◌&&◌, ◌==◌, nat_lt, nat_le, nat_eq, if◌then◌else◌, List, [], ◌∷◌, ℤ, Option, Some, None, Result, Ok, Err}
+use Rattle.seh_num.specs.declared.width.Width.{Width}
+use Rattle.seh_num.specs.Widths.{bytes_of}
+use Rattle.flat_memory.specs.declared.mode.Mode.{Mode}
+use Rattle.flat_memory.specs.declared.mode.Rights.{Rights}
+use Rattle.flat_memory.specs.declared.access.Access.{Access}
+use Rattle.flat_memory.specs.declared.access.Access.TheVariants.{Fault, Guard}
+use Rattle.flat_memory.specs.Modes.{is_readable, is_writable, mode_of}
+
+pub record Memory : Type 0 where
+  pub mode : ℕ → Mode
+  pub byte : ℕ → ℕ
+
+-- the address after one
+abbrev pub next : ℕ → ℕ
+next a = (a + 1) % 2 ^ 64
+
+-- the first of the n addresses from at on at which the test fails
+unfoldable pub first_refused : (ℕ → Bool) → ℕ → ℕ → Option ℕ
+first_refused may zero at = None
+first_refused may (suc n) at = if may at then first_refused may n (next at) else Some at
+
+-- the number that the n bytes from at on spell, the lowest first
+unfoldable pub number_at : (ℕ → ℕ) → ℕ → ℕ → ℕ
+number_at byte zero at = 0
+number_at byte (suc n) at = byte at + 256 * number_at byte n (next at)
+
+-- one byte changed
+abbrev pub with_byte : (ℕ → ℕ) → ℕ → ℕ → ℕ → ℕ
+with_byte byte at b a = if nat_eq a at then b else byte a
+
+-- how far an address lies after another
+abbrev pub distance : ℕ → ℕ → ℕ
+distance at a = (a + (2 ^ 64 - at)) % 2 ^ 64
+
+-- an address is one of the n from at on
+abbrev pub is_among : ℕ → ℕ → ℕ → Bool
+is_among n at a = nat_lt a (2 ^ 64) && nat_lt (distance at a) n
+
+-- the n lowest bytes of a number written from at on
+unfoldable pub with_number : (ℕ → ℕ) → ℕ → ℕ → ℕ → ℕ → ℕ
+with_number byte n at v a = if is_among n at a then v / 256 ^ distance at a % 256 else byte a
+
+-- a refused access, by the place of its first byte that may not be accessed
+abbrev pub in_guard : ℕ → Bool
+in_guard a = nat_le 0x6FFF0000 a && nat_lt a 0x70000000
+
+abbrev pub refused : Bool → ℕ → Access
+refused write a = if in_guard a then Guard a else Fault a write
+
+abbrev pub access : {A : Type 0} → Bool → Option ℕ → A → Result A Access
+access write None x = Ok x
+access write (Some a) x = Err (refused write a)
+
+abbrev pub may_read : Memory → ℕ → Bool
+may_read m a = is_readable (m.mode a).rights
+
+abbrev pub may_write : Memory → ℕ → Bool
+may_write m a = is_writable (m.mode a).rights
+
+-- what a load answers
+abbrev pub loaded : Memory → ℕ → Width → Result ℕ Access
+loaded m at w = access false (first_refused (may_read m) (bytes_of w) at) (number_at m.byte (bytes_of w) at)
+
+-- what a store answers, and the memory after it
+abbrev pub stored : Memory → ℕ → Width → Result Unit Access
+stored m at w = access true (first_refused (may_write m) (bytes_of w) at) tt
+
+abbrev pub unless_refused : Option ℕ → Memory → Memory → Memory
+unless_refused None new old = new
+unless_refused (Some a) new old = old
+
+abbrev pub with_bytes : Memory → (ℕ → ℕ) → Memory
+with_bytes m byte = record { mode = m.mode; byte = byte }
+
+abbrev pub after_store : Memory → ℕ → Width → ℕ → Memory
+after_store m at w v = unless_refused (first_refused (may_write m) (bytes_of w) at) (with_bytes m (with_number m.byte (bytes_of w) at v)) m
+
+-- the executable bytes at an address, at most n
+unfoldable pub executable : Memory → ℕ → ℕ → List ℕ
+executable m zero at = []
+executable m (suc n) at = if (m.mode at).execute then m.byte at ∷ executable m n (next at) else []
+
+-- ---- the arena, whose pages a program may protect
+
+abbrev pub in_arena : ℕ → Bool
+in_arena a = nat_le 0x20000000 a && nat_lt a 0x20100000
+
+-- whether a page's rights can be set so, and the memory after it
+abbrev pub rights_asked : ℕ → ℤ → Option Rights
+rights_asked at number = if in_arena at then mode_of number else None
+
+abbrev pub with_rights : Memory → ℕ → Option Rights → Memory
+with_rights m at None = m
+with_rights m at (Some r) = record { mode = λ a. if a / 4096 == at / 4096 then record (m.mode a) { rights = r } else m.mode a; byte = m.byte }
+
+abbrev pub protected : Memory → ℕ → ℤ → Memory
+protected m at number = with_rights m at (rights_asked at number)
