@@ -38,15 +38,15 @@ here at lt = omega arith
 digit_later : (v d : ℕ) → v / 256 / 256 ^ d ≡ v / 256 ^ (d + 1)
 digit_later v d = div-div-eq-div-mul v 256 (256 ^ d) ∙ ap (λ x. v / x) (mul_comm 256 (256 ^ d) ∙ sym (let e : d + 1 ≡ suc d = omega arith in ap (λ k. 256 ^ k) e ∙ pow-suc 256 d))
 
-among : (byte : ℕ → ℕ) (n at v a : ℕ) → a < 2 ^ 64 → distance at a < n → with_number byte n at v a ≡ v / 256 ^ distance at a % 256
+pub among : (byte : ℕ → ℕ) (n at v a : ℕ) → a < 2 ^ 64 → distance at a < n → with_number byte n at v a ≡ v / 256 ^ distance at a % 256
 unfolding with_number
 among byte n at v a la h = ap (λ b. cond (b && ltb (distance at a) n) (v / 256 ^ distance at a % 256) (byte a)) (lt-ltb a (2 ^ 64) la) ∙ ap (λ b. cond b (v / 256 ^ distance at a % 256) (byte a)) (lt-ltb (distance at a) n h)
 
-outside : (byte : ℕ → ℕ) (n at v a : ℕ) → 2 ^ 64 ≤ a → with_number byte n at v a ≡ byte a
+pub outside : (byte : ℕ → ℕ) (n at v a : ℕ) → 2 ^ 64 ≤ a → with_number byte n at v a ≡ byte a
 unfolding with_number
 outside byte n at v a h = ap (λ b. cond (b && ltb (distance at a) n) (v / 256 ^ distance at a % 256) (byte a)) (le-ltb a (2 ^ 64) h)
 
-beyond : (byte : ℕ → ℕ) (n at v a : ℕ) → a < 2 ^ 64 → n ≤ distance at a → with_number byte n at v a ≡ byte a
+pub beyond : (byte : ℕ → ℕ) (n at v a : ℕ) → a < 2 ^ 64 → n ≤ distance at a → with_number byte n at v a ≡ byte a
 unfolding with_number
 beyond byte n at v a la h = ap (λ b. cond (b && ltb (distance at a) n) (v / 256 ^ distance at a % 256) (byte a)) (lt-ltb a (2 ^ 64) la) ∙ ap (λ b. cond b (v / 256 ^ distance at a % 256) (byte a)) (le-ltb (distance at a) n h)
 

@@ -1,0 +1,4 @@
+pub mod Steps
+pub mod Stretches
+pub mod Paging
+pub mod Mapping

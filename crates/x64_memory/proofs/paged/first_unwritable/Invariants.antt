@@ -1,0 +1,8 @@
+use Rattle.std.proofs.Common.{◌≡◌, ◌-◌}
+use Rattle.flat_memory.specs.Memory.{may_write, first_refused}
+use Rattle.x64_memory.proofs.paged.first_unwritable.Given as goal
+
+abbrev pub invariant-loop-i : goal.invariant-loop-i
+invariant-loop-i g l =
+    let may = may_write (g.P.Paged.memory l.space) in
+    first_refused may (l.count - l._i) l.here ≡ first_refused may l.count l.at

@@ -1,0 +1,53 @@
+-- Memory as it is mapped by regions.
+use Rattle.std.specs.Prelude.{◌≡◌, ℕ, ◌+◌, ◌%◌, ◌≤◌, ◌<◌, Bool, true, false, ◌&&◌, ◌||◌, nat_le, nat_lt, if◌then◌else◌, List, [], ◌∷◌, length, slice_index, ◌-◌}
+use Rattle.flat_memory.specs.declared.mode.Mode.{Mode}
+use Rattle.flat_memory.specs.declared.mode.TheConstants.{UNMAPPED}
+use Rattle.flat_memory.specs.declared.mode.Rights.{Rights}
+use Rattle.flat_memory.specs.declared.mode.Rights.TheVariants.{Nothing, Read, ReadWrite}
+use Rattle.flat_memory.specs.Memory.{Memory}
+use Rattle.x64_memory.specs.declared.region.Region.{Region}
+
+abbrev pub rights : Bool → Bool → Rights
+rights read true = ReadWrite
+rights true false = Read
+rights false false = Nothing
+
+abbrev pub region_mode : Region → Mode
+region_mode r = record { rights = rights r.read r.write; execute = r.execute }
+
+abbrev pub covers : Region → ℕ → Bool
+covers r a = nat_le r.start a && nat_lt a r.end
+
+-- a region over what was there
+abbrev pub with_region : Memory → Region → Memory
+with_region m r = record { mode = λ a. if covers r a then region_mode r else m.mode a; byte = λ a. if covers r a then 0 else m.byte a }
+
+abbrev pub mapped_over : Memory → List Region → Memory
+mapped_over m [] = m
+mapped_over m (r ∷ rs) = mapped_over (with_region m r) rs
+
+abbrev pub unmapped : Memory
+unmapped = record { mode = λ a. UNMAPPED; byte = λ a. 0 }
+
+-- the memory of some regions
+abbrev pub mapped : List Region → Memory
+mapped rs = mapped_over unmapped rs
+
+-- an address lies in a region
+abbrev pub in_regions : List Region → ℕ → Bool
+in_regions [] a = false
+in_regions (r ∷ rs) a = covers r a || in_regions rs a
+
+-- a region of whole pages, writable only where it is readable
+pub record IsWhole (r : Region) : Type 0 where
+  pub start : r.start % 4096 ≡ 0
+  pub end : r.end % 4096 ≡ 0
+  pub order : r.start ≤ r.end
+  pub readable : r.write ≡ true → r.read ≡ true
+
+abbrev pub HoldsArena : List Region → Type 0
+HoldsArena rs = (a : ℕ) → 0x20000000 ≤ a → a < 0x20100000 → in_regions rs a ≡ true
+
+-- memory with bytes put at a place, whatever the modes there
+abbrev pub filled : Memory → ℕ → List ℕ → Memory
+filled m at xs = record { mode = m.mode; byte = λ a. if nat_le at a && nat_lt a (at + length xs) then slice_index xs (a - at) else m.byte a }

@@ -1,0 +1,9 @@
+//! The machine's memory: the trait that the machine asks of it, and memory in an ordered map of
+//! pages.
+#![tactic(auto)]
+
+pub mod map_space;
+pub mod page;
+pub mod paged;
+pub mod region;
+pub mod space;

@@ -1,0 +1,193 @@
+//! Accesses to memory that is kept in pages: a page is looked up once for an access that lies in it.
+
+ghost use Rattle.std.specs.Prelude.{◌≡◌, ◌+◌, ◌*◌, ◌%◌, ◌≤◌, ◌^◌, ◌<◌, ℕ, true, None, IfOk, length, take, slice_index};
+ghost use Rattle.seh_num.specs.Widths.{bytes_of, limit};
+ghost use Rattle.flat_memory.specs.Memory.{Memory, with_bytes, with_number, loaded, stored, after_store, may_write, may_read, first_refused, number_at, refused, executable};
+ghost use Rattle.byteorder.specs.Endian.{little_number};
+ghost use Rattle.x64_memory.specs.Pages.{IsStretch, readable_byte, number_or_refused};
+
+use crate::page::PAGE;
+use byteorder::{ByteOrder, LittleEndian};
+use flat_memory::access::Access;
+use flat_memory::mode::Mode;
+use seh_num::width::Width;
+
+/// Memory that is kept in pages.
+pub trait Paged {
+    ghost memory: { Self → Memory };
+
+    /// The mode at an address, and the bytes from there to the end of its page; none where no page
+    /// is.
+    fn stretch(&self, at: u64) -> (Mode, &[u8])
+        ensures { IsStretch (memory self.now) at result.0 result.1.now };
+
+    /// Puts the low bytes of a number into one page.
+    fn put(&mut self, at: u64, width: Width, value: u64)
+        requires within { at % 4096 + bytes_of width ≤ 4096 }
+        requires may { may_write (memory self.old) at ≡ true }
+        ensures { memory self.new ≡ with_bytes (memory self.old) (with_number (memory self.old).byte (bytes_of width) at value) };
+}
+
+fn refusal(write: bool, address: u64) -> Access
+    ensures { result ≡ refused write address }
+{
+    if 0x6FFF_0000 <= address && address < 0x7000_0000 {
+        Access::Guard { address }
+    } else {
+        Access::Fault { address, write }
+    }
+}
+
+/// The number in the first bytes.
+fn little_number(bytes: &[u8], width: Width) -> u64
+    requires { bytes_of width ≤ length bytes.now }
+    ensures { result ≡ little_number (bytes_of width) bytes.now }
+{
+    match width {
+        Width::W8 => u64::from(bytes[0]),
+        Width::W16 => u64::from(LittleEndian::read_u16(bytes)),
+        Width::W32 => u64::from(LittleEndian::read_u32(bytes)),
+        Width::W64 => LittleEndian::read_u64(bytes),
+    }
+}
+
+/// The byte at an address, where it may be read.
+fn byte<P: Paged>(space: &P, at: u64) -> Option<u8>
+    ensures { result ≡ readable_byte (P.memory space.now) at }
+{
+    let (mode, bytes) = space.stretch(at);
+    if !mode.rights.is_readable() {
+        return None;
+    }
+    match bytes {
+        [] => None,
+        [first, ..] => Some(*first),
+    }
+}
+
+/// The number at an address, or the first address that can't be read; byte by byte, over the ends
+/// of pages.
+fn spread_number<P: Paged>(space: &P, at: u64, count: u64) -> Result<u64, u64>
+    requires { count ≤ 8 }
+    ensures value { result ≡ number_or_refused (P.memory space.now) count at }
+    ensures small { IfOk result (λ v. v < 256 ^ count) }
+{
+    if count == 0 {
+        return Ok(0);
+    }
+    match byte(space, at) {
+        None => Err(at),
+        Some(low) => match spread_number(space, at.wrapping_add(1), count - 1) {
+            Err(address) => Err(address),
+            Ok(high) => Ok(u64::from(low) + 256 * high),
+        },
+    }
+}
+
+/// The number at an address.
+pub fn load<P: Paged>(space: &P, at: u64, width: Width) -> Result<u64, Access>
+    ensures value { result ≡ loaded (P.memory space.now) at width }
+    ensures fits { IfOk result (λ v. v < limit width) }
+{
+    let (mode, bytes) = space.stretch(at);
+    if (bytes.len() as u64) < width.bytes() {
+        return match spread_number(space, at, width.bytes()) {
+            Ok(value) => Ok(value),
+            Err(address) => Err(refusal(false, address)),
+        };
+    }
+    if !mode.rights.is_readable() {
+        return Err(refusal(false, at));
+    }
+    Ok(little_number(bytes, width))
+}
+
+/// Whether the byte at an address may be written.
+fn is_writable<P: Paged>(space: &P, at: u64) -> bool
+    ensures { result ≡ may_write (P.memory space.now) at }
+{
+    let (mode, _) = space.stretch(at);
+    mode.rights.is_writable()
+}
+
+#[tactic(auto, using(crate::proofs::Steps::refused_steps))]
+/// The first of some addresses that can't be written.
+fn first_unwritable<P: Paged>(space: &P, at: u64, count: u64) -> Option<u64>
+    ensures { result ≡ first_refused (may_write (P.memory space.now)) count at }
+{
+    let mut here = at;
+    for _i in 0..count {
+        if !is_writable(space, here) {
+            return Some(here);
+        }
+        here = here.wrapping_add(1);
+    }
+    None
+}
+
+/// Whether a number may be put at an address.
+pub fn may_store<P: Paged>(space: &P, at: u64, width: Width) -> Result<(), Access>
+    ensures { result ≡ stored (P.memory space.now) at width }
+{
+    let (mode, bytes) = space.stretch(at);
+    let within = width.bytes() <= bytes.len() as u64;
+    if within && mode.rights.is_writable() {
+        return Ok(());
+    }
+    match first_unwritable(space, at, width.bytes()) {
+        Some(address) => Err(refusal(true, address)),
+        None => Ok(()),
+    }
+}
+
+/// Puts a number byte by byte, over the ends of pages.
+fn spread_store<P: Paged>(space: &mut P, at: u64, count: u64, value: u64)
+    requires few { count ≤ 8 }
+    requires may { first_refused (may_write (P.memory space.old)) count at ≡ None }
+    ensures { P.memory space.new ≡ with_bytes (P.memory space.old) (with_number (P.memory space.old).byte count at value) }
+{
+    let mut here = at;
+    let mut rest = value;
+    for _i in 0..count {
+        space.put(here, Width::W8, rest);
+        here = here.wrapping_add(1);
+        rest /= 256;
+    }
+}
+
+/// Puts the low bytes of a number at an address.
+pub fn store<P: Paged>(space: &mut P, at: u64, width: Width, value: u64) -> Result<(), Access>
+    ensures answer { result ≡ stored (P.memory space.old) at width }
+    ensures after { P.memory space.new ≡ after_store (P.memory space.old) at width value }
+{
+    may_store(space, at, width)?;
+    if at % PAGE + width.bytes() <= PAGE {
+        space.put(at, width, value);
+    } else {
+        spread_store(space, at, width.bytes(), value);
+    }
+    Ok(())
+}
+
+/// The executable bytes from an address on, as many as there are of fifteen.
+pub fn fetch<P: Paged>(space: &P, at: u64, into: &mut [u8; 15]) -> usize
+    ensures count { result ≤ 15 }
+    ensures bytes { take result into.new ≡ executable (P.memory space.now) 15 at }
+{
+    let mut here = at;
+    let mut filled: usize = 0;
+    while filled < 15 {
+        let (mode, bytes) = space.stretch(here);
+        if !mode.execute {
+            break;
+        }
+        let count = bytes.len().min(15 - filled);
+        if count == 0 {
+            break;
+        }
+        into[filled..filled + count].copy_from_slice(&bytes[..count]);
+        filled += count;
+        here = here.wrapping_add(count as u64);
+    }
+    filled
+}

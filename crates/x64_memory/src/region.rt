@@ -1,0 +1,38 @@
+ghost use Rattle.std.specs.Prelude.{◌≡◌};
+ghost use Rattle.x64_memory.specs.Regions.{region_mode};
+
+use flat_memory::mode::{Mode, Rights};
+
+/// Addresses from `start` to below `end` that are mapped with one mode.
+#[derive(Clone, Copy, Debug, PartialEq, Eq)]
+pub struct Region {
+    /// The first address, a multiple of 4,096.
+    pub start: u64,
+    /// The address after the last, a multiple of 4,096 that isn't below the first.
+    pub end: u64,
+    /// Whether the bytes may be read.
+    pub read: bool,
+    /// Whether they may be written; only where they may be read.
+    pub write: bool,
+    /// Whether they may be executed.
+    pub execute: bool,
+}
+
+impl Region {
+    /// What may be done with the region's bytes.
+    pub fn mode(&self) -> Mode
+        ensures { result ≡ region_mode self.now }
+    {
+        let rights = if self.write {
+            Rights::ReadWrite
+        } else if self.read {
+            Rights::Read
+        } else {
+            Rights::Nothing
+        };
+        Mode {
+            rights,
+            execute: self.execute,
+        }
+    }
+}
