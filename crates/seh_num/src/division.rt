@@ -14,8 +14,9 @@ pub enum DivFault {
     Overflow,
 }
 
-/// Whether a whole number is a signed number of the width.
-fn is_signed(w: Width, z: i128) -> bool
+/// Whether a whole number is a signed number of the width: from minus half the width's limit to
+/// half of it less 1.
+pub fn is_signed(w: Width, z: i128) -> bool
     ensures { result ≡ is_signed w z }
 {
     let half = w.limit() / 2;
