@@ -1,0 +1,4 @@
+pub mod Loading
+pub mod HostStep
+pub mod Machine
+pub mod Worked

@@ -1,0 +1,96 @@
+-- How an image stands in memory, and the state that a run starts from (PE format, "Section Table"; the stack, the arena and their places are the host's own).
+use Rattle.std.specs.Prelude.{◌≡◌, ℕ, ◌+◌, ◌-◌, ◌*◌, ◌/◌, ◌%◌, ◌^◌, Bool, true, false, ◌&&◌, ◌||◌, ◌==◌, nat_lt, nat_le, if◌then◌else◌, List, [], ◌∷◌, replicate, ℤ, Option, Some, None, slice_index}
+use Rattle.seh_num.specs.declared.width.Width.TheVariants.{W64}
+use Rattle.seh_num.specs.Widths.{wrapped}
+use Rattle.flat_memory.specs.declared.mode.Mode.{Mode}
+use Rattle.flat_memory.specs.declared.mode.TheConstants.{UNMAPPED}
+use Rattle.flat_memory.specs.declared.mode.Rights.{Rights}
+use Rattle.flat_memory.specs.declared.mode.Rights.TheVariants.{Nothing, Read, ReadWrite}
+use Rattle.flat_memory.specs.Memory.{Memory}
+use Rattle.pe_image.specs.Image.{Section, Image, is_executable, is_writable, is_readable}
+use Rattle.x64_machine.specs.declared.cpu.Cpu.{Cpu}
+use Rattle.x64_machine.specs.Effect.{State}
+use Rattle.host_model.specs.declared.refusal.LoadErr.{LoadErr}
+use Rattle.host_model.specs.declared.refusal.LoadErr.TheVariants.{Place, Entry}
+
+-- whole pages
+abbrev pub pages : ℕ → ℕ
+pages n = (n + 4095) / 4096 * 4096
+
+-- the address of a section's first byte
+abbrev pub begins_at : ℕ → Section → ℕ
+begins_at base s = base + s.address
+
+-- a section is mapped to the end of its last page
+abbrev pub covers : ℕ → ℕ → Section → Bool
+covers base a s = nat_le (begins_at base s) a && nat_lt a (begins_at base s + pages s.size)
+
+abbrev pub or_else : Option Section → Section → Bool → Option Section
+or_else others s true = Some s
+or_else others s false = others
+
+-- the section at an address
+abbrev pub section_of : ℕ → ℕ → List Section → Option Section
+section_of base a [] = None
+section_of base a (s ∷ ss) = or_else (section_of base a ss) s (covers base a s)
+
+abbrev pub rights_of : Bool → Bool → Rights
+rights_of read true = ReadWrite
+rights_of true false = Read
+rights_of false false = Nothing
+
+abbrev pub section_mode : Section → Mode
+section_mode s = record { rights = rights_of (is_readable s) (is_writable s); execute = is_executable s }
+
+-- outside the image the stack alone may be accessed; the arena's pages begin with no rights
+abbrev pub in_stack : ℕ → Bool
+in_stack a = nat_le 0x70000000 a && nat_lt a 0x70800000
+
+abbrev pub stack_mode : Bool → Mode
+stack_mode true = record { rights = ReadWrite; execute = false }
+stack_mode false = UNMAPPED
+
+abbrev pub mode_in : Option Section → ℕ → Mode
+mode_in (Some s) a = section_mode s
+mode_in None a = stack_mode (in_stack a)
+
+-- what the file stores of a section, and zeros behind it
+abbrev pub byte_in : ℕ → Option Section → ℕ → ℕ
+byte_in base (Some s) a = slice_index s.raw (a - begins_at base s)
+byte_in base None a = 0
+
+unfoldable pub mapped : Image → Memory
+mapped image = record {
+  mode = λ a. mode_in (section_of image.base a image.sections) a;
+  byte = λ a. byte_in image.base (section_of image.base a image.sections) a;
+}
+
+-- RIP is the entry point, RCX the argument; RSP points to a return address of 0 near the stack's top
+abbrev pub first_cpu : ℕ → ℤ → Cpu
+first_cpu entry arg = record {
+  registers = 0 ∷ wrapped W64 arg ∷ 0 ∷ 0 ∷ 0x707FFFD8 ∷ replicate 11 0;
+  rip = entry;
+  flags = record { carry = false; zero = false; sign = false; overflow = false };
+}
+
+unfoldable pub start : Image → ℤ → State
+start image arg = record { cpu = first_cpu (image.base + image.entry) arg; memory = mapped image }
+
+-- ---- what isn't loaded
+
+-- the base is aligned and above 4 GiB, the image at most 256 MiB and its end at most 2^47
+abbrev pub has_place : Image → Bool
+has_place image = (image.base % 65536 == 0) && nat_le 0x100000000 image.base && nat_le image.size 0x10000000 && nat_le (image.base + image.size) (2 ^ 47)
+
+abbrev pub is_code : Option Section → Bool
+is_code None = false
+is_code (Some s) = is_executable s
+
+abbrev pub has_entry : Image → Bool
+has_entry image = is_code (section_of 0 image.entry image.sections)
+
+-- the first reason that an image isn't loaded, if there is one
+abbrev pub load_refusal : Image → Option LoadErr
+load_refusal image =
+    if has_place image then (if has_entry image then None else Some (Entry image.entry))
+    else Some (Place image.base)

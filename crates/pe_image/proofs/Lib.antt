@@ -1,0 +1,4 @@
+pub mod Example
+pub mod Sections
+pub mod Stored
+pub mod Whole

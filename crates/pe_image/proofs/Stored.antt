@@ -1,0 +1,55 @@
+-- Among ascending sections, the last that begins at or below an address is the one that may store its byte.
+use Rattle.std.proofs.Common.{◌≡◌, ℕ, zero, suc, ◌+◌, ◌-◌, ◌<◌, ◌≤◌, false, List, [], ◌∷◌, length, drop, get_or, ◌≢◌, ltb, leb, None, refl, sym, ap, ◌∙◌, inl, inr, arith}
+use Rattle.std.specs.List.Sorted.{IsNonDecreasingBy}
+use Rattle.std.proofs.lemmas.Bool.{cases_lt, and_from, and_left, and_right, lt-ltb, le-ltb, le-leb, lt-leb}
+use Rattle.std.proofs.lemmas.List.{drop_all}
+use Rattle.pe_image.specs.Image.{Section, AreAscending, holds, section_or, section_at, stored_in}
+
+lies_above : (end : ℕ) (ss : List Section) (k : ℕ) (d : Section) → AreAscending end ss → k < length ss → end ≤ (get_or ss k d).address
+lies_above end [] k d up lt = absurd (omega arith)
+lies_above end (s ∷ ss) zero d up lt = up.0
+lies_above end (s ∷ ss) (suc k) d up lt = let above = lies_above (s.address + s.size) ss k d up.3 (omega arith) in omega (arith, up.0)
+
+pub addresses_rise : (end : ℕ) (ss : List Section) → AreAscending end ss → IsNonDecreasingBy (λ s. s.address) ss
+addresses_rise end [] up i j d le lt = absurd (omega arith)
+addresses_rise end (s ∷ ss) up zero zero d le lt = omega arith
+addresses_rise end (s ∷ ss) up zero (suc j) d le lt = let above = lies_above (s.address + s.size) ss j d up.3 (omega arith) in omega arith
+addresses_rise end (s ∷ ss) up (suc i) zero d le lt = absurd (omega arith)
+addresses_rise end (s ∷ ss) up (suc i) (suc j) d le lt = addresses_rise (s.address + s.size) ss up.3 i j d (omega arith) (omega arith)
+
+below_holds_none : (rva : ℕ) (s : Section) → rva < s.address → holds rva s ≡ false
+below_holds_none rva s lt = and_left (leb s.address rva) (ltb rva (s.address + length s.raw)) (lt-leb s.address rva lt)
+
+above_holds_none : (rva : ℕ) (s : Section) → s.address + length s.raw ≤ rva → holds rva s ≡ false
+above_holds_none rva s le = and_right (leb s.address rva) (ltb rva (s.address + length s.raw)) (le-ltb rva (s.address + length s.raw) le)
+
+pub none_above : (rva : ℕ) (ss : List Section) → ((k : ℕ) (d : Section) → k < length ss → rva < (get_or ss k d).address) → section_at rva ss ≡ None
+none_above rva [] above = refl
+none_above rva (s ∷ ss) above =
+    ap (section_or (section_at rva ss) s) (below_holds_none rva s (above 0 s (omega arith)))
+    ∙ none_above rva ss (λ k d lt. above (suc k) d (omega arith))
+
+pub last_below : (rva end : ℕ) (ss : List Section) (k : ℕ) (d : Section) → AreAscending end ss → k < length ss → (get_or ss k d).address ≤ rva
+    → ((j : ℕ) (e : Section) → k < j → j < length ss → rva < (get_or ss j e).address)
+    → stored_in rva (section_at rva ss) ≡ drop (rva - (get_or ss k d).address) (get_or ss k d).raw
+last_below rva end [] k d up lt le above = absurd (omega arith)
+last_below rva end (s ∷ ss) zero d up lt le above =
+    let others : section_at rva ss ≡ None = none_above rva ss (λ j e h. above (suc j) e (omega arith) (omega arith)) in
+    ap (λ o. stored_in rva (section_or o s (holds rva s))) others
+    ∙ (elim (cases_lt rva (s.address + length s.raw)) as (λ _. stored_in rva (section_or None s (holds rva s)) ≡ drop (rva - s.address) s.raw) [
+      | inl inside ↦ ap (λ b. stored_in rva (section_or None s b)) (and_from (leb s.address rva) (ltb rva (s.address + length s.raw)) (le-leb s.address rva le) (lt-ltb rva (s.address + length s.raw) inside))
+      | inr past ↦ ap (λ b. stored_in rva (section_or None s b)) (above_holds_none rva s past) ∙ sym (drop_all (rva - s.address) s.raw (omega arith))
+    ])
+last_below rva end (s ∷ ss) (suc k) d up lt le above =
+    let later = lies_above (s.address + s.size) ss k d up.3 (omega arith) in
+    ap (λ b. stored_in rva (section_or (section_at rva ss) s b)) (above_holds_none rva s (omega (arith, up.2)))
+    ∙ last_below rva (s.address + s.size) ss k d up.3 (omega arith) le (λ j e h1 h2. above (suc j) e (omega arith) (omega arith))
+
+-- the same by how many begin at or below it
+pub begun_before : (rva n : ℕ) (ss : List Section) (s : Section) → AreAscending 0 ss → n ≤ length ss → n ≢ 0 → s ≡ get_or ss (n - 1) s
+    → ((k : ℕ) (d : Section) → k < n → (get_or ss k d).address ≤ rva)
+    → ((k : ℕ) (d : Section) → n ≤ k → k < length ss → rva < (get_or ss k d).address)
+    → drop (rva - s.address) s.raw ≡ stored_in rva (section_at rva ss)
+begun_before rva n ss s up within some is begun later =
+    ap (λ (t : Section). drop (rva - t.address) t.raw) is
+    ∙ sym (last_below rva 0 ss (n - 1) s up (omega arith) (begun (n - 1) s (omega arith)) (λ j e h1 h2. later j e (omega arith) h2))

@@ -1,0 +1,22 @@
+-- Answers with a refusal: the first refusal is the answer.
+use Rattle.std.specs.Prelude.{◌≡◌, Bool, true, false, Result, Ok, Err}
+use Rattle.pe_image.specs.declared.refusal.ImageErr.{ImageErr}
+use Rattle.pe_image.specs.declared.refusal.ImageErr.TheVariants as refusals
+
+infixl 10 ◌>>=◌
+abbrev pub ◌>>=◌ : {A B : Type 0} → Result A ImageErr → (A → Result B ImageErr) → Result B ImageErr
+(Ok x) >>= f = f x
+(Err e) >>= f = Err e
+
+abbrev pub unless : Bool → ImageErr → Result Unit ImageErr
+unless true e = Ok tt
+unless false e = Err e
+
+-- A call answers what a definition gives, unless memory ran out.
+abbrev pub Refuses : {Y : Type 0} → ImageErr → Result Y ImageErr → Type 0
+Refuses refusals.Memory given = Unit {0}
+Refuses e given = given ≡ Err e
+
+abbrev pub Gives : {X Y : Type 0} → (X → Y) → Result X ImageErr → Result Y ImageErr → Type 0
+Gives view (Ok x) given = given ≡ Ok (view x)
+Gives view (Err e) given = Refuses e given

@@ -1,0 +1,4 @@
+pub mod Answer
+pub mod Field
+pub mod Image
+pub mod Reading

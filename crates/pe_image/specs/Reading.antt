@@ -1,0 +1,147 @@
+-- How an image is read: fields by their places in the PE format, and the checks in their order.
+use Rattle.std.specs.Prelude.{◌≡◌, ℕ, zero, suc, ◌+◌, ◌*◌, ◌/◌, ◌%◌, ◌≤◌, Bool, ◌&&◌, ◌||◌, ◌==◌, nat_lt, nat_le, if◌then◌else◌, List, [], ◌∷◌, length, take, drop, map, min, Result, Ok, Err}
+use Rattle.pe_image.specs.declared.directory.Directory.{Directory}
+use Rattle.pe_image.specs.declared.refusal.ImageErr.{ImageErr}
+use Rattle.pe_image.specs.declared.refusal.ImageErr.TheVariants as refusals
+use Rattle.pe_image.specs.declared.table.SectionHeader.{SectionHeader}
+use Rattle.pe_image.specs.Answer.{◌>>=◌, unless}
+use Rattle.pe_image.specs.Field.{field, is_there}
+use Rattle.pe_image.specs.Image.{Section, Image}
+
+-- ---- the headers
+
+-- e_lfanew, where the signature stands
+abbrev pub signature_at : List ℕ → ℕ
+signature_at bytes = field 4 bytes 0x3C
+
+-- the file header, behind the signature
+abbrev pub machine : List ℕ → ℕ
+machine bytes = field 2 bytes (signature_at bytes + 4)
+
+abbrev pub section_count : List ℕ → ℕ
+section_count bytes = field 2 bytes (signature_at bytes + 6)
+
+abbrev pub optional_size : List ℕ → ℕ
+optional_size bytes = field 2 bytes (signature_at bytes + 20)
+
+-- the optional header, with the directories at its end
+abbrev pub optional_at : List ℕ → ℕ
+optional_at bytes = signature_at bytes + 24
+
+abbrev pub magic : List ℕ → ℕ
+magic bytes = field 2 bytes (optional_at bytes)
+
+abbrev pub entry_point : List ℕ → ℕ
+entry_point bytes = field 4 bytes (optional_at bytes + 16)
+
+abbrev pub image_base : List ℕ → ℕ
+image_base bytes = field 8 bytes (optional_at bytes + 24)
+
+abbrev pub image_size : List ℕ → ℕ
+image_size bytes = field 4 bytes (optional_at bytes + 56)
+
+abbrev pub directory_count : List ℕ → ℕ
+directory_count bytes = field 4 bytes (optional_at bytes + 108)
+
+abbrev pub directories_at : List ℕ → ℕ
+directories_at bytes = optional_at bytes + 112
+
+-- the section table, behind the optional header
+abbrev pub sections_at : List ℕ → ℕ
+sections_at bytes = optional_at bytes + optional_size bytes
+
+unfoldable pub headers : List ℕ → Result Unit ImageErr
+headers bytes = do
+  _ ← unless (is_there bytes 0 64) (refusals.Truncated 0)
+  _ ← unless (field 2 bytes 0 == 0x5A4D) (refusals.NotPe 0)
+  _ ← unless (is_there bytes (signature_at bytes) 24) (refusals.Truncated (signature_at bytes))
+  _ ← unless (field 4 bytes (signature_at bytes) == 0x4550) (refusals.NotPe (signature_at bytes))
+  _ ← unless (machine bytes == 0x8664) (refusals.Machine (machine bytes))
+  _ ← unless (is_there bytes (optional_at bytes) 112 && nat_le 112 (optional_size bytes)) (refusals.Truncated (optional_at bytes))
+  _ ← unless (magic bytes == 0x20B) (refusals.Magic (magic bytes))
+  _ ← unless (nat_le (112 + 8 * directory_count bytes) (optional_size bytes) && is_there bytes (directories_at bytes) (8 * directory_count bytes)) (refusals.Truncated (directories_at bytes))
+  unless (is_there bytes (sections_at bytes) (40 * section_count bytes)) (refusals.Truncated (sections_at bytes))
+
+-- the bytes that the checks of the headers find there
+pub record HasHeaders (bytes : List ℕ) : Type 0 where
+  pub optional : optional_at bytes + 112 ≤ length bytes
+  pub directories : directories_at bytes + 8 * directory_count bytes ≤ length bytes
+  pub table : sections_at bytes + 40 * section_count bytes ≤ length bytes
+
+-- a directory by its index; one that isn't counted is empty
+abbrev pub directory : List ℕ → ℕ → Directory
+directory bytes k =
+    if nat_lt k (directory_count bytes)
+    then record { rva = field 4 bytes (directories_at bytes + 8 * k); size = field 4 bytes (directories_at bytes + 8 * k + 4) }
+    else record { rva = 0; size = 0 }
+
+-- ---- the sections
+
+-- a VirtualSize of 0 means SizeOfRawData
+abbrev pub size_of : ℕ → ℕ → ℕ
+size_of zero raw_size = raw_size
+size_of (suc n) raw_size = suc n
+
+abbrev pub header_at : List ℕ → ℕ → SectionHeader
+header_at bytes at = record {
+  size = size_of (field 4 bytes (at + 8)) (field 4 bytes (at + 16));
+  address = field 4 bytes (at + 12);
+  raw_size = field 4 bytes (at + 16);
+  raw_at = field 4 bytes (at + 20);
+  flags = field 4 bytes (at + 36);
+}
+
+abbrev pub headers_from : List ℕ → ℕ → ℕ → List SectionHeader
+headers_from bytes zero at = []
+headers_from bytes (suc n) at = header_at bytes at ∷ headers_from bytes n (at + 40)
+
+-- the raw data in the file; pages above the end of the section before and within the image
+abbrev pub is_laid_out : ℕ → ℕ → ℕ → SectionHeader → Bool
+is_laid_out file_size limit end s =
+    ((s.raw_size == 0) || nat_le (s.raw_at + s.raw_size) file_size) && (s.address % 4096 == 0) && nat_le end s.address && nat_le (s.address + s.size) limit
+
+abbrev pub all_laid_out : ℕ → ℕ → ℕ → ℕ → List SectionHeader → Result Unit ImageErr
+all_laid_out file_size limit index end [] = Ok tt
+all_laid_out file_size limit index end (s ∷ ss) = do
+  _ ← unless (is_laid_out file_size limit end s) (refusals.Layout index)
+  all_laid_out file_size limit (index + 1) (s.address + s.size) ss
+
+-- what is stored of a section lies below its size
+abbrev pub section_of : List ℕ → SectionHeader → Section
+section_of bytes s = record { address = s.address; size = s.size; raw = take (min s.size s.raw_size) (drop s.raw_at bytes); flags = s.flags }
+
+abbrev pub sections_of : List ℕ → ℕ → List SectionHeader → Result (List Section) ImageErr
+sections_of bytes limit hs = do
+  _ ← all_laid_out (length bytes) limit 0 0 hs
+  Ok (map (section_of bytes) hs)
+
+-- ---- the image
+
+-- SizeOfImage, rounded up to whole pages
+abbrev pub image_end : List ℕ → ℕ
+image_end bytes = (image_size bytes + 4095) / 4096 * 4096
+
+abbrev pub image_with : List ℕ → List Section → Image
+image_with bytes sections = record {
+  base = image_base bytes;
+  entry = entry_point bytes;
+  size = image_size bytes;
+  sections = sections;
+  imports = directory bytes 1;
+  exceptions = directory bytes 3;
+}
+
+unfoldable pub reading : List ℕ → Result Image ImageErr
+reading bytes = do
+  _ ← headers bytes
+  sections ← sections_of bytes (image_end bytes) (headers_from bytes (section_count bytes) (sections_at bytes))
+  Ok (image_with bytes sections)
+
+-- the bytes are read as this image
+abbrev pub IsImage : List ℕ → Image → Type 0
+IsImage bytes image = reading bytes ≡ Ok image
+
+-- the bytes are refused so; a want of memory says nothing of them
+abbrev pub IsRefused : List ℕ → ImageErr → Type 0
+IsRefused bytes refusals.Memory = Unit {0}
+IsRefused bytes e = reading bytes ≡ Err e

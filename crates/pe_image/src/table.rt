@@ -1,0 +1,108 @@
+//! The section table of an image.
+
+ghost use Rattle.std.specs.Prelude.{◌≡◌, ◌≤◌, ◌+◌, ◌*◌, ◌^◌, ◌<◌, ◌⊎◌, length, IfOk};
+ghost use Rattle.pe_image.specs.Answer.{Gives};
+ghost use Rattle.pe_image.specs.Image.{AreAscending};
+ghost use Rattle.pe_image.specs.Reading.{headers_from, sections_of};
+
+use crate::fields::u32_at;
+use crate::refusal::ImageErr;
+use crate::section::SectionView;
+use std::alloc::Global;
+
+/// A section header (PE format, "Section Table").
+#[derive(Clone, Copy, Debug)]
+pub(crate) struct SectionHeader {
+    /// How many bytes the section takes in the image: VirtualSize, or SizeOfRawData where that is 0.
+    pub size: u32,
+    pub address: u32,
+    pub raw_size: u32,
+    pub raw_at: u32,
+    pub flags: u32,
+}
+
+impl SectionHeader {
+    ghost use Rattle.pe_image.specs.Reading as spec;
+
+    fn read(bytes: &[u8], at: usize) -> SectionHeader
+        requires { at + 40 ≤ length bytes.now }
+        ensures { result ≡ spec.header_at bytes.now at }
+    {
+        let virtual_size = u32_at(bytes, at + 8);
+        let raw_size = u32_at(bytes, at + 16);
+        SectionHeader {
+            size: if virtual_size == 0 {
+                raw_size
+            } else {
+                virtual_size
+            },
+            address: u32_at(bytes, at + 12),
+            raw_size,
+            raw_at: u32_at(bytes, at + 20),
+            flags: u32_at(bytes, at + 36),
+        }
+    }
+
+    fn raw_end(&self) -> u64
+        ensures { result ≡ self.now.raw_at + self.now.raw_size }
+    {
+        self.raw_at as u64 + self.raw_size as u64
+    }
+
+    fn end(&self) -> u64
+        ensures { result ≡ self.now.address + self.now.size }
+    {
+        self.address as u64 + self.size as u64
+    }
+
+    /// Whether its raw data lies in a file of that size, and it itself on whole pages from `end` on
+    /// and up to `limit`.
+    fn is_laid_out(&self, file_size: u64, limit: u64, end: u64) -> bool
+        ensures { result ≡ spec.is_laid_out file_size limit end self.now }
+    {
+        (self.raw_size == 0 || self.raw_end() <= file_size)
+            && self.address % 4096 == 0
+            && end <= self.address as u64
+            && self.end() <= limit
+    }
+
+    fn view<'a>(&self, bytes: &'a [u8]) -> SectionView<'a>
+        requires { (self.now.raw_size ≡ 0) ⊎ (self.now.raw_at + self.now.raw_size ≤ length bytes.now) }
+        ensures { result ≡ spec.section_of bytes.now self.now }
+    {
+        let stored = self.size.min(self.raw_size) as usize;
+        let raw = if stored == 0 {
+            &[]
+        } else {
+            &bytes[self.raw_at as usize..self.raw_at as usize + stored]
+        };
+        SectionView::new(self.address, self.size, raw, self.flags)
+    }
+}
+
+/// The sections of a table of so many headers, in an image that ends at `limit`.
+pub(crate) fn sections<'a>(
+    alloc: Global,
+    bytes: &'a [u8],
+    at: usize,
+    count: usize,
+    limit: u64,
+) -> Result<Vec<SectionView<'a>>, ImageErr>
+    requires { at + 40 * count ≤ length bytes.now }
+    ensures answer { Gives (λ v. v.items) result (sections_of bytes.now limit (headers_from bytes.now count at)) }
+    ensures ascending { IfOk result (λ v. AreAscending 0 v.items) }
+{
+    let mut sections = Vec::with_capacity(alloc, count)?;
+    let mut end = 0;
+    for index in 0..count {
+        let header = SectionHeader::read(bytes, at + 40 * index);
+        if !header.is_laid_out(bytes.len() as u64, limit, end) {
+            return Err(ImageErr::Layout {
+                section: index as u64,
+            });
+        }
+        end = header.end();
+        sections.push(header.view(bytes))?;
+    }
+    Ok(sections)
+}

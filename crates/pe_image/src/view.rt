@@ -1,0 +1,124 @@
+//! An image that was read.
+
+ghost use Rattle.std.specs.Prelude.{◌≡◌, ◌<◌, ◌^◌, option_map, IfOk, IfErr};
+ghost use Rattle.pe_image.specs.Image.{AreAscending, stored};
+ghost use Rattle.pe_image.specs.Reading.{IsImage, IsRefused};
+
+use crate::directory::Directory;
+use crate::reading::{
+    check_headers, directory, entry_point, image_base, image_end, image_size, section_count,
+    sections_at,
+};
+use crate::refusal::ImageErr;
+use crate::section::{SectionView, stored_from};
+use crate::table::sections;
+use std::alloc::Global;
+use std::marker::Model;
+
+/// An image in a file, with its sections found. A clause sees the image as it is read.
+#[derive(Drop)]
+pub struct ImageView<'a> {
+    base: u64,
+    entry: u32,
+    size: u32,
+    sections: Vec<SectionView<'a>>,
+    imports: Directory,
+    exceptions: Directory,
+}
+
+impl<'a> Model for ImageView<'a> {
+    ghost use Rattle.pe_image.specs.Image.{Image, AreAscending};
+
+    ghost Value = { Image };
+
+    ghost view = { λ v. record {
+      base = v.base;
+      entry = v.entry;
+      size = v.size;
+      sections = v.sections.items;
+      imports = v.imports;
+      exceptions = v.exceptions;
+    } };
+
+    ghost invariant = { λ v. AreAscending 0 v.sections.items };
+}
+
+impl<'a> ImageView<'a> {
+    /// Reads the bytes of a file. The checks of the headers come first, in their order, and then
+    /// those of each section.
+    pub fn read(alloc: Global, bytes: &'a [u8]) -> Result<ImageView<'a>, ImageErr>
+        ensures image { IfOk result (λ view. IsImage bytes.now view) }
+        ensures refusal { IfErr result (λ e. IsRefused bytes.now e) }
+    {
+        check_headers(bytes)?;
+        let at = sections_at(bytes);
+        let count = section_count(bytes);
+        let end = image_end(bytes);
+        let sections = sections(alloc, bytes, at, count, end)?;
+        Ok(ImageView {
+            base: image_base(bytes),
+            entry: entry_point(bytes),
+            size: image_size(bytes),
+            sections,
+            imports: directory(bytes, 1),
+            exceptions: directory(bytes, 3),
+        })
+    }
+
+    /// The image base, at which the image stands in memory.
+    pub fn base(&self) -> u64
+        ensures { result ≡ self.now.base }
+    {
+        self.base
+    }
+
+    /// The entry point, relative to the image base.
+    pub fn entry(&self) -> u64
+        ensures value { result ≡ self.now.entry }
+        ensures fits { result < 2 ^ 32 }
+    {
+        self.entry as u64
+    }
+
+    /// The field SizeOfImage.
+    pub fn size(&self) -> u64
+        ensures value { result ≡ self.now.size }
+        ensures fits { result < 2 ^ 32 }
+    {
+        self.size as u64
+    }
+
+    /// The directory of imports.
+    pub fn import_directory(&self) -> Directory
+        ensures { result ≡ self.now.imports }
+    {
+        self.imports
+    }
+
+    /// The directory of exceptions, the function table's.
+    pub fn exception_directory(&self) -> Directory
+        ensures { result ≡ self.now.exceptions }
+    {
+        self.exceptions
+    }
+
+    /// The sections in their order, which is that of their addresses.
+    pub fn sections(&self) -> &[SectionView<'a>]
+        ensures value { result.now ≡ self.now.sections }
+        ensures ascending { AreAscending 0 self.now.sections }
+    {
+        &self.sections
+    }
+
+    /// The bytes of a range, where all of them are stored in one section.
+    pub fn bytes(&self, rva: u64, len: u64) -> Option<&'a [u8]>
+        ensures { option_map (λ b. b.now) result ≡ stored self.now.sections rva len }
+    {
+        let stored = stored_from(&self.sections, rva);
+        if len <= stored.len() as u64 {
+            Some(&stored[..len as usize])
+        } else {
+            None
+        }
+    }
+}

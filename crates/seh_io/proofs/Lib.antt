@@ -1,0 +1,4 @@
+pub mod Digits
+pub mod Moves
+pub mod Rows
+pub mod Writers

@@ -1,0 +1,13 @@
+use Rattle.std.proofs.Common.{◌≡◌, ◌≤◌, ◌-◌, length, vec_len}
+use Rattle.seh_io.specs.Streams.{Lost}
+use Rattle.seh_io.proofs.reading.read_all.Given as goal
+
+abbrev pub invariant-loop-count : goal.invariant-loop-count
+invariant-loop-count g l = record {
+  within : vec_len l.bytes ≤ l.limit;
+  lost : Lost (g.S.Source.left l.initial.src) l.bytes.items (g.S.Source.left l.src);
+  faults : g.S.Source.faults l.initial.src ≤ g.S.Source.faults l.src;
+}
+
+abbrev pub decreases-loop-count : goal.decreases-loop-count
+decreases-loop-count g l = l.limit - vec_len l.bytes

@@ -1,0 +1,19 @@
+-- Why a source wasn't read to its end.
+use Rattle.std.specs.Prelude.{◌≡◌, ℕ, ◌+◌, ◌<◌, ◌≤◌, List, length, ⊤}
+use Rattle.std.specs.Prelude.{Option}
+use Rattle.std.specs.Option.{ForSome}
+use Rattle.seh_io.specs.declared.reading.ReadErr.{ReadErr}
+use Rattle.seh_io.specs.declared.reading.ReadErr.TheVariants.{Fault, TooLong, Memory}
+use Rattle.seh_io.specs.Streams.{Lost, Rose}
+
+-- the first bytes, at most this many, are gone from the source
+abbrev pub LostAtMost : ℕ → Option (List ℕ) → Option (List ℕ) → Type 0
+LostAtMost most left left' = (bytes : List ℕ) × (length bytes ≤ most) × Lost left bytes left'
+
+-- a fault is the source's own; what is too long holds more than the limit, and one byte more was read
+abbrev pub HasCause : ℕ → Option (List ℕ) → Option (List ℕ) → ℕ → ℕ → ReadErr → Type 0
+HasCause limit left left' faults faults' Fault = Rose faults faults'
+HasCause limit left left' faults faults' (TooLong most) =
+    (most ≡ limit) × ForSome left (λ all. limit < length all)
+    × ((bytes : List ℕ) × (length bytes ≡ limit + 1) × Lost left bytes left')
+HasCause limit left left' faults faults' Memory = ⊤

@@ -1,0 +1,83 @@
+-- The text of a run: a line for each event that is shown, and one for the end, each with its line feed.
+use Rattle.std.specs.Prelude.{ℕ, zero, suc, ◌/◌, ◌%◌, ◌==◌, Bool, true, false, if◌then◌else◌, List, [], ◌∷◌, ◌++◌, codes}
+use Rattle.std.specs.Prelude.{Option, Some, None}
+use Rattle.std.specs.Fmt.{decimal, signed_decimal, digit_glyph}
+use Rattle.seh_num.specs.declared.event.Code.{Code}
+use Rattle.seh_num.specs.declared.event.Event.{Event}
+use Rattle.seh_num.specs.declared.event.Event.TheVariants.{Put, Raise, Filter, Answer, Finally, Except}
+use Rattle.seh_num.specs.declared.end.Reason.{Reason}
+use Rattle.seh_num.specs.declared.end.Reason.TheVariants.{Illegal, BadRecord, Unreadable, Backward, LostFrame}
+use Rattle.seh_num.specs.declared.end.RunEnd.{RunEnd}
+use Rattle.seh_num.specs.declared.end.RunEnd.TheVariants.{Exit, Unhandled, StackLimit, OutOfTurns, Stopped}
+
+-- the last digits of a number in base 16, so many, in upper case
+unfoldable pub hexadecimal : ℕ → ℕ → List ℕ
+hexadecimal zero n = []
+hexadecimal (suc k) n = hexadecimal k (n / 16) ++ digit_glyph true (n % 16) ∷ []
+
+-- a code's number has 8 digits, an address 16
+abbrev pub code_text : Code → List ℕ
+code_text code = hexadecimal 8 code.0
+
+abbrev pub address_text : ℕ → List ℕ
+address_text address = hexadecimal 16 address
+
+abbrev pub flag_text : Bool → List ℕ
+flag_text true = codes "1"
+flag_text false = codes "0"
+
+-- the code of an access violation
+abbrev pub access_violation : ℕ
+access_violation = 0xC000_0005
+
+abbrev pub access_text : Option (Bool × ℕ) → List ℕ
+access_text None = []
+access_text (Some (write, address)) = (if write then codes " write " else codes " read ") ++ address_text address
+
+-- the access stands in the line where the exception is an access violation
+abbrev pub raise_text : Code → Bool → Option (Bool × ℕ) → List ℕ
+raise_text code flag access =
+    codes "raise " ++ code_text code ++ codes " " ++ flag_text flag
+    ++ (if code.0 == access_violation then access_text access else [])
+
+abbrev pub event_text : Event → List ℕ
+event_text (Put v) = signed_decimal v
+event_text (Raise code flag access) = raise_text code flag access
+event_text (Filter k) = codes "filter " ++ decimal k
+event_text (Answer v) = codes "answer " ++ signed_decimal v
+event_text (Finally k abnormal) = codes "finally " ++ decimal k ++ codes " " ++ flag_text abnormal
+event_text (Except code) = codes "except " ++ code_text code
+
+-- a line feed ends a line
+abbrev pub ended : List ℕ → List ℕ
+ended text = text ++ 10 ∷ []
+
+-- without a trace only what is put is shown
+abbrev pub line : Bool → Event → List ℕ
+line trace (Put v) = ended (event_text (Put v))
+line true event = ended (event_text event)
+line false event = []
+
+abbrev pub reason_text : Reason → List ℕ
+reason_text Illegal = codes "Illegal"
+reason_text BadRecord = codes "BadRecord"
+reason_text Unreadable = codes "Unreadable"
+reason_text Backward = codes "Backward"
+reason_text LostFrame = codes "LostFrame"
+
+abbrev pub end_text : RunEnd → List ℕ
+end_text (Exit v) = codes "exit " ++ signed_decimal v
+end_text (Unhandled code) = codes "unhandled " ++ code_text code
+end_text (StackLimit address) = codes "stack limit " ++ address_text address
+end_text (OutOfTurns turns) = codes "out of turns " ++ decimal turns
+end_text (Stopped why address) = codes "stopped " ++ reason_text why ++ codes " " ++ address_text address
+
+abbrev pub end_line : RunEnd → List ℕ
+end_line end = ended (end_text end)
+
+abbrev pub lines : Bool → List Event → List ℕ
+lines trace [] = []
+lines trace (event ∷ events) = line trace event ++ lines trace events
+
+abbrev pub text : List Event → RunEnd → Bool → List ℕ
+text events end trace = lines trace events ++ end_line end

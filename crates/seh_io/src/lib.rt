@@ -1,0 +1,19 @@
+//! Bytes in, bytes out, and the text of a run.
+//!
+//! A `Source` gives bytes and a `Sink` takes them; each counts its own faults, so that a caller can
+//! tell a fault of the outside from any other refusal. What a run shows goes, event by event, to a
+//! receiver; `Lines` is the one that writes the lines of a run's text to a sink. Nothing but `read_all`
+//! and the streams in memory takes memory.
+#![tactic(auto)]
+
+pub mod line;
+pub mod plain;
+pub mod planned;
+pub mod reading;
+pub mod receiver;
+pub mod sink;
+pub mod source;
+#[cfg(test)]
+mod tests;
+pub mod text;
+pub mod writing;

@@ -1,0 +1,38 @@
+//! Whole pieces to a sink.
+
+ghost use Rattle.std.specs.Prelude.{◌≡◌, ◌<◌, ◌≤◌, length, take, OnOk, OnErr, IfErr};
+ghost use Rattle.seh_io.specs.Streams.{Rose, Grew};
+
+use crate::sink::Sink;
+
+/// A write met a fault of the sink, which had taken so many bytes of the text from the front.
+#[derive(Clone, Copy, Debug, PartialEq, Eq)]
+pub struct WriteFault {
+    pub taken: u64,
+}
+
+/// Writes the whole piece, in as many writes as the sink needs.
+///
+/// After a fault the sink has taken the first `taken` bytes of the piece, and not all of them.
+pub fn put_all<O: Sink>(sink: &mut O, piece: &[u8]) -> Result<(), WriteFault>
+    ensures ok { OnOk result (Grew (O.taken sink.old) piece.now (O.taken sink.new)) }
+    ensures part { IfErr result (λ e. Grew (O.taken sink.old) (take e.taken piece.now) (O.taken sink.new)) }
+    ensures short { IfErr result (λ e. e.taken < length piece.now) }
+    ensures cause { OnErr result (Rose (O.faults sink.old) (O.faults sink.new)) }
+    ensures faults { O.faults sink.old ≤ O.faults sink.new }
+{
+    let mut taken = 0;
+    while taken < piece.len() {
+        let fault = WriteFault {
+            taken: taken as u64,
+        };
+        let Ok(count) = sink.write(&piece[taken..]) else {
+            return Err(fault);
+        };
+        if count == 0 {
+            return Err(fault);
+        }
+        taken += count;
+    }
+    Ok(())
+}

@@ -1,0 +1,5 @@
+pub mod Registers
+pub mod Reading
+pub mod Operands
+pub mod Spelling
+pub mod Chosen

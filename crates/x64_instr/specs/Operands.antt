@@ -1,0 +1,77 @@
+-- How operands are spelled (Intel manual, volume 2, "Instruction Format").
+use Rattle.std.specs.Prelude.{ℕ, ◌+◌, ◌*◌, ◌/◌, ◌%◌, ◌==◌, ◌&&◌, if◌then◌else◌, List, Option, Some, None}
+use Rattle.seh_num.specs.declared.width.Width.{Width}
+use Rattle.seh_num.specs.declared.width.Width.TheVariants.{W8, W16, W32, W64}
+use Rattle.x64_instr.specs.declared.register.Reg.{Reg}
+use Rattle.x64_instr.specs.declared.operand.Scale.{Scale}
+use Rattle.x64_instr.specs.declared.operand.Scale.TheVariants.{One, Two, Four, Eight}
+use Rattle.x64_instr.specs.declared.operand.Base.{Base}
+use Rattle.x64_instr.specs.declared.operand.Base.TheVariants as bases
+use Rattle.x64_instr.specs.declared.operand.Index.{Index}
+use Rattle.x64_instr.specs.declared.operand.Place.{Place}
+use Rattle.x64_instr.specs.declared.operand.Place.TheVariants as places
+use Rattle.x64_instr.specs.declared.operand.Operand.{Operand}
+use Rattle.x64_instr.specs.declared.operand.Operand.TheVariants as operands
+use Rattle.x64_instr.specs.declared.prefixes.Prefixes.{Prefixes}
+use Rattle.x64_instr.specs.Registers.{register}
+use Rattle.x64_instr.specs.Reading.{Read, ◌>>=◌, byte, signed, bit}
+
+-- 64 bits with REX.W, else 16 with the prefix 66, else 32
+abbrev pub width_of : Prefixes → Width
+width_of p = if bit 3 p.rex == 1 then W64 else (if p.operand_size then W16 else W32)
+
+-- the register of ModRM's reg field, with REX.R, and that of the low bits of a byte, with REX.B
+abbrev pub middle : Prefixes → ℕ → Reg
+middle p modrm = register (8 * bit 2 p.rex + modrm / 8 % 8)
+
+abbrev pub lowest : Prefixes → ℕ → Reg
+lowest p b = register (8 * bit 0 p.rex + b % 8)
+
+abbrev pub scale : ℕ → Scale
+scale n = if n == 0 then One else (if n == 1 then Two else (if n == 2 then Four else Eight))
+
+-- SIB's index, with REX.X; 100 without REX.X is none
+abbrev pub indexed : Prefixes → ℕ → Option Index
+indexed p sib = if (8 * bit 1 p.rex + sib / 8 % 8) == 4 then None else Some (record { register = register (8 * bit 1 p.rex + sib / 8 % 8); scale = scale (sib / 64) })
+
+abbrev pub memory : Base → Option Index → ℕ → Place
+memory b i d = places.Memory (record { base = b; index = i; displacement = d })
+
+-- the displacement that mod tells: none, of a byte, of four bytes
+abbrev pub displaced : ℕ → List ℕ → Read ℕ
+displaced mode bytes = if mode == 0 then Some (0, bytes) else (if mode == 1 then signed W8 W64 bytes else signed W32 W64 bytes)
+
+-- a base of 101 with mod 00 is none, with a displacement of four bytes
+abbrev pub sib_place : Prefixes → ℕ → ℕ → List ℕ → Read Place
+sib_place p mode sib bytes =
+    if (mode == 0) && (sib % 8 == 5)
+    then (signed W32 W64 bytes >>= λ d. Some (memory bases.Nothing (indexed p sib) d.0, d.1))
+    else (displaced mode bytes >>= λ d. Some (memory (bases.Register (lowest p sib)) (indexed p sib) d.0, d.1))
+
+-- 100 says that SIB follows; 101 with mod 00 is relative to the next instruction
+abbrev pub memory_place : Prefixes → ℕ → ℕ → List ℕ → Read Place
+memory_place p mode low bytes =
+    if low == 4
+    then (byte bytes >>= λ s. sib_place p mode s.0 s.1)
+    else (if (mode == 0) && (low == 5)
+    then (signed W32 W64 bytes >>= λ d. Some (memory bases.Rip None d.0, d.1))
+    else (displaced mode bytes >>= λ d. Some (memory (bases.Register (lowest p low)) None d.0, d.1)))
+
+-- mod 11 is a register
+unfoldable pub place : Prefixes → ℕ → List ℕ → Read Place
+place p modrm bytes =
+    if modrm / 64 == 3
+    then Some (places.Register (lowest p modrm), bytes)
+    else memory_place p (modrm / 64) (modrm % 8) bytes
+
+-- ModRM with a register in its reg field, and with a digit of the opcode there
+abbrev pub place_and_register : Prefixes → List ℕ → Read (Place × Reg)
+place_and_register p bytes = byte bytes >>= λ m. place p m.0 m.1 >>= λ at. Some ((at.0, middle p m.0), at.1)
+
+abbrev pub place_and_digit : Prefixes → List ℕ → Read (Place × ℕ)
+place_and_digit p bytes = byte bytes >>= λ m. place p m.0 m.1 >>= λ at. Some ((at.0, m.0 / 8 % 8), at.1)
+
+-- a place as what is read there
+abbrev pub source : Place → Operand
+source (places.Register r) = operands.Register r
+source (places.Memory m) = operands.Memory m

@@ -1,0 +1,99 @@
+//! Operands, read from the front of a slice (Intel manual, volume 2, "ModR/M and SIB Bytes" and
+//! "RIP-Relative Addressing").
+
+ghost use Rattle.std.specs.Prelude.{◌≡◌, ◌<◌, option_map, IfSome};
+ghost use Rattle.x64_instr.specs.Operands as spec;
+
+use crate::operand::{Base, Index, MemRef, Operand, Place};
+use crate::prefixes::Prefixes;
+use crate::reading::{byte, signed};
+use crate::register::Reg;
+use seh_num::width::Width;
+
+fn displaced(mode: u8, bytes: &[u8]) -> Option<(u64, &[u8])>
+    ensures { option_map (λ x. (x.0, x.1.now)) result ≡ spec.displaced mode bytes.now }
+{
+    match mode {
+        0 => Some((0, bytes)),
+        1 => signed(Width::W8, Width::W64, bytes),
+        _ => signed(Width::W32, Width::W64, bytes),
+    }
+}
+
+fn memory(base: Base, index: Option<Index>, displacement: u64) -> Place
+    ensures { result ≡ spec.memory base index displacement }
+{
+    Place::Memory(MemRef {
+        base,
+        index,
+        displacement,
+    })
+}
+
+fn sib_place(prefixes: Prefixes, mode: u8, sib: u8, bytes: &[u8]) -> Option<(Place, &[u8])>
+    ensures { option_map (λ x. (x.0, x.1.now)) result ≡ spec.sib_place prefixes mode sib bytes.now }
+{
+    let index = prefixes.indexed(sib);
+    if mode == 0 && sib % 8 == 5 {
+        let (displacement, rest) = signed(Width::W32, Width::W64, bytes)?;
+        return Some((memory(Base::Nothing, index, displacement), rest));
+    }
+    let (displacement, rest) = displaced(mode, bytes)?;
+    let base = Base::Register(prefixes.lowest(sib));
+    Some((memory(base, index, displacement), rest))
+}
+
+fn memory_place(prefixes: Prefixes, mode: u8, low: u8, bytes: &[u8]) -> Option<(Place, &[u8])>
+    ensures { option_map (λ x. (x.0, x.1.now)) result ≡ spec.memory_place prefixes mode low bytes.now }
+{
+    if low == 4 {
+        let (sib, rest) = byte(bytes)?;
+        return sib_place(prefixes, mode, sib, rest);
+    }
+    if mode == 0 && low == 5 {
+        let (displacement, rest) = signed(Width::W32, Width::W64, bytes)?;
+        return Some((memory(Base::Rip, None, displacement), rest));
+    }
+    let (displacement, rest) = displaced(mode, bytes)?;
+    let base = Base::Register(prefixes.lowest(low));
+    Some((memory(base, None, displacement), rest))
+}
+
+#[tactic(auto, unfolding(crate::specs::Operands::place))]
+fn place(prefixes: Prefixes, modrm: u8, bytes: &[u8]) -> Option<(Place, &[u8])>
+    ensures { option_map (λ x. (x.0, x.1.now)) result ≡ spec.place prefixes modrm bytes.now }
+{
+    if modrm / 64 == 3 {
+        return Some((Place::Register(prefixes.lowest(modrm)), bytes));
+    }
+    memory_place(prefixes, modrm / 64, modrm % 8, bytes)
+}
+
+/// ModRM with a register in its reg field: the place first.
+pub(crate) fn place_and_register(prefixes: Prefixes, bytes: &[u8]) -> Option<(Place, Reg, &[u8])>
+    ensures { option_map (λ x. ((x.0, x.1), x.2.now)) result ≡ spec.place_and_register prefixes bytes.now }
+{
+    let (modrm, rest) = byte(bytes)?;
+    let (to, rest) = place(prefixes, modrm, rest)?;
+    Some((to, prefixes.middle(modrm), rest))
+}
+
+/// ModRM with a digit of the opcode in its reg field.
+pub(crate) fn place_and_digit(prefixes: Prefixes, bytes: &[u8]) -> Option<(Place, u8, &[u8])>
+    ensures value { option_map (λ x. ((x.0, x.1), x.2.now)) result ≡ spec.place_and_digit prefixes bytes.now }
+    ensures small { IfSome result (λ x. x.1 < 8) }
+{
+    let (modrm, rest) = byte(bytes)?;
+    let (to, rest) = place(prefixes, modrm, rest)?;
+    Some((to, modrm / 8 % 8, rest))
+}
+
+/// What is read at a place.
+pub(crate) fn source(place: Place) -> Operand
+    ensures { result ≡ spec.source place }
+{
+    match place {
+        Place::Register(register) => Operand::Register(register),
+        Place::Memory(memory) => Operand::Memory(memory),
+    }
+}

@@ -1,0 +1,72 @@
+ghost use Rattle.std.specs.Prelude.{◌≡◌, ◌<◌};
+ghost use Rattle.x64_instr.specs.Operands as spec;
+
+use crate::operand::{Index, Scale};
+use crate::reading::bit;
+use crate::register::Reg;
+use seh_num::width::Width;
+
+/// The prefixes that an instruction has (Intel manual, volume 2, "Instruction Prefixes" and "REX
+/// Prefixes").
+#[derive(Clone, Copy, Debug, PartialEq, Eq)]
+pub struct Prefixes {
+    /// Whether there is 66, the operand-size prefix.
+    pub operand_size: bool,
+    /// Whether there is REX.
+    pub has_rex: bool,
+    /// The bits W, R, X and B of REX, W the highest; 0 without REX.
+    pub rex: u8,
+}
+
+impl Prefixes {
+    /// The width of an operand that isn't a byte.
+    pub(crate) fn width(self) -> Width
+        ensures { result ≡ spec.width_of self }
+    {
+        if bit(3, self.rex) == 1 {
+            Width::W64
+        } else if self.operand_size {
+            Width::W16
+        } else {
+            Width::W32
+        }
+    }
+
+    /// The register of ModRM's reg field.
+    pub(crate) fn middle(self, modrm: u8) -> Reg
+        ensures { result ≡ spec.middle self modrm }
+    {
+        Reg::of(8 * bit(2, self.rex) + modrm / 8 % 8)
+    }
+
+    /// The register in the low three bits of ModRM, SIB or the opcode.
+    pub(crate) fn lowest(self, byte: u8) -> Reg
+        ensures { result ≡ spec.lowest self byte }
+    {
+        Reg::of(8 * bit(0, self.rex) + byte % 8)
+    }
+
+    /// The index of SIB.
+    pub(crate) fn indexed(self, sib: u8) -> Option<Index>
+        ensures { result ≡ spec.indexed self sib }
+    {
+        let number = 8 * bit(1, self.rex) + sib / 8 % 8;
+        if number == 4 {
+            return None;
+        }
+        let register = Reg::of(number);
+        let scale = scale(sib / 64);
+        Some(Index { register, scale })
+    }
+}
+
+fn scale(number: u8) -> Scale
+    ensures { result ≡ spec.scale number }
+{
+    match number {
+        0 => Scale::One,
+        1 => Scale::Two,
+        2 => Scale::Four,
+        _ => Scale::Eight,
+    }
+}

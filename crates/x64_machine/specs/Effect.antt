@@ -1,0 +1,237 @@
+-- What one instruction does (Intel manual, volume 2, each instruction's page).
+use Rattle.std.specs.Prelude.{◌≡◌, ℕ, ◌+◌, ◌-◌, ◌*◌, ◌/◌, ◌%◌, ◌^◌, Bool, true, false, ◌&&◌, ◌==◌, if◌then◌else◌, List, [], ◌∷◌, length, Option, Some, None, Result, Ok, Err, slice_index, slice_set}
+use Rattle.seh_num.specs.declared.width.Width.{Width}
+use Rattle.seh_num.specs.declared.width.Width.TheVariants.{W8, W16, W32, W64}
+use Rattle.seh_num.specs.Widths.{low, signed, wrapped}
+use Rattle.flat_memory.specs.declared.access.Access.{Access}
+use Rattle.flat_memory.specs.declared.access.Access.TheVariants as accesses
+use Rattle.flat_memory.specs.Memory.{Memory, executable, loaded, stored, after_store}
+use Rattle.x64_instr.specs.declared.register.Reg.{Reg}
+use Rattle.x64_instr.specs.declared.register.Reg.TheVariants.{Rsp}
+use Rattle.x64_instr.specs.declared.operand.Scale.{Scale}
+use Rattle.x64_instr.specs.declared.operand.Scale.TheVariants.{One, Two, Four, Eight}
+use Rattle.x64_instr.specs.declared.operand.Base.{Base}
+use Rattle.x64_instr.specs.declared.operand.Base.TheVariants as bases
+use Rattle.x64_instr.specs.declared.operand.Index.{Index}
+use Rattle.x64_instr.specs.declared.operand.MemRef.{MemRef}
+use Rattle.x64_instr.specs.declared.operand.Place.{Place}
+use Rattle.x64_instr.specs.declared.operand.Place.TheVariants as places
+use Rattle.x64_instr.specs.declared.operand.Operand.{Operand}
+use Rattle.x64_instr.specs.declared.operand.Operand.TheVariants as operands
+use Rattle.x64_instr.specs.declared.instruction.Operation.{Operation}
+use Rattle.x64_instr.specs.declared.instruction.Operation.TheVariants.{Add, Sub}
+use Rattle.x64_instr.specs.declared.instruction.Extension.{Extension}
+use Rattle.x64_instr.specs.declared.instruction.Extension.TheVariants.{Sign}
+use Rattle.x64_instr.specs.declared.instruction.Target.{Target}
+use Rattle.x64_instr.specs.declared.instruction.Target.TheVariants.{Indirect}
+use Rattle.x64_instr.specs.declared.instruction.Instr.{Instr}
+use Rattle.x64_instr.specs.declared.instruction.Instr.TheVariants as instrs
+use Rattle.x64_instr.specs.Registers.{number}
+use Rattle.x64_instr.specs.Spelling.{leading}
+use Rattle.x64_machine.specs.declared.cpu.Cpu.{Cpu}
+use Rattle.x64_machine.specs.declared.cpu.Flags.{Flags}
+use Rattle.x64_machine.specs.declared.outcome.Stop.{Stop}
+use Rattle.x64_machine.specs.declared.outcome.Stop.TheVariants as stops
+use Rattle.x64_machine.specs.declared.outcome.Step.{Step}
+use Rattle.x64_machine.specs.declared.outcome.Step.TheVariants as steps
+use Rattle.x64_machine.specs.declared.service.Service.{Service}
+use Rattle.x64_machine.specs.declared.service.Service.TheVariants as services
+use Rattle.x64_machine.specs.Services.{service_at, in_host_page}
+use Rattle.x64_machine.specs.Words.{merged, added, subtracted, multiplied}
+
+-- the registers and the memory
+pub record State : Type 0 where
+  pub cpu : Cpu
+  pub memory : Memory
+
+-- what a step gives: the state after it, or why there is none
+abbrev pub Answer : Type 0 → Type 0
+Answer A = Result A Stop
+
+infixl 10 ◌>>=◌
+abbrev pub ◌>>=◌ : {A B : Type 0} → Answer A → (A → Answer B) → Answer B
+(Ok x) >>= f = f x
+(Err e) >>= f = Err e
+
+-- ---- registers
+
+abbrev pub register : Cpu → Reg → ℕ
+register c r = slice_index c.registers (number r)
+
+abbrev pub with_register : Width → Cpu → Reg → ℕ → Cpu
+with_register w c r v = record c { registers = slice_set c.registers (number r) (merged w (register c r) v) }
+
+abbrev pub with_flags : State → Flags → State
+with_flags s f = record s { cpu = record s.cpu { flags = f } }
+
+abbrev pub with_rip : State → ℕ → State
+with_rip s a = record s { cpu = record s.cpu { rip = a } }
+
+-- ---- memory
+
+-- a refused access is an access violation, but of the guard
+abbrev pub refusal : Access → Stop
+refusal (accesses.Fault a write) = stops.Fault (record { 0 = 0xC0000005 }) (Some (write, a))
+refusal (accesses.Guard a) = stops.Guard a
+
+abbrev pub granted : {A : Type 0} → Result A Access → Answer A
+granted (Ok x) = Ok x
+granted (Err a) = Err (refusal a)
+
+abbrev pub factor : Scale → ℕ
+factor One = 1
+factor Two = 2
+factor Four = 4
+factor Eight = 8
+
+-- RIP is that of the next instruction
+abbrev pub base_of : Cpu → Base → ℕ
+base_of c bases.Nothing = 0
+base_of c bases.Rip = c.rip
+base_of c (bases.Register r) = register c r
+
+abbrev pub index_of : Cpu → Option Index → ℕ
+index_of c None = 0
+index_of c (Some i) = factor i.scale * register c i.register
+
+abbrev pub address_of : Cpu → MemRef → ℕ
+address_of c a = (base_of c a.base + index_of c a.index + a.displacement) % 2 ^ 64
+
+abbrev pub load : Memory → ℕ → Width → Answer ℕ
+load m at w = granted (loaded m at w)
+
+abbrev pub store : State → ℕ → Width → ℕ → Answer State
+store s at w v = granted (stored s.memory at w) >>= λ _. Ok (record s { memory = after_store s.memory at w v })
+
+-- ---- operands
+
+abbrev pub read : State → Width → Place → Answer ℕ
+read s w (places.Register r) = Ok (low w (register s.cpu r))
+read s w (places.Memory a) = load s.memory (address_of s.cpu a) w
+
+abbrev pub operand : State → Width → Operand → Answer ℕ
+operand s w (operands.Register r) = Ok (low w (register s.cpu r))
+operand s w (operands.Memory a) = load s.memory (address_of s.cpu a) w
+operand s w (operands.Immediate v) = Ok (low w v)
+
+abbrev pub write : State → Width → Place → ℕ → Answer State
+write s w (places.Register r) v = Ok (record s { cpu = with_register w s.cpu r v })
+write s w (places.Memory a) v = store s (address_of s.cpu a) w v
+
+-- a place in memory that is read and written is refused as a write
+abbrev pub may_change : State → Width → Place → Answer Unit
+may_change s w (places.Register r) = Ok tt
+may_change s w (places.Memory a) = granted (stored s.memory (address_of s.cpu a) w)
+
+-- ---- instructions
+
+abbrev pub computed : Operation → Width → ℕ → ℕ → ℕ × Flags
+computed Add w a b = added w a b
+computed Sub w a b = subtracted w a b
+
+-- the second operand is read first, then the first, which takes the result
+abbrev pub arithmetic : State → Operation → Width → Place → Operand → Answer State
+arithmetic s o w to from = do
+  b ← operand s w from
+  _ ← may_change s w to
+  a ← read s w to
+  write (with_flags s (computed o w a b).1) w to (computed o w a b).0
+
+abbrev pub multiply : State → Width → Reg → Place → Answer State
+multiply s w to from = do
+  b ← read s w from
+  let p = multiplied w (low w (register s.cpu to)) b s.cpu.flags in
+    Ok (with_flags (record s { cpu = with_register w s.cpu to p.0 }) p.1)
+
+abbrev pub widened : Extension → Width → Width → ℕ → ℕ
+widened Sign w narrow v = wrapped w (signed narrow v)
+
+abbrev pub extend : State → Extension → Width → Reg → Width → Place → Answer State
+extend s e w to narrow from = do
+  v ← read s narrow from
+  Ok (record s { cpu = with_register w s.cpu to (widened e w narrow v) })
+
+-- RSP falls by 8, and the number is stored there
+abbrev pub push : State → ℕ → Answer State
+push s v =
+    let at = (register s.cpu Rsp + (2 ^ 64 - 8)) % 2 ^ 64 in
+    store (record s { cpu = with_register W64 s.cpu Rsp at }) at W64 v
+
+-- the number at RSP, and the state with RSP risen by 8
+abbrev pub pop : State → Answer (ℕ × State)
+pop s = do
+  v ← load s.memory (register s.cpu Rsp) W64
+  Ok (v, record s { cpu = with_register W64 s.cpu Rsp ((register s.cpu Rsp + 8) % 2 ^ 64) })
+
+abbrev pub target_of : State → Target → Answer ℕ
+target_of s (Indirect at) = read s W64 at
+
+-- the target is read before the return address is stored
+abbrev pub call : State → Target → Answer State
+call s to = do
+  target ← target_of s to
+  after ← push s s.cpu.rip
+  Ok (with_rip after target)
+
+-- the effect of an instruction on a state whose RIP is that of the next instruction
+abbrev pub effect : State → Instr → Answer State
+effect s (instrs.Move w to from) = do
+  v ← operand s w from
+  write s w to v
+effect s (instrs.Extend e w to narrow from) = extend s e w to narrow from
+effect s (instrs.Arithmetic o w to from) = arithmetic s o w to from
+effect s (instrs.Multiply w to from) = multiply s w to from
+effect s (instrs.Call to) = call s to
+effect s (instrs.Push r) = push s (register s.cpu r)
+effect s (instrs.Pop r) = do
+  x ← pop s
+  Ok (record x.1 { cpu = with_register W64 x.1.cpu r x.0 })
+effect s instrs.Return = do
+  x ← pop s
+  Ok (with_rip x.1 x.0)
+
+-- ---- one step
+
+abbrev pub execute : State → Option (Instr × ℕ) → Answer State
+execute s None = Err (stops.Illegal s.cpu.rip)
+execute s (Some x) = effect (with_rip s ((s.cpu.rip + x.1) % 2 ^ 64)) x.0
+
+-- in the host's page its services alone can be reached, but the language handler isn't run as code
+abbrev pub hosted : ℕ → Option Service → Stop
+hosted a None = stops.Illegal a
+hosted a (Some services.CSpecificHandler) = stops.Illegal a
+hosted a (Some service) = stops.Host a
+
+unfoldable pub step : State → Answer State
+step s = if in_host_page s.cpu.rip then Err (hosted s.cpu.rip (service_at s.cpu.rip)) else execute s (leading (executable s.memory 15 s.cpu.rip))
+
+-- ---- what the code answers
+
+abbrev pub state : Cpu → Memory → State
+state c m = record { cpu = c; memory = m }
+
+abbrev pub cpu_of : Answer State → Answer Cpu
+cpu_of (Ok s) = Ok s.cpu
+cpu_of (Err e) = Err e
+
+abbrev pub memory_after : Memory → Answer State → Memory
+memory_after m (Ok s) = s.memory
+memory_after m (Err e) = m
+
+abbrev pub popped : Answer (ℕ × State) → Answer (ℕ × Cpu)
+popped (Ok x) = Ok (x.0, x.1.cpu)
+popped (Err e) = Err e
+
+abbrev pub step_of : Stop → Step
+step_of (stops.Fault c a) = steps.Fault c a
+step_of (stops.Host a) = steps.Host a
+step_of (stops.Illegal a) = steps.Illegal a
+step_of (stops.Guard a) = steps.Guard a
+
+abbrev pub step_answer : Answer State → Step
+step_answer (Ok s) = steps.Next
+step_answer (Err e) = step_of e
+
+abbrev pub cpu_after : Cpu → Answer State → Cpu
+cpu_after c (Ok s) = s.cpu
+cpu_after c (Err e) = c

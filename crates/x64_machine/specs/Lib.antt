@@ -1,0 +1,4 @@
+pub mod Services
+pub mod Contexts
+pub mod Words
+pub mod Effect

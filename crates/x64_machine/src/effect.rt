@@ -1,0 +1,285 @@
+//! What one instruction does.
+
+ghost use Rattle.std.specs.Prelude.{◌≡◌, ◌<◌, ℕ, IfOk};
+ghost use Rattle.seh_num.specs.Widths.{limit};
+ghost use Rattle.x64_machine.specs.Effect as spec;
+ghost use Rattle.x64_machine.specs.Effect.{State};
+
+use crate::cpu::{Cpu, Flags};
+use crate::outcome::Stop;
+use crate::words::{add, merge, multiply, subtract};
+use flat_memory::access::Access;
+use seh_num::event::Code;
+use seh_num::extension::{sign_extend, wrap, zero_extend};
+use seh_num::width::Width;
+use x64_instr::instruction::{Extension, Instr, Operation, Target};
+use x64_instr::operand::{Base, MemRef, Operand, Place, Scale};
+use x64_instr::register::Reg;
+use x64_memory::space::Space;
+
+/// The code of an access violation (Windows headers, STATUS_ACCESS_VIOLATION).
+const ACCESS_VIOLATION: Code = Code(0xC000_0005);
+
+impl Cpu {
+    /// The number in a register.
+    pub fn register(&self, register: Reg) -> u64
+        ensures { result ≡ spec.register self.now register }
+    {
+        self.registers[register.number() as usize]
+    }
+
+    /// Puts a number of a width into a register.
+    pub fn set_register(&mut self, width: Width, register: Reg, value: u64)
+        ensures { self.new ≡ spec.with_register width self.old register value }
+    {
+        let old = self.register(register);
+        self.registers[register.number() as usize] = merge(width, old, value);
+    }
+
+    fn address(&self, place: &MemRef) -> u64
+        ensures { result ≡ spec.address_of self.now place.now }
+    {
+        let base = match place.base {
+            Base::Nothing => 0,
+            Base::Rip => self.rip,
+            Base::Register(register) => self.register(register),
+        };
+        let index = match &place.index {
+            None => 0,
+            Some(index) => self
+                .register(index.register)
+                .wrapping_mul(factor(index.scale)),
+        };
+        base.wrapping_add(index).wrapping_add(place.displacement)
+    }
+}
+
+fn factor(scale: Scale) -> u64
+    ensures { result ≡ spec.factor scale }
+{
+    match scale {
+        Scale::One => 1,
+        Scale::Two => 2,
+        Scale::Four => 4,
+        Scale::Eight => 8,
+    }
+}
+
+fn refusal(access: Access) -> Stop
+    ensures { result ≡ spec.refusal access }
+{
+    match access {
+        Access::Fault { address, write } => Stop::Fault {
+            code: ACCESS_VIOLATION,
+            access: Some((write, address)),
+        },
+        Access::Guard { address } => Stop::Guard { address },
+    }
+}
+
+fn load<S: Space>(space: &S, at: u64, width: Width) -> Result<u64, Stop>
+    ensures value { result ≡ spec.load (S.memory space.now) at width }
+    ensures fits { IfOk result (λ v. v < limit width) }
+{
+    match space.load(at, width) {
+        Ok(value) => Ok(value),
+        Err(access) => Err(refusal(access)),
+    }
+}
+
+fn store<S: Space>(cpu: Cpu, space: &mut S, at: u64, width: Width, value: u64) -> Result<Cpu, Stop>
+    ensures answer { result ≡ spec.cpu_of (spec.store (spec.state cpu (S.memory space.old)) at width value) }
+    ensures memory { S.memory space.new ≡ spec.memory_after (S.memory space.old) (spec.store (spec.state cpu (S.memory space.old)) at width value) }
+{
+    match space.store(at, width, value) {
+        Ok(()) => Ok(cpu),
+        Err(access) => Err(refusal(access)),
+    }
+}
+
+fn read<S: Space>(cpu: &Cpu, space: &S, width: Width, from: &Place) -> Result<u64, Stop>
+    ensures value { result ≡ spec.read (spec.state cpu.now (S.memory space.now)) width from.now }
+    ensures fits { IfOk result (λ v. v < limit width) }
+{
+    match from {
+        Place::Register(register) => Ok(zero_extend(width, cpu.register(*register))),
+        Place::Memory(place) => load(space, cpu.address(place), width),
+    }
+}
+
+fn operand<S: Space>(cpu: &Cpu, space: &S, width: Width, from: &Operand) -> Result<u64, Stop>
+    ensures value { result ≡ spec.operand (spec.state cpu.now (S.memory space.now)) width from.now }
+    ensures fits { IfOk result (λ v. v < limit width) }
+{
+    match from {
+        Operand::Register(register) => Ok(zero_extend(width, cpu.register(*register))),
+        Operand::Memory(place) => load(space, cpu.address(place), width),
+        Operand::Immediate(value) => Ok(zero_extend(width, *value)),
+    }
+}
+
+fn write<S: Space>(
+    mut cpu: Cpu,
+    space: &mut S,
+    width: Width,
+    to: &Place,
+    value: u64,
+) -> Result<Cpu, Stop>
+    ensures answer { result ≡ spec.cpu_of (spec.write (spec.state cpu (S.memory space.old)) width to.now value) }
+    ensures memory { S.memory space.new ≡ spec.memory_after (S.memory space.old) (spec.write (spec.state cpu (S.memory space.old)) width to.now value) }
+{
+    match to {
+        Place::Register(register) => {
+            cpu.set_register(width, *register, value);
+            Ok(cpu)
+        }
+        Place::Memory(place) => {
+            let at = cpu.address(place);
+            store(cpu, space, at, width, value)
+        }
+    }
+}
+
+fn may_change<S: Space>(cpu: &Cpu, space: &S, width: Width, to: &Place) -> Result<(), Stop>
+    ensures { result ≡ spec.may_change (spec.state cpu.now (S.memory space.now)) width to.now }
+{
+    match to {
+        Place::Register(_) => Ok(()),
+        Place::Memory(place) => match space.may_store(cpu.address(place), width) {
+            Ok(()) => Ok(()),
+            Err(access) => Err(refusal(access)),
+        },
+    }
+}
+
+fn computed(operation: Operation, width: Width, first: u64, second: u64) -> (u64, Flags)
+    requires { second < limit width }
+    ensures { result ≡ spec.computed operation width first second }
+{
+    match operation {
+        Operation::Add => add(width, first, second),
+        Operation::Sub => subtract(width, first, second),
+    }
+}
+
+fn arithmetic<S: Space>(
+    mut cpu: Cpu,
+    space: &mut S,
+    operation: Operation,
+    width: Width,
+    to: &Place,
+    from: &Operand,
+) -> Result<Cpu, Stop>
+    ensures answer { result ≡ spec.cpu_of (spec.arithmetic (spec.state cpu (S.memory space.old)) operation width to.now from.now) }
+    ensures memory { S.memory space.new ≡ spec.memory_after (S.memory space.old) (spec.arithmetic (spec.state cpu (S.memory space.old)) operation width to.now from.now) }
+{
+    let second = operand(&cpu, space, width, from)?;
+    may_change(&cpu, space, width, to)?;
+    let first = read(&cpu, space, width, to)?;
+    let (value, flags) = computed(operation, width, first, second);
+    cpu.flags = flags;
+    write(cpu, space, width, to, value)
+}
+
+fn product<S: Space>(
+    mut cpu: Cpu,
+    space: &S,
+    width: Width,
+    to: Reg,
+    from: &Place,
+) -> Result<Cpu, Stop>
+    ensures { result ≡ spec.cpu_of (spec.multiply (spec.state cpu (S.memory space.now)) width to from.now) }
+{
+    let second = read(&cpu, space, width, from)?;
+    let first = zero_extend(width, cpu.register(to));
+    let (value, flags) = multiply(width, first, second, cpu.flags);
+    cpu.set_register(width, to, value);
+    cpu.flags = flags;
+    Ok(cpu)
+}
+
+fn widened(extension: Extension, width: Width, narrow: Width, value: u64) -> u64
+    ensures { result ≡ spec.widened extension width narrow value }
+{
+    match extension {
+        Extension::Sign => wrap(width, i128::from(sign_extend(narrow, value))),
+    }
+}
+
+fn push<S: Space>(mut cpu: Cpu, space: &mut S, value: u64) -> Result<Cpu, Stop>
+    ensures answer { result ≡ spec.cpu_of (spec.push (spec.state cpu (S.memory space.old)) value) }
+    ensures memory { S.memory space.new ≡ spec.memory_after (S.memory space.old) (spec.push (spec.state cpu (S.memory space.old)) value) }
+{
+    let at = cpu.register(Reg::Rsp).wrapping_sub(8);
+    cpu.set_register(Width::W64, Reg::Rsp, at);
+    store(cpu, space, at, Width::W64, value)
+}
+
+/// The number at RSP, and the registers with RSP risen by 8.
+pub fn pop<S: Space>(mut cpu: Cpu, space: &S) -> Result<(u64, Cpu), Stop>
+    ensures { result ≡ spec.popped (spec.pop (spec.state cpu (S.memory space.now))) }
+{
+    let at = cpu.register(Reg::Rsp);
+    let value = load(space, at, Width::W64)?;
+    cpu.set_register(Width::W64, Reg::Rsp, at.wrapping_add(8));
+    Ok((value, cpu))
+}
+
+fn call<S: Space>(cpu: Cpu, space: &mut S, to: &Target) -> Result<Cpu, Stop>
+    ensures answer { result ≡ spec.cpu_of (spec.call (spec.state cpu (S.memory space.old)) to.now) }
+    ensures memory { S.memory space.new ≡ spec.memory_after (S.memory space.old) (spec.call (spec.state cpu (S.memory space.old)) to.now) }
+{
+    let target = match to {
+        Target::Indirect(at) => read(&cpu, space, Width::W64, at)?,
+    };
+    let mut after = push(cpu, space, cpu.rip)?;
+    after.rip = target;
+    Ok(after)
+}
+
+/// What an instruction does, where RIP is that of the next one.
+pub fn effect<S: Space>(mut cpu: Cpu, space: &mut S, instr: &Instr) -> Result<Cpu, Stop>
+    ensures answer { result ≡ spec.cpu_of (spec.effect (spec.state cpu (S.memory space.old)) instr.now) }
+    ensures memory { S.memory space.new ≡ spec.memory_after (S.memory space.old) (spec.effect (spec.state cpu (S.memory space.old)) instr.now) }
+{
+    match instr {
+        Instr::Move { width, to, from } => {
+            let value = operand(&cpu, space, *width, from)?;
+            write(cpu, space, *width, to, value)
+        }
+        Instr::Extend {
+            extension,
+            width,
+            to,
+            narrow,
+            from,
+        } => {
+            let value = read(&cpu, space, *narrow, from)?;
+            let wide = widened(*extension, *width, *narrow, value);
+            cpu.set_register(*width, *to, wide);
+            Ok(cpu)
+        }
+        Instr::Arithmetic {
+            operation,
+            width,
+            to,
+            from,
+        } => arithmetic(cpu, space, *operation, *width, to, from),
+        Instr::Multiply { width, to, from } => product(cpu, space, *width, *to, from),
+        Instr::Call(to) => call(cpu, space, to),
+        Instr::Push(from) => {
+            let value = cpu.register(*from);
+            push(cpu, space, value)
+        }
+        Instr::Pop(to) => {
+            let (value, mut after) = pop(cpu, space)?;
+            after.set_register(Width::W64, *to, value);
+            Ok(after)
+        }
+        Instr::Return => {
+            let (value, mut after) = pop(cpu, space)?;
+            after.rip = value;
+            Ok(after)
+        }
+    }
+}

@@ -1,0 +1,10 @@
+//! The processor: its registers, what each instruction does, and one step of it.
+#![tactic(auto)]
+
+pub mod context;
+pub mod cpu;
+pub mod effect;
+pub mod outcome;
+pub mod running;
+pub mod service;
+pub mod words;
