@@ -9,3 +9,5 @@
 pub mod access;
 pub mod laws;
 pub mod mode;
+#[cfg(test)]
+mod tests;

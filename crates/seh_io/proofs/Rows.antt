@@ -1,8 +1,7 @@
 -- The text of runs, computed: a row for each kind of line.
-use Rattle.std.proofs.Common.{◌≡◌, ℕ, refl, List, [], ◌∷◌, ◌++◌, true, false, Bool, pos, negsuc}
+use Rattle.std.proofs.Common.{◌≡◌, ℕ, refl, List, [], ◌∷◌, ◌++◌, true, false, pos, negsuc}
 use Rattle.std.specs.Prelude.{codes, Some, None}
 use Rattle.std.specs.Fmt.{digits}
-use Rattle.seh_num.specs.declared.event.Event.{Event}
 use Rattle.seh_num.specs.declared.event.Event.TheVariants.{Put, Raise, Filter, Answer, Finally, Except}
 use Rattle.seh_num.specs.declared.end.Reason.TheVariants.{Illegal, BadRecord, Unreadable, Backward, LostFrame}
 use Rattle.seh_num.specs.declared.end.RunEnd.TheVariants.{Exit, Unhandled, StackLimit, OutOfTurns, Stopped}

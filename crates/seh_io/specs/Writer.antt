@@ -1,12 +1,12 @@
 -- A writer of text over a sink, which writes nothing more once a write has failed.
 use Rattle.std.specs.Prelude.{◌≡◌, ℕ, ◌+◌, ◌≤◌, ◌<◌, min, Bool, true, false, List, [], ◌∷◌, ◌++◌, length}
-use Rattle.std.specs.Prelude.{Option, Some, ◌⊎◌}
+use Rattle.std.specs.Prelude.{Option, Some}
 use Rattle.std.proofs.Common.{arith, refl, sym, ap, ◌∙◌, append_assoc, append-nil, add-zero, length-append, inl, inr, subst}
 use Rattle.std.proofs.lemmas.Bool.{cases_Bool, true≢false}
 use Rattle.seh_num.specs.declared.event.Event.{Event}
 use Rattle.seh_io.specs.declared.receiver.Lines.{Lines}
 use Rattle.seh_io.specs.Streams.{Rose, Grew, Counts, last_count}
-use Rattle.seh_io.specs.Text.{line, lines, text, end_line}
+use Rattle.seh_io.specs.Text.{line, lines}
 
 -- whether a write has failed, how many bytes were taken in all, and what its sink tells
 pub record Writer : Type 0 where

@@ -186,8 +186,7 @@ impl Events for EventList {
     ghost more = { λ x y z es fs p q. kept_more x.lacks y.lacks z.lacks x.events.items y.events.items z.events.items es fs p q };
 
     fn take(&mut self, event: &Event) {
-        if self.events.push(*event).is_err() {
-            self.lacks = true;
-        }
+        // A list that lacks an event takes no later one, so that it has no gap.
+        self.lacks = self.lacks || self.events.push(*event).is_err();
     }
 }

@@ -1,3 +1,5 @@
+ghost use Rattle.std.specs.Prelude.{◌<◌};
+
 use crate::plain::{SliceSource, VecSink};
 use crate::planned::{MemSink, MemSource, Plan};
 use crate::reading::{ReadErr, read_all};

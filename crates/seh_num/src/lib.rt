@@ -10,4 +10,6 @@ pub mod end;
 pub mod event;
 pub mod extension;
 pub mod steps;
+#[cfg(test)]
+mod tests;
 pub mod width;

@@ -1,4 +1,4 @@
-use Rattle.std.proofs.Common.{◌≡◌, ◌≤◌, ◌<◌, ◌+◌, ℕ, List, ◌++◌, length, take, length-append, arith, refl}
+use Rattle.std.proofs.Common.{◌≡◌, ◌+◌, ℕ, ◌++◌, length, take, length-append, arith, refl}
 use Rattle.std.proofs.lemmas.List.{length-take}
 use Rattle.seh_io.proofs.Moves.{lost_more, held_more}
 use Rattle.seh_io.proofs.reading.read_all.Goals as goal

@@ -1,4 +1,4 @@
-use Rattle.std.proofs.Common.{◌≡◌, ◌≤◌, ◌-◌, length, vec_len}
+use Rattle.std.proofs.Common.{◌≤◌, ◌-◌, vec_len}
 use Rattle.seh_io.specs.Streams.{Lost}
 use Rattle.seh_io.proofs.reading.read_all.Given as goal
 

@@ -1,7 +1,5 @@
-use Rattle.std.proofs.Common.{◌≡◌, ◌++◌, ap, sym, ◌∙◌, rules}
-use Rattle.seh_io.specs.Streams.{Grew}
+use Rattle.std.proofs.Common.{◌++◌, ap, rules}
 use Rattle.seh_io.specs.Text.{lines, end_line}
-use Rattle.seh_io.specs.Writer.{writer, TookPart}
 use Rattle.seh_io.proofs.Writers.{ran_whole, ran_part, on_ok, on_err, same_grew, same_part}
 use Rattle.seh_io.proofs.receiver.put_text.Goals as goal
 

@@ -1,4 +1,4 @@
-use Rattle.std.proofs.Common.{◌≤◌, ◌+◌, ◌-◌, ℕ, length, take, drop, length-drop, arith}
+use Rattle.std.proofs.Common.{◌-◌, ℕ, length, take, drop, length-drop, arith}
 use Rattle.std.proofs.lemmas.List.{length-take}
 use Rattle.seh_io.proofs.Moves.{grew_next, grew_still}
 use Rattle.seh_io.proofs.writing.put_all.Goals as goal

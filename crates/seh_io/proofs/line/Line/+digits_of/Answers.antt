@@ -1,4 +1,4 @@
-use Rattle.std.proofs.Common.{◌≡◌, ◌+◌, ◌∷◌, [], ◌/◌, ◌%◌, ◌++◌, length, length-append, ap, sym, ◌∙◌, arith, rules}
+use Rattle.std.proofs.Common.{◌+◌, ◌∷◌, [], ◌/◌, ◌%◌, ◌++◌, length, length-append, ap, ◌∙◌, arith}
 use Rattle.std.specs.Fmt.{decimal}
 use Rattle.seh_io.proofs.Digits.{length-decimal_step, decimal_some, last_digit, only_digit}
 use Rattle.seh_io.proofs.line.Line.+digits_of.Goals as goal

@@ -1,7 +1,5 @@
-use Rattle.std.proofs.Common.{ℕ, ◌≡◌, ◌-◌, ◌*◌, ◌/◌, ◌%◌, ◌^◌, ◌++◌, ◌∷◌, [], true, arith, ap, length, length-append, ◌∙◌, rules}
-use Rattle.std.specs.Fmt.{digit_glyph}
+use Rattle.std.proofs.Common.{ℕ, ◌++◌, ◌∷◌, [], arith, ap, length, length-append, ◌∙◌}
 use Rattle.seh_io.proofs.Digits.{length-hexadecimal, all_places, next_place}
-use Rattle.seh_io.specs.Text.{hexadecimal}
 use Rattle.seh_io.proofs.line.Line.hexadecimal.Goals as goal
 
 pub loop-place-init : goal.loop-place-init

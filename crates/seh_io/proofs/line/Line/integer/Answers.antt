@@ -1,5 +1,4 @@
 use Rattle.std.proofs.Common.{ℕ, arith, ap, length, length-append}
-use Rattle.std.specs.Fmt.{decimal}
 use Rattle.seh_io.proofs.Digits.{decimal_half_fits}
 use Rattle.seh_io.proofs.line.Line.integer.Goals as goal
 use Rattle.seh_io.proofs.line.Line.integer.Goals.{then-n-lt0, else-n-lt0}

@@ -1,0 +1,83 @@
+//! From an image to a host.
+
+ghost use Rattle.std.specs.Prelude.{◌≡◌, true, None, IfOk, IfErr};
+ghost use Rattle.host_model.specs.Loading as model;
+ghost use Rattle.host_model.specs.Loading.{first_cpu, has_place};
+ghost use Rattle.host_model.specs.HostStep.{host};
+ghost use Rattle.x64_memory.specs.MapSpaces.{memory_of};
+ghost use Rattle.seh_host.specs.Hosts.{host_of, IsLoadRefusal};
+
+use crate::LoadErr;
+use crate::host::Host;
+use crate::mapping::{has_entry, has_place, regions};
+use pe_image::ImageView;
+use seh_num::extension::wrap;
+use seh_num::width::Width;
+use std::alloc::{AllocError, Global};
+use x64_machine::cpu::{Cpu, Flags};
+use x64_memory::map_space::MapSpace;
+
+/// The registers that a run starts with.
+fn first_cpu(entry: u64, arg: i64) -> Cpu
+    ensures { result ≡ first_cpu entry arg }
+{
+    let mut registers = [0; 16];
+    registers[1] = wrap(Width::W64, i128::from(arg));
+    registers[4] = 0x707F_FFD8;
+    Cpu {
+        registers,
+        rip: entry,
+        flags: Flags {
+            carry: false,
+            zero: false,
+            sign: false,
+            overflow: false,
+        },
+    }
+}
+
+/// Memory in which an image stands, with the stack and the arena.
+fn mapped(alloc: Global, image: &ImageView<'_>) -> Result<MapSpace, AllocError>
+    requires { has_place image.now ≡ true }
+    ensures { IfOk result (λ s. memory_of s ≡ model.mapped image.now) }
+{
+    let sections = image.sections();
+    let regions = regions(alloc, image)?;
+    let mut space = MapSpace::new(alloc, &regions)?;
+    for section in sections {
+        space.fill(image.base() + section.address(), section.raw());
+    }
+    Ok(space)
+}
+
+/// Loads an image: its sections, a stack and the arena are mapped, and the run stands at the entry
+/// point with the argument in RCX.
+///
+/// `Place` exactly where the base isn't a multiple of 65,536, is below 4 GiB, the image's size is
+/// above 256 MiB or its end is above 2^47; else `Entry` exactly where the entry point's page isn't
+/// executable.
+pub fn load<'image, 'bytes>(
+    alloc: Global,
+    image: &'image ImageView<'bytes>,
+    arg: i64,
+) -> Result<Host<'image, 'bytes>, LoadErr>
+    ensures loaded { IfOk result (λ h. host_of h ≡ host (model.start image.now arg)) }
+    ensures accepted { IfOk result (λ h. model.load_refusal image.now ≡ None) }
+    ensures refused { IfErr result (λ e. IsLoadRefusal image.now e) }
+{
+    if !has_place(image) {
+        return Err(LoadErr::Place { base: image.base() });
+    }
+    if !has_entry(image) {
+        return Err(LoadErr::Entry { rva: image.entry() });
+    }
+    match mapped(alloc, image) {
+        Err(_) => Err(LoadErr::Memory),
+        Ok(space) => Ok(Host {
+            cpu: first_cpu(image.base() + image.entry(), arg),
+            space,
+            end: None,
+            image,
+        }),
+    }
+}
