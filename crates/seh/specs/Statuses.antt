@@ -1,0 +1,26 @@
+-- The numbers that the program ends with.
+use Rattle.std.specs.Prelude.{ℕ}
+use Rattle.seh_num.specs.declared.end.RunEnd.{RunEnd}
+use Rattle.seh_num.specs.declared.end.RunEnd.TheVariants as ends
+use Rattle.seh.specs.declared.status.Status.{Status}
+use Rattle.seh.specs.declared.status.Status.TheVariants as statuses
+
+abbrev pub code_of : Status → ℕ
+code_of statuses.Done = 0
+code_of statuses.Usage = 1
+code_of statuses.Image = 3
+code_of statuses.ReadFault = 4
+code_of statuses.WriteFault = 5
+code_of statuses.NoMemory = 6
+code_of statuses.TooLong = 7
+code_of statuses.Unhandled = 10
+code_of statuses.StackLimit = 11
+code_of statuses.OutOfTurns = 12
+code_of statuses.Stopped = 13
+
+abbrev pub status_of : RunEnd → Status
+status_of (ends.Exit v) = statuses.Done
+status_of (ends.Unhandled c) = statuses.Unhandled
+status_of (ends.StackLimit a) = statuses.StackLimit
+status_of (ends.OutOfTurns n) = statuses.OutOfTurns
+status_of (ends.Stopped why a) = statuses.Stopped

@@ -1,0 +1,134 @@
+//! Refusals, each with its line and its status.
+
+ghost use Rattle.std.specs.Prelude.{◌≡◌, ◌+◌, ◌≤◌, ◌++◌, length};
+ghost use Rattle.seh.specs.Refusals.{refusal_status, refusal_text, image_text, load_text, named, Reported};
+ghost use Rattle.seh.specs.Streams.{stream};
+
+use crate::status::Status;
+use pe_image::ImageErr;
+use seh_host::LoadErr;
+use seh_io::line::Line;
+use seh_io::sink::Sink;
+use seh_io::writing::put_all;
+
+/// Why a command wasn't carried out.
+#[derive(Clone, Copy, Debug, PartialEq, Eq)]
+pub enum Refusal {
+    /// The words are no line of the command set; nothing was read.
+    Usage,
+    /// The source had a fault.
+    ReadFault,
+    /// The source holds more than so many bytes.
+    TooLong { limit: u64 },
+    /// The bytes are no image.
+    Image(ImageErr),
+    /// The image can't be loaded.
+    Load(LoadErr),
+    /// The sink had a fault.
+    WriteFault,
+    /// No memory was left.
+    NoMemory,
+}
+
+impl Refusal {
+    /// The status of a refusal.
+    pub fn status(&self) -> Status
+        ensures { result ≡ refusal_status self.now }
+    {
+        match self {
+            Refusal::Usage => Status::Usage,
+            Refusal::ReadFault => Status::ReadFault,
+            Refusal::TooLong { .. } => Status::TooLong,
+            Refusal::Image(ImageErr::Memory) | Refusal::Load(LoadErr::Memory) => Status::NoMemory,
+            Refusal::Image(_) | Refusal::Load(_) => Status::Image,
+            Refusal::WriteFault => Status::WriteFault,
+            Refusal::NoMemory => Status::NoMemory,
+        }
+    }
+}
+
+/// A name and a number behind it.
+fn named(line: &mut Line, name: &[u8], number: u64)
+    requires { length line.old + length name.now ≤ 43 }
+    ensures value { line.new ≡ line.old ++ named name.now number }
+    ensures len { length line.new ≤ 63 }
+{
+    line.text(name);
+    line.natural(number);
+}
+
+/// The text of an image's refusal.
+fn image_text(error: &ImageErr) -> Line
+    ensures value { result ≡ image_text error.now }
+    ensures len { length result ≤ 63 }
+{
+    let mut line = Line::new();
+    match error {
+        ImageErr::Truncated { at } => named(&mut line, b"image Truncated ", *at),
+        ImageErr::NotPe { at } => named(&mut line, b"image NotPe ", *at),
+        ImageErr::Machine { found } => named(&mut line, b"image Machine ", *found),
+        ImageErr::Magic { found } => named(&mut line, b"image Magic ", *found),
+        ImageErr::Layout { section } => named(&mut line, b"image Layout ", *section),
+        ImageErr::ImportBad { index } => named(&mut line, b"image ImportBad ", *index),
+        ImageErr::Memory => line.text(b"no memory"),
+    }
+    line
+}
+
+/// The text of a load's refusal.
+fn load_text(error: &LoadErr) -> Line
+    ensures value { result ≡ load_text error.now }
+    ensures len { length result ≤ 63 }
+{
+    let mut line = Line::new();
+    match error {
+        LoadErr::Place { base } => named(&mut line, b"load Place ", *base),
+        LoadErr::Entry { rva } => named(&mut line, b"load Entry ", *rva),
+        LoadErr::Memory => line.text(b"no memory"),
+    }
+    line
+}
+
+/// A text without a number.
+fn plain(text: &[u8]) -> Line
+    requires { length text.now ≤ 63 }
+    ensures value { result ≡ text.now }
+    ensures len { length result ≤ 63 }
+{
+    let mut line = Line::new();
+    line.text(text);
+    line
+}
+
+/// The text of a refusal, without its line feed.
+fn refusal_text(refusal: &Refusal) -> Line
+    ensures value { result ≡ refusal_text refusal.now }
+    ensures len { length result ≤ 63 }
+{
+    match refusal {
+        Refusal::Usage => plain(b"usage"),
+        Refusal::ReadFault => plain(b"read fault"),
+        Refusal::TooLong { limit } => {
+            let mut line = Line::new();
+            named(&mut line, b"too long ", *limit);
+            line
+        }
+        Refusal::Image(error) => image_text(error),
+        Refusal::Load(error) => load_text(error),
+        Refusal::WriteFault => plain(b"write fault"),
+        Refusal::NoMemory => plain(b"no memory"),
+    }
+}
+
+/// Writes a refusal's line, and gives the status: that of a write fault where the line can't be
+/// written.
+pub fn report<E: Sink>(err: &mut E, refusal: &Refusal) -> Status
+    ensures { Reported (Err refusal.now) (stream E.taken E.faults err.old) (stream E.taken E.faults err.new) result }
+{
+    let mut line = refusal_text(refusal);
+    line.end();
+    match put_all(err, line.as_bytes()) {
+        Ok(()) => refusal.status(),
+        Err(_) => Status::WriteFault,
+    }
+}

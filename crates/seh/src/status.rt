@@ -1,0 +1,65 @@
+ghost use Rattle.std.specs.Prelude.{◌≡◌};
+ghost use Rattle.seh.specs.Statuses.{code_of, status_of};
+
+use seh_num::end::RunEnd;
+
+/// What the program ended with.
+#[derive(Clone, Copy, Debug, PartialEq, Eq)]
+pub enum Status {
+    /// The command was carried out, and a run returned.
+    Done,
+    /// The words are no line of the command set.
+    Usage,
+    /// The image, or its load, was refused.
+    Image,
+    /// The source had a fault.
+    ReadFault,
+    /// A sink had a fault.
+    WriteFault,
+    /// No memory was left.
+    NoMemory,
+    /// The source holds too much.
+    TooLong,
+    /// Nobody handled an exception.
+    Unhandled,
+    /// The stack met its guard.
+    StackLimit,
+    /// The turns were used up.
+    OutOfTurns,
+    /// The run couldn't go on.
+    Stopped,
+}
+
+impl Status {
+    /// The number that the process ends with.
+    pub fn code(self) -> u8
+        ensures { result ≡ code_of self }
+    {
+        match self {
+            Status::Done => 0,
+            Status::Usage => 1,
+            Status::Image => 3,
+            Status::ReadFault => 4,
+            Status::WriteFault => 5,
+            Status::NoMemory => 6,
+            Status::TooLong => 7,
+            Status::Unhandled => 10,
+            Status::StackLimit => 11,
+            Status::OutOfTurns => 12,
+            Status::Stopped => 13,
+        }
+    }
+
+    /// The status of a run's end.
+    pub fn of(end: &RunEnd) -> Status
+        ensures { result ≡ status_of end.now }
+    {
+        match end {
+            RunEnd::Exit(_) => Status::Done,
+            RunEnd::Unhandled(_) => Status::Unhandled,
+            RunEnd::StackLimit { .. } => Status::StackLimit,
+            RunEnd::OutOfTurns { .. } => Status::OutOfTurns,
+            RunEnd::Stopped { .. } => Status::Stopped,
+        }
+    }
+}
