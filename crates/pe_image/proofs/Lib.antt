@@ -1,4 +1,9 @@
+pub mod Back
 pub mod Example
+pub mod Front
+pub mod Pieces
+pub mod Rows
 pub mod Sections
+pub mod Sizes
 pub mod Stored
 pub mod Whole

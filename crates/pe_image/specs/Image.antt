@@ -9,6 +9,7 @@ pub record Section : Type 0 where
   pub raw : List ℕ
   pub flags : ℕ
 
+-- an image: its base, its entry point, its size, its sections in their order, and two of its directories
 pub record Image : Type 0 where
   pub base : ℕ
   pub entry : ℕ  -- relative to the base, as are all addresses of sections and directories
@@ -30,7 +31,7 @@ is_executable s = has_flag 0x20000000 s
 abbrev pub is_writable : Section → Bool
 is_writable s = has_flag 0x80000000 s
 
--- one of these two or IMAGE_SCN_MEM_READ, since the machine has no page that is only written or executed
+-- one of these two or IMAGE_SCN_MEM_READ: what may run or be written may be read too
 abbrev pub is_readable : Section → Bool
 is_readable s = has_flag 0xE0000000 s
 

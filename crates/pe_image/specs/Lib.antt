@@ -2,3 +2,4 @@ pub mod Answer
 pub mod Field
 pub mod Image
 pub mod Reading
+pub mod Written

@@ -50,6 +50,7 @@ directories_at bytes = optional_at bytes + 112
 abbrev pub sections_at : List ℕ → ℕ
 sections_at bytes = optional_at bytes + optional_size bytes
 
+-- what the headers must hold, checked in this order
 unfoldable pub headers : List ℕ → Result Unit ImageErr
 headers bytes = do
   _ ← unless (is_there bytes 0 64) (refusals.Truncated 0)
@@ -91,6 +92,7 @@ header_at bytes at = record {
   flags = field 4 bytes (at + 36);
 }
 
+-- so many headers from a place on
 abbrev pub headers_from : List ℕ → ℕ → ℕ → List SectionHeader
 headers_from bytes zero at = []
 headers_from bytes (suc n) at = header_at bytes at ∷ headers_from bytes n (at + 40)
@@ -100,6 +102,7 @@ abbrev pub is_laid_out : ℕ → ℕ → ℕ → SectionHeader → Bool
 is_laid_out file_size limit end s =
     ((s.raw_size == 0) || nat_le (s.raw_at + s.raw_size) file_size) && (s.address % 4096 == 0) && nat_le end s.address && nat_le (s.address + s.size) limit
 
+-- section by section, from an index on and behind an end
 abbrev pub all_laid_out : ℕ → ℕ → ℕ → ℕ → List SectionHeader → Result Unit ImageErr
 all_laid_out file_size limit index end [] = Ok tt
 all_laid_out file_size limit index end (s ∷ ss) = do

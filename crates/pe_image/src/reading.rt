@@ -1,20 +1,11 @@
 //! The checks of an image's headers.
 
-ghost use Rattle.std.specs.Prelude.{◌≡◌, ◌<◌, OnOk, IsTrue};
-ghost use Rattle.pe_image.specs.Answer as answer;
+ghost use Rattle.std.specs.Prelude.{◌≡◌, ◌<◌, OnOk};
 ghost use Rattle.pe_image.specs.Reading as spec;
 
 use crate::directory::Directory;
 use crate::fields::{u16_at, u32_at, u64_at};
 use crate::refusal::ImageErr;
-
-/// Passes where a check holds, and refuses where it doesn't.
-fn unless(holds: bool, refusal: ImageErr) -> Result<(), ImageErr>
-    ensures answer { result ≡ answer.unless holds refusal }
-    ensures passed { OnOk result (IsTrue holds) }
-{
-    if holds { Ok(()) } else { Err(refusal) }
-}
 
 /// Checks the headers up to the section table.
 #[tactic(auto, unfolding(crate::specs::Reading::headers))]
@@ -23,45 +14,47 @@ pub fn check_headers(bytes: &[u8]) -> Result<(), ImageErr>
     ensures found { OnOk result (spec.HasHeaders bytes.now) }
 {
     let size = bytes.len();
-    unless(size >= 64, ImageErr::Truncated { at: 0 })?;
-    unless(u16_at(bytes, 0) == 0x5A4D, ImageErr::NotPe { at: 0 })?;
-
+    if size < 64 {
+        return Err(ImageErr::Truncated { at: 0 });
+    }
+    if u16_at(bytes, 0) != 0x5A4D {
+        return Err(ImageErr::NotPe { at: 0 });
+    }
     let signature_at = u32_at(bytes, 0x3C) as usize;
     let at = signature_at as u64;
-    unless(size >= signature_at + 24, ImageErr::Truncated { at })?;
-    unless(
-        u32_at(bytes, signature_at) == 0x4550,
-        ImageErr::NotPe { at },
-    )?;
-
+    if size < signature_at + 24 {
+        return Err(ImageErr::Truncated { at });
+    }
+    if u32_at(bytes, signature_at) != 0x4550 {
+        return Err(ImageErr::NotPe { at });
+    }
     let found = u16_at(bytes, signature_at + 4) as u64;
-    unless(found == 0x8664, ImageErr::Machine { found })?;
-
+    if found != 0x8664 {
+        return Err(ImageErr::Machine { found });
+    }
     let optional_at = signature_at + 24;
     let optional_size = u16_at(bytes, signature_at + 20) as usize;
     let at = optional_at as u64;
-    unless(
-        size >= optional_at + 112 && optional_size >= 112,
-        ImageErr::Truncated { at },
-    )?;
+    if size < optional_at + 112 || optional_size < 112 {
+        return Err(ImageErr::Truncated { at });
+    }
     let found = u16_at(bytes, optional_at) as u64;
-    unless(found == 0x20B, ImageErr::Magic { found })?;
-
+    if found != 0x20B {
+        return Err(ImageErr::Magic { found });
+    }
     let directories_at = optional_at + 112;
     let directories_size = 8 * u32_at(bytes, optional_at + 108) as usize;
     let at = directories_at as u64;
-    unless(
-        optional_size >= 112 + directories_size && size >= directories_at + directories_size,
-        ImageErr::Truncated { at },
-    )?;
-
+    if optional_size < 112 + directories_size || size < directories_at + directories_size {
+        return Err(ImageErr::Truncated { at });
+    }
     let sections_at = optional_at + optional_size;
     let sections_size = 40 * u16_at(bytes, signature_at + 6) as usize;
     let at = sections_at as u64;
-    unless(
-        size >= sections_at + sections_size,
-        ImageErr::Truncated { at },
-    )
+    if size < sections_at + sections_size {
+        return Err(ImageErr::Truncated { at });
+    }
+    Ok(())
 }
 
 /// Where the optional header stands: behind the signature and the file header.

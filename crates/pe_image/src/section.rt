@@ -6,10 +6,13 @@ ghost use Rattle.pe_image.specs.Image as spec;
 
 use std::marker::Model;
 
+/// IMAGE_SCN_MEM_EXECUTE.
 const MEM_EXECUTE: u32 = 0x2000_0000;
 
+/// IMAGE_SCN_MEM_READ.
 const MEM_READ: u32 = 0x4000_0000;
 
+/// IMAGE_SCN_MEM_WRITE.
 const MEM_WRITE: u32 = 0x8000_0000;
 
 /// A section of an image: where it lies, and what the file stores of it.
@@ -118,7 +121,7 @@ fn count_begun(sections: &[SectionView<'_>], rva: u64) -> usize
 }
 
 /// The bytes from an address on that are stored in one of ascending sections.
-pub(crate) fn stored_from<'a>(sections: &[SectionView<'a>], rva: u64) -> &'a [u8]
+pub fn stored_from<'a>(sections: &[SectionView<'a>], rva: u64) -> &'a [u8]
     requires { AreAscending 0 sections.now }
     ensures { result.now ≡ stored_in rva (section_at rva sections.now) }
 {

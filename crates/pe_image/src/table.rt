@@ -12,12 +12,15 @@ use std::alloc::Global;
 
 /// A section header (PE format, "Section Table").
 #[derive(Clone, Copy, Debug)]
-pub(crate) struct SectionHeader {
+pub struct SectionHeader {
     /// How many bytes the section takes in the image: VirtualSize, or SizeOfRawData where that is 0.
     pub size: u32,
+    /// Where it lies in the image.
     pub address: u32,
+    /// How many bytes of raw data it has, and where they stand in the file.
     pub raw_size: u32,
     pub raw_at: u32,
+    /// Its characteristics.
     pub flags: u32,
 }
 
@@ -81,7 +84,7 @@ impl SectionHeader {
 }
 
 /// The sections of a table of so many headers, in an image that ends at `limit`.
-pub(crate) fn sections<'a>(
+pub fn sections<'a>(
     alloc: Global,
     bytes: &'a [u8],
     at: usize,

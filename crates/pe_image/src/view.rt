@@ -44,8 +44,9 @@ impl<'a> Model for ImageView<'a> {
 }
 
 impl<'a> ImageView<'a> {
-    /// Reads the bytes of a file. The checks of the headers come first, in their order, and then
-    /// those of each section.
+    /// Reads the bytes of a file. The checks of the headers come first, from the front, and then
+    /// those of each section: its raw data lies in the file, and it begins on a page, at or above
+    /// the end of the section before, and ends within SizeOfImage rounded up to whole pages.
     pub fn read(alloc: Global, bytes: &'a [u8]) -> Result<ImageView<'a>, ImageErr>
         ensures image { IfOk result (λ view. IsImage bytes.now view) }
         ensures refusal { IfErr result (λ e. IsRefused bytes.now e) }
@@ -80,7 +81,7 @@ impl<'a> ImageView<'a> {
         self.entry as u64
     }
 
-    /// The field SizeOfImage.
+    /// How many bytes it takes in memory, its headers counted: the field SizeOfImage.
     pub fn size(&self) -> u64
         ensures value { result ≡ self.now.size }
         ensures fits { result < 2 ^ 32 }
@@ -88,14 +89,14 @@ impl<'a> ImageView<'a> {
         self.size as u64
     }
 
-    /// The directory of imports.
+    /// Where the import descriptors lie.
     pub fn import_directory(&self) -> Directory
         ensures { result ≡ self.now.imports }
     {
         self.imports
     }
 
-    /// The directory of exceptions, the function table's.
+    /// Where the function table lies.
     pub fn exception_directory(&self) -> Directory
         ensures { result ≡ self.now.exceptions }
     {
@@ -110,7 +111,8 @@ impl<'a> ImageView<'a> {
         &self.sections
     }
 
-    /// The bytes of a range, where all of them are stored in one section.
+    /// The bytes of a range, where all of them are stored in one section, below its size. A range of
+    /// no bytes is stored everywhere.
     pub fn bytes(&self, rva: u64, len: u64) -> Option<&'a [u8]>
         ensures { option_map (λ b. b.now) result ≡ stored self.now.sections rva len }
     {

@@ -1,0 +1,208 @@
+-- The one form in which an image is written, piece by piece.
+use Rattle.std.specs.Prelude.{◌≡◌, ℕ, ◌+◌, ◌-◌, ◌*◌, ◌/◌, ◌^◌, ◌<◌, ◌≤◌, bit_and, Bool, true, false, not, ◌==◌, List, [], ◌∷◌, ◌++◌, length, take, replicate, sum_by, filter}
+use Rattle.std.specs.List.{flat_map, AllByRecursion}
+use Rattle.byteorder.specs.Endian.{little_bytes}
+use Rattle.pe_image.specs.declared.directory.Directory.{Directory}
+use Rattle.pe_image.specs.Image.{Section, Image}
+
+-- ---- what is written
+
+-- a section: a name of eight bytes, its characteristics, how many bytes it takes in the image, and those that the file stores of it
+pub record SectionParts : Type 0 where
+  pub name : List ℕ
+  pub flags : ℕ
+  pub size : ℕ
+  pub bytes : List ℕ
+
+-- an image: its entry point, its sections in their order, and those directories that aren't empty
+pub record ImageParts : Type 0 where
+  pub entry : ℕ
+  pub sections : List SectionParts
+  pub imports : Directory
+  pub exceptions : Directory
+  pub import_addresses : Directory
+
+-- ---- where it is laid
+
+-- n rounded up to whole pages, and to whole blocks of a file
+abbrev pub pages : ℕ → ℕ
+pages n = (n + 4095) / 4096 * 4096
+
+abbrev pub blocks : ℕ → ℕ
+blocks n = (n + 511) / 512 * 512
+
+abbrev pub raw_size : SectionParts → ℕ
+raw_size s = blocks (length s.bytes)
+
+-- a section at an address, with its raw data at a place in the file
+pub record PlacedSection : Type 0 where
+  pub parts : SectionParts
+  pub address : ℕ
+  pub raw_at : ℕ
+
+-- each section begins on the next page, and its raw data in the next block
+abbrev pub placed : ℕ → ℕ → List SectionParts → List PlacedSection
+placed address raw_at [] = []
+placed address raw_at (s ∷ ss) = record { parts = s; address = address; raw_at = raw_at } ∷ placed (address + pages s.size) (raw_at + raw_size s) ss
+
+-- behind the page of the headers and those of the sections
+abbrev pub end_of : List SectionParts → ℕ
+end_of ss = 0x1000 + sum_by (λ s. pages s.size) ss
+
+-- ---- the sections of code (IMAGE_SCN_CNT_CODE), and the others
+
+abbrev pub is_code : SectionParts → Bool
+is_code s = not (bit_and s.flags 0x20 == 0)
+
+abbrev pub code_size : List SectionParts → ℕ
+code_size ss = sum_by raw_size (filter is_code ss)
+
+abbrev pub data_size : List SectionParts → ℕ
+data_size ss = sum_by raw_size (filter (λ s. not (is_code s)) ss)
+
+abbrev pub number_if : ℕ → ℕ → Bool → ℕ
+number_if n other true = n
+number_if n other false = other
+
+-- where the first section of code begins
+abbrev pub code_base : ℕ → List SectionParts → ℕ
+code_base address [] = 0
+code_base address (s ∷ ss) = number_if address (code_base (address + pages s.size) ss) (is_code s)
+
+-- ---- pieces
+
+unfoldable pub u16 : ℕ → List ℕ
+u16 v = little_bytes 2 v
+
+unfoldable pub u32 : ℕ → List ℕ
+u32 v = little_bytes 4 v
+
+unfoldable pub u64 : ℕ → List ℕ
+u64 v = little_bytes 8 v
+
+unfoldable pub zeros : ℕ → List ℕ
+zeros n = replicate n 0
+
+unfoldable pub dos_header : List ℕ
+dos_header =
+    u16 0x5A4D  -- MZ
+    ++ zeros 58
+    ++ u32 0x40  -- e_lfanew
+
+unfoldable pub file_header : ImageParts → List ℕ
+file_header image =
+    u32 0x4550  -- PE\0\0
+    ++ u16 0x8664  -- Machine
+    ++ u16 (length image.sections)  -- NumberOfSections
+    ++ zeros 12
+    ++ u16 240  -- SizeOfOptionalHeader
+    ++ u16 0x23  -- Characteristics: relocations stripped, executable, large addresses
+
+unfoldable pub standard_fields : ImageParts → List ℕ
+standard_fields image =
+    u16 0x20B  -- Magic
+    ++ u16 0
+    ++ u32 (code_size image.sections)  -- SizeOfCode
+    ++ u32 (data_size image.sections)  -- SizeOfInitializedData
+    ++ u32 0
+    ++ u32 image.entry  -- AddressOfEntryPoint
+    ++ u32 (code_base 0x1000 image.sections)  -- BaseOfCode
+
+unfoldable pub windows_fields : ImageParts → List ℕ
+windows_fields image =
+    u64 0x140000000  -- ImageBase
+    ++ u32 4096  -- SectionAlignment
+    ++ u32 512  -- FileAlignment
+    ++ zeros 16
+    ++ u32 (end_of image.sections)  -- SizeOfImage
+    ++ u32 1024  -- SizeOfHeaders
+    ++ u32 0  -- CheckSum
+    ++ u16 3  -- Subsystem: console
+    ++ zeros 38
+    ++ u32 16  -- NumberOfRvaAndSizes
+
+unfoldable pub directory_entry : Directory → List ℕ
+directory_entry d = u32 d.rva ++ u32 d.size
+
+-- directories 1, 3 and 12 of 16
+unfoldable pub directories : ImageParts → List ℕ
+directories image =
+    zeros 8
+    ++ directory_entry image.imports
+    ++ zeros 8
+    ++ directory_entry image.exceptions
+    ++ zeros 64
+    ++ directory_entry image.import_addresses
+    ++ zeros 24
+
+unfoldable pub section_fields : PlacedSection → List ℕ
+section_fields s =
+    u32 s.parts.size  -- VirtualSize
+    ++ u32 s.address  -- VirtualAddress
+    ++ u32 (raw_size s.parts)  -- SizeOfRawData
+    ++ u32 s.raw_at  -- PointerToRawData
+    ++ zeros 12
+    ++ u32 s.parts.flags  -- Characteristics
+
+abbrev pub section_header : PlacedSection → List ℕ
+section_header s = s.parts.name ++ section_fields s
+
+abbrev pub section_table : List PlacedSection → List ℕ
+section_table ss = flat_map section_header ss
+
+-- up to 1,024 bytes of headers
+abbrev pub table_of : ImageParts → List ℕ
+table_of image = section_table (placed 0x1000 1024 image.sections) ++ zeros (696 - 40 * length image.sections)
+
+unfoldable pub raw_data : SectionParts → List ℕ
+raw_data s = s.bytes ++ zeros (raw_size s - length s.bytes)
+
+unfoldable pub written : ImageParts → List ℕ
+written image =
+    dos_header
+    ++ file_header image
+    ++ standard_fields image
+    ++ windows_fields image
+    ++ directories image
+    ++ table_of image
+    ++ flat_map raw_data image.sections
+
+-- ---- what can be written
+
+pub record IsSection (s : SectionParts) : Type 0 where
+  pub name : length s.name ≡ 8
+  pub flags : s.flags < 2 ^ 32
+  pub stored : length s.bytes ≤ s.size
+
+abbrev pub IsDirectory : Directory → Type 0
+IsDirectory d = (d.rva < 2 ^ 32) × (d.size < 2 ^ 32)
+
+-- the section table fits the headers, and all addresses fit 32 bits
+pub record CanBeWritten (image : ImageParts) : Type 0 where
+  pub entry : image.entry < 2 ^ 32
+  pub sections : AllByRecursion IsSection image.sections
+  pub table : length image.sections ≤ 17
+  pub end : end_of image.sections < 2 ^ 32
+  pub imports : IsDirectory image.imports
+  pub exceptions : IsDirectory image.exceptions
+  pub import_addresses : IsDirectory image.import_addresses
+
+-- ---- what is read again
+
+-- the raw data, cut at the section's size
+abbrev pub section_read : PlacedSection → Section
+section_read s = record { address = s.address; size = s.parts.size; raw = take s.parts.size (raw_data s.parts); flags = s.parts.flags }
+
+abbrev pub sections_read : List PlacedSection → List Section
+sections_read [] = []
+sections_read (s ∷ ss) = section_read s ∷ sections_read ss
+
+abbrev pub image_read : ImageParts → Image
+image_read image = record {
+  base = 0x140000000;
+  entry = image.entry;
+  size = end_of image.sections;
+  sections = sections_read (placed 0x1000 1024 image.sections);
+  imports = image.imports;
+  exceptions = image.exceptions;
+}
