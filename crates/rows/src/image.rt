@@ -34,7 +34,7 @@ pub fn image(
     characteristics: [u8; 4],
     code: &[u8],
 ) -> Result<Vec<u8>, AllocError> {
-    let size = (code.len() as u32).to_le_bytes();
+    let size = u32::try_from(code.len()).unwrap_or(0).to_le_bytes();
     let mut out = Vec::new(alloc);
     out.extend_from_slice(b"MZ")?;
     out.extend_from_slice(&[0; 58])?;

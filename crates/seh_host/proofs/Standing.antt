@@ -132,7 +132,7 @@ raw_none base a end m (s ∷ ss) up e = go (covers base a s) refl e (raw_none ba
     go false is none rest = rest none ∙ raw_outside m (begins_at base s) s.raw a (not_covered base a s is up.2)
 
 starts : (base a : ℕ) (s : Section) → covers base a s ≡ true → begins_at base s ≤ a
-starts base a s e = elim (cases_lt a (begins_at base s)) [ | inl lt ↦ absurd (not_both (sym e ∙ before base a s lt)) | inr le ↦ le ]
+starts base a s e = elim (cases_lt a (begins_at base s)) [ inl lt ↦ absurd (not_both (sym e ∙ before base a s lt)) | inr le ↦ le ]
   where
     not_both : true ≡ false → ⊥
     not_both h = cc

@@ -5,6 +5,8 @@ pub mod host;
 pub mod loading;
 pub mod mapping;
 pub mod run;
+#[cfg(test)]
+mod tests;
 
 pub use host_model::refusal::LoadErr;
 pub use seh_num::end::RunEnd;

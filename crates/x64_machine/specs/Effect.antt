@@ -141,7 +141,7 @@ abbrev pub multiply : State → Width → Reg → Place → Answer State
 multiply s w to from = do
   b ← read s w from
   let p = multiplied w (low w (register s.cpu to)) b s.cpu.flags in
-    Ok (with_flags (record s { cpu = with_register w s.cpu to p.0 }) p.1)
+      Ok (with_flags (record s { cpu = with_register w s.cpu to p.0 }) p.1)
 
 abbrev pub widened : Extension → Width → Width → ℕ → ℕ
 widened Sign w narrow v = wrapped w (signed narrow v)

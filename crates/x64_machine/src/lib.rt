@@ -7,4 +7,6 @@ pub mod effect;
 pub mod outcome;
 pub mod running;
 pub mod service;
+#[cfg(test)]
+mod tests;
 pub mod words;

@@ -9,11 +9,17 @@ pub enum Stop {
         access: Option<(bool, u64)>,
     },
     /// RIP is the address of a service of the host.
-    Host { address: u64 },
+    Host {
+        address: u64,
+    },
     /// No instruction can be run at RIP.
-    Illegal { rip: u64 },
+    Illegal {
+        rip: u64,
+    },
     /// The access met the stack's guard.
-    Guard { address: u64 },
+    Guard {
+        address: u64,
+    },
 }
 
 /// What a step came to. After anything but `Next`, registers and memory are as before.
@@ -27,9 +33,15 @@ pub enum Step {
         access: Option<(bool, u64)>,
     },
     /// RIP is the address of a service of the host.
-    Host { address: u64 },
+    Host {
+        address: u64,
+    },
     /// No instruction can be run at RIP.
-    Illegal { rip: u64 },
+    Illegal {
+        rip: u64,
+    },
     /// The access met the stack's guard.
-    Guard { address: u64 },
+    Guard {
+        address: u64,
+    },
 }

@@ -47,11 +47,7 @@ pub fn add(width: Width, first: u64, second: u64) -> (u64, Flags)
 {
     let whole = u128::from(first) + u128::from(second);
     let sum = (whole % width.limit()) as u64;
-    let fits = sum_fits(
-        width,
-        sign_extend(width, first),
-        sign_extend(width, second),
-    );
+    let fits = sum_fits(width, sign_extend(width, first), sign_extend(width, second));
     let flags = flags_of(width, sum, whole >= width.limit(), !fits);
     (sum, flags)
 }
@@ -64,11 +60,7 @@ pub fn subtract(width: Width, first: u64, second: u64) -> (u64, Flags)
 {
     let whole = u128::from(first) + (width.limit() - u128::from(second));
     let difference = (whole % width.limit()) as u64;
-    let fits = difference_fits(
-        width,
-        sign_extend(width, first),
-        sign_extend(width, second),
-    );
+    let fits = difference_fits(width, sign_extend(width, first), sign_extend(width, second));
     let flags = flags_of(width, difference, first < second, !fits);
     (difference, flags)
 }
@@ -80,11 +72,7 @@ pub fn multiply(width: Width, first: u64, second: u64, flags: Flags) -> (u64, Fl
     ensures { result ≡ spec.multiplied width first second flags }
 {
     let low = (u128::from(first) * u128::from(second)) % width.limit();
-    let fits = product_fits(
-        width,
-        sign_extend(width, first),
-        sign_extend(width, second),
-    );
+    let fits = product_fits(width, sign_extend(width, first), sign_extend(width, second));
     let flags = Flags {
         carry: !fits,
         overflow: !fits,

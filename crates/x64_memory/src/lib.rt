@@ -7,3 +7,5 @@ pub mod page;
 pub mod paged;
 pub mod region;
 pub mod space;
+#[cfg(test)]
+mod tests;

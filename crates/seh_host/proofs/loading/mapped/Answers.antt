@@ -36,8 +36,8 @@ fill-requires-clause-there c a low high =
     let here : c.loop-section.section-index < length c.args.image.now.sections = subst (λ ss. c.loop-section.section-index < length ss) c.sections-sections.ensures.value c.loop-section-test.true in
     c.loop-section.invariant.holds a
     ∙ piece_held c.args.image.now a c.loop-section.section-index c.section-item.result up here
-      (subst (λ (s : Section). begins_at c.args.image.now.base s ≤ a) is low')
-      (subst (λ (s : Section). a < begins_at c.args.image.now.base s + length s.raw) is high')
+    (subst (λ (s : Section). begins_at c.args.image.now.base s ≤ a) is low')
+    (subst (λ (s : Section). a < begins_at c.args.image.now.base s + length s.raw) is high')
 
 pub loop-section-preserved : goal.loop-section-preserved
 loop-section-preserved c =
@@ -47,11 +47,11 @@ loop-section-preserved c =
     let starts : c.base.result + c.address.result ≡ begins_at base s = ap (λ b. b + c.address.result) c.base.ensures ∙ ap (λ b. base + b) c.address.ensures.value in
     record {
       memory =
-        ap (λ n. with_raw base n (drop (c.loop-section.section-index + 1) c.sections-sections.result.now))
-        (c.fill.ensures.memory ∙ ap (λ at. filled m at c.raw.result.now) starts ∙ ap (filled m (begins_at base s)) c.raw.ensures)
-        ∙ ap (λ (t : Section). with_raw base (filled m (begins_at base t) t.raw) (drop (c.loop-section.section-index + 1) c.sections-sections.result.now)) c.section-item.is
-        ∙ sym (raw_more base c.loop-section.section-index m c.sections-sections.result.now s c.loop-section-test.true)
-        ∙ c.loop-section.invariant.memory;
+          ap (λ n. with_raw base n (drop (c.loop-section.section-index + 1) c.sections-sections.result.now))
+          (c.fill.ensures.memory ∙ ap (λ at. filled m at c.raw.result.now) starts ∙ ap (filled m (begins_at base s)) c.raw.ensures)
+          ∙ ap (λ (t : Section). with_raw base (filled m (begins_at base t) t.raw) (drop (c.loop-section.section-index + 1) c.sections-sections.result.now)) c.section-item.is
+          ∙ sym (raw_more base c.loop-section.section-index m c.sections-sections.result.now s c.loop-section-test.true)
+          ∙ c.loop-section.invariant.memory;
       holds = λ a. c.fill.ensures.holds a ∙ c.loop-section.invariant.holds a;
     }
 

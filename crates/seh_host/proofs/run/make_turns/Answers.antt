@@ -16,12 +16,13 @@ loop-i-preserved g c =
     let h = host_of c.loop-i.host in
     let out = c.loop-i.invariant.0 in
     let one : c.args.turns - c.loop-i._i ≡ (c.args.turns - (c.loop-i._i + 1)) + 1 = omega arith in
-    let none = made_none c.loop-i.host.end c.in-Made.ensures.answer in
-    (out ++ shown_next h,
+    let none = made_none c.loop-i.host.end c.in-Made.ensures.answer in (
+      out ++ shown_next h,
       g.met.V.Events.more c.args.to.now c.loop-i.to c.turn.new.to out (shown_next h) c.loop-i.invariant.1 c.turn.ensures.shown,
       ap (λ n. run (c.args.turns - (c.loop-i._i + 1)) n (out ++ shown_next h)) c.turn.ensures.host
-      ∙ sym (run-more (c.args.turns - c.loop-i._i) (c.args.turns - (c.loop-i._i + 1)) h out one none)
-      ∙ c.loop-i.invariant.2)
+          ∙ sym (run-more (c.args.turns - c.loop-i._i) (c.args.turns - (c.loop-i._i + 1)) h out one none)
+          ∙ c.loop-i.invariant.2,
+    )
 
 pub returns-in-Ended-clause-shown : goal.returns-in-Ended-clause-shown
 returns-in-Ended-clause-shown g c =

@@ -1,0 +1,540 @@
+use crate::context::Context;
+use crate::cpu::{Cpu, Flags};
+use crate::effect::{effect, pop};
+use crate::outcome::{Step, Stop};
+use crate::running::step;
+use crate::service::Service;
+use crate::words::{add, flags_of, merge, multiply, subtract};
+use seh_num::event::Code;
+use seh_num::extension::zero_extend;
+use seh_num::width::Width;
+use std::alloc::{AllocError, Global};
+use std::test::Fail;
+use x64_instr::instruction::Instr;
+use x64_instr::register::Reg;
+use x64_memory::map_space::MapSpace;
+use x64_memory::region::Region;
+use x64_memory::space::Space;
+
+/// The arena, a page of code, one of data after it, and one of the stack above its guard.
+const REGIONS: [Region; 4] = [
+    Region {
+        start: 0x2000_0000,
+        end: 0x2010_0000,
+        read: false,
+        write: false,
+        execute: false,
+    },
+    Region {
+        start: 0x4000_0000,
+        end: 0x4000_1000,
+        read: true,
+        write: false,
+        execute: true,
+    },
+    Region {
+        start: 0x4000_1000,
+        end: 0x4000_2000,
+        read: true,
+        write: true,
+        execute: false,
+    },
+    Region {
+        start: 0x7000_0000,
+        end: 0x7000_1000,
+        read: true,
+        write: true,
+        execute: false,
+    },
+];
+
+/// CF, ZF, SF and OF.
+fn flags(carry: bool, zero: bool, sign: bool, overflow: bool) -> Flags {
+    Flags {
+        carry,
+        zero,
+        sign,
+        overflow,
+    }
+}
+
+/// Registers of ones alone, with an empty stack.
+fn cpu() -> Cpu {
+    let mut registers = [u64::MAX; 16];
+    registers[4] = 0x7000_1000;
+    Cpu {
+        registers,
+        rip: 0x4000_0000,
+        flags: flags(false, false, false, false),
+    }
+}
+
+fn violation(write: bool, address: u64) -> Step {
+    Step::Fault {
+        code: Code(0xC000_0005),
+        access: Some((write, address)),
+    }
+}
+
+#[test]
+fn merges(rt: HostRuntime) {
+    let (old, value) = (0x1122_3344_5566_7788, 0x99AA_BBCC_DDEE_FF00);
+    for (width, want) in [
+        (Width::W8, 0x1122_3344_5566_7700),
+        (Width::W16, 0x1122_3344_5566_FF00),
+        (Width::W32, 0x0000_0000_DDEE_FF00),
+        (Width::W64, 0x99AA_BBCC_DDEE_FF00),
+    ] {
+        assert_eq!(rt; merge(width, old, value), want, "{width:?}");
+        let mut cpu = cpu();
+        cpu.set_register(Width::W64, Reg::R9, old);
+        cpu.set_register(width, Reg::R9, value);
+        assert_eq!(rt; cpu.register(Reg::R9), want, "{width:?}");
+        assert_eq!(rt; cpu.register(Reg::R8), u64::MAX, "beside at {width:?}");
+        assert_eq!(rt; cpu.registers[9], want, "{width:?}");
+    }
+}
+
+// Carry: out of the top bit. Overflow: the signs of the operands agree, and the sum's differs.
+#[test]
+fn sums(rt: HostRuntime) {
+    for (width, first, second, sum, want) in [
+        (Width::W8, 0x7F, 0x01, 0x80, flags(false, false, true, true)),
+        (Width::W16, 0xFFFF, 0x01, 0, flags(true, true, false, false)),
+        (Width::W32, 1, 2, 3, flags(false, false, false, false)),
+        (
+            Width::W32,
+            0x7FFF_FFFF,
+            1,
+            0x8000_0000,
+            flags(false, false, true, true),
+        ),
+        (
+            Width::W32,
+            0xFFFF_FFFF,
+            1,
+            0,
+            flags(true, true, false, false),
+        ),
+        (
+            Width::W32,
+            0x8000_0000,
+            0x8000_0000,
+            0,
+            flags(true, true, false, true),
+        ),
+        (
+            Width::W32,
+            0xFFFF_FFFF,
+            0xFFFF_FFFF,
+            0xFFFF_FFFE,
+            flags(true, false, true, false),
+        ),
+        (
+            Width::W64,
+            0x7FFF_FFFF_FFFF_FFFF,
+            0x7FFF_FFFF_FFFF_FFFF,
+            0xFFFF_FFFF_FFFF_FFFE,
+            flags(false, false, true, true),
+        ),
+        (
+            Width::W64,
+            0x8000_0000_0000_0000,
+            0xFFFF_FFFF_FFFF_FFFF,
+            0x7FFF_FFFF_FFFF_FFFF,
+            flags(true, false, false, true),
+        ),
+        (
+            Width::W64,
+            0xFFFF_FFFF,
+            1,
+            0x1_0000_0000,
+            flags(false, false, false, false),
+        ),
+    ] {
+        assert_eq!(rt;
+            add(width, first, second),
+            (sum, want),
+            "{first} + {second} at {width:?}"
+        );
+    }
+}
+
+// Carry: a borrow. Overflow: the signs of the operands differ, and the difference's is the second's.
+#[test]
+fn differences(rt: HostRuntime) {
+    for (width, first, second, difference, want) in [
+        (
+            Width::W8,
+            0x80,
+            0x01,
+            0x7F,
+            flags(false, false, false, true),
+        ),
+        (Width::W16, 0, 1, 0xFFFF, flags(true, false, true, false)),
+        (Width::W32, 3, 3, 0, flags(false, true, false, false)),
+        (
+            Width::W32,
+            0,
+            0x8000_0000,
+            0x8000_0000,
+            flags(true, false, true, true),
+        ),
+        (
+            Width::W32,
+            0x8000_0000,
+            1,
+            0x7FFF_FFFF,
+            flags(false, false, false, true),
+        ),
+        (
+            Width::W32,
+            2,
+            0xFFFF_FFFF,
+            3,
+            flags(true, false, false, false),
+        ),
+        (
+            Width::W64,
+            0x7FFF_FFFF_FFFF_FFFF,
+            0xFFFF_FFFF_FFFF_FFFF,
+            0x8000_0000_0000_0000,
+            flags(true, false, true, true),
+        ),
+        (
+            Width::W64,
+            0xFFFF_FFFF_FFFF_FFFF,
+            0x7FFF_FFFF_FFFF_FFFF,
+            0x8000_0000_0000_0000,
+            flags(false, false, true, false),
+        ),
+        (
+            Width::W64,
+            0,
+            1,
+            0xFFFF_FFFF_FFFF_FFFF,
+            flags(true, false, true, false),
+        ),
+    ] {
+        assert_eq!(rt;
+            subtract(width, first, zero_extend(width, second)),
+            (difference, want),
+            "{first} - {second} at {width:?}"
+        );
+    }
+}
+
+// Carry and overflow: the low half, sign-extended, isn't the product.
+#[test]
+fn products(rt: HostRuntime) {
+    for (width, first, second, low, lost) in [
+        (Width::W32, 3, 4, 12, false),
+        (Width::W32, 0x1_0000, 0x1_0000, 0, true),
+        (Width::W32, 0xFFFF_FFFF, 0xFFFF_FFFF, 1, false),
+        (Width::W32, 0x4000_0000, 2, 0x8000_0000, true),
+        (Width::W32, 0x8000_0000, 1, 0x8000_0000, false),
+        (Width::W32, 0x8000_0000, 0xFFFF_FFFF, 0x8000_0000, true),
+        (Width::W64, 0x1_0000, 0x1_0000, 0x1_0000_0000, false),
+        (
+            Width::W64,
+            0xFFFF_FFFF_FFFF_FFFD,
+            7,
+            0xFFFF_FFFF_FFFF_FFEB,
+            false,
+        ),
+        (Width::W64, 0x1_0000_0000, 0x1_0000_0000, 0, true),
+        (
+            Width::W64,
+            0xC000_0000_0000_0000,
+            2,
+            0x8000_0000_0000_0000,
+            false,
+        ),
+    ] {
+        let before = flags(!lost, true, true, !lost);
+        assert_eq!(rt;
+            multiply(width, first, second, before),
+            (low, flags(lost, true, true, lost)),
+            "{first} * {second} at {width:?}"
+        );
+    }
+}
+
+#[test]
+fn results_have_flags(rt: HostRuntime) {
+    for (width, value, zero, sign) in [
+        (Width::W32, 0, true, false),
+        (Width::W32, 0x7FFF_FFFF, false, false),
+        (Width::W32, 0x8000_0000, false, true),
+        (Width::W64, 0x8000_0000, false, false),
+        (Width::W64, 0x8000_0000_0000_0000, false, true),
+    ] {
+        assert_eq!(rt;
+            flags_of(width, value, true, false),
+            flags(true, zero, sign, false),
+            "{value} at {width:?}"
+        );
+    }
+}
+
+// Microsoft x64 ABI: RBX, RBP, RDI, RSI, RSP and R12 to R15 are nonvolatile; RIP beside them.
+#[test]
+fn contexts(rt: HostRuntime) {
+    let cpu = Cpu {
+        registers: [
+            100, 101, 102, 103, 104, 105, 106, 107, 108, 109, 110, 111, 112, 113, 114, 115,
+        ],
+        rip: 77,
+        flags: flags(true, false, true, false),
+    };
+    let want = Context {
+        rip: 77,
+        kept: [104, 103, 105, 106, 107, 112, 113, 114, 115],
+    };
+    assert_eq!(rt; Context::of(&cpu), want);
+}
+
+#[test]
+fn services(rt: HostRuntime) {
+    for (service, address) in [
+        (Service::Put, 0x7FF0_0010),
+        (Service::Protect, 0x7FF0_0020),
+        (Service::RaiseException, 0x7FF0_0030),
+        (Service::CSpecificHandler, 0x7FF0_0040),
+        (Service::LocalUnwind, 0x7FF0_0050),
+        (Service::FilterReturn, 0x7FF0_0060),
+        (Service::FinallyReturn, 0x7FF0_0070),
+    ] {
+        assert_eq!(rt; service.address(), address, "{service:?}");
+        assert_eq!(rt; Service::at(address), Some(service), "at {address}");
+        assert_eq!(rt; Service::at(address + 1), None, "after {address}");
+    }
+    assert_eq!(rt; Service::at(0x7FF0_0000), None);
+    assert_eq!(rt; Service::at(0x7FF0_0080), None);
+}
+
+/// A routine that calls the second of two returns, and a number after them.
+fn with_routine(alloc: Global) -> Result<MapSpace, AllocError> {
+    let mut space = MapSpace::new(alloc, &REGIONS)?;
+    space.fill(
+        0x4000_0000,
+        &[
+            0x48, 0xB8, 0x88, 0x77, 0x66, 0x55, 0x44, 0x33, 0x22, 0x11, // mov rax, number
+            0xB9, 0x03, 0x00, 0x00, 0x80, // mov ecx, 80000003h
+            0x66, 0xBA, 0x34, 0x12, // mov dx, 1234h
+            0x48, 0x89, 0x0B, // mov [rbx], rcx
+            0x48, 0x63, 0x33, // movsxd rsi, dword ptr [rbx]
+            0x48, 0x01, 0xC8, // add rax, rcx
+            0x29, 0xC8, // sub eax, ecx
+            0x83, 0x03, 0xFD, // add dword ptr [rbx], -3
+            0x48, 0x0F, 0xAF, 0x03, // imul rax, [rbx]
+            0x50, // push rax
+            0x41, 0x5F, // pop r15
+            0x48, 0x8B, 0x0D, 0x05, 0x00, 0x00, 0x00, // mov rcx, [rip + 5]
+            0xFF, 0xD7, // call rdi
+            0xC3, // ret
+            0xC3, // ret
+            0xCC, 0x08, 0x07, 0x06, 0x05, 0x04, 0x03, 0x02, 0x01,
+        ],
+    );
+    Ok(space)
+}
+
+#[test]
+fn steps_through_a_routine(rt: HostRuntime) -> Result<(), Fail> {
+    let mut space = with_routine(rt.alloc())?;
+    let mut cpu = cpu();
+    cpu.set_register(Width::W64, Reg::Rbx, 0x4000_1000);
+    cpu.set_register(Width::W64, Reg::Rdi, 0x4000_0032);
+    for (rip, register, want) in [
+        (0x4000_000A, Reg::Rax, 0x1122_3344_5566_7788),
+        (0x4000_000F, Reg::Rcx, 0x8000_0003),
+        (0x4000_0013, Reg::Rdx, 0xFFFF_FFFF_FFFF_1234),
+        (0x4000_0016, Reg::Rbx, 0x4000_1000),
+        (0x4000_0019, Reg::Rsi, 0xFFFF_FFFF_8000_0003),
+        (0x4000_001C, Reg::Rax, 0x1122_3344_D566_778B),
+        (0x4000_001E, Reg::Rax, 0x5566_7788),
+        (0x4000_0021, Reg::Rbx, 0x4000_1000),
+        (0x4000_0025, Reg::Rax, 0x2AB3_3BC4_0000_0000),
+        (0x4000_0026, Reg::Rsp, 0x7000_0FF8),
+        (0x4000_0028, Reg::R15, 0x2AB3_3BC4_0000_0000),
+        (0x4000_002F, Reg::Rcx, 0x0102_0304_0506_0708),
+        (0x4000_0032, Reg::Rsp, 0x7000_0FF8),
+        (0x4000_0031, Reg::Rsp, 0x7000_1000),
+    ] {
+        assert_eq!(rt; step(&mut cpu, &mut space), Step::Next, "to {rip}");
+        assert_eq!(rt; cpu.rip, rip);
+        assert_eq!(rt; cpu.register(register), want, "before {rip}");
+    }
+    assert_eq!(rt; space.load(0x4000_1000, Width::W64), Ok(0x8000_0000));
+    assert_eq!(rt; space.load(0x7000_0FF8, Width::W64), Ok(0x4000_0031));
+    // 80000003h + FFFFFFFDh carries; the product after it fits.
+    assert_eq!(rt; cpu.flags, flags(false, false, true, false));
+    // The stack is empty.
+    let want = violation(false, 0x7000_1000);
+    assert_eq!(rt; step(&mut cpu, &mut space), want);
+    assert_eq!(rt; cpu.rip, 0x4000_0031);
+    Ok(())
+}
+
+/// Instructions that are refused by what the registers hold, and one at the end of what is executed.
+fn with_pieces(alloc: Global) -> Result<MapSpace, AllocError> {
+    let mut space = MapSpace::new(alloc, &REGIONS)?;
+    space.fill(
+        0x4000_0000,
+        &[
+            0x50, // push rax
+            0x48, 0x8B, 0x00, // mov rax, [rax]
+            0x48, 0x89, 0x00, // mov [rax], rax
+            0xFF, 0x10, // call [rax]
+            0x83, 0x00, 0x01, // add dword ptr [rax], 1
+            0x06, // no instruction in 64-bit mode
+        ],
+    );
+    // A mov whose number isn't executable, and a ret that isn't.
+    space.fill(0x4000_0FFF, &[0xB8, 0xC3]);
+    Ok(space)
+}
+
+#[test]
+fn refused_steps_change_nothing(rt: HostRuntime) -> Result<(), Fail> {
+    let mut space = with_pieces(rt.alloc())?;
+    for (rip, rax, rsp, want) in [
+        (
+            0x4000_0000,
+            1,
+            0x7000_0000,
+            Step::Guard {
+                address: 0x6FFF_FFF8,
+            },
+        ),
+        (0x4000_0000, 1, 0x7000_1008, violation(true, 0x7000_1000)),
+        (0x4000_0000, 1, 0, violation(true, 0xFFFF_FFFF_FFFF_FFF8)),
+        (0x4000_0001, 0x10, 0x7000_1000, violation(false, 0x10)),
+        (
+            0x4000_0001,
+            0x6FFF_0000,
+            0x7000_1000,
+            Step::Guard {
+                address: 0x6FFF_0000,
+            },
+        ),
+        (
+            0x4000_0004,
+            0x4000_0000,
+            0x7000_1000,
+            violation(true, 0x4000_0000),
+        ),
+        (
+            0x4000_0004,
+            0x4000_1FFC,
+            0x7000_1000,
+            violation(true, 0x4000_2000),
+        ),
+        (
+            0x4000_0007,
+            0x4000_1FFC,
+            0x7000_1000,
+            violation(false, 0x4000_2000),
+        ),
+        (
+            0x4000_0007,
+            0x4000_1000,
+            0x4000_0008,
+            violation(true, 0x4000_0000),
+        ),
+        // A place that is read and written is refused as a write.
+        (
+            0x4000_0009,
+            0x4000_0000,
+            0x7000_1000,
+            violation(true, 0x4000_0000),
+        ),
+        (
+            0x4000_000C,
+            1,
+            0x7000_1000,
+            Step::Illegal { rip: 0x4000_000C },
+        ),
+        (
+            0x4000_0FFF,
+            1,
+            0x7000_1000,
+            Step::Illegal { rip: 0x4000_0FFF },
+        ),
+        (
+            0x4000_1000,
+            1,
+            0x7000_0000,
+            Step::Illegal { rip: 0x4000_1000 },
+        ),
+        (0, 1, 0x7000_0000, Step::Illegal { rip: 0 }),
+        (
+            0x7FF0_0010,
+            1,
+            0x7000_1000,
+            Step::Host {
+                address: 0x7FF0_0010,
+            },
+        ),
+        (
+            0x7FF0_0070,
+            1,
+            0x7000_1000,
+            Step::Host {
+                address: 0x7FF0_0070,
+            },
+        ),
+        // The language handler isn't run as code, and between the services there is none.
+        (
+            0x7FF0_0040,
+            1,
+            0x7000_1000,
+            Step::Illegal { rip: 0x7FF0_0040 },
+        ),
+        (
+            0x7FF0_0011,
+            1,
+            0x7000_1000,
+            Step::Illegal { rip: 0x7FF0_0011 },
+        ),
+    ] {
+        let mut before = cpu();
+        before.rip = rip;
+        before.set_register(Width::W64, Reg::Rax, rax);
+        before.set_register(Width::W64, Reg::Rsp, rsp);
+        let mut after = before;
+        assert_eq!(rt; step(&mut after, &mut space), want, "{rax} at {rip}");
+        assert_eq!(rt; after, before, "{rax} at {rip}");
+    }
+    assert_eq!(rt; space.load(0x4000_1000, Width::W64), Ok(0xC3));
+    assert_eq!(rt; space.load(0x4000_1FF8, Width::W64), Ok(0));
+    Ok(())
+}
+
+#[test]
+fn pushes_and_pops(rt: HostRuntime) -> Result<(), Fail> {
+    let mut space = MapSpace::new(rt.alloc(), &REGIONS)?;
+    let before = cpu();
+    // The old RSP is stored.
+    let pushed = effect(before, &mut space, &Instr::Push(Reg::Rsp));
+    let mut below = before;
+    below.registers[4] = 0x7000_0FF8;
+    assert_eq!(rt; pushed, Ok(below));
+    assert_eq!(rt; space.load(0x7000_0FF8, Width::W64), Ok(0x7000_1000));
+    assert_eq!(rt; pop(below, &space), Ok((0x7000_1000, before)));
+    // POP RSP leaves what was popped.
+    assert_eq!(rt; space.store(0x7000_0FF8, Width::W64, 0x1234), Ok(()));
+    let mut popped = below;
+    popped.registers[4] = 0x1234;
+    assert_eq!(rt;
+        effect(below, &mut space, &Instr::Pop(Reg::Rsp)),
+        Ok(popped)
+    );
+    let stop = Stop::Fault {
+        code: Code(0xC000_0005),
+        access: Some((false, 0x7000_1000)),
+    };
+    assert_eq!(rt; pop(before, &space), Err(stop));
+    Ok(())
+}
