@@ -39,11 +39,7 @@ fn run_image<O: Sink>(alloc: Global, bytes: &[u8], out: &mut O) -> Result<RunEnd
 }
 
 /// Reads an image from the source and runs it.
-pub fn exec<S: Source, O: Sink>(
-    alloc: Global,
-    src: &mut S,
-    out: &mut O,
-) -> Result<RunEnd, Refusal>
+pub fn exec<S: Source, O: Sink>(alloc: Global, src: &mut S, out: &mut O) -> Result<RunEnd, Refusal>
     ensures { IsExecAnswer (stream S.left S.faults src.old) (stream S.left S.faults src.new) (stream O.taken O.faults out.old) (stream O.taken O.faults out.new) result }
 {
     match read_all(alloc, src, IMAGE_LIMIT) {

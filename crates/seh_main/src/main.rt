@@ -5,10 +5,9 @@ mod streams;
 
 use seh::refusal::{Refusal, report};
 use seh::top::top;
-use std::io;
 use std::io::ErrorKind;
 use std::process::ExitCode;
-use std::{env, rt};
+use std::{env, io, rt};
 use streams::{Input, Output};
 
 /// The words after the program's name. A word that isn't UTF-8 makes them no line of the command set.
@@ -25,13 +24,7 @@ fn main(rt: HostRuntime) -> ExitCode {
     let mut output = Output::new(rt.stdout());
     let mut errors = Output::new(rt.stderr());
     let status = match words(&rt) {
-        Ok(words) => top(
-            rt.alloc(),
-            &words,
-            &mut input,
-            &mut output,
-            &mut errors,
-        ),
+        Ok(words) => top(rt.alloc(), &words, &mut input, &mut output, &mut errors),
         Err(error) if error.kind() == ErrorKind::OutOfMemory => {
             report(&mut errors, &Refusal::NoMemory)
         }
