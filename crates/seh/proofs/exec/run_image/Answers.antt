@@ -1,11 +1,11 @@
-use Rattle.std.proofs.Common.{◌≡◌, ℕ, sym, ap, ◌∙◌, subst, false}
+use Rattle.std.proofs.Common.{ap, ◌∙◌, subst, false}
 use Rattle.seh_host.specs.Hosts.{host_of}
 use Rattle.seh_host.specs.Turns.{end_within, taken_before}
 use Rattle.seh_io.specs.Streams.{Grew}
 use Rattle.seh_io.specs.Text.{text}
 use Rattle.seh_io.specs.Writer.{TookPart}
 use Rattle.host_model.specs.Machine.{Shown}
-use Rattle.seh.specs.Answers.{default_turns, shown_by, end_by, text_by}
+use Rattle.seh.specs.Answers.{default_turns, shown_by}
 use Rattle.seh.proofs.Shown.{shown_is}
 use Rattle.seh.proofs.exec.run_image.Goals as goal
 
