@@ -1,0 +1,12 @@
+pub mod Fronts
+pub mod Wholes
+pub mod Taking
+pub mod Tokens
+pub mod Quotes
+pub mod CommentEnds
+pub mod FirstBytes
+pub mod Texts
+pub mod Covering
+pub mod OnlySpelled
+pub mod Total
+pub mod Spelled

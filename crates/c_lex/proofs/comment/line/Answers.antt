@@ -1,0 +1,9 @@
+use Rattle.std.proofs.Common.{}
+use Rattle.c_lex.specs.declared.word.Word.TheVariants.{Blank}
+use Rattle.c_lex.specs.Comments.{is_other_than_line_feed}
+use Rattle.c_lex.specs.Longest.{span}
+use Rattle.c_lex.proofs.Taking.{each_takes}
+use Rattle.c_lex.proofs.comment.line.Goals as goal
+
+pub returns : goal.returns
+returns c = ((span is_other_than_line_feed c.args.text.now).0, rw c.after_line.ensures (each_takes is_other_than_line_feed (λ _. Blank) c.args.text.now))

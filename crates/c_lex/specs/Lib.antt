@@ -1,0 +1,15 @@
+pub mod Keywords
+pub mod ReservedWords
+pub mod Signs
+pub mod Names
+pub mod Integers
+pub mod Characters
+pub mod Comments
+pub mod Words
+pub mod Longest
+pub mod Readers
+pub mod IntegerReaders
+pub mod CharacterReaders
+pub mod Text
+pub mod Answers
+pub mod Laws

@@ -1,0 +1,41 @@
+use crate::keyword::Keyword;
+use crate::reserved::Reserved;
+use crate::sign::Sign;
+
+/// Types of integer literals, by their size.
+#[derive(Clone, Copy, Debug, PartialEq, Eq)]
+pub enum IntegerType {
+    /// 32 bits, signed.
+    Int,
+    /// 32 bits, unsigned.
+    Unsigned,
+    /// 64 bits, signed.
+    LongLong,
+    /// 64 bits, unsigned.
+    UnsignedLongLong,
+}
+
+/// What a token is.
+#[derive(Clone, Copy, Debug, PartialEq, Eq)]
+pub enum Kind {
+    /// A name that is no keyword and not reserved.
+    Name,
+    /// A keyword of the language.
+    Keyword(Keyword),
+    /// A word that C reserves and that no rule of the language uses.
+    Reserved(Reserved),
+    /// An integer literal: its value, and the first of its types that holds it.
+    Integer { value: u64, of: IntegerType },
+    /// A character: its value as a signed char, of type int.
+    Character(i8),
+    /// A sign.
+    Sign(Sign),
+}
+
+/// A token: what it is, and its bytes' places in the text, from `start` to below `end`.
+#[derive(Clone, Copy, Debug, PartialEq, Eq)]
+pub struct Token {
+    pub kind: Kind,
+    pub start: u64,
+    pub end: u64,
+}
