@@ -256,8 +256,8 @@ fn accesses_that_are_refused(rt: HostRuntime) -> Result<(), Fail> {
 #[test]
 fn places_without_instructions(rt: HostRuntime) -> Result<(), Fail> {
     let cases: [(u64, &[u8], u64); 5] = [
-        // mov eax, 7, and zeros behind it
-        (0x1000, &[0xB8, 7, 0, 0, 0], 0x1_4000_1005),
+        // mov eax, 7, and a byte that begins no instruction in 64-bit mode
+        (0x1000, &[0xB8, 7, 0, 0, 0, 0x06], 0x1_4000_1005),
         // push rax as the section's last byte
         (0x1FFF, &[0x50; 4096], 0x1_4000_2000),
         // mov eax, 0x707FFFD0; push rax; ret: the stack isn't executable

@@ -1,5 +1,5 @@
 -- The table is a reader; so no spelling begins another, and each spells one instruction.
-use Rattle.std.proofs.Common.{◌≡◌, ℕ, ◌+◌, ◌/◌, ◌%◌, true, false, cond, eqb, List, [], ◌++◌, Some, None, refl, sym, ap, subst, ◌∙◌, arith, length, take, drop, length-append, ◌≤◌}
+use Rattle.std.proofs.Common.{◌≡◌, ℕ, ◌+◌, ◌/◌, ◌%◌, Bool, true, false, not, cond, eqb, List, [], ◌++◌, Some, None, refl, sym, ap, subst, ◌∙◌, arith, length, take, drop, length-append, ◌≤◌}
 use Rattle.std.proofs.lemmas.List.{take_at, append-nil, take-append-drop}
 use Rattle.std.specs.Prelude.{◌&&◌}
 use Rattle.seh_num.specs.declared.width.Width.{Width}
@@ -12,14 +12,18 @@ use Rattle.x64_instr.specs.declared.operand.Place.TheVariants as places
 use Rattle.x64_instr.specs.declared.operand.Operand.{Operand}
 use Rattle.x64_instr.specs.declared.operand.Operand.TheVariants as operands
 use Rattle.x64_instr.specs.declared.prefixes.Prefixes.{Prefixes}
-use Rattle.x64_instr.specs.declared.instruction.Operation.TheVariants.{Add, Sub}
-use Rattle.x64_instr.specs.declared.instruction.Extension.TheVariants.{Sign}
-use Rattle.x64_instr.specs.declared.instruction.Target.TheVariants.{Indirect}
+use Rattle.x64_instr.specs.declared.instruction.Operation.{Operation}
+use Rattle.x64_instr.specs.declared.instruction.Unary.TheVariants.{Not, Negate}
+use Rattle.x64_instr.specs.declared.instruction.Extension.{Extension}
+use Rattle.x64_instr.specs.declared.instruction.Extension.TheVariants.{Sign, Zero}
+use Rattle.x64_instr.specs.declared.instruction.Division.TheVariants.{Unsigned, Signed}
+use Rattle.x64_instr.specs.declared.instruction.Count.TheVariants as counts
+use Rattle.x64_instr.specs.declared.instruction.Target.TheVariants.{Relative, Indirect}
 use Rattle.x64_instr.specs.declared.instruction.Instr.{Instr}
 use Rattle.x64_instr.specs.declared.instruction.Instr.TheVariants as instrs
 use Rattle.x64_instr.specs.Reading.{Read, ◌>>=◌, byte, number, signed, bit}
-use Rattle.x64_instr.specs.Operands.{width_of, middle, lowest, indexed, memory, displaced, sib_place, memory_place, place, place_and_register, place_and_digit}
-use Rattle.x64_instr.specs.Spelling.{rm_r, r_rm, rm_digit, given, operation, arithmetic_immediate, indirect, move_immediate, sign_extend, load, row, second_row, after_prefixes, after_size, instr, Spells}
+use Rattle.x64_instr.specs.Operands.{width_of, sized, sized_narrow, immediate_of, middle, lowest, indexed, memory, displaced, sib_place, memory_place, place, place_and_register, place_and_digit, is_listed, operands_of, operand_and_digit, source}
+use Rattle.x64_instr.specs.Spelling.{rm_r, r_rm, rm_digit, given, operation, direction, condition, arithmetic_immediate, move_to_place, third_group, shift_immediate, shift_by_cl, indirect, move_immediate, sign_extend, extend, load, multiply_by, address_to, load_address, jump_if, set_if, jump, call, no_operation, arithmetic_form, arithmetic_row, plain_row, row, extend_row, second_row, after_prefixes, after_size, instr, Spells}
 use Rattle.x64_instr.proofs.Readers.{IsReader, pair, byte-IsReader, done-IsReader, fail-IsReader, bind-IsReader, map-IsReader, if-IsReader, given-IsReader, number-IsReader, signed-IsReader}
 
 -- ---- operands
@@ -47,52 +51,146 @@ place_and_digit-IsReader p = bind-IsReader byte (λ m bytes. place p m bytes >>=
 
 -- ---- the forms of operands
 
-rm_r-IsReader : (p : Prefixes) (made : Place → Operand → Instr) → IsReader (rm_r p made)
-rm_r-IsReader p made = map-IsReader (place_and_register p) (λ x. made x.0 (operands.Register x.1)) (place_and_register-IsReader p)
+operands_of-IsReader : (p : Prefixes) (w v : Width) → IsReader (operands_of p w v)
+operands_of-IsReader p w v = bind-IsReader (place_and_register p) (λ x bytes. cond (is_listed p w x.0 && is_listed p v (places.Register x.1)) (Some (x, bytes)) None) (place_and_register-IsReader p) (λ x. if-IsReader (is_listed p w x.0 && is_listed p v (places.Register x.1)) _ _ (done-IsReader x) fail-IsReader)
 
-r_rm-IsReader : (p : Prefixes) (made : Reg → Place → Instr) → IsReader (r_rm p made)
-r_rm-IsReader p made = map-IsReader (place_and_register p) (λ x. made x.1 x.0) (place_and_register-IsReader p)
+operand_and_digit-IsReader : (p : Prefixes) (w : Width) → IsReader (operand_and_digit p w)
+operand_and_digit-IsReader p w = bind-IsReader (place_and_digit p) (λ x bytes. cond (is_listed p w x.0) (Some (x, bytes)) None) (place_and_digit-IsReader p) (λ x. if-IsReader (is_listed p w x.0) _ _ (done-IsReader x) fail-IsReader)
 
-rm_digit-IsReader : (p : Prefixes) (made : ℕ → Place → List ℕ → Read Instr) → ((digit : ℕ) (to : Place) → IsReader (made digit to)) → IsReader (rm_digit p made)
-rm_digit-IsReader p made h = bind-IsReader (place_and_digit p) (λ x. made x.1 x.0) (place_and_digit-IsReader p) (λ x. h x.1 x.0)
+rm_r-IsReader : (p : Prefixes) (w : Width) (made : Place → Operand → Instr) → IsReader (rm_r p w made)
+rm_r-IsReader p w made = map-IsReader (operands_of p w w) (λ x. made x.0 (operands.Register x.1)) (operands_of-IsReader p w w)
+
+r_rm-IsReader : (p : Prefixes) (v w : Width) (made : Reg → Place → Instr) → IsReader (r_rm p v w made)
+r_rm-IsReader p v w made = map-IsReader (operands_of p w v) (λ x. made x.1 x.0) (operands_of-IsReader p w v)
+
+rm_digit-IsReader : (p : Prefixes) (w : Width) (made : ℕ → Place → List ℕ → Read Instr) → ((digit : ℕ) (to : Place) → IsReader (made digit to)) → IsReader (rm_digit p w made)
+rm_digit-IsReader p w made h = bind-IsReader (operand_and_digit p w) (λ x. made x.1 x.0) (operand_and_digit-IsReader p w) (λ x. h x.1 x.0)
 
 arithmetic_immediate-IsReader : (from w : Width) (digit : ℕ) (to : Place) → IsReader (arithmetic_immediate from w digit to)
 arithmetic_immediate-IsReader from w digit to =
     bind-IsReader (given (operation digit)) (λ o bytes. signed from w bytes >>= λ v. Some (instrs.Arithmetic o w to (operands.Immediate v.0), v.1)) (given-IsReader (operation digit))
     (λ o. map-IsReader (signed from w) (λ v. instrs.Arithmetic o w to (operands.Immediate v)) (signed-IsReader from w))
 
+move_to_place-IsReader : (w : Width) (digit : ℕ) (to : Place) → IsReader (move_to_place w digit to)
+move_to_place-IsReader w digit to = if-IsReader (eqb digit 0) _ _ (map-IsReader (signed (immediate_of w) w) (λ v. instrs.Move w to (operands.Immediate v)) (signed-IsReader (immediate_of w) w)) fail-IsReader
+
+third_group-IsReader : (t : Bool) (w : Width) (digit : ℕ) (at : Place) → IsReader (third_group t w digit at)
+third_group-IsReader t w digit at =
+    if-IsReader (eqb digit 0) _ _ (map-IsReader (signed (immediate_of w) w) (λ v. instrs.Test w at (operands.Immediate v)) (signed-IsReader (immediate_of w) w))
+    (if-IsReader (eqb digit 2) _ _ (done-IsReader (instrs.Unary Not w at))
+    (if-IsReader (eqb digit 3) _ _ (done-IsReader (instrs.Unary Negate w at))
+    (if-IsReader (eqb digit 6 && t) _ _ (done-IsReader (instrs.Divide Unsigned w at))
+    (if-IsReader (eqb digit 7 && t) _ _ (done-IsReader (instrs.Divide Signed w at)) fail-IsReader))))
+
+shift_immediate-IsReader : (w : Width) (digit : ℕ) (to : Place) → IsReader (shift_immediate w digit to)
+shift_immediate-IsReader w digit to =
+    bind-IsReader (given (direction digit)) (λ d bytes. byte bytes >>= λ n. Some (instrs.Shift d w to (counts.Immediate n.0), n.1)) (given-IsReader (direction digit))
+    (λ d. map-IsReader byte (λ n. instrs.Shift d w to (counts.Immediate n)) byte-IsReader)
+
+shift_by_cl-IsReader : (w : Width) (digit : ℕ) (to : Place) → IsReader (shift_by_cl w digit to)
+shift_by_cl-IsReader w digit to = map-IsReader (given (direction digit)) (λ d. instrs.Shift d w to counts.Cl) (given-IsReader (direction digit))
+
 indirect-IsReader : (digit : ℕ) (at : Place) → IsReader (indirect digit at)
-indirect-IsReader digit at = if-IsReader (eqb digit 2) _ _ (done-IsReader (instrs.Call (Indirect at))) fail-IsReader
+indirect-IsReader digit at = if-IsReader (eqb digit 2) _ _ (done-IsReader (instrs.Call (Indirect at))) (if-IsReader (eqb digit 4) _ _ (done-IsReader (instrs.Jump (Indirect at))) fail-IsReader)
 
 move_immediate-IsReader : (p : Prefixes) (op : ℕ) → IsReader (move_immediate p op)
 move_immediate-IsReader p op = map-IsReader (number (bytes_of (width_of p))) (λ v. instrs.Move (width_of p) (places.Register (lowest p op)) (operands.Immediate v)) (number-IsReader (bytes_of (width_of p)))
 
 sign_extend-IsReader : (p : Prefixes) → IsReader (sign_extend p)
-sign_extend-IsReader p = if-IsReader (eqb (bit 3 p.rex) 1) _ _ (r_rm-IsReader p (λ to from. instrs.Extend Sign W64 to W32 from)) fail-IsReader
+sign_extend-IsReader p = if-IsReader (eqb (bit 3 p.rex) 1) _ _ (r_rm-IsReader p W64 W32 (λ to from. instrs.Extend Sign W64 to W32 from)) fail-IsReader
+
+extend-IsReader : (e : Extension) (p : Prefixes) (op : ℕ) → IsReader (extend e p op)
+extend-IsReader e p op = r_rm-IsReader p (width_of p) (sized_narrow op) (λ to from. instrs.Extend e (width_of p) to (sized_narrow op) from)
+
+multiply_by-IsReader : (p : Prefixes) (from : Width) → IsReader (multiply_by p from)
+multiply_by-IsReader p from =
+    bind-IsReader (operands_of p (width_of p) (width_of p)) (λ x bytes. signed from (width_of p) bytes >>= λ v. Some (instrs.MultiplyBy (width_of p) x.1 x.0 v.0, v.1)) (operands_of-IsReader p (width_of p) (width_of p))
+    (λ x. map-IsReader (signed from (width_of p)) (λ v. instrs.MultiplyBy (width_of p) x.1 x.0 v) (signed-IsReader from (width_of p)))
+
+address_to-IsReader : (w : Width) (to : Reg) (at : Place) → IsReader (address_to w to at)
+address_to-IsReader w to (places.Memory m) = done-IsReader (instrs.LoadAddress w to m)
+address_to-IsReader w to (places.Register r) = fail-IsReader
+
+load_address-IsReader : (p : Prefixes) → IsReader (load_address p)
+load_address-IsReader p = bind-IsReader (operands_of p (width_of p) (width_of p)) (λ x. address_to (width_of p) x.1 x.0) (operands_of-IsReader p (width_of p) (width_of p)) (λ x. address_to-IsReader (width_of p) x.1 x.0)
+
+jump_if-IsReader : (from : Width) (op : ℕ) → IsReader (jump_if from op)
+jump_if-IsReader from op =
+    bind-IsReader (given (condition (op % 16))) (λ c bytes. signed from W64 bytes >>= λ d. Some (instrs.JumpIf c d.0, d.1)) (given-IsReader (condition (op % 16)))
+    (λ c. map-IsReader (signed from W64) (λ d. instrs.JumpIf c d) (signed-IsReader from W64))
+
+set_if-IsReader : (p : Prefixes) (op : ℕ) → IsReader (set_if p op)
+set_if-IsReader p op =
+    bind-IsReader (given (condition (op % 16))) (λ c bytes. operand_and_digit p W8 bytes >>= λ x. Some (instrs.Set c x.0.0, x.1)) (given-IsReader (condition (op % 16)))
+    (λ c. map-IsReader (operand_and_digit p W8) (λ x. instrs.Set c x.0) (operand_and_digit-IsReader p W8))
+
+jump-IsReader : (from : Width) → IsReader (jump from)
+jump-IsReader from = map-IsReader (signed from W64) (λ d. instrs.Jump (Relative d)) (signed-IsReader from W64)
+
+call-IsReader : IsReader call
+call-IsReader = map-IsReader (signed W32 W64) (λ d. instrs.Call (Relative d)) (signed-IsReader W32 W64)
+
+no_operation-IsReader : (p : Prefixes) → IsReader (no_operation p)
+no_operation-IsReader p = if-IsReader (eqb (bit 0 p.rex) 1) _ _ fail-IsReader (done-IsReader instrs.NoOperation)
 
 -- ---- the table
+
+arithmetic_form-IsReader : (p : Prefixes) (o : Operation) (op : ℕ) → IsReader (arithmetic_form p o op)
+arithmetic_form-IsReader p o op =
+    if-IsReader (eqb (op % 8 / 2) 0) _ _ (rm_r-IsReader p (sized p op) (instrs.Arithmetic o (sized p op)))
+    (if-IsReader (eqb (op % 8 / 2) 1) _ _ (r_rm-IsReader p (sized p op) (sized p op) (λ to from. instrs.Arithmetic o (sized p op) (places.Register to) (source from))) fail-IsReader)
+
+arithmetic_row-IsReader : (p : Prefixes) (op : ℕ) → IsReader (arithmetic_row p op)
+arithmetic_row-IsReader p op = bind-IsReader (given (operation (op / 8))) (λ o. arithmetic_form p o op) (given-IsReader (operation (op / 8))) (λ o. arithmetic_form-IsReader p o op)
+
+plain_row-IsReader : (p : Prefixes) (op : ℕ) → IsReader (plain_row p op)
+unfolding plain_row
+plain_row-IsReader p op =
+    if-IsReader (eqb (op / 8) (0x50 / 8)) _ _ (done-IsReader (instrs.Push (lowest p op)))
+    (if-IsReader (eqb (op / 8) (0x58 / 8)) _ _ (done-IsReader (instrs.Pop (lowest p op)))
+    (if-IsReader (eqb op 0x63) _ _ (sign_extend-IsReader p)
+    (if-IsReader (eqb op 0x69) _ _ (multiply_by-IsReader p (immediate_of (width_of p)))
+    (if-IsReader (eqb op 0x6B) _ _ (multiply_by-IsReader p W8)
+    (if-IsReader (eqb (op / 16) (0x70 / 16)) _ _ (jump_if-IsReader W8 op)
+    (if-IsReader (eqb op 0x8D) _ _ (load_address-IsReader p)
+    (if-IsReader (eqb op 0x90) _ _ (no_operation-IsReader p)
+    (if-IsReader (eqb op 0x99) _ _ (done-IsReader (instrs.ExtendRax (width_of p)))
+    (if-IsReader (eqb op 0xC1) _ _ (rm_digit-IsReader p (width_of p) (shift_immediate (width_of p)) (shift_immediate-IsReader (width_of p)))
+    (if-IsReader (eqb op 0xC3) _ _ (done-IsReader instrs.Return)
+    (if-IsReader (eqb op 0xCC) _ _ (done-IsReader instrs.Breakpoint)
+    (if-IsReader (eqb op 0xD3) _ _ (rm_digit-IsReader p (width_of p) (shift_by_cl (width_of p)) (shift_by_cl-IsReader (width_of p)))
+    (if-IsReader (eqb op 0xE8) _ _ call-IsReader
+    (if-IsReader (eqb op 0xE9) _ _ (jump-IsReader W32)
+    (if-IsReader (eqb op 0xEB) _ _ (jump-IsReader W8)
+    (if-IsReader (eqb op 0xFF) _ _ (rm_digit-IsReader p W64 indirect indirect-IsReader) fail-IsReader))))))))))))))))
 
 row-IsReader : (p : Prefixes) (op : ℕ) → IsReader (row p op)
 unfolding row
 row-IsReader p op =
-    if-IsReader (eqb op 0x01) _ _ (rm_r-IsReader p (instrs.Arithmetic Add (width_of p)))
-    (if-IsReader (eqb op 0x29) _ _ (rm_r-IsReader p (instrs.Arithmetic Sub (width_of p)))
-    (if-IsReader (eqb op 0x83) _ _ (rm_digit-IsReader p (arithmetic_immediate W8 (width_of p)) (arithmetic_immediate-IsReader W8 (width_of p)))
-    (if-IsReader (eqb op 0x89) _ _ (rm_r-IsReader p (instrs.Move (width_of p)))
-    (if-IsReader (eqb op 0x8B) _ _ (r_rm-IsReader p (load (width_of p)))
+    if-IsReader (eqb (op / 64) 0) _ _ (arithmetic_row-IsReader p op)
+    (if-IsReader (eqb (op / 2) (0x80 / 2)) _ _ (rm_digit-IsReader p (sized p op) (arithmetic_immediate (immediate_of (sized p op)) (sized p op)) (arithmetic_immediate-IsReader (immediate_of (sized p op)) (sized p op)))
+    (if-IsReader (eqb op 0x83) _ _ (rm_digit-IsReader p (width_of p) (arithmetic_immediate W8 (width_of p)) (arithmetic_immediate-IsReader W8 (width_of p)))
+    (if-IsReader (eqb (op / 2) (0x84 / 2)) _ _ (rm_r-IsReader p (sized p op) (instrs.Test (sized p op)))
+    (if-IsReader (eqb (op / 2) (0x88 / 2)) _ _ (rm_r-IsReader p (sized p op) (instrs.Move (sized p op)))
+    (if-IsReader (eqb (op / 2) (0x8A / 2)) _ _ (r_rm-IsReader p (sized p op) (sized p op) (load (sized p op)))
     (if-IsReader (eqb (op / 8) (0xB8 / 8)) _ _ (move_immediate-IsReader p op)
-    (if-IsReader p.operand_size _ _ fail-IsReader
-    (if-IsReader (eqb (op / 8) (0x50 / 8)) _ _ (done-IsReader (instrs.Push (lowest p op)))
-    (if-IsReader (eqb (op / 8) (0x58 / 8)) _ _ (done-IsReader (instrs.Pop (lowest p op)))
-    (if-IsReader (eqb op 0x63) _ _ (sign_extend-IsReader p)
-    (if-IsReader (eqb op 0xC3) _ _ (done-IsReader instrs.Return)
-    (if-IsReader (eqb op 0xFF) _ _ (rm_digit-IsReader p indirect indirect-IsReader) fail-IsReader)))))))))))
+    (if-IsReader (eqb (op / 2) (0xC6 / 2)) _ _ (rm_digit-IsReader p (sized p op) (move_to_place (sized p op)) (move_to_place-IsReader (sized p op)))
+    (if-IsReader (eqb (op / 2) (0xF6 / 2)) _ _ (rm_digit-IsReader p (sized p op) (third_group (eqb op 0xF7 && not p.operand_size) (sized p op)) (third_group-IsReader (eqb op 0xF7 && not p.operand_size) (sized p op)))
+    (if-IsReader p.operand_size _ _ fail-IsReader (plain_row-IsReader p op))))))))))
+
+extend_row-IsReader : (p : Prefixes) (op : ℕ) → IsReader (extend_row p op)
+extend_row-IsReader p op =
+    if-IsReader (eqb (op / 2) (0xB6 / 2)) _ _ (extend-IsReader Zero p op)
+    (if-IsReader (eqb (op / 2) (0xBE / 2)) _ _ (extend-IsReader Sign p op) fail-IsReader)
 
 second_row-IsReader : (p : Prefixes) (op : ℕ) → IsReader (second_row p op)
 unfolding second_row
 second_row-IsReader p op =
     if-IsReader p.operand_size _ _ fail-IsReader
-    (if-IsReader (eqb op 0xAF) _ _ (r_rm-IsReader p (instrs.Multiply (width_of p))) fail-IsReader)
+    (if-IsReader (eqb op 0x0B) _ _ (done-IsReader instrs.Undefined)
+    (if-IsReader (eqb (op / 16) (0x80 / 16)) _ _ (jump_if-IsReader W32 op)
+    (if-IsReader (eqb (op / 16) (0x90 / 16)) _ _ (set_if-IsReader p op)
+    (if-IsReader (eqb op 0xAF) _ _ (r_rm-IsReader p (width_of p) (width_of p) (instrs.Multiply (width_of p))) (extend_row-IsReader p op)))))
 
 after_prefixes-IsReader : (p : Prefixes) (b : ℕ) → IsReader (after_prefixes p b)
 unfolding after_prefixes

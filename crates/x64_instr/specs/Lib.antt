@@ -2,4 +2,3 @@ pub mod Registers
 pub mod Reading
 pub mod Operands
 pub mod Spelling
-pub mod Chosen

@@ -1,5 +1,5 @@
 -- How operands are spelled (Intel manual, volume 2, "Instruction Format").
-use Rattle.std.specs.Prelude.{ℕ, ◌+◌, ◌*◌, ◌/◌, ◌%◌, ◌==◌, ◌&&◌, if◌then◌else◌, List, Option, Some, None}
+use Rattle.std.specs.Prelude.{ℕ, ◌+◌, ◌*◌, ◌/◌, ◌%◌, Bool, true, not, ◌==◌, ◌&&◌, ◌||◌, if◌then◌else◌, List, Option, Some, None}
 use Rattle.seh_num.specs.declared.width.Width.{Width}
 use Rattle.seh_num.specs.declared.width.Width.TheVariants.{W8, W16, W32, W64}
 use Rattle.x64_instr.specs.declared.register.Reg.{Reg}
@@ -13,12 +13,25 @@ use Rattle.x64_instr.specs.declared.operand.Place.TheVariants as places
 use Rattle.x64_instr.specs.declared.operand.Operand.{Operand}
 use Rattle.x64_instr.specs.declared.operand.Operand.TheVariants as operands
 use Rattle.x64_instr.specs.declared.prefixes.Prefixes.{Prefixes}
-use Rattle.x64_instr.specs.Registers.{register}
+use Rattle.x64_instr.specs.Registers.{register, number}
 use Rattle.x64_instr.specs.Reading.{Read, ◌>>=◌, byte, signed, bit}
 
 -- 64 bits with REX.W, else 16 with the prefix 66, else 32
 abbrev pub width_of : Prefixes → Width
 width_of p = if bit 3 p.rex == 1 then W64 else (if p.operand_size then W16 else W32)
+
+-- where an opcode has a byte form too, the byte form is the one with the lowest bit 0
+abbrev pub sized : Prefixes → ℕ → Width
+sized p op = if op % 2 == 0 then W8 else width_of p
+
+abbrev pub sized_narrow : ℕ → Width
+sized_narrow op = if op % 2 == 0 then W8 else W16
+
+-- immediates have at most 32 bits
+abbrev pub immediate_of : Width → Width
+immediate_of W8 = W8
+immediate_of W16 = W16
+immediate_of w = W32
 
 -- the register of ModRM's reg field, with REX.R, and that of the low bits of a byte, with REX.B
 abbrev pub middle : Prefixes → ℕ → Reg
@@ -70,6 +83,18 @@ place_and_register p bytes = byte bytes >>= λ m. place p m.0 m.1 >>= λ at. Som
 
 abbrev pub place_and_digit : Prefixes → List ℕ → Read (Place × ℕ)
 place_and_digit p bytes = byte bytes >>= λ m. place p m.0 m.1 >>= λ at. Some ((at.0, m.0 / 8 % 8), at.1)
+
+-- without REX the byte registers 4 to 7 are AH, CH, DH and BH, which no instruction here has
+abbrev pub is_listed : Prefixes → Width → Place → Bool
+is_listed p W8 (places.Register r) = p.has_rex || not (number r / 4 == 1)
+is_listed p w at = true
+
+-- both operands, the place of one width, the register of another
+abbrev pub operands_of : Prefixes → Width → Width → List ℕ → Read (Place × Reg)
+operands_of p w v bytes = place_and_register p bytes >>= λ x. if is_listed p w x.0.0 && is_listed p v (places.Register x.0.1) then Some x else None
+
+abbrev pub operand_and_digit : Prefixes → Width → List ℕ → Read (Place × ℕ)
+operand_and_digit p w bytes = place_and_digit p bytes >>= λ x. if is_listed p w x.0.0 then Some x else None
 
 -- a place as what is read there
 abbrev pub source : Place → Operand

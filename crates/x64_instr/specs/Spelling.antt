@@ -1,5 +1,5 @@
 -- How instructions are spelled: an optional 66, an optional REX, the opcode, then ModRM, SIB, displacement and immediate as the opcode has them (Intel manual, volume 2, chapter 2, and each instruction's page).
-use Rattle.std.specs.Prelude.{◌≡◌, ℕ, ◌-◌, ◌/◌, ◌%◌, Bool, true, false, ◌==◌, if◌then◌else◌, List, [], Option, Some, None, option_map, length}
+use Rattle.std.specs.Prelude.{◌≡◌, ℕ, ◌-◌, ◌/◌, ◌%◌, Bool, true, false, not, ◌==◌, ◌&&◌, if◌then◌else◌, List, [], Option, Some, None, option_map, length}
 use Rattle.seh_num.specs.declared.width.Width.{Width}
 use Rattle.seh_num.specs.declared.width.Width.TheVariants.{W8, W32, W64}
 use Rattle.seh_num.specs.Widths.{bytes_of}
@@ -10,49 +10,114 @@ use Rattle.x64_instr.specs.declared.operand.Operand.{Operand}
 use Rattle.x64_instr.specs.declared.operand.Operand.TheVariants as operands
 use Rattle.x64_instr.specs.declared.prefixes.Prefixes.{Prefixes}
 use Rattle.x64_instr.specs.declared.instruction.Operation.{Operation}
-use Rattle.x64_instr.specs.declared.instruction.Operation.TheVariants.{Add, Sub}
-use Rattle.x64_instr.specs.declared.instruction.Extension.TheVariants.{Sign}
-use Rattle.x64_instr.specs.declared.instruction.Target.TheVariants.{Indirect}
+use Rattle.x64_instr.specs.declared.instruction.Operation.TheVariants as operations
+use Rattle.x64_instr.specs.declared.instruction.Unary.TheVariants.{Not, Negate}
+use Rattle.x64_instr.specs.declared.instruction.Extension.{Extension}
+use Rattle.x64_instr.specs.declared.instruction.Extension.TheVariants.{Sign, Zero}
+use Rattle.x64_instr.specs.declared.instruction.Division.TheVariants.{Unsigned, Signed}
+use Rattle.x64_instr.specs.declared.instruction.Direction.{Direction}
+use Rattle.x64_instr.specs.declared.instruction.Direction.TheVariants as directions
+use Rattle.x64_instr.specs.declared.instruction.Count.TheVariants as counts
+use Rattle.x64_instr.specs.declared.instruction.Condition.{Condition}
+use Rattle.x64_instr.specs.declared.instruction.Condition.TheVariants as conditions
+use Rattle.x64_instr.specs.declared.instruction.Target.TheVariants.{Relative, Indirect}
 use Rattle.x64_instr.specs.declared.instruction.Instr.{Instr}
 use Rattle.x64_instr.specs.declared.instruction.Instr.TheVariants as instrs
 use Rattle.x64_instr.specs.Reading.{Read, ◌>>=◌, byte, number, signed, bit}
-use Rattle.x64_instr.specs.Operands.{width_of, lowest, place_and_register, place_and_digit, source}
+use Rattle.x64_instr.specs.Operands.{width_of, sized, sized_narrow, immediate_of, lowest, operands_of, operand_and_digit, source}
 
--- ---- the forms of operands, in the manual's letters
+-- ---- the forms of operands, in the manual's letters, of a width
 
 -- r/m, r
-abbrev pub rm_r : Prefixes → (Place → Operand → Instr) → List ℕ → Read Instr
-rm_r p made bytes = place_and_register p bytes >>= λ x. Some (made x.0.0 (operands.Register x.0.1), x.1)
+abbrev pub rm_r : Prefixes → Width → (Place → Operand → Instr) → List ℕ → Read Instr
+rm_r p w made bytes = operands_of p w w bytes >>= λ x. Some (made x.0.0 (operands.Register x.0.1), x.1)
 
 -- r, r/m
-abbrev pub r_rm : Prefixes → (Reg → Place → Instr) → List ℕ → Read Instr
-r_rm p made bytes = place_and_register p bytes >>= λ x. Some (made x.0.1 x.0.0, x.1)
+abbrev pub r_rm : Prefixes → Width → Width → (Reg → Place → Instr) → List ℕ → Read Instr
+r_rm p v w made bytes = operands_of p w v bytes >>= λ x. Some (made x.0.1 x.0.0, x.1)
 
 -- r/m, where the reg field is a digit of the opcode
-abbrev pub rm_digit : Prefixes → (ℕ → Place → List ℕ → Read Instr) → List ℕ → Read Instr
-rm_digit p made bytes = place_and_digit p bytes >>= λ x. made x.0.1 x.0.0 x.1
+abbrev pub rm_digit : Prefixes → Width → (ℕ → Place → List ℕ → Read Instr) → List ℕ → Read Instr
+rm_digit p w made bytes = operand_and_digit p w bytes >>= λ x. made x.0.1 x.0.0 x.1
 
 -- what takes no bytes
 abbrev pub given : {A : Type 0} → Option A → List ℕ → Read A
 given None bytes = None
 given (Some x) bytes = Some (x, bytes)
 
--- ---- rows that the digit tells apart
+-- ---- what digits stand for
 
 abbrev pub operation : ℕ → Option Operation
 operation n =
-    if n == 0 then Some Add
-    else (if n == 5 then Some Sub
-    else None)
+    if n == 0 then Some operations.Add
+    else (if n == 1 then Some operations.Or
+    else (if n == 4 then Some operations.And
+    else (if n == 5 then Some operations.Sub
+    else (if n == 6 then Some operations.Xor
+    else (if n == 7 then Some operations.Compare
+    else None)))))
+
+abbrev pub direction : ℕ → Option Direction
+direction n =
+    if n == 4 then Some directions.Left
+    else (if n == 5 then Some directions.Right
+    else (if n == 7 then Some directions.ArithmeticRight
+    else None))
+
+-- 10 and 11 ask PF
+abbrev pub condition : ℕ → Option Condition
+condition n =
+    if n == 0 then Some conditions.Overflow
+    else (if n == 1 then Some conditions.NotOverflow
+    else (if n == 2 then Some conditions.Below
+    else (if n == 3 then Some conditions.AboveOrEqual
+    else (if n == 4 then Some conditions.Equal
+    else (if n == 5 then Some conditions.NotEqual
+    else (if n == 6 then Some conditions.BelowOrEqual
+    else (if n == 7 then Some conditions.Above
+    else (if n == 8 then Some conditions.Sign
+    else (if n == 9 then Some conditions.NotSign
+    else (if n == 12 then Some conditions.Less
+    else (if n == 13 then Some conditions.GreaterOrEqual
+    else (if n == 14 then Some conditions.LessOrEqual
+    else (if n == 15 then Some conditions.Greater
+    else None)))))))))))))
+
+-- ---- rows with more behind the operands, or that the digit tells apart
 
 -- r/m, imm
 abbrev pub arithmetic_immediate : Width → Width → ℕ → Place → List ℕ → Read Instr
 arithmetic_immediate from w digit to bytes = given (operation digit) bytes >>= λ o. signed from w o.1 >>= λ v. Some (instrs.Arithmetic o.0 w to (operands.Immediate v.0), v.1)
 
+-- r/m, imm, with /0
+abbrev pub move_to_place : Width → ℕ → Place → List ℕ → Read Instr
+move_to_place w digit to bytes = if digit == 0 then (signed (immediate_of w) w bytes >>= λ v. Some (instrs.Move w to (operands.Immediate v.0), v.1)) else None
+
+abbrev pub test_immediate : Width → Place → List ℕ → Read Instr
+test_immediate w at bytes = signed (immediate_of w) w bytes >>= λ v. Some (instrs.Test w at (operands.Immediate v.0), v.1)
+
+-- TEST /0 r/m, imm; NOT /2; NEG /3; and where t holds DIV /6, IDIV /7
+abbrev pub third_group : Bool → Width → ℕ → Place → List ℕ → Read Instr
+third_group t w digit at bytes =
+    if digit == 0 then test_immediate w at bytes
+    else (if digit == 2 then Some (instrs.Unary Not w at, bytes)
+    else (if digit == 3 then Some (instrs.Unary Negate w at, bytes)
+    else (if (digit == 6) && t then Some (instrs.Divide Unsigned w at, bytes)
+    else (if (digit == 7) && t then Some (instrs.Divide Signed w at, bytes)
+    else None))))
+
+-- SHL /4, SHR /5, SAR /7
+abbrev pub shift_immediate : Width → ℕ → Place → List ℕ → Read Instr
+shift_immediate w digit to bytes = given (direction digit) bytes >>= λ d. byte d.1 >>= λ n. Some (instrs.Shift d.0 w to (counts.Immediate n.0), n.1)
+
+abbrev pub shift_by_cl : Width → ℕ → Place → List ℕ → Read Instr
+shift_by_cl w digit to bytes = given (direction digit) bytes >>= λ d. Some (instrs.Shift d.0 w to counts.Cl, d.1)
+
 abbrev pub indirect : ℕ → Place → List ℕ → Read Instr
 indirect digit at bytes =
     if digit == 2 then Some (instrs.Call (Indirect at), bytes)
-    else None
+    else (if digit == 4 then Some (instrs.Jump (Indirect at), bytes)
+    else None)
 
 -- r, imm of the whole width, with the register in the opcode
 abbrev pub move_immediate : Prefixes → ℕ → List ℕ → Read Instr
@@ -60,36 +125,107 @@ move_immediate p op bytes = number (bytes_of (width_of p)) bytes >>= λ v. Some 
 
 -- with REX.W alone
 abbrev pub sign_extend : Prefixes → List ℕ → Read Instr
-sign_extend p bytes = if bit 3 p.rex == 1 then r_rm p (λ to from. instrs.Extend Sign W64 to W32 from) bytes else None
+sign_extend p bytes = if bit 3 p.rex == 1 then r_rm p W64 W32 (λ to from. instrs.Extend Sign W64 to W32 from) bytes else None
+
+abbrev pub extend : Extension → Prefixes → ℕ → List ℕ → Read Instr
+extend e p op bytes = r_rm p (width_of p) (sized_narrow op) (λ to from. instrs.Extend e (width_of p) to (sized_narrow op) from) bytes
 
 abbrev pub load : Width → Reg → Place → Instr
 load w to from = instrs.Move w (places.Register to) (source from)
 
+-- r, r/m, imm
+abbrev pub multiply_by : Prefixes → Width → List ℕ → Read Instr
+multiply_by p from bytes = operands_of p (width_of p) (width_of p) bytes >>= λ x. signed from (width_of p) x.1 >>= λ v. Some (instrs.MultiplyBy (width_of p) x.0.1 x.0.0 v.0, v.1)
+
+-- r, m
+abbrev pub address_to : Width → Reg → Place → List ℕ → Read Instr
+address_to w to (places.Memory m) bytes = Some (instrs.LoadAddress w to m, bytes)
+address_to w to (places.Register r) bytes = None
+
+abbrev pub load_address : Prefixes → List ℕ → Read Instr
+load_address p bytes = operands_of p (width_of p) (width_of p) bytes >>= λ x. address_to (width_of p) x.0.1 x.0.0 x.1
+
+-- the condition in the low four bits of the opcode
+abbrev pub jump_if : Width → ℕ → List ℕ → Read Instr
+jump_if from op bytes = given (condition (op % 16)) bytes >>= λ c. signed from W64 c.1 >>= λ d. Some (instrs.JumpIf c.0 d.0, d.1)
+
+abbrev pub set_if : Prefixes → ℕ → List ℕ → Read Instr
+set_if p op bytes = given (condition (op % 16)) bytes >>= λ c. operand_and_digit p W8 c.1 >>= λ x. Some (instrs.Set c.0 x.0.0, x.1)
+
+abbrev pub jump : Width → List ℕ → Read Instr
+jump from bytes = signed from W64 bytes >>= λ d. Some (instrs.Jump (Relative d.0), d.1)
+
+abbrev pub call : List ℕ → Read Instr
+call bytes = signed W32 W64 bytes >>= λ d. Some (instrs.Call (Relative d.0), d.1)
+
+-- NOP is 90 but with REX.B, where it would exchange R8 and RAX
+abbrev pub no_operation : Prefixes → List ℕ → Read Instr
+no_operation p bytes = if bit 0 p.rex == 1 then None else Some (instrs.NoOperation, bytes)
+
 -- ---- the table
 
--- one byte of opcode; with 66 the rows above None alone
-unfoldable pub row : Prefixes → ℕ → List ℕ → Read Instr
-row p op bytes =
-    if op == 0x01 then rm_r p (instrs.Arithmetic Add (width_of p)) bytes  -- ADD r/m, r
-    else (if op == 0x29 then rm_r p (instrs.Arithmetic Sub (width_of p)) bytes  -- SUB r/m, r
-    else (if op == 0x83 then rm_digit p (arithmetic_immediate W8 (width_of p)) bytes  -- ADD /0, SUB /5 r/m, imm8
-    else (if op == 0x89 then rm_r p (instrs.Move (width_of p)) bytes  -- MOV r/m, r
-    else (if op == 0x8B then r_rm p (load (width_of p)) bytes  -- MOV r, r/m
-    else (if op / 8 == 0xB8 / 8 then move_immediate p op bytes  -- MOV r, imm
-    else (if p.operand_size then None
-    else (if op / 8 == 0x50 / 8 then Some (instrs.Push (lowest p op), bytes)  -- PUSH r64
+-- eight times the operation's digit, and 0 to 3: r/m, r and r, r/m
+abbrev pub arithmetic_form : Prefixes → Operation → ℕ → List ℕ → Read Instr
+arithmetic_form p o op bytes =
+    if op % 8 / 2 == 0 then rm_r p (sized p op) (instrs.Arithmetic o (sized p op)) bytes
+    else (if op % 8 / 2 == 1 then r_rm p (sized p op) (sized p op) (λ to from. instrs.Arithmetic o (sized p op) (places.Register to) (source from)) bytes
+    else None)
+
+abbrev pub arithmetic_row : Prefixes → ℕ → List ℕ → Read Instr
+arithmetic_row p op bytes = given (operation (op / 8)) bytes >>= λ o. arithmetic_form p o.0 op o.1
+
+-- one byte of opcode, without 66
+unfoldable pub plain_row : Prefixes → ℕ → List ℕ → Read Instr
+plain_row p op bytes =
+    if op / 8 == 0x50 / 8 then Some (instrs.Push (lowest p op), bytes)  -- PUSH r64
     else (if op / 8 == 0x58 / 8 then Some (instrs.Pop (lowest p op), bytes)  -- POP r64
     else (if op == 0x63 then sign_extend p bytes  -- MOVSXD r64, r/m32
+    else (if op == 0x69 then multiply_by p (immediate_of (width_of p)) bytes  -- IMUL r, r/m, imm32
+    else (if op == 0x6B then multiply_by p W8 bytes  -- IMUL r, r/m, imm8
+    else (if op / 16 == 0x70 / 16 then jump_if W8 op bytes  -- Jcc rel8
+    else (if op == 0x8D then load_address p bytes  -- LEA r, m
+    else (if op == 0x90 then no_operation p bytes  -- NOP
+    else (if op == 0x99 then Some (instrs.ExtendRax (width_of p), bytes)  -- CDQ, CQO
+    else (if op == 0xC1 then rm_digit p (width_of p) (shift_immediate (width_of p)) bytes  -- SHL /4, SHR /5, SAR /7 r/m, imm8
     else (if op == 0xC3 then Some (instrs.Return, bytes)  -- RET
-    else (if op == 0xFF then rm_digit p indirect bytes  -- CALL /2 r/m64
-    else None)))))))))))
+    else (if op == 0xCC then Some (instrs.Breakpoint, bytes)  -- INT3
+    else (if op == 0xD3 then rm_digit p (width_of p) (shift_by_cl (width_of p)) bytes  -- SHL /4, SHR /5, SAR /7 r/m, CL
+    else (if op == 0xE8 then call bytes  -- CALL rel32
+    else (if op == 0xE9 then jump W32 bytes  -- JMP rel32
+    else (if op == 0xEB then jump W8 bytes  -- JMP rel8
+    else (if op == 0xFF then rm_digit p W64 indirect bytes  -- CALL /2, JMP /4 r/m64
+    else None))))))))))))))))
+
+-- one byte of opcode; with 66 the rows above the last alone, and of the last none
+unfoldable pub row : Prefixes → ℕ → List ℕ → Read Instr
+row p op bytes =
+    if op / 64 == 0 then arithmetic_row p op bytes  -- ADD, OR, AND, SUB, XOR, CMP r/m, r and r, r/m
+    else (if op / 2 == 0x80 / 2 then rm_digit p (sized p op) (arithmetic_immediate (immediate_of (sized p op)) (sized p op)) bytes  -- ADD /0, OR /1, AND /4, SUB /5, XOR /6, CMP /7 r/m, imm
+    else (if op == 0x83 then rm_digit p (width_of p) (arithmetic_immediate W8 (width_of p)) bytes  -- the same with imm8
+    else (if op / 2 == 0x84 / 2 then rm_r p (sized p op) (instrs.Test (sized p op)) bytes  -- TEST r/m, r
+    else (if op / 2 == 0x88 / 2 then rm_r p (sized p op) (instrs.Move (sized p op)) bytes  -- MOV r/m, r
+    else (if op / 2 == 0x8A / 2 then r_rm p (sized p op) (sized p op) (load (sized p op)) bytes  -- MOV r, r/m
+    else (if op / 8 == 0xB8 / 8 then move_immediate p op bytes  -- MOV r, imm
+    else (if op / 2 == 0xC6 / 2 then rm_digit p (sized p op) (move_to_place (sized p op)) bytes  -- MOV /0 r/m, imm
+    else (if op / 2 == 0xF6 / 2 then rm_digit p (sized p op) (third_group ((op == 0xF7) && not p.operand_size) (sized p op)) bytes  -- TEST /0, NOT /2, NEG /3, DIV /6, IDIV /7
+    else (if p.operand_size then None
+    else plain_row p op bytes)))))))))
+
+abbrev pub extend_row : Prefixes → ℕ → List ℕ → Read Instr
+extend_row p op bytes =
+    if op / 2 == 0xB6 / 2 then extend Zero p op bytes  -- MOVZX r, r/m8 and r/m16
+    else (if op / 2 == 0xBE / 2 then extend Sign p op bytes  -- MOVSX r, r/m8 and r/m16
+    else None)
 
 -- the second byte of opcode, after 0F
 unfoldable pub second_row : Prefixes → ℕ → List ℕ → Read Instr
 second_row p op bytes =
     if p.operand_size then None
-    else (if op == 0xAF then r_rm p (instrs.Multiply (width_of p)) bytes  -- IMUL r, r/m
-    else None)
+    else (if op == 0x0B then Some (instrs.Undefined, bytes)  -- UD2
+    else (if op / 16 == 0x80 / 16 then jump_if W32 op bytes  -- Jcc rel32
+    else (if op / 16 == 0x90 / 16 then set_if p op bytes  -- SETcc r/m8
+    else (if op == 0xAF then r_rm p (width_of p) (width_of p) (instrs.Multiply (width_of p)) bytes  -- IMUL r, r/m
+    else extend_row p op bytes))))
 
 unfoldable pub after_prefixes : Prefixes → ℕ → List ℕ → Read Instr
 after_prefixes p b bytes = if b == 0x0F then (byte bytes >>= λ c. second_row p c.0 c.1) else row p b bytes

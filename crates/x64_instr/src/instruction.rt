@@ -1,6 +1,6 @@
 //! The instructions.
 
-use crate::operand::{Operand, Place};
+use crate::operand::{MemRef, Operand, Place};
 use crate::register::Reg;
 use seh_num::width::Width;
 
@@ -8,7 +8,21 @@ use seh_num::width::Width;
 #[derive(Clone, Copy, Debug, PartialEq, Eq)]
 pub enum Operation {
     Add,
+    Or,
+    And,
     Sub,
+    Xor,
+    /// A difference of which the flags alone are kept.
+    Compare,
+}
+
+/// What is computed of one operand.
+#[derive(Clone, Copy, Debug, PartialEq, Eq)]
+pub enum Unary {
+    /// Each bit turned.
+    Not,
+    /// The negative, modulo 2 to the width.
+    Negate,
 }
 
 /// How a number is made wider.
@@ -16,11 +30,62 @@ pub enum Operation {
 pub enum Extension {
     /// By copies of its top bit.
     Sign,
+    /// By zeros.
+    Zero,
+}
+
+/// Which numbers a division takes its operands for.
+#[derive(Clone, Copy, Debug, PartialEq, Eq)]
+pub enum Division {
+    Unsigned,
+    Signed,
+}
+
+/// Where the bits of a shift go, and what comes in behind them.
+#[derive(Clone, Copy, Debug, PartialEq, Eq)]
+pub enum Direction {
+    /// To the top; zeros come in.
+    Left,
+    /// To the bottom; zeros come in.
+    Right,
+    /// To the bottom; copies of the top bit come in.
+    ArithmeticRight,
+}
+
+/// How far a shift goes.
+#[derive(Clone, Copy, Debug, PartialEq, Eq)]
+pub enum Count {
+    /// By a number of 8 bits.
+    Immediate(u64),
+    /// By CL.
+    Cl,
+}
+
+/// What is asked of the flags (Intel manual, volume 1, appendix B "EFLAGS Condition Codes"). The
+/// two conditions on PF aren't among them.
+#[derive(Clone, Copy, Debug, PartialEq, Eq)]
+pub enum Condition {
+    Overflow,
+    NotOverflow,
+    Below,
+    AboveOrEqual,
+    Equal,
+    NotEqual,
+    BelowOrEqual,
+    Above,
+    Sign,
+    NotSign,
+    Less,
+    GreaterOrEqual,
+    LessOrEqual,
+    Greater,
 }
 
 /// Where a jump or a call goes.
 #[derive(Clone, Copy, Debug, PartialEq, Eq)]
 pub enum Target {
+    /// So far from the next instruction: a signed number of 32 bits, sign-extended to 64.
+    Relative(u64),
     /// To the address that stands at the place, of 64 bits.
     Indirect(Place),
 }
@@ -34,7 +99,7 @@ pub enum Instr {
         to: Place,
         from: Operand,
     },
-    /// MOVSXD.
+    /// MOVZX, MOVSX, MOVSXD.
     Extend {
         extension: Extension,
         /// The width of `to`.
@@ -44,12 +109,24 @@ pub enum Instr {
         narrow: Width,
         from: Place,
     },
-    /// ADD, SUB: `to` is the first operand, and takes the result.
+    /// LEA: the address itself goes to `to`.
+    LoadAddress {
+        width: Width,
+        to: Reg,
+        from: MemRef,
+    },
+    /// ADD, OR, AND, SUB, XOR, CMP: `to` is the first operand, and takes the result, but of CMP.
     Arithmetic {
         operation: Operation,
         width: Width,
         to: Place,
         from: Operand,
+    },
+    /// TEST: the flags of AND.
+    Test {
+        width: Width,
+        first: Place,
+        second: Operand,
     },
     /// IMUL with two operands: `to` is one of them, and takes the low half of the product.
     Multiply {
@@ -57,6 +134,51 @@ pub enum Instr {
         to: Reg,
         from: Place,
     },
+    /// IMUL with three operands: `to` takes the low half of the product of the other two.
+    MultiplyBy {
+        width: Width,
+        to: Reg,
+        from: Place,
+        /// A number of the width, sign-extended from 32 bits.
+        by: u64,
+    },
+    /// NOT, NEG.
+    Unary {
+        operation: Unary,
+        width: Width,
+        to: Place,
+    },
+    /// DIV, IDIV: of RDX and RAX together, RDX the high half; RAX takes the quotient, RDX the
+    /// remainder.
+    Divide {
+        division: Division,
+        width: Width,
+        by: Place,
+    },
+    /// CDQ, CQO: RDX takes copies of the top bit of RAX.
+    ExtendRax {
+        width: Width,
+    },
+    /// SHL, SHR, SAR.
+    Shift {
+        direction: Direction,
+        width: Width,
+        to: Place,
+        by: Count,
+    },
+    /// SETcc: a byte of 1 where the condition holds, else of 0.
+    Set {
+        condition: Condition,
+        to: Place,
+    },
+    /// Jcc: so far from the next instruction where the condition holds.
+    JumpIf {
+        condition: Condition,
+        /// A signed number of 32 bits, sign-extended to 64.
+        displacement: u64,
+    },
+    /// JMP.
+    Jump(Target),
     /// CALL.
     Call(Target),
     /// PUSH, of 64 bits.
@@ -65,4 +187,10 @@ pub enum Instr {
     Pop(Reg),
     /// RET.
     Return,
+    /// NOP.
+    NoOperation,
+    /// INT3.
+    Breakpoint,
+    /// UD2.
+    Undefined,
 }

@@ -1,18 +1,19 @@
-//! Instructions of x64 and their spellings.
+//! Instructions of x64, and how they are read from their spellings.
 //!
 //! The instructions are those that the compiler writes and the machine runs. How they are spelled
 //! is the Intel manual's (volume 2, chapter 2 "Instruction Format" and the pages of the
-//! instructions) in 64-bit mode, with the prefixes 66 and REX alone. No call takes memory.
+//! instructions) in 64-bit mode, with the prefixes 66 and REX alone. The crate x64_encode writes
+//! them. No call takes memory.
 #![tactic(auto)]
 
 pub mod decoding;
-pub mod encoding;
 pub mod instruction;
+mod opcode_map;
 pub mod operand;
 mod places;
 pub mod prefixes;
 mod reading;
 pub mod register;
+mod rows;
 #[cfg(test)]
 mod tests;
-mod writing;

@@ -70,7 +70,7 @@ fn place(prefixes: Prefixes, modrm: u8, bytes: &[u8]) -> Option<(Place, &[u8])>
 }
 
 /// ModRM with a register in its reg field: the place first.
-pub(crate) fn place_and_register(prefixes: Prefixes, bytes: &[u8]) -> Option<(Place, Reg, &[u8])>
+fn place_and_register(prefixes: Prefixes, bytes: &[u8]) -> Option<(Place, Reg, &[u8])>
     ensures { option_map (λ x. ((x.0, x.1), x.2.now)) result ≡ spec.place_and_register prefixes bytes.now }
 {
     let (modrm, rest) = byte(bytes)?;
@@ -79,13 +79,48 @@ pub(crate) fn place_and_register(prefixes: Prefixes, bytes: &[u8]) -> Option<(Pl
 }
 
 /// ModRM with a digit of the opcode in its reg field.
-pub(crate) fn place_and_digit(prefixes: Prefixes, bytes: &[u8]) -> Option<(Place, u8, &[u8])>
+fn place_and_digit(prefixes: Prefixes, bytes: &[u8]) -> Option<(Place, u8, &[u8])>
     ensures value { option_map (λ x. ((x.0, x.1), x.2.now)) result ≡ spec.place_and_digit prefixes bytes.now }
     ensures small { IfSome result (λ x. x.1 < 8) }
 {
     let (modrm, rest) = byte(bytes)?;
     let (to, rest) = place(prefixes, modrm, rest)?;
     Some((to, modrm / 8 % 8, rest))
+}
+
+/// A place of one width and a register of another.
+pub(crate) fn operands_of(
+    prefixes: Prefixes,
+    place_width: Width,
+    register_width: Width,
+    bytes: &[u8],
+) -> Option<(Place, Reg, &[u8])>
+    ensures { option_map (λ x. ((x.0, x.1), x.2.now)) result ≡ spec.operands_of prefixes place_width register_width bytes.now }
+{
+    let (place, register, rest) = place_and_register(prefixes, bytes)?;
+    let place_is = prefixes.lists(place_width, place);
+    if place_is && prefixes.lists(register_width, Place::Register(register)) {
+        Some((place, register, rest))
+    } else {
+        None
+    }
+}
+
+/// A place of a width, and a digit of the opcode.
+pub(crate) fn operand_and_digit(
+    prefixes: Prefixes,
+    width: Width,
+    bytes: &[u8],
+) -> Option<(Place, u8, &[u8])>
+    ensures value { option_map (λ x. ((x.0, x.1), x.2.now)) result ≡ spec.operand_and_digit prefixes width bytes.now }
+    ensures small { IfSome result (λ x. x.1 < 8) }
+{
+    let (place, digit, rest) = place_and_digit(prefixes, bytes)?;
+    if prefixes.lists(width, place) {
+        Some((place, digit, rest))
+    } else {
+        None
+    }
 }
 
 /// What is read at a place.

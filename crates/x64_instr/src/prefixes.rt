@@ -1,7 +1,8 @@
-ghost use Rattle.std.specs.Prelude.{◌≡◌, ◌<◌};
+ghost use Rattle.std.specs.Prelude.{◌≡◌, ◌<◌, ◌≤◌};
+ghost use Rattle.seh_num.specs.Widths.{limit};
 ghost use Rattle.x64_instr.specs.Operands as spec;
 
-use crate::operand::{Index, Scale};
+use crate::operand::{Index, Place, Scale};
 use crate::reading::bit;
 use crate::register::Reg;
 use seh_num::width::Width;
@@ -32,6 +33,27 @@ impl Prefixes {
         }
     }
 
+    /// The width of an operand where the opcode has a byte form too.
+    pub(crate) fn sized(self, opcode: u8) -> Width
+        ensures { result ≡ spec.sized self opcode }
+    {
+        if opcode % 2 == 0 {
+            Width::W8
+        } else {
+            self.width()
+        }
+    }
+
+    /// Whether an operand of this width stands for the place, and not for AH, CH, DH or BH.
+    pub(crate) fn lists(self, width: Width, place: Place) -> bool
+        ensures { result ≡ spec.is_listed self width place }
+    {
+        match (width, place) {
+            (Width::W8, Place::Register(register)) => self.has_rex || register.number() / 4 != 1,
+            _ => true,
+        }
+    }
+
     /// The register of ModRM's reg field.
     pub(crate) fn middle(self, modrm: u8) -> Reg
         ensures { result ≡ spec.middle self modrm }
@@ -57,6 +79,29 @@ impl Prefixes {
         let register = Reg::of(number);
         let scale = scale(sib / 64);
         Some(Index { register, scale })
+    }
+}
+
+/// The width that is extended: 8 bits, or 16.
+pub(crate) fn sized_narrow(opcode: u8) -> Width
+    ensures { result ≡ spec.sized_narrow opcode }
+{
+    if opcode % 2 == 0 {
+        Width::W8
+    } else {
+        Width::W16
+    }
+}
+
+/// The width of an immediate at most.
+pub fn immediate_of(width: Width) -> Width
+    ensures value { result ≡ spec.immediate_of width }
+    ensures most { limit result ≤ limit width }
+{
+    match width {
+        Width::W8 => Width::W8,
+        Width::W16 => Width::W16,
+        _ => Width::W32,
     }
 }
 

@@ -1,13 +1,15 @@
 -- What one instruction does (Intel manual, volume 2, each instruction's page).
-use Rattle.std.specs.Prelude.{◌≡◌, ℕ, ◌+◌, ◌-◌, ◌*◌, ◌/◌, ◌%◌, ◌^◌, Bool, true, false, ◌&&◌, ◌==◌, if◌then◌else◌, List, [], ◌∷◌, length, Option, Some, None, Result, Ok, Err, slice_index, slice_set}
+use Rattle.std.specs.Prelude.{ℕ, ◌+◌, ◌-◌, ◌*◌, ◌%◌, ◌^◌, Bool, true, false, nat_lt, if◌then◌else◌, Option, Some, None, Result, Ok, Err, slice_index, slice_set, bit_and, bit_or, bit_xor}
 use Rattle.seh_num.specs.declared.width.Width.{Width}
-use Rattle.seh_num.specs.declared.width.Width.TheVariants.{W8, W16, W32, W64}
-use Rattle.seh_num.specs.Widths.{low, signed, wrapped}
+use Rattle.seh_num.specs.declared.width.Width.TheVariants.{W8, W64}
+use Rattle.seh_num.specs.declared.division.DivFault.{DivFault}
+use Rattle.seh_num.specs.declared.division.DivFault.TheVariants as faults
+use Rattle.seh_num.specs.Widths.{limit, half, low, signed, wrapped}
 use Rattle.flat_memory.specs.declared.access.Access.{Access}
 use Rattle.flat_memory.specs.declared.access.Access.TheVariants as accesses
 use Rattle.flat_memory.specs.Memory.{Memory, executable, loaded, stored, after_store}
 use Rattle.x64_instr.specs.declared.register.Reg.{Reg}
-use Rattle.x64_instr.specs.declared.register.Reg.TheVariants.{Rsp}
+use Rattle.x64_instr.specs.declared.register.Reg.TheVariants.{Rax, Rcx, Rdx, Rsp}
 use Rattle.x64_instr.specs.declared.operand.Scale.{Scale}
 use Rattle.x64_instr.specs.declared.operand.Scale.TheVariants.{One, Two, Four, Eight}
 use Rattle.x64_instr.specs.declared.operand.Base.{Base}
@@ -19,11 +21,18 @@ use Rattle.x64_instr.specs.declared.operand.Place.TheVariants as places
 use Rattle.x64_instr.specs.declared.operand.Operand.{Operand}
 use Rattle.x64_instr.specs.declared.operand.Operand.TheVariants as operands
 use Rattle.x64_instr.specs.declared.instruction.Operation.{Operation}
-use Rattle.x64_instr.specs.declared.instruction.Operation.TheVariants.{Add, Sub}
+use Rattle.x64_instr.specs.declared.instruction.Operation.TheVariants as operations
+use Rattle.x64_instr.specs.declared.instruction.Unary.{Unary}
+use Rattle.x64_instr.specs.declared.instruction.Unary.TheVariants.{Not, Negate}
 use Rattle.x64_instr.specs.declared.instruction.Extension.{Extension}
-use Rattle.x64_instr.specs.declared.instruction.Extension.TheVariants.{Sign}
+use Rattle.x64_instr.specs.declared.instruction.Extension.TheVariants.{Sign, Zero}
+use Rattle.x64_instr.specs.declared.instruction.Division.{Division}
+use Rattle.x64_instr.specs.declared.instruction.Direction.{Direction}
+use Rattle.x64_instr.specs.declared.instruction.Count.{Count}
+use Rattle.x64_instr.specs.declared.instruction.Count.TheVariants as counts
+use Rattle.x64_instr.specs.declared.instruction.Condition.{Condition}
 use Rattle.x64_instr.specs.declared.instruction.Target.{Target}
-use Rattle.x64_instr.specs.declared.instruction.Target.TheVariants.{Indirect}
+use Rattle.x64_instr.specs.declared.instruction.Target.TheVariants.{Relative, Indirect}
 use Rattle.x64_instr.specs.declared.instruction.Instr.{Instr}
 use Rattle.x64_instr.specs.declared.instruction.Instr.TheVariants as instrs
 use Rattle.x64_instr.specs.Registers.{number}
@@ -37,7 +46,10 @@ use Rattle.x64_machine.specs.declared.outcome.Step.TheVariants as steps
 use Rattle.x64_machine.specs.declared.service.Service.{Service}
 use Rattle.x64_machine.specs.declared.service.Service.TheVariants as services
 use Rattle.x64_machine.specs.Services.{service_at, in_host_page}
-use Rattle.x64_machine.specs.Words.{merged, added, subtracted, multiplied}
+use Rattle.x64_machine.specs.Words.{merged, added, subtracted, multiplied, logical, inverted}
+use Rattle.x64_machine.specs.Shifts.{count_of, shifted, shift_flags}
+use Rattle.x64_machine.specs.Conditions.{holds}
+use Rattle.x64_machine.specs.Dividing.{joined, divided}
 
 -- the registers and the memory
 pub record State : Type 0 where
@@ -126,16 +138,58 @@ may_change s w (places.Memory a) = granted (stored s.memory (address_of s.cpu a)
 -- ---- instructions
 
 abbrev pub computed : Operation → Width → ℕ → ℕ → ℕ × Flags
-computed Add w a b = added w a b
-computed Sub w a b = subtracted w a b
+computed operations.Add w a b = added w a b
+computed operations.Or w a b = logical w (bit_or a b)
+computed operations.And w a b = logical w (bit_and a b)
+computed operations.Sub w a b = subtracted w a b
+computed operations.Xor w a b = logical w (bit_xor a b)
+computed operations.Compare w a b = subtracted w a b
 
 -- the second operand is read first, then the first, which takes the result
-abbrev pub arithmetic : State → Operation → Width → Place → Operand → Answer State
-arithmetic s o w to from = do
+abbrev pub change : State → Operation → Width → Place → Operand → Answer State
+change s o w to from = do
   b ← operand s w from
   _ ← may_change s w to
   a ← read s w to
   write (with_flags s (computed o w a b).1) w to (computed o w a b).0
+
+-- the flags alone are kept, and no operand is written
+abbrev pub compare : State → Operation → Width → Place → Operand → Answer State
+compare s o w first second = do
+  b ← operand s w second
+  a ← read s w first
+  Ok (with_flags s (computed o w a b).1)
+
+abbrev pub is_compare : Operation → Bool
+is_compare operations.Compare = true
+is_compare o = false
+
+abbrev pub arithmetic : State → Operation → Width → Place → Operand → Answer State
+arithmetic s o w to from = if is_compare o then compare s o w to from else change s o w to from
+
+abbrev pub unary_of : Unary → Width → ℕ → Flags → ℕ × Flags
+unary_of Not w a f = (inverted w a, f)
+unary_of Negate w a f = subtracted w 0 a
+
+abbrev pub unary : State → Unary → Width → Place → Answer State
+unary s o w to = do
+  _ ← may_change s w to
+  a ← read s w to
+  write (with_flags s (unary_of o w a s.cpu.flags).1) w to (unary_of o w a s.cpu.flags).0
+
+abbrev pub amount : Cpu → Count → ℕ
+amount c (counts.Immediate n) = n
+amount c counts.Cl = low W8 (register c Rcx)
+
+-- a count of 0 writes the operand too
+abbrev pub shift_by : State → Direction → Width → Place → ℕ → Answer State
+shift_by s d w to n = do
+  _ ← may_change s w to
+  a ← read s w to
+  write (with_flags s (shift_flags d w a n s.cpu.flags)) w to (shifted d w a n)
+
+abbrev pub shift : State → Direction → Width → Place → Count → Answer State
+shift s d w to by = shift_by s d w to (count_of w (amount s.cpu by))
 
 abbrev pub multiply : State → Width → Reg → Place → Answer State
 multiply s w to from = do
@@ -143,8 +197,34 @@ multiply s w to from = do
   let p = multiplied w (low w (register s.cpu to)) b s.cpu.flags in
       Ok (with_flags (record s { cpu = with_register w s.cpu to p.0 }) p.1)
 
+abbrev pub multiply_by : State → Width → Reg → Place → ℕ → Answer State
+multiply_by s w to from v = do
+  a ← read s w from
+  let p = multiplied w a (low w v) s.cpu.flags in
+      Ok (with_flags (record s { cpu = with_register w s.cpu to p.0 }) p.1)
+
+-- no quotient: by 0 (STATUS_INTEGER_DIVIDE_BY_ZERO), or one that doesn't fit (STATUS_INTEGER_OVERFLOW)
+abbrev pub division_stop : DivFault → Stop
+division_stop faults.Zero = stops.Fault (record { 0 = 0xC0000094 }) None
+division_stop faults.Overflow = stops.Fault (record { 0 = 0xC0000095 }) None
+
+abbrev pub with_quotient : State → Width → Result (ℕ × ℕ) DivFault → Answer State
+with_quotient s w (Ok x) = Ok (record s { cpu = with_register w (with_register w s.cpu Rax x.0) Rdx x.1 })
+with_quotient s w (Err e) = Err (division_stop e)
+
+-- the flags stay
+abbrev pub divide : State → Division → Width → Place → Answer State
+divide s d w by = do
+  v ← read s w by
+  with_quotient s w (divided d w (joined w (low w (register s.cpu Rdx)) (low w (register s.cpu Rax))) v)
+
+-- copies of the top bit of RAX
+abbrev pub sign_of_rax : Width → Cpu → ℕ
+sign_of_rax w c = if nat_lt (low w (register c Rax)) (half w) then 0 else limit w - 1
+
 abbrev pub widened : Extension → Width → Width → ℕ → ℕ
 widened Sign w narrow v = wrapped w (signed narrow v)
+widened Zero w narrow v = low narrow v
 
 abbrev pub extend : State → Extension → Width → Reg → Width → Place → Answer State
 extend s e w to narrow from = do
@@ -163,8 +243,24 @@ pop s = do
   v ← load s.memory (register s.cpu Rsp) W64
   Ok (v, record s { cpu = with_register W64 s.cpu Rsp ((register s.cpu Rsp + 8) % 2 ^ 64) })
 
+-- relative to the next instruction
+abbrev pub relative : Cpu → ℕ → ℕ
+relative c d = (c.rip + d) % 2 ^ 64
+
 abbrev pub target_of : State → Target → Answer ℕ
+target_of s (Relative d) = Ok (relative s.cpu d)
 target_of s (Indirect at) = read s W64 at
+
+abbrev pub jumped : Cpu → Condition → ℕ → Cpu
+jumped c condition d = if holds c.flags condition then record c { rip = relative c d } else c
+
+abbrev pub condition_byte : Flags → Condition → ℕ
+condition_byte f condition = if holds f condition then 1 else 0
+
+abbrev pub jump : State → Target → Answer State
+jump s to = do
+  target ← target_of s to
+  Ok (with_rip s target)
 
 -- the target is read before the return address is stored
 abbrev pub call : State → Target → Answer State
@@ -179,8 +275,18 @@ effect s (instrs.Move w to from) = do
   v ← operand s w from
   write s w to v
 effect s (instrs.Extend e w to narrow from) = extend s e w to narrow from
+effect s (instrs.LoadAddress w to m) = Ok (record s { cpu = with_register w s.cpu to (address_of s.cpu m) })
 effect s (instrs.Arithmetic o w to from) = arithmetic s o w to from
+effect s (instrs.Test w first second) = compare s operations.And w first second
 effect s (instrs.Multiply w to from) = multiply s w to from
+effect s (instrs.MultiplyBy w to from v) = multiply_by s w to from v
+effect s (instrs.Unary o w to) = unary s o w to
+effect s (instrs.Divide d w by) = divide s d w by
+effect s (instrs.ExtendRax w) = Ok (record s { cpu = with_register w s.cpu Rdx (sign_of_rax w s.cpu) })
+effect s (instrs.Shift d w to by) = shift s d w to by
+effect s (instrs.Set c to) = write s W8 to (condition_byte s.cpu.flags c)
+effect s (instrs.JumpIf c d) = Ok (record s { cpu = jumped s.cpu c d })
+effect s (instrs.Jump to) = jump s to
 effect s (instrs.Call to) = call s to
 effect s (instrs.Push r) = push s (register s.cpu r)
 effect s (instrs.Pop r) = do
@@ -189,12 +295,21 @@ effect s (instrs.Pop r) = do
 effect s instrs.Return = do
   x ← pop s
   Ok (with_rip x.1 x.0)
+effect s instrs.NoOperation = Ok s
+effect s instrs.Breakpoint = Err (stops.Illegal s.cpu.rip)
+effect s instrs.Undefined = Err (stops.Illegal s.cpu.rip)
 
 -- ---- one step
 
+-- INT3 and UD2 have no effect: nothing can be run where they stand
+abbrev pub is_trap : Instr → Bool
+is_trap instrs.Breakpoint = true
+is_trap instrs.Undefined = true
+is_trap i = false
+
 abbrev pub execute : State → Option (Instr × ℕ) → Answer State
 execute s None = Err (stops.Illegal s.cpu.rip)
-execute s (Some x) = effect (with_rip s ((s.cpu.rip + x.1) % 2 ^ 64)) x.0
+execute s (Some x) = if is_trap x.0 then Err (stops.Illegal s.cpu.rip) else effect (with_rip s ((s.cpu.rip + x.1) % 2 ^ 64)) x.0
 
 -- in the host's page its services alone can be reached, but the language handler isn't run as code
 abbrev pub hosted : ℕ → Option Service → Stop

@@ -1,4 +1,7 @@
 pub mod Services
 pub mod Contexts
 pub mod Words
+pub mod Shifts
+pub mod Conditions
+pub mod Dividing
 pub mod Effect

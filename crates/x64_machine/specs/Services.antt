@@ -1,5 +1,5 @@
 -- The addresses of the host's services.
-use Rattle.std.specs.Prelude.{ℕ, Bool, true, false, ◌&&◌, ◌==◌, nat_le, nat_lt, if◌then◌else◌, Option, Some, None}
+use Rattle.std.specs.Prelude.{ℕ, Bool, ◌&&◌, ◌==◌, nat_le, nat_lt, if◌then◌else◌, Option, Some, None}
 use Rattle.x64_machine.specs.declared.service.Service.{Service}
 use Rattle.x64_machine.specs.declared.service.Service.TheVariants.{Put, Protect, RaiseException, CSpecificHandler, LocalUnwind, FilterReturn, FinallyReturn}
 

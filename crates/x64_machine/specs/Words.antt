@@ -1,5 +1,5 @@
 -- Arithmetic of each width, by whole numbers.
-use Rattle.std.specs.Prelude.{ℕ, ◌+◌, ◌-◌, ◌*◌, ◌/◌, ◌%◌, ◌^◌, Bool, not, nat_lt, nat_le, nat_eq, ◌+ℤ◌, ◌-ℤ◌, ◌*ℤ◌}
+use Rattle.std.specs.Prelude.{ℕ, ◌+◌, ◌-◌, ◌*◌, ◌%◌, ◌^◌, Bool, false, not, nat_lt, nat_le, nat_eq, ◌+ℤ◌, ◌-ℤ◌, ◌*ℤ◌}
 use Rattle.seh_num.specs.declared.width.Width.{Width}
 use Rattle.seh_num.specs.declared.width.Width.TheVariants.{W8, W16, W32, W64}
 use Rattle.seh_num.specs.Widths.{limit, half, low, signed}
@@ -20,6 +20,14 @@ unfoldable pub multiplied : Width → ℕ → ℕ → Flags → ℕ × Flags
 multiplied w a b f =
     let lost = not (is_signed w (signed w a *ℤ signed w b)) in
     (low w (a * b), record f { carry = lost; overflow = lost })
+
+-- AND, OR, XOR, TEST: neither carry nor overflow
+abbrev pub logical : Width → ℕ → ℕ × Flags
+logical w v = (v, flags_of w v false false)
+
+-- each bit turned
+abbrev pub inverted : Width → ℕ → ℕ
+inverted w a = limit w - 1 - a
 
 -- a write of 32 bits clears the upper half, and one of 8 or 16 bits leaves the rest
 abbrev pub merged : Width → ℕ → ℕ → ℕ

@@ -6,19 +6,30 @@ ghost use Rattle.x64_machine.specs.Effect as spec;
 ghost use Rattle.x64_machine.specs.Effect.{State};
 
 use crate::cpu::{Cpu, Flags};
+use crate::dividing::{divide, join};
 use crate::outcome::Stop;
-use crate::words::{add, merge, multiply, subtract};
+use crate::shifts::{count_of, shift, shift_flags};
+use crate::words::{add, invert, logical, merge, multiply, subtract};
 use flat_memory::access::Access;
+use seh_num::division::DivFault;
 use seh_num::event::Code;
 use seh_num::extension::{sign_extend, wrap, zero_extend};
 use seh_num::width::Width;
-use x64_instr::instruction::{Extension, Instr, Operation, Target};
+use x64_instr::instruction::{
+    Condition, Count, Direction, Division, Extension, Instr, Operation, Target, Unary,
+};
 use x64_instr::operand::{Base, MemRef, Operand, Place, Scale};
 use x64_instr::register::Reg;
 use x64_memory::space::Space;
 
 /// The code of an access violation (Windows headers, STATUS_ACCESS_VIOLATION).
 const ACCESS_VIOLATION: Code = Code(0xC000_0005);
+
+/// The code of a division by 0 (STATUS_INTEGER_DIVIDE_BY_ZERO).
+const DIVIDE_BY_ZERO: Code = Code(0xC000_0094);
+
+/// The code of a quotient that doesn't fit (STATUS_INTEGER_OVERFLOW).
+const INTEGER_OVERFLOW: Code = Code(0xC000_0095);
 
 impl Cpu {
     /// The number in a register.
@@ -158,12 +169,62 @@ fn computed(operation: Operation, width: Width, first: u64, second: u64) -> (u64
 {
     match operation {
         Operation::Add => add(width, first, second),
-        Operation::Sub => subtract(width, first, second),
+        Operation::Or => logical(width, first | second),
+        Operation::And => logical(width, first & second),
+        Operation::Sub | Operation::Compare => subtract(width, first, second),
+        Operation::Xor => logical(width, first ^ second),
+    }
+}
+
+fn change<S: Space>(
+    mut cpu: Cpu,
+    space: &mut S,
+    operation: Operation,
+    width: Width,
+    to: &Place,
+    from: &Operand,
+) -> Result<Cpu, Stop>
+    ensures answer { result ≡ spec.cpu_of (spec.change (spec.state cpu (S.memory space.old)) operation width to.now from.now) }
+    ensures memory { S.memory space.new ≡ spec.memory_after (S.memory space.old) (spec.change (spec.state cpu (S.memory space.old)) operation width to.now from.now) }
+{
+    let second = operand(&cpu, space, width, from)?;
+    may_change(&cpu, space, width, to)?;
+    let first = read(&cpu, space, width, to)?;
+    let (value, flags) = computed(operation, width, first, second);
+    cpu.flags = flags;
+    write(cpu, space, width, to, value)
+}
+
+/// The flags alone.
+fn compare<S: Space>(
+    mut cpu: Cpu,
+    space: &S,
+    operation: Operation,
+    width: Width,
+    first: &Place,
+    second: &Operand,
+) -> Result<Cpu, Stop>
+    ensures answer { result ≡ spec.cpu_of (spec.compare (spec.state cpu (S.memory space.now)) operation width first.now second.now) }
+    ensures memory { spec.memory_after (S.memory space.now) (spec.compare (spec.state cpu (S.memory space.now)) operation width first.now second.now) ≡ S.memory space.now }
+{
+    let second = operand(&cpu, space, width, second)?;
+    let first = read(&cpu, space, width, first)?;
+    let (_, flags) = computed(operation, width, first, second);
+    cpu.flags = flags;
+    Ok(cpu)
+}
+
+fn is_compare(operation: Operation) -> bool
+    ensures { result ≡ spec.is_compare operation }
+{
+    match operation {
+        Operation::Compare => true,
+        _ => false,
     }
 }
 
 fn arithmetic<S: Space>(
-    mut cpu: Cpu,
+    cpu: Cpu,
     space: &mut S,
     operation: Operation,
     width: Width,
@@ -173,11 +234,65 @@ fn arithmetic<S: Space>(
     ensures answer { result ≡ spec.cpu_of (spec.arithmetic (spec.state cpu (S.memory space.old)) operation width to.now from.now) }
     ensures memory { S.memory space.new ≡ spec.memory_after (S.memory space.old) (spec.arithmetic (spec.state cpu (S.memory space.old)) operation width to.now from.now) }
 {
-    let second = operand(&cpu, space, width, from)?;
+    if is_compare(operation) {
+        compare(cpu, space, operation, width, to, from)
+    } else {
+        change(cpu, space, operation, width, to, from)
+    }
+}
+
+fn unary_of(operation: Unary, width: Width, value: u64, flags: Flags) -> (u64, Flags)
+    requires { value < limit width }
+    ensures { result ≡ spec.unary_of operation width value flags }
+{
+    match operation {
+        Unary::Not => (invert(width, value), flags),
+        Unary::Negate => subtract(width, 0, value),
+    }
+}
+
+fn unary<S: Space>(
+    mut cpu: Cpu,
+    space: &mut S,
+    operation: Unary,
+    width: Width,
+    to: &Place,
+) -> Result<Cpu, Stop>
+    ensures answer { result ≡ spec.cpu_of (spec.unary (spec.state cpu (S.memory space.old)) operation width to.now) }
+    ensures memory { S.memory space.new ≡ spec.memory_after (S.memory space.old) (spec.unary (spec.state cpu (S.memory space.old)) operation width to.now) }
+{
     may_change(&cpu, space, width, to)?;
-    let first = read(&cpu, space, width, to)?;
-    let (value, flags) = computed(operation, width, first, second);
+    let old = read(&cpu, space, width, to)?;
+    let (value, flags) = unary_of(operation, width, old, cpu.flags);
     cpu.flags = flags;
+    write(cpu, space, width, to, value)
+}
+
+fn amount(cpu: &Cpu, count: Count) -> u64
+    ensures { result ≡ spec.amount cpu.now count }
+{
+    match count {
+        Count::Immediate(number) => number,
+        Count::Cl => zero_extend(Width::W8, cpu.register(Reg::Rcx)),
+    }
+}
+
+fn shift_by<S: Space>(
+    mut cpu: Cpu,
+    space: &mut S,
+    direction: Direction,
+    width: Width,
+    to: &Place,
+    count: u64,
+) -> Result<Cpu, Stop>
+    requires { count < 64 }
+    ensures answer { result ≡ spec.cpu_of (spec.shift_by (spec.state cpu (S.memory space.old)) direction width to.now count) }
+    ensures memory { S.memory space.new ≡ spec.memory_after (S.memory space.old) (spec.shift_by (spec.state cpu (S.memory space.old)) direction width to.now count) }
+{
+    may_change(&cpu, space, width, to)?;
+    let old = read(&cpu, space, width, to)?;
+    let value = shift(direction, width, old, count);
+    cpu.flags = shift_flags(direction, width, old, count, cpu.flags);
     write(cpu, space, width, to, value)
 }
 
@@ -198,11 +313,73 @@ fn product<S: Space>(
     Ok(cpu)
 }
 
+fn product_by<S: Space>(
+    mut cpu: Cpu,
+    space: &S,
+    width: Width,
+    to: Reg,
+    from: &Place,
+    by: u64,
+) -> Result<Cpu, Stop>
+    ensures { result ≡ spec.cpu_of (spec.multiply_by (spec.state cpu (S.memory space.now)) width to from.now by) }
+{
+    let first = read(&cpu, space, width, from)?;
+    let (value, flags) = multiply(width, first, zero_extend(width, by), cpu.flags);
+    cpu.set_register(width, to, value);
+    cpu.flags = flags;
+    Ok(cpu)
+}
+
+fn division_stop(fault: DivFault) -> Stop
+    ensures { result ≡ spec.division_stop fault }
+{
+    let code = match fault {
+        DivFault::Zero => DIVIDE_BY_ZERO,
+        DivFault::Overflow => INTEGER_OVERFLOW,
+    };
+    Stop::Fault { code, access: None }
+}
+
+fn quotient<S: Space>(
+    mut cpu: Cpu,
+    space: &S,
+    division: Division,
+    width: Width,
+    by: &Place,
+) -> Result<Cpu, Stop>
+    ensures { result ≡ spec.cpu_of (spec.divide (spec.state cpu (S.memory space.now)) division width by.now) }
+{
+    let divisor = read(&cpu, space, width, by)?;
+    let high = zero_extend(width, cpu.register(Reg::Rdx));
+    let low = zero_extend(width, cpu.register(Reg::Rax));
+    match divide(division, width, join(width, high, low), divisor) {
+        Ok((quotient, remainder)) => {
+            cpu.set_register(width, Reg::Rax, quotient);
+            cpu.set_register(width, Reg::Rdx, remainder);
+            Ok(cpu)
+        }
+        Err(fault) => Err(division_stop(fault)),
+    }
+}
+
+/// Copies of the top bit of RAX.
+fn sign_of_rax(width: Width, cpu: &Cpu) -> u64
+    ensures { result ≡ spec.sign_of_rax width cpu.now }
+{
+    let low = zero_extend(width, cpu.register(Reg::Rax));
+    if u128::from(low) < width.limit() / 2 {
+        0
+    } else {
+        (width.limit() - 1) as u64
+    }
+}
+
 fn widened(extension: Extension, width: Width, narrow: Width, value: u64) -> u64
     ensures { result ≡ spec.widened extension width narrow value }
 {
     match extension {
         Extension::Sign => wrap(width, i128::from(sign_extend(narrow, value))),
+        Extension::Zero => zero_extend(narrow, value),
     }
 }
 
@@ -225,13 +402,49 @@ pub fn pop<S: Space>(mut cpu: Cpu, space: &S) -> Result<(u64, Cpu), Stop>
     Ok((value, cpu))
 }
 
+fn relative(cpu: &Cpu, displacement: u64) -> u64
+    ensures { result ≡ spec.relative cpu.now displacement }
+{
+    cpu.rip.wrapping_add(displacement)
+}
+
+fn target_of<S: Space>(cpu: &Cpu, space: &S, to: &Target) -> Result<u64, Stop>
+    ensures { result ≡ spec.target_of (spec.state cpu.now (S.memory space.now)) to.now }
+{
+    match to {
+        Target::Relative(displacement) => Ok(relative(cpu, *displacement)),
+        Target::Indirect(at) => read(cpu, space, Width::W64, at),
+    }
+}
+
+fn jump<S: Space>(mut cpu: Cpu, space: &S, to: &Target) -> Result<Cpu, Stop>
+    ensures { result ≡ spec.cpu_of (spec.jump (spec.state cpu (S.memory space.now)) to.now) }
+{
+    let target = target_of(&cpu, space, to)?;
+    cpu.rip = target;
+    Ok(cpu)
+}
+
+fn jump_if(mut cpu: Cpu, condition: Condition, displacement: u64) -> Cpu
+    ensures { result ≡ spec.jumped cpu condition displacement }
+{
+    if cpu.flags.holds(condition) {
+        cpu.rip = relative(&cpu, displacement);
+    }
+    cpu
+}
+
+fn condition_byte(flags: Flags, condition: Condition) -> u64
+    ensures { result ≡ spec.condition_byte flags condition }
+{
+    if flags.holds(condition) { 1 } else { 0 }
+}
+
 fn call<S: Space>(cpu: Cpu, space: &mut S, to: &Target) -> Result<Cpu, Stop>
     ensures answer { result ≡ spec.cpu_of (spec.call (spec.state cpu (S.memory space.old)) to.now) }
     ensures memory { S.memory space.new ≡ spec.memory_after (S.memory space.old) (spec.call (spec.state cpu (S.memory space.old)) to.now) }
 {
-    let target = match to {
-        Target::Indirect(at) => read(&cpu, space, Width::W64, at)?,
-    };
+    let target = target_of(&cpu, space, to)?;
     let mut after = push(cpu, space, cpu.rip)?;
     after.rip = target;
     Ok(after)
@@ -259,13 +472,62 @@ pub fn effect<S: Space>(mut cpu: Cpu, space: &mut S, instr: &Instr) -> Result<Cp
             cpu.set_register(*width, *to, wide);
             Ok(cpu)
         }
+        Instr::LoadAddress { width, to, from } => {
+            let address = cpu.address(from);
+            cpu.set_register(*width, *to, address);
+            Ok(cpu)
+        }
         Instr::Arithmetic {
             operation,
             width,
             to,
             from,
         } => arithmetic(cpu, space, *operation, *width, to, from),
+        Instr::Test {
+            width,
+            first,
+            second,
+        } => compare(cpu, space, Operation::And, *width, first, second),
         Instr::Multiply { width, to, from } => product(cpu, space, *width, *to, from),
+        Instr::MultiplyBy {
+            width,
+            to,
+            from,
+            by,
+        } => product_by(cpu, space, *width, *to, from, *by),
+        Instr::Unary {
+            operation,
+            width,
+            to,
+        } => unary(cpu, space, *operation, *width, to),
+        Instr::Divide {
+            division,
+            width,
+            by,
+        } => quotient(cpu, space, *division, *width, by),
+        Instr::ExtendRax { width } => {
+            let sign = sign_of_rax(*width, &cpu);
+            cpu.set_register(*width, Reg::Rdx, sign);
+            Ok(cpu)
+        }
+        Instr::Shift {
+            direction,
+            width,
+            to,
+            by,
+        } => {
+            let count = count_of(*width, amount(&cpu, *by));
+            shift_by(cpu, space, *direction, *width, to, count)
+        }
+        Instr::Set { condition, to } => {
+            let value = condition_byte(cpu.flags, *condition);
+            write(cpu, space, Width::W8, to, value)
+        }
+        Instr::JumpIf {
+            condition,
+            displacement,
+        } => Ok(jump_if(cpu, *condition, *displacement)),
+        Instr::Jump(to) => jump(cpu, space, to),
         Instr::Call(to) => call(cpu, space, to),
         Instr::Push(from) => {
             let value = cpu.register(*from);
@@ -281,5 +543,7 @@ pub fn effect<S: Space>(mut cpu: Cpu, space: &mut S, instr: &Instr) -> Result<Cp
             after.rip = value;
             Ok(after)
         }
+        Instr::NoOperation => Ok(cpu),
+        Instr::Breakpoint | Instr::Undefined => Err(Stop::Illegal { rip: cpu.rip }),
     }
 }

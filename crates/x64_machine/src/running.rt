@@ -7,6 +7,7 @@ use crate::effect::effect;
 use crate::outcome::{Step, Stop};
 use crate::service::Service;
 use x64_instr::decoding::decode;
+use x64_instr::instruction::Instr;
 use x64_memory::space::Space;
 
 fn refused(stop: Stop) -> Step
@@ -29,6 +30,16 @@ fn hosted(address: u64) -> Stop
     }
 }
 
+/// Whether the instruction is one that can't be run.
+fn is_trap(instr: &Instr) -> bool
+    ensures { result ≡ spec.is_trap instr.now }
+{
+    match instr {
+        Instr::Breakpoint | Instr::Undefined => true,
+        _ => false,
+    }
+}
+
 /// One step of the processor. In the host's page, from 0x7FF00000 to below 0x7FF01000, no
 /// instruction is fetched: the step tells that the host's service is due, or that there is none.
 /// After anything but `Next`, registers and memory are as before.
@@ -45,6 +56,7 @@ pub fn step<S: Space>(cpu: &mut Cpu, space: &mut S) -> Step
     let count = space.fetch(cpu.rip, &mut bytes);
     match decode(&bytes[..count]) {
         None => Step::Illegal { rip: cpu.rip },
+        Some((instr, _)) if is_trap(&instr) => Step::Illegal { rip: cpu.rip },
         Some((instr, len)) => {
             let mut next = *cpu;
             next.rip = cpu.rip.wrapping_add(len as u64);

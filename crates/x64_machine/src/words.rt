@@ -82,6 +82,22 @@ pub fn multiply(width: Width, first: u64, second: u64, flags: Flags) -> (u64, Fl
     (low as u64, flags)
 }
 
+/// A result with its flags, of an operation on each bit: neither carry nor overflow (Intel manual,
+/// volume 2, AND, OR, XOR, TEST).
+pub fn logical(width: Width, value: u64) -> (u64, Flags)
+    ensures { result ≡ spec.logical width value }
+{
+    (value, flags_of(width, value, false, false))
+}
+
+/// Each bit turned (Intel manual, volume 2, NOT).
+pub fn invert(width: Width, value: u64) -> u64
+    requires { value < limit width }
+    ensures { result ≡ spec.inverted width value }
+{
+    (width.limit() - 1 - u128::from(value)) as u64
+}
+
 /// A number with its low bits replaced: a write of 32 bits clears the upper half of a register, one
 /// of 8 or 16 bits leaves the rest (Intel manual, volume 1, "General-Purpose Registers in 64-Bit
 /// Mode").

@@ -1,4 +1,4 @@
-use Rattle.std.proofs.Common.{◌≡◌, ◌∙◌, ap}
+use Rattle.std.proofs.Common.{◌∙◌, ap}
 use Rattle.seh_num.specs.Division.{is_signed}
 use Rattle.x64_machine.proofs.Signed.{difference_through}
 use Rattle.x64_machine.proofs.words.difference_fits.Goals as goal

@@ -1,0 +1,877 @@
+-- What is written is read again, whatever follows.
+use Rattle.std.proofs.Common.{◌≡◌, ◌≢◌, ℕ, ◌+◌, ◌-◌, ◌*◌, ◌/◌, ◌%◌, ◌^◌, ◌<◌, ◌≤◌, Bool, true, false, not, cond, eqb, List, [], ◌∷◌, ◌++◌, Option, Some, None, refl, sym, ap, ◌∙◌, append_assoc, arith, length, length-append, eq-eqb, inl, inr}
+use Rattle.std.proofs.lemmas.Bool.{ne_eqb, eqb-true, not-false, and_parts, ltb-true, lt-ltb, le-ltb, le-leb}
+use Rattle.std.proofs.lemmas.Bool.Decides.{leb_tells}
+use Rattle.std.proofs.lemmas.List.{append-nil}
+use Rattle.std.specs.Prelude.{◌&&◌, ◌||◌, nat_lt, nat_le, option_map}
+use Rattle.seh_num.specs.declared.width.Width.{Width}
+use Rattle.seh_num.specs.declared.width.Width.TheVariants.{W8, W16, W32, W64}
+use Rattle.seh_num.specs.Widths.{bytes_of, limit, low}
+use Rattle.x64_instr.specs.declared.register.Reg.{Reg}
+use Rattle.x64_instr.specs.declared.register.Reg.TheVariants.{Rax, Rcx, Rdx, Rbx, Rsp, Rbp, Rsi, Rdi, R8, R9, R10, R11, R12, R13, R14, R15}
+use Rattle.x64_instr.specs.declared.operand.Place.{Place}
+use Rattle.x64_instr.specs.declared.operand.Place.TheVariants as places
+use Rattle.x64_instr.specs.declared.operand.Operand.{Operand}
+use Rattle.x64_instr.specs.declared.operand.Operand.TheVariants as operands
+use Rattle.x64_instr.specs.declared.prefixes.Prefixes.{Prefixes}
+use Rattle.x64_encode.specs.declared.writing.Opcode.TheVariants as opcodes
+use Rattle.x64_instr.specs.declared.instruction.Operation.{Operation}
+use Rattle.x64_instr.specs.declared.instruction.Operation.TheVariants as operations
+use Rattle.x64_instr.specs.declared.instruction.Unary.TheVariants.{Not, Negate}
+use Rattle.x64_instr.specs.declared.instruction.Extension.{Extension}
+use Rattle.x64_instr.specs.declared.instruction.Extension.TheVariants.{Sign, Zero}
+use Rattle.x64_instr.specs.declared.instruction.Division.{Division}
+use Rattle.x64_instr.specs.declared.instruction.Division.TheVariants.{Unsigned, Signed}
+use Rattle.x64_instr.specs.declared.instruction.Direction.{Direction}
+use Rattle.x64_instr.specs.declared.instruction.Direction.TheVariants.{Left, Right, ArithmeticRight}
+use Rattle.x64_instr.specs.declared.instruction.Count.{Count}
+use Rattle.x64_instr.specs.declared.instruction.Count.TheVariants as counts
+use Rattle.x64_instr.specs.declared.instruction.Condition.{Condition}
+use Rattle.x64_instr.specs.declared.instruction.Condition.TheVariants as conditions
+use Rattle.x64_instr.specs.declared.instruction.Target.TheVariants.{Relative, Indirect}
+use Rattle.x64_instr.specs.declared.instruction.Instr.{Instr}
+use Rattle.x64_instr.specs.declared.instruction.Instr.TheVariants as instrs
+use Rattle.x64_instr.specs.Registers as regs
+use Rattle.x64_instr.specs.Reading.{Read, ◌>>=◌, byte, number, signed, bit}
+use Rattle.x64_instr.specs.Operands.{width_of, sized, sized_narrow, immediate_of, middle, lowest, place_and_register, is_listed, operands_of, operand_and_digit, source}
+use Rattle.x64_instr.specs.Spelling.{rm_r, r_rm, rm_digit, given, operation, direction, arithmetic_immediate, move_to_place, third_group, shift_immediate, shift_by_cl, indirect, load, extend, address_to, move_immediate, plain_row, row, second_row, after_prefixes, after_size, instr, Spells, leading}
+use Rattle.x64_encode.specs.Chosen.{little, is_signed, wide, has_rex, prefixes, high_bits, place_bytes, modrm_bits, modrm, opcode_register, sized_opcode, digit, division_digit, direction_digit, condition_number, extend_width, extend_opcode, immediate_bytes, arithmetic_bytes, move_bytes, count_bytes, chosen, encoded_len, is_place, is_wide, is_immediate, is_widened, is_count, is_encodable, IsEncodable}
+use Rattle.x64_encode.proofs.Operands.{read_as, number_small, joined, number_little, signed_little, High, IsRead, read_place, high_small}
+
+-- ---- prefixes
+
+-- not a byte
+abbrev is_word : Width → Bool
+is_word W8 = false
+is_word w = true
+
+abbrev is_short : Width → Bool
+is_short W16 = true
+is_short w = false
+
+abbrev read_prefixes : Width → ℕ → Prefixes
+read_prefixes w bits = record { operand_size = is_short w; has_rex = has_rex w bits; rex = bits }
+
+-- what comes after 66, or where there is none
+abbrev opened : Bool → List ℕ → Read Instr
+opened size bytes = byte bytes >>= λ b. after_size size b.0 b.1
+
+-- REX, or nothing
+abbrev rex_by : Bool → ℕ → List ℕ
+rex_by t bits = cond t ((0x40 + bits) ∷ []) []
+
+module _ (op : ℕ) (more : List ℕ) (other : op / 16 ≢ 4) where
+  after_rex : (size : Bool) (bits : ℕ) → bits < 16 → opened size ((0x40 + bits) ∷ op ∷ more) ≡ after_prefixes (record { operand_size = size; has_rex = true; rex = bits }) op more
+  unfolding after_size
+  after_rex size bits lt =
+      let four : (0x40 + bits) / 16 ≡ 4 = omega arith in
+      let lowest_bits : (0x40 + bits) % 16 ≡ bits = omega arith in
+      ap (λ c. cond c (after_prefixes (record { operand_size = size; has_rex = true; rex = (0x40 + bits) % 16 }) op more) (after_prefixes (record { operand_size = size; has_rex = false; rex = 0 }) (0x40 + bits) (op ∷ more))) (eq-eqb _ _ four)
+      ∙ ap (λ k. after_prefixes (record { operand_size = size; has_rex = true; rex = k }) op more) lowest_bits
+
+  no_rex : (size : Bool) (bits : ℕ) → bits ≡ 0 → opened size (op ∷ more) ≡ after_prefixes (record { operand_size = size; has_rex = false; rex = bits }) op more
+  unfolding after_size
+  no_rex size bits e = rw (ne_eqb _ _ other) (ap (λ k. after_prefixes (record { operand_size = size; has_rex = false; rex = k }) op more) (sym e))
+
+  maybe_rex : (size t : Bool) (bits : ℕ) → bits < 16 → (t ≡ false → bits ≡ 0) → opened size (rex_by t bits ++ op ∷ more) ≡ after_prefixes (record { operand_size = size; has_rex = t; rex = bits }) op more
+  maybe_rex size true bits lt e = after_rex size bits lt
+  maybe_rex size false bits lt e = no_rex size bits (e refl)
+
+  -- no 66
+  no_size : (t : Bool) (bits : ℕ) → bits < 16 → op ≢ 0x66 → instr (rex_by t bits ++ op ∷ more) ≡ opened false (rex_by t bits ++ op ∷ more)
+  unfolding instr
+  no_size true bits lt n = rw (ne_eqb (0x40 + bits) 0x66 (λ e. absurd (omega arith))) refl
+  no_size false bits lt n = rw (ne_eqb op 0x66 n) refl
+
+none_where_zero : (bits : ℕ) → not (eqb bits 0) ≡ false → bits ≡ 0
+none_where_zero bits e = eqb-true bits 0 (not-false (eqb bits 0) e)
+
+front : (w : Width) (bits op : ℕ) (more : List ℕ) → bits < 16 → op ≢ 0x66 → op / 16 ≢ 4 → instr (prefixes w bits ++ op ∷ more) ≡ after_prefixes (read_prefixes w bits) op more
+unfolding instr
+front W8 bits op more lt n other = no_size op more other true bits lt n ∙ after_rex op more other false bits lt
+front W16 bits op more lt n other = maybe_rex op more other true (has_rex W16 bits) bits lt (none_where_zero bits)
+front W32 bits op more lt n other = no_size op more other (has_rex W32 bits) bits lt n ∙ maybe_rex op more other false (has_rex W32 bits) bits lt (none_where_zero bits)
+front W64 bits op more lt n other = no_size op more other (has_rex W64 bits) bits lt n ∙ maybe_rex op more other false (has_rex W64 bits) bits lt (none_where_zero bits)
+
+wide_small : (w : Width) → wide w < 2
+wide_small W8 = omega arith
+wide_small W16 = omega arith
+wide_small W32 = omega arith
+wide_small W64 = omega arith
+
+-- the width that the prefixes say
+width_read : (w : Width) (bits : ℕ) → is_word w ≡ true → bits / 8 ≡ wide w → width_of (read_prefixes w bits) ≡ w
+width_read W8 bits word e = absurd (cc)
+width_read W16 bits word e = rw (ne_eqb (bit 3 bits) 1 (λ h. absurd (omega arith))) refl
+width_read W32 bits word e = rw (ne_eqb (bit 3 bits) 1 (λ h. absurd (omega arith))) refl
+width_read W64 bits word e = rw (eq-eqb (bit 3 bits) 1 (omega arith)) refl
+
+-- ---- an opcode with ModRM
+
+abbrev modrm_prefixes : Width → ℕ → Place → Prefixes
+modrm_prefixes w r at = read_prefixes w (modrm_bits w r at)
+
+module _ (w : Width) (r : ℕ) (at : Place) (more : List ℕ) (lr : r < 16) where
+  abbrev pre : Prefixes
+  pre = modrm_prefixes w r at
+
+  abbrev operand_bytes : List ℕ
+  operand_bytes = place_bytes (r % 8) at ++ more
+
+  pub bits_small : modrm_bits w r at < 16
+  bits_small = let a = wide_small w in let b = high_small at in omega arith
+
+  open_one : (op : ℕ) → op ≢ 0x66 → op / 16 ≢ 4 → instr (modrm w (opcodes.One op) r at ++ more) ≡ after_prefixes pre op operand_bytes
+  unfolding modrm
+  open_one op n other =
+      ap instr (append_assoc (prefixes w (modrm_bits w r at) ++ op ∷ []) (place_bytes (r % 8) at) more ∙ append_assoc (prefixes w (modrm_bits w r at)) (op ∷ []) operand_bytes)
+      ∙ front w (modrm_bits w r at) op operand_bytes bits_small n other
+
+  open_two : (op : ℕ) → instr (modrm w (opcodes.Two op) r at ++ more) ≡ second_row pre op operand_bytes
+  unfolding modrm after_prefixes
+  open_two op =
+      ap instr (append_assoc (prefixes w (modrm_bits w r at) ++ 0x0F ∷ op ∷ []) (place_bytes (r % 8) at) more ∙ append_assoc (prefixes w (modrm_bits w r at)) (0x0F ∷ op ∷ []) operand_bytes)
+      ∙ front w (modrm_bits w r at) 0x0F (op ∷ operand_bytes) bits_small (λ e. absurd (omega arith)) (λ e. absurd (omega arith))
+
+  high : High pre (high_bits at)
+  high = let a = wide_small w in let b = high_small at in record { b = omega arith; x = omega arith }
+
+  is_read : is_place at ≡ true → IsRead pre (r % 8) at operand_bytes more
+  is_read ok = read_place pre (r % 8) at more (omega arith) ok high
+
+  width_is : is_word w ≡ true → width_of pre ≡ w
+  width_is word = width_read w (modrm_bits w r at) word (let a = wide_small w in let b = high_small at in omega arith)
+
+  bits_top : modrm_bits w r at / 8 ≡ wide w
+  bits_top = let a = wide_small w in let b = high_small at in omega arith
+
+  digit_read : (v : Width) → is_listed pre v at ≡ true → is_place at ≡ true → r < 8 → operand_and_digit pre v operand_bytes ≡ Some ((at, r), more)
+  digit_read v listed ok small =
+      let i = is_read ok in
+      let same : i.modrm / 8 % 8 ≡ r = omega (arith, i.digit) in
+      ap (operand_and_digit pre v) i.whole
+      ∙ ap (λ (o : Read Place). (o >>= λ x. read_as (x.0, i.modrm / 8 % 8) x.1) >>= λ x. cond (is_listed pre v x.0.0) (Some x) None) i.gives
+      ∙ ap (λ c. cond c (read_as (at, i.modrm / 8 % 8) more) None) listed
+      ∙ ap (λ k. read_as (at, k) more) same
+
+register_read : (w : Width) (r : Reg) (at : Place) (more : List ℕ) → is_place at ≡ true → place_and_register (modrm_prefixes w (regs.number r) at) (place_bytes (regs.number r % 8) at ++ more) ≡ Some ((at, r), more)
+register_read w r at more ok =
+    let n = number_small r in
+    let p = modrm_prefixes w (regs.number r) at in
+    let i = is_read w (regs.number r) at more n ok in
+    let a = wide_small w in
+    let b = high_small at in
+    let third : bit 2 p.rex ≡ regs.number r / 8 = omega arith in
+    ap (place_and_register p) i.whole
+    ∙ ap (λ (o : Read Place). o >>= λ x. read_as (x.0, middle p i.modrm) x.1) i.gives
+    ∙ ap (λ (x : Reg). read_as (at, x) more) (joined r (bit 2 p.rex) (i.modrm / 8 % 8) third i.digit)
+
+-- the place of width v, the register of width u
+operands_read : (w v u : Width) (r : Reg) (at : Place) (more : List ℕ) → is_place at ≡ true → is_listed (modrm_prefixes w (regs.number r) at) v at ≡ true → is_listed (modrm_prefixes w (regs.number r) at) u (places.Register r) ≡ true
+    → operands_of (modrm_prefixes w (regs.number r) at) v u (place_bytes (regs.number r % 8) at ++ more) ≡ Some ((at, r), more)
+operands_read w v u r at more ok a b =
+    let p = modrm_prefixes w (regs.number r) at in
+    ap (λ (o : Read (Place × Reg)). o >>= λ x. cond (is_listed p v x.0.0 && is_listed p u (places.Register x.0.1)) (Some x) None) (register_read w r at more ok)
+    ∙ ap (λ c. cond (c && is_listed p u (places.Register r)) (read_as (at, r) more) None) a
+    ∙ ap (λ c. cond c (read_as (at, r) more) None) b
+
+-- the prefixes of a width list each place of that width
+listed : (w : Width) (bits : ℕ) (at : Place) → is_listed (read_prefixes w bits) w at ≡ true
+listed W8 bits (places.Register r) = refl
+listed W8 bits (places.Memory m) = refl
+listed W16 bits at = refl
+listed W32 bits at = refl
+listed W64 bits at = refl
+
+rm_r_read : (w : Width) (r : Reg) (at : Place) (more : List ℕ) (made : Place → Operand → Instr) → is_place at ≡ true → rm_r (modrm_prefixes w (regs.number r) at) w made (place_bytes (regs.number r % 8) at ++ more) ≡ Some (made at (operands.Register r), more)
+rm_r_read w r at more made ok =
+    let bits = modrm_bits w (regs.number r) at in
+    ap (λ (o : Read (Place × Reg)). o >>= λ x. read_as (made x.0.0 (operands.Register x.0.1)) x.1) (operands_read w w w r at more ok (listed w bits at) (listed w bits (places.Register r)))
+
+r_rm_read : (w : Width) (r : Reg) (at : Place) (more : List ℕ) (made : Reg → Place → Instr) → is_place at ≡ true → r_rm (modrm_prefixes w (regs.number r) at) w w made (place_bytes (regs.number r % 8) at ++ more) ≡ Some (made r at, more)
+r_rm_read w r at more made ok =
+    let bits = modrm_bits w (regs.number r) at in
+    ap (λ (o : Read (Place × Reg)). o >>= λ x. read_as (made x.0.1 x.0.0) x.1) (operands_read w w w r at more ok (listed w bits at) (listed w bits (places.Register r)))
+
+rm_digit_read : (w v : Width) (d : ℕ) (at : Place) (more : List ℕ) (made : ℕ → Place → List ℕ → Read Instr) → d < 8 → is_place at ≡ true → is_listed (modrm_prefixes w d at) v at ≡ true → rm_digit (modrm_prefixes w d at) v made (place_bytes (d % 8) at ++ more) ≡ made d at more
+rm_digit_read w v d at more made small ok is = ap (λ (o : Read (Place × ℕ)). o >>= λ x. made x.0.1 x.0.0 x.1) (digit_read w d at more (omega arith) v is ok small)
+
+-- ---- an opcode with a byte form
+
+sized_is : (w : Width) (bits op : ℕ) → op % 2 ≡ 0 → bits / 8 ≡ wide w → sized (read_prefixes w bits) (sized_opcode w op) ≡ w
+sized_is W8 bits op even e = ap (λ c. cond c W8 (width_of (read_prefixes W8 bits))) (eq-eqb (op % 2) 0 even)
+sized_is W16 bits op even e = ap (λ c. cond c W8 (width_of (read_prefixes W16 bits))) (ne_eqb ((op + 1) % 2) 0 (λ h. absurd (omega arith))) ∙ width_read W16 bits refl e
+sized_is W32 bits op even e = ap (λ c. cond c W8 (width_of (read_prefixes W32 bits))) (ne_eqb ((op + 1) % 2) 0 (λ h. absurd (omega arith))) ∙ width_read W32 bits refl e
+sized_is W64 bits op even e = ap (λ c. cond c W8 (width_of (read_prefixes W64 bits))) (ne_eqb ((op + 1) % 2) 0 (λ h. absurd (omega arith))) ∙ width_read W64 bits refl e
+
+-- an opcode that isn't a prefix, and whose next isn't
+record IsOpcode (base : ℕ) : Type 0 where
+  even : base % 2 ≡ 0
+  size : base / 2 ≢ 0x66 / 2
+  rex : base / 16 ≢ 4
+
+open_sized : (w : Width) (r : ℕ) (at : Place) (more : List ℕ) (base : ℕ) → r < 16 → IsOpcode base → instr (modrm w (opcodes.One (sized_opcode w base)) r at ++ more) ≡ after_prefixes (modrm_prefixes w r at) (sized_opcode w base) (place_bytes (r % 8) at ++ more)
+open_sized W8 r at more base lr k = let even = k.even in open_one W8 r at more lr base (λ e. k.size (omega arith)) k.rex
+open_sized W16 r at more base lr k = let even = k.even in open_one W16 r at more lr (base + 1) (λ e. k.size (omega arith)) (λ e. k.rex (omega arith))
+open_sized W32 r at more base lr k = let even = k.even in open_one W32 r at more lr (base + 1) (λ e. k.size (omega arith)) (λ e. k.rex (omega arith))
+open_sized W64 r at more base lr k = let even = k.even in open_one W64 r at more lr (base + 1) (λ e. k.size (omega arith)) (λ e. k.rex (omega arith))
+
+module _ (w : Width) (base : ℕ) (more : List ℕ) (k : IsOpcode base) where
+  rm_r_again : (made : Width → Place → Operand → Instr) (r : Reg) (at : Place) → is_place at ≡ true
+      → ((p : Prefixes) (bytes : List ℕ) → after_prefixes p (sized_opcode w base) bytes ≡ rm_r p (sized p (sized_opcode w base)) (made (sized p (sized_opcode w base))) bytes)
+      → instr (modrm w (opcodes.One (sized_opcode w base)) (regs.number r) at ++ more) ≡ Some (made w at (operands.Register r), more)
+  rm_r_again made r at ok is =
+      let n = regs.number r in
+      let p = modrm_prefixes w n at in
+      let bytes = place_bytes (n % 8) at ++ more in
+      open_sized w n at more base (number_small r) k
+      ∙ is p bytes
+      ∙ ap (λ v. rm_r p v (made v) bytes) (sized_is w (modrm_bits w n at) base k.even (bits_top w n at more (number_small r)))
+      ∙ rm_r_read w r at more (made w) ok
+
+  r_rm_again : (made : Width → Reg → Place → Instr) (r : Reg) (at : Place) → is_place at ≡ true
+      → ((p : Prefixes) (bytes : List ℕ) → after_prefixes p (sized_opcode w base) bytes ≡ r_rm p (sized p (sized_opcode w base)) (sized p (sized_opcode w base)) (made (sized p (sized_opcode w base))) bytes)
+      → instr (modrm w (opcodes.One (sized_opcode w base)) (regs.number r) at ++ more) ≡ Some (made w r at, more)
+  r_rm_again made r at ok is =
+      let n = regs.number r in
+      let p = modrm_prefixes w n at in
+      let bytes = place_bytes (n % 8) at ++ more in
+      open_sized w n at more base (number_small r) k
+      ∙ is p bytes
+      ∙ ap (λ v. r_rm p v v (made v) bytes) (sized_is w (modrm_bits w n at) base k.even (bits_top w n at more (number_small r)))
+      ∙ r_rm_read w r at more (made w) ok
+
+  rm_digit_again : (made : Prefixes → Width → ℕ → Place → List ℕ → Read Instr) (d : ℕ) (at : Place) → d < 8 → is_place at ≡ true
+      → ((p : Prefixes) (bytes : List ℕ) → after_prefixes p (sized_opcode w base) bytes ≡ rm_digit p (sized p (sized_opcode w base)) (made p (sized p (sized_opcode w base))) bytes)
+      → instr (modrm w (opcodes.One (sized_opcode w base)) d at ++ more) ≡ made (modrm_prefixes w d at) w d at more
+  rm_digit_again made d at small ok is =
+      let p = modrm_prefixes w d at in
+      let bytes = place_bytes (d % 8) at ++ more in
+      let lr : d < 16 = omega arith in
+      open_sized w d at more base lr k
+      ∙ is p bytes
+      ∙ ap (λ v. rm_digit p v (made p v) bytes) (sized_is w (modrm_bits w d at) base k.even (bits_top w d at more lr))
+      ∙ rm_digit_read w w d at more (made p w) small ok (listed w (modrm_bits w d at) at)
+
+-- ---- an opcode with a register
+
+abbrev register_prefixes : Width → Reg → Prefixes
+register_prefixes w r = read_prefixes w (8 * wide w + regs.number r / 8)
+
+open_register : (w : Width) (op : ℕ) (r : Reg) (more : List ℕ) → (op + regs.number r % 8) ≢ 0x66 → (op + regs.number r % 8) / 16 ≢ 4 → instr (opcode_register w op r ++ more) ≡ after_prefixes (register_prefixes w r) (op + regs.number r % 8) more
+unfolding opcode_register
+open_register w op r more n other =
+    let a = wide_small w in
+    let b = number_small r in
+    ap instr (append_assoc (prefixes w (8 * wide w + regs.number r / 8)) ((op + regs.number r % 8) ∷ []) more)
+    ∙ front w (8 * wide w + regs.number r / 8) (op + regs.number r % 8) more (omega arith) n other
+
+lowest_read : (w : Width) (op : ℕ) (r : Reg) → (op + regs.number r % 8) % 8 ≡ regs.number r % 8 → lowest (register_prefixes w r) (op + regs.number r % 8) ≡ r
+lowest_read w op r e =
+    let a = wide_small w in
+    let b = number_small r in
+    joined r (bit 0 (8 * wide w + regs.number r / 8)) ((op + regs.number r % 8) % 8) (omega arith) e
+
+-- these rows by each register, since the opcode has its number
+push_row : (r : Reg) (h : Bool) (bits : ℕ) (more : List ℕ) → let p : Prefixes = record { operand_size = false; has_rex = h; rex = bits } in after_prefixes p (0x50 + regs.number r % 8) more ≡ Some (instrs.Push (lowest p (0x50 + regs.number r % 8)), more)
+unfolding after_prefixes row plain_row
+push_row r h bits more = elim r as (λ r. let p : Prefixes = record { operand_size = false; has_rex = h; rex = bits } in after_prefixes p (0x50 + regs.number r % 8) more ≡ Some (instrs.Push (lowest p (0x50 + regs.number r % 8)), more)) [ Rax ↦ refl | Rcx ↦ refl | Rdx ↦ refl | Rbx ↦ refl | Rsp ↦ refl | Rbp ↦ refl | Rsi ↦ refl | Rdi ↦ refl | R8 ↦ refl | R9 ↦ refl | R10 ↦ refl | R11 ↦ refl | R12 ↦ refl | R13 ↦ refl | R14 ↦ refl | R15 ↦ refl ]
+
+pop_row : (r : Reg) (h : Bool) (bits : ℕ) (more : List ℕ) → let p : Prefixes = record { operand_size = false; has_rex = h; rex = bits } in after_prefixes p (0x58 + regs.number r % 8) more ≡ Some (instrs.Pop (lowest p (0x58 + regs.number r % 8)), more)
+unfolding after_prefixes row plain_row
+pop_row r h bits more = elim r as (λ r. let p : Prefixes = record { operand_size = false; has_rex = h; rex = bits } in after_prefixes p (0x58 + regs.number r % 8) more ≡ Some (instrs.Pop (lowest p (0x58 + regs.number r % 8)), more)) [ Rax ↦ refl | Rcx ↦ refl | Rdx ↦ refl | Rbx ↦ refl | Rsp ↦ refl | Rbp ↦ refl | Rsi ↦ refl | Rdi ↦ refl | R8 ↦ refl | R9 ↦ refl | R10 ↦ refl | R11 ↦ refl | R12 ↦ refl | R13 ↦ refl | R14 ↦ refl | R15 ↦ refl ]
+
+immediate_row : (r : Reg) (p : Prefixes) (more : List ℕ) → after_prefixes p (0xB8 + regs.number r % 8) more ≡ move_immediate p (0xB8 + regs.number r % 8) more
+unfolding after_prefixes row
+immediate_row r p more = elim r as (λ r. after_prefixes p (0xB8 + regs.number r % 8) more ≡ move_immediate p (0xB8 + regs.number r % 8) more) [ Rax ↦ refl | Rcx ↦ refl | Rdx ↦ refl | Rbx ↦ refl | Rsp ↦ refl | Rbp ↦ refl | Rsi ↦ refl | Rdi ↦ refl | R8 ↦ refl | R9 ↦ refl | R10 ↦ refl | R11 ↦ refl | R12 ↦ refl | R13 ↦ refl | R14 ↦ refl | R15 ↦ refl ]
+
+-- ---- rows
+
+-- by each width, and by each operation
+row_move : (w : Width) (p : Prefixes) (bytes : List ℕ) → after_prefixes p (sized_opcode w 0x88) bytes ≡ rm_r p (sized p (sized_opcode w 0x88)) (instrs.Move (sized p (sized_opcode w 0x88))) bytes
+unfolding after_prefixes row
+row_move W8 p bytes = refl
+row_move W16 p bytes = refl
+row_move W32 p bytes = refl
+row_move W64 p bytes = refl
+
+row_load : (w : Width) (p : Prefixes) (bytes : List ℕ) → after_prefixes p (sized_opcode w 0x8A) bytes ≡ r_rm p (sized p (sized_opcode w 0x8A)) (sized p (sized_opcode w 0x8A)) (load (sized p (sized_opcode w 0x8A))) bytes
+unfolding after_prefixes row
+row_load W8 p bytes = refl
+row_load W16 p bytes = refl
+row_load W32 p bytes = refl
+row_load W64 p bytes = refl
+
+row_test : (w : Width) (p : Prefixes) (bytes : List ℕ) → after_prefixes p (sized_opcode w 0x84) bytes ≡ rm_r p (sized p (sized_opcode w 0x84)) (instrs.Test (sized p (sized_opcode w 0x84))) bytes
+unfolding after_prefixes row
+row_test W8 p bytes = refl
+row_test W16 p bytes = refl
+row_test W32 p bytes = refl
+row_test W64 p bytes = refl
+
+row_move_number : (w : Width) (p : Prefixes) (bytes : List ℕ) → after_prefixes p (sized_opcode w 0xC6) bytes ≡ rm_digit p (sized p (sized_opcode w 0xC6)) (move_to_place (sized p (sized_opcode w 0xC6))) bytes
+unfolding after_prefixes row
+row_move_number W8 p bytes = refl
+row_move_number W16 p bytes = refl
+row_move_number W32 p bytes = refl
+row_move_number W64 p bytes = refl
+
+row_arithmetic_number : (w : Width) (p : Prefixes) (bytes : List ℕ) → after_prefixes p (sized_opcode w 0x80) bytes ≡ rm_digit p (sized p (sized_opcode w 0x80)) (arithmetic_immediate (immediate_of (sized p (sized_opcode w 0x80))) (sized p (sized_opcode w 0x80))) bytes
+unfolding after_prefixes row
+row_arithmetic_number W8 p bytes = refl
+row_arithmetic_number W16 p bytes = refl
+row_arithmetic_number W32 p bytes = refl
+row_arithmetic_number W64 p bytes = refl
+
+abbrev third : Width → Prefixes → Width → ℕ → Place → List ℕ → Read Instr
+third w p v d at bytes = third_group (eqb (sized_opcode w 0xF6) 0xF7 && not p.operand_size) v d at bytes
+
+row_third : (w : Width) (p : Prefixes) (bytes : List ℕ) → after_prefixes p (sized_opcode w 0xF6) bytes ≡ rm_digit p (sized p (sized_opcode w 0xF6)) (third w p (sized p (sized_opcode w 0xF6))) bytes
+unfolding after_prefixes row
+row_third W8 p bytes = refl
+row_third W16 p bytes = refl
+row_third W32 p bytes = refl
+row_third W64 p bytes = refl
+
+row_arithmetic : (o : Operation) (w : Width) (p : Prefixes) (bytes : List ℕ) → after_prefixes p (sized_opcode w (8 * digit o)) bytes ≡ rm_r p (sized p (sized_opcode w (8 * digit o))) (instrs.Arithmetic o (sized p (sized_opcode w (8 * digit o)))) bytes
+unfolding after_prefixes row
+row_arithmetic operations.Add W8 p bytes = refl
+row_arithmetic operations.Add W16 p bytes = refl
+row_arithmetic operations.Add W32 p bytes = refl
+row_arithmetic operations.Add W64 p bytes = refl
+row_arithmetic operations.Or W8 p bytes = refl
+row_arithmetic operations.Or W16 p bytes = refl
+row_arithmetic operations.Or W32 p bytes = refl
+row_arithmetic operations.Or W64 p bytes = refl
+row_arithmetic operations.And W8 p bytes = refl
+row_arithmetic operations.And W16 p bytes = refl
+row_arithmetic operations.And W32 p bytes = refl
+row_arithmetic operations.And W64 p bytes = refl
+row_arithmetic operations.Sub W8 p bytes = refl
+row_arithmetic operations.Sub W16 p bytes = refl
+row_arithmetic operations.Sub W32 p bytes = refl
+row_arithmetic operations.Sub W64 p bytes = refl
+row_arithmetic operations.Xor W8 p bytes = refl
+row_arithmetic operations.Xor W16 p bytes = refl
+row_arithmetic operations.Xor W32 p bytes = refl
+row_arithmetic operations.Xor W64 p bytes = refl
+row_arithmetic operations.Compare W8 p bytes = refl
+row_arithmetic operations.Compare W16 p bytes = refl
+row_arithmetic operations.Compare W32 p bytes = refl
+row_arithmetic operations.Compare W64 p bytes = refl
+
+abbrev from_memory : Operation → Width → Reg → Place → Instr
+from_memory o w to from = instrs.Arithmetic o w (places.Register to) (source from)
+
+row_arithmetic_load : (o : Operation) (w : Width) (p : Prefixes) (bytes : List ℕ) → after_prefixes p (sized_opcode w (8 * digit o + 2)) bytes ≡ r_rm p (sized p (sized_opcode w (8 * digit o + 2))) (sized p (sized_opcode w (8 * digit o + 2))) (from_memory o (sized p (sized_opcode w (8 * digit o + 2)))) bytes
+unfolding after_prefixes row
+row_arithmetic_load operations.Add W8 p bytes = refl
+row_arithmetic_load operations.Add W16 p bytes = refl
+row_arithmetic_load operations.Add W32 p bytes = refl
+row_arithmetic_load operations.Add W64 p bytes = refl
+row_arithmetic_load operations.Or W8 p bytes = refl
+row_arithmetic_load operations.Or W16 p bytes = refl
+row_arithmetic_load operations.Or W32 p bytes = refl
+row_arithmetic_load operations.Or W64 p bytes = refl
+row_arithmetic_load operations.And W8 p bytes = refl
+row_arithmetic_load operations.And W16 p bytes = refl
+row_arithmetic_load operations.And W32 p bytes = refl
+row_arithmetic_load operations.And W64 p bytes = refl
+row_arithmetic_load operations.Sub W8 p bytes = refl
+row_arithmetic_load operations.Sub W16 p bytes = refl
+row_arithmetic_load operations.Sub W32 p bytes = refl
+row_arithmetic_load operations.Sub W64 p bytes = refl
+row_arithmetic_load operations.Xor W8 p bytes = refl
+row_arithmetic_load operations.Xor W16 p bytes = refl
+row_arithmetic_load operations.Xor W32 p bytes = refl
+row_arithmetic_load operations.Xor W64 p bytes = refl
+row_arithmetic_load operations.Compare W8 p bytes = refl
+row_arithmetic_load operations.Compare W16 p bytes = refl
+row_arithmetic_load operations.Compare W32 p bytes = refl
+row_arithmetic_load operations.Compare W64 p bytes = refl
+
+row_jump_if : (c : Condition) (bytes : List ℕ) → instr (0x0F ∷ (0x80 + condition_number c) ∷ bytes) ≡ (signed W32 W64 bytes >>= λ d. Some (instrs.JumpIf c d.0, d.1))
+unfolding instr after_size after_prefixes second_row
+row_jump_if conditions.Overflow bytes = refl
+row_jump_if conditions.NotOverflow bytes = refl
+row_jump_if conditions.Below bytes = refl
+row_jump_if conditions.AboveOrEqual bytes = refl
+row_jump_if conditions.Equal bytes = refl
+row_jump_if conditions.NotEqual bytes = refl
+row_jump_if conditions.BelowOrEqual bytes = refl
+row_jump_if conditions.Above bytes = refl
+row_jump_if conditions.Sign bytes = refl
+row_jump_if conditions.NotSign bytes = refl
+row_jump_if conditions.Less bytes = refl
+row_jump_if conditions.GreaterOrEqual bytes = refl
+row_jump_if conditions.LessOrEqual bytes = refl
+row_jump_if conditions.Greater bytes = refl
+
+row_set : (c : Condition) (bits : ℕ) (bytes : List ℕ) → second_row (read_prefixes W8 bits) (0x90 + condition_number c) bytes ≡ (operand_and_digit (read_prefixes W8 bits) W8 bytes >>= λ x. Some (instrs.Set c x.0.0, x.1))
+unfolding second_row
+row_set conditions.Overflow bits bytes = refl
+row_set conditions.NotOverflow bits bytes = refl
+row_set conditions.Below bits bytes = refl
+row_set conditions.AboveOrEqual bits bytes = refl
+row_set conditions.Equal bits bytes = refl
+row_set conditions.NotEqual bits bytes = refl
+row_set conditions.BelowOrEqual bits bytes = refl
+row_set conditions.Above bits bytes = refl
+row_set conditions.Sign bits bytes = refl
+row_set conditions.NotSign bits bytes = refl
+row_set conditions.Less bits bytes = refl
+row_set conditions.GreaterOrEqual bits bytes = refl
+row_set conditions.LessOrEqual bits bytes = refl
+row_set conditions.Greater bits bytes = refl
+
+-- ---- numbers behind the operands
+
+-- what is false can't be true
+impossible : {A : Type 0} → false ≡ true → A
+impossible e = absurd (cc)
+
+bytes_limit : (w : Width) → 256 ^ bytes_of w ≡ limit w
+bytes_limit W8 = refl
+bytes_limit W16 = refl
+bytes_limit W32 = refl
+bytes_limit W64 = refl
+
+limit_least : (w : Width) → limit W8 ≤ limit w
+limit_least W8 = omega arith
+limit_least W16 = omega arith
+limit_least W32 = omega arith
+limit_least W64 = omega arith
+
+immediate_most : (w : Width) → limit (immediate_of w) ≤ limit w
+immediate_most W8 = omega arith
+immediate_most W16 = omega arith
+immediate_most W32 = omega arith
+immediate_most W64 = omega arith
+
+immediate_read : (w : Width) (v : ℕ) (more : List ℕ) → is_immediate w v ≡ true → signed (immediate_of w) w (immediate_bytes w v ++ more) ≡ read_as v more
+immediate_read w v more fits = signed_little (immediate_of w) w v more (immediate_most w) fits
+
+-- a byte is an immediate of 8 bits
+byte_is : (v : ℕ) → v < 256 → is_signed W8 W8 v ≡ true
+byte_is v lt = elim (leb_tells 128 v) [
+  | inl a ↦ let le = a.1 in ap (λ c. nat_lt v 128 || (c && nat_lt v 256)) (le-leb 128 v le) ∙ ap (λ c. nat_lt v 128 || c) (lt-ltb v 256 lt) ∙ ap (λ c. c || true) (le-ltb v 128 le)
+  | inr b ↦ let less = b.1 in ap (λ c. c || (nat_le 128 v && nat_lt v 256)) (lt-ltb v 128 less)
+]
+
+operation-digit : (o : Operation) → operation (digit o) ≡ Some o
+operation-digit operations.Add = refl
+operation-digit operations.Or = refl
+operation-digit operations.And = refl
+operation-digit operations.Sub = refl
+operation-digit operations.Xor = refl
+operation-digit operations.Compare = refl
+
+digit_small : (o : Operation) → digit o < 8
+digit_small operations.Add = omega arith
+digit_small operations.Or = omega arith
+digit_small operations.And = omega arith
+digit_small operations.Sub = omega arith
+digit_small operations.Xor = omega arith
+digit_small operations.Compare = omega arith
+
+arithmetic_read : (o : Operation) (from w : Width) (to : Place) (v : ℕ) (more : List ℕ) → limit from ≤ limit w → is_signed from w v ≡ true → arithmetic_immediate from w (digit o) to (little (bytes_of from) (low from v) ++ more) ≡ Some (instrs.Arithmetic o w to (operands.Immediate v), more)
+arithmetic_read o from w to v more le fits =
+    let bytes = little (bytes_of from) (low from v) ++ more in
+    ap (λ x. given x bytes >>= λ y. signed from w y.1 >>= λ n. read_as (instrs.Arithmetic y.0 w to (operands.Immediate n.0)) n.1) (operation-digit o)
+    ∙ ap (λ (x : Read ℕ). x >>= λ n. read_as (instrs.Arithmetic o w to (operands.Immediate n.0)) n.1) (signed_little from w v more le fits)
+
+is_80 : IsOpcode 0x80
+is_80 = record { even = refl; size = λ e. absurd (omega arith); rex = λ e. absurd (omega arith) }
+
+is_84 : IsOpcode 0x84
+is_84 = record { even = refl; size = λ e. absurd (omega arith); rex = λ e. absurd (omega arith) }
+
+is_88 : IsOpcode 0x88
+is_88 = record { even = refl; size = λ e. absurd (omega arith); rex = λ e. absurd (omega arith) }
+
+is_8A : IsOpcode 0x8A
+is_8A = record { even = refl; size = λ e. absurd (omega arith); rex = λ e. absurd (omega arith) }
+
+is_C6 : IsOpcode 0xC6
+is_C6 = record { even = refl; size = λ e. absurd (omega arith); rex = λ e. absurd (omega arith) }
+
+is_F6 : IsOpcode 0xF6
+is_F6 = record { even = refl; size = λ e. absurd (omega arith); rex = λ e. absurd (omega arith) }
+
+-- ---- moves
+
+move_immediate_read : (w : Width) (r : Reg) (v : ℕ) (more : List ℕ) → is_word w ≡ true → v < limit w → move_immediate (register_prefixes w r) (0xB8 + regs.number r % 8) (little (bytes_of w) v ++ more) ≡ Some (instrs.Move w (places.Register r) (operands.Immediate v), more)
+move_immediate_read w r v more word fits =
+    let b = number_small r in
+    let is_w = width_read w (8 * wide w + regs.number r / 8) word (let a = wide_small w in omega arith) in
+    let p = register_prefixes w r in
+    let op = 0xB8 + regs.number r % 8 in
+    let made = λ (v : Width) (x : Reg) (n : ℕ). instrs.Move v (places.Register x) (operands.Immediate n) in
+    ap (λ u. number (bytes_of u) (little (bytes_of w) v ++ more) >>= λ x. read_as (made u (lowest p op) x.0) x.1) is_w
+    ∙ ap (λ (o : Read ℕ). o >>= λ x. read_as (made w (lowest p op) x.0) x.1) (number_little (bytes_of w) v more (let e = bytes_limit w in omega arith))
+    ∙ ap (λ x. read_as (made w x v) more) (lowest_read w 0xB8 r (omega arith))
+
+move_word : (w : Width) (r : Reg) (v : ℕ) (more : List ℕ) → is_word w ≡ true → nat_lt v (limit w) ≡ true → instr ((opcode_register w 0xB8 r ++ little (bytes_of w) v) ++ more) ≡ Some (instrs.Move w (places.Register r) (operands.Immediate v), more)
+move_word w r v more word fits =
+    let bytes = little (bytes_of w) v in
+    ap instr (append_assoc (opcode_register w 0xB8 r) bytes more)
+    ∙ open_register w 0xB8 r (bytes ++ more) (λ e. absurd (omega arith)) (λ e. absurd (omega arith))
+    ∙ immediate_row r (register_prefixes w r) (bytes ++ more)
+    ∙ move_immediate_read w r v more word (ltb-true v (limit w) fits)
+
+move_place : (w : Width) (to : Place) (v : ℕ) (more : List ℕ) → is_place to ≡ true → is_immediate w v ≡ true → instr ((modrm w (opcodes.One (sized_opcode w 0xC6)) 0 to ++ immediate_bytes w v) ++ more) ≡ Some (instrs.Move w to (operands.Immediate v), more)
+move_place w to v more ok fits =
+    ap instr (append_assoc (modrm w (opcodes.One (sized_opcode w 0xC6)) 0 to) (immediate_bytes w v) more)
+    ∙ rm_digit_again w 0xC6 (immediate_bytes w v ++ more) is_C6 (λ p. move_to_place) 0 to (omega arith) ok (row_move_number w)
+    ∙ ap (λ (o : Read ℕ). o >>= λ n. read_as (instrs.Move w to (operands.Immediate n.0)) n.1) (immediate_read w v more fits)
+
+again_move_number : (w : Width) (r : Reg) (v : ℕ) (more : List ℕ) → nat_lt v (limit w) ≡ true → instr (move_bytes w r v ++ more) ≡ Some (instrs.Move w (places.Register r) (operands.Immediate v), more)
+again_move_number W8 r v more fits = move_place W8 (places.Register r) v more refl (byte_is v (ltb-true v 256 fits))
+again_move_number W16 r v more fits = move_word W16 r v more refl fits
+again_move_number W32 r v more fits = move_word W32 r v more refl fits
+again_move_number W64 r v more fits = move_word W64 r v more refl fits
+
+-- ---- arithmetic
+
+arithmetic_byte : (o : Operation) (w : Width) (to : Place) (v : ℕ) (more : List ℕ) → is_word w ≡ true → is_place to ≡ true → is_signed W8 w v ≡ true → instr ((modrm w (opcodes.One 0x83) (digit o) to ++ little 1 (low W8 v)) ++ more) ≡ Some (instrs.Arithmetic o w to (operands.Immediate v), more)
+unfolding after_prefixes row
+arithmetic_byte o w to v more word ok fits =
+    let bytes = little 1 (low W8 v) in
+    let d = digit_small o in
+    let p = modrm_prefixes w (digit o) to in
+    let lr : digit o < 16 = omega arith in
+    let is_w = width_is w (digit o) to (bytes ++ more) lr word in
+    ap instr (append_assoc (modrm w (opcodes.One 0x83) (digit o) to) bytes more)
+    ∙ open_one w (digit o) to (bytes ++ more) lr 0x83 (λ e. absurd (omega arith)) (λ e. absurd (omega arith))
+    ∙ ap (λ u. rm_digit p u (arithmetic_immediate W8 u) (place_bytes (digit o % 8) to ++ (bytes ++ more))) is_w
+    ∙ rm_digit_read w w (digit o) to (bytes ++ more) (arithmetic_immediate W8 w) d ok (listed w (modrm_bits w (digit o) to) to)
+    ∙ arithmetic_read o W8 w to v more (limit_least w) fits
+
+arithmetic_full : (o : Operation) (w : Width) (to : Place) (v : ℕ) (more : List ℕ) → is_place to ≡ true → is_immediate w v ≡ true → instr ((modrm w (opcodes.One (sized_opcode w 0x80)) (digit o) to ++ immediate_bytes w v) ++ more) ≡ Some (instrs.Arithmetic o w to (operands.Immediate v), more)
+arithmetic_full o w to v more ok fits =
+    ap instr (append_assoc (modrm w (opcodes.One (sized_opcode w 0x80)) (digit o) to) (immediate_bytes w v) more)
+    ∙ rm_digit_again w 0x80 (immediate_bytes w v ++ more) is_80 (λ p u. arithmetic_immediate (immediate_of u) u) (digit o) to (digit_small o) ok (row_arithmetic_number w)
+    ∙ arithmetic_read o (immediate_of w) w to v more (immediate_most w) fits
+
+-- the short form where t holds
+either : (t : Bool) (xs ys more : List ℕ) (i : Instr) → (t ≡ true → instr (xs ++ more) ≡ Some (i, more)) → instr (ys ++ more) ≡ Some (i, more) → instr (cond t xs ys ++ more) ≡ Some (i, more)
+either true xs ys more i a b = a refl
+either false xs ys more i a b = b
+
+again_arithmetic_number : (o : Operation) (w : Width) (to : Place) (v : ℕ) (more : List ℕ) → is_place to ≡ true → is_immediate w v ≡ true → instr (arithmetic_bytes o w to v ++ more) ≡ Some (instrs.Arithmetic o w to (operands.Immediate v), more)
+again_arithmetic_number o W8 to v more ok fits = arithmetic_full o W8 to v more ok fits
+again_arithmetic_number o W16 to v more ok fits = either (is_signed W8 W16 v) _ _ more _ (arithmetic_byte o W16 to v more refl ok) (arithmetic_full o W16 to v more ok fits)
+again_arithmetic_number o W32 to v more ok fits = either (is_signed W8 W32 v) _ _ more _ (arithmetic_byte o W32 to v more refl ok) (arithmetic_full o W32 to v more ok fits)
+again_arithmetic_number o W64 to v more ok fits = either (is_signed W8 W64 v) _ _ more _ (arithmetic_byte o W64 to v more refl ok) (arithmetic_full o W64 to v more ok fits)
+
+is_arithmetic : (o : Operation) (k : ℕ) → k % 2 ≡ 0 → k < 4 → IsOpcode (8 * digit o + k)
+is_arithmetic o k even lt = let d = digit_small o in record { even = omega arith; size = λ e. absurd (omega arith); rex = λ e. absurd (omega arith) }
+
+is_arithmetic_first : (o : Operation) → IsOpcode (8 * digit o)
+is_arithmetic_first o = let d = digit_small o in record { even = omega arith; size = λ e. absurd (omega arith); rex = λ e. absurd (omega arith) }
+
+again_arithmetic : (o : Operation) (w : Width) (to : Place) (r : Reg) (more : List ℕ) → is_place to ≡ true → instr (modrm w (opcodes.One (sized_opcode w (8 * digit o))) (regs.number r) to ++ more) ≡ Some (instrs.Arithmetic o w to (operands.Register r), more)
+again_arithmetic o w to r more ok = rm_r_again w (8 * digit o) more (is_arithmetic_first o) (instrs.Arithmetic o) r to ok (row_arithmetic o w)
+
+-- ---- instructions of 32 and 64 bits
+
+-- what stands after an opcode without 66
+module _ (w : Width) (op : ℕ) (more : List ℕ) (size : op ≢ 0x66) (rex : op / 16 ≢ 4) (word : is_word w ≡ true) where
+  wide_digit_again : (made : Width → ℕ → Place → List ℕ → Read Instr) (d : ℕ) (at : Place) → d < 8 → is_place at ≡ true
+      → ((bits : ℕ) (bytes : List ℕ) → after_prefixes (read_prefixes w bits) op bytes ≡ rm_digit (read_prefixes w bits) (width_of (read_prefixes w bits)) (made (width_of (read_prefixes w bits))) bytes)
+      → instr (modrm w (opcodes.One op) d at ++ more) ≡ made w d at more
+  wide_digit_again made d at small ok is =
+      let lr : d < 16 = omega arith in
+      let p = modrm_prefixes w d at in
+      let bytes = place_bytes (d % 8) at ++ more in
+      open_one w d at more lr op size rex
+      ∙ is (modrm_bits w d at) bytes
+      ∙ ap (λ u. rm_digit p u (made u) bytes) (width_is w d at more lr word)
+      ∙ rm_digit_read w w d at more (made w) small ok (listed w (modrm_bits w d at) at)
+
+  -- both operands, then what is made of them
+  wide_register_again : (made : Width → Reg → Place → List ℕ → Read Instr) (r : Reg) (at : Place) → is_place at ≡ true
+      → ((bits : ℕ) (bytes : List ℕ) → after_prefixes (read_prefixes w bits) op bytes ≡ (operands_of (read_prefixes w bits) (width_of (read_prefixes w bits)) (width_of (read_prefixes w bits)) bytes >>= λ x. made (width_of (read_prefixes w bits)) x.0.1 x.0.0 x.1))
+      → instr (modrm w (opcodes.One op) (regs.number r) at ++ more) ≡ made w r at more
+  wide_register_again made r at ok is =
+      let n = regs.number r in
+      let lr = number_small r in
+      let p = modrm_prefixes w n at in
+      let bits = modrm_bits w n at in
+      let bytes = place_bytes (n % 8) at ++ more in
+      open_one w n at more lr op size rex
+      ∙ is bits bytes
+      ∙ ap (λ u. operands_of p u u bytes >>= λ x. made u x.0.1 x.0.0 x.1) (width_is w n at more lr word)
+      ∙ ap (λ (o : Read (Place × Reg)). o >>= λ x. made w x.0.1 x.0.0 x.1) (operands_read w w w r at more ok (listed w bits at) (listed w bits (places.Register r)))
+
+abbrev multiplied_by : Width → Width → Reg → Place → List ℕ → Read Instr
+multiplied_by from w to at bytes = signed from w bytes >>= λ v. read_as (instrs.MultiplyBy w to at v.0) v.1
+
+multiply_byte : (w : Width) (to : Reg) (from : Place) (v : ℕ) (more : List ℕ) → is_wide w ≡ true → is_place from ≡ true → is_signed W8 w v ≡ true → instr ((modrm w (opcodes.One 0x6B) (regs.number to) from ++ little 1 (low W8 v)) ++ more) ≡ Some (instrs.MultiplyBy w to from v, more)
+unfolding after_prefixes row plain_row
+multiply_byte W8 to from v more is ok fits = impossible is
+multiply_byte W16 to from v more is ok fits = impossible is
+multiply_byte W32 to from v more is ok fits =
+    let bytes = little 1 (low W8 v) in
+    ap instr (append_assoc (modrm W32 (opcodes.One 0x6B) (regs.number to) from) bytes more)
+    ∙ wide_register_again W32 0x6B (bytes ++ more) (λ e. absurd (omega arith)) (λ e. absurd (omega arith)) refl (multiplied_by W8) to from ok (λ b bs. refl)
+    ∙ ap (λ (o : Read ℕ). o >>= λ n. read_as (instrs.MultiplyBy W32 to from n.0) n.1) (signed_little W8 W32 v more (limit_least W32) fits)
+multiply_byte W64 to from v more is ok fits =
+    let bytes = little 1 (low W8 v) in
+    ap instr (append_assoc (modrm W64 (opcodes.One 0x6B) (regs.number to) from) bytes more)
+    ∙ wide_register_again W64 0x6B (bytes ++ more) (λ e. absurd (omega arith)) (λ e. absurd (omega arith)) refl (multiplied_by W8) to from ok (λ b bs. refl)
+    ∙ ap (λ (o : Read ℕ). o >>= λ n. read_as (instrs.MultiplyBy W64 to from n.0) n.1) (signed_little W8 W64 v more (limit_least W64) fits)
+
+multiply_full : (w : Width) (to : Reg) (from : Place) (v : ℕ) (more : List ℕ) → is_wide w ≡ true → is_place from ≡ true → is_immediate w v ≡ true → instr ((modrm w (opcodes.One 0x69) (regs.number to) from ++ immediate_bytes w v) ++ more) ≡ Some (instrs.MultiplyBy w to from v, more)
+unfolding after_prefixes row plain_row
+multiply_full W8 to from v more is ok fits = impossible is
+multiply_full W16 to from v more is ok fits = impossible is
+multiply_full W32 to from v more is ok fits =
+    let bytes = immediate_bytes W32 v in
+    ap instr (append_assoc (modrm W32 (opcodes.One 0x69) (regs.number to) from) bytes more)
+    ∙ wide_register_again W32 0x69 (bytes ++ more) (λ e. absurd (omega arith)) (λ e. absurd (omega arith)) refl (λ u. multiplied_by (immediate_of u) u) to from ok (λ b bs. refl)
+    ∙ ap (λ (o : Read ℕ). o >>= λ n. read_as (instrs.MultiplyBy W32 to from n.0) n.1) (immediate_read W32 v more fits)
+multiply_full W64 to from v more is ok fits =
+    let bytes = immediate_bytes W64 v in
+    ap instr (append_assoc (modrm W64 (opcodes.One 0x69) (regs.number to) from) bytes more)
+    ∙ wide_register_again W64 0x69 (bytes ++ more) (λ e. absurd (omega arith)) (λ e. absurd (omega arith)) refl (λ u. multiplied_by (immediate_of u) u) to from ok (λ b bs. refl)
+    ∙ ap (λ (o : Read ℕ). o >>= λ n. read_as (instrs.MultiplyBy W64 to from n.0) n.1) (immediate_read W64 v more fits)
+
+again_multiply : (w : Width) (to : Reg) (from : Place) (more : List ℕ) → is_wide w ≡ true → is_place from ≡ true → instr (modrm w (opcodes.Two 0xAF) (regs.number to) from ++ more) ≡ Some (instrs.Multiply w to from, more)
+unfolding second_row
+again_multiply W8 to from more is ok = impossible is
+again_multiply W16 to from more is ok = impossible is
+again_multiply W32 to from more is ok =
+    let p = modrm_prefixes W32 (regs.number to) from in
+    open_two W32 (regs.number to) from more (number_small to) 0xAF
+    ∙ ap (λ u. r_rm p u u (instrs.Multiply u) (place_bytes (regs.number to % 8) from ++ more)) (width_is W32 (regs.number to) from more (number_small to) refl)
+    ∙ r_rm_read W32 to from more (instrs.Multiply W32) ok
+again_multiply W64 to from more is ok =
+    let p = modrm_prefixes W64 (regs.number to) from in
+    open_two W64 (regs.number to) from more (number_small to) 0xAF
+    ∙ ap (λ u. r_rm p u u (instrs.Multiply u) (place_bytes (regs.number to % 8) from ++ more)) (width_is W64 (regs.number to) from more (number_small to) refl)
+    ∙ r_rm_read W64 to from more (instrs.Multiply W64) ok
+
+again_load_address : (w : Width) (to : Reg) (from : Place) (more : List ℕ) → is_wide w ≡ true → is_place from ≡ true → instr (modrm w (opcodes.One 0x8D) (regs.number to) from ++ more) ≡ address_to w to from more
+unfolding after_prefixes row plain_row
+again_load_address W8 to from more is ok = impossible is
+again_load_address W16 to from more is ok = impossible is
+again_load_address W32 to from more is ok = wide_register_again W32 0x8D more (λ e. absurd (omega arith)) (λ e. absurd (omega arith)) refl address_to to from ok (λ b bs. refl)
+again_load_address W64 to from more is ok = wide_register_again W64 0x8D more (λ e. absurd (omega arith)) (λ e. absurd (omega arith)) refl address_to to from ok (λ b bs. refl)
+
+-- ---- shifts and divisions
+
+direction-digit : (d : Direction) → direction (direction_digit d) ≡ Some d
+direction-digit Left = refl
+direction-digit Right = refl
+direction-digit ArithmeticRight = refl
+
+direction_small : (d : Direction) → direction_digit d < 8
+direction_small Left = omega arith
+direction_small Right = omega arith
+direction_small ArithmeticRight = omega arith
+
+shifted_by : (d : Direction) (w : Width) (to : Place) (n : ℕ) (more : List ℕ) → n < 256 → shift_immediate w (direction_digit d) to (little 1 n ++ more) ≡ Some (instrs.Shift d w to (counts.Immediate n), more)
+shifted_by d w to n more lt =
+    let same : n % 256 ≡ n = omega arith in
+    ap (λ x. given x (little 1 n ++ more) >>= λ y. byte y.1 >>= λ b. read_as (instrs.Shift y.0 w to (counts.Immediate b.0)) b.1) (direction-digit d)
+    ∙ ap (λ b. read_as (instrs.Shift d w to (counts.Immediate b)) more) same
+
+shift_number : (d : Direction) (w : Width) (to : Place) (n : ℕ) (more : List ℕ) → is_wide w ≡ true → is_place to ≡ true → n < 256 → instr ((modrm w (opcodes.One 0xC1) (direction_digit d) to ++ little 1 n) ++ more) ≡ Some (instrs.Shift d w to (counts.Immediate n), more)
+unfolding after_prefixes row plain_row
+shift_number d W8 to n more is ok lt = impossible is
+shift_number d W16 to n more is ok lt = impossible is
+shift_number d W32 to n more is ok lt =
+    ap instr (append_assoc (modrm W32 (opcodes.One 0xC1) (direction_digit d) to) (little 1 n) more)
+    ∙ wide_digit_again W32 0xC1 (little 1 n ++ more) (λ e. absurd (omega arith)) (λ e. absurd (omega arith)) refl shift_immediate (direction_digit d) to (direction_small d) ok (λ b bs. refl)
+    ∙ shifted_by d W32 to n more lt
+shift_number d W64 to n more is ok lt =
+    ap instr (append_assoc (modrm W64 (opcodes.One 0xC1) (direction_digit d) to) (little 1 n) more)
+    ∙ wide_digit_again W64 0xC1 (little 1 n ++ more) (λ e. absurd (omega arith)) (λ e. absurd (omega arith)) refl shift_immediate (direction_digit d) to (direction_small d) ok (λ b bs. refl)
+    ∙ shifted_by d W64 to n more lt
+
+shift_cl : (d : Direction) (w : Width) (to : Place) (more : List ℕ) → is_wide w ≡ true → is_place to ≡ true → instr (modrm w (opcodes.One 0xD3) (direction_digit d) to ++ more) ≡ Some (instrs.Shift d w to counts.Cl, more)
+unfolding after_prefixes row plain_row
+shift_cl d W8 to more is ok = impossible is
+shift_cl d W16 to more is ok = impossible is
+shift_cl d W32 to more is ok =
+    wide_digit_again W32 0xD3 more (λ e. absurd (omega arith)) (λ e. absurd (omega arith)) refl shift_by_cl (direction_digit d) to (direction_small d) ok (λ b bs. refl)
+    ∙ ap (λ x. given x more >>= λ y. read_as (instrs.Shift y.0 W32 to counts.Cl) y.1) (direction-digit d)
+shift_cl d W64 to more is ok =
+    wide_digit_again W64 0xD3 more (λ e. absurd (omega arith)) (λ e. absurd (omega arith)) refl shift_by_cl (direction_digit d) to (direction_small d) ok (λ b bs. refl)
+    ∙ ap (λ x. given x more >>= λ y. read_as (instrs.Shift y.0 W64 to counts.Cl) y.1) (direction-digit d)
+
+again_shift : (d : Direction) (w : Width) (to : Place) (by : Count) (more : List ℕ) → is_wide w ≡ true → is_place to ≡ true → is_count by ≡ true → instr (count_bytes w (direction_digit d) to by ++ more) ≡ Some (instrs.Shift d w to by, more)
+again_shift d w to (counts.Immediate n) more is ok fits = shift_number d w to n more is ok (ltb-true n 256 fits)
+again_shift d w to counts.Cl more is ok fits = shift_cl d w to more is ok
+
+divided : (w : Width) (d : ℕ) (at : Place) (more : List ℕ) → d < 8 → is_place at ≡ true → instr (modrm w (opcodes.One (sized_opcode w 0xF6)) d at ++ more) ≡ third w (modrm_prefixes w d at) w d at more
+divided w d at more small ok = rm_digit_again w 0xF6 more is_F6 (third w) d at small ok (row_third w)
+
+again_divide : (d : Division) (w : Width) (at : Place) (more : List ℕ) → is_wide w ≡ true → is_place at ≡ true → instr (modrm w (opcodes.One 0xF7) (division_digit d) at ++ more) ≡ Some (instrs.Divide d w at, more)
+again_divide d W8 at more is ok = impossible is
+again_divide d W16 at more is ok = impossible is
+again_divide Unsigned W32 at more is ok = divided W32 6 at more (omega arith) ok
+again_divide Signed W32 at more is ok = divided W32 7 at more (omega arith) ok
+again_divide Unsigned W64 at more is ok = divided W64 6 at more (omega arith) ok
+again_divide Signed W64 at more is ok = divided W64 7 at more (omega arith) ok
+
+again_test_number : (w : Width) (at : Place) (v : ℕ) (more : List ℕ) → is_place at ≡ true → is_immediate w v ≡ true → instr ((modrm w (opcodes.One (sized_opcode w 0xF6)) 0 at ++ immediate_bytes w v) ++ more) ≡ Some (instrs.Test w at (operands.Immediate v), more)
+again_test_number w at v more ok fits =
+    ap instr (append_assoc (modrm w (opcodes.One (sized_opcode w 0xF6)) 0 at) (immediate_bytes w v) more)
+    ∙ divided w 0 at (immediate_bytes w v ++ more) (omega arith) ok
+    ∙ ap (λ (o : Read ℕ). o >>= λ n. read_as (instrs.Test w at (operands.Immediate n.0)) n.1) (immediate_read w v more fits)
+
+-- ---- extensions
+
+-- q is the width of the prefixes
+extended_again : (e : Extension) (q w n : Width) (to : Reg) (from : Place) (more : List ℕ) (op : ℕ) → is_place from ≡ true
+    → ((bits : ℕ) (bytes : List ℕ) → second_row (read_prefixes q bits) op bytes ≡ extend e (read_prefixes q bits) op bytes)
+    → sized_narrow op ≡ n
+    → width_of (modrm_prefixes q (regs.number to) from) ≡ w
+    → is_listed (modrm_prefixes q (regs.number to) from) n from ≡ true
+    → is_listed (modrm_prefixes q (regs.number to) from) w (places.Register to) ≡ true
+    → instr (modrm q (opcodes.Two op) (regs.number to) from ++ more) ≡ Some (instrs.Extend e w to n from, more)
+extended_again e q w n to from more op ok is narrow width a b =
+    let p = modrm_prefixes q (regs.number to) from in
+    let bytes = place_bytes (regs.number to % 8) from ++ more in
+    open_two q (regs.number to) from more (number_small to) op
+    ∙ is (modrm_bits q (regs.number to) from) bytes
+    ∙ ap (λ k. r_rm p (width_of p) k (λ t f. instrs.Extend e (width_of p) t k f) bytes) narrow
+    ∙ ap (λ u. r_rm p u n (λ t f. instrs.Extend e u t n f) bytes) width
+    ∙ ap (λ (o : Read (Place × Reg)). o >>= λ x. read_as (instrs.Extend e w x.0.1 n x.0.0) x.1) (operands_read q n w to from more ok a b)
+
+byte_width : (bits : ℕ) → bits / 8 ≡ 0 → width_of (read_prefixes W8 bits) ≡ W32
+byte_width bits e = ap (λ c. cond c W64 W32) (ne_eqb (bit 3 bits) 1 (λ h. absurd (omega arith)))
+
+-- REX.W is REX
+rex_wide : (bits : ℕ) → bits / 8 ≡ 1 → (at : Place) → is_listed (read_prefixes W64 bits) W8 at ≡ true
+rex_wide bits e (places.Register r) = ap (λ c. not c || not (eqb (regs.number r / 4) 1)) (ne_eqb bits 0 (λ h. absurd (omega arith)))
+rex_wide bits e (places.Memory m) = refl
+
+again_extend : (e : Extension) (w n : Width) (to : Reg) (from : Place) (more : List ℕ) → is_widened e w n ≡ true → is_place from ≡ true → instr (modrm (extend_width w n) (extend_opcode e n) (regs.number to) from ++ more) ≡ Some (instrs.Extend e w to n from, more)
+unfolding after_prefixes row plain_row second_row
+again_extend Zero W8 W8 to from more is ok = impossible is
+again_extend Zero W8 W16 to from more is ok = impossible is
+again_extend Zero W8 W32 to from more is ok = impossible is
+again_extend Zero W8 W64 to from more is ok = impossible is
+again_extend Zero W16 W8 to from more is ok = impossible is
+again_extend Zero W16 W16 to from more is ok = impossible is
+again_extend Zero W16 W32 to from more is ok = impossible is
+again_extend Zero W16 W64 to from more is ok = impossible is
+again_extend Zero W32 W8 to from more is ok = extended_again Zero W8 W32 W8 to from more 0xB6 ok (λ b bs. refl) refl (byte_width (modrm_bits W8 (regs.number to) from) (bits_top W8 (regs.number to) from more (number_small to))) (listed W8 (modrm_bits W8 (regs.number to) from) from) refl
+again_extend Zero W64 W8 to from more is ok = extended_again Zero W64 W64 W8 to from more 0xB6 ok (λ b bs. refl) refl (width_is W64 (regs.number to) from more (number_small to) refl) (rex_wide (modrm_bits W64 (regs.number to) from) (bits_top W64 (regs.number to) from more (number_small to)) from) refl
+again_extend Zero W32 W16 to from more is ok = extended_again Zero W32 W32 W16 to from more 0xB7 ok (λ b bs. refl) refl (width_is W32 (regs.number to) from more (number_small to) refl) refl refl
+again_extend Zero W64 W16 to from more is ok = extended_again Zero W64 W64 W16 to from more 0xB7 ok (λ b bs. refl) refl (width_is W64 (regs.number to) from more (number_small to) refl) refl refl
+again_extend Zero W32 W32 to from more is ok = impossible is
+again_extend Zero W32 W64 to from more is ok = impossible is
+again_extend Zero W64 W64 to from more is ok = impossible is
+again_extend Zero W64 W32 to from more is ok = impossible is
+again_extend Sign W8 W8 to from more is ok = impossible is
+again_extend Sign W8 W16 to from more is ok = impossible is
+again_extend Sign W8 W32 to from more is ok = impossible is
+again_extend Sign W8 W64 to from more is ok = impossible is
+again_extend Sign W16 W8 to from more is ok = impossible is
+again_extend Sign W16 W16 to from more is ok = impossible is
+again_extend Sign W16 W32 to from more is ok = impossible is
+again_extend Sign W16 W64 to from more is ok = impossible is
+again_extend Sign W32 W8 to from more is ok = extended_again Sign W8 W32 W8 to from more 0xBE ok (λ b bs. refl) refl (byte_width (modrm_bits W8 (regs.number to) from) (bits_top W8 (regs.number to) from more (number_small to))) (listed W8 (modrm_bits W8 (regs.number to) from) from) refl
+again_extend Sign W64 W8 to from more is ok = extended_again Sign W64 W64 W8 to from more 0xBE ok (λ b bs. refl) refl (width_is W64 (regs.number to) from more (number_small to) refl) (rex_wide (modrm_bits W64 (regs.number to) from) (bits_top W64 (regs.number to) from more (number_small to)) from) refl
+again_extend Sign W32 W16 to from more is ok = extended_again Sign W32 W32 W16 to from more 0xBF ok (λ b bs. refl) refl (width_is W32 (regs.number to) from more (number_small to) refl) refl refl
+again_extend Sign W64 W16 to from more is ok = extended_again Sign W64 W64 W16 to from more 0xBF ok (λ b bs. refl) refl (width_is W64 (regs.number to) from more (number_small to) refl) refl refl
+again_extend Sign W32 W32 to from more is ok = impossible is
+again_extend Sign W32 W64 to from more is ok = impossible is
+again_extend Sign W64 W64 to from more is ok = impossible is
+again_extend Sign W64 W32 to from more is ok =
+    let n = number_small to in
+    let p = modrm_prefixes W64 (regs.number to) from in
+    let bytes = place_bytes (regs.number to % 8) from ++ more in
+    open_one W64 (regs.number to) from more n 0x63 (λ e. absurd (omega arith)) (λ e. absurd (omega arith))
+    ∙ ap (λ c. cond c (r_rm p W64 W32 (λ t f. instrs.Extend Sign W64 t W32 f) bytes) None) (eq-eqb (bit 3 (modrm_bits W64 (regs.number to) from)) 1 (let h = high_small from in omega arith))
+    ∙ ap (λ (o : Read (Place × Reg)). o >>= λ x. read_as (instrs.Extend Sign W64 x.0.1 W32 x.0.0) x.1) (operands_read W64 W32 W64 to from more ok refl refl)
+
+-- ---- jumps
+
+relative : (made : ℕ → Instr) (d : ℕ) (more : List ℕ) → is_signed W32 W64 d ≡ true → (signed W32 W64 (little 4 (low W32 d) ++ more) >>= λ x. read_as (made x.0) x.1) ≡ Some (made d, more)
+relative made d more fits = ap (λ (o : Read ℕ). o >>= λ x. read_as (made x.0) x.1) (signed_little W32 W64 d more (omega arith) fits)
+
+again_set : (c : Condition) (at : Place) (more : List ℕ) → is_place at ≡ true → instr (modrm W8 (opcodes.Two (0x90 + condition_number c)) 0 at ++ more) ≡ Some (instrs.Set c at, more)
+again_set c at more ok =
+    open_two W8 0 at more (omega arith) (0x90 + condition_number c)
+    ∙ row_set c (modrm_bits W8 0 at) (place_bytes 0 at ++ more)
+    ∙ ap (λ (o : Read (Place × ℕ)). o >>= λ x. read_as (instrs.Set c x.0.0) x.1) (digit_read W8 0 at more (omega arith) W8 (listed W8 (modrm_bits W8 0 at) at) ok (omega arith))
+
+again_indirect : (d : ℕ) (at : Place) (more : List ℕ) → d < 8 → is_place at ≡ true → instr (modrm W32 (opcodes.One 0xFF) d at ++ more) ≡ indirect d at more
+unfolding after_prefixes row plain_row
+again_indirect d at more small ok =
+    let lr : d < 16 = omega arith in
+    open_one W32 d at more lr 0xFF (λ e. absurd (omega arith)) (λ e. absurd (omega arith))
+    ∙ rm_digit_read W32 W64 d at more indirect small ok refl
+
+again_extend_rax : (w : Width) (more : List ℕ) → is_wide w ≡ true → instr (chosen (instrs.ExtendRax w) ++ more) ≡ Some (instrs.ExtendRax w, more)
+unfolding instr after_size after_prefixes row plain_row
+again_extend_rax W8 more is = impossible is
+again_extend_rax W16 more is = impossible is
+again_extend_rax W32 more is = refl
+again_extend_rax W64 more is = refl
+
+-- ---- instructions
+
+pub again : (i : Instr) (more : List ℕ) → is_encodable i ≡ true → instr (chosen i ++ more) ≡ Some (i, more)
+unfolding instr after_size after_prefixes row plain_row second_row
+again (instrs.Move w to (operands.Register r)) more ok = rm_r_again w 0x88 more is_88 instrs.Move r to ok (row_move w)
+again (instrs.Move w (places.Register r) (operands.Memory m)) more ok = r_rm_again w 0x8A more is_8A load r (places.Memory m) ok (row_load w)
+again (instrs.Move w (places.Register r) (operands.Immediate v)) more ok = again_move_number w r v more ok
+again (instrs.Move w (places.Memory m) (operands.Memory n)) more ok = impossible ok
+again (instrs.Move w (places.Memory m) (operands.Immediate v)) more ok = let parts = and_parts (is_place (places.Memory m)) (is_immediate w v) ok in move_place w (places.Memory m) v more parts.0 parts.1
+again (instrs.Extend e w to n from) more ok = let parts = and_parts (is_widened e w n) (is_place from) ok in again_extend e w n to from more parts.0 parts.1
+again (instrs.LoadAddress w to m) more ok = let parts = and_parts (is_wide w) (is_place (places.Memory m)) ok in again_load_address w to (places.Memory m) more parts.0 parts.1
+again (instrs.Arithmetic o w to (operands.Register r)) more ok = again_arithmetic o w to r more ok
+again (instrs.Arithmetic o w to (operands.Immediate v)) more ok = let parts = and_parts (is_place to) (is_immediate w v) ok in again_arithmetic_number o w to v more parts.0 parts.1
+again (instrs.Arithmetic o w (places.Register r) (operands.Memory m)) more ok = r_rm_again w (8 * digit o + 2) more (is_arithmetic o 2 refl (omega arith)) (from_memory o) r (places.Memory m) ok (row_arithmetic_load o w)
+again (instrs.Arithmetic o w (places.Memory n) (operands.Memory m)) more ok = impossible ok
+again (instrs.Test w at (operands.Register r)) more ok = rm_r_again w 0x84 more is_84 instrs.Test r at ok (row_test w)
+again (instrs.Test w at (operands.Immediate v)) more ok = let parts = and_parts (is_place at) (is_immediate w v) ok in again_test_number w at v more parts.0 parts.1
+again (instrs.Test w at (operands.Memory m)) more ok = impossible ok
+again (instrs.Multiply w to from) more ok = let parts = and_parts (is_wide w) (is_place from) ok in again_multiply w to from more parts.0 parts.1
+again (instrs.MultiplyBy w to from v) more ok =
+    let parts = and_parts (is_wide w) (is_place from && is_immediate w v) ok in
+    let others = and_parts (is_place from) (is_immediate w v) parts.1 in
+    either (is_signed W8 w v) _ _ more _ (multiply_byte w to from v more parts.0 others.0) (multiply_full w to from v more parts.0 others.0 others.1)
+again (instrs.Unary Not w at) more ok = divided w 2 at more (omega arith) ok
+again (instrs.Unary Negate w at) more ok = divided w 3 at more (omega arith) ok
+again (instrs.Divide d w at) more ok = let parts = and_parts (is_wide w) (is_place at) ok in again_divide d w at more parts.0 parts.1
+again (instrs.ExtendRax w) more ok = again_extend_rax w more ok
+again (instrs.Shift d w to by) more ok =
+    let parts = and_parts (is_wide w) (is_place to && is_count by) ok in
+    let others = and_parts (is_place to) (is_count by) parts.1 in
+    again_shift d w to by more parts.0 others.0 others.1
+again (instrs.Set c at) more ok = again_set c at more ok
+again (instrs.JumpIf c d) more ok = row_jump_if c (little 4 (low W32 d) ++ more) ∙ relative (instrs.JumpIf c) d more ok
+again (instrs.Jump (Relative d)) more ok = relative (λ x. instrs.Jump (Relative x)) d more ok
+again (instrs.Jump (Indirect at)) more ok = again_indirect 4 at more (omega arith) ok
+again (instrs.Call (Relative d)) more ok = relative (λ x. instrs.Call (Relative x)) d more ok
+again (instrs.Call (Indirect at)) more ok = again_indirect 2 at more (omega arith) ok
+again (instrs.Push r) more ok =
+    open_register W32 0x50 r more (λ e. absurd (omega arith)) (λ e. absurd (omega arith))
+    ∙ push_row r (has_rex W32 (8 * wide W32 + regs.number r / 8)) (8 * wide W32 + regs.number r / 8) more
+    ∙ ap (λ x. read_as (instrs.Push x) more) (lowest_read W32 0x50 r (omega arith))
+again (instrs.Pop r) more ok =
+    open_register W32 0x58 r more (λ e. absurd (omega arith)) (λ e. absurd (omega arith))
+    ∙ pop_row r (has_rex W32 (8 * wide W32 + regs.number r / 8)) (8 * wide W32 + regs.number r / 8) more
+    ∙ ap (λ x. read_as (instrs.Pop x) more) (lowest_read W32 0x58 r (omega arith))
+again instrs.Return more ok = refl
+again instrs.NoOperation more ok = refl
+again instrs.Breakpoint more ok = refl
+again instrs.Undefined more ok = refl
+
+-- ---- both laws
+
+pub spells : (i : Instr) → IsEncodable i → Spells i (chosen i)
+spells i ok = ap instr (sym (append-nil (chosen i))) ∙ again i [] ok
+
+pub read_again : (i : Instr) (more : List ℕ) → IsEncodable i → leading (chosen i ++ more) ≡ Some (i, encoded_len i)
+read_again i more ok =
+    let all = chosen i ++ more in
+    let k : length all - length more ≡ length (chosen i) = omega (arith, length-append (chosen i) more) in
+    ap (option_map (λ (x : Instr × List ℕ). let y : Instr × ℕ = (x.0, length all - length x.1) in y)) (again i more ok) ∙ ap (λ n. let y : Option (Instr × ℕ) = Some (i, n) in y) k

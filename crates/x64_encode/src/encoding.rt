@@ -1,0 +1,469 @@
+//! Instructions as they are written.
+
+ghost use Rattle.std.specs.Prelude.{◌≡◌, ◌+◌, ◌++◌, ◌≤◌, ℕ, List, Some};
+ghost use Rattle.arrayvec.specs.ArrayVec.{array_vec_len};
+ghost use Rattle.seh_num.specs.declared.width.Width.TheVariants.{W32};
+ghost use Rattle.seh_num.specs.Widths.{low};
+ghost use Rattle.x64_encode.specs.Chosen as spec;
+ghost use Rattle.x64_encode.specs.Chosen.{chosen, encoded_len, IsEncodable};
+ghost use Rattle.x64_instr.specs.Spelling.{leading, Spells};
+
+use crate::opcodes::{
+    condition_number, digit, direction_digit, division_digit, extend_opcode, extend_width,
+    sized_opcode, unary_digit,
+};
+use crate::writing::{Opcode, is_signed, put_modrm, put_number, put_opcode_register};
+use arrayvec::ArrayVec;
+use seh_num::extension::zero_extend;
+use seh_num::width::Width;
+use x64_instr::instruction::{Count, Extension, Instr, Operation, Target};
+use x64_instr::operand::{Base, Index, Operand, Place};
+use x64_instr::prefixes::immediate_of;
+use x64_instr::register::Reg;
+
+fn is_index(base: Base, index: Option<Index>) -> bool
+    ensures { result ≡ spec.is_index base index }
+{
+    match (base, index) {
+        (_, None) => true,
+        (Base::Rip, Some(_)) => false,
+        (_, Some(index)) => index.register != Reg::Rsp,
+    }
+}
+
+fn is_place(place: Place) -> bool
+    ensures { result ≡ spec.is_place place }
+{
+    match place {
+        Place::Register(_) => true,
+        Place::Memory(memory) => {
+            is_index(memory.base, memory.index)
+                && is_signed(Width::W32, Width::W64, memory.displacement)
+        }
+    }
+}
+
+fn is_wide(width: Width) -> bool
+    ensures { result ≡ spec.is_wide width }
+{
+    match width {
+        Width::W32 | Width::W64 => true,
+        _ => false,
+    }
+}
+
+fn is_immediate(width: Width, value: u64) -> bool
+    ensures { result ≡ spec.is_immediate width value }
+{
+    is_signed(immediate_of(width), width, value)
+}
+
+fn is_widened(extension: Extension, width: Width, narrow: Width) -> bool
+    ensures { result ≡ spec.is_widened extension width narrow }
+{
+    match (extension, width, narrow) {
+        (_, _, Width::W8 | Width::W16) => is_wide(width),
+        (Extension::Sign, Width::W64, Width::W32) => true,
+        _ => false,
+    }
+}
+
+fn is_count(count: Count) -> bool
+    ensures { result ≡ spec.is_count count }
+{
+    match count {
+        Count::Immediate(number) => number < 1 << 8,
+        Count::Cl => true,
+    }
+}
+
+fn is_target(target: Target) -> bool
+    ensures { result ≡ spec.is_target target }
+{
+    match target {
+        Target::Relative(displacement) => is_signed(Width::W32, Width::W64, displacement),
+        Target::Indirect(at) => is_place(at),
+    }
+}
+
+fn is_move(width: Width, to: Place, from: Operand) -> bool
+    ensures { result ≡ spec.is_encodable (Instr.Move width to from) }
+{
+    match (to, from) {
+        (to, Operand::Register(_)) => is_place(to),
+        (Place::Register(_), Operand::Memory(memory)) => is_place(Place::Memory(memory)),
+        (Place::Register(_), Operand::Immediate(value)) => u128::from(value) < width.limit(),
+        (Place::Memory(_), Operand::Immediate(value)) => is_place(to) && is_immediate(width, value),
+        (Place::Memory(_), Operand::Memory(_)) => false,
+    }
+}
+
+fn is_arithmetic(operation: Operation, width: Width, to: Place, from: Operand) -> bool
+    ensures { result ≡ spec.is_encodable (Instr.Arithmetic operation width to from) }
+{
+    match (to, from) {
+        (to, Operand::Register(_)) => is_place(to),
+        (to, Operand::Immediate(value)) => is_place(to) && is_immediate(width, value),
+        (Place::Register(_), Operand::Memory(memory)) => is_place(Place::Memory(memory)),
+        (Place::Memory(_), Operand::Memory(_)) => false,
+    }
+}
+
+fn is_test(width: Width, first: Place, second: Operand) -> bool
+    ensures { result ≡ spec.is_encodable (Instr.Test width first second) }
+{
+    match second {
+        Operand::Register(_) => is_place(first),
+        Operand::Immediate(value) => is_place(first) && is_immediate(width, value),
+        Operand::Memory(_) => false,
+    }
+}
+
+/// Whether some bytes spell the instruction.
+pub fn is_encodable(instr: &Instr) -> bool
+    ensures { result ≡ spec.is_encodable instr.now }
+{
+    match *instr {
+        Instr::Move { width, to, from } => is_move(width, to, from),
+        Instr::Extend {
+            extension,
+            width,
+            narrow,
+            from,
+            ..
+        } => is_widened(extension, width, narrow) && is_place(from),
+        Instr::LoadAddress { width, from, .. } => is_wide(width) && is_place(Place::Memory(from)),
+        Instr::Arithmetic {
+            operation,
+            width,
+            to,
+            from,
+        } => is_arithmetic(operation, width, to, from),
+        Instr::Test {
+            width,
+            first,
+            second,
+        } => is_test(width, first, second),
+        Instr::Multiply { width, from, .. } => is_wide(width) && is_place(from),
+        Instr::MultiplyBy {
+            width,
+            from,
+            by,
+            ..
+        } => is_wide(width) && (is_place(from) && is_immediate(width, by)),
+        Instr::Unary { to, .. } => is_place(to),
+        Instr::Divide { width, by, .. } => is_wide(width) && is_place(by),
+        Instr::ExtendRax { width } => is_wide(width),
+        Instr::Shift { width, to, by, .. } => is_wide(width) && (is_place(to) && is_count(by)),
+        Instr::Set { to, .. } => is_place(to),
+        Instr::JumpIf { displacement, .. } => is_signed(Width::W32, Width::W64, displacement),
+        Instr::Jump(to) | Instr::Call(to) => is_target(to),
+        Instr::Push(_)
+        | Instr::Pop(_)
+        | Instr::Return
+        | Instr::NoOperation
+        | Instr::Breakpoint
+        | Instr::Undefined => true,
+    }
+}
+
+/// An immediate, of at most 32 bits.
+fn put_immediate(into: &mut ArrayVec<u8, 15>, width: Width, value: u64)
+    requires { array_vec_len into.old + 4 ≤ 15 }
+    ensures items { into.new.items ≡ into.old.items ++ spec.immediate_bytes width value }
+{
+    let width = immediate_of(width);
+    put_number(into, width.bytes(), zero_extend(width, value));
+}
+
+/// A displacement of 32 bits.
+fn put_displacement(into: &mut ArrayVec<u8, 15>, displacement: u64)
+    requires { array_vec_len into.old + 4 ≤ 15 }
+    ensures items { into.new.items ≡ into.old.items ++ spec.little 4 (low W32 displacement) }
+{
+    put_number(into, 4, displacement % (1 << 32));
+}
+
+fn encode_move_number(into: &mut ArrayVec<u8, 15>, width: Width, to: Reg, value: u64)
+    ensures { into.new.items ≡ spec.move_bytes width to value }
+{
+    match width {
+        Width::W8 => {
+            put_modrm(into, width, Opcode::One(0xC6), 0, Place::Register(to));
+            put_immediate(into, width, value);
+        }
+        _ => {
+            put_opcode_register(into, width, 0xB8, to);
+            put_number(into, width.bytes(), value);
+        }
+    }
+}
+
+fn encode_move(into: &mut ArrayVec<u8, 15>, width: Width, to: Place, from: Operand)
+    requires { IsEncodable (Instr.Move width to from) }
+    ensures { into.new.items ≡ chosen (Instr.Move width to from) }
+{
+    match (to, from) {
+        (to, Operand::Register(from)) => {
+            let opcode = Opcode::One(sized_opcode(width, 0x88));
+            put_modrm(into, width, opcode, from.number(), to);
+        }
+        (Place::Register(to), Operand::Memory(from)) => {
+            let opcode = Opcode::One(sized_opcode(width, 0x8A));
+            put_modrm(into, width, opcode, to.number(), Place::Memory(from));
+        }
+        (Place::Register(to), Operand::Immediate(value)) => {
+            encode_move_number(into, width, to, value);
+        }
+        (Place::Memory(_), Operand::Immediate(value)) => {
+            put_modrm(into, width, Opcode::One(sized_opcode(width, 0xC6)), 0, to);
+            put_immediate(into, width, value);
+        }
+        (Place::Memory(_), Operand::Memory(_)) => unreachable!(),
+    }
+}
+
+fn encode_arithmetic_number(
+    into: &mut ArrayVec<u8, 15>,
+    operation: Operation,
+    width: Width,
+    to: Place,
+    value: u64,
+)
+    ensures { into.new.items ≡ spec.arithmetic_bytes operation width to value }
+{
+    let digit = digit(operation);
+    if width == Width::W8 {
+        put_modrm(into, width, Opcode::One(0x80), digit, to);
+        put_immediate(into, width, value);
+    } else if is_signed(Width::W8, width, value) {
+        put_modrm(into, width, Opcode::One(0x83), digit, to);
+        put_number(into, 1, value % (1 << 8));
+    } else {
+        put_modrm(into, width, Opcode::One(0x81), digit, to);
+        put_immediate(into, width, value);
+    }
+}
+
+fn encode_arithmetic(
+    into: &mut ArrayVec<u8, 15>,
+    operation: Operation,
+    width: Width,
+    to: Place,
+    from: Operand,
+)
+    requires { IsEncodable (Instr.Arithmetic operation width to from) }
+    ensures { into.new.items ≡ chosen (Instr.Arithmetic operation width to from) }
+{
+    let base = 8 * digit(operation);
+    match (to, from) {
+        (to, Operand::Register(from)) => {
+            let opcode = Opcode::One(sized_opcode(width, base));
+            put_modrm(into, width, opcode, from.number(), to);
+        }
+        (to, Operand::Immediate(value)) => {
+            encode_arithmetic_number(into, operation, width, to, value);
+        }
+        (Place::Register(to), Operand::Memory(from)) => {
+            let opcode = Opcode::One(sized_opcode(width, base + 2));
+            put_modrm(into, width, opcode, to.number(), Place::Memory(from));
+        }
+        (Place::Memory(_), Operand::Memory(_)) => unreachable!(),
+    }
+}
+
+fn encode_test(into: &mut ArrayVec<u8, 15>, width: Width, first: Place, second: Operand)
+    requires { IsEncodable (Instr.Test width first second) }
+    ensures { into.new.items ≡ chosen (Instr.Test width first second) }
+{
+    match second {
+        Operand::Register(second) => {
+            let opcode = Opcode::One(sized_opcode(width, 0x84));
+            put_modrm(into, width, opcode, second.number(), first);
+        }
+        Operand::Immediate(value) => {
+            put_modrm(
+                into,
+                width,
+                Opcode::One(sized_opcode(width, 0xF6)),
+                0,
+                first,
+            );
+            put_immediate(into, width, value);
+        }
+        Operand::Memory(_) => unreachable!(),
+    }
+}
+
+fn encode_multiply_by(into: &mut ArrayVec<u8, 15>, width: Width, to: Reg, from: Place, by: u64)
+    ensures { into.new.items ≡ spec.multiply_bytes width to from by }
+{
+    if is_signed(Width::W8, width, by) {
+        put_modrm(into, width, Opcode::One(0x6B), to.number(), from);
+        put_number(into, 1, by % (1 << 8));
+    } else {
+        put_modrm(into, width, Opcode::One(0x69), to.number(), from);
+        put_immediate(into, width, by);
+    }
+}
+
+fn encode_shift(into: &mut ArrayVec<u8, 15>, width: Width, digit: u8, to: Place, by: Count)
+    requires { digit ≤ 7 }
+    ensures { into.new.items ≡ spec.count_bytes width digit to by }
+{
+    match by {
+        Count::Immediate(number) => {
+            put_modrm(into, width, Opcode::One(0xC1), digit, to);
+            put_number(into, 1, number);
+        }
+        Count::Cl => put_modrm(into, width, Opcode::One(0xD3), digit, to),
+    }
+}
+
+fn encode_jump(into: &mut ArrayVec<u8, 15>, to: Target)
+    ensures { into.new.items ≡ chosen (Instr.Jump to) }
+{
+    match to {
+        Target::Relative(displacement) => {
+            into.clear();
+            into.push(0xE9);
+            put_displacement(into, displacement);
+        }
+        Target::Indirect(at) => put_modrm(into, Width::W32, Opcode::One(0xFF), 4, at),
+    }
+}
+
+fn encode_call(into: &mut ArrayVec<u8, 15>, to: Target)
+    ensures { into.new.items ≡ chosen (Instr.Call to) }
+{
+    match to {
+        Target::Relative(displacement) => {
+            into.clear();
+            into.push(0xE8);
+            put_displacement(into, displacement);
+        }
+        Target::Indirect(at) => put_modrm(into, Width::W32, Opcode::One(0xFF), 2, at),
+    }
+}
+
+/// Bytes alone.
+fn put_plain(into: &mut ArrayVec<u8, 15>, width: Width, opcode: u8)
+    ensures { into.new.items ≡ spec.plain_bytes width opcode }
+{
+    into.clear();
+    if width == Width::W64 {
+        into.push(0x48);
+    }
+    into.push(opcode);
+}
+
+fn put_instr(instr: &Instr, into: &mut ArrayVec<u8, 15>)
+    requires { IsEncodable instr.now }
+    ensures { into.new.items ≡ chosen instr.now }
+{
+    match *instr {
+        Instr::Move { width, to, from } => encode_move(into, width, to, from),
+        Instr::Extend {
+            extension,
+            width,
+            to,
+            narrow,
+            from,
+        } => {
+            let opcode = extend_opcode(extension, narrow);
+            put_modrm(into, extend_width(width, narrow), opcode, to.number(), from);
+        }
+        Instr::LoadAddress { width, to, from } => {
+            put_modrm(
+                into,
+                width,
+                Opcode::One(0x8D),
+                to.number(),
+                Place::Memory(from),
+            );
+        }
+        Instr::Arithmetic {
+            operation,
+            width,
+            to,
+            from,
+        } => encode_arithmetic(into, operation, width, to, from),
+        Instr::Test {
+            width,
+            first,
+            second,
+        } => encode_test(into, width, first, second),
+        Instr::Multiply { width, to, from } => {
+            put_modrm(into, width, Opcode::Two(0xAF), to.number(), from);
+        }
+        Instr::MultiplyBy {
+            width,
+            to,
+            from,
+            by,
+        } => encode_multiply_by(into, width, to, from, by),
+        Instr::Unary {
+            operation,
+            width,
+            to,
+        } => {
+            let opcode = Opcode::One(sized_opcode(width, 0xF6));
+            put_modrm(into, width, opcode, unary_digit(operation), to);
+        }
+        Instr::Divide {
+            division,
+            width,
+            by,
+        } => put_modrm(into, width, Opcode::One(0xF7), division_digit(division), by),
+        Instr::ExtendRax { width } => put_plain(into, width, 0x99),
+        Instr::Shift {
+            direction,
+            width,
+            to,
+            by,
+        } => encode_shift(into, width, direction_digit(direction), to, by),
+        Instr::Set { condition, to } => {
+            let opcode = Opcode::Two(0x90 + condition_number(condition));
+            put_modrm(into, Width::W8, opcode, 0, to);
+        }
+        Instr::JumpIf {
+            condition,
+            displacement,
+        } => {
+            into.clear();
+            into.push(0x0F);
+            into.push(0x80 + condition_number(condition));
+            put_displacement(into, displacement);
+        }
+        Instr::Jump(to) => encode_jump(into, to),
+        Instr::Call(to) => encode_call(into, to),
+        Instr::Push(register) => put_opcode_register(into, Width::W32, 0x50, register),
+        Instr::Pop(register) => put_opcode_register(into, Width::W32, 0x58, register),
+        Instr::Return => put_plain(into, Width::W32, 0xC3),
+        Instr::NoOperation => put_plain(into, Width::W32, 0x90),
+        Instr::Breakpoint => put_plain(into, Width::W32, 0xCC),
+        Instr::Undefined => {
+            put_plain(into, Width::W32, 0x0F);
+            into.push(0x0B);
+        }
+    }
+}
+
+/// Leaves the bytes of the instruction's chosen spelling, and no others.
+pub fn encode(instr: &Instr, into: &mut ArrayVec<u8, 15>)
+    requires { IsEncodable instr.now }
+    ensures bytes { into.new.items ≡ chosen instr.now }
+    ensures spelled { Spells instr.now into.new.items }
+{
+    put_instr(instr, into);
+}
+
+/// What is encoded is decoded to the same instruction and length, whatever follows.
+pub fn read_again()
+    ensures { (i : Instr) (more : List ℕ) → IsEncodable i → leading (chosen i ++ more) ≡ Some (i, encoded_len i) }
+{}
+
+/// No instruction takes more than 15 bytes.
+pub fn longest()
+    ensures { (i : Instr) → encoded_len i ≤ 15 }
+{}

@@ -1,0 +1,12 @@
+//! The one spelling that is written of each instruction.
+//!
+//! Of the spellings that an instruction has, the chosen one has REX only where it says something,
+//! displacements and immediates of one byte where that is enough, and jumps of 32 bits. No call
+//! takes memory.
+#![tactic(auto)]
+
+pub mod encoding;
+mod opcodes;
+#[cfg(test)]
+mod tests;
+pub mod writing;
