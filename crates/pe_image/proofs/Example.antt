@@ -1,7 +1,7 @@
 -- An image by hand, written and read by the definitions alone: `.data` is a page of zeros, `.text` has `mov eax, 7` and `ret`.
 use Rattle.std.proofs.Common.{◌≡◌, ℕ, List, [], ◌∷◌, ◌++◌, Some, None, refl}
 use Rattle.pe_image.specs.Image.{Section, stored}
-use Rattle.pe_image.specs.Reading.{headers, reading, IsImage}
+use Rattle.pe_image.specs.Reading.{headers, outline, reading, IsImage}
 use Rattle.pe_image.specs.Written.{ImageParts, u16, u32, u64, zeros, dos_header, file_header, standard_fields, windows_fields, directory_entry, directories, section_fields, raw_data, written}
 
 abbrev code : List ℕ
@@ -53,7 +53,7 @@ is_read : IsImage bytes (record {
   imports = record { rva = 0; size = 0 };
   exceptions = record { rva = 0x2003; size = 12 };
 })
-unfolding reading headers u16 u32 u64 zeros
+unfolding reading outline headers u16 u32 u64 zeros
 is_read = refl
 
 is_stored : stored sections 0x2001 4 ≡ Some (7 ∷ 0 ∷ 0 ∷ 0 ∷ [])

@@ -1,6 +1,7 @@
 pub mod Back
 pub mod Example
 pub mod Front
+pub mod Imported
 pub mod Pieces
 pub mod Rows
 pub mod Sections

@@ -1,5 +1,5 @@
 -- Answers with a refusal: the first refusal is the answer.
-use Rattle.std.specs.Prelude.{◌≡◌, Bool, true, false, Result, Ok, Err}
+use Rattle.std.specs.Prelude.{◌≡◌, Bool, true, false, Option, Some, None, Result, Ok, Err, List, ◌∷◌, ◌++◌}
 use Rattle.pe_image.specs.declared.refusal.ImageErr.{ImageErr}
 use Rattle.pe_image.specs.declared.refusal.ImageErr.TheVariants as refusals
 
@@ -20,3 +20,16 @@ Refuses e given = given ≡ Err e
 abbrev pub Gives : {X Y : Type 0} → (X → Y) → Result X ImageErr → Result Y ImageErr → Type 0
 Gives view (Ok x) given = given ≡ Ok (view x)
 Gives view (Err e) given = Refuses e given
+
+abbrev pub or_refused : {A : Type 0} → Option A → ImageErr → Result A ImageErr
+or_refused (Some x) e = Ok x
+or_refused None e = Err e
+
+-- a list's answer behind one element, and behind others
+abbrev pub prepend : {A : Type 0} → A → Result (List A) ImageErr → Result (List A) ImageErr
+prepend x (Ok xs) = Ok (x ∷ xs)
+prepend x (Err e) = Err e
+
+abbrev pub onto : {A : Type 0} → List A → Result (List A) ImageErr → Result (List A) ImageErr
+onto xs (Ok ys) = Ok (xs ++ ys)
+onto xs (Err e) = Err e

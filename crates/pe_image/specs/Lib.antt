@@ -1,5 +1,6 @@
 pub mod Answer
 pub mod Field
 pub mod Image
+pub mod Imports
 pub mod Reading
 pub mod Written

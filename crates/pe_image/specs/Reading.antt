@@ -7,6 +7,7 @@ use Rattle.pe_image.specs.declared.table.SectionHeader.{SectionHeader}
 use Rattle.pe_image.specs.Answer.{◌>>=◌, unless}
 use Rattle.pe_image.specs.Field.{field, is_there}
 use Rattle.pe_image.specs.Image.{Section, Image}
+use Rattle.pe_image.specs.Imports.{imports}
 
 -- ---- the headers
 
@@ -134,11 +135,19 @@ image_with bytes sections = record {
   exceptions = directory bytes 3;
 }
 
-unfoldable pub reading : List ℕ → Result Image ImageErr
-reading bytes = do
+-- by its headers and its sections
+unfoldable pub outline : List ℕ → Result Image ImageErr
+outline bytes = do
   _ ← headers bytes
   sections ← sections_of bytes (image_end bytes) (headers_from bytes (section_count bytes) (sections_at bytes))
   Ok (image_with bytes sections)
+
+-- whose imports can be read
+unfoldable pub reading : List ℕ → Result Image ImageErr
+reading bytes = do
+  image ← outline bytes
+  _ ← imports image
+  Ok image
 
 -- the bytes are read as this image
 abbrev pub IsImage : List ℕ → Image → Type 0

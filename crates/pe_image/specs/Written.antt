@@ -1,9 +1,10 @@
 -- The one form in which an image is written, piece by piece.
-use Rattle.std.specs.Prelude.{◌≡◌, ℕ, ◌+◌, ◌-◌, ◌*◌, ◌/◌, ◌^◌, ◌<◌, ◌≤◌, bit_and, Bool, true, false, not, ◌==◌, List, [], ◌∷◌, ◌++◌, length, take, replicate, sum_by, filter}
+use Rattle.std.specs.Prelude.{◌≡◌, ℕ, ◌+◌, ◌-◌, ◌*◌, ◌/◌, ◌^◌, ◌<◌, ◌≤◌, bit_and, Bool, true, false, not, ◌==◌, List, [], ◌∷◌, ◌++◌, length, take, replicate, sum_by, filter, Ok}
 use Rattle.std.specs.List.{flat_map, AllByRecursion}
 use Rattle.byteorder.specs.Endian.{little_bytes}
 use Rattle.pe_image.specs.declared.directory.Directory.{Directory}
 use Rattle.pe_image.specs.Image.{Section, Image}
+use Rattle.pe_image.specs.Imports as importing
 
 -- ---- what is written
 
@@ -167,26 +168,6 @@ written image =
     ++ table_of image
     ++ flat_map raw_data image.sections
 
--- ---- what can be written
-
-pub record IsSection (s : SectionParts) : Type 0 where
-  pub name : length s.name ≡ 8
-  pub flags : s.flags < 2 ^ 32
-  pub stored : length s.bytes ≤ s.size
-
-abbrev pub IsDirectory : Directory → Type 0
-IsDirectory d = (d.rva < 2 ^ 32) × (d.size < 2 ^ 32)
-
--- the section table fits the headers, and all addresses fit 32 bits
-pub record CanBeWritten (image : ImageParts) : Type 0 where
-  pub entry : image.entry < 2 ^ 32
-  pub sections : AllByRecursion IsSection image.sections
-  pub table : length image.sections ≤ 17
-  pub end : end_of image.sections < 2 ^ 32
-  pub imports : IsDirectory image.imports
-  pub exceptions : IsDirectory image.exceptions
-  pub import_addresses : IsDirectory image.import_addresses
-
 -- ---- what is read again
 
 -- the raw data, cut at the section's size
@@ -206,3 +187,24 @@ image_read image = record {
   imports = image.imports;
   exceptions = image.exceptions;
 }
+
+-- ---- what can be written
+
+pub record IsSection (s : SectionParts) : Type 0 where
+  pub name : length s.name ≡ 8
+  pub flags : s.flags < 2 ^ 32
+  pub stored : length s.bytes ≤ s.size
+
+abbrev pub IsDirectory : Directory → Type 0
+IsDirectory d = (d.rva < 2 ^ 32) × (d.size < 2 ^ 32)
+
+-- the section table fits the headers, all addresses fit 32 bits, and the imports can be read
+pub record CanBeWritten (image : ImageParts) : Type 0 where
+  pub entry : image.entry < 2 ^ 32
+  pub sections : AllByRecursion IsSection image.sections
+  pub table : length image.sections ≤ 17
+  pub end : end_of image.sections < 2 ^ 32
+  pub imports : IsDirectory image.imports
+  pub exceptions : IsDirectory image.exceptions
+  pub import_addresses : IsDirectory image.import_addresses
+  pub imported : importing.imports (image_read image) ≡ Ok (importing.imports_of (image_read image))

@@ -13,6 +13,7 @@
 
 mod directory;
 mod fields;
+mod imports;
 mod layout;
 mod parts;
 mod put;
@@ -24,6 +25,7 @@ mod view;
 mod writing;
 
 pub use directory::Directory;
+pub use imports::Import;
 pub use parts::ImageSection;
 pub use refusal::ImageErr;
 pub use section::SectionView;

@@ -35,7 +35,7 @@ fn image(alloc: Global) -> Result<Vec<u8>, AllocError> {
     out.extend_from_slice(&[0; 44])?;
     out.extend_from_slice(&[16, 0, 0, 0])?; // NumberOfRvaAndSizes
     out.extend_from_slice(&[0; 8])?;
-    out.extend_from_slice(&[1, 0x10, 0, 0, 2, 0, 0, 0])?; // imports
+    out.extend_from_slice(&[1, 0x10, 0, 0, 0, 0, 0, 0])?; // imports
     out.extend_from_slice(&[0; 8])?;
     out.extend_from_slice(&[3, 0x20, 0, 0, 12, 0, 0, 0])?; // exceptions
     out.extend_from_slice(&[0; 96])?;
@@ -78,7 +78,8 @@ fn reads_fields(rt: HostRuntime) -> Result<(), Fail> {
     assert_eq!(rt; view.entry(), 0x2000);
     assert_eq!(rt; view.size(), 0x3000);
     let imports = view.import_directory();
-    assert_eq!(rt; (imports.rva, imports.size), (0x1001, 2));
+    assert_eq!(rt; (imports.rva, imports.size), (0x1001, 0));
+    assert!(rt; view.imports().is_empty());
     let exceptions = view.exception_directory();
     assert_eq!(rt; (exceptions.rva, exceptions.size), (0x2003, 12));
     let sections = view.sections();
@@ -305,10 +306,16 @@ fn finds_what_is_stored(rt: HostRuntime) -> Result<(), Fail> {
 
 #[test]
 fn counts_missing_directories_as_empty(rt: HostRuntime) -> Result<(), Fail> {
-    for (count, imports, exceptions) in [(0, 0, 0), (1, 0, 0), (2, 2, 0), (3, 2, 0), (4, 2, 12)] {
+    for (count, imports, exceptions) in [
+        (0, 0, 0),
+        (1, 0, 0),
+        (2, 0x1001, 0),
+        (3, 0x1001, 0),
+        (4, 0x1001, 12),
+    ] {
         let bytes = edited(rt.alloc(), OPTIONAL + 108, &[count])?;
         let view = ImageView::read(rt.alloc(), &bytes)?;
-        assert_eq!(rt; view.import_directory().size, imports, "{count}");
+        assert_eq!(rt; view.import_directory().rva, imports, "{count}");
         assert_eq!(rt; view.exception_directory().size, exceptions, "{count}");
     }
     Ok(())
@@ -363,5 +370,90 @@ fn writes_two_sections(rt: HostRuntime) -> Result<(), Fail> {
         }
     }
     assert_eq!(rt; bytes.as_slice(), expected.as_slice());
+    Ok(())
+}
+
+/// An image whose third section, at 0x3000, has two names of one library, with bytes put at an offset
+/// of that section, and its import directory at an address.
+fn importing(alloc: Global, directory: u8, at: usize, bytes: &[u8]) -> Result<Vec<u8>, AllocError> {
+    let mut tables = Vec::new(alloc);
+    tables.extend_from_slice(&[0x28, 0x30, 0, 0, 0, 0, 0, 0, 0, 0, 0, 0])?; // lookup table
+    tables.extend_from_slice(&[0x68, 0x30, 0, 0, 0x40, 0x30, 0, 0])?; // name, address table
+    tables.extend_from_slice(&[0; 20])?;
+    for _table in 0..2 {
+        tables.extend_from_slice(&[0x58, 0x30, 0, 0, 0, 0, 0, 0])?;
+        tables.extend_from_slice(&[0x5E, 0x30, 0, 0, 0, 0, 0, 0])?;
+        tables.extend_from_slice(&[0; 8])?;
+    }
+    tables.extend_from_slice(b"\0\0put\0\0\0protect\0sehhost.dll\0")?;
+    for (i, byte) in bytes.iter().enumerate() {
+        if let Some(place) = tables.get_mut(at.saturating_add(i)) {
+            *place = *byte;
+        }
+    }
+    let mut out = image(alloc)?;
+    let fields: [(usize, &[u8]); 4] = [
+        (SIGNATURE + 6, &[3]),
+        (OPTIONAL + 56, &[0, 0x40]),
+        (OPTIONAL + 120, &[directory, 0x30, 0, 0, 40]),
+        (
+            TABLE + 80,
+            &[
+                b'.', b'r', b'd', b'a', b't', b'a', 0, 0, 0x74, 0, 0, 0, 0, 0x30, 0, 0, 0x74, 0, 0,
+                0, 0, 6,
+            ],
+        ),
+    ];
+    for (at, field) in fields {
+        for (i, byte) in field.iter().enumerate() {
+            if let Some(place) = out.get_mut(at.saturating_add(i)) {
+                *place = *byte;
+            }
+        }
+    }
+    out.extend_from_slice(&tables)?;
+    Ok(out)
+}
+
+#[test]
+fn reads_imports(rt: HostRuntime) -> Result<(), Fail> {
+    // Where the directory lies; an edit of the section; the index of the import that can't be read.
+    let cases: [(&str, u8, usize, &[u8], Option<u64>); 11] = [
+        ("as it is", 0, 0, &[], None),
+        ("address table alone", 0, 0, &[0, 0], None),
+        ("first by ordinal", 0, 0x2F, &[0x80], Some(0)),
+        ("second by ordinal", 0, 0x37, &[0x80], Some(1)),
+        ("entry past all", 0, 0x34, &[1], Some(1)),
+        ("hint past the end", 0, 0x30, &[0x73], Some(1)),
+        ("name past the end", 0, 0x73, &[b'x'], None),
+        (
+            "no end of the name",
+            0,
+            0x30,
+            &[0x70, 0x30, 0, 0, 0, 0, 0, 0],
+            None,
+        ),
+        ("slots that aren't stored", 0, 16, &[0, 0x10], Some(0)),
+        ("second slot past the end", 0, 16, &[0x6C, 0x30], Some(1)),
+        ("descriptor past the end", 0x61, 0, &[], Some(0)),
+    ];
+    for (name, directory, at, bytes, index) in cases {
+        let bytes = importing(rt.alloc(), directory, at, bytes)?;
+        let answer = ImageView::read(rt.alloc(), &bytes).err();
+        let refusal = index.map(|index| ImageErr::ImportBad { index });
+        assert_eq!(rt; answer, refusal, "{name}");
+    }
+    let bytes = importing(rt.alloc(), 0, 0, &[])?;
+    let view = ImageView::read(rt.alloc(), &bytes)?;
+    let imports = view.imports();
+    assert_eq!(rt; imports.len(), 2);
+    assert_eq!(rt;
+        (imports[0].name(), imports[0].slot()),
+        (b"put".as_slice(), 0x3040)
+    );
+    assert_eq!(rt;
+        (imports[1].name(), imports[1].slot()),
+        (b"protect".as_slice(), 0x3048)
+    );
     Ok(())
 }

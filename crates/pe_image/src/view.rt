@@ -2,15 +2,17 @@
 
 ghost use Rattle.std.specs.Prelude.{◌≡◌, ◌<◌, ◌^◌, option_map, IfOk, IfErr};
 ghost use Rattle.pe_image.specs.Image.{AreAscending, stored};
+ghost use Rattle.pe_image.specs.Imports.{imports, imports_of};
 ghost use Rattle.pe_image.specs.Reading.{IsImage, IsRefused};
 
 use crate::directory::Directory;
+use crate::imports::{Import, read_imports, stored};
 use crate::reading::{
     check_headers, directory, entry_point, image_base, image_end, image_size, section_count,
     sections_at,
 };
 use crate::refusal::ImageErr;
-use crate::section::{SectionView, stored_from};
+use crate::section::SectionView;
 use crate::table::sections;
 use std::alloc::Global;
 use std::marker::Model;
@@ -22,12 +24,15 @@ pub struct ImageView<'a> {
     entry: u32,
     size: u32,
     sections: Vec<SectionView<'a>>,
-    imports: Directory,
+    import_directory: Directory,
     exceptions: Directory,
+    imports: Vec<Import<'a>>,
 }
 
 impl<'a> Model for ImageView<'a> {
+    ghost use Rattle.std.specs.Prelude.{◌≡◌, Ok};
     ghost use Rattle.pe_image.specs.Image.{Image, AreAscending};
+    ghost use Rattle.pe_image.specs.Imports.{imports_in};
 
     ghost Value = { Image };
 
@@ -36,17 +41,20 @@ impl<'a> Model for ImageView<'a> {
       entry = v.entry;
       size = v.size;
       sections = v.sections.items;
-      imports = v.imports;
+      imports = v.import_directory;
       exceptions = v.exceptions;
     } };
 
-    ghost invariant = { λ v. AreAscending 0 v.sections.items };
+    ghost invariant = { λ v. (AreAscending 0 v.sections.items)
+        × (imports_in v.sections.items v.import_directory ≡ Ok v.imports.items) };
 }
 
 impl<'a> ImageView<'a> {
     /// Reads the bytes of a file. The checks of the headers come first, from the front, and then
     /// those of each section: its raw data lies in the file, and it begins on a page, at or above
-    /// the end of the section before, and ends within SizeOfImage rounded up to whole pages.
+    /// the end of the section before, and ends within SizeOfImage rounded up to whole pages. Last come
+    /// the imports, library by library: none is by ordinal, and its descriptor, its entry in the
+    /// lookup table, its name and its slot are each stored whole in one section.
     pub fn read(alloc: Global, bytes: &'a [u8]) -> Result<ImageView<'a>, ImageErr>
         ensures image { IfOk result (λ view. IsImage bytes.now view) }
         ensures refusal { IfErr result (λ e. IsRefused bytes.now e) }
@@ -56,13 +64,16 @@ impl<'a> ImageView<'a> {
         let count = section_count(bytes);
         let end = image_end(bytes);
         let sections = sections(alloc, bytes, at, count, end)?;
+        let import_directory = directory(bytes, 1);
+        let imports = read_imports(alloc, &sections, import_directory)?;
         Ok(ImageView {
             base: image_base(bytes),
             entry: entry_point(bytes),
             size: image_size(bytes),
             sections,
-            imports: directory(bytes, 1),
+            import_directory,
             exceptions: directory(bytes, 3),
+            imports,
         })
     }
 
@@ -93,7 +104,16 @@ impl<'a> ImageView<'a> {
     pub fn import_directory(&self) -> Directory
         ensures { result ≡ self.now.imports }
     {
-        self.imports
+        self.import_directory
+    }
+
+    /// The names that it imports with their slots, library by library. The names of libraries
+    /// aren't looked at.
+    pub fn imports(&self) -> &[Import<'a>]
+        ensures value { result.now ≡ imports_of self.now }
+        ensures read { imports self.now ≡ Ok result.now }
+    {
+        &self.imports
     }
 
     /// Where the function table lies.
@@ -116,11 +136,6 @@ impl<'a> ImageView<'a> {
     pub fn bytes(&self, rva: u64, len: u64) -> Option<&'a [u8]>
         ensures { option_map (λ b. b.now) result ≡ stored self.now.sections rva len }
     {
-        let stored = stored_from(&self.sections, rva);
-        if len <= stored.len() as u64 {
-            Some(&stored[..len as usize])
-        } else {
-            None
-        }
+        stored(&self.sections, rva, len)
     }
 }
