@@ -1,0 +1,5 @@
+pub mod Chains
+pub mod Lookups
+pub mod Ranges
+pub mod Rows
+pub mod Slots

@@ -1,0 +1,56 @@
+-- Which handler is the C handler: one whose code is a jump through the slot of `__C_specific_handler`.
+use Rattle.std.specs.Prelude.{ℕ, ◌+◌, ◌/◌, ◌%◌, ◌^◌, ◌-◌, Bool, true, false, ◌&&◌, ◌==◌, nat_lt, if◌then◌else◌, List, [], ◌∷◌, drop, slice_index, option_and_then, Option, Some, None, codes}
+use Rattle.std.specs.Str.{bytes_eq}
+use Rattle.pe_image.specs.Field.{field}
+use Rattle.pe_image.specs.Image.{Image, stored}
+use Rattle.pe_image.specs.Imports.{Import, imports_of}
+
+-- ---- the jump (Intel manual, volume 2, JMP, FF /4, with a displacement from the next instruction)
+
+-- 32 bits, extended by their sign to 64
+abbrev pub extended : ℕ → ℕ
+extended d = if nat_lt d (2 ^ 31) then d else d + (2 ^ 64 - 2 ^ 32)
+
+abbrev pub is_jump : List ℕ → Bool
+is_jump bytes = (slice_index bytes 0 == 0xFF) && (slice_index bytes 1 == 0x25)
+
+abbrev pub slot_if : ℕ → Bool → Option ℕ
+slot_if slot true = Some slot
+slot_if slot false = None
+
+-- the slot that the jump reads which these bytes at an address begin with
+abbrev pub plain_slot : ℕ → List ℕ → Option ℕ
+plain_slot rva bytes = slot_if ((rva + 6 + extended (field 4 bytes 2)) % 2 ^ 64) (is_jump bytes)
+
+-- 40 to 4F
+abbrev pub has_rex : List ℕ → Bool
+has_rex bytes = slice_index bytes 0 / 16 == 4
+
+-- the slot that a jump at an address reads: of six bytes, or of seven with the prefix
+abbrev pub behind_rex : Image → ℕ → List ℕ → Bool → Option ℕ
+behind_rex image rva bytes true = option_and_then (λ all. plain_slot (rva + 1) (drop 1 all)) (stored image.sections rva 7)
+behind_rex image rva bytes false = plain_slot rva bytes
+
+abbrev pub jump_slot : Image → ℕ → Option ℕ
+jump_slot image rva = option_and_then (λ bytes. behind_rex image rva bytes (has_rex bytes)) (stored image.sections rva 6)
+
+-- ---- the name that a slot is bound to, which is that of its last import
+
+abbrev pub is_c_name : List ℕ → Bool
+is_c_name name = bytes_eq name (codes "__C_specific_handler")
+
+abbrev pub bound_at : ℕ → Bool → Import → Bool → Bool
+bound_at slot others i true = is_c_name i.name
+bound_at slot others i false = others
+
+-- whether the imports, behind those that say so far, bind a slot to the C handler
+abbrev pub binds : ℕ → Bool → List Import → Bool
+binds slot found [] = found
+binds slot found (i ∷ is) = binds slot (bound_at slot found i (i.slot == slot)) is
+
+abbrev pub binds_slot : List Import → Option ℕ → Bool
+binds_slot is None = false
+binds_slot is (Some slot) = binds slot false is
+
+unfoldable pub is_c_handler : Image → ℕ → Bool
+is_c_handler image rva = binds_slot (imports_of image) (jump_slot image rva)

@@ -1,0 +1,151 @@
+-- Unwind infos: what one says, and what it must be. Each definition answers what it reads, or the first refusal.
+use Rattle.std.specs.Prelude.{◌≡◌, ◌≤◌, ℕ, ◌+◌, ◌*◌, ◌/◌, ◌%◌, Bool, true, false, not, ◌&&◌, ◌==◌, nat_lt, if◌then◌else◌, List, [], length, take, drop, Option, Some, None, Result, Ok, Err, slice_index}
+use denote.Ref.{Bor}
+use Rattle.pe_image.specs.Field.{field}
+use Rattle.pe_image.specs.Image.{Image, stored}
+use Rattle.eh_tables.specs.declared.code.UnwindCode.{UnwindCode}
+use Rattle.eh_tables.specs.declared.range.RuntimeFunction.{RuntimeFunction}
+use Rattle.eh_tables.specs.declared.scope.ScopeRow.{ScopeRow}
+use Rattle.eh_tables.specs.declared.refusal.TableErr.{TableErr}
+use Rattle.eh_tables.specs.declared.refusal.TableErr.TheVariants as refusals
+use Rattle.eh_tables.specs.Answer.{Table, ◌>>=◌, unless, or_refused}
+use Rattle.eh_tables.specs.Codes as slots
+use Rattle.eh_tables.specs.Handler.{is_c_handler}
+use Rattle.eh_tables.specs.Scopes as scopes
+
+-- an entry of the function table, at a place
+abbrev pub range_at : List ℕ → ℕ → RuntimeFunction
+range_at bytes at = record { begin = field 4 bytes at; end = field 4 bytes (at + 4); unwind_info = field 4 bytes (at + 8) }
+
+-- ---- the header, of four bytes
+
+abbrev pub version : List ℕ → ℕ
+version bytes = slice_index bytes 0 % 8
+
+abbrev pub flags : List ℕ → ℕ
+flags bytes = slice_index bytes 0 / 8
+
+abbrev pub prolog : List ℕ → ℕ
+prolog bytes = slice_index bytes 1
+
+-- how many slots there are
+abbrev pub slot_count : List ℕ → ℕ
+slot_count bytes = slice_index bytes 2
+
+-- the frame register's number, where 0 stands for none, and its distance from the base of the frame
+abbrev pub frame_register : List ℕ → ℕ
+frame_register bytes = slice_index bytes 3 % 16
+
+abbrev pub is_framed : List ℕ → Bool
+is_framed bytes = not (frame_register bytes == 0)
+
+abbrev pub frame_offset : List ℕ → ℕ
+frame_offset bytes = 16 * (slice_index bytes 3 / 16)
+
+-- UNW_FLAG_EHANDLER 1, UNW_FLAG_UHANDLER 2 and both, UNW_FLAG_CHAININFO 4, or none of them
+abbrev pub are_flags : ℕ → Bool
+are_flags f = nat_lt f 5
+
+abbrev pub has_handler : List ℕ → Bool
+has_handler bytes = nat_lt 0 (flags bytes) && nat_lt (flags bytes) 4
+
+abbrev pub is_chained : List ℕ → Bool
+is_chained bytes = flags bytes == 4
+
+-- ---- the slots, and what follows them
+
+abbrev pub slots_of : List ℕ → List ℕ
+slots_of bytes = take (2 * slot_count bytes) (drop 4 bytes)
+
+-- where they end, with the slot that makes their count even
+abbrev pub slots_end : List ℕ → ℕ
+slots_end bytes = 4 + 4 * ((slot_count bytes + 1) / 2)
+
+-- a handler's address, an entry of the function table, or nothing
+abbrev pub trailer_size : List ℕ → ℕ
+trailer_size bytes = if has_handler bytes then 4 else (if is_chained bytes then 12 else 0)
+
+abbrev pub handler_at : List ℕ → ℕ
+handler_at bytes = field 4 bytes (slots_end bytes)
+
+abbrev pub handler : List ℕ → Option ℕ
+handler bytes = if has_handler bytes then Some (handler_at bytes) else None
+
+abbrev pub parent : List ℕ → Option RuntimeFunction
+parent bytes = if is_chained bytes then Some (range_at bytes (slots_end bytes)) else None
+
+-- ---- what an info says
+
+pub record Info : Type 0 where
+  pub bytes : List ℕ  -- header and slots as they are stored, with the one that makes their count even
+  pub flags : ℕ
+  pub prolog : ℕ
+  pub frame_register : ℕ  -- 0 for none
+  pub frame_offset : ℕ  -- in bytes
+  pub codes : List UnwindCode
+  pub handler : Option ℕ
+  pub parent : Option RuntimeFunction
+  pub has_c_handler : Bool
+  pub scopes : List ScopeRow  -- none where the handler isn't the C handler
+
+-- by the bytes up to the trailer's end, and those of the scope rows
+abbrev pub info_of : List ℕ → Bool → List ℕ → Info
+info_of bytes is_c rows = record {
+  bytes = take (slots_end bytes) bytes;
+  flags = flags bytes;
+  prolog = prolog bytes;
+  frame_register = frame_register bytes;
+  frame_offset = frame_offset bytes;
+  codes = slots.codes (is_framed bytes) 0 (slots_of bytes);
+  handler = handler bytes;
+  parent = parent bytes;
+  has_c_handler = is_c;
+  scopes = scopes.rows_in rows;
+}
+
+-- ---- what an info must be
+
+-- it has all its parts
+pub record HasParts (bytes : List ℕ) : Type 0 where
+  pub known : flags bytes ≤ 4
+  pub size : length bytes ≡ slots_end bytes + trailer_size bytes
+
+-- what the code answers, as a list
+abbrev pub shown : {A : Type 0} → Result (Bor (List A)) TableErr → Table (List A)
+shown (Ok bytes) = Ok bytes.now
+shown (Err e) = Err e
+
+-- header, slots and trailer
+unfoldable pub stored_info : Image → ℕ → ℕ → Table (List ℕ)
+stored_info image index rva = do
+  _ ← unless (rva % 4 == 0) (refusals.Misaligned rva)
+  head ← or_refused (stored image.sections rva 4) (refusals.Truncated rva)
+  _ ← unless (version head == 1) (refusals.Version index (version head))
+  _ ← unless (are_flags (flags head)) (refusals.Flags index)
+  or_refused (stored image.sections rva (slots_end head + trailer_size head)) (refusals.Truncated rva)
+
+-- the rows of the scope table, which stands behind the handler's address: their count, and they themselves
+abbrev pub rows_at : Image → ℕ → ℕ → Table (List ℕ)
+rows_at image rva at = do
+  counted ← or_refused (stored image.sections rva (at + 4)) (refusals.Truncated rva)
+  all ← or_refused (stored image.sections rva (at + 4 + 16 * field 4 counted at)) (refusals.Truncated rva)
+  Ok (drop (at + 4) all)
+
+abbrev pub rows_if : Table (List ℕ) → Bool → Table (List ℕ)
+rows_if rows true = rows
+rows_if rows false = Ok []
+
+abbrev pub is_c : Image → List ℕ → Bool
+is_c image bytes = has_handler bytes && is_c_handler image (handler_at bytes)
+
+unfoldable pub stored_rows : Image → ℕ → List ℕ → Table (List ℕ)
+stored_rows image rva bytes = rows_if (rows_at image rva (slots_end bytes + 4)) (is_c image bytes)
+
+-- The codes come before the chain, and the chain before the scope rows; since a chained info has no handler, its rows are none.
+unfoldable pub info : Image → ℕ → ℕ → Table Info
+info image index rva = do
+  bytes ← stored_info image index rva
+  rows ← stored_rows image rva bytes
+  _ ← slots.checked index (is_framed bytes) 0 255 0 (slots_of bytes)
+  _ ← scopes.checked index image.size 0 (scopes.rows_in rows)
+  Ok (info_of bytes (is_c image bytes) rows)

@@ -1,0 +1,7 @@
+pub mod Answer
+pub mod Codes
+pub mod Handler
+pub mod Infos
+pub mod Scopes
+pub mod Tables
+pub mod Written

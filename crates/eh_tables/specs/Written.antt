@@ -1,0 +1,127 @@
+-- The one form in which unwind infos, scope tables and function tables are written.
+use Rattle.std.specs.Prelude.{◌≡◌, ℕ, ◌+◌, ◌-◌, ◌*◌, ◌/◌, ◌%◌, ◌<◌, ◌≤◌, Bool, true, false, ◌&&◌, ◌==◌, nat_lt, nat_le, if◌then◌else◌, List, [], ◌∷◌, ◌++◌, length, replicate}
+use Rattle.std.specs.List.{flat_map, AllByRecursion}
+use Rattle.byteorder.specs.Endian.{little_bytes}
+use Rattle.eh_tables.specs.declared.code.Operation.{Operation}
+use Rattle.eh_tables.specs.declared.code.Operation.TheVariants.{Push, Allocate, SetFrame, Save, SaveVector, MachineFrame}
+use Rattle.eh_tables.specs.declared.code.UnwindCode.{UnwindCode}
+use Rattle.eh_tables.specs.declared.range.RuntimeFunction.{RuntimeFunction}
+use Rattle.eh_tables.specs.declared.scope.ScopeRow.{ScopeRow}
+use Rattle.eh_tables.specs.declared.unwind_info.Trailer.{Trailer}
+use Rattle.eh_tables.specs.declared.unwind_info.Trailer.TheVariants.{Nothing, Handler, Parent}
+use Rattle.eh_tables.specs.declared.unwind_info.UnwindInfo.{UnwindInfo}
+
+unfoldable pub u16 : ℕ → List ℕ
+u16 v = little_bytes 2 v
+
+unfoldable pub u32 : ℕ → List ℕ
+u32 v = little_bytes 4 v
+
+-- ---- codes
+
+-- the first slot, by the prologue offset, the operation and its info
+abbrev pub slot : ℕ → ℕ → ℕ → List ℕ
+slot offset op info = offset ∷ (op + 16 * info) ∷ []
+
+-- a multiple of a unit, whose quotient fits 16 bits
+abbrev pub is_short : ℕ → ℕ → Bool
+is_short unit n = (n % unit == 0) && nat_lt (n / unit) 65536
+
+-- a size that fits UWOP_ALLOC_SMALL
+abbrev pub is_small : ℕ → Bool
+is_small n = (n % 8 == 0) && nat_lt 0 n && nat_le n 128
+
+-- the shortest code of each operation
+abbrev pub allocation : ℕ → ℕ → List ℕ
+allocation offset n = if is_small n then slot offset 2 (n / 8 - 1) else (if is_short 8 n then slot offset 1 0 ++ u16 (n / 8) else slot offset 1 1 ++ u32 n)
+
+-- in a unit by one operation, or unscaled by the next
+abbrev pub saving : ℕ → ℕ → ℕ → ℕ → ℕ → List ℕ
+saving offset op unit register n = if is_short unit n then slot offset op register ++ u16 (n / unit) else slot offset (op + 1) register ++ u32 n
+
+abbrev pub operation_bytes : ℕ → Operation → List ℕ
+operation_bytes offset (Push r) = slot offset 0 r
+operation_bytes offset (Allocate n) = allocation offset n
+operation_bytes offset SetFrame = slot offset 3 0
+operation_bytes offset (Save r n) = saving offset 4 8 r n
+operation_bytes offset (SaveVector r n) = saving offset 8 16 r n
+operation_bytes offset (MachineFrame i) = slot offset 10 i
+
+abbrev pub code_bytes : UnwindCode → List ℕ
+code_bytes c = operation_bytes c.offset c.operation
+
+abbrev pub codes_bytes : List UnwindCode → List ℕ
+codes_bytes cs = flat_map code_bytes cs
+
+-- ---- unwind infos
+
+abbrev pub bit : Bool → ℕ → ℕ
+bit true n = n
+bit false n = 0
+
+abbrev pub trailer_flags : Trailer → ℕ
+trailer_flags Nothing = 0
+trailer_flags (Handler s u rva) = bit s 1 + bit u 2
+trailer_flags (Parent r) = 4
+
+abbrev pub range_bytes : RuntimeFunction → List ℕ
+range_bytes r = u32 r.begin ++ u32 r.end ++ u32 r.unwind_info
+
+abbrev pub trailer_bytes : Trailer → List ℕ
+trailer_bytes Nothing = []
+trailer_bytes (Handler s u rva) = u32 rva
+trailer_bytes (Parent r) = range_bytes r
+
+-- one slot of zeros more where the count of slots is odd
+abbrev pub padded : List ℕ → List ℕ
+padded slots = slots ++ replicate (length slots % 4) 0
+
+abbrev pub header : UnwindInfo → ℕ → List ℕ
+header i size = (1 + 8 * trailer_flags i.trailer) ∷ i.prolog ∷ (size / 2) ∷ (i.frame_register + i.frame_offset) ∷ []
+
+unfoldable pub unwind_bytes : UnwindInfo → List ℕ
+unwind_bytes i =
+    let slots = codes_bytes i.codes.items in
+    header i (length slots) ++ padded slots ++ trailer_bytes i.trailer
+
+-- ---- what can be written
+
+-- each operand fits its field, and a frame is set only where there is a frame register
+abbrev pub Fits : Bool → Operation → Type 0
+Fits framed (Push r) = r < 16
+Fits framed (Allocate n) = Unit {0}
+Fits framed SetFrame = framed ≡ true
+Fits framed (Save r n) = r < 16
+Fits framed (SaveVector r n) = r < 16
+Fits framed (MachineFrame i) = i < 2
+
+-- no prologue offset is above the one before
+abbrev pub AreFalling : ℕ → List UnwindCode → Type 0
+AreFalling last [] = Unit {0}
+AreFalling last (c ∷ cs) = (c.offset ≤ last) × AreFalling c.offset cs
+
+abbrev pub is_framed : UnwindInfo → Bool
+is_framed i = nat_lt 0 i.frame_register
+
+abbrev pub IsTrailer : Trailer → Type 0
+IsTrailer t = trailer_flags t ≡ 0 → t ≡ Nothing
+
+pub record CanBeWritten (i : UnwindInfo) : Type 0 where
+  pub register : i.frame_register < 16
+  pub offset : i.frame_offset % 16 ≡ 0
+  pub codes : AllByRecursion (λ c. Fits (is_framed i) c.operation) i.codes.items
+  pub order : AreFalling 255 i.codes.items
+  pub slots : length (codes_bytes i.codes.items) ≤ 510
+  pub trailer : IsTrailer i.trailer
+
+-- ---- tables
+
+abbrev pub row_bytes : ScopeRow → List ℕ
+row_bytes r = u32 r.begin ++ u32 r.end ++ u32 r.handler ++ u32 r.jump
+
+-- the count of the rows, and they themselves
+abbrev pub scope_bytes : List ScopeRow → List ℕ
+scope_bytes rs = u32 (length rs) ++ flat_map row_bytes rs
+
+abbrev pub table_bytes : List RuntimeFunction → List ℕ
+table_bytes rs = flat_map range_bytes rs

@@ -1,0 +1,212 @@
+//! Unwind codes, read from their slots.
+
+ghost use Rattle.std.specs.Prelude.{◌≡◌, ◌≤◌, ◌<◌, ◌+◌, ◌*◌, ◌^◌, length, IfSome};
+ghost use Rattle.eh_tables.specs.Codes as spec;
+
+use crate::code::{Operation, UnwindCode};
+use crate::refusal::TableErr;
+use std::marker::Model;
+
+/// The codes of an unwind info, in their order, which is from the prologue's end to its begin. A
+/// clause sees the list of those that are left.
+#[derive(Drop)]
+pub struct Codes<'a> {
+    framed: bool,
+    slots: &'a [u8],
+}
+
+impl<'a> Model for Codes<'a> {
+    ghost use Rattle.std.specs.Prelude.{List};
+    ghost use Rattle.eh_tables.specs.declared.code.UnwindCode.{UnwindCode};
+    ghost use Rattle.eh_tables.specs.Codes.{codes};
+
+    ghost Value = { List UnwindCode };
+
+    ghost view = { λ c. codes c.framed 0 c.slots.now };
+}
+
+impl<'a> Codes<'a> {
+    pub(crate) fn new(framed: bool, slots: &'a [u8]) -> Codes<'a>
+        ensures { result ≡ spec.codes framed 0 slots.now }
+    {
+        Codes { framed, slots }
+    }
+}
+
+impl<'a> Iterator for Codes<'a> {
+    type Item = UnwindCode;
+
+    ghost use Rattle.std.specs.Iterator.{YieldsFirst, item_count};
+
+    ghost next_gives = { YieldsFirst (λ c. c) };
+
+    ghost remaining = { item_count (λ c. c) };
+
+    #[tactic(auto, using(crate::proofs::Slots::first_code))]
+    fn next(&mut self) -> Option<UnwindCode> {
+        match self.slots {
+            [offset, op, rest @ ..] => {
+                let (operation, operands) = operation(self.framed, *op % 16, *op / 16, rest)?;
+                self.slots = &rest[2 * operands..];
+                Some(UnwindCode {
+                    offset: *offset,
+                    operation,
+                })
+            }
+            _ => None,
+        }
+    }
+}
+
+/// One slot of operands: a number of 16 bits.
+fn one_slot(rest: &[u8]) -> Option<u32>
+    ensures value { result ≡ spec.one_slot rest.now }
+    ensures fits { IfSome result (λ n. (n < 2 ^ 16) × (2 ≤ length rest.now)) }
+{
+    match rest {
+        [a, b, ..] => Some(*a as u32 + 256 * *b as u32),
+        _ => None,
+    }
+}
+
+/// Two slots of operands: a number of 32 bits.
+fn two_slots(rest: &[u8]) -> Option<u32>
+    ensures value { result ≡ spec.two_slots rest.now }
+    ensures fits { IfSome result (λ n. 4 ≤ length rest.now) }
+{
+    match rest {
+        [a, b, c, d, ..] => {
+            Some(*a as u32 + 256 * *b as u32 + 65536 * *c as u32 + 16777216 * *d as u32)
+        }
+        _ => None,
+    }
+}
+
+/// UWOP_ALLOC_LARGE.
+fn large(info: u8, rest: &[u8]) -> Option<(Operation, usize)>
+    ensures value { result ≡ spec.large info rest.now }
+    ensures fits { IfSome result (λ x. 2 * x.1 ≤ length rest.now) }
+{
+    match info {
+        0 => {
+            let n = one_slot(rest)?;
+            Some((Operation::Allocate { size: 8 * n }, 1))
+        }
+        1 => {
+            let size = two_slots(rest)?;
+            Some((Operation::Allocate { size }, 2))
+        }
+        _ => None,
+    }
+}
+
+/// The operation of a code, and how many slots of operands it takes.
+#[tactic(auto, unfolding(crate::specs::Codes::operation))]
+fn operation(framed: bool, op: u8, info: u8, rest: &[u8]) -> Option<(Operation, usize)>
+    requires { info < 16 }
+    ensures value { result ≡ spec.operation framed op info rest.now }
+    ensures fits { IfSome result (λ x. 2 * x.1 ≤ length rest.now) }
+{
+    match op {
+        0 => Some((Operation::Push { register: info }, 0)),
+        1 => large(info, rest),
+        2 => {
+            let size = 8 * info as u32 + 8;
+            Some((Operation::Allocate { size }, 0))
+        }
+        3 => {
+            if framed {
+                Some((Operation::SetFrame, 0))
+            } else {
+                None
+            }
+        }
+        4 => {
+            let offset = 8 * one_slot(rest)?;
+            Some((
+                Operation::Save {
+                    register: info,
+                    offset,
+                },
+                1,
+            ))
+        }
+        5 => {
+            let offset = two_slots(rest)?;
+            Some((
+                Operation::Save {
+                    register: info,
+                    offset,
+                },
+                2,
+            ))
+        }
+        8 => {
+            let offset = 16 * one_slot(rest)?;
+            Some((
+                Operation::SaveVector {
+                    register: info,
+                    offset,
+                },
+                1,
+            ))
+        }
+        9 => {
+            let offset = two_slots(rest)?;
+            Some((
+                Operation::SaveVector {
+                    register: info,
+                    offset,
+                },
+                2,
+            ))
+        }
+        10 => {
+            if info < 2 {
+                Some((Operation::MachineFrame { info }, 0))
+            } else {
+                None
+            }
+        }
+        _ => None,
+    }
+}
+
+/// Checks the codes of the slots from that one on, of which the first ones are still operands.
+fn check_from(
+    index: u64,
+    framed: bool,
+    slot: u64,
+    last: u8,
+    operands: usize,
+    slots: &[u8],
+) -> Result<(), TableErr>
+    requires { 2 * slot + length slots.now ≤ 510 }
+    ensures { result ≡ spec.checked index framed slot last operands slots.now }
+{
+    match slots {
+        [offset, op, rest @ ..] => {
+            if operands != 0 {
+                return check_from(index, framed, slot + 1, last, operands - 1, rest);
+            }
+            match operation(framed, *op % 16, *op / 16, rest) {
+                None => Err(TableErr::Op { index, slot }),
+                Some((_, operands)) => {
+                    if last < *offset {
+                        return Err(TableErr::CodeOrder { index, slot });
+                    }
+                    check_from(index, framed, slot + 1, *offset, operands, rest)
+                }
+            }
+        }
+        _ => Ok(()),
+    }
+}
+
+/// Checks the codes of an info's slots.
+pub fn check_codes(index: u64, framed: bool, slots: &[u8]) -> Result<(), TableErr>
+    requires { length slots.now ≤ 510 }
+    ensures { result ≡ spec.checked index framed 0 255 0 slots.now }
+{
+    check_from(index, framed, 0, 255, 0, slots)
+}

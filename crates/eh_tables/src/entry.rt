@@ -1,0 +1,113 @@
+//! Entries with their unwind infos.
+
+ghost use Rattle.std.specs.Prelude.{◌≡◌, ◌≤◌, length};
+ghost use Rattle.arrayvec.specs.ArrayVec.{array_vec_len};
+ghost use Rattle.eh_tables.specs.Tables as spec;
+
+use crate::codes::Codes;
+use crate::info::{Info, read_info};
+use crate::range::RuntimeFunction;
+use crate::refusal::TableErr;
+use crate::scope::Scopes;
+use arrayvec::ArrayVec;
+use pe_image::ImageView;
+use std::marker::Model;
+
+/// An entry of a function table, with its unwind info and those that this is chained to.
+#[derive(Drop)]
+pub struct Entry<'a> {
+    range: RuntimeFunction,
+    info: Info<'a>,
+    parents: ArrayVec<Info<'a>, 31>,
+}
+
+impl<'a> Model for Entry<'a> {
+    ghost use Rattle.eh_tables.specs.Tables.{Entry};
+
+    ghost Value = { Entry };
+
+    ghost view = { λ e. record { range = e.range; info = e.info; parents = e.parents.items } };
+}
+
+impl<'a> Entry<'a> {
+    /// The range of its code, and where its unwind info lies.
+    pub fn range(&self) -> RuntimeFunction
+        ensures { result ≡ self.now.range }
+    {
+        self.range
+    }
+
+    /// Its own unwind info.
+    pub fn info(&self) -> &Info<'a>
+        ensures { result.now ≡ self.now.info }
+    {
+        &self.info
+    }
+
+    /// The unwind infos that it is chained to, one after another.
+    pub fn parents(&self) -> &[Info<'a>]
+        ensures { result.now ≡ self.now.parents }
+    {
+        self.parents.as_slice()
+    }
+
+    /// The codes of its own unwind info, in their order.
+    pub fn codes(&self) -> Codes<'a>
+        ensures { result ≡ self.now.info.codes }
+    {
+        self.info.codes()
+    }
+
+    /// The rows of its scope table, in their order; none where its handler isn't the C handler.
+    pub fn scopes(&self) -> Scopes<'a>
+        ensures { result ≡ self.now.info.scopes }
+    {
+        self.info.scopes()
+    }
+}
+
+/// Reads the infos that one is chained to.
+fn read_parents<'a>(
+    image: &ImageView<'a>,
+    index: u64,
+    first: Option<RuntimeFunction>,
+) -> Result<ArrayVec<Info<'a>, 31>, TableErr>
+    ensures { spec.listed result ≡ spec.parents 31 image.now index first }
+{
+    let mut parents = ArrayVec::new();
+    let mut parent = first;
+    while let Some(range) = parent {
+        if parents.is_full() {
+            return Err(TableErr::ChainLong { index });
+        }
+        let info = read_info(image, index, range.unwind_info)?;
+        parent = info.parent();
+        parents.push(info);
+    }
+    Ok(parents)
+}
+
+/// Reads the entry of that index and range, behind one that ends at `last`.
+#[tactic(auto, unfolding(crate::specs::Tables::entry))]
+pub fn read_entry<'a>(
+    image: &ImageView<'a>,
+    index: u64,
+    last: u32,
+    range: RuntimeFunction,
+) -> Result<Entry<'a>, TableErr>
+    ensures { result ≡ spec.entry image.now index last range }
+{
+    if range.end <= range.begin {
+        return Err(TableErr::EmptyRange { index });
+    }
+    if range.begin < last {
+        return Err(TableErr::Unsorted { index });
+    }
+    let info = read_info(image, index, range.unwind_info)?;
+    let parents = read_parents(image, index, info.parent())?;
+    Ok(Entry {
+        range,
+        info,
+        parents,
+    })
+}

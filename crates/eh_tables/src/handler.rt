@@ -1,0 +1,76 @@
+//! Which handler is the C handler.
+
+ghost use Rattle.std.specs.Prelude.{◌≡◌, ◌≤◌, ◌+◌, ◌<◌, ◌^◌, length, false};
+ghost use Rattle.pe_image.specs.Imports.{Import, imports_of};
+ghost use Rattle.eh_tables.specs.Handler as spec;
+
+use crate::fields::u32_at;
+use pe_image::{ImageView, Import};
+
+/// A number of 32 bits, extended by its sign to 64.
+fn extended(d: u32) -> u64
+    ensures { result ≡ spec.extended d }
+{
+    if d < 1 << 31 {
+        d as u64
+    } else {
+        d as u64 + 0xFFFF_FFFF_0000_0000
+    }
+}
+
+/// The slot that a jump without a prefix reads.
+fn plain_slot(rva: u64, bytes: &[u8]) -> Option<u64>
+    requires rva { rva + 6 < 2 ^ 64 }
+    requires whole { 6 ≤ length bytes.now }
+    ensures { result ≡ spec.plain_slot rva bytes.now }
+{
+    if bytes[0] != 0xFF || bytes[1] != 0x25 {
+        return None;
+    }
+    Some((rva + 6).wrapping_add(extended(u32_at(bytes, 2))))
+}
+
+/// The slot that a jump `jmp [rip + d]`, with or without a REX prefix, reads.
+fn jump_slot(image: &ImageView<'_>, rva: u32) -> Option<u64>
+    ensures { result ≡ spec.jump_slot image.now rva }
+{
+    let rva = rva as u64;
+    let bytes = image.bytes(rva, 6)?;
+    if bytes[0] / 16 == 4 {
+        let all = image.bytes(rva, 7)?;
+        plain_slot(rva + 1, &all[1..])
+    } else {
+        plain_slot(rva, bytes)
+    }
+}
+
+fn is_c_name(name: &[u8]) -> bool
+    ensures { result ≡ spec.is_c_name name.now }
+{
+    name == b"__C_specific_handler".as_slice()
+}
+
+/// Whether the last import that has a slot is the C handler.
+fn binds(imports: &[Import<'_>], slot: u64) -> bool
+    ensures { result ≡ spec.binds slot false imports.now }
+{
+    let mut found = false;
+    for import in imports {
+        if import.slot() == slot {
+            found = is_c_name(import.name());
+        }
+    }
+    found
+}
+
+/// Whether the handler at an address is the C handler: its code is a jump through the slot that is
+/// bound to `__C_specific_handler`.
+#[tactic(auto, unfolding(crate::specs::Handler::is_c_handler))]
+pub fn is_c_handler(image: &ImageView<'_>, rva: u32) -> bool
+    ensures { result ≡ spec.is_c_handler image.now rva }
+{
+    match jump_slot(image, rva) {
+        Some(slot) => binds(image.imports(), slot),
+        None => false,
+    }
+}

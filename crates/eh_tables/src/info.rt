@@ -1,0 +1,235 @@
+//! Unwind infos.
+
+ghost use Rattle.std.specs.Prelude.{◌≡◌, ◌≤◌, ◌+◌, ◌*◌, ◌<◌, ◌^◌, length, take, option_map, IfOk};
+ghost use Rattle.eh_tables.specs.Infos as spec;
+
+use crate::codes::{Codes, check_codes};
+use crate::fields::u32_at;
+use crate::handler::is_c_handler;
+use crate::range::{RuntimeFunction, read_range};
+use crate::refusal::TableErr;
+use crate::scope::{Scopes, check_rows};
+use pe_image::ImageView;
+use std::marker::Model;
+
+/// UNW_FLAG_CHAININFO: the parent's entry follows the codes.
+const CHAINED: u8 = 4;
+
+/// An unwind info, UNWIND_INFO, in an image.
+#[derive(Drop)]
+pub struct Info<'a> {
+    /// All up to the end of what follows the slots.
+    bytes: &'a [u8],
+    /// The rows of its scope table.
+    rows: &'a [u8],
+    has_c_handler: bool,
+}
+
+impl<'a> Model for Info<'a> {
+    ghost use Rattle.eh_tables.specs.Infos.{Info, info_of, HasParts};
+
+    ghost Value = { Info };
+
+    ghost view = { λ i. info_of i.bytes.now i.has_c_handler i.rows.now };
+
+    ghost invariant = { λ i. HasParts i.bytes.now };
+}
+
+impl<'a> Default for Info<'a> {
+    /// One that says nothing.
+    fn default() -> Info<'a> {
+        Info {
+            bytes: &[1, 0, 0, 0],
+            rows: &[],
+            has_c_handler: false,
+        }
+    }
+}
+
+impl<'a> Info<'a> {
+    /// Its header and slots as they are stored, with the slot that makes their count even.
+    pub fn bytes(&self) -> &'a [u8]
+        ensures value { result.now ≡ self.now.bytes }
+        ensures fits { length result.now ≤ 516 }
+    {
+        &self.bytes[..slots_end(self.bytes)]
+    }
+
+    /// Its flags: UNW_FLAG_EHANDLER 1, UNW_FLAG_UHANDLER 2, UNW_FLAG_CHAININFO 4.
+    pub fn flags(&self) -> u8
+        ensures value { result ≡ self.now.flags }
+        ensures known { result ≤ 4 }
+    {
+        self.bytes[0] / 8
+    }
+
+    /// How many bytes the prologue has.
+    pub fn prolog(&self) -> u8
+        ensures { result ≡ self.now.prolog }
+    {
+        self.bytes[1]
+    }
+
+    /// The number of the frame register, where 0 stands for none.
+    pub fn frame_register(&self) -> u8
+        ensures { result ≡ self.now.frame_register }
+    {
+        self.bytes[3] % 16
+    }
+
+    /// How many bytes the frame register lies above the base of the frame.
+    pub fn frame_offset(&self) -> u8
+        ensures { result ≡ self.now.frame_offset }
+    {
+        16 * (self.bytes[3] / 16)
+    }
+
+    /// Its codes, in their order.
+    pub fn codes(&self) -> Codes<'a>
+        ensures { result ≡ self.now.codes }
+    {
+        Codes::new(self.bytes[3] % 16 != 0, slots_of(self.bytes))
+    }
+
+    /// The address of its handler, where a flag says that it has one.
+    pub fn handler(&self) -> Option<u32>
+        ensures { result ≡ self.now.handler }
+    {
+        let flags = self.flags();
+        if 0 < flags && flags < CHAINED {
+            Some(u32_at(self.bytes, slots_end(self.bytes)))
+        } else {
+            None
+        }
+    }
+
+    /// The entry that it is chained to.
+    pub fn parent(&self) -> Option<RuntimeFunction>
+        ensures { result ≡ self.now.parent }
+    {
+        if self.flags() == CHAINED {
+            Some(read_range(self.bytes, slots_end(self.bytes)))
+        } else {
+            None
+        }
+    }
+
+    /// Whether its handler is the C handler.
+    pub fn has_c_handler(&self) -> bool
+        ensures { result ≡ self.now.has_c_handler }
+    {
+        self.has_c_handler
+    }
+
+    /// The rows of its scope table, in their order; none where its handler isn't the C handler.
+    #[tactic(auto, using(crate::proofs::Rows::row_count))]
+    pub fn scopes(&self) -> Scopes<'a>
+        ensures value { result ≡ self.now.scopes }
+        ensures fits { length result < 2 ^ 60 }
+    {
+        Scopes::new(self.rows)
+    }
+}
+
+/// Where the slots end, with the one that makes their count even.
+fn slots_end(bytes: &[u8]) -> usize
+    requires { 4 ≤ length bytes.now }
+    ensures value { result ≡ spec.slots_end bytes.now }
+    ensures fits { result ≤ 516 }
+{
+    4 + 4 * (bytes[2] as usize).div_ceil(2)
+}
+
+/// The slots of the codes.
+fn slots_of<'a>(bytes: &'a [u8]) -> &'a [u8]
+    requires { spec.HasParts bytes.now }
+    ensures value { result.now ≡ spec.slots_of bytes.now }
+    ensures fits { length result.now ≤ 510 }
+{
+    &bytes[4..4 + 2 * bytes[2] as usize]
+}
+
+/// Header, slots and what follows them, where they are stored.
+#[tactic(auto, unfolding(crate::specs::Infos::stored_info))]
+fn stored_info<'a>(image: &ImageView<'a>, index: u64, rva: u32) -> Result<&'a [u8], TableErr>
+    ensures answer { spec.shown result ≡ spec.stored_info image.now index rva }
+    ensures parts { IfOk result (λ bytes. spec.HasParts bytes.now) }
+{
+    let at = rva as u64;
+    if rva % 4 != 0 {
+        return Err(TableErr::Misaligned { rva: at });
+    }
+    let Some(head) = image.bytes(at, 4) else {
+        return Err(TableErr::Truncated { rva: at });
+    };
+    let found = head[0] % 8;
+    if found != 1 {
+        return Err(TableErr::Version { index, found });
+    }
+    let flags = head[0] / 8;
+    if flags > CHAINED {
+        return Err(TableErr::Flags { index });
+    }
+    let trailer_size = match flags {
+        0 => 0,
+        CHAINED => 12,
+        _ => 4,
+    };
+    match image.bytes(at, slots_end(head) as u64 + trailer_size) {
+        Some(bytes) => Ok(bytes),
+        None => Err(TableErr::Truncated { rva: at }),
+    }
+}
+
+/// The rows of the scope table of an info, where its handler is the C handler.
+#[tactic(auto, unfolding(crate::specs::Infos::stored_rows))]
+fn stored_rows<'a>(
+    image: &ImageView<'a>,
+    rva: u32,
+    bytes: &[u8],
+    has_c_handler: bool,
+) -> Result<&'a [u8], TableErr>
+    requires parts { spec.HasParts bytes.now }
+    requires handler { has_c_handler ≡ spec.is_c image.now bytes.now }
+    ensures { spec.shown result ≡ spec.stored_rows image.now rva bytes.now }
+{
+    if !has_c_handler {
+        return Ok(&[]);
+    }
+    let refusal = TableErr::Truncated { rva: rva as u64 };
+    let at = slots_end(bytes) + 4;
+    let Some(counted) = image.bytes(rva as u64, at as u64 + 4) else {
+        return Err(refusal);
+    };
+    let count = u32_at(counted, at);
+    let Some(all) = image.bytes(rva as u64, at as u64 + 4 + 16 * count as u64) else {
+        return Err(refusal);
+    };
+    Ok(&all[at + 4..])
+}
+
+/// Whether the handler of an info is the C handler.
+fn is_c(image: &ImageView<'_>, bytes: &[u8]) -> bool
+    requires { spec.HasParts bytes.now }
+    ensures { result ≡ spec.is_c image.now bytes.now }
+{
+    let flags = bytes[0] / 8;
+    0 < flags && flags < CHAINED && is_c_handler(image, u32_at(bytes, slots_end(bytes)))
+}
+
+/// Reads the unwind info at an address, for the entry of an index.
+#[tactic(auto, unfolding(crate::specs::Infos::info))]
+pub fn read_info<'a>(image: &ImageView<'a>, index: u64, rva: u32) -> Result<Info<'a>, TableErr>
+    ensures { result ≡ spec.info image.now index rva }
+{
+    let bytes = stored_info(image, index, rva)?;
+    let has_c_handler = is_c(image, bytes);
+    let rows = stored_rows(image, rva, bytes, has_c_handler)?;
+    check_codes(index, bytes[3] % 16 != 0, slots_of(bytes))?;
+    check_rows(index, image.size(), rows)?;
+    Ok(Info {
+        bytes,
+        rows,
+        has_c_handler,
+    })
+}

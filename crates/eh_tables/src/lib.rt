@@ -1,0 +1,31 @@
+//! The function tables of images for x64 (Microsoft x64 ABI, "Exception handling": `RUNTIME_FUNCTION`,
+//! `UNWIND_INFO` version 1 and the scope tables of the C handler), read in place and written.
+#![tactic(auto)]
+
+mod code;
+mod codes;
+mod entry;
+mod fields;
+mod handler;
+mod info;
+mod lookup;
+mod range;
+mod refusal;
+mod scope;
+mod tables;
+mod unwind_info;
+mod writing;
+
+pub use code::{Operation, UnwindCode};
+pub use codes::Codes;
+pub use entry::Entry;
+pub use info::Info;
+pub use range::RuntimeFunction;
+pub use refusal::TableErr;
+pub use scope::{ScopeRow, Scopes};
+pub use tables::Tables;
+pub use unwind_info::{Trailer, UnwindInfo};
+pub use writing::{write_pdata, write_scopes, write_unwind};
+
+#[cfg(test)]
+mod tests;

@@ -1,0 +1,33 @@
+//! Why a table isn't read.
+
+/// Why a function table isn't read: the first check that fails, in the order in which
+/// [`Tables::entry`](crate::Tables::entry) makes them. Addresses are relative to the image base, an
+/// `index` is that of an entry.
+#[derive(Clone, Copy, Debug, PartialEq, Eq)]
+pub enum TableErr {
+    /// The unwind info at `rva`, with its codes, its handler's address or parent, and its scope
+    /// table, isn't stored whole in the image; or the directory at `rva` isn't, or its size isn't a
+    /// multiple of 12.
+    Truncated { rva: u64 },
+    /// The unwind info or the directory at `rva` isn't 4-aligned.
+    Misaligned { rva: u64 },
+    /// The range of an entry is empty: its begin isn't below its end.
+    EmptyRange { index: u64 },
+    /// An entry begins below the end of the one before.
+    Unsorted { index: u64 },
+    /// The version of an unwind info isn't 1: `found` is what stands there.
+    Version { index: u64, found: u8 },
+    /// The flags of an unwind info are none of those that are defined, or say that it is chained and
+    /// has a handler.
+    Flags { index: u64 },
+    /// The unwind code that begins at that slot has an operation that isn't defined, an info that its
+    /// operation doesn't allow, no frame register to set, or operands past the last slot.
+    Op { index: u64, slot: u64 },
+    /// The unwind code that begins at that slot has a greater prologue offset than the one before.
+    CodeOrder { index: u64, slot: u64 },
+    /// More than 32 unwind infos are chained.
+    ChainLong { index: u64 },
+    /// The row of that number in the scope table has an empty range, or an address at or above the
+    /// image's size.
+    ScopeRange { index: u64, row: u64 },
+}

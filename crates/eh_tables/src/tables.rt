@@ -1,0 +1,108 @@
+//! The function table of an image.
+
+ghost use Rattle.std.specs.Prelude.{◌≡◌, ◌≤◌, ◌<◌, ◌/◌, ◌*◌, ◌^◌, length, slice_index_or, IfOk, IfErr};
+ghost use Rattle.eh_tables.specs.Tables as spec;
+
+use crate::entry::{Entry, read_entry};
+use crate::range::{RuntimeFunction, read_range};
+use crate::refusal::TableErr;
+use pe_image::ImageView;
+use std::marker::Model;
+
+/// The function table of an image: the entries of its exception directory (PE format, "The .pdata
+/// Section").
+#[derive(Drop)]
+pub struct Tables<'image, 'bytes> {
+    image: &'image ImageView<'bytes>,
+    directory: &'bytes [u8],
+}
+
+impl<'image, 'bytes> Model for Tables<'image, 'bytes> {
+    ghost use Rattle.eh_tables.specs.Tables.{Tables, ranges_in};
+
+    ghost Value = { Tables };
+
+    ghost view = { λ t. record { image = t.image.now; ranges = ranges_in t.directory.now } };
+}
+
+impl<'image, 'bytes> Tables<'image, 'bytes> {
+    /// The table of an image, of which the directory alone is checked: it is 4-aligned, stored whole,
+    /// and its size is a multiple of 12. A directory of size 0 has no entries.
+    #[tactic(auto, unfolding(crate::specs::Tables::directory))]
+    pub fn of(image: &'image ImageView<'bytes>) -> Result<Tables<'image, 'bytes>, TableErr>
+        ensures read { IfOk result (λ t. (spec.directory image.now ≡ Ok t.ranges) × (t.image ≡ image.now)) }
+        ensures refusal { IfErr result (λ e. spec.directory image.now ≡ Err e) }
+    {
+        let at = image.exception_directory();
+        if at.size == 0 {
+            return Ok(Tables {
+                image,
+                directory: &[],
+            });
+        }
+        let rva = at.rva as u64;
+        if at.rva % 4 != 0 {
+            return Err(TableErr::Misaligned { rva });
+        }
+        let Some(directory) = image.bytes(rva, at.size as u64) else {
+            return Err(TableErr::Truncated { rva });
+        };
+        if at.size % 12 != 0 {
+            return Err(TableErr::Truncated { rva });
+        }
+        Ok(Tables { image, directory })
+    }
+
+    /// How many entries there are.
+    pub fn len(&self) -> u64
+        ensures { result ≡ length self.now.ranges }
+    {
+        (self.directory.len() / 12) as u64
+    }
+
+    /// The entry of an index, with its unwind infos unread.
+    pub fn range(&self, index: u64) -> RuntimeFunction
+        requires { index < length self.now.ranges }
+        ensures { result ≡ slice_index_or self.now.ranges index spec.no_range }
+    {
+        read_range(self.directory, 12 * index as usize)
+    }
+
+    /// The entry of an index, with its unwind info and those that this is chained to. The checks come
+    /// in this order: its range isn't empty, and not below the entry before; its unwind info is
+    /// 4-aligned, its first four bytes are stored, its version is 1, its flags are known, all of it
+    /// is stored, the scope table of the C handler too; its codes, slot by slot; the infos that it is
+    /// chained to, in the same way; and the rows of the scope table.
+    pub fn entry(&self, index: u64) -> Result<Entry<'bytes>, TableErr>
+        requires { index < length self.now.ranges }
+        ensures { result ≡ spec.entry_at self.now index }
+    {
+        let last = if index == 0 {
+            0
+        } else {
+            self.range(index - 1).end
+        };
+        read_entry(self.image, index, last, self.range(index))
+    }
+
+    /// The table of an image, in which all entries are read. The first refusal by index is answered.
+    pub fn read(image: &'image ImageView<'bytes>) -> Result<Tables<'image, 'bytes>, TableErr>
+        ensures read { IfOk result (λ t. (spec.directory image.now ≡ Ok t.ranges) × (t.image ≡ image.now)) }
+        ensures whole { IfOk result (λ t. spec.IsWhole t) }
+        ensures refusal { IfErr result (λ e. spec.tables image.now ≡ Err e) }
+    {
+        let tables = Tables::of(image)?;
+        tables.check()?;
+        Ok(tables)
+    }
+
+    /// Reads all entries.
+    fn check(&self) -> Result<(), TableErr>
+        ensures { result ≡ spec.checked self.now }
+    {
+        for index in 0..self.len() {
+            let _entry = self.entry(index)?;
+        }
+        Ok(())
+    }
+}

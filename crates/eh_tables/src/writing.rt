@@ -1,0 +1,269 @@
+//! Unwind infos, scope tables and function tables, written.
+
+ghost use Rattle.std.specs.Prelude.{◌≡◌, ◌+◌, ◌*◌, ◌≤◌, ◌<◌, ◌^◌, ◌++◌, length, replicate, OnOk, OnErr};
+ghost use Rattle.std.specs.List.{AllByRecursion};
+ghost use Rattle.arrayvec.specs.ArrayVec.{array_vec_len};
+ghost use Rattle.eh_tables.specs.Written as spec;
+
+use crate::code::{Operation, UnwindCode};
+use crate::range::RuntimeFunction;
+use crate::scope::ScopeRow;
+use crate::unwind_info::{Trailer, UnwindInfo};
+use arrayvec::ArrayVec;
+use std::alloc::AllocError;
+
+/// The bytes of a code, and of an unwind info up to its end.
+type CodeBytes = ArrayVec<u8, 6>;
+
+type InfoBytes = ArrayVec<u8, 532>;
+
+/// A code's first slot.
+fn put_slot(out: &mut CodeBytes, offset: u8, op: u8, info: u8)
+    requires empty { array_vec_len out.old ≡ 0 }
+    requires op { op < 16 }
+    requires info { info < 16 }
+    ensures { out.new.items ≡ spec.slot offset op info }
+{
+    out.push(offset);
+    out.push(op + 16 * info);
+}
+
+#[tactic(auto, unfolding(crate::specs::Written::u16))]
+fn put_u16(out: &mut CodeBytes, value: u16)
+    requires { array_vec_len out.old ≡ 2 }
+    ensures { out.new.items ≡ out.old.items ++ spec.u16 value }
+{
+    // There is room, so that it can't be refused.
+    let _ = out.try_extend_from_slice(&value.to_le_bytes());
+}
+
+#[tactic(auto, unfolding(crate::specs::Written::u32))]
+fn put_u32(out: &mut CodeBytes, value: u32)
+    requires { array_vec_len out.old ≡ 2 }
+    ensures { out.new.items ≡ out.old.items ++ spec.u32 value }
+{
+    let _ = out.try_extend_from_slice(&value.to_le_bytes());
+}
+
+fn is_short(unit: u32, n: u32) -> bool
+    requires { 0 < unit }
+    ensures { result ≡ spec.is_short unit n }
+{
+    n % unit == 0 && n / unit < 65536
+}
+
+fn allocation(offset: u8, size: u32) -> CodeBytes
+    ensures { result.items ≡ spec.allocation offset size }
+{
+    let mut out = CodeBytes::new();
+    if size % 8 == 0 && 0 < size && size <= 128 {
+        put_slot(&mut out, offset, 2, (size / 8 - 1) as u8);
+    } else if is_short(8, size) {
+        put_slot(&mut out, offset, 1, 0);
+        put_u16(&mut out, (size / 8) as u16);
+    } else {
+        put_slot(&mut out, offset, 1, 1);
+        put_u32(&mut out, size);
+    }
+    out
+}
+
+/// A register saved at an offset, in a unit by the one operation or unscaled by the next.
+fn saving(offset: u8, op: u8, unit: u32, register: u8, at: u32) -> CodeBytes
+    requires op { op < 15 }
+    requires unit { 0 < unit }
+    requires register { register < 16 }
+    ensures { result.items ≡ spec.saving offset op unit register at }
+{
+    let mut out = CodeBytes::new();
+    if is_short(unit, at) {
+        put_slot(&mut out, offset, op, register);
+        put_u16(&mut out, (at / unit) as u16);
+    } else {
+        put_slot(&mut out, offset, op + 1, register);
+        put_u32(&mut out, at);
+    }
+    out
+}
+
+fn one_slot(offset: u8, op: u8, info: u8) -> CodeBytes
+    requires op { op < 16 }
+    requires info { info < 16 }
+    ensures { result.items ≡ spec.slot offset op info }
+{
+    let mut out = CodeBytes::new();
+    put_slot(&mut out, offset, op, info);
+    out
+}
+
+/// A code in the shortest form that holds it.
+fn code_bytes(framed: bool, code: &UnwindCode) -> CodeBytes
+    requires { spec.Fits framed code.now.operation }
+    ensures { result.items ≡ spec.code_bytes code.now }
+{
+    let offset = code.offset;
+    match code.operation {
+        Operation::Push { register } => one_slot(offset, 0, register),
+        Operation::Allocate { size } => allocation(offset, size),
+        Operation::SetFrame => one_slot(offset, 3, 0),
+        Operation::Save {
+            register,
+            offset: at,
+        } => saving(offset, 4, 8, register, at),
+        Operation::SaveVector {
+            register,
+            offset: at,
+        } => saving(offset, 8, 16, register, at),
+        Operation::MachineFrame { info } => one_slot(offset, 10, info),
+    }
+}
+
+/// The bytes of a row of a table.
+type RowBytes = ArrayVec<u8, 16>;
+
+#[tactic(auto, unfolding(crate::specs::Written::u32))]
+fn put_field(out: &mut RowBytes, value: u32)
+    requires { array_vec_len out.old + 4 ≤ 16 }
+    ensures items { out.new.items ≡ out.old.items ++ spec.u32 value }
+    ensures len { array_vec_len out.new ≡ array_vec_len out.old + 4 }
+{
+    let _ = out.try_extend_from_slice(&value.to_le_bytes());
+}
+
+fn range_bytes(range: &RuntimeFunction) -> RowBytes
+    ensures items { result.items ≡ spec.range_bytes range.now }
+    ensures len { array_vec_len result ≡ 12 }
+{
+    let mut out = RowBytes::new();
+    put_field(&mut out, range.begin);
+    put_field(&mut out, range.end);
+    put_field(&mut out, range.unwind_info);
+    out
+}
+
+fn row_bytes(row: &ScopeRow) -> RowBytes
+    ensures { result.items ≡ spec.row_bytes row.now }
+{
+    let mut out = RowBytes::new();
+    put_field(&mut out, row.begin);
+    put_field(&mut out, row.end);
+    put_field(&mut out, row.handler);
+    put_field(&mut out, row.jump);
+    out
+}
+
+/// The codes of an info.
+fn codes_bytes(framed: bool, codes: &[UnwindCode]) -> ArrayVec<u8, 510>
+    requires fits { AllByRecursion (λ c. spec.Fits framed c.operation) codes.now }
+    requires room { length (spec.codes_bytes codes.now) ≤ 510 }
+    ensures { result.items ≡ spec.codes_bytes codes.now }
+{
+    let mut out = ArrayVec::new();
+    for code in codes {
+        let _ = out.try_extend_from_slice(&code_bytes(framed, code));
+    }
+    out
+}
+
+fn flags(trailer: Trailer) -> u8
+    ensures value { result ≡ spec.trailer_flags trailer }
+    ensures fits { result ≤ 4 }
+{
+    match trailer {
+        Trailer::Nothing => 0,
+        Trailer::Handler {
+            searching,
+            unwinding,
+            ..
+        } => searching as u8 + 2 * unwinding as u8,
+        Trailer::Parent(_) => 4,
+    }
+}
+
+fn trailer_bytes(trailer: Trailer) -> RowBytes
+    ensures items { result.items ≡ spec.trailer_bytes trailer }
+    ensures fits { array_vec_len result ≤ 12 }
+{
+    match trailer {
+        Trailer::Nothing => RowBytes::new(),
+        Trailer::Handler { rva, .. } => {
+            let mut out = RowBytes::new();
+            put_field(&mut out, rva);
+            out
+        }
+        Trailer::Parent(range) => range_bytes(&range),
+    }
+}
+
+fn put_zeros(out: &mut InfoBytes, count: usize)
+    requires { array_vec_len out.old + count ≤ 532 }
+    ensures items { out.new.items ≡ out.old.items ++ replicate count 0 }
+    ensures len { array_vec_len out.new ≡ array_vec_len out.old + count }
+{
+    for _i in 0..count {
+        out.push(0);
+    }
+}
+
+/// An info up to its end.
+#[tactic(auto, unfolding(crate::specs::Written::unwind_bytes))]
+fn info_bytes(info: &UnwindInfo) -> InfoBytes
+    requires { spec.CanBeWritten info.now }
+    ensures { result.items ≡ spec.unwind_bytes info.now }
+{
+    let slots = codes_bytes(0 < info.frame_register, &info.codes);
+    let mut out = InfoBytes::new();
+    out.push(1 + 8 * flags(info.trailer));
+    out.push(info.prolog);
+    out.push((slots.len() / 2) as u8);
+    out.push(info.frame_register + info.frame_offset);
+    let _ = out.try_extend_from_slice(&slots);
+    put_zeros(&mut out, slots.len() % 4);
+    let _ = out.try_extend_from_slice(&trailer_bytes(info.trailer));
+    out
+}
+
+/// Appends an unwind info. Each allocation and each offset is written by the shortest code that holds
+/// it. Where no memory is left, nothing is appended.
+pub fn write_unwind(info: &UnwindInfo, to: &mut Vec<u8>) -> Result<(), AllocError>
+    requires { spec.CanBeWritten info.now }
+    ensures written { OnOk result (to.new.items ≡ to.old.items ++ spec.unwind_bytes info.now) }
+    ensures kept { OnErr result (to.new.items ≡ to.old.items) }
+{
+    to.extend_from_slice(&info_bytes(info))
+}
+
+/// Appends a scope table: the count of its rows, and they themselves. Where no memory is left, nothing
+/// is appended.
+pub fn write_scopes(rows: &[ScopeRow], to: &mut Vec<u8>) -> Result<(), AllocError>
+    requires { length rows.now < 2 ^ 32 }
+    ensures written { OnOk result (to.new.items ≡ to.old.items ++ spec.scope_bytes rows.now) }
+    ensures kept { OnErr result (to.new.items ≡ to.old.items) }
+{
+    let before = to.len();
+    let mut count = RowBytes::new();
+    put_field(&mut count, rows.len() as u32);
+    to.extend_from_slice(&count)?;
+    for row in rows {
+        if let Err(lack) = to.extend_from_slice(&row_bytes(row)) {
+            to.truncate(before);
+            return Err(lack);
+        }
+    }
+    Ok(())
+}
+
+/// Appends the entries of a function table. Where no memory is left, nothing is appended.
+pub fn write_pdata(ranges: &[RuntimeFunction], to: &mut Vec<u8>) -> Result<(), AllocError>
+    ensures written { OnOk result (to.new.items ≡ to.old.items ++ spec.table_bytes ranges.now) }
+    ensures kept { OnErr result (to.new.items ≡ to.old.items) }
+{
+    let before = to.len();
+    for range in ranges {
+        if let Err(lack) = to.extend_from_slice(&range_bytes(range)) {
+            to.truncate(before);
+            return Err(lack);
+        }
+    }
+    Ok(())
+}
