@@ -1,0 +1,164 @@
+-- The lines of the view of an image's tables. Addresses are 8 hexadecimal digits, other numbers decimal.
+use Rattle.std.specs.Prelude.{ℕ, ◌+◌, ◌==◌, Bool, if◌then◌else◌, List, [], ◌∷◌, ◌++◌, length, Option, Some, None, Result, Ok, Err, codes}
+use Rattle.std.specs.List.{flat_map}
+use Rattle.std.specs.Fmt.{decimal}
+use Rattle.hex.specs.Hex.{encode_lower}
+use Rattle.seh_io.specs.Text.{hexadecimal, ended}
+use Rattle.pe_image.specs.Image.{Image}
+use Rattle.eh_tables.specs.declared.code.Operation.{Operation}
+use Rattle.eh_tables.specs.declared.code.Operation.TheVariants.{Push, Allocate, SetFrame, Save, SaveVector, MachineFrame}
+use Rattle.eh_tables.specs.declared.code.UnwindCode.{UnwindCode}
+use Rattle.eh_tables.specs.declared.range.RuntimeFunction.{RuntimeFunction}
+use Rattle.eh_tables.specs.declared.refusal.TableErr.{TableErr}
+use Rattle.eh_tables.specs.declared.refusal.TableErr.TheVariants as refusals
+use Rattle.eh_tables.specs.declared.scope.ScopeRow.{ScopeRow}
+use Rattle.eh_tables.specs.Infos.{Info}
+use Rattle.eh_tables.specs.Tables.{Entry, entry, directory}
+
+abbrev pub rva_text : ℕ → List ℕ
+rva_text rva = hexadecimal 8 rva
+
+abbrev pub spaced : List ℕ → List ℕ
+spaced text = codes " " ++ text
+
+-- ---- unwind codes
+
+-- a register's name by its number
+unfoldable pub register_name : ℕ → List ℕ
+register_name r =
+    if r == 0 then codes "rax"
+    else (if r == 1 then codes "rcx"
+    else (if r == 2 then codes "rdx"
+    else (if r == 3 then codes "rbx"
+    else (if r == 4 then codes "rsp"
+    else (if r == 5 then codes "rbp"
+    else (if r == 6 then codes "rsi"
+    else (if r == 7 then codes "rdi"
+    else (if r == 8 then codes "r8"
+    else (if r == 9 then codes "r9"
+    else (if r == 10 then codes "r10"
+    else (if r == 11 then codes "r11"
+    else (if r == 12 then codes "r12"
+    else (if r == 13 then codes "r13"
+    else (if r == 14 then codes "r14"
+    else codes "r15"))))))))))))))
+
+abbrev pub operation_text : Operation → List ℕ
+operation_text (Push r) = codes "push " ++ register_name r
+operation_text (Allocate n) = codes "alloc " ++ decimal n
+operation_text SetFrame = codes "frame"
+operation_text (Save r n) = codes "save " ++ register_name r ++ codes " " ++ decimal n
+operation_text (SaveVector r n) = codes "xmm " ++ decimal r ++ codes " " ++ decimal n
+operation_text (MachineFrame i) = codes "machine " ++ decimal i
+
+abbrev pub code_begin : UnwindCode → List ℕ
+code_begin c = codes " code " ++ decimal c.offset ++ codes " "
+
+abbrev pub code_line : UnwindCode → List ℕ
+code_line c = code_begin c ++ ended (operation_text c.operation)
+
+-- ---- scope rows
+
+-- a jump of 0 stands for a `__finally`, and a handler of 1 for a filter that always accepts
+abbrev pub filter_text : ℕ → List ℕ
+filter_text handler = if handler == 1 then codes " always" else codes " filter " ++ rva_text handler
+
+abbrev pub except_text : ℕ → ℕ → List ℕ
+except_text jump handler = filter_text handler ++ codes " jump " ++ rva_text jump
+
+abbrev pub kind_text : ScopeRow → List ℕ
+kind_text r = if r.jump == 0 then codes " finally " ++ rva_text r.handler else except_text r.jump r.handler
+
+abbrev pub scope_begin : ℕ → ScopeRow → List ℕ
+scope_begin k r = codes " scope " ++ decimal k ++ codes " " ++ rva_text r.begin ++ codes " " ++ rva_text r.end
+
+abbrev pub scope_line : ℕ → ScopeRow → List ℕ
+scope_line k r = scope_begin k r ++ ended (kind_text r)
+
+-- from a number on
+abbrev pub scope_lines : ℕ → List ScopeRow → List ℕ
+scope_lines k [] = []
+scope_lines k (r ∷ rs) = scope_line k r ++ scope_lines (k + 1) rs
+
+-- ---- an entry
+
+abbrev pub range_text : RuntimeFunction → List ℕ
+range_text r = rva_text r.begin ++ codes " " ++ rva_text r.end ++ codes " " ++ rva_text r.unwind_info
+
+abbrev pub entry_line : ℕ → RuntimeFunction → List ℕ
+entry_line index r = ended (codes "entry " ++ decimal index ++ codes " " ++ range_text r)
+
+abbrev pub bytes_line : List ℕ → List ℕ
+bytes_line bytes = codes " bytes " ++ ended (encode_lower bytes)
+
+-- no frame register, or one at an offset
+abbrev pub frame_text : Info → List ℕ
+frame_text i = if i.frame_register == 0 then codes " frame - 0" else codes " frame " ++ register_name i.frame_register ++ codes " " ++ decimal i.frame_offset
+
+abbrev pub prolog_text : Info → List ℕ
+prolog_text i = codes " info prolog " ++ decimal i.prolog ++ codes " flags " ++ decimal i.flags
+
+abbrev pub info_line : Info → List ℕ
+info_line i = prolog_text i ++ ended (frame_text i)
+
+abbrev pub parent_line : Option RuntimeFunction → List ℕ
+parent_line None = []
+parent_line (Some r) = ended (codes " chain " ++ range_text r)
+
+abbrev pub handler_line : Bool → Option ℕ → List ℕ
+handler_line is_c None = []
+handler_line is_c (Some rva) = ended (codes " handler " ++ rva_text rva ++ (if is_c then codes " c" else codes " other"))
+
+abbrev pub trailer_lines : Info → List ℕ
+trailer_lines i = parent_line i.parent ++ handler_line i.has_c_handler i.handler
+
+abbrev pub info_lines : Info → List ℕ
+info_lines i = bytes_line i.bytes ++ info_line i ++ flat_map code_line i.codes ++ trailer_lines i ++ scope_lines 0 i.scopes
+
+-- ---- refusals
+
+abbrev pub refusal_text : TableErr → List ℕ
+refusal_text (refusals.Truncated rva) = codes "Truncated " ++ decimal rva
+refusal_text (refusals.Misaligned rva) = codes "Misaligned " ++ decimal rva
+refusal_text (refusals.EmptyRange index) = codes "EmptyRange"
+refusal_text (refusals.Unsorted index) = codes "Unsorted"
+refusal_text (refusals.Version index found) = codes "Version " ++ decimal found
+refusal_text (refusals.Flags index) = codes "Flags"
+refusal_text (refusals.Op index slot) = codes "Op " ++ decimal slot
+refusal_text (refusals.CodeOrder index slot) = codes "CodeOrder " ++ decimal slot
+refusal_text (refusals.ChainLong index) = codes "ChainLong"
+refusal_text (refusals.ScopeRange index row) = codes "ScopeRange " ++ decimal row
+
+abbrev pub refused_line : ℕ → TableErr → List ℕ
+refused_line index e = ended (codes "refused " ++ decimal index ++ codes " " ++ refusal_text e)
+
+-- a directory is refused with its address
+abbrev pub directory_text : TableErr → List ℕ
+directory_text (refusals.Truncated rva) = codes "Truncated " ++ rva_text rva
+directory_text (refusals.Misaligned rva) = codes "Misaligned " ++ rva_text rva
+directory_text e = refusal_text e
+
+abbrev pub refused_table_line : TableErr → List ℕ
+refused_table_line e = ended (codes "refused table " ++ directory_text e)
+
+-- ---- the view
+
+-- an entry's lines, or the one of its refusal
+abbrev pub entry_lines : ℕ → Result Entry TableErr → List ℕ
+entry_lines index (Ok e) = entry_line index e.range ++ info_lines e.info
+entry_lines index (Err e) = refused_line index e
+
+-- from an index on, behind an entry that ends there
+abbrev pub all_lines : Image → ℕ → ℕ → List RuntimeFunction → List ℕ
+all_lines image index last [] = []
+all_lines image index last (r ∷ rs) = entry_lines index (entry image index last r) ++ all_lines image (index + 1) r.end rs
+
+abbrev pub count_line : ℕ → List ℕ
+count_line n = ended (codes "entries " ++ decimal n)
+
+abbrev pub table_lines : Image → Result (List RuntimeFunction) TableErr → List ℕ
+table_lines image (Ok rs) = all_lines image 0 0 rs ++ count_line (length rs)
+table_lines image (Err e) = refused_table_line e ++ count_line 0
+
+abbrev pub view : Image → List ℕ
+view image = table_lines image (directory image)
