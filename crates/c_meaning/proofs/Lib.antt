@@ -1,0 +1,9 @@
+pub mod Steps
+pub mod Chains
+pub mod Grammar
+pub mod Statements
+pub mod Longest
+pub mod Lexing
+pub mod Digits
+pub mod Readings
+pub mod Sizes
