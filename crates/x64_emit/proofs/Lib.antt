@@ -1,0 +1,8 @@
+pub mod Standing
+pub mod Spelled
+pub mod Turns
+pub mod Longer
+pub mod Expressions
+pub mod Statements
+pub mod Programs
+pub mod Bytes
