@@ -1,0 +1,4 @@
+//! From accepted programs to images.
+#![tactic(auto)]
+
+pub mod link;
