@@ -1,0 +1,24 @@
+use Rattle.std.proofs.Common.{refl, arith}
+use Rattle.std.specs.Fmt.{digits}
+use Rattle.clap.proofs.OnLiterals.{clap_on_literals}
+use Rattle.command_line.specs.Worked.{CompileAlone, ShowAlone, ExecAlone, ExecWithAll}
+use Rattle.command_line.proofs.worked.worked_lines.Goals as goal
+
+compile_alone : CompileAlone
+unfolding clap_on_literals digits
+compile_alone = (refl, (_, refl, refl))
+
+show_alone : ShowAlone
+unfolding clap_on_literals digits
+show_alone = (refl, (_, refl, refl))
+
+exec_alone : ExecAlone
+unfolding clap_on_literals digits
+exec_alone = (refl, (_, refl, (refl, record { turns = refl; argument = (0, refl, refl); trace = refl })))
+
+exec_with_all : ExecWithAll
+unfolding clap_on_literals digits
+exec_with_all = (refl, (_, refl, (refl, record { turns = (refl, omega arith); argument = (9, (refl, omega arith), refl); trace = refl })))
+
+pub returns : goal.returns
+returns c = record { compile = compile_alone; show = show_alone; exec = exec_alone; options = exec_with_all }

@@ -1,0 +1,61 @@
+-- The lines of the command set, and what each stands for.
+use Rattle.std.specs.Prelude.{◌≡◌, ℕ, ◌^◌, ◌<◌, true, false, List, [], ◌∷◌, pos, Option, Some, None, codes}
+use Rattle.std.specs.Fmt.{decimal}
+use Rattle.std.specs.Option.{option_map_or}
+use Rattle.std.specs.Str.{bytes_eq}
+use Rattle.clap.specs.Words.{App, Row, Rule, Text, fault_of, first_of, new_app, new_rule, subcommand_of, with_rule, with_subcommand}
+use Rattle.clap.specs.Simple.{on_top}
+use Rattle.clap.specs.declared.builder.action.ArgAction.TheVariants.{Set, SetTrue}
+use Rattle.command_line.specs.declared.command.Command.{Command}
+use Rattle.command_line.specs.declared.command.Command.TheVariants.{Compile, Exec, Show}
+use Rattle.command_line.specs.declared.command.RunOptions.{RunOptions}
+
+-- ---- the commands as `clap` reads them: `compile`, `show`, and `exec` with `--turns N`, `--arg N` and `--trace`, each at most once and in any order
+
+abbrev pub number_option : Text → Rule
+number_option name = record (new_rule name) { long = Some name; action = Some Set }
+
+abbrev pub flag : Text → Rule
+flag name = record (new_rule name) { long = Some name; action = Some SetTrue }
+
+abbrev pub compile_app : App
+compile_app = new_app (codes "compile")
+
+abbrev pub show_app : App
+show_app = new_app (codes "show")
+
+abbrev pub exec_app : App
+exec_app = with_rule (with_rule (with_rule (new_app (codes "exec")) (number_option (codes "turns"))) (number_option (codes "arg"))) (flag (codes "trace"))
+
+-- the words after the program's name are a command, and none of them asks for help or a version
+abbrev pub bare_app : App
+bare_app =
+    on_top (λ s. record s { no_binary_name = true; disable_help_flag = true; disable_help_subcommand = true; disable_version_flag = true; subcommand_required = true })
+    (new_app (codes "seh"))
+
+abbrev pub seh_app : App
+seh_app = with_subcommand (with_subcommand (with_subcommand bare_app compile_app.top) show_app.top) exec_app.top
+
+-- ---- what a line stands for
+
+-- the number that an option gives, as it is written in decimal digits with no sign and no leading zero; another one where the option isn't there
+abbrev pub IsNumber : ℕ → Option Text → ℕ → Type 0
+IsNumber other None n = n ≡ other
+IsNumber other (Some text) n = (text ≡ decimal n) × (n < 2 ^ 63)
+
+pub record HasOptions (options : RunOptions) (rows : List Row) : Type 0 where
+  pub turns : IsNumber 10000000 (first_of (codes "turns") rows) options.turns
+  pub argument : (n : ℕ) × IsNumber 0 (first_of (codes "arg") rows) n × (options.argument ≡ pos n)
+  pub trace : options.trace ≡ option_map_or (λ t. bytes_eq t (codes "true")) (first_of (codes "trace") rows) false
+
+abbrev pub Names : Command → Text × List Row → Type 0
+Names Compile x = x.0 ≡ codes "compile"
+Names Show x = x.0 ≡ codes "show"
+Names (Exec options) x = (x.0 ≡ codes "exec") × HasOptions options x.1
+
+-- the words are a line of the command set, which stands for the command
+abbrev pub IsLine : List Text → Command → Type 0
+IsLine words command = (fault_of seh_app words ≡ []) × ((x : Text × List Row) × (subcommand_of seh_app words ≡ Some x) × Names command x)
+
+abbrev pub IsNoLine : List Text → Type 0
+IsNoLine words = (command : Command) → IsLine words command → ⊥

@@ -1,0 +1,17 @@
+-- Lines that are written out.
+use Rattle.std.specs.Prelude.{true, false, List, [], ◌∷◌, pos, codes}
+use Rattle.clap.specs.Words.{Text}
+use Rattle.command_line.specs.declared.command.Command.TheVariants.{Compile, Exec, Show}
+use Rattle.command_line.specs.Lines.{IsLine}
+
+abbrev pub CompileAlone : Type 0
+CompileAlone = IsLine (codes "compile" ∷ []) Compile
+
+abbrev pub ShowAlone : Type 0
+ShowAlone = IsLine (codes "show" ∷ []) Show
+
+abbrev pub ExecAlone : Type 0
+ExecAlone = IsLine (codes "exec" ∷ []) (Exec (record { turns = 10000000; argument = pos 0; trace = false }))
+
+abbrev pub ExecWithAll : Type 0
+ExecWithAll = IsLine (codes "exec" ∷ codes "--trace" ∷ codes "--arg" ∷ codes "9" ∷ codes "--turns" ∷ codes "0" ∷ []) (Exec (record { turns = 0; argument = pos 9; trace = true }))

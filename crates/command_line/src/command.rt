@@ -1,0 +1,21 @@
+/// How an image is run.
+#[derive(Clone, Copy, Debug, PartialEq, Eq)]
+pub struct RunOptions {
+    /// At most so many turns are made, below 2^63.
+    pub turns: u64,
+    /// The argument of the run, 0 or above.
+    pub argument: i64,
+    /// Whether all events have their lines, and not the numbers alone.
+    pub trace: bool,
+}
+
+/// What the program does.
+#[derive(Clone, Copy, Debug, PartialEq, Eq)]
+pub enum Command {
+    /// Compiles a text.
+    Compile,
+    /// Runs an image.
+    Exec(RunOptions),
+    /// Shows the function table of an image.
+    Show,
+}

@@ -1,0 +1,176 @@
+//! From words to commands.
+
+ghost use Rattle.std.specs.Prelude.{◌≡◌, ℕ, ◌^◌, ◌<◌, [], None, Err, false, IfOk, IfErr, IfSome, map, option_map};
+ghost use Rattle.std.specs.Fmt.{decimal};
+ghost use Rattle.std.specs.String.{string_bytes};
+ghost use Rattle.clap.specs.Words.{app_of, fault_of, found_of, rows_of, subcommand_of, subcommand_rows_of};
+ghost use Rattle.clap.specs.declared.builder.command.Command.TheViews.{out-Command};
+ghost use Rattle.command_line.specs.declared.command.Command.{Command};
+ghost use Rattle.command_line.specs.declared.command.RunOptions.{RunOptions};
+ghost use Rattle.command_line.specs.Lines.{seh_app, exec_app, HasOptions, IsLine, IsNoLine, IsNumber, Names};
+
+use crate::command::{Command, RunOptions};
+use clap::error::ErrorKind;
+use clap::{Arg, ArgAction, ArgMatches};
+use seh_io::line::Line;
+use std::alloc::{AllocError, Global};
+
+/// Why words stand for no command.
+#[derive(Clone, Copy, Debug, PartialEq, Eq)]
+pub enum WordsErr {
+    /// They are no line of the command set.
+    Usage,
+    /// No memory was left.
+    Memory,
+}
+
+/// A run makes at most so many turns, where nothing else is said.
+const DEFAULT_TURNS: u64 = 10_000_000;
+
+/// The number that a text is: decimal digits with no sign and no leading zero, below 2^63.
+fn number_of(text: &str) -> Option<u64>
+    ensures some { IfSome result (λ n. (text.now ≡ decimal n) × (n < 2 ^ 63)) }
+    ensures none { result ≡ None → (n : ℕ) → n < 2 ^ 63 → text.now ≡ decimal n → ⊥ }
+{
+    let Ok(number) = text.parse::<u64>() else {
+        return None;
+    };
+    if number > i64::MAX as u64 {
+        return None;
+    }
+    let mut line = Line::new();
+    line.natural(number);
+    if line.as_bytes() == text.as_bytes() {
+        Some(number)
+    } else {
+        None
+    }
+}
+
+/// The command `exec` with its options.
+fn exec_command<'a>(alloc: Global) -> Result<clap::Command<'a>, AllocError>
+    ensures app { IfOk result (λ c. app_of c ≡ exec_app) }
+    ensures local { IfOk result (λ c. (out-Command c).has_globals ≡ false) }
+{
+    let turns = Arg::new(alloc, "turns")
+        .long("turns")
+        .action(ArgAction::Set);
+    let argument = Arg::new(alloc, "arg").long("arg").action(ArgAction::Set);
+    let trace = Arg::new(alloc, "trace")
+        .long("trace")
+        .action(ArgAction::SetTrue);
+    clap::Command::new(alloc, "exec")
+        .arg(turns)?
+        .arg(argument)?
+        .arg(trace)
+}
+
+/// All commands.
+fn program<'a>(alloc: Global) -> Result<clap::Command<'a>, AllocError>
+    ensures { IfOk result (λ c. app_of c ≡ seh_app) }
+{
+    let compile = clap::Command::new(alloc, "compile");
+    let show = clap::Command::new(alloc, "show");
+    let exec = exec_command(alloc)?;
+    clap::Command::new(alloc, "seh")
+        .no_binary_name(true)
+        .disable_help_flag(true)
+        .disable_help_subcommand(true)
+        .disable_version_flag(true)
+        .subcommand_required(true)
+        .subcommand(compile)?
+        .subcommand(show)?
+        .subcommand(exec)
+}
+
+/// What `clap` makes of the words.
+fn parse<'a>(alloc: Global, words: &'a [String]) -> Result<ArgMatches<'a>, WordsErr>
+    ensures taken { IfOk result (λ m. (fault_of seh_app (map string_bytes words.entry.now) ≡ [])
+        × (subcommand_rows_of m ≡ subcommand_of seh_app (map string_bytes words.entry.now))) }
+    ensures usage { IfErr result (λ e. e ≡ WordsErr.Usage → fault_of seh_app (map string_bytes words.entry.now) ≡ [] → ⊥) }
+{
+    let program = match program(alloc) {
+        Ok(program) => program,
+        Err(_) => return Err(WordsErr::Memory),
+    };
+    match program.try_get_matches_from(words) {
+        Ok(matches) => Ok(matches),
+        Err(error) => match error.kind() {
+            ErrorKind::OutOfMemory => Err(WordsErr::Memory),
+            _ => Err(WordsErr::Usage),
+        },
+    }
+}
+
+/// The number that an option gives, or another one where it isn't there.
+fn number_or(text: Option<&str>, other: u64) -> Result<u64, WordsErr>
+    ensures found { IfOk result (IsNumber other (option_map (λ t. t.now) text.entry)) }
+    ensures usage { IfErr result (λ e. (e ≡ WordsErr.Usage) × ((n : ℕ) → IsNumber other (option_map (λ t. t.now) text.entry) n → ⊥)) }
+{
+    match text {
+        None => Ok(other),
+        Some(text) => match number_of(text) {
+            Some(number) => Ok(number),
+            None => Err(WordsErr::Usage),
+        },
+    }
+}
+
+/// The options of `exec`.
+fn options_of(matches: &ArgMatches<'_>) -> Result<RunOptions, WordsErr>
+    ensures found { IfOk result (λ o. HasOptions o (rows_of (found_of matches.now))) }
+    ensures usage { IfErr result (λ e. (e ≡ WordsErr.Usage) × ((o : RunOptions) → HasOptions o (rows_of (found_of matches.now)) → ⊥)) }
+{
+    let turns = match number_or(matches.get_str("turns"), DEFAULT_TURNS) {
+        Ok(turns) => turns,
+        Err(error) => return Err(error),
+    };
+    let argument = match number_or(matches.get_str("arg"), 0) {
+        Ok(argument) => argument as i64,
+        Err(error) => return Err(error),
+    };
+    let trace = match matches.get_str("trace") {
+        Some(text) => text == "true",
+        None => false,
+    };
+    Ok(RunOptions {
+        turns,
+        argument,
+        trace,
+    })
+}
+
+/// The command of this name with its options.
+fn command_named(name: &str, matches: &ArgMatches<'_>) -> Result<Command, WordsErr>
+    ensures found { IfOk result (λ c. Names c (name.now, rows_of (found_of matches.now))) }
+    ensures usage { IfErr result (λ e. (e ≡ WordsErr.Usage) × ((c : Command) → Names c (name.now, rows_of (found_of matches.now)) → ⊥)) }
+{
+    match name {
+        "compile" => Ok(Command::Compile),
+        "show" => Ok(Command::Show),
+        "exec" => match options_of(matches) {
+            Ok(options) => Ok(Command::Exec(options)),
+            Err(error) => Err(error),
+        },
+        _ => Err(WordsErr::Usage),
+    }
+}
+
+/// The command that the words after the program's name stand for.
+///
+/// `exec` takes `--turns N`, `--arg N` and `--trace`, each at most once and in any order; a number is
+/// written in decimal digits with no sign and no leading zero, and is at most 2^63 - 1. Words that
+/// ask for help or a version are no line of the command set.
+pub fn command_of(alloc: Global, words: &[String]) -> Result<Command, WordsErr>
+    ensures found { IfOk result (IsLine (map string_bytes words.now)) }
+    ensures usage { result ≡ Err WordsErr.Usage → IsNoLine (map string_bytes words.now) }
+{
+    let matches = match parse(alloc, words) {
+        Ok(matches) => matches,
+        Err(error) => return Err(error),
+    };
+    match matches.subcommand() {
+        Some((name, options)) => command_named(name, options),
+        None => Err(WordsErr::Usage),
+    }
+}

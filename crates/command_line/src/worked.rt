@@ -1,0 +1,11 @@
+//! Lines that are written out.
+
+ghost use Rattle.command_line.specs.Worked.{CompileAlone, ShowAlone, ExecAlone, ExecWithAll};
+
+/// `compile`; `show`; `exec`, with 10,000,000 turns, the argument 0 and no trace; `exec` with all options.
+pub fn worked_lines()
+    ensures compile { CompileAlone }
+    ensures show { ShowAlone }
+    ensures exec { ExecAlone }
+    ensures options { ExecWithAll }
+{}
