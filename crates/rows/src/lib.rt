@@ -2,8 +2,12 @@
 #![tactic(auto)]
 
 #[cfg(test)]
+mod compiles;
+#[cfg(test)]
 mod image;
 #[cfg(test)]
 mod runs;
 #[cfg(test)]
 mod streams;
+#[cfg(test)]
+mod views;

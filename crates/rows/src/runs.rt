@@ -17,8 +17,23 @@ fn answers(
     text: &str,
     refusal: &str,
 ) -> Result<(), Fail> {
+    answers_with(rt, alloc, "exec", bytes, status, text, refusal)
+}
+
+/// The same of a line of words.
+fn answers_with(
+    rt: &impl Abort,
+    alloc: Global,
+    line: &str,
+    bytes: &[u8],
+    status: Status,
+    text: &str,
+    refusal: &str,
+) -> Result<(), Fail> {
     let mut words = Vec::new(alloc);
-    words.push(String::from_str(alloc, "exec")?)?;
+    for word in line.split(' ') {
+        words.push(String::from_str(alloc, word)?)?;
+    }
     let mut source = SliceSource::new(bytes);
     let mut out = VecSink::new(alloc);
     let mut err = VecSink::new(alloc);
@@ -164,6 +179,84 @@ fn refuses_by_each_check(rt: HostRuntime) -> Result<(), Fail> {
         let whole = of_code(rt.alloc(), &FOURTEEN)?;
         let bytes = edited(whole, at, new);
         answers(&rt, rt.alloc(), &bytes, Status::Image, "", refusal)?;
+    }
+    Ok(())
+}
+
+#[test]
+fn options(rt: HostRuntime) -> Result<(), Fail> {
+    // mov rax, rcx; ret: the argument is the exit status, after two turns.
+    let argument: &[u8] = &[0x48, 0x89, 0xC8, 0xC3];
+    // mov rax, [rcx]
+    let fault: &[u8] = &[0x48, 0x8B, 0x01];
+    let cases: [(&str, &[u8], Status, &str); 13] = [
+        (
+            "exec --turns 1",
+            &FOURTEEN,
+            Status::OutOfTurns,
+            "out of turns 1\n",
+        ),
+        (
+            "exec --turns 0",
+            &FOURTEEN,
+            Status::OutOfTurns,
+            "out of turns 0\n",
+        ),
+        ("exec --turns 13", &FOURTEEN, Status::Done, "14\nexit 7\n"),
+        (
+            "exec --turns 9223372036854775807",
+            &FOURTEEN,
+            Status::Done,
+            "14\nexit 7\n",
+        ),
+        ("exec --arg 5", argument, Status::Done, "exit 5\n"),
+        (
+            "exec --arg 9223372036854775807",
+            argument,
+            Status::Done,
+            "exit -1\n",
+        ),
+        (
+            "exec --arg 7 --turns 2 --trace",
+            argument,
+            Status::Done,
+            "exit 7\n",
+        ),
+        (
+            "exec --turns 2 --trace --arg 7",
+            argument,
+            Status::Done,
+            "exit 7\n",
+        ),
+        (
+            "exec --trace --arg 7 --turns 2",
+            argument,
+            Status::Done,
+            "exit 7\n",
+        ),
+        (
+            "exec --arg 7 --turns 1",
+            argument,
+            Status::OutOfTurns,
+            "out of turns 1\n",
+        ),
+        ("exec", fault, Status::Unhandled, "unhandled C0000005\n"),
+        (
+            "exec --trace",
+            fault,
+            Status::Unhandled,
+            "raise C0000005 0 read 0000000000000000\nunhandled C0000005\n",
+        ),
+        (
+            "exec --trace --arg 16",
+            fault,
+            Status::Unhandled,
+            "raise C0000005 0 read 0000000000000010\nunhandled C0000005\n",
+        ),
+    ];
+    for (line, code, status, text) in cases {
+        let bytes = of_code(rt.alloc(), code)?;
+        answers_with(&rt, rt.alloc(), line, &bytes, status, text, "")?;
     }
     Ok(())
 }

@@ -26,7 +26,27 @@ fn plan(alloc: Global, failing: &[u64], most: usize) -> Result<Plan, AllocError>
 
 #[test]
 fn usage(rt: HostRuntime) -> Result<(), Fail> {
-    let lines: [&[&str]; 5] = [&[], &["exce"], &["exec", "exec"], &[""], &["exec "]];
+    let lines: [&[&str]; 19] = [
+        &[],
+        &["exce"],
+        &["exec", "exec"],
+        &[""],
+        &["exec "],
+        &["compile", "x"],
+        &["exec", "--turns"],
+        &["exec", "--turns", "9223372036854775808"],
+        &["exec", "--turns", "-1"],
+        &["exec", "--turns", "007"],
+        &["exec", "--turns", "+1"],
+        &["exec", "--trace", "--trace"],
+        &["exec", "--arg", "1", "--arg", "1"],
+        &["exec", "--loud"],
+        &["exec", "-h"],
+        &["--help"],
+        &["help"],
+        &["--version"],
+        &["--trace", "exec"],
+    ];
     for line in lines {
         let words = words(rt.alloc(), line)?;
         let mut source = SliceSource::new(b"MZ");
@@ -47,6 +67,7 @@ fn statuses(rt: HostRuntime) {
     for (status, code) in [
         (Status::Done, 0),
         (Status::Usage, 1),
+        (Status::Refused, 2),
         (Status::Image, 3),
         (Status::ReadFault, 4),
         (Status::WriteFault, 5),

@@ -1,5 +1,5 @@
 -- Which answer a call of the program has, and by what cause.
-use Rattle.std.specs.Prelude.{◌≡◌, ℕ, ◌<◌, false, List, [], length, pos, Option, Some, None, Result, Ok, Err}
+use Rattle.std.specs.Prelude.{◌≡◌, ◌⊎◌, ℕ, ◌<◌, ◌≤◌, List, [], length, Some, None, Result, Ok, Err}
 use Rattle.std.specs.Option.{ForSome}
 use Rattle.seh_num.specs.declared.end.RunEnd.{RunEnd}
 use Rattle.seh_io.specs.Streams.{Rose, Grew}
@@ -7,41 +7,49 @@ use Rattle.seh_io.specs.Text.{text}
 use Rattle.seh_io.specs.Writer.{TookPart}
 use Rattle.pe_image.specs.Image.{Image}
 use Rattle.pe_image.specs.Reading.{IsImage, IsRefused}
+use Rattle.table_view.specs.View.{view}
 use Rattle.host_model.specs.declared.refusal.LoadErr.{LoadErr}
 use Rattle.host_model.specs.Loading.{load_refusal}
 use Rattle.host_model.specs.Machine.{Shown, machine}
 use Rattle.seh_host.specs.Turns.{end_within}
 use Rattle.seh_host.specs.Hosts.{IsLoadRefusal}
-use Rattle.seh.specs.declared.command.Command.{Command}
-use Rattle.seh.specs.declared.command.Command.TheVariants.{Exec}
+use Rattle.c_meaning.specs.Syntax.{Statement, deepest}
+use Rattle.c_meaning.specs.Grammar.{Reads}
+use Rattle.image_link.specs.Realises.{Realises}
+use Rattle.command_line.specs.declared.command.Command.{Command}
+use Rattle.command_line.specs.declared.command.Command.TheVariants.{Compile, Exec, Show}
+use Rattle.command_line.specs.declared.command.RunOptions.{RunOptions}
+use Rattle.command_line.specs.Lines.{IsLine, IsNoLine}
+use Rattle.seh.specs.declared.outcome.Outcome.{Outcome}
+use Rattle.seh.specs.declared.outcome.Outcome.TheVariants.{Compiled, Ran, Viewed}
 use Rattle.seh.specs.declared.status.Status.{Status}
 use Rattle.seh.specs.declared.refusal.Refusal.{Refusal}
 use Rattle.seh.specs.declared.refusal.Refusal.TheVariants as refusals
-use Rattle.seh.specs.Commands.{command_of}
 use Rattle.seh.specs.Refusals.{Reported}
 use Rattle.seh.specs.Streams.{Stream}
 
--- an image has at most so many bytes, and a run makes at most so many turns
+-- a text has at most so many bytes
+abbrev pub text_limit : ℕ
+text_limit = 1048576
+
+-- an image has at most so many bytes
 abbrev pub image_limit : ℕ
 image_limit = 268435456
-
-abbrev pub default_turns : ℕ
-default_turns = 10000000
 
 -- these are the bytes that the source held; where it tells what it holds, they are that, and nothing is left
 pub record IsInput (source source' : Stream) (bytes : List ℕ) : Type 0 where
   pub all : ForSome source.bytes (λ held. bytes ≡ held)
   pub emptied : ForSome source.bytes (λ _. source'.bytes ≡ Some [])
 
--- an image that is run: what is shown of it, and how it ends
-abbrev pub shown_by : List ℕ → Shown
-shown_by bytes = machine bytes (pos 0) default_turns
+-- an image that is run with these options: what is shown of it, and how it ends
+abbrev pub shown_by : RunOptions → List ℕ → Shown
+shown_by options bytes = machine bytes options.argument options.turns
 
-abbrev pub end_by : List ℕ → RunEnd
-end_by bytes = end_within default_turns (shown_by bytes).end
+abbrev pub end_by : RunOptions → List ℕ → RunEnd
+end_by options bytes = end_within options.turns (shown_by options bytes).end
 
-abbrev pub text_by : List ℕ → List ℕ
-text_by bytes = text (shown_by bytes).events (end_by bytes) false
+abbrev pub text_by : RunOptions → List ℕ → List ℕ
+text_by options bytes = text (shown_by options bytes).events (end_by options bytes) options.trace
 
 -- the bytes are an image that loads
 pub record Loads (bytes : List ℕ) : Type 0 where
@@ -59,35 +67,84 @@ pub record IsRefusedLoad (bytes : List ℕ) (e : LoadErr) : Type 0 where
 abbrev pub Quiet : Stream → Stream → Type 0
 Quiet out out' = out' ≡ out
 
--- what comes of bytes that were read: the whole text of the run of an image that loads, with its end; the first check that fails, or the load's; or a part of the text, where the sink had a fault
-abbrev pub IsRunAnswer : List ℕ → Stream → Stream → Result RunEnd Refusal → Type 0
-IsRunAnswer bytes out out' (Ok end) = Loads bytes × (end ≡ end_by bytes) × Grew out.bytes (text_by bytes) out'.bytes
-IsRunAnswer bytes out out' (Err (refusals.Image e)) = IsRefused bytes e × Quiet out out'
-IsRunAnswer bytes out out' (Err (refusals.Load e)) = IsRefusedLoad bytes e × Quiet out out'
-IsRunAnswer bytes out out' (Err refusals.WriteFault) = Loads bytes × Rose out.faults out'.faults × ((count : ℕ) × TookPart out.bytes (text_by bytes) out'.bytes count)
-IsRunAnswer bytes out out' (Err r) = ⊥
+-- what comes of bytes that were read, from the sink before and after
+abbrev pub Judged : Type 1
+Judged = List ℕ → Stream → Stream → Result Outcome Refusal → Type 0
+
+-- what comes of an image's bytes: the whole text of the run of an image that loads, with its end; the first check that fails, or the load's; or a part of the text, where the sink had a fault
+abbrev pub IsRunAnswer : RunOptions → Judged
+IsRunAnswer options bytes out out' (Ok (Ran end)) = Loads bytes × (end ≡ end_by options bytes) × Grew out.bytes (text_by options bytes) out'.bytes
+IsRunAnswer options bytes out out' (Err (refusals.Image e)) = IsRefused bytes e × Quiet out out'
+IsRunAnswer options bytes out out' (Err (refusals.Load e)) = IsRefusedLoad bytes e × Quiet out out'
+IsRunAnswer options bytes out out' (Err refusals.WriteFault) = Loads bytes × Rose out.faults out'.faults × ((count : ℕ) × TookPart out.bytes (text_by options bytes) out'.bytes count)
+IsRunAnswer options bytes out out' answer = ⊥
+
+-- ---- showing
+
+-- what comes of an image's bytes: the whole view of its function table; the first check that fails; or a part of the view, where the sink had a fault
+abbrev pub IsShowAnswer : Judged
+IsShowAnswer bytes out out' (Ok Viewed) = (image : Image) × IsImage bytes image × Grew out.bytes (view image) out'.bytes
+IsShowAnswer bytes out out' (Err (refusals.Image e)) = IsRefused bytes e × Quiet out out'
+IsShowAnswer bytes out out' (Err refusals.WriteFault) = (image : Image) × IsImage bytes image × Rose out.faults out'.faults × ((count : ℕ) × TookPart out.bytes (view image) out'.bytes count)
+IsShowAnswer bytes out out' answer = ⊥
+
+-- ---- compiling
+
+-- the text is that of an accepted program, and the image does what the program means
+pub record IsCompiled (text image : List ℕ) : Type 0 where
+  pub program : List Statement
+  pub reads : Reads text program
+  pub nested : deepest program ≤ 64
+  pub realises : Realises image program
+
+-- no accepted program has this text
+abbrev pub IsLater : List ℕ → Type 0
+IsLater text = (program : List Statement) → Reads text program → deepest program ≤ 64 → ⊥
+
+-- what comes of a text: the whole image; a refusal, where the text isn't an accepted program's; or a part of the image, where the sink had a fault
+abbrev pub IsCompileAnswer : Judged
+IsCompileAnswer text out out' (Ok Compiled) = (image : List ℕ) × IsCompiled text image × Grew out.bytes image out'.bytes
+IsCompileAnswer text out out' (Err refusals.Later) = IsLater text × Quiet out out'
+IsCompileAnswer text out out' (Err refusals.WriteFault) = (image : List ℕ) × IsCompiled text image × Rose out.faults out'.faults × ((count : ℕ) × TookPart out.bytes image out'.bytes count)
+IsCompileAnswer text out out' (Err refusals.NoMemory) = Quiet out out'
+IsCompileAnswer text out out' answer = ⊥
+
+-- ---- the input
 
 -- the source was read to its end, and this comes of what it held
-pub record FromInput (source source' out out' : Stream) (answer : Result RunEnd Refusal) : Type 0 where
+pub record FromInput (judged : Judged) (source source' out out' : Stream) (answer : Result Outcome Refusal) : Type 0 where
   pub bytes : List ℕ
   pub input : IsInput source source' bytes
-  pub run : IsRunAnswer bytes out out' answer
+  pub comes : judged bytes out out' answer
 
--- `exec` has this answer by its cause, from the source and the sink before and after
-abbrev pub IsExecAnswer : Stream → Stream → Stream → Stream → Result RunEnd Refusal → Type 0
-IsExecAnswer source source' out out' (Err refusals.Usage) = ⊥
-IsExecAnswer source source' out out' (Err refusals.ReadFault) = Rose source.faults source'.faults × Quiet out out'
-IsExecAnswer source source' out out' (Err (refusals.TooLong limit)) = (limit ≡ image_limit) × ForSome source.bytes (λ held. image_limit < length held) × Quiet out out'
-IsExecAnswer source source' out out' (Err refusals.NoMemory) = Quiet out out'
-IsExecAnswer source source' out out' answer = FromInput source source' out out' answer
+-- a command that reads its input has this answer by its cause, from the source and the sink before and after
+abbrev pub IsInputAnswer : ℕ → Judged → Stream → Stream → Stream → Stream → Result Outcome Refusal → Type 0
+IsInputAnswer limit judged source source' out out' (Err refusals.Usage) = ⊥
+IsInputAnswer limit judged source source' out out' (Err refusals.ReadFault) = Rose source.faults source'.faults × Quiet out out'
+IsInputAnswer limit judged source source' out out' (Err (refusals.TooLong most)) = (most ≡ limit) × ForSome source.bytes (λ held. limit < length held) × Quiet out out'
+IsInputAnswer limit judged source source' out out' (Err refusals.NoMemory) = Quiet out out'
+IsInputAnswer limit judged source source' out out' answer = FromInput judged source source' out out' answer
 
--- where the words are no line of the command set nothing is read
-abbrev pub IsAnswer : Option Command → Stream → Stream → Stream → Stream → Result RunEnd Refusal → Type 0
-IsAnswer None source source' out out' answer = (answer ≡ Err refusals.Usage) × (source' ≡ source) × Quiet out out'
-IsAnswer (Some Exec) source source' out out' answer = IsExecAnswer source source' out out' answer
+-- ---- the words
+
+abbrev pub IsCommandAnswer : Command → Stream → Stream → Stream → Stream → Result Outcome Refusal → Type 0
+IsCommandAnswer Compile source source' out out' answer = IsInputAnswer text_limit IsCompileAnswer source source' out out' answer
+IsCommandAnswer Show source source' out out' answer = IsInputAnswer image_limit IsShowAnswer source source' out out' answer
+IsCommandAnswer (Exec options) source source' out out' answer = IsInputAnswer image_limit (IsRunAnswer options) source source' out out' answer
+
+-- nothing was read, and nothing was written
+abbrev pub Untouched : Stream → Stream → Stream → Stream → Type 0
+Untouched source source' out out' = (source' ≡ source) × Quiet out out'
+
+-- the words are no line of the command set, or stand for a command that has this answer; or there was no memory to read them
+abbrev pub IsAnswer : List (List ℕ) → Stream → Stream → Stream → Stream → Result Outcome Refusal → Type 0
+IsAnswer words source source' out out' answer =
+    ((answer ≡ Err refusals.Usage) × IsNoLine words × Untouched source source' out out')
+    ⊎ (((command : Command) × IsLine words command × IsCommandAnswer command source source' out out' answer)
+    ⊎ ((answer ≡ Err refusals.NoMemory) × Untouched source source' out out'))
 
 -- the program has one answer, by its cause, and reports it
 pub record Answers (words : List (List ℕ)) (source source' out out' err err' : Stream) (status : Status) : Type 0 where
-  pub answer : Result RunEnd Refusal
-  pub cause : IsAnswer (command_of words) source source' out out' answer
+  pub answer : Result Outcome Refusal
+  pub cause : IsAnswer words source source' out out' answer
   pub reported : Reported answer err err' status

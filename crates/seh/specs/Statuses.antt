@@ -2,12 +2,15 @@
 use Rattle.std.specs.Prelude.{ℕ}
 use Rattle.seh_num.specs.declared.end.RunEnd.{RunEnd}
 use Rattle.seh_num.specs.declared.end.RunEnd.TheVariants as ends
+use Rattle.seh.specs.declared.outcome.Outcome.{Outcome}
+use Rattle.seh.specs.declared.outcome.Outcome.TheVariants.{Compiled, Ran, Viewed}
 use Rattle.seh.specs.declared.status.Status.{Status}
 use Rattle.seh.specs.declared.status.Status.TheVariants as statuses
 
 abbrev pub code_of : Status → ℕ
 code_of statuses.Done = 0
 code_of statuses.Usage = 1
+code_of statuses.Refused = 2
 code_of statuses.Image = 3
 code_of statuses.ReadFault = 4
 code_of statuses.WriteFault = 5
@@ -24,3 +27,8 @@ status_of (ends.Unhandled c) = statuses.Unhandled
 status_of (ends.StackLimit a) = statuses.StackLimit
 status_of (ends.OutOfTurns n) = statuses.OutOfTurns
 status_of (ends.Stopped why a) = statuses.Stopped
+
+abbrev pub outcome_status : Outcome → Status
+outcome_status Compiled = statuses.Done
+outcome_status Viewed = statuses.Done
+outcome_status (Ran end) = status_of end

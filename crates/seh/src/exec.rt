@@ -1,12 +1,13 @@
 //! The command `exec`: an image is read and run, and the text of its run is written.
 
 ghost use Rattle.std.specs.Prelude.{◌≡◌};
-ghost use Rattle.seh.specs.Answers.{IsRunAnswer, IsExecAnswer};
+ghost use Rattle.seh.specs.Answers.{image_limit, IsRunAnswer, IsInputAnswer};
 ghost use Rattle.seh.specs.Streams.{stream};
 
+use crate::outcome::Outcome;
 use crate::refusal::Refusal;
+use command_line::command::RunOptions;
 use pe_image::ImageView;
-use seh_host::RunEnd;
 use seh_host::loading::load;
 use seh_host::run::run;
 use seh_io::reading::{ReadErr, read_all};
@@ -17,33 +18,40 @@ use std::alloc::Global;
 /// An image has at most so many bytes: 256 MiB.
 pub const IMAGE_LIMIT: u64 = 268_435_456;
 
-/// A run makes at most so many turns.
-pub const DEFAULT_TURNS: u64 = 10_000_000;
-
 /// Runs an image, and writes the text of its run.
-fn run_image<O: Sink>(alloc: Global, bytes: &[u8], out: &mut O) -> Result<RunEnd, Refusal>
-    ensures { IsRunAnswer bytes.now (stream O.taken O.faults out.old) (stream O.taken O.faults out.new) result }
+fn run_image<O: Sink>(
+    alloc: Global,
+    options: RunOptions,
+    bytes: &[u8],
+    out: &mut O,
+) -> Result<Outcome, Refusal>
+    ensures { IsRunAnswer options bytes.now (stream O.taken O.faults out.old) (stream O.taken O.faults out.new) result }
 {
     let image = match ImageView::read(alloc, bytes) {
         Ok(image) => image,
         Err(error) => return Err(Refusal::Image(error)),
     };
-    let mut host = match load(alloc, &image, 0) {
+    let mut host = match load(alloc, &image, options.argument) {
         Ok(host) => host,
         Err(error) => return Err(Refusal::Load(error)),
     };
-    match run(&mut host, DEFAULT_TURNS, false, out) {
-        Ok(end) => Ok(end),
+    match run(&mut host, options.turns, options.trace, out) {
+        Ok(end) => Ok(Outcome::Ran(end)),
         Err(_) => Err(Refusal::WriteFault),
     }
 }
 
 /// Reads an image from the source and runs it.
-pub fn exec<S: Source, O: Sink>(alloc: Global, src: &mut S, out: &mut O) -> Result<RunEnd, Refusal>
-    ensures { IsExecAnswer (stream S.left S.faults src.old) (stream S.left S.faults src.new) (stream O.taken O.faults out.old) (stream O.taken O.faults out.new) result }
+pub fn exec<S: Source, O: Sink>(
+    alloc: Global,
+    options: RunOptions,
+    src: &mut S,
+    out: &mut O,
+) -> Result<Outcome, Refusal>
+    ensures { IsInputAnswer image_limit (IsRunAnswer options) (stream S.left S.faults src.old) (stream S.left S.faults src.new) (stream O.taken O.faults out.old) (stream O.taken O.faults out.new) result }
 {
     match read_all(alloc, src, IMAGE_LIMIT) {
-        Ok(bytes) => run_image(alloc, &bytes, out),
+        Ok(bytes) => run_image(alloc, options, &bytes, out),
         Err(ReadErr::Fault) => Err(Refusal::ReadFault),
         Err(ReadErr::TooLong { limit }) => Err(Refusal::TooLong { limit }),
         Err(ReadErr::Memory) => Err(Refusal::NoMemory),

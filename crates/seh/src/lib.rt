@@ -1,8 +1,10 @@
 //! The program: its commands, over any source and sinks.
 #![tactic(auto)]
 
-pub mod command;
+pub mod compile;
 pub mod exec;
+pub mod outcome;
 pub mod refusal;
+pub mod show;
 pub mod status;
 pub mod top;

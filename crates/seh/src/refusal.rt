@@ -20,6 +20,8 @@ pub enum Refusal {
     ReadFault,
     /// The source holds more than so many bytes.
     TooLong { limit: u64 },
+    /// The text isn't of the part of C that is compiled.
+    Later,
     /// The bytes are no image.
     Image(ImageErr),
     /// The image can't be loaded.
@@ -39,6 +41,7 @@ impl Refusal {
             Refusal::Usage => Status::Usage,
             Refusal::ReadFault => Status::ReadFault,
             Refusal::TooLong { .. } => Status::TooLong,
+            Refusal::Later => Status::Refused,
             Refusal::Image(ImageErr::Memory) | Refusal::Load(LoadErr::Memory) => Status::NoMemory,
             Refusal::Image(_) | Refusal::Load(_) => Status::Image,
             Refusal::WriteFault => Status::WriteFault,
@@ -113,6 +116,7 @@ fn refusal_text(refusal: &Refusal) -> Line
             named(&mut line, b"too long ", *limit);
             line
         }
+        Refusal::Later => plain(b"refused Later 0"),
         Refusal::Image(error) => image_text(error),
         Refusal::Load(error) => load_text(error),
         Refusal::WriteFault => plain(b"write fault"),

@@ -10,6 +10,8 @@ pub enum Status {
     Done,
     /// The words are no line of the command set.
     Usage,
+    /// The text was refused.
+    Refused,
     /// The image, or its load, was refused.
     Image,
     /// The source had a fault.
@@ -38,6 +40,7 @@ impl Status {
         match self {
             Status::Done => 0,
             Status::Usage => 1,
+            Status::Refused => 2,
             Status::Image => 3,
             Status::ReadFault => 4,
             Status::WriteFault => 5,

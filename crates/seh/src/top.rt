@@ -2,21 +2,47 @@
 
 ghost use Rattle.std.specs.Prelude.{◌≡◌, ◌≤◌, map};
 ghost use Rattle.std.specs.String.{string_bytes};
-ghost use Rattle.seh.specs.Answers.{Answers};
+ghost use Rattle.seh.specs.Answers.{Answers, IsAnswer};
 ghost use Rattle.seh.specs.Streams.{stream};
 
-use crate::command::{Command, command_of};
+use crate::compile::compile;
 use crate::exec::exec;
+use crate::outcome::Outcome;
 use crate::refusal::{Refusal, report};
+use crate::show::show;
 use crate::status::Status;
+use command_line::command::Command;
+use command_line::reading::{WordsErr, command_of};
 use seh_io::sink::Sink;
 use seh_io::source::Source;
 use std::alloc::Global;
 
+/// What the words ask for, carried out.
+fn answer<S: Source, O: Sink>(
+    alloc: Global,
+    words: &[String],
+    src: &mut S,
+    out: &mut O,
+) -> Result<Outcome, Refusal>
+    ensures { IsAnswer (map string_bytes words.now) (stream S.left S.faults src.old) (stream S.left S.faults src.new) (stream O.taken O.faults out.old) (stream O.taken O.faults out.new) result }
+{
+    match command_of(alloc, words) {
+        Ok(Command::Compile) => compile(alloc, src, out),
+        Ok(Command::Show) => show(alloc, src, out),
+        Ok(Command::Exec(options)) => exec(alloc, options, src, out),
+        Err(WordsErr::Usage) => Err(Refusal::Usage),
+        Err(WordsErr::Memory) => Err(Refusal::NoMemory),
+    }
+}
+
 /// Carries out the command that the words, those after the program's name, ask for.
 ///
-/// `exec` reads an image from the source, runs it for at most 10,000,000 turns with the argument 0,
-/// and writes the text of its run to `out`; the status is that of the run's end. A refusal writes one
+/// `compile` reads a text of C of at most 1 MiB from the source and writes the image that it is
+/// compiled to: the image that a run of `exec` reads does what the program means.
+///
+/// `exec` reads an image from the source, runs it with the argument `--arg` for at most `--turns`
+/// turns, 0 and 10,000,000 where they aren't given, and writes the text of its run to `out`, with
+/// `--trace` the lines of all events; the status is that of the run's end. A refusal writes one
 /// line to `err` and nothing to `out`, but for a write fault, after which `out` has taken a part of
 /// the text from the front. Where the line can't be written the status is that of a write fault.
 pub fn top<S: Source, O: Sink, E: Sink>(
@@ -31,12 +57,8 @@ pub fn top<S: Source, O: Sink, E: Sink>(
         (stream O.taken O.faults out.old) (stream O.taken O.faults out.new)
         (stream E.taken E.faults err.old) (stream E.taken E.faults err.new) result }
 {
-    let answer = match command_of(words) {
-        None => Err(Refusal::Usage),
-        Some(Command::Exec) => exec(alloc, src, out),
-    };
-    match answer {
-        Ok(end) => Status::of(&end),
+    match answer(alloc, words, src, out) {
+        Ok(outcome) => outcome.status(),
         Err(refusal) => report(err, &refusal),
     }
 }

@@ -1,34 +1,39 @@
-use Rattle.std.proofs.Common.{ap, ◌∙◌, subst, false}
+use Rattle.std.proofs.Common.{rules, ap, ◌∙◌, subst, ℤ, w64, FitsSigned}
+use Rattle.std.proofs.lemmas.Int.{to_z-of_z}
+use Rattle.host_model.specs.Loading.{start}
+use Rattle.host_model.specs.HostStep.{host}
 use Rattle.seh_host.specs.Hosts.{host_of}
 use Rattle.seh_host.specs.Turns.{end_within, taken_before}
 use Rattle.seh_io.specs.Streams.{Grew}
 use Rattle.seh_io.specs.Text.{text}
 use Rattle.seh_io.specs.Writer.{TookPart}
 use Rattle.host_model.specs.Machine.{Shown}
-use Rattle.seh.specs.Answers.{default_turns, shown_by}
+use Rattle.seh.specs.Answers.{shown_by}
 use Rattle.seh.proofs.Shown.{shown_is}
 use Rattle.seh.proofs.exec.run_image.Goals as goal
 
 pub returns-in-Ok-run : goal.returns-in-Ok-run
 returns-in-Ok-run g c =
-    let same = shown_is c.args.bytes.now c.in-Ok.image (host_of c.in-Ok-load.host) c.in-Ok.ensures.image c.in-Ok-load.ensures.loaded in
-    let ends = c.in-Ok-run.ensures.end ∙ ap (λ (s : Shown). end_within default_turns s.end) same in (
+    let fits : FitsSigned w64 c.args.options.argument = search rules in
+    let same = shown_is c.args.options c.args.bytes.now c.in-Ok.image (host_of c.in-Ok-load.host) c.in-Ok.ensures.image (c.in-Ok-load.ensures.loaded ∙ ap (λ (z : ℤ). host (start c.in-Ok.image z)) (to_z-of_z w64 c.args.options.argument fits)) in
+    let ends = c.in-Ok-run.ensures.end ∙ ap (λ (s : Shown). end_within c.args.options.turns s.end) same in (
       record { image = c.in-Ok.image; is = c.in-Ok.ensures.image; loads = c.in-Ok-load.ensures.accepted },
       ends,
       subst (λ t. Grew (g.O.Sink.taken c.args.out.now) t (g.O.Sink.taken c.run.new.sink))
-          (ap (λ (s : Shown). text s.events c.in-Ok-run.end false) same ∙ ap (λ e. text (shown_by c.args.bytes.now).events e false) ends)
+          (ap (λ (s : Shown). text s.events c.in-Ok-run.end c.args.options.trace) same ∙ ap (λ e. text (shown_by c.args.options c.args.bytes.now).events e c.args.options.trace) ends)
           c.in-Ok-run.ensures.text,
     )
 
 pub returns : goal.returns
 returns g c =
-    let same = shown_is c.args.bytes.now c.in-Ok.image (host_of c.in-Ok-load.host) c.in-Ok.ensures.image c.in-Ok-load.ensures.loaded in (
+    let fits : FitsSigned w64 c.args.options.argument = search rules in
+    let same = shown_is c.args.options c.args.bytes.now c.in-Ok.image (host_of c.in-Ok-load.host) c.in-Ok.ensures.image (c.in-Ok-load.ensures.loaded ∙ ap (λ (z : ℤ). host (start c.in-Ok.image z)) (to_z-of_z w64 c.args.options.argument fits)) in (
       record { image = c.in-Ok.image; is = c.in-Ok.ensures.image; loads = c.in-Ok-load.ensures.accepted },
       c.in-Err-run.ensures.cause,
       (
         taken_before c.in-Err-run.field-0,
         subst (λ t. TookPart (g.O.Sink.taken c.args.out.now) t (g.O.Sink.taken c.run.new.sink) (taken_before c.in-Err-run.field-0))
-            (ap (λ (s : Shown). text s.events (end_within default_turns s.end) false) same)
+            (ap (λ (s : Shown). text s.events (end_within c.args.options.turns s.end) c.args.options.trace) same)
             c.in-Err-run.ensures.part,
       ),
     )

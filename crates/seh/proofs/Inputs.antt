@@ -1,0 +1,26 @@
+-- What comes of a text comes of the input that it was.
+use Rattle.std.proofs.Common.{◌<◌, ℕ, min, List, length, take, drop, Option, Result, Ok, Err, sym, ap, arith}
+use Rattle.std.proofs.lemmas.List.{take-append-drop, length-take-le}
+use Rattle.seh_io.specs.Streams.{Grew, last_count}
+use Rattle.seh_io.specs.Writer.{TookPart}
+use Rattle.seh.specs.declared.outcome.Outcome.{Outcome}
+use Rattle.seh.specs.declared.refusal.Refusal.{Refusal}
+use Rattle.seh.specs.declared.refusal.Refusal.TheVariants as refusals
+use Rattle.seh.specs.Streams.{Stream}
+use Rattle.seh.specs.Answers.{text_limit, IsInput, IsCompileAnswer, IsInputAnswer}
+
+pub from_text : (text : List ℕ) (source source' out out' : Stream) (answer : Result Outcome Refusal) → IsInput source source' text → IsCompileAnswer text out out' answer → IsInputAnswer text_limit IsCompileAnswer source source' out out' answer
+from_text text source source' out out' (Ok done) input h = record { bytes = text; input = input; comes = h }
+from_text text source source' out out' (Err refusals.Later) input h = record { bytes = text; input = input; comes = h }
+from_text text source source' out out' (Err refusals.WriteFault) input h = record { bytes = text; input = input; comes = h }
+from_text text source source' out out' (Err refusals.NoMemory) input h = h
+from_text text source source' out out' (Err r) input h = absurd h
+
+-- a front of a text was taken
+pub took_front : (taken : Option (List ℕ)) (text : List ℕ) (taken' : Option (List ℕ)) (count : ℕ) → count < length text → Grew taken (take count text) taken' → TookPart taken text taken' count
+took_front taken text taken' count short grew = record {
+  part = take count text;
+  begins = (drop count text, sym (take-append-drop count text));
+  grew = grew;
+  counted = ap (λ n. min n last_count) (sym (length-take-le count text (omega arith)));
+}

@@ -1,0 +1,54 @@
+//! The command `compile`: a text is read and compiled, and its image is written.
+
+ghost use Rattle.std.specs.Prelude.{◌≡◌, ◌≤◌, length};
+ghost use Rattle.seh.specs.Answers.{text_limit, IsCompileAnswer, IsInputAnswer};
+ghost use Rattle.seh.specs.Streams.{stream};
+
+use crate::outcome::Outcome;
+use crate::refusal::Refusal;
+use c_meaning::first::{FirstErr, read_first};
+use image_link::link::compile as compile_program;
+use seh_io::reading::{ReadErr, read_all};
+use seh_io::sink::Sink;
+use seh_io::source::Source;
+use seh_io::writing::put_all;
+use std::alloc::Global;
+
+/// A text has at most so many bytes: 1 MiB.
+pub const TEXT_LIMIT: u64 = 1_048_576;
+
+/// Compiles a text, and writes the bytes of its image.
+fn compile_text<O: Sink>(alloc: Global, text: &[u8], out: &mut O) -> Result<Outcome, Refusal>
+    requires { length text.now ≤ 1048576 }
+    ensures { IsCompileAnswer text.now (stream O.taken O.faults out.old) (stream O.taken O.faults out.new) result }
+{
+    let checked = match read_first(alloc, text) {
+        Ok(checked) => checked,
+        Err(FirstErr::Later) => return Err(Refusal::Later),
+        Err(FirstErr::Memory) => return Err(Refusal::NoMemory),
+    };
+    let image = match compile_program(alloc, &checked) {
+        Ok(image) => image,
+        Err(_) => return Err(Refusal::NoMemory),
+    };
+    match put_all(out, &image) {
+        Ok(()) => Ok(Outcome::Compiled),
+        Err(_) => Err(Refusal::WriteFault),
+    }
+}
+
+/// Reads a text from the source and compiles it.
+pub fn compile<S: Source, O: Sink>(
+    alloc: Global,
+    src: &mut S,
+    out: &mut O,
+) -> Result<Outcome, Refusal>
+    ensures { IsInputAnswer text_limit IsCompileAnswer (stream S.left S.faults src.old) (stream S.left S.faults src.new) (stream O.taken O.faults out.old) (stream O.taken O.faults out.new) result }
+{
+    match read_all(alloc, src, TEXT_LIMIT) {
+        Ok(text) => compile_text(alloc, &text, out),
+        Err(ReadErr::Fault) => Err(Refusal::ReadFault),
+        Err(ReadErr::TooLong { limit }) => Err(Refusal::TooLong { limit }),
+        Err(ReadErr::Memory) => Err(Refusal::NoMemory),
+    }
+}

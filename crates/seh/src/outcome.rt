@@ -1,0 +1,30 @@
+//! What commands come to.
+
+ghost use Rattle.std.specs.Prelude.{◌≡◌};
+ghost use Rattle.seh.specs.Statuses.{outcome_status};
+
+use crate::status::Status;
+use seh_num::end::RunEnd;
+
+/// What a command that was carried out came to.
+#[derive(Clone, Copy, Debug, PartialEq, Eq)]
+pub enum Outcome {
+    /// A text was compiled, and its image written.
+    Compiled,
+    /// An image was run, and ended so.
+    Ran(RunEnd),
+    /// The function table of an image was shown.
+    Viewed,
+}
+
+impl Outcome {
+    /// The status of what was carried out.
+    pub fn status(&self) -> Status
+        ensures { result ≡ outcome_status self.now }
+    {
+        match self {
+            Outcome::Compiled | Outcome::Viewed => Status::Done,
+            Outcome::Ran(end) => Status::of(end),
+        }
+    }
+}

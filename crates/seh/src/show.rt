@@ -1,0 +1,41 @@
+//! The command `show`: an image is read, and the view of its function table is written.
+
+ghost use Rattle.std.specs.Prelude.{◌≡◌};
+ghost use Rattle.seh.specs.Answers.{image_limit, IsShowAnswer, IsInputAnswer};
+ghost use Rattle.seh.specs.Streams.{stream};
+
+use crate::exec::IMAGE_LIMIT;
+use crate::outcome::Outcome;
+use crate::refusal::Refusal;
+use pe_image::ImageView;
+use seh_io::reading::{ReadErr, read_all};
+use seh_io::sink::Sink;
+use seh_io::source::Source;
+use std::alloc::Global;
+use table_view::view;
+
+/// Writes the view of an image's function table.
+fn show_image<O: Sink>(alloc: Global, bytes: &[u8], out: &mut O) -> Result<Outcome, Refusal>
+    ensures { IsShowAnswer bytes.now (stream O.taken O.faults out.old) (stream O.taken O.faults out.new) result }
+{
+    let image = match ImageView::read(alloc, bytes) {
+        Ok(image) => image,
+        Err(error) => return Err(Refusal::Image(error)),
+    };
+    match view(&image, out) {
+        Ok(()) => Ok(Outcome::Viewed),
+        Err(_) => Err(Refusal::WriteFault),
+    }
+}
+
+/// Reads an image from the source and shows its function table.
+pub fn show<S: Source, O: Sink>(alloc: Global, src: &mut S, out: &mut O) -> Result<Outcome, Refusal>
+    ensures { IsInputAnswer image_limit IsShowAnswer (stream S.left S.faults src.old) (stream S.left S.faults src.new) (stream O.taken O.faults out.old) (stream O.taken O.faults out.new) result }
+{
+    match read_all(alloc, src, IMAGE_LIMIT) {
+        Ok(bytes) => show_image(alloc, &bytes, out),
+        Err(ReadErr::Fault) => Err(Refusal::ReadFault),
+        Err(ReadErr::TooLong { limit }) => Err(Refusal::TooLong { limit }),
+        Err(ReadErr::Memory) => Err(Refusal::NoMemory),
+    }
+}

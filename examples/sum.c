@@ -1,0 +1,1 @@
+int main(void){ put(2+3*4); return 7; }
