@@ -1,0 +1,3 @@
+pub mod Signs
+pub mod Introduced
+pub mod Fields

@@ -1,0 +1,506 @@
+-- The reader of types is exact.
+use Rattle.std.specs.Prelude.{option_map, IfSome}
+use Rattle.std.proofs.Common.{◌≡◌, ◌⊎◌, ℕ, zero, suc, ◌+◌, List, [], ◌∷◌, Option, Some, None, refl, sym, ap, ◌∙◌, subst, inl, inr, arith, length}
+use Rattle.c_lex.specs.declared.keyword.Keyword.{Keyword}
+use Rattle.c_lex.specs.declared.keyword.Keyword.TheVariants as keywords
+use Rattle.c_lex.specs.declared.sign.Sign.{Sign}
+use Rattle.c_lex.specs.declared.sign.Sign.TheVariants as signs
+use Rattle.c_lex.specs.declared.token.Kind.{Kind}
+use Rattle.c_lex.specs.declared.token.Kind.TheVariants as kinds
+use Rattle.c_lex.specs.declared.token.Token.{Token}
+use Rattle.c_syntax.specs.declared.expression.Base.{Base}
+use Rattle.c_syntax.specs.declared.expression.Base.TheVariants as bases
+use Rattle.c_syntax.specs.declared.expression.CType.{CType}
+use Rattle.c_syntax.specs.Tokens.{token, IsSign, HasSign, HasKeyword}
+use Rattle.c_syntax.specs.Types.{IsOneOf, IsBase, AreStars}
+use Rattle.c_syntax.proofs.Fronts.{stars_once}
+use Rattle.c_parse_type.specs.Fronts.{after_keyword, keyword_of, after_sign, sign_of}
+use Rattle.c_parse_type.specs.Bases.{int_or, past_int, long_or, long, signed_or, unsigned_or, base_or, base, NoBase, NoStar}
+
+-- ---- fronts
+
+abbrev read_keyword : Keyword → List Token → Option (Keyword × List Token)
+read_keyword k ts = Some (k, ts)
+
+pub keyword_at : (k : Keyword) (ts rest : List Token) → HasKeyword k ts rest → after_keyword ts ≡ Some (k, rest)
+keyword_at k ts rest h = ap after_keyword h.1.1
+
+of_kind : (kind : Kind) (start end : ℕ) (ts rest : List Token) (k : Keyword) → keyword_of kind ts ≡ Some (k, rest) → HasKeyword k (token kind start end ∷ ts) rest
+of_kind kinds.Name start end ts rest k e = absurd cc
+of_kind (kinds.Keyword j) start end ts rest k e =
+    let p : ◌≡◌ {A = Keyword × List Token} (j, ts) (k, rest) = cc in
+    subst (λ (x : Keyword × List Token). HasKeyword x.0 (token (kinds.Keyword j) start end ∷ ts) x.1) p (start, (end, refl))
+of_kind (kinds.Reserved r) start end ts rest k e = absurd cc
+of_kind (kinds.Integer value type) start end ts rest k e = absurd cc
+of_kind (kinds.Character value) start end ts rest k e = absurd cc
+of_kind (kinds.Sign s) start end ts rest k e = absurd cc
+
+pub keyword_is : (ts rest : List Token) (k : Keyword) → after_keyword ts ≡ Some (k, rest) → HasKeyword k ts rest
+keyword_is [] rest k e = absurd cc
+keyword_is (t ∷ ts) rest k e = of_kind t.kind t.start t.end ts rest k e
+
+abbrev read_sign : Sign → ℕ → List Token → Option (Sign × ℕ × List Token)
+read_sign s at ts = Some (s, at, ts)
+
+pub sign_at : (s : Sign) (at : ℕ) (ts rest : List Token) → IsSign s at ts rest → after_sign ts ≡ Some (s, at, rest)
+sign_at s at ts rest h = ap after_sign h.1
+
+of_sign : (kind : Kind) (start end : ℕ) (ts rest : List Token) (s : Sign) (at : ℕ) → sign_of kind start ts ≡ Some (s, at, rest) → IsSign s at (token kind start end ∷ ts) rest
+of_sign kinds.Name start end ts rest s at e = absurd cc
+of_sign (kinds.Keyword j) start end ts rest s at e = absurd cc
+of_sign (kinds.Reserved r) start end ts rest s at e = absurd cc
+of_sign (kinds.Integer value type) start end ts rest s at e = absurd cc
+of_sign (kinds.Character value) start end ts rest s at e = absurd cc
+of_sign (kinds.Sign z) start end ts rest s at e =
+    let p : ◌≡◌ {A = Sign × ℕ × List Token} (z, start, ts) (s, at, rest) = cc in
+    subst (λ (x : Sign × ℕ × List Token). IsSign x.0 x.1 (token (kinds.Sign z) start end ∷ ts) x.2) p (end, refl)
+
+pub sign_is : (ts rest : List Token) (s : Sign) (at : ℕ) → after_sign ts ≡ Some (s, at, rest) → IsSign s at ts rest
+sign_is [] rest s at e = absurd cc
+sign_is (t ∷ ts) rest s at e = of_sign t.kind t.start t.end ts rest s at e
+
+-- ---- nothing of a type is at the front
+
+still_int : (o : Option (Keyword × List Token)) (ts : List Token) → base_or o ≡ None → int_or o ts ≡ ts
+still_int None ts e = refl
+still_int (Some (keywords.Break, rest)) ts e = refl
+still_int (Some (keywords.Char, rest)) ts e = absurd cc
+still_int (Some (keywords.Continue, rest)) ts e = refl
+still_int (Some (keywords.Do, rest)) ts e = refl
+still_int (Some (keywords.Else, rest)) ts e = refl
+still_int (Some (keywords.For, rest)) ts e = refl
+still_int (Some (keywords.If, rest)) ts e = refl
+still_int (Some (keywords.Int, rest)) ts e = absurd cc
+still_int (Some (keywords.Long, rest)) ts e = absurd cc
+still_int (Some (keywords.Return, rest)) ts e = refl
+still_int (Some (keywords.Short, rest)) ts e = absurd cc
+still_int (Some (keywords.Signed, rest)) ts e = absurd cc
+still_int (Some (keywords.Unsigned, rest)) ts e = absurd cc
+still_int (Some (keywords.Void, rest)) ts e = absurd cc
+still_int (Some (keywords.While, rest)) ts e = refl
+still_int (Some (keywords.Try, rest)) ts e = refl
+still_int (Some (keywords.Except, rest)) ts e = refl
+still_int (Some (keywords.Finally, rest)) ts e = refl
+still_int (Some (keywords.Leave, rest)) ts e = refl
+still_int (Some (keywords.GetExceptionInformation, rest)) ts e = refl
+
+abbrev paired : Base → List Token → Base × List Token
+paired p ts = (p, ts)
+
+long_pair : (p : Base) {ts us : List Token} → ts ≡ us → paired p ts ≡ paired p us
+long_pair p e = ap (paired p) e
+
+still_long : (p w : Base) (o : Option (Keyword × List Token)) (ts : List Token) → base_or o ≡ None → after_keyword ts ≡ o → long_or p w o ts ≡ (p, ts)
+still_long p w None ts e q = long_pair p (rw q refl)
+still_long p w (Some (keywords.Break, rest)) ts e q = long_pair p (rw q refl)
+still_long p w (Some (keywords.Char, rest)) ts e q = absurd cc
+still_long p w (Some (keywords.Continue, rest)) ts e q = long_pair p (rw q refl)
+still_long p w (Some (keywords.Do, rest)) ts e q = long_pair p (rw q refl)
+still_long p w (Some (keywords.Else, rest)) ts e q = long_pair p (rw q refl)
+still_long p w (Some (keywords.For, rest)) ts e q = long_pair p (rw q refl)
+still_long p w (Some (keywords.If, rest)) ts e q = long_pair p (rw q refl)
+still_long p w (Some (keywords.Int, rest)) ts e q = absurd cc
+still_long p w (Some (keywords.Long, rest)) ts e q = absurd cc
+still_long p w (Some (keywords.Return, rest)) ts e q = long_pair p (rw q refl)
+still_long p w (Some (keywords.Short, rest)) ts e q = absurd cc
+still_long p w (Some (keywords.Signed, rest)) ts e q = absurd cc
+still_long p w (Some (keywords.Unsigned, rest)) ts e q = absurd cc
+still_long p w (Some (keywords.Void, rest)) ts e q = absurd cc
+still_long p w (Some (keywords.While, rest)) ts e q = long_pair p (rw q refl)
+still_long p w (Some (keywords.Try, rest)) ts e q = long_pair p (rw q refl)
+still_long p w (Some (keywords.Except, rest)) ts e q = long_pair p (rw q refl)
+still_long p w (Some (keywords.Finally, rest)) ts e q = long_pair p (rw q refl)
+still_long p w (Some (keywords.Leave, rest)) ts e q = long_pair p (rw q refl)
+still_long p w (Some (keywords.GetExceptionInformation, rest)) ts e q = long_pair p (rw q refl)
+
+still_signed : (o : Option (Keyword × List Token)) (ts : List Token) → base_or o ≡ None → signed_or o ts ≡ (bases.Int, ts)
+still_signed None ts e = refl
+still_signed (Some (keywords.Break, rest)) ts e = refl
+still_signed (Some (keywords.Char, rest)) ts e = absurd cc
+still_signed (Some (keywords.Continue, rest)) ts e = refl
+still_signed (Some (keywords.Do, rest)) ts e = refl
+still_signed (Some (keywords.Else, rest)) ts e = refl
+still_signed (Some (keywords.For, rest)) ts e = refl
+still_signed (Some (keywords.If, rest)) ts e = refl
+still_signed (Some (keywords.Int, rest)) ts e = absurd cc
+still_signed (Some (keywords.Long, rest)) ts e = absurd cc
+still_signed (Some (keywords.Return, rest)) ts e = refl
+still_signed (Some (keywords.Short, rest)) ts e = absurd cc
+still_signed (Some (keywords.Signed, rest)) ts e = absurd cc
+still_signed (Some (keywords.Unsigned, rest)) ts e = absurd cc
+still_signed (Some (keywords.Void, rest)) ts e = absurd cc
+still_signed (Some (keywords.While, rest)) ts e = refl
+still_signed (Some (keywords.Try, rest)) ts e = refl
+still_signed (Some (keywords.Except, rest)) ts e = refl
+still_signed (Some (keywords.Finally, rest)) ts e = refl
+still_signed (Some (keywords.Leave, rest)) ts e = refl
+still_signed (Some (keywords.GetExceptionInformation, rest)) ts e = refl
+
+still_unsigned : (o : Option (Keyword × List Token)) (ts : List Token) → base_or o ≡ None → unsigned_or o ts ≡ (bases.Unsigned, ts)
+still_unsigned None ts e = refl
+still_unsigned (Some (keywords.Break, rest)) ts e = refl
+still_unsigned (Some (keywords.Char, rest)) ts e = absurd cc
+still_unsigned (Some (keywords.Continue, rest)) ts e = refl
+still_unsigned (Some (keywords.Do, rest)) ts e = refl
+still_unsigned (Some (keywords.Else, rest)) ts e = refl
+still_unsigned (Some (keywords.For, rest)) ts e = refl
+still_unsigned (Some (keywords.If, rest)) ts e = refl
+still_unsigned (Some (keywords.Int, rest)) ts e = absurd cc
+still_unsigned (Some (keywords.Long, rest)) ts e = absurd cc
+still_unsigned (Some (keywords.Return, rest)) ts e = refl
+still_unsigned (Some (keywords.Short, rest)) ts e = absurd cc
+still_unsigned (Some (keywords.Signed, rest)) ts e = absurd cc
+still_unsigned (Some (keywords.Unsigned, rest)) ts e = absurd cc
+still_unsigned (Some (keywords.Void, rest)) ts e = absurd cc
+still_unsigned (Some (keywords.While, rest)) ts e = refl
+still_unsigned (Some (keywords.Try, rest)) ts e = refl
+still_unsigned (Some (keywords.Except, rest)) ts e = refl
+still_unsigned (Some (keywords.Finally, rest)) ts e = refl
+still_unsigned (Some (keywords.Leave, rest)) ts e = refl
+still_unsigned (Some (keywords.GetExceptionInformation, rest)) ts e = refl
+
+-- ---- what has a type is read
+
+abbrev found : Base → List Token → Option (Base × List Token)
+found b ts = Some (b, ts)
+
+base_complete : (b : Base) (ts rest : List Token) → IsBase b ts rest → base rest ≡ None → base ts ≡ Some (b, rest)
+base_complete bases.Void ts rest (inl h) n = let e0 = keyword_at keywords.Void ts h.0 h.1 in rw e0 (ap (found bases.Void) h.2)
+base_complete bases.Void ts rest (inr h) n = absurd h
+base_complete bases.Char ts rest (inl h) n = let e0 = keyword_at keywords.Char ts h.0 h.1 in rw e0 (ap (found bases.Char) h.2)
+base_complete bases.Char ts rest (inr (inl h)) n = let e0 = keyword_at keywords.Signed ts h.0 h.1 in let e1 = keyword_at keywords.Char h.0 h.2.0 h.2.1 in rw (e0, e1) (ap (found bases.Char) h.2.2)
+base_complete bases.Char ts rest (inr (inr h)) n = absurd h
+base_complete bases.UnsignedChar ts rest (inl h) n = let e0 = keyword_at keywords.Unsigned ts h.0 h.1 in let e1 = keyword_at keywords.Char h.0 h.2.0 h.2.1 in rw (e0, e1) (ap (found bases.UnsignedChar) h.2.2)
+base_complete bases.UnsignedChar ts rest (inr h) n = absurd h
+base_complete bases.Short ts rest (inl h) n = let m : base h.0 ≡ None = ap base h.2 ∙ n in let e0 = keyword_at keywords.Short ts h.0 h.1 in let e1 = still_int (after_keyword h.0) h.0 m in rw (e0, e1) (ap (found bases.Short) h.2)
+base_complete bases.Short ts rest (inr (inl h)) n = let e0 = keyword_at keywords.Short ts h.0 h.1 in let e1 = keyword_at keywords.Int h.0 h.2.0 h.2.1 in rw (e0, e1) (ap (found bases.Short) h.2.2)
+base_complete bases.Short ts rest (inr (inr (inl h))) n = let m : base h.2.0 ≡ None = ap base h.2.2 ∙ n in let e0 = keyword_at keywords.Signed ts h.0 h.1 in let e1 = keyword_at keywords.Short h.0 h.2.0 h.2.1 in let e2 = still_int (after_keyword h.2.0) h.2.0 m in rw (e0, e1, e2) (ap (found bases.Short) h.2.2)
+base_complete bases.Short ts rest (inr (inr (inr (inl h)))) n = let e0 = keyword_at keywords.Signed ts h.0 h.1 in let e1 = keyword_at keywords.Short h.0 h.2.0 h.2.1 in let e2 = keyword_at keywords.Int h.2.0 h.2.2.0 h.2.2.1 in rw (e0, e1, e2) (ap (found bases.Short) h.2.2.2)
+base_complete bases.Short ts rest (inr (inr (inr (inr h)))) n = absurd h
+base_complete bases.UnsignedShort ts rest (inl h) n = let m : base h.2.0 ≡ None = ap base h.2.2 ∙ n in let e0 = keyword_at keywords.Unsigned ts h.0 h.1 in let e1 = keyword_at keywords.Short h.0 h.2.0 h.2.1 in let e2 = still_int (after_keyword h.2.0) h.2.0 m in rw (e0, e1, e2) (ap (found bases.UnsignedShort) h.2.2)
+base_complete bases.UnsignedShort ts rest (inr (inl h)) n = let e0 = keyword_at keywords.Unsigned ts h.0 h.1 in let e1 = keyword_at keywords.Short h.0 h.2.0 h.2.1 in let e2 = keyword_at keywords.Int h.2.0 h.2.2.0 h.2.2.1 in rw (e0, e1, e2) (ap (found bases.UnsignedShort) h.2.2.2)
+base_complete bases.UnsignedShort ts rest (inr (inr h)) n = absurd h
+base_complete bases.Int ts rest (inl h) n = let e0 = keyword_at keywords.Int ts h.0 h.1 in rw e0 (ap (found bases.Int) h.2)
+base_complete bases.Int ts rest (inr (inl h)) n = let m : base h.0 ≡ None = ap base h.2 ∙ n in let e0 = keyword_at keywords.Signed ts h.0 h.1 in let e1 = still_signed (after_keyword h.0) h.0 m in rw (e0, e1) (ap (found bases.Int) h.2)
+base_complete bases.Int ts rest (inr (inr (inl h))) n = let e0 = keyword_at keywords.Signed ts h.0 h.1 in let e1 = keyword_at keywords.Int h.0 h.2.0 h.2.1 in rw (e0, e1) (ap (found bases.Int) h.2.2)
+base_complete bases.Int ts rest (inr (inr (inr (inl h)))) n = let m : base h.0 ≡ None = ap base h.2 ∙ n in let e0 = keyword_at keywords.Long ts h.0 h.1 in let e1 = still_long bases.Int bases.LongLong (after_keyword h.0) h.0 m refl in rw (e0, e1) (ap (found bases.Int) h.2)
+base_complete bases.Int ts rest (inr (inr (inr (inr (inl h))))) n = let e0 = keyword_at keywords.Long ts h.0 h.1 in let e1 = keyword_at keywords.Int h.0 h.2.0 h.2.1 in rw (e0, e1, e1) (ap (found bases.Int) h.2.2)
+base_complete bases.Int ts rest (inr (inr (inr (inr (inr (inl h)))))) n = let m : base h.2.0 ≡ None = ap base h.2.2 ∙ n in let e0 = keyword_at keywords.Signed ts h.0 h.1 in let e1 = keyword_at keywords.Long h.0 h.2.0 h.2.1 in let e2 = still_long bases.Int bases.LongLong (after_keyword h.2.0) h.2.0 m refl in rw (e0, e1, e2) (ap (found bases.Int) h.2.2)
+base_complete bases.Int ts rest (inr (inr (inr (inr (inr (inr (inl h))))))) n = let e0 = keyword_at keywords.Signed ts h.0 h.1 in let e1 = keyword_at keywords.Long h.0 h.2.0 h.2.1 in let e2 = keyword_at keywords.Int h.2.0 h.2.2.0 h.2.2.1 in rw (e0, e1, e2, e2) (ap (found bases.Int) h.2.2.2)
+base_complete bases.Int ts rest (inr (inr (inr (inr (inr (inr (inr h))))))) n = absurd h
+base_complete bases.Unsigned ts rest (inl h) n = let m : base h.0 ≡ None = ap base h.2 ∙ n in let e0 = keyword_at keywords.Unsigned ts h.0 h.1 in let e1 = still_unsigned (after_keyword h.0) h.0 m in rw (e0, e1) (ap (found bases.Unsigned) h.2)
+base_complete bases.Unsigned ts rest (inr (inl h)) n = let e0 = keyword_at keywords.Unsigned ts h.0 h.1 in let e1 = keyword_at keywords.Int h.0 h.2.0 h.2.1 in rw (e0, e1) (ap (found bases.Unsigned) h.2.2)
+base_complete bases.Unsigned ts rest (inr (inr (inl h))) n = let m : base h.2.0 ≡ None = ap base h.2.2 ∙ n in let e0 = keyword_at keywords.Unsigned ts h.0 h.1 in let e1 = keyword_at keywords.Long h.0 h.2.0 h.2.1 in let e2 = still_long bases.Unsigned bases.UnsignedLongLong (after_keyword h.2.0) h.2.0 m refl in rw (e0, e1, e2) (ap (found bases.Unsigned) h.2.2)
+base_complete bases.Unsigned ts rest (inr (inr (inr (inl h)))) n = let e0 = keyword_at keywords.Unsigned ts h.0 h.1 in let e1 = keyword_at keywords.Long h.0 h.2.0 h.2.1 in let e2 = keyword_at keywords.Int h.2.0 h.2.2.0 h.2.2.1 in rw (e0, e1, e2, e2) (ap (found bases.Unsigned) h.2.2.2)
+base_complete bases.Unsigned ts rest (inr (inr (inr (inr h)))) n = absurd h
+base_complete bases.LongLong ts rest (inl h) n = let m : base h.2.0 ≡ None = ap base h.2.2 ∙ n in let e0 = keyword_at keywords.Long ts h.0 h.1 in let e1 = keyword_at keywords.Long h.0 h.2.0 h.2.1 in let e2 = still_int (after_keyword h.2.0) h.2.0 m in rw (e0, e1, e2) (ap (found bases.LongLong) h.2.2)
+base_complete bases.LongLong ts rest (inr (inl h)) n = let e0 = keyword_at keywords.Long ts h.0 h.1 in let e1 = keyword_at keywords.Long h.0 h.2.0 h.2.1 in let e2 = keyword_at keywords.Int h.2.0 h.2.2.0 h.2.2.1 in rw (e0, e1, e2) (ap (found bases.LongLong) h.2.2.2)
+base_complete bases.LongLong ts rest (inr (inr (inl h))) n = let m : base h.2.2.0 ≡ None = ap base h.2.2.2 ∙ n in let e0 = keyword_at keywords.Signed ts h.0 h.1 in let e1 = keyword_at keywords.Long h.0 h.2.0 h.2.1 in let e2 = keyword_at keywords.Long h.2.0 h.2.2.0 h.2.2.1 in let e3 = still_int (after_keyword h.2.2.0) h.2.2.0 m in rw (e0, e1, e2, e3) (ap (found bases.LongLong) h.2.2.2)
+base_complete bases.LongLong ts rest (inr (inr (inr (inl h)))) n = let e0 = keyword_at keywords.Signed ts h.0 h.1 in let e1 = keyword_at keywords.Long h.0 h.2.0 h.2.1 in let e2 = keyword_at keywords.Long h.2.0 h.2.2.0 h.2.2.1 in let e3 = keyword_at keywords.Int h.2.2.0 h.2.2.2.0 h.2.2.2.1 in rw (e0, e1, e2, e3) (ap (found bases.LongLong) h.2.2.2.2)
+base_complete bases.LongLong ts rest (inr (inr (inr (inr h)))) n = absurd h
+base_complete bases.UnsignedLongLong ts rest (inl h) n = let m : base h.2.2.0 ≡ None = ap base h.2.2.2 ∙ n in let e0 = keyword_at keywords.Unsigned ts h.0 h.1 in let e1 = keyword_at keywords.Long h.0 h.2.0 h.2.1 in let e2 = keyword_at keywords.Long h.2.0 h.2.2.0 h.2.2.1 in let e3 = still_int (after_keyword h.2.2.0) h.2.2.0 m in rw (e0, e1, e2, e3) (ap (found bases.UnsignedLongLong) h.2.2.2)
+base_complete bases.UnsignedLongLong ts rest (inr (inl h)) n = let e0 = keyword_at keywords.Unsigned ts h.0 h.1 in let e1 = keyword_at keywords.Long h.0 h.2.0 h.2.1 in let e2 = keyword_at keywords.Long h.2.0 h.2.2.0 h.2.2.1 in let e3 = keyword_at keywords.Int h.2.2.0 h.2.2.2.0 h.2.2.2.1 in rw (e0, e1, e2, e3) (ap (found bases.UnsignedLongLong) h.2.2.2.2)
+base_complete bases.UnsignedLongLong ts rest (inr (inr h)) n = absurd h
+
+-- ---- stars
+
+more_stars : (n : ℕ) (ts rest after : List Token) → AreStars n ts rest → HasSign signs.Star rest after → AreStars (suc n) ts after
+more_stars zero ts rest after h g = (after, subst (λ (x : List Token). HasSign signs.Star x after) (sym h) g, refl)
+more_stars (suc n) ts rest after h g = (h.0, h.1, more_stars n h.0 rest after h.2 g)
+
+pub one_star : (n : ℕ) (ts rest after : List Token) → AreStars n ts rest → HasSign signs.Star rest after → AreStars (n + 1) ts after
+one_star n ts rest after h g = let p : suc n ≡ n + 1 = omega arith in subst (λ (m : ℕ). AreStars m ts after) p (more_stars n ts rest after h g)
+
+pub star_shorter : (ts rest : List Token) → HasSign signs.Star ts rest → length ts ≡ suc (length rest)
+star_shorter ts rest h = ap length h.1.1
+
+pub sign_shorter : (s : Sign) (at : ℕ) (ts rest : List Token) → IsSign s at ts rest → length ts ≡ suc (length rest)
+sign_shorter s at ts rest h = ap length h.1
+
+-- ---- what is read is a type
+
+abbrev prefixed : Keyword → List (List Keyword) → List (List Keyword)
+prefixed k [] = []
+prefixed k (ks ∷ more) = (k ∷ ks) ∷ prefixed k more
+
+-- the keywords of one of these lists, behind one keyword
+behind : (k : Keyword) (kss : List (List Keyword)) (ts mid rest : List Token) → HasKeyword k ts mid → IsOneOf kss mid rest → IsOneOf (prefixed k kss) ts rest
+behind k [] ts mid rest h g = absurd g
+behind k (ks ∷ more) ts mid rest h (inl g) = inl (mid, h, g)
+behind k (ks ∷ more) ts mid rest h (inr g) = inr (behind k more ts mid rest h g)
+
+abbrev maybe_int : List (List Keyword)
+maybe_int = [] ∷ (keywords.Int ∷ []) ∷ []
+
+abbrev maybe_long : List (List Keyword)
+maybe_long = [] ∷ (keywords.Int ∷ []) ∷ (keywords.Long ∷ []) ∷ (keywords.Long ∷ keywords.Int ∷ []) ∷ []
+
+int_read : (o : Option (Keyword × List Token)) (ts : List Token) → after_keyword ts ≡ o → IsOneOf maybe_int ts (int_or o ts)
+int_read None ts e = inl refl
+int_read (Some (keywords.Break, rest)) ts e = inl refl
+int_read (Some (keywords.Char, rest)) ts e = inl refl
+int_read (Some (keywords.Continue, rest)) ts e = inl refl
+int_read (Some (keywords.Do, rest)) ts e = inl refl
+int_read (Some (keywords.Else, rest)) ts e = inl refl
+int_read (Some (keywords.For, rest)) ts e = inl refl
+int_read (Some (keywords.If, rest)) ts e = inl refl
+int_read (Some (keywords.Int, rest)) ts e = inr (inl (rest, keyword_is ts rest keywords.Int e, refl))
+int_read (Some (keywords.Long, rest)) ts e = inl refl
+int_read (Some (keywords.Return, rest)) ts e = inl refl
+int_read (Some (keywords.Short, rest)) ts e = inl refl
+int_read (Some (keywords.Signed, rest)) ts e = inl refl
+int_read (Some (keywords.Unsigned, rest)) ts e = inl refl
+int_read (Some (keywords.Void, rest)) ts e = inl refl
+int_read (Some (keywords.While, rest)) ts e = inl refl
+int_read (Some (keywords.Try, rest)) ts e = inl refl
+int_read (Some (keywords.Except, rest)) ts e = inl refl
+int_read (Some (keywords.Finally, rest)) ts e = inl refl
+int_read (Some (keywords.Leave, rest)) ts e = inl refl
+int_read (Some (keywords.GetExceptionInformation, rest)) ts e = inl refl
+
+-- `long` names the one base or the other
+record Longs (plain wide b : Base) (ts rest : List Token) : Type 0 where
+  read : ((b ≡ plain) × IsOneOf maybe_int ts rest) ⊎ ((b ≡ wide) × IsOneOf (prefixed keywords.Long maybe_int) ts rest)
+
+long_read : (p w : Base) (o : Option (Keyword × List Token)) (ts : List Token) → after_keyword ts ≡ o → Longs p w (long_or p w o ts).0 ts (long_or p w o ts).1
+long_read p w None ts e = record { read = inl (refl, int_read (after_keyword ts) ts refl) }
+long_read p w (Some (keywords.Break, rest)) ts e = record { read = inl (refl, int_read (after_keyword ts) ts refl) }
+long_read p w (Some (keywords.Char, rest)) ts e = record { read = inl (refl, int_read (after_keyword ts) ts refl) }
+long_read p w (Some (keywords.Continue, rest)) ts e = record { read = inl (refl, int_read (after_keyword ts) ts refl) }
+long_read p w (Some (keywords.Do, rest)) ts e = record { read = inl (refl, int_read (after_keyword ts) ts refl) }
+long_read p w (Some (keywords.Else, rest)) ts e = record { read = inl (refl, int_read (after_keyword ts) ts refl) }
+long_read p w (Some (keywords.For, rest)) ts e = record { read = inl (refl, int_read (after_keyword ts) ts refl) }
+long_read p w (Some (keywords.If, rest)) ts e = record { read = inl (refl, int_read (after_keyword ts) ts refl) }
+long_read p w (Some (keywords.Int, rest)) ts e = record { read = inl (refl, int_read (after_keyword ts) ts refl) }
+long_read p w (Some (keywords.Long, rest)) ts e = record { read = inr (refl, behind keywords.Long maybe_int ts rest (past_int rest) (keyword_is ts rest keywords.Long e) (int_read (after_keyword rest) rest refl)) }
+long_read p w (Some (keywords.Return, rest)) ts e = record { read = inl (refl, int_read (after_keyword ts) ts refl) }
+long_read p w (Some (keywords.Short, rest)) ts e = record { read = inl (refl, int_read (after_keyword ts) ts refl) }
+long_read p w (Some (keywords.Signed, rest)) ts e = record { read = inl (refl, int_read (after_keyword ts) ts refl) }
+long_read p w (Some (keywords.Unsigned, rest)) ts e = record { read = inl (refl, int_read (after_keyword ts) ts refl) }
+long_read p w (Some (keywords.Void, rest)) ts e = record { read = inl (refl, int_read (after_keyword ts) ts refl) }
+long_read p w (Some (keywords.While, rest)) ts e = record { read = inl (refl, int_read (after_keyword ts) ts refl) }
+long_read p w (Some (keywords.Try, rest)) ts e = record { read = inl (refl, int_read (after_keyword ts) ts refl) }
+long_read p w (Some (keywords.Except, rest)) ts e = record { read = inl (refl, int_read (after_keyword ts) ts refl) }
+long_read p w (Some (keywords.Finally, rest)) ts e = record { read = inl (refl, int_read (after_keyword ts) ts refl) }
+long_read p w (Some (keywords.Leave, rest)) ts e = record { read = inl (refl, int_read (after_keyword ts) ts refl) }
+long_read p w (Some (keywords.GetExceptionInformation, rest)) ts e = record { read = inl (refl, int_read (after_keyword ts) ts refl) }
+
+-- Lists behind keywords that were read, as spellings of a base.
+abbrev Puts : List (List Keyword) → Base → Type 0
+Puts kss b = (ts rest : List Token) → IsOneOf kss ts rest → IsBase b ts rest
+
+short_puts : Puts ((keywords.Short ∷ []) ∷ (keywords.Short ∷ keywords.Int ∷ []) ∷ []) bases.Short
+short_puts ts rest (inl h) = inl h
+short_puts ts rest (inr (inl h)) = inr (inl h)
+short_puts ts rest (inr (inr h)) = absurd h
+
+signed_short_puts : Puts ((keywords.Signed ∷ keywords.Short ∷ []) ∷ (keywords.Signed ∷ keywords.Short ∷ keywords.Int ∷ []) ∷ []) bases.Short
+signed_short_puts ts rest (inl h) = inr (inr (inl h))
+signed_short_puts ts rest (inr (inl h)) = inr (inr (inr (inl h)))
+signed_short_puts ts rest (inr (inr h)) = absurd h
+
+unsigned_short_puts : Puts ((keywords.Unsigned ∷ keywords.Short ∷ []) ∷ (keywords.Unsigned ∷ keywords.Short ∷ keywords.Int ∷ []) ∷ []) bases.UnsignedShort
+unsigned_short_puts ts rest (inl h) = inl h
+unsigned_short_puts ts rest (inr (inl h)) = inr (inl h)
+unsigned_short_puts ts rest (inr (inr h)) = absurd h
+
+long_puts : Puts ((keywords.Long ∷ []) ∷ (keywords.Long ∷ keywords.Int ∷ []) ∷ []) bases.Int
+long_puts ts rest (inl h) = inr (inr (inr (inl h)))
+long_puts ts rest (inr (inl h)) = inr (inr (inr (inr (inl h))))
+long_puts ts rest (inr (inr h)) = absurd h
+
+long_long_puts : Puts ((keywords.Long ∷ keywords.Long ∷ []) ∷ (keywords.Long ∷ keywords.Long ∷ keywords.Int ∷ []) ∷ []) bases.LongLong
+long_long_puts ts rest (inl h) = inl h
+long_long_puts ts rest (inr (inl h)) = inr (inl h)
+long_long_puts ts rest (inr (inr h)) = absurd h
+
+signed_long_puts : Puts ((keywords.Signed ∷ keywords.Long ∷ []) ∷ (keywords.Signed ∷ keywords.Long ∷ keywords.Int ∷ []) ∷ []) bases.Int
+signed_long_puts ts rest (inl h) = inr (inr (inr (inr (inr (inl h)))))
+signed_long_puts ts rest (inr (inl h)) = inr (inr (inr (inr (inr (inr (inl h))))))
+signed_long_puts ts rest (inr (inr h)) = absurd h
+
+signed_long_long_puts : Puts ((keywords.Signed ∷ keywords.Long ∷ keywords.Long ∷ []) ∷ (keywords.Signed ∷ keywords.Long ∷ keywords.Long ∷ keywords.Int ∷ []) ∷ []) bases.LongLong
+signed_long_long_puts ts rest (inl h) = inr (inr (inl h))
+signed_long_long_puts ts rest (inr (inl h)) = inr (inr (inr (inl h)))
+signed_long_long_puts ts rest (inr (inr h)) = absurd h
+
+unsigned_long_puts : Puts ((keywords.Unsigned ∷ keywords.Long ∷ []) ∷ (keywords.Unsigned ∷ keywords.Long ∷ keywords.Int ∷ []) ∷ []) bases.Unsigned
+unsigned_long_puts ts rest (inl h) = inr (inr (inl h))
+unsigned_long_puts ts rest (inr (inl h)) = inr (inr (inr (inl h)))
+unsigned_long_puts ts rest (inr (inr h)) = absurd h
+
+unsigned_long_long_puts : Puts ((keywords.Unsigned ∷ keywords.Long ∷ keywords.Long ∷ []) ∷ (keywords.Unsigned ∷ keywords.Long ∷ keywords.Long ∷ keywords.Int ∷ []) ∷ []) bases.UnsignedLongLong
+unsigned_long_long_puts ts rest (inl h) = inl h
+unsigned_long_long_puts ts rest (inr (inl h)) = inr (inl h)
+unsigned_long_long_puts ts rest (inr (inr h)) = absurd h
+
+as_base : (b c : Base) (ts rest : List Token) → c ≡ b → IsBase b ts rest → IsBase c ts rest
+as_base b c ts rest e h = subst (λ (x : Base). IsBase x ts rest) (sym e) h
+
+signed_read : (o : Option (Keyword × List Token)) (ts mid : List Token) → HasKeyword keywords.Signed ts mid → after_keyword mid ≡ o → IsBase (signed_or o mid).0 ts (signed_or o mid).1
+signed_read None ts mid h e = inr (inl (mid, h, refl))
+signed_read (Some (keywords.Break, rest)) ts mid h e = inr (inl (mid, h, refl))
+signed_read (Some (keywords.Char, rest)) ts mid h e = inr (inl (mid, h, (rest, keyword_is mid rest keywords.Char e, refl)))
+signed_read (Some (keywords.Continue, rest)) ts mid h e = inr (inl (mid, h, refl))
+signed_read (Some (keywords.Do, rest)) ts mid h e = inr (inl (mid, h, refl))
+signed_read (Some (keywords.Else, rest)) ts mid h e = inr (inl (mid, h, refl))
+signed_read (Some (keywords.For, rest)) ts mid h e = inr (inl (mid, h, refl))
+signed_read (Some (keywords.If, rest)) ts mid h e = inr (inl (mid, h, refl))
+signed_read (Some (keywords.Int, rest)) ts mid h e = inr (inr (inl (mid, h, (rest, keyword_is mid rest keywords.Int e, refl))))
+signed_read (Some (keywords.Long, rest)) ts mid h e =
+    let r = long_read bases.Int bases.LongLong (after_keyword rest) rest refl in
+    let k = keyword_is mid rest keywords.Long e in
+    elim (r.read) [
+      | inl x ↦ as_base bases.Int (long bases.Int bases.LongLong rest).0 ts ((long bases.Int bases.LongLong rest).1) x.0 (signed_long_puts ts ((long bases.Int bases.LongLong rest).1) (behind keywords.Signed (prefixed keywords.Long maybe_int) ts mid ((long bases.Int bases.LongLong rest).1) h (behind keywords.Long maybe_int mid rest ((long bases.Int bases.LongLong rest).1) k x.1)))
+      | inr x ↦ as_base bases.LongLong (long bases.Int bases.LongLong rest).0 ts ((long bases.Int bases.LongLong rest).1) x.0 (signed_long_long_puts ts ((long bases.Int bases.LongLong rest).1) (behind keywords.Signed (prefixed keywords.Long (prefixed keywords.Long maybe_int)) ts mid ((long bases.Int bases.LongLong rest).1) h (behind keywords.Long (prefixed keywords.Long maybe_int) mid rest ((long bases.Int bases.LongLong rest).1) k x.1)))
+    ]
+signed_read (Some (keywords.Return, rest)) ts mid h e = inr (inl (mid, h, refl))
+signed_read (Some (keywords.Short, rest)) ts mid h e = signed_short_puts ts (past_int rest) (behind keywords.Signed (prefixed keywords.Short maybe_int) ts mid (past_int rest) h (behind keywords.Short maybe_int mid rest (past_int rest) (keyword_is mid rest keywords.Short e) (int_read (after_keyword rest) rest refl)))
+signed_read (Some (keywords.Signed, rest)) ts mid h e = inr (inl (mid, h, refl))
+signed_read (Some (keywords.Unsigned, rest)) ts mid h e = inr (inl (mid, h, refl))
+signed_read (Some (keywords.Void, rest)) ts mid h e = inr (inl (mid, h, refl))
+signed_read (Some (keywords.While, rest)) ts mid h e = inr (inl (mid, h, refl))
+signed_read (Some (keywords.Try, rest)) ts mid h e = inr (inl (mid, h, refl))
+signed_read (Some (keywords.Except, rest)) ts mid h e = inr (inl (mid, h, refl))
+signed_read (Some (keywords.Finally, rest)) ts mid h e = inr (inl (mid, h, refl))
+signed_read (Some (keywords.Leave, rest)) ts mid h e = inr (inl (mid, h, refl))
+signed_read (Some (keywords.GetExceptionInformation, rest)) ts mid h e = inr (inl (mid, h, refl))
+
+unsigned_read : (o : Option (Keyword × List Token)) (ts mid : List Token) → HasKeyword keywords.Unsigned ts mid → after_keyword mid ≡ o → IsBase (unsigned_or o mid).0 ts (unsigned_or o mid).1
+unsigned_read None ts mid h e = inl (mid, h, refl)
+unsigned_read (Some (keywords.Break, rest)) ts mid h e = inl (mid, h, refl)
+unsigned_read (Some (keywords.Char, rest)) ts mid h e = inl (mid, h, (rest, keyword_is mid rest keywords.Char e, refl))
+unsigned_read (Some (keywords.Continue, rest)) ts mid h e = inl (mid, h, refl)
+unsigned_read (Some (keywords.Do, rest)) ts mid h e = inl (mid, h, refl)
+unsigned_read (Some (keywords.Else, rest)) ts mid h e = inl (mid, h, refl)
+unsigned_read (Some (keywords.For, rest)) ts mid h e = inl (mid, h, refl)
+unsigned_read (Some (keywords.If, rest)) ts mid h e = inl (mid, h, refl)
+unsigned_read (Some (keywords.Int, rest)) ts mid h e = inr (inl (mid, h, (rest, keyword_is mid rest keywords.Int e, refl)))
+unsigned_read (Some (keywords.Long, rest)) ts mid h e =
+    let r = long_read bases.Unsigned bases.UnsignedLongLong (after_keyword rest) rest refl in
+    let k = keyword_is mid rest keywords.Long e in
+    elim (r.read) [
+      | inl x ↦ as_base bases.Unsigned (long bases.Unsigned bases.UnsignedLongLong rest).0 ts ((long bases.Unsigned bases.UnsignedLongLong rest).1) x.0 (unsigned_long_puts ts ((long bases.Unsigned bases.UnsignedLongLong rest).1) (behind keywords.Unsigned (prefixed keywords.Long maybe_int) ts mid ((long bases.Unsigned bases.UnsignedLongLong rest).1) h (behind keywords.Long maybe_int mid rest ((long bases.Unsigned bases.UnsignedLongLong rest).1) k x.1)))
+      | inr x ↦ as_base bases.UnsignedLongLong (long bases.Unsigned bases.UnsignedLongLong rest).0 ts ((long bases.Unsigned bases.UnsignedLongLong rest).1) x.0 (unsigned_long_long_puts ts ((long bases.Unsigned bases.UnsignedLongLong rest).1) (behind keywords.Unsigned (prefixed keywords.Long (prefixed keywords.Long maybe_int)) ts mid ((long bases.Unsigned bases.UnsignedLongLong rest).1) h (behind keywords.Long (prefixed keywords.Long maybe_int) mid rest ((long bases.Unsigned bases.UnsignedLongLong rest).1) k x.1)))
+    ]
+unsigned_read (Some (keywords.Return, rest)) ts mid h e = inl (mid, h, refl)
+unsigned_read (Some (keywords.Short, rest)) ts mid h e = unsigned_short_puts ts (past_int rest) (behind keywords.Unsigned (prefixed keywords.Short maybe_int) ts mid (past_int rest) h (behind keywords.Short maybe_int mid rest (past_int rest) (keyword_is mid rest keywords.Short e) (int_read (after_keyword rest) rest refl)))
+unsigned_read (Some (keywords.Signed, rest)) ts mid h e = inl (mid, h, refl)
+unsigned_read (Some (keywords.Unsigned, rest)) ts mid h e = inl (mid, h, refl)
+unsigned_read (Some (keywords.Void, rest)) ts mid h e = inl (mid, h, refl)
+unsigned_read (Some (keywords.While, rest)) ts mid h e = inl (mid, h, refl)
+unsigned_read (Some (keywords.Try, rest)) ts mid h e = inl (mid, h, refl)
+unsigned_read (Some (keywords.Except, rest)) ts mid h e = inl (mid, h, refl)
+unsigned_read (Some (keywords.Finally, rest)) ts mid h e = inl (mid, h, refl)
+unsigned_read (Some (keywords.Leave, rest)) ts mid h e = inl (mid, h, refl)
+unsigned_read (Some (keywords.GetExceptionInformation, rest)) ts mid h e = inl (mid, h, refl)
+
+abbrev Based : List Token → Option (Base × List Token) → Type 0
+Based ts None = Unit {0}
+Based ts (Some x) = IsBase x.0 ts x.1
+
+base_read : (o : Option (Keyword × List Token)) (ts : List Token) → after_keyword ts ≡ o → Based ts (base_or o)
+base_read None ts e = tt
+base_read (Some (keywords.Break, rest)) ts e = tt
+base_read (Some (keywords.Char, rest)) ts e = inl (rest, keyword_is ts rest keywords.Char e, refl)
+base_read (Some (keywords.Continue, rest)) ts e = tt
+base_read (Some (keywords.Do, rest)) ts e = tt
+base_read (Some (keywords.Else, rest)) ts e = tt
+base_read (Some (keywords.For, rest)) ts e = tt
+base_read (Some (keywords.If, rest)) ts e = tt
+base_read (Some (keywords.Int, rest)) ts e = inl (rest, keyword_is ts rest keywords.Int e, refl)
+base_read (Some (keywords.Long, rest)) ts e =
+    let r = long_read bases.Int bases.LongLong (after_keyword rest) rest refl in
+    let k = keyword_is ts rest keywords.Long e in
+    elim (r.read) [
+      | inl x ↦ as_base bases.Int (long bases.Int bases.LongLong rest).0 ts ((long bases.Int bases.LongLong rest).1) x.0 (long_puts ts ((long bases.Int bases.LongLong rest).1) (behind keywords.Long maybe_int ts rest ((long bases.Int bases.LongLong rest).1) k x.1))
+      | inr x ↦ as_base bases.LongLong (long bases.Int bases.LongLong rest).0 ts ((long bases.Int bases.LongLong rest).1) x.0 (long_long_puts ts ((long bases.Int bases.LongLong rest).1) (behind keywords.Long (prefixed keywords.Long maybe_int) ts rest ((long bases.Int bases.LongLong rest).1) k x.1))
+    ]
+base_read (Some (keywords.Return, rest)) ts e = tt
+base_read (Some (keywords.Short, rest)) ts e = short_puts ts (past_int rest) (behind keywords.Short maybe_int ts rest (past_int rest) (keyword_is ts rest keywords.Short e) (int_read (after_keyword rest) rest refl))
+base_read (Some (keywords.Signed, rest)) ts e = signed_read (after_keyword rest) ts rest (keyword_is ts rest keywords.Signed e) refl
+base_read (Some (keywords.Unsigned, rest)) ts e = unsigned_read (after_keyword rest) ts rest (keyword_is ts rest keywords.Unsigned e) refl
+base_read (Some (keywords.Void, rest)) ts e = inl (rest, keyword_is ts rest keywords.Void e, refl)
+base_read (Some (keywords.While, rest)) ts e = tt
+base_read (Some (keywords.Try, rest)) ts e = tt
+base_read (Some (keywords.Except, rest)) ts e = tt
+base_read (Some (keywords.Finally, rest)) ts e = tt
+base_read (Some (keywords.Leave, rest)) ts e = tt
+base_read (Some (keywords.GetExceptionInformation, rest)) ts e = tt
+
+pub base_sound : (ts : List Token) (x : Base × List Token) → base ts ≡ Some x → IsBase x.0 ts x.1
+base_sound ts x e = subst (λ (o : Option (Base × List Token)). Based ts o) e (base_read (after_keyword ts) ts refl)
+
+-- ---- whole types
+
+stars_none : (n : ℕ) (ts rest : List Token) → AreStars n ts rest → base rest ≡ None → base ts ≡ None
+stars_none zero ts rest h e = ap base h ∙ e
+stars_none (suc n) ts rest h e = ap base h.1.1.1
+
+abbrev typed : Base → ℕ → List Token → Option (CType × List Token)
+typed b n rest = Some (record { base = b; pointers = n }, rest)
+
+none_read : (ts : List Token) (o : Option (Base × List Token)) → base ts ≡ o → NoBase ts → o ≡ None
+none_read ts None e n = refl
+none_read ts (Some x) e n = absurd (n x.0 x.1 (base_sound ts x e))
+
+pub no_base : (ts : List Token) → NoBase ts → base ts ≡ None
+no_base ts n = none_read ts (base ts) refl n
+
+pub base_only : (b : Base) (ts rest : List Token) → IsBase b ts rest → NoBase rest → base ts ≡ found b rest
+base_only b ts rest h n = base_complete b ts rest h (no_base rest n)
+
+-- a base is at the front of whatever one is read from
+base_begins : (b : Base) (ts rest : List Token) → IsBase b ts rest → base ts ≡ None → ⊥
+base_begins bases.Void ts rest (inl h) e = let k = ap base_or (keyword_at keywords.Void ts h.0 h.1) in cc
+base_begins bases.Void ts rest (inr h) e = absurd h
+base_begins bases.Char ts rest (inl h) e = let k = ap base_or (keyword_at keywords.Char ts h.0 h.1) in cc
+base_begins bases.Char ts rest (inr (inl h)) e = let k = ap base_or (keyword_at keywords.Signed ts h.0 h.1) in cc
+base_begins bases.Char ts rest (inr (inr h)) e = absurd h
+base_begins bases.UnsignedChar ts rest (inl h) e = let k = ap base_or (keyword_at keywords.Unsigned ts h.0 h.1) in cc
+base_begins bases.UnsignedChar ts rest (inr h) e = absurd h
+base_begins bases.Short ts rest (inl h) e = let k = ap base_or (keyword_at keywords.Short ts h.0 h.1) in cc
+base_begins bases.Short ts rest (inr (inl h)) e = let k = ap base_or (keyword_at keywords.Short ts h.0 h.1) in cc
+base_begins bases.Short ts rest (inr (inr (inl h))) e = let k = ap base_or (keyword_at keywords.Signed ts h.0 h.1) in cc
+base_begins bases.Short ts rest (inr (inr (inr (inl h)))) e = let k = ap base_or (keyword_at keywords.Signed ts h.0 h.1) in cc
+base_begins bases.Short ts rest (inr (inr (inr (inr h)))) e = absurd h
+base_begins bases.UnsignedShort ts rest (inl h) e = let k = ap base_or (keyword_at keywords.Unsigned ts h.0 h.1) in cc
+base_begins bases.UnsignedShort ts rest (inr (inl h)) e = let k = ap base_or (keyword_at keywords.Unsigned ts h.0 h.1) in cc
+base_begins bases.UnsignedShort ts rest (inr (inr h)) e = absurd h
+base_begins bases.Int ts rest (inl h) e = let k = ap base_or (keyword_at keywords.Int ts h.0 h.1) in cc
+base_begins bases.Int ts rest (inr (inl h)) e = let k = ap base_or (keyword_at keywords.Signed ts h.0 h.1) in cc
+base_begins bases.Int ts rest (inr (inr (inl h))) e = let k = ap base_or (keyword_at keywords.Signed ts h.0 h.1) in cc
+base_begins bases.Int ts rest (inr (inr (inr (inl h)))) e = let k = ap base_or (keyword_at keywords.Long ts h.0 h.1) in cc
+base_begins bases.Int ts rest (inr (inr (inr (inr (inl h))))) e = let k = ap base_or (keyword_at keywords.Long ts h.0 h.1) in cc
+base_begins bases.Int ts rest (inr (inr (inr (inr (inr (inl h)))))) e = let k = ap base_or (keyword_at keywords.Signed ts h.0 h.1) in cc
+base_begins bases.Int ts rest (inr (inr (inr (inr (inr (inr (inl h))))))) e = let k = ap base_or (keyword_at keywords.Signed ts h.0 h.1) in cc
+base_begins bases.Int ts rest (inr (inr (inr (inr (inr (inr (inr h))))))) e = absurd h
+base_begins bases.Unsigned ts rest (inl h) e = let k = ap base_or (keyword_at keywords.Unsigned ts h.0 h.1) in cc
+base_begins bases.Unsigned ts rest (inr (inl h)) e = let k = ap base_or (keyword_at keywords.Unsigned ts h.0 h.1) in cc
+base_begins bases.Unsigned ts rest (inr (inr (inl h))) e = let k = ap base_or (keyword_at keywords.Unsigned ts h.0 h.1) in cc
+base_begins bases.Unsigned ts rest (inr (inr (inr (inl h)))) e = let k = ap base_or (keyword_at keywords.Unsigned ts h.0 h.1) in cc
+base_begins bases.Unsigned ts rest (inr (inr (inr (inr h)))) e = absurd h
+base_begins bases.LongLong ts rest (inl h) e = let k = ap base_or (keyword_at keywords.Long ts h.0 h.1) in cc
+base_begins bases.LongLong ts rest (inr (inl h)) e = let k = ap base_or (keyword_at keywords.Long ts h.0 h.1) in cc
+base_begins bases.LongLong ts rest (inr (inr (inl h))) e = let k = ap base_or (keyword_at keywords.Signed ts h.0 h.1) in cc
+base_begins bases.LongLong ts rest (inr (inr (inr (inl h)))) e = let k = ap base_or (keyword_at keywords.Signed ts h.0 h.1) in cc
+base_begins bases.LongLong ts rest (inr (inr (inr (inr h)))) e = absurd h
+base_begins bases.UnsignedLongLong ts rest (inl h) e = let k = ap base_or (keyword_at keywords.Unsigned ts h.0 h.1) in cc
+base_begins bases.UnsignedLongLong ts rest (inr (inl h)) e = let k = ap base_or (keyword_at keywords.Unsigned ts h.0 h.1) in cc
+base_begins bases.UnsignedLongLong ts rest (inr (inr h)) e = absurd h
+
+pub read_none : (ts : List Token) → base ts ≡ None → NoBase ts
+read_none ts e = λ b rest h. base_begins b ts rest h e
+
+pub stars_no_base : (n : ℕ) (ts rest : List Token) → AreStars n ts rest → NoBase rest → NoBase ts
+stars_no_base n ts rest h x = read_none ts (stars_none n ts rest h (no_base rest x))
+
+pub type_from : (mid rest end : List Token) (b : Base) (n : ℕ) (t : CType) {o : List Token} → found b mid ≡ found t.base o → AreStars n mid rest → NoStar rest → AreStars t.pointers o end → NoStar end → typed b n rest ≡ typed t.base t.pointers end
+type_from mid rest end b n t {o = o} d a s h y =
+    let f : ◌≡◌ {A = Base × List Token} (b, mid) (t.base, o) = cc in
+    let q = stars_once n t.pointers mid o rest end (ap (λ (z : Base × List Token). z.1) f) s y a h in
+    ap (λ (z : Base × List Token). typed z.0 n rest) f ∙ ap (λ (m : ℕ). typed t.base m rest) q.0 ∙ ap (λ (z : List Token). typed t.base t.pointers z) q.1
+
+pub found_so : {U : Type 0} (r : Option U) (f : U → Base × List Token) (ts : List Token) → option_map f r ≡ base ts → IfSome r (λ x. IsBase (f x).0 ts (f x).1)
+found_so None f ts e = tt
+found_so (Some x) f ts e = base_sound ts (f x) (sym e)

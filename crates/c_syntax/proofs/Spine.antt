@@ -1,0 +1,310 @@
+-- An expression as its first operand and the steps behind it, from left to right.
+use Rattle.std.proofs.Common.{◌≡◌, ◌≤◌, ◌<◌, ◌-◌, ℕ, List, [], ◌∷◌, ◌++◌, Option, Some, None, refl, sym, ap, ◌∙◌, subst, arith}
+use Rattle.c_lex.specs.declared.sign.Sign.{Sign}
+use Rattle.c_lex.specs.declared.sign.Sign.TheVariants as signs
+use Rattle.c_lex.specs.declared.token.Kind.{Kind}
+use Rattle.c_lex.specs.declared.token.Kind.TheVariants as kinds
+use Rattle.c_lex.specs.declared.token.Token.{Token}
+use Rattle.c_syntax.specs.declared.operator.Arithmetic.{Arithmetic}
+use Rattle.c_syntax.specs.declared.operator.Arithmetic.TheVariants as arithmetic
+use Rattle.c_syntax.specs.declared.operator.Comparison.{Comparison}
+use Rattle.c_syntax.specs.declared.operator.Comparison.TheVariants as comparisons
+use Rattle.c_syntax.specs.declared.operator.BinaryOperator.{BinaryOperator}
+use Rattle.c_syntax.specs.declared.operator.BinaryOperator.TheVariants as binary
+use Rattle.c_syntax.specs.declared.operator.Increment.{Increment}
+use Rattle.c_syntax.specs.declared.operator.Increment.TheVariants as increments
+use Rattle.c_syntax.specs.Expression.{Expression, Constant, Variable, Information, Call, Parentheses, Index, Postfix, Prefix, Unary, Cast, Binary, Conditional, Assign, Comma, height}
+use Rattle.c_syntax.specs.Expressions.{rank, Spells}
+use Rattle.c_syntax.specs.Follow.{sign_follows, kind_follows, follows, Stops}
+use Rattle.c_syntax.specs.Operators.{level, level_of_arithmetic, level_of_comparison, binary_sign, sign_of_arithmetic, sign_of_comparison, increment_sign, assignment_sign}
+use Rattle.c_syntax.specs.Tokens.{IsSign, HasSign}
+
+-- ---- what stands behind an operand
+
+pub data Step : Type 0 where
+  At : ℕ → Expression → Step
+  After : Increment → ℕ → Step
+  With : ℕ → BinaryOperator → Expression → Step
+  Choose : ℕ → Expression → Expression → Step
+  Set : ℕ → Option Arithmetic → Expression → Step
+  And : ℕ → Expression → Step
+
+abbrev pub apply : Expression → Step → Expression
+apply e (At at i) = Index e at i
+apply e (After op at) = Postfix e op at
+apply e (With at op f) = Binary e at op f
+apply e (Choose at f g) = Conditional e at f g
+apply e (Set at op f) = Assign e at op f
+apply e (And at f) = Comma e at f
+
+-- the loosest level of the operand
+abbrev pub bound : Step → ℕ
+bound (At at i) = 1
+bound (After op at) = 1
+bound (With at op f) = level op
+bound (Choose at f g) = 13
+bound (Set at op f) = 2
+bound (And at f) = 16
+
+abbrev pub Tail : List ℕ → Step → List Token → List Token → Type 0
+Tail text (At at i) ts rest = (b : List Token) × (c : List Token) × IsSign signs.OpenBracket at ts b × Spells text i b c × HasSign signs.CloseBracket c rest
+Tail text (After op at) ts rest = IsSign (increment_sign op) at ts rest
+Tail text (With at op f) ts rest = (b : List Token) × IsSign (binary_sign op) at ts b × (rank f < level op) × Spells text f b rest
+Tail text (Choose at f g) ts rest = (b : List Token) × (c : List Token) × (d : List Token) × IsSign signs.Question at ts b × Spells text f b c × HasSign signs.Colon c d × (rank g ≤ 14) × Spells text g d rest
+Tail text (Set at op f) ts rest = (b : List Token) × IsSign (assignment_sign op) at ts b × (rank f ≤ 15) × Spells text f b rest
+Tail text (And at f) ts rest = (b : List Token) × IsSign signs.Comma at ts b × (rank f ≤ 15) × Spells text f b rest
+
+abbrev pub Run : List ℕ → Expression → List Step → List Token → Expression → List Token → Type 0
+Run text left [] ts e end = (left ≡ e) × (ts ≡ end)
+Run text left (s ∷ steps) ts e end = (mid : List Token) × (rank left ≤ bound s) × Tail text s ts mid × Run text (apply left s) steps mid e end
+
+abbrev pub IsHead : Expression → Type 0
+IsHead (Constant at literal) = Unit {0}
+IsHead (Variable name) = Unit {0}
+IsHead (Information at field) = Unit {0}
+IsHead (Call name es) = Unit {0}
+IsHead (Parentheses at e) = Unit {0}
+IsHead (Index a at i) = ⊥
+IsHead (Postfix e op at) = ⊥
+IsHead (Prefix at op e) = Unit {0}
+IsHead (Unary at op e) = Unit {0}
+IsHead (Cast at to e) = Unit {0}
+IsHead (Binary a at op b) = ⊥
+IsHead (Conditional c at a b) = ⊥
+IsHead (Assign a at op b) = ⊥
+IsHead (Comma a at b) = ⊥
+
+pub record Spine (text : List ℕ) (e : Expression) (ts end : List Token) : Type 0 where
+  pub head : Expression
+  pub steps : List Step
+  pub after : List Token
+  pub is_head : IsHead head
+  pub spells : Spells text head ts after
+  pub run : Run text head steps after e end
+
+along : (text : List ℕ) (e f : Expression) (s : Step) (ts mid end : List Token) → f ≡ e → ts ≡ mid → rank e ≤ bound s → Tail text s mid end → Run text f (s ∷ []) ts (apply e s) end
+along text e f s ts mid end p q h t =
+    subst (λ (x : Expression). Run text x (s ∷ []) ts (apply e s) end) (sym p) (subst (λ (z : List Token). Run text e (s ∷ []) z (apply e s) end) (sym q) (end, h, t, (refl, refl)))
+
+snoc : (text : List ℕ) (left : Expression) (steps : List Step) (ts : List Token) (e : Expression) (mid : List Token) (s : Step) (end : List Token) → Run text left steps ts e mid → rank e ≤ bound s → Tail text s mid end → Run text left (steps ++ s ∷ []) ts (apply e s) end
+snoc text left [] ts e mid s end r h t = along text e left s ts mid end r.0 r.1 h t
+snoc text left (x ∷ steps) ts e mid s end r h t = (r.0, r.1, r.2, snoc text (apply left x) steps r.0 e mid s end r.3 h t)
+
+alone : (text : List ℕ) (e : Expression) (ts end : List Token) → IsHead e → Spells text e ts end → Spine text e ts end
+alone text e ts end i h = record { head = e; steps = []; after = end; is_head = i; spells = h; run = (refl, refl) }
+
+one_more : (text : List ℕ) (e : Expression) (s : Step) (ts mid end : List Token) → Spine text e ts mid → rank e ≤ bound s → Tail text s mid end → Spine text (apply e s) ts end
+one_more text e s ts mid end c h t = record { head = c.head; steps = c.steps ++ s ∷ []; after = c.after; is_head = c.is_head; spells = c.spells; run = snoc text c.head c.steps c.after e mid s end c.run h t }
+
+pub spine : (text : List ℕ) (e : Expression) (ts end : List Token) → Spells text e ts end → Spine text e ts end
+spine text (Constant at literal) ts end h = alone text (Constant at literal) ts end tt h
+spine text (Variable name) ts end h = alone text (Variable name) ts end tt h
+spine text (Information at field) ts end h = alone text (Information at field) ts end tt h
+spine text (Call name es) ts end h = alone text (Call name es) ts end tt h
+spine text (Parentheses at e) ts end h = alone text (Parentheses at e) ts end tt h
+spine text (Index e at i) ts end h = one_more text e (At at i) ts h.0 end (spine text e ts h.0 h.4) h.3 (h.1, h.2, h.5, h.6, h.7)
+spine text (Postfix e op at) ts end h = one_more text e (After op at) ts h.0 end (spine text e ts h.0 h.2) h.1 h.3
+spine text (Prefix at op e) ts end h = alone text (Prefix at op e) ts end tt h
+spine text (Unary at op e) ts end h = alone text (Unary at op e) ts end tt h
+spine text (Cast at to e) ts end h = alone text (Cast at to e) ts end tt h
+spine text (Binary e at op f) ts end h = one_more text e (With at op f) ts h.0 end (spine text e ts h.0 h.3) h.2 (h.1, h.4, h.5, h.6)
+spine text (Conditional e at f g) ts end h = one_more text e (Choose at f g) ts h.0 end (spine text e ts h.0 h.5) h.4 (h.1, h.2, h.3, h.6, h.7, h.8, h.9, h.10)
+spine text (Assign e at op f) ts end h = one_more text e (Set at op f) ts h.0 end (spine text e ts h.0 h.3) h.2 (h.1, h.4, h.5, h.6)
+spine text (Comma e at f) ts end h = one_more text e (And at f) ts h.0 end (spine text e ts h.0 h.3) h.2 (h.1, h.4, h.5, h.6)
+
+-- ---- levels
+
+arithmetic_levels : (op : Arithmetic) → (4 ≤ level_of_arithmetic op) × (level_of_arithmetic op ≤ 13) × (sign_follows (sign_of_arithmetic op) ≡ level_of_arithmetic op)
+arithmetic_levels arithmetic.Multiply = (omega arith, omega arith, refl)
+arithmetic_levels arithmetic.Divide = (omega arith, omega arith, refl)
+arithmetic_levels arithmetic.Remainder = (omega arith, omega arith, refl)
+arithmetic_levels arithmetic.Add = (omega arith, omega arith, refl)
+arithmetic_levels arithmetic.Subtract = (omega arith, omega arith, refl)
+arithmetic_levels arithmetic.ShiftLeft = (omega arith, omega arith, refl)
+arithmetic_levels arithmetic.ShiftRight = (omega arith, omega arith, refl)
+arithmetic_levels arithmetic.And = (omega arith, omega arith, refl)
+arithmetic_levels arithmetic.ExclusiveOr = (omega arith, omega arith, refl)
+arithmetic_levels arithmetic.Or = (omega arith, omega arith, refl)
+
+comparison_levels : (op : Comparison) → (4 ≤ level_of_comparison op) × (level_of_comparison op ≤ 13) × (sign_follows (sign_of_comparison op) ≡ level_of_comparison op)
+comparison_levels comparisons.Less = (omega arith, omega arith, refl)
+comparison_levels comparisons.Greater = (omega arith, omega arith, refl)
+comparison_levels comparisons.LessEqual = (omega arith, omega arith, refl)
+comparison_levels comparisons.GreaterEqual = (omega arith, omega arith, refl)
+comparison_levels comparisons.Equal = (omega arith, omega arith, refl)
+comparison_levels comparisons.NotEqual = (omega arith, omega arith, refl)
+
+pub levels : (op : BinaryOperator) → (4 ≤ level op) × (level op ≤ 13) × (sign_follows (binary_sign op) ≡ level op)
+levels (binary.Arithmetic op) = arithmetic_levels op
+levels (binary.Comparison op) = comparison_levels op
+levels binary.LogicalAnd = (omega arith, omega arith, refl)
+levels binary.LogicalOr = (omega arith, omega arith, refl)
+
+increment_follows : (op : Increment) → sign_follows (increment_sign op) ≡ 1
+increment_follows increments.Increment = refl
+increment_follows increments.Decrement = refl
+
+assignment_follows : (op : Option Arithmetic) → sign_follows (assignment_sign op) ≡ 15
+assignment_follows None = refl
+assignment_follows (Some arithmetic.Multiply) = refl
+assignment_follows (Some arithmetic.Divide) = refl
+assignment_follows (Some arithmetic.Remainder) = refl
+assignment_follows (Some arithmetic.Add) = refl
+assignment_follows (Some arithmetic.Subtract) = refl
+assignment_follows (Some arithmetic.ShiftLeft) = refl
+assignment_follows (Some arithmetic.ShiftRight) = refl
+assignment_follows (Some arithmetic.And) = refl
+assignment_follows (Some arithmetic.ExclusiveOr) = refl
+assignment_follows (Some arithmetic.Or) = refl
+
+-- the level of a step is that of the sign with which it begins
+pub follows_sign : (s : Sign) (at : ℕ) (ts rest : List Token) (l : ℕ) → IsSign s at ts rest → sign_follows s ≡ l → follows ts ≡ l
+follows_sign s at ts rest l h p = ap follows h.1 ∙ p
+
+pub step_follows : (text : List ℕ) (e : Expression) (s : Step) (ts rest : List Token) → Tail text s ts rest → follows ts ≡ rank (apply e s)
+step_follows text e (At at i) ts rest h = follows_sign signs.OpenBracket at ts h.0 1 h.2 refl
+step_follows text e (After op at) ts rest h = follows_sign (increment_sign op) at ts rest 1 h (increment_follows op)
+step_follows text e (With at op f) ts rest h = follows_sign (binary_sign op) at ts h.0 (level op) h.1 (levels op).2
+step_follows text e (Choose at f g) ts rest h = follows_sign signs.Question at ts h.0 14 h.3 refl
+step_follows text e (Set at op f) ts rest h = follows_sign (assignment_sign op) at ts h.0 15 h.1 (assignment_follows op)
+step_follows text e (And at f) ts rest h = follows_sign signs.Comma at ts h.0 16 h.1 refl
+
+-- no sign stands behind an operand at the levels 2 and 3
+sign_gap : (s : Sign) → 2 < sign_follows s → 4 ≤ sign_follows s
+sign_gap signs.OpenParenthesis h = omega arith
+sign_gap signs.CloseParenthesis h = omega arith
+sign_gap signs.OpenBracket h = omega arith
+sign_gap signs.CloseBracket h = omega arith
+sign_gap signs.OpenBrace h = omega arith
+sign_gap signs.CloseBrace h = omega arith
+sign_gap signs.Semicolon h = omega arith
+sign_gap signs.Comma h = omega arith
+sign_gap signs.Question h = omega arith
+sign_gap signs.Colon h = omega arith
+sign_gap signs.Arrow h = omega arith
+sign_gap signs.Assign h = omega arith
+sign_gap signs.PlusAssign h = omega arith
+sign_gap signs.MinusAssign h = omega arith
+sign_gap signs.StarAssign h = omega arith
+sign_gap signs.SlashAssign h = omega arith
+sign_gap signs.PercentAssign h = omega arith
+sign_gap signs.AmpersandAssign h = omega arith
+sign_gap signs.BarAssign h = omega arith
+sign_gap signs.CaretAssign h = omega arith
+sign_gap signs.ShiftLeftAssign h = omega arith
+sign_gap signs.ShiftRightAssign h = omega arith
+sign_gap signs.BarBar h = omega arith
+sign_gap signs.AmpersandAmpersand h = omega arith
+sign_gap signs.Bar h = omega arith
+sign_gap signs.Caret h = omega arith
+sign_gap signs.Ampersand h = omega arith
+sign_gap signs.Equal h = omega arith
+sign_gap signs.NotEqual h = omega arith
+sign_gap signs.Less h = omega arith
+sign_gap signs.Greater h = omega arith
+sign_gap signs.LessEqual h = omega arith
+sign_gap signs.GreaterEqual h = omega arith
+sign_gap signs.ShiftLeft h = omega arith
+sign_gap signs.ShiftRight h = omega arith
+sign_gap signs.Plus h = omega arith
+sign_gap signs.Minus h = omega arith
+sign_gap signs.Star h = omega arith
+sign_gap signs.Slash h = omega arith
+sign_gap signs.Percent h = omega arith
+sign_gap signs.Exclamation h = omega arith
+sign_gap signs.Tilde h = omega arith
+sign_gap signs.PlusPlus h = omega arith
+sign_gap signs.MinusMinus h = omega arith
+
+kind_gap : (k : Kind) → 2 < kind_follows k → 4 ≤ kind_follows k
+kind_gap kinds.Name h = omega arith
+kind_gap (kinds.Keyword k) h = omega arith
+kind_gap (kinds.Reserved r) h = omega arith
+kind_gap (kinds.Integer value type) h = omega arith
+kind_gap (kinds.Character value) h = omega arith
+kind_gap (kinds.Sign s) h = sign_gap s h
+
+gap : (ts : List Token) → 2 < follows ts → 4 ≤ follows ts
+gap [] h = omega arith
+gap (t ∷ ts) h = kind_gap t.kind h
+
+-- the level down to which the last operand goes on
+abbrev pub reach : Expression → ℕ
+reach (Constant at literal) = 0
+reach (Variable name) = 0
+reach (Information at field) = 0
+reach (Call name es) = 0
+reach (Parentheses at e) = 0
+reach (Index a at i) = 0
+reach (Postfix e op at) = 0
+reach (Prefix at op e) = 2
+reach (Unary at op e) = 3
+reach (Cast at to e) = 3
+reach (Binary a at op b) = level op - 1
+reach (Conditional c at a b) = 14
+reach (Assign a at op b) = 15
+reach (Comma a at b) = 15
+
+-- what follows an expression of a level b ends its last operand too
+pub record Wide (b f : ℕ) : Type 0 where
+  positive : 0 < f
+  low : b ≤ f
+  two : 2 ≤ b → 4 ≤ f
+  fourteen : 14 ≤ b → 15 ≤ f
+  fifteen : 15 ≤ b → 16 ≤ f
+
+pub reaches : (e : Expression) (b f : ℕ) → rank e ≤ b → Wide b f → reach e < f
+reaches (Constant at literal) b f h w = w.positive
+reaches (Variable name) b f h w = w.positive
+reaches (Information at field) b f h w = w.positive
+reaches (Call name es) b f h w = w.positive
+reaches (Parentheses at e) b f h w = w.positive
+reaches (Index a at i) b f h w = w.positive
+reaches (Postfix e op at) b f h w = w.positive
+reaches (Prefix at op e) b f h w = let x = w.two (omega arith) in omega arith
+reaches (Unary at op e) b f h w = let x = w.two (omega arith) in omega arith
+reaches (Cast at to e) b f h w = let x = w.two (omega arith) in omega arith
+reaches (Binary a at op c) b f h w = let x = w.low in let y = (levels op).0 in omega arith
+reaches (Conditional c at a d) b f h w = let x = w.fourteen (omega arith) in omega arith
+reaches (Assign a at op c) b f h w = let x = w.fifteen (omega arith) in omega arith
+reaches (Comma a at c) b f h w = let x = w.fifteen (omega arith) in omega arith
+
+pub wide_step : (s : Step) (e : Expression) → Wide (bound s) (rank (apply e s))
+wide_step (At at i) e = record { positive = omega arith; low = omega arith; two = λ h. absurd (omega arith); fourteen = λ h. absurd (omega arith); fifteen = λ h. absurd (omega arith) }
+wide_step (After op at) e = record { positive = omega arith; low = omega arith; two = λ h. absurd (omega arith); fourteen = λ h. absurd (omega arith); fifteen = λ h. absurd (omega arith) }
+wide_step (With at op f) e = let x = (levels op).0 in let y = (levels op).1 in record { positive = omega arith; low = omega arith; two = λ h. omega arith; fourteen = λ h. absurd (omega arith); fifteen = λ h. absurd (omega arith) }
+wide_step (Choose at f g) e = record { positive = omega arith; low = omega arith; two = λ h. omega arith; fourteen = λ h. absurd (omega arith); fifteen = λ h. absurd (omega arith) }
+wide_step (Set at op f) e = record { positive = omega arith; low = omega arith; two = λ h. omega arith; fourteen = λ h. absurd (omega arith); fifteen = λ h. absurd (omega arith) }
+wide_step (And at f) e = record { positive = omega arith; low = omega arith; two = λ h. omega arith; fourteen = λ h. omega arith; fifteen = λ h. omega arith }
+
+wide_end : (l : ℕ) (ts : List Token) → Stops l ts → Wide l (follows ts)
+wide_end l ts s = record { positive = omega arith; low = omega arith; two = λ h. gap ts (omega arith); fourteen = λ h. omega arith; fifteen = λ h. omega arith }
+
+pub bound_low : (s : Step) (e : Expression) → bound s ≤ rank (apply e s)
+bound_low s e = (wide_step s e).low
+
+-- what ends an expression ends its operands
+pub run_reach : (text : List ℕ) (left : Expression) (steps : List Step) (ts : List Token) (e : Expression) (end : List Token) (l : ℕ) → Run text left steps ts e end → rank e ≤ l → Stops l end → reach left < follows ts
+run_reach text left [] ts e end l r h s =
+    let p : rank left ≡ rank e = ap rank r.0 in
+    let q : follows ts ≡ follows end = ap follows r.1 in
+    let x : reach left < follows end = reaches left l (follows end) (omega arith) (wide_end l end s) in omega arith
+run_reach text left (x ∷ steps) ts e end l r h s =
+    let q : follows ts ≡ rank (apply left x) = step_follows text left x ts r.0 r.2 in
+    let y : reach left < rank (apply left x) = reaches left (bound x) (rank (apply left x)) r.1 (wide_step x left) in omega arith
+
+pub run_rank : (text : List ℕ) (left : Expression) (steps : List Step) (ts : List Token) (e : Expression) (end : List Token) → Run text left steps ts e end → rank left ≤ rank e
+run_rank text left [] ts e end r = let p : rank left ≡ rank e = ap rank r.0 in omega arith
+run_rank text left (x ∷ steps) ts e end r = let a = run_rank text (apply left x) steps r.0 e end r.3 in let b = bound_low x left in let c = r.1 in omega arith
+
+step_height : (s : Step) (e : Expression) → height e ≤ height (apply e s)
+step_height (At at i) e = omega arith
+step_height (After op at) e = omega arith
+step_height (With at op f) e = omega arith
+step_height (Choose at f g) e = omega arith
+step_height (Set at op f) e = omega arith
+step_height (And at f) e = omega arith
+
+pub run_height : (text : List ℕ) (left : Expression) (steps : List Step) (ts : List Token) (e : Expression) (end : List Token) → Run text left steps ts e end → height left ≤ height e
+run_height text left [] ts e end r = let p : height left ≡ height e = ap height r.0 in omega arith
+run_height text left (x ∷ steps) ts e end r = let a = run_height text (apply left x) steps r.0 e end r.3 in let b = step_height x left in omega arith

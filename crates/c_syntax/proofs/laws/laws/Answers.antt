@@ -1,0 +1,8 @@
+use Rattle.c_syntax.proofs.Blocks.{one_statement}
+use Rattle.c_syntax.proofs.Files.{one_program}
+use Rattle.c_syntax.proofs.Once.{one_expression}
+use Rattle.c_syntax.proofs.Starts.{begins}
+use Rattle.c_syntax.proofs.laws.laws.Goals as goal
+
+pub returns : goal.returns
+returns c = record { one_program = one_program; one_statement = one_statement; one_expression = one_expression; begins = begins }

@@ -1,0 +1,13 @@
+pub mod Expression
+pub mod Statement
+pub mod Program
+pub mod Tokens
+pub mod Operators
+pub mod SignReaders
+pub mod Types
+pub mod Expressions
+pub mod Follow
+pub mod Statements
+pub mod Programs
+pub mod Limits
+pub mod Rows

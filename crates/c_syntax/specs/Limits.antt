@@ -1,0 +1,235 @@
+-- What is counted of a program, and the limits of the counts.
+use Rattle.std.specs.Prelude.{◌≤◌, ℕ, zero, suc, ◌+◌, ◌*◌, ◌/◌, max, Bool, false, cond, nat_eq, List, [], ◌∷◌, ◌++◌, length, Option, Some, None, codes, slice_range}
+use Rattle.std.specs.Str.{bytes_eq}
+use Rattle.c_syntax.specs.declared.declaration.Length.{Length}
+use Rattle.c_syntax.specs.declared.declaration.Parameter.{Parameter}
+use Rattle.c_syntax.specs.declared.expression.Base.{Base}
+use Rattle.c_syntax.specs.declared.expression.Base.TheVariants as bases
+use Rattle.c_syntax.specs.declared.expression.Literal.TheVariants as literals
+use Rattle.c_syntax.specs.Expression.{Expression, Constant, Variable, Information, Call, Parentheses, Index, Postfix, Prefix, Unary, Cast, Binary, Conditional, Assign, Comma, height}
+use Rattle.c_syntax.specs.Program.{Global, External, Globals, Function}
+use Rattle.c_syntax.specs.Statement.{Local, First, Declaring, Evaluating, Statement, Declare, Block, Evaluate, If, IfElse, While, DoWhile, For, Return, Break, Continue, Leave, TryExcept, TryFinally, Statements, Empty, Then}
+
+-- ---- expressions around a node: the greatest height
+
+abbrev pub height_of : Option Expression → ℕ
+height_of None = 0
+height_of (Some e) = height e
+
+abbrev pub height_of_locals : List Local → ℕ
+height_of_locals [] = 0
+height_of_locals (l ∷ ls) = max (height_of l.initialiser) (height_of_locals ls)
+
+abbrev pub height_of_first : First → ℕ
+height_of_first (Declaring base ls) = height_of_locals ls
+height_of_first (Evaluating e) = height_of e
+
+abbrev mutual
+  pub expressions_over : Statement → ℕ
+  expressions_over (Declare base ls) = height_of_locals ls
+  expressions_over (Block ss) = expressions_over_all ss
+  expressions_over (Evaluate e) = height_of e
+  expressions_over (If at c s) = max (height c) (expressions_over s)
+  expressions_over (IfElse at c s t) = max (height c) (max (expressions_over s) (expressions_over t))
+  expressions_over (While at c s) = max (height c) (expressions_over s)
+  expressions_over (DoWhile s at c) = max (expressions_over s) (height c)
+  expressions_over (For at f c n s) = max (height_of_first f) (max (height_of c) (max (height_of n) (expressions_over s)))
+  expressions_over (Return at e) = height_of e
+  expressions_over (Break at) = 0
+  expressions_over (Continue at) = 0
+  expressions_over (Leave at) = 0
+  expressions_over (TryExcept body at f handler) = max (expressions_over_all body) (max (height f) (expressions_over_all handler))
+  expressions_over (TryFinally body at last) = max (expressions_over_all body) (expressions_over_all last)
+
+  pub expressions_over_all : Statements → ℕ
+  expressions_over_all Empty = 0
+  expressions_over_all (Then s ss) = max (expressions_over s) (expressions_over_all ss)
+
+-- ---- statements around a statement or an expression
+
+-- one where there is an expression
+abbrev pub one_over : Option Expression → ℕ
+one_over None = 0
+one_over (Some e) = 1
+
+abbrev pub one_over_locals : List Local → ℕ
+one_over_locals [] = 0
+one_over_locals (l ∷ ls) = max (one_over l.initialiser) (one_over_locals ls)
+
+abbrev pub one_over_first : First → ℕ
+one_over_first (Declaring base ls) = one_over_locals ls
+one_over_first (Evaluating e) = one_over e
+
+-- How many statements at most stand around a part, and around what is in a block. A declaration is no statement, nor are the blocks of a `__try` statement.
+abbrev mutual
+  pub statements_over : Statement → ℕ
+  statements_over (Declare base ls) = 0
+  statements_over (Block ss) = statements_over_all ss
+  statements_over (Evaluate e) = one_over e
+  statements_over (If at c s) = 1 + statements_over s
+  statements_over (IfElse at c s t) = 1 + max (statements_over s) (statements_over t)
+  statements_over (While at c s) = 1 + statements_over s
+  statements_over (DoWhile s at c) = 1 + statements_over s
+  statements_over (For at f c n s) = 1 + statements_over s
+  statements_over (Return at e) = one_over e
+  statements_over (Break at) = 0
+  statements_over (Continue at) = 0
+  statements_over (Leave at) = 0
+  statements_over (TryExcept body at f handler) = max 1 (max (statements_over_all body) (statements_over_all handler))
+  statements_over (TryFinally body at last) = max (statements_over_all body) (statements_over_all last)
+
+  pub statements_over_all : Statements → ℕ
+  statements_over_all Empty = 0
+  statements_over_all (Then s ss) = max (over_item s (statements_over s)) (statements_over_all ss)
+
+  pub over_item : Statement → ℕ → ℕ
+  over_item (Declare base ls) n = one_over_locals ls
+  over_item (Block ss) n = 1 + n
+  over_item (Evaluate e) n = 1 + n
+  over_item (If at c s) n = 1 + n
+  over_item (IfElse at c s t) n = 1 + n
+  over_item (While at c s) n = 1 + n
+  over_item (DoWhile s at c) n = 1 + n
+  over_item (For at f c n s) m = 1 + m
+  over_item (Return at e) n = 1 + n
+  over_item (Break at) n = 1 + n
+  over_item (Continue at) n = 1 + n
+  over_item (Leave at) n = 1 + n
+  over_item (TryExcept body at f handler) n = 1 + n
+  over_item (TryFinally body at last) n = 1 + n
+
+-- ---- locals of a function
+
+abbrev pub locals_of_first : First → ℕ
+locals_of_first (Declaring base ls) = length ls
+locals_of_first (Evaluating e) = 0
+
+abbrev mutual
+  pub locals : Statement → ℕ
+  locals (Declare base ls) = length ls
+  locals (Block ss) = locals_of_all ss
+  locals (Evaluate e) = 0
+  locals (If at c s) = locals s
+  locals (IfElse at c s t) = locals s + locals t
+  locals (While at c s) = locals s
+  locals (DoWhile s at c) = locals s
+  locals (For at f c n s) = locals_of_first f + locals s
+  locals (Return at e) = 0
+  locals (Break at) = 0
+  locals (Continue at) = 0
+  locals (Leave at) = 0
+  locals (TryExcept body at f handler) = locals_of_all body + locals_of_all handler
+  locals (TryFinally body at last) = locals_of_all body + locals_of_all last
+
+  pub locals_of_all : Statements → ℕ
+  locals_of_all Empty = 0
+  locals_of_all (Then s ss) = locals s + locals_of_all ss
+
+-- ---- filters and finally blocks
+
+-- The filter accepts whatever was raised: it is an integer literal of value 1 or the name of that value, parentheses aside.
+abbrev pub accepts : List ℕ → Expression → Bool
+accepts text (Constant at (literals.Integer value type)) = nat_eq value 1
+accepts text (Constant at (literals.Character value)) = false
+accepts text (Variable name) = bytes_eq (slice_range text name.start name.end) (codes "EXCEPTION_EXECUTE_HANDLER")
+accepts text (Information at field) = false
+accepts text (Call name es) = false
+accepts text (Parentheses at e) = accepts text e
+accepts text (Index a at i) = false
+accepts text (Postfix e op at) = false
+accepts text (Prefix at op e) = false
+accepts text (Unary at op e) = false
+accepts text (Cast at to e) = false
+accepts text (Binary a at op b) = false
+accepts text (Conditional c at a b) = false
+accepts text (Assign a at op b) = false
+accepts text (Comma a at b) = false
+
+-- The keywords' places of the filters and finally blocks that have a number, in their order in the text: the first has the number 1, and a filter that accepts always has none.
+abbrev mutual
+  pub numbered : List ℕ → Statement → List ℕ
+  numbered text (Declare base ls) = []
+  numbered text (Block ss) = all_numbered text ss
+  numbered text (Evaluate e) = []
+  numbered text (If at c s) = numbered text s
+  numbered text (IfElse at c s t) = numbered text s ++ numbered text t
+  numbered text (While at c s) = numbered text s
+  numbered text (DoWhile s at c) = numbered text s
+  numbered text (For at f c n s) = numbered text s
+  numbered text (Return at e) = []
+  numbered text (Break at) = []
+  numbered text (Continue at) = []
+  numbered text (Leave at) = []
+  numbered text (TryExcept body at f handler) = all_numbered text body ++ cond (accepts text f) [] (at ∷ []) ++ all_numbered text handler
+  numbered text (TryFinally body at last) = all_numbered text body ++ at ∷ [] ++ all_numbered text last
+
+  pub all_numbered : List ℕ → Statements → List ℕ
+  all_numbered text Empty = []
+  all_numbered text (Then s ss) = numbered text s ++ all_numbered text ss
+
+abbrev pub numbered_in : List ℕ → List External → List ℕ
+numbered_in text [] = []
+numbered_in text (Globals base gs ∷ xs) = numbered_in text xs
+numbered_in text (Function returns name ps body ∷ xs) = all_numbered text body ++ numbered_in text xs
+
+-- ---- bytes of globals
+
+abbrev pub size_of_base : Base → ℕ
+size_of_base bases.Void = 0
+size_of_base bases.Char = 1
+size_of_base bases.UnsignedChar = 1
+size_of_base bases.Short = 2
+size_of_base bases.UnsignedShort = 2
+size_of_base bases.Int = 4
+size_of_base bases.Unsigned = 4
+size_of_base bases.LongLong = 8
+size_of_base bases.UnsignedLongLong = 8
+
+-- how many bytes a type has; pointers have 8
+abbrev pub size : Base → ℕ → ℕ
+size base zero = size_of_base base
+size base (suc n) = 8
+
+abbrev pub elements : Option Length → ℕ
+elements None = 1
+elements (Some n) = n.value
+
+-- the first place from one on that is a multiple of the size; each place is one of 0
+abbrev pub aligned : ℕ → ℕ → ℕ
+aligned at zero = at
+aligned at (suc n) = (at + n) / suc n * suc n
+
+-- where the globals end that begin at a place, one behind another
+abbrev pub end_of_globals : Base → List Global → ℕ → ℕ
+end_of_globals base [] at = at
+end_of_globals base (g ∷ gs) at = end_of_globals base gs (aligned at (size base g.pointers) + size base g.pointers * elements g.length)
+
+abbrev pub bytes_from : List External → ℕ → ℕ
+bytes_from [] at = at
+bytes_from (Globals base gs ∷ xs) at = bytes_from xs (end_of_globals base gs at)
+bytes_from (Function returns name ps body ∷ xs) at = bytes_from xs at
+
+-- ---- the limits
+
+abbrev pub functions : List External → ℕ
+functions [] = 0
+functions (Globals base gs ∷ xs) = functions xs
+functions (Function returns name ps body ∷ xs) = suc (functions xs)
+
+pub record FunctionWithin (ps : List Parameter) (body : Statements) : Type 0 where
+  pub parameters : length ps ≤ 8
+  pub locals : locals_of_all body ≤ 256
+  -- the function's own block is no statement
+  pub statements : statements_over_all body ≤ 65
+  pub expressions : expressions_over_all body ≤ 64
+
+abbrev pub EachWithin : List External → Type 0
+EachWithin [] = Unit {0}
+EachWithin (Globals base gs ∷ xs) = EachWithin xs
+EachWithin (Function returns name ps body ∷ xs) = FunctionWithin ps body × EachWithin xs
+
+pub record Within (text : List ℕ) (program : List External) : Type 0 where
+  pub each : EachWithin program
+  pub functions : functions program ≤ 4096
+  pub bytes : bytes_from program 0 ≤ 1048576
+  pub numbered : length (numbered_in text program) ≤ 16384

@@ -1,0 +1,88 @@
+//! Statements.
+
+use crate::expression::{Base, Expr, Name};
+
+/// A local of a declaration: `pointers` stars, its name and its initialiser.
+#[derive(Drop)]
+pub struct Local {
+    pub pointers: u64,
+    pub name: Name,
+    pub initialiser: Option<Expr>,
+}
+
+/// A declaration of locals, of one base (C11, 6.7). It has at least one.
+#[derive(Drop)]
+pub struct Declaration {
+    pub base: Base,
+    pub locals: Vec<Local>,
+}
+
+/// What a `for` does first (C11, 6.8.5.3).
+#[derive(Drop)]
+pub enum ForFirst {
+    Declaration(Declaration),
+    Expression(Option<Expr>),
+}
+
+/// A statement, or a declaration in a block (C11, 6.8). `at` is the place of the keyword.
+#[derive(Drop)]
+pub enum Stmt {
+    /// A declaration, which stands in a block alone.
+    Declaration(Declaration),
+    Block(Vec<Stmt>),
+    /// `expression;`, or `;` alone
+    Expression(Option<Expr>),
+    If {
+        at: u64,
+        condition: Expr,
+        then: Box<Stmt>,
+        otherwise: Option<Box<Stmt>>,
+    },
+    While {
+        at: u64,
+        condition: Expr,
+        body: Box<Stmt>,
+    },
+    /// `do body while (condition);`; `at` is the place of `while`.
+    Do {
+        body: Box<Stmt>,
+        at: u64,
+        condition: Expr,
+    },
+    For {
+        at: u64,
+        first: ForFirst,
+        condition: Option<Expr>,
+        next: Option<Expr>,
+        body: Box<Stmt>,
+    },
+    Return {
+        at: u64,
+        value: Option<Expr>,
+    },
+    Break {
+        at: u64,
+    },
+    Continue {
+        at: u64,
+    },
+    /// `__leave;`
+    Leave {
+        at: u64,
+    },
+    /// `__try { body } __except (filter) { handler }`; `at` is the place of `__except`, by which
+    /// filters are numbered.
+    TryExcept {
+        body: Vec<Stmt>,
+        at: u64,
+        filter: Expr,
+        handler: Vec<Stmt>,
+    },
+    /// `__try { body } __finally { last }`; `at` is the place of `__finally`, by which these blocks
+    /// are numbered.
+    TryFinally {
+        body: Vec<Stmt>,
+        at: u64,
+        last: Vec<Stmt>,
+    },
+}
