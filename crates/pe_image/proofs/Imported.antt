@@ -120,7 +120,7 @@ refused_at k n e = ap (λ j. Err (refusals.ImportBad j)) e
 pub with_directory : (ss : List Section) (d : Directory) (r : Answered) → d.size ≢ 0 → libraries most ss 0 d.rva ≡ r → imports_in ss d ≡ r
 with_directory ss d r ne e = ap (unless_none (libraries most ss 0 d.rva)) (ne_eqb d.size 0 ne) ∙ e
 
-same_entries : (ss : List Section) (index look slot : ℕ) (d : List ℕ) → look ≡ lookups (field 4 d 0) (field 4 d 16) → slot ≡ field 4 d 16 → library most ss index look slot ≡ entries_of ss index d
+pub same_entries : (ss : List Section) (index look slot : ℕ) (d : List ℕ) → look ≡ lookups (field 4 d 0) (field 4 d 16) → slot ≡ field 4 d 16 → library most ss index look slot ≡ entries_of ss index d
 same_entries ss index look slot d e1 e2 = ap (λ n. library most ss index n slot) e1 ∙ ap (library most ss index (lookups (field 4 d 0) (field 4 d 16))) e2
 
 module _ (ss : List Section) (dir : Directory) (xs : List Import) (n m look slot : ℕ) (d : List ℕ) (at : ℕ) (some : dir.size ≢ 0) (e : n ≡ m + 1) (is : stored ss at 20 ≡ Some d) (z : is_zero d ≡ false)

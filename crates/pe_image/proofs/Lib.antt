@@ -1,10 +1,4 @@
-pub mod Back
-pub mod Example
-pub mod Front
 pub mod Imported
-pub mod Pieces
-pub mod Rows
 pub mod Sections
-pub mod Sizes
 pub mod Stored
 pub mod Whole

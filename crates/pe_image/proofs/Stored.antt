@@ -20,7 +20,7 @@ addresses_rise end (s ∷ ss) up (suc i) (suc j) d le lt = addresses_rise (s.add
 below_holds_none : (rva : ℕ) (s : Section) → rva < s.address → holds rva s ≡ false
 below_holds_none rva s lt = and_left (leb s.address rva) (ltb rva (s.address + length s.raw)) (lt-leb s.address rva lt)
 
-above_holds_none : (rva : ℕ) (s : Section) → s.address + length s.raw ≤ rva → holds rva s ≡ false
+pub above_holds_none : (rva : ℕ) (s : Section) → s.address + length s.raw ≤ rva → holds rva s ≡ false
 above_holds_none rva s le = and_right (leb s.address rva) (ltb rva (s.address + length s.raw)) (le-ltb rva (s.address + length s.raw) le)
 
 pub none_above : (rva : ℕ) (ss : List Section) → ((k : ℕ) (d : Section) → k < length ss → rva < (get_or ss k d).address) → section_at rva ss ≡ None

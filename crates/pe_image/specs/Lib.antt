@@ -3,4 +3,3 @@ pub mod Field
 pub mod Image
 pub mod Imports
 pub mod Reading
-pub mod Written

@@ -1,12 +1,9 @@
-//! PE32+ images for x64 (Microsoft's specification of the PE format), read and written.
+//! PE32+ images for x64 (Microsoft's specification of the PE format), read.
 //!
 //! [`ImageView::read`] reads the bytes of a file without copying them, and refuses by the first
 //! check that fails ([`ImageErr`]). The view then answers its sections ([`SectionView`]) and what
 //! is stored at an address. Reading is lenient: any DOS stub, image base and number of directories
 //! will do, and raw data may be longer or shorter than a section's size.
-//!
-//! [`write`] gives the bytes of an [`Image`] of [`ImageSection`]s in one strict form, which is read
-//! again as the same image.
 //!
 //! Addresses of sections, entries and directories are relative to the image base.
 #![tactic(auto)]
@@ -14,23 +11,17 @@
 mod directory;
 mod fields;
 mod imports;
-mod layout;
-mod parts;
-mod put;
 mod reading;
 mod refusal;
 mod section;
 mod table;
 mod view;
-mod writing;
 
 pub use directory::Directory;
 pub use imports::Import;
-pub use parts::ImageSection;
 pub use refusal::ImageErr;
 pub use section::SectionView;
 pub use view::ImageView;
-pub use writing::{Image, write};
 
 #[cfg(test)]
 mod tests;

@@ -1,4 +1,4 @@
-use crate::{Directory, Image, ImageErr, ImageSection, ImageView, write};
+use crate::{ImageErr, ImageView};
 use std::alloc::{AllocError, Global};
 use std::test::Fail;
 
@@ -318,58 +318,6 @@ fn counts_missing_directories_as_empty(rt: HostRuntime) -> Result<(), Fail> {
         assert_eq!(rt; view.import_directory().rva, imports, "{count}");
         assert_eq!(rt; view.exception_directory().size, exceptions, "{count}");
     }
-    Ok(())
-}
-
-#[test]
-fn writes_two_sections(rt: HostRuntime) -> Result<(), Fail> {
-    let none = Directory { rva: 0, size: 0 };
-    let code = [0xB8, 7, 0, 0, 0, 0xC3].to_vec(rt.alloc())?;
-    let mut sections = Vec::new(rt.alloc());
-    sections.push(ImageSection::new(*b".data\0\0\0", 0xC000_0040, 0x1000, Vec::new(rt.alloc())))?;
-    sections.push(ImageSection::new(*b".text\0\0\0", 0x6000_0020, 6, code))?;
-    let image = Image::new(0x2000, sections, none, none, none);
-    let bytes = write(rt.alloc(), &image)?;
-
-    // All bytes that aren't 0, by their places in the file.
-    let fields: [(usize, &[u8]); 27] = [
-        (0, b"MZ"),
-        (0x3C, &[0x40]),
-        (0x40, b"PE\0\0"),
-        (0x44, &[0x64, 0x86, 2]),
-        (0x54, &[0xF0, 0, 0x23]),
-        (0x58, &[0x0B, 0x02]),
-        (0x58 + 4, &[0, 2]),
-        (0x58 + 16, &[0, 0x20]),
-        (0x58 + 20, &[0, 0x20]),
-        (0x58 + 24, &[0, 0, 0, 0x40, 1]),
-        (0x58 + 32, &[0, 0x10]),
-        (0x58 + 36, &[0, 2]),
-        (0x58 + 56, &[0, 0x30]),
-        (0x58 + 60, &[0, 4]),
-        (0x58 + 68, &[3]),
-        (0x58 + 108, &[16]),
-        (0x148, b".data"),
-        (0x148 + 8, &[0, 0x10]),
-        (0x148 + 12, &[0, 0x10]),
-        (0x148 + 20, &[0, 4]),
-        (0x148 + 36, &[0x40, 0, 0, 0xC0]),
-        (0x170, b".text"),
-        (0x170 + 8, &[6]),
-        (0x170 + 12, &[0, 0x20]),
-        (0x170 + 16, &[0, 2, 0, 0, 0, 4]),
-        (0x170 + 36, &[0x20, 0, 0, 0x60]),
-        (0x400, &[0xB8, 7, 0, 0, 0, 0xC3]),
-    ];
-    let mut expected = vec![in rt.alloc(); 0; 1536]?;
-    for (at, field) in fields {
-        for (i, byte) in field.iter().enumerate() {
-            if let Some(place) = expected.get_mut(at.saturating_add(i)) {
-                *place = *byte;
-            }
-        }
-    }
-    assert_eq!(rt; bytes.as_slice(), expected.as_slice());
     Ok(())
 }
 

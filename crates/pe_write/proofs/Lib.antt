@@ -1,0 +1,8 @@
+pub mod Back
+pub mod Below
+pub mod Example
+pub mod Front
+pub mod Pieces
+pub mod Programs
+pub mod Rows
+pub mod Tables

@@ -1,0 +1,203 @@
+-- The image of a program can be written, and is read as the image that it stands for.
+use Rattle.std.proofs.Common.{◌≡◌, ℕ, ◌+◌, ◌-◌, ◌^◌, ◌<◌, ◌≤◌, true, ltb, leb, None, Result, Ok, Err, List, [], ◌∷◌, length, take, drop, refl, sym, ap, subst, ◌∙◌, arith}
+use Rattle.std.specs.Global.{Vec}
+use Rattle.std.specs.Prelude.{IfOk, OnOk}
+use Rattle.std.specs.declared.alloc.AllocError.{AllocError}
+use Rattle.std.proofs.lemmas.Bool.{and_from, lt-ltb, le-leb}
+use Rattle.std.proofs.lemmas.List.{take_all}
+use Rattle.std.proofs.Math.Seq.{take-append_seam}
+use Rattle.pe_image.specs.Image.{Section, holds, section_or, section_at, stored_in}
+use Rattle.pe_image.specs.Imports.{Import, imports, or_none}
+use Rattle.pe_image.specs.Imports as importing
+use Rattle.pe_write.specs.ImportTables.{import_tables}
+use Rattle.pe_write.specs.Program.{Program, IsProgram, sizes_of, text_at, rdata_at, xdata_at, pdata_at, end_at, data_section, text_section, rdata_section, xdata_section, pdata_section, import_directory, exception_directory, parts_of, sections_of, image_of, imports_of}
+use Rattle.pe_image.specs.Reading.{IsImage}
+use Rattle.pe_write.specs.declared.sizes.Sizes.{Sizes}
+use Rattle.pe_write.specs.Written.{SectionParts, ImageParts, end_of, raw_size, raw_data, zeros, written, image_read, CanBeWritten}
+use Rattle.pe_write.proofs.Back.{raw_length, is_read, written_length}
+use Rattle.pe_image.proofs.Stored.{above_holds_none}
+use Rattle.pe_write.proofs.Tables.{tables_length, tables_read}
+
+module _ (p : Program) (fits : IsProgram p) where
+  abbrev r : ℕ
+  r = rdata_at (sizes_of p)
+
+  abbrev globals : Section
+  globals = record { address = 0x1000; size = p.data_size; raw = raw_data (data_section p); flags = 0xC0000040 }
+
+  abbrev code : Section
+  code = record { address = text_at (sizes_of p); size = length p.text; raw = p.text; flags = 0x60000020 }
+
+  abbrev tables : Section
+  tables = record { address = r; size = 222; raw = import_tables r; flags = 0x40000040 }
+
+  abbrev infos : Section
+  infos = record { address = xdata_at (sizes_of p); size = length p.xdata; raw = p.xdata; flags = 0x40000040 }
+
+  abbrev functions : Section
+  functions = record { address = pdata_at (sizes_of p); size = length p.pdata; raw = p.pdata; flags = 0x40000040 }
+
+  abbrev others : List Section
+  others = infos ∷ functions ∷ []
+
+  stored_of_data : length (raw_data (data_section p)) ≤ p.data_size
+  stored_of_data = let e = raw_length (data_section p) in let h = fits.stored in let w = fits.whole in omega arith
+
+  -- the byte at an address is stored in this section, and in none before it
+  inside : (rva : ℕ) (s : Section) → s.address ≤ rva → rva < s.address + length s.raw → holds rva s ≡ true
+  inside rva s le lt = and_from (leb s.address rva) (ltb rva (s.address + length s.raw)) (le-leb s.address rva le) (lt-ltb rva (s.address + length s.raw) lt)
+
+  past_code : (rva : ℕ) → r ≤ rva → section_at rva (sections_of p) ≡ section_at rva (tables ∷ others)
+  past_code rva le =
+      ap (section_or (section_at rva (code ∷ tables ∷ others)) globals) (above_holds_none rva globals (omega (arith, stored_of_data)))
+      ∙ ap (section_or (section_at rva (tables ∷ others)) code) (above_holds_none rva code (omega arith))
+
+  past_tables : (rva : ℕ) → xdata_at (sizes_of p) ≤ rva → section_at rva (sections_of p) ≡ section_at rva others
+  past_tables rva le =
+      past_code rva (omega arith)
+      ∙ ap (section_or (section_at rva others) tables) (above_holds_none rva tables (omega (arith, tables_length r)))
+
+  pub tables_stand : (k : ℕ) → k < 222 → stored_in (r + k) (section_at (r + k) (sections_of p)) ≡ drop k (import_tables r)
+  tables_stand k lt =
+      let back : r + k - r ≡ k = omega arith in
+      ap (stored_in (r + k)) (past_code (r + k) (omega arith) ∙ ap (section_or (section_at (r + k) others) tables) (inside (r + k) tables (omega arith) (omega (arith, tables_length r))))
+      ∙ ap (λ n. drop n (import_tables r)) back
+
+  pub xdata_stands : (k : ℕ) → k < length p.xdata → stored_in (xdata_at (sizes_of p) + k) (section_at (xdata_at (sizes_of p) + k) (sections_of p)) ≡ drop k p.xdata
+  xdata_stands k lt =
+      let at = xdata_at (sizes_of p) in
+      let back : at + k - at ≡ k = omega arith in
+      ap (stored_in (at + k)) (past_tables (at + k) (omega arith) ∙ ap (section_or (section_at (at + k) (functions ∷ [])) infos) (inside (at + k) infos (omega arith) (omega arith)))
+      ∙ ap (λ n. drop n p.xdata) back
+
+  pub pdata_stands : (k : ℕ) → k < length p.pdata → stored_in (pdata_at (sizes_of p) + k) (section_at (pdata_at (sizes_of p) + k) (sections_of p)) ≡ drop k p.pdata
+  pdata_stands k lt =
+      let at = pdata_at (sizes_of p) in
+      let back : at + k - at ≡ k = omega arith in
+      ap (stored_in (at + k))
+      (past_tables (at + k) (omega arith)
+      ∙ ap (section_or (section_at (at + k) (functions ∷ [])) infos) (above_holds_none (at + k) infos (omega arith))
+      ∙ ap (section_or None functions) (inside (at + k) functions (omega arith) (omega arith)))
+      ∙ ap (λ n. drop n p.pdata) back
+
+  pub imports_are : imports (image_of p) ≡ Ok (imports_of p)
+  imports_are = let e = fits.end in tables_read (sections_of p) r (omega arith) tables_stand
+
+  -- ---- what is read
+
+  data_is : take p.data_size (raw_data (data_section p)) ≡ raw_data (data_section p)
+  data_is = take_all p.data_size (raw_data (data_section p)) stored_of_data
+
+  text_is : take (length p.text) (raw_data (text_section p)) ≡ p.text
+  unfolding raw_data
+  text_is = take-append_seam p.text (zeros (raw_size (text_section p) - length p.text))
+
+  rdata_is : take 222 (raw_data (rdata_section p)) ≡ import_tables r
+  unfolding raw_data
+  rdata_is =
+      ap (λ n. take n (raw_data (rdata_section p))) (sym (tables_length r))
+      ∙ take-append_seam (import_tables r) (zeros (raw_size (rdata_section p) - length (import_tables r)))
+
+  xdata_is : take (length p.xdata) (raw_data (xdata_section p)) ≡ p.xdata
+  unfolding raw_data
+  xdata_is = take-append_seam p.xdata (zeros (raw_size (xdata_section p) - length p.xdata))
+
+  pdata_is : take (length p.pdata) (raw_data (pdata_section p)) ≡ p.pdata
+  unfolding raw_data
+  pdata_is = take-append_seam p.pdata (zeros (raw_size (pdata_section p) - length p.pdata))
+
+  pub size_is : end_of (parts_of p).sections ≡ end_at (sizes_of p)
+  size_is = omega arith
+
+  pub image_is : image_read (parts_of p) ≡ image_of p
+  image_is = λ i. record {
+    base = 0x140000000;
+    entry = text_at (sizes_of p) + p.entry;
+    size = size_is i;
+    sections =
+        record { address = 0x1000; size = p.data_size; raw = data_is i; flags = 0xC0000040 }
+        ∷ record { address = text_at (sizes_of p); size = length p.text; raw = text_is i; flags = 0x60000020 }
+        ∷ record { address = r; size = 222; raw = rdata_is i; flags = 0x40000040 }
+        ∷ record { address = xdata_at (sizes_of p); size = length p.xdata; raw = xdata_is i; flags = 0x40000040 }
+        ∷ record { address = pdata_at (sizes_of p); size = length p.pdata; raw = pdata_is i; flags = 0x40000040 }
+        ∷ [];
+    imports = import_directory p;
+    exceptions = exception_directory p;
+  }
+
+  pub listed : importing.imports_of (image_of p) ≡ imports_of p
+  listed = ap or_none imports_are
+
+  -- ---- what can be written
+
+  pub can_be_written : CanBeWritten (parts_of p)
+  can_be_written =
+      let e = fits.end in
+      let inside = fits.entry in
+      record {
+        entry = omega arith;
+        sections = (
+          record { name = refl; flags = omega arith; stored = fits.stored },
+          (
+            record { name = refl; flags = omega arith; stored = omega arith },
+            (
+              record { name = refl; flags = omega arith; stored = omega (arith, tables_length r) },
+              (
+                record { name = refl; flags = omega arith; stored = omega arith },
+                (
+                  record { name = refl; flags = omega arith; stored = omega arith },
+                  tt,
+                ),
+              ),
+            ),
+          ),
+        );
+        table = omega arith;
+        end = omega (arith, size_is);
+        imports = (omega arith, omega arith);
+        exceptions = (omega arith, omega arith);
+        import_addresses = (omega arith, omega arith);
+        imported = ap imports image_is ∙ imports_are ∙ ap (λ (xs : List Import). Ok xs) (sym listed) ∙ ap (λ i. Ok (importing.imports_of i)) (sym image_is);
+      }
+
+pub read_again : (p : Program) (t : Result (Vec ℕ) AllocError) → IsProgram p → OnOk t (CanBeWritten (parts_of p)) → IfOk t (λ bytes. bytes.items ≡ written (parts_of p)) → IfOk t (λ bytes. IsImage bytes.items (image_of p))
+read_again p (Ok v) is fits same = subst (IsImage v.items) (image_is p is) (is_read (parts_of p) (Ok v) fits same)
+read_again p (Err e) is fits same = tt
+
+pub small_file : (p : Program) (t : Result (Vec ℕ) AllocError) → IsProgram p → IfOk t (λ bytes. bytes.items ≡ written (parts_of p)) → IfOk t (λ bytes. length bytes.items ≤ end_at (sizes_of p))
+small_file p (Ok v) is same = let n = ap length same in let le = written_length (parts_of p) (can_be_written p is) in let e = size_is p is in omega arith
+small_file p (Err e) is same = tt
+
+pub with_imports : (p : Program) (t : Result (Vec ℕ) AllocError) → IsProgram p → OnOk t (imports (image_of p) ≡ Ok (imports_of p))
+with_imports p (Ok v) is = imports_are p is
+with_imports p (Err e) is = tt
+
+-- ---- the same by the values that the code has
+
+pub rdata_fits : (p : Program) (s : Sizes) (n : ℕ) → IsProgram p → s ≡ sizes_of p → n ≡ rdata_at s → n + 222 < 2 ^ 32
+rdata_fits p s n is e1 e2 = let e = is.end in let at : n ≡ rdata_at (sizes_of p) = e2 ∙ ap rdata_at e1 in omega arith
+
+pub text_fits : (p : Program) (s : Sizes) (n : ℕ) → IsProgram p → s ≡ sizes_of p → n ≡ text_at s → n + p.entry < 2 ^ 32
+text_fits p s n is e1 e2 = let e = is.end in let h = is.entry in let at : n ≡ text_at (sizes_of p) = e2 ∙ ap text_at e1 in omega arith
+
+pub pdata_fits : (p : Program) (s : Sizes) (n : ℕ) → IsProgram p → s ≡ sizes_of p → n ≡ pdata_at s → n < 2 ^ 32
+pdata_fits p s n is e1 e2 = let e = is.end in let at : n ≡ pdata_at (sizes_of p) = e2 ∙ ap pdata_at e1 in omega arith
+
+abbrev pub with_places : ℕ → List SectionParts → ℕ → ℕ → ℕ → ImageParts
+with_places entry ss rdata pdata size = record {
+  entry = entry;
+  sections = ss;
+  imports = record { rva = rdata; size = 40 };
+  exceptions = record { rva = pdata; size = size };
+  import_addresses = record { rva = rdata + 88; size = 48 };
+}
+
+pub same_parts : (p : Program) (s : Sizes) (n entry : ℕ) (ss : List SectionParts) (rdata pdata : ℕ) → s ≡ sizes_of p → n ≡ text_at s → entry ≡ p.entry → ss ≡ (parts_of p).sections → rdata ≡ rdata_at s → pdata ≡ pdata_at s
+    → with_places (n + entry) ss rdata pdata s.pdata_size ≡ parts_of p
+same_parts p s n entry ss rdata pdata e1 e2 e3 e4 e5 e6 =
+    ap (λ s. with_places (n + entry) ss rdata pdata s.pdata_size) e1
+    ∙ (λ i. with_places ((e2 ∙ ap text_at e1) i + e3 i) (e4 i) ((e5 ∙ ap rdata_at e1) i) ((e6 ∙ ap pdata_at e1) i) (length p.pdata))
+
+pub places_fit : (p : Program) (s : Sizes) (n entry : ℕ) (ss : List SectionParts) (rdata pdata : ℕ) → IsProgram p → s ≡ sizes_of p → n ≡ text_at s → entry ≡ p.entry → ss ≡ (parts_of p).sections → rdata ≡ rdata_at s → pdata ≡ pdata_at s
+    → CanBeWritten (with_places (n + entry) ss rdata pdata s.pdata_size)
+places_fit p s n entry ss rdata pdata is e1 e2 e3 e4 e5 e6 = subst CanBeWritten (sym (same_parts p s n entry ss rdata pdata e1 e2 e3 e4 e5 e6)) (can_be_written p is)

@@ -1,0 +1,3 @@
+pub mod ImportTables
+pub mod Program
+pub mod Written

@@ -1,0 +1,187 @@
+//! Images of programs, written.
+
+ghost use Rattle.std.specs.Prelude.{◌≡◌, ◌^◌, ◌<◌, ◌≤◌, length, OnOk, IfOk, Ok};
+ghost use Rattle.pe_write.specs.ImportTables.{import_tables};
+ghost use Rattle.pe_image.specs.Imports.{imports};
+ghost use Rattle.pe_write.specs.Program as spec;
+ghost use Rattle.pe_image.specs.Reading.{IsImage};
+ghost use Rattle.pe_write.specs.Written.{written};
+
+use crate::import_tables::{TABLES_SIZE, import_tables};
+use crate::parts::ImageSection;
+use crate::sizes::Sizes;
+use crate::writing::{SectionedImage, write_sections};
+use pe_image::Directory;
+use std::alloc::{AllocError, Global};
+use std::marker::Model;
+
+/// IMAGE_SCN_CNT_INITIALIZED_DATA, read and written.
+const DATA_FLAGS: u32 = 0xC000_0040;
+
+/// IMAGE_SCN_CNT_CODE, read and executed.
+const TEXT_FLAGS: u32 = 0x6000_0020;
+
+/// IMAGE_SCN_CNT_INITIALIZED_DATA, read.
+const CONST_FLAGS: u32 = 0x4000_0040;
+
+/// The image of a program for x64, at the base 0x140000000.
+#[derive(Drop)]
+pub struct Image {
+    data_size: u32,
+    data_bytes: Vec<u8>,
+    text: Vec<u8>,
+    entry: u32,
+    xdata: Vec<u8>,
+    pdata: Vec<u8>,
+}
+
+impl Model for Image {
+    ghost use Rattle.pe_write.specs.Program.{Program, IsProgram};
+
+    ghost Value = { Program };
+
+    ghost view = { λ p. record {
+      data_size = p.data_size;
+      data_bytes = p.data_bytes.items;
+      text = p.text.items;
+      entry = p.entry;
+      xdata = p.xdata.items;
+      pdata = p.pdata.items;
+    } };
+
+    ghost invariant = { λ p. IsProgram (record {
+      data_size = p.data_size;
+      data_bytes = p.data_bytes.items;
+      text = p.text.items;
+      entry = p.entry;
+      xdata = p.xdata.items;
+      pdata = p.pdata.items;
+    }) };
+}
+
+impl Image {
+    /// The image of a program whose data takes `data_size` bytes, whole pages and at least one, of
+    /// which `data_bytes` are stored and the others are 0; whose code `text` it begins `entry` bytes
+    /// behind its front; and whose unwind infos are `xdata` and its function table `pdata`. All
+    /// addresses in it are below 2^32.
+    pub fn new(
+        data_size: u32,
+        data_bytes: Vec<u8>,
+        text: Vec<u8>,
+        entry: u32,
+        xdata: Vec<u8>,
+        pdata: Vec<u8>,
+    ) -> Image
+        requires { spec.IsProgram (record {
+          data_size = data_size;
+          data_bytes = data_bytes.items;
+          text = text.items;
+          entry = entry;
+          xdata = xdata.items;
+          pdata = pdata.items;
+        }) }
+        ensures { result ≡ record {
+          data_size = data_size;
+          data_bytes = data_bytes.items;
+          text = text.items;
+          entry = entry;
+          xdata = xdata.items;
+          pdata = pdata.items;
+        } }
+    {
+        Image {
+            data_size,
+            data_bytes,
+            text,
+            entry,
+            xdata,
+            pdata,
+        }
+    }
+
+    /// The sizes of its sections, which say where they lie.
+    pub fn sizes(&self) -> Sizes
+        ensures value { result ≡ spec.sizes_of self.now }
+        ensures program { spec.IsProgram self.now }
+    {
+        Sizes {
+            data_size: self.data_size,
+            text_size: self.text.len() as u32,
+            xdata_size: self.xdata.len() as u32,
+            pdata_size: self.pdata.len() as u32,
+        }
+    }
+
+    fn sections<'a>(
+        &'a self,
+        alloc: Global,
+        tables: &'a [u8],
+    ) -> Result<Vec<ImageSection<'a>>, AllocError>
+        requires { tables.now ≡ import_tables (spec.rdata_at (spec.sizes_of self.now)) }
+        ensures { IfOk result (λ v. v.items ≡ (spec.parts_of self.now).sections) }
+    {
+        let sizes = self.sizes();
+        let mut sections = Vec::new(alloc);
+        sections.push(ImageSection::new(
+            *b".data\0\0\0",
+            DATA_FLAGS,
+            sizes.data_size,
+            &self.data_bytes,
+        ))?;
+        sections.push(ImageSection::new(*b".text\0\0\0", TEXT_FLAGS, sizes.text_size, &self.text))?;
+        sections.push(ImageSection::new(*b".rdata\0\0", CONST_FLAGS, TABLES_SIZE, tables))?;
+        sections.push(ImageSection::new(
+            *b".xdata\0\0",
+            CONST_FLAGS,
+            sizes.xdata_size,
+            &self.xdata,
+        ))?;
+        sections.push(ImageSection::new(
+            *b".pdata\0\0",
+            CONST_FLAGS,
+            sizes.pdata_size,
+            &self.pdata,
+        ))?;
+        Ok(sections)
+    }
+
+    fn with_sections<'a>(&self, sections: Vec<ImageSection<'a>>) -> SectionedImage<'a>
+        requires { sections.items ≡ (spec.parts_of self.now).sections }
+        ensures { result ≡ spec.parts_of self.now }
+    {
+        let sizes = self.sizes();
+        let rdata = sizes.rdata_at() as u32;
+        SectionedImage::new(
+            sizes.text_at() as u32 + self.entry,
+            sections,
+            Directory {
+                rva: rdata,
+                size: 40,
+            },
+            Directory {
+                rva: sizes.pdata_at() as u32,
+                size: sizes.pdata_size,
+            },
+            Directory {
+                rva: rdata + 88,
+                size: 48,
+            },
+        )
+    }
+}
+
+/// The bytes of an image, in the one form in which an image is written: 1,024 bytes of headers, and
+/// the raw data of `.data`, `.text`, `.rdata`, `.xdata` and `.pdata`, each filled up with zeros to a
+/// multiple of 512. `.rdata` has the tables by which it imports the services of its host. They are
+/// read again as the same image, with each service at its slot, and are no more than the image takes in
+/// memory.
+pub fn write(alloc: Global, image: &Image) -> Result<Vec<u8>, AllocError>
+    ensures written { IfOk result (λ bytes. bytes.items ≡ written (spec.parts_of image.now)) }
+    ensures read_again { IfOk result (λ bytes. IsImage bytes.items (spec.image_of image.now)) }
+    ensures small { IfOk result (λ bytes. length bytes.items ≤ spec.end_at (spec.sizes_of image.now)) }
+    ensures imported { OnOk result (imports (spec.image_of image.now) ≡ Ok (spec.imports_of image.now)) }
+{
+    let tables = import_tables(alloc, image.sizes().rdata_at() as u32)?;
+    let sections = image.sections(alloc, &tables)?;
+    write_sections(alloc, &image.with_sections(sections))
+}

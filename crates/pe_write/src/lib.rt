@@ -1,0 +1,23 @@
+//! Images of programs for x64 (Microsoft's specification of the PE format), written.
+//!
+//! [`write`] gives the bytes of the [`Image`] of a program in one strict form, which is read again as
+//! the same image. It has five sections: `.data`, `.text`, `.rdata` with the tables by which it
+//! imports the services of its host ([`Service`]), `.xdata` and `.pdata`. [`Sizes`] says where they
+//! lie, relative to the image base, before their bytes are known.
+#![tactic(auto)]
+
+mod image;
+mod import_tables;
+mod layout;
+mod parts;
+mod put;
+mod service;
+mod sizes;
+mod writing;
+
+pub use image::{Image, write};
+pub use service::Service;
+pub use sizes::Sizes;
+
+#[cfg(test)]
+mod tests;

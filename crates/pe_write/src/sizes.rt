@@ -1,0 +1,65 @@
+//! Where the sections of a program's image lie.
+
+ghost use Rattle.std.specs.Prelude.{◌≡◌};
+ghost use Rattle.pe_write.specs.Program as spec;
+ghost use Rattle.pe_write.specs.Written as written;
+
+use crate::import_tables::TABLES_SIZE;
+
+/// How many bytes those sections of an image take whose sizes differ from program to program. They
+/// say where each of the five sections lies, relative to the image base: `.data` behind the page of
+/// the headers, and each other one behind the pages of the one before.
+#[derive(Clone, Copy, Debug, PartialEq, Eq)]
+pub struct Sizes {
+    /// `.data`.
+    pub data_size: u32,
+    /// `.text`.
+    pub text_size: u32,
+    /// `.xdata`.
+    pub xdata_size: u32,
+    /// `.pdata`.
+    pub pdata_size: u32,
+}
+
+fn pages(size: u32) -> u64
+    ensures { result ≡ written.pages size }
+{
+    (size as u64).div_ceil(4096) * 4096
+}
+
+impl Sizes {
+    /// Where `.text` begins.
+    pub fn text_at(&self) -> u64
+        ensures { result ≡ spec.text_at self.now }
+    {
+        0x1000 + pages(self.data_size)
+    }
+
+    /// Where `.rdata` begins.
+    pub fn rdata_at(&self) -> u64
+        ensures { result ≡ spec.rdata_at self.now }
+    {
+        self.text_at() + pages(self.text_size)
+    }
+
+    /// Where `.xdata` begins.
+    pub fn xdata_at(&self) -> u64
+        ensures { result ≡ spec.xdata_at self.now }
+    {
+        self.rdata_at() + pages(TABLES_SIZE)
+    }
+
+    /// Where `.pdata` begins.
+    pub fn pdata_at(&self) -> u64
+        ensures { result ≡ spec.pdata_at self.now }
+    {
+        self.xdata_at() + pages(self.xdata_size)
+    }
+
+    /// Where the image ends.
+    pub fn end_at(&self) -> u64
+        ensures { result ≡ spec.end_at self.now }
+    {
+        self.pdata_at() + pages(self.pdata_size)
+    }
+}
