@@ -1,10 +1,16 @@
+ghost use Rattle.std.specs.Prelude.{◌≡◌, ◌≤◌, ◌<◌, length};
+ghost use Rattle.eh_tables.specs.Tables.{IsWhole};
+
 use crate::{
     Operation, RuntimeFunction, ScopeRow, TableErr, Tables, Trailer, UnwindCode, UnwindInfo,
-    write_pdata, write_scopes, write_unwind,
+    read_again, write_pdata, write_scopes, write_unwind,
 };
 use arrayvec::ArrayVec;
 use pe_image::ImageView;
+use seh_num::steps::Steps;
 use std::alloc::{AllocError, Global};
+use std::marker::Brand;
+use std::sync::ledger::{Blank, Ledger};
 use std::test::Fail;
 
 fn put(out: &mut Vec<u8>, at: usize, bytes: &[u8]) {
@@ -584,6 +590,52 @@ fn finds_nothing_without_entries(rt: HostRuntime) -> Result<(), Fail> {
     let tables = Tables::read(&view)?;
     assert_eq!(rt; (tables.len(), tables.lookup(0x2000).is_none()), (0, true));
     Ok(())
+}
+
+/// Where the entry begins that holds an address, and the steps of the search. The number of steps takes
+/// no bytes, so that the contract alone tells it: 0 where there are no entries, at most 2 of 3.
+fn looked_up<L: Ledger>(tables: &Tables<'_, '_>, rva: u64, blank: Blank) -> (Option<u32>, Steps<L>)
+    requires whole { IsWhole tables.now }
+    requires name { blank.name ≡ L.name }
+    requires parts { blank.parts ≡ L.parts }
+    requires some { 0 < L.parts }
+    ensures of_none { length tables.now.ranges ≡ 0 → result.1 ≡ 0 }
+    ensures of_three { length tables.now.ranges ≡ 3 → result.1 ≤ 2 }
+{
+    let mut steps = Steps::<L>::new(blank);
+    let found = tables.lookup_counted(rva, &mut steps);
+    (found.map(|entry| entry.range().begin), steps)
+}
+
+fn begin_of<L: Ledger>(tables: &Tables<'_, '_>, rva: u64, blank: Blank) -> Option<u32>
+    requires whole { IsWhole tables.now }
+    requires name { blank.name ≡ L.name }
+    requires parts { blank.parts ≡ L.parts }
+    requires some { 0 < L.parts }
+{
+    let (begin, _steps) = looked_up::<L>(tables, rva, blank);
+    begin
+}
+
+#[test]
+fn counts_the_steps_of_a_search(rt: HostRuntime) -> Result<(), Fail> {
+    let entries = [
+        0, 0x20, 0, 0, 0x10, 0x20, 0, 0, 0, 0x30, 0, 0, 0x20, 0x20, 0, 0, 0x30, 0x20, 0, 0, 0,
+        0x30, 0, 0, 0x30, 0x20, 0, 0, 0x31, 0x20, 0, 0, 0, 0x30, 0, 0,
+    ];
+    for (count, begin) in [(0, None), (36, Some(0x2020))] {
+        let bytes = image(rt.alloc(), &[1, 0, 0, 0], &entries[..count])?;
+        let view = ImageView::read(rt.alloc(), &bytes)?;
+        let tables = Tables::read(&view)?;
+        let found = begin_of::<Brand>(&tables, 0x202F, Blank::new(1));
+        assert_eq!(rt; found, begin, "{count}");
+    }
+    Ok(())
+}
+
+#[test]
+fn laws_hold() {
+    read_again();
 }
 
 #[test]
