@@ -1,3 +1,4 @@
 pub mod Operands
+pub mod OpcodesAgain
 pub mod Written
 pub mod Lengths
