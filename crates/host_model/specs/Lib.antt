@@ -1,4 +1,5 @@
 pub mod Loading
+pub mod Slots
 pub mod HostStep
 pub mod Machine
 pub mod Worked

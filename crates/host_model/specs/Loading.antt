@@ -1,17 +1,24 @@
--- How an image stands in memory, and the state that a run starts from (PE format, "Section Table"; the stack, the arena and their places are the host's own).
-use Rattle.std.specs.Prelude.{ℕ, ◌+◌, ◌-◌, ◌*◌, ◌/◌, ◌%◌, ◌^◌, Bool, true, false, ◌&&◌, ◌==◌, nat_lt, nat_le, if◌then◌else◌, List, [], ◌∷◌, replicate, ℤ, Option, Some, None, slice_index}
+-- How an image stands in memory, and the state that a run starts from (PE format, "Section Table", "Import Address Table"; the stack, the arena, the services and their places are the host's own).
+use Rattle.std.specs.Prelude.{ℕ, ◌+◌, ◌-◌, ◌*◌, ◌/◌, ◌%◌, ◌^◌, Bool, true, false, ◌&&◌, ◌==◌, nat_lt, nat_le, if◌then◌else◌, List, [], ◌∷◌, replicate, position, ℤ, codes, Option, Some, None, option_map, Ok, Err, slice_index}
+use Rattle.std.specs.Str.{bytes_eq}
 use Rattle.seh_num.specs.declared.width.Width.TheVariants.{W64}
 use Rattle.seh_num.specs.Widths.{wrapped}
 use Rattle.flat_memory.specs.declared.mode.Mode.{Mode}
 use Rattle.flat_memory.specs.declared.mode.TheConstants.{UNMAPPED}
 use Rattle.flat_memory.specs.declared.mode.Rights.{Rights}
 use Rattle.flat_memory.specs.declared.mode.Rights.TheVariants.{Nothing, Read, ReadWrite}
-use Rattle.flat_memory.specs.Memory.{Memory}
+use Rattle.flat_memory.specs.Memory.{Memory, with_number}
 use Rattle.pe_image.specs.Image.{Section, Image, is_executable, is_writable, is_readable}
+use Rattle.pe_image.specs.Imports.{Import, imports_of}
+use Rattle.eh_tables.specs.Answer.{Table}
+use Rattle.eh_tables.specs.Tables.{tables}
 use Rattle.x64_machine.specs.declared.cpu.Cpu.{Cpu}
+use Rattle.x64_machine.specs.declared.service.Service.{Service}
+use Rattle.x64_machine.specs.declared.service.Service.TheVariants as services
+use Rattle.x64_machine.specs.Services.{address_of}
 use Rattle.x64_machine.specs.Effect.{State}
 use Rattle.host_model.specs.declared.refusal.LoadErr.{LoadErr}
-use Rattle.host_model.specs.declared.refusal.LoadErr.TheVariants.{Place, Entry}
+use Rattle.host_model.specs.declared.refusal.LoadErr.TheVariants as refusals
 
 -- whole pages
 abbrev pub pages : ℕ → ℕ
@@ -59,11 +66,38 @@ abbrev pub byte_in : ℕ → Option Section → ℕ → ℕ
 byte_in base (Some s) a = slice_index s.raw (a - begins_at base s)
 byte_in base None a = 0
 
+-- ---- the slots of imports
+
+-- what an image can import, by its name
+abbrev pub service_named : List ℕ → Option Service
+service_named name =
+    if bytes_eq name (codes "RaiseException") then Some services.RaiseException
+    else (if bytes_eq name (codes "__C_specific_handler") then Some services.CSpecificHandler
+    else (if bytes_eq name (codes "_local_unwind") then Some services.LocalUnwind
+    else (if bytes_eq name (codes "protect") then Some services.Protect
+    else (if bytes_eq name (codes "put") then Some services.Put
+    else None))))
+
+-- the address of a service stands in eight bytes, the lowest first
+abbrev pub with_address : (ℕ → ℕ) → ℕ → Option Service → ℕ → ℕ
+with_address byte at None = byte
+with_address byte at (Some s) = with_number byte 8 at (address_of s)
+
+-- each slot holds the address of what it imports; a later one lies over those before it
+abbrev pub with_slots : ℕ → (ℕ → ℕ) → List Import → ℕ → ℕ
+with_slots base byte [] = byte
+with_slots base byte (i ∷ is) = with_slots base (with_address byte (base + i.slot) (service_named i.name)) is
+
+-- ---- the whole
+
+abbrev pub mode_at : Image → ℕ → Mode
+mode_at image a = mode_in (section_of image.base a image.sections) a
+
+abbrev pub stored_byte : Image → ℕ → ℕ
+stored_byte image a = byte_in image.base (section_of image.base a image.sections) a
+
 unfoldable pub mapped : Image → Memory
-mapped image = record {
-  mode = λ a. mode_in (section_of image.base a image.sections) a;
-  byte = λ a. byte_in image.base (section_of image.base a image.sections) a;
-}
+mapped image = record { mode = mode_at image; byte = with_slots image.base (stored_byte image) (imports_of image) }
 
 -- RIP is the entry point, RCX the argument; RSP points to a return address of 0 near the stack's top
 abbrev pub first_cpu : ℕ → ℤ → Cpu
@@ -78,9 +112,41 @@ start image arg = record { cpu = first_cpu (image.base + image.entry) arg; memor
 
 -- ---- what isn't loaded
 
+-- a reason, where a test fails
+abbrev pub unless : Bool → LoadErr → Option LoadErr
+unless true e = None
+unless false e = Some e
+
+abbrev pub first_of : List (Option LoadErr) → Option LoadErr
+first_of [] = None
+first_of (None ∷ others) = first_of others
+first_of (Some e ∷ others) = Some e
+
+-- the function table isn't read whole
+abbrev pub of_tables : {A : Type 0} → Table A → Option LoadErr
+of_tables (Ok entries) = None
+of_tables (Err e) = Some (refusals.Table e)
+
+abbrev pub table_refusal : Image → Option LoadErr
+table_refusal image = of_tables (tables image)
+
 -- the base is aligned and above 4 GiB, the image at most 256 MiB and its end at most 2^47
 abbrev pub has_place : Image → Bool
 has_place image = (image.base % 65536 == 0) && nat_le 0x100000000 image.base && nat_le image.size 0x10000000 && nat_le (image.base + image.size) (2 ^ 47)
+
+abbrev pub place_refusal : Image → Option LoadErr
+place_refusal image = unless (has_place image) (refusals.Place image.base)
+
+-- the first import that names none of the services
+abbrev pub is_none : {A : Type 0} → Option A → Bool
+is_none None = true
+is_none (Some x) = false
+
+abbrev pub first_unknown : List Import → Option ℕ
+first_unknown imports = position (λ i. is_none (service_named i.name)) imports
+
+abbrev pub import_refusal : Image → Option LoadErr
+import_refusal image = option_map refusals.Import (first_unknown (imports_of image))
 
 abbrev pub is_code : Option Section → Bool
 is_code None = false
@@ -89,8 +155,9 @@ is_code (Some s) = is_executable s
 abbrev pub has_entry : Image → Bool
 has_entry image = is_code (section_of 0 image.entry image.sections)
 
+abbrev pub entry_refusal : Image → Option LoadErr
+entry_refusal image = unless (has_entry image) (refusals.Entry image.entry)
+
 -- the first reason that an image isn't loaded, if there is one
 abbrev pub load_refusal : Image → Option LoadErr
-load_refusal image =
-    if has_place image then (if has_entry image then None else Some (Entry image.entry))
-    else Some (Place image.base)
+load_refusal image = first_of (table_refusal image ∷ place_refusal image ∷ import_refusal image ∷ entry_refusal image ∷ [])

@@ -2,5 +2,6 @@
 //! and of whole runs, with worked images computed on them.
 #![tactic(auto)]
 
+pub mod binding;
 pub mod refusal;
 pub mod worked;

@@ -1,11 +1,10 @@
 -- Runs, turn by turn.
 use Rattle.std.proofs.Common.{◌≡◌, ℕ, zero, suc, ◌+◌, ◌++◌, List, [], Option, Some, None, refl, sym, ap, ◌∙◌, arith}
-use Rattle.std.proofs.lemmas.List.{append-nil}
 use Rattle.seh_num.specs.declared.event.Event.{Event}
 use Rattle.seh_num.specs.declared.end.RunEnd.{RunEnd}
 use Rattle.x64_machine.specs.Effect.{State}
-use Rattle.host_model.specs.HostStep.{Host, next, next_of, shown_next, shown_of, turn}
-use Rattle.host_model.specs.Machine.{Shown, run, or_turn}
+use Rattle.host_model.specs.HostStep.{Host, next, next_of, shown_next, shown_of}
+use Rattle.host_model.specs.Machine.{run, or_turn}
 use Rattle.std.specs.Option.{unwrap_or}
 use Rattle.seh_num.specs.declared.end.RunEnd.TheVariants.{OutOfTurns}
 use Rattle.seh_host.specs.declared.host.Turn.TheVariants.{Made, Ended}

@@ -1,5 +1,5 @@
 -- What the code's host stands for.
-use Rattle.std.specs.Prelude.{◌≡◌, Option, Some, None}
+use Rattle.std.specs.Prelude.{◌≡◌, Some}
 use Rattle.x64_memory.specs.MapSpaces.{memory_of}
 use Rattle.pe_image.specs.Image.{Image}
 use Rattle.host_model.specs.declared.refusal.LoadErr.{LoadErr}

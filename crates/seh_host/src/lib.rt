@@ -1,6 +1,7 @@
 //! The host: it loads an image, and runs it turn by turn.
 #![tactic(auto)]
 
+mod binding;
 pub mod host;
 pub mod loading;
 pub mod mapping;
@@ -8,5 +9,6 @@ pub mod run;
 #[cfg(test)]
 mod tests;
 
+pub use eh_tables::TableErr;
 pub use host_model::refusal::LoadErr;
 pub use seh_num::end::RunEnd;

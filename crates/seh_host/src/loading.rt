@@ -8,8 +8,10 @@ ghost use Rattle.x64_memory.specs.MapSpaces.{memory_of};
 ghost use Rattle.seh_host.specs.Hosts.{host_of, IsLoadRefusal};
 
 use crate::LoadErr;
+use crate::binding::{bind_all, first_unknown};
 use crate::host::Host;
 use crate::mapping::{has_entry, has_place, regions};
+use eh_tables::Tables;
 use pe_image::ImageView;
 use seh_num::extension::wrap;
 use seh_num::width::Width;
@@ -36,7 +38,7 @@ fn first_cpu(entry: u64, arg: i64) -> Cpu
     }
 }
 
-/// Memory in which an image stands, with the stack and the arena.
+/// Memory in which an image stands with its imports bound, with the stack and the arena.
 fn mapped(alloc: Global, image: &ImageView<'_>) -> Result<MapSpace, AllocError>
     requires { has_place image.now ≡ true }
     ensures { IfOk result (λ s. memory_of s ≡ model.mapped image.now) }
@@ -47,15 +49,41 @@ fn mapped(alloc: Global, image: &ImageView<'_>) -> Result<MapSpace, AllocError>
     for section in sections {
         space.fill(image.base() + section.address(), section.raw());
     }
+    bind_all(&mut space, image);
     Ok(space)
 }
 
-/// Loads an image: its sections, a stack and the arena are mapped, and the run stands at the entry
+/// The first reason that an image isn't loaded.
+fn refusal(image: &ImageView<'_>) -> Option<LoadErr>
+    ensures first { result ≡ model.load_refusal image.now }
+    ensures place { result ≡ None → has_place image.now ≡ true }
+{
+    if let Err(error) = Tables::read(image) {
+        return Some(LoadErr::Table(error));
+    }
+    if !has_place(image) {
+        return Some(LoadErr::Place { base: image.base() });
+    }
+    if let Some(index) = first_unknown(image) {
+        return Some(LoadErr::Import {
+            index: index as u64,
+        });
+    }
+    if !has_entry(image) {
+        return Some(LoadErr::Entry { rva: image.entry() });
+    }
+    None
+}
+
+/// Loads an image: its sections, a stack and the arena are mapped, the slots of its imports hold the
+/// addresses of the host's services, a later one over an earlier, and the run stands at the entry
 /// point with the argument in RCX.
 ///
-/// `Place` exactly where the base isn't a multiple of 65,536, is below 4 GiB, the image's size is
-/// above 256 MiB or its end is above 2^47; else `Entry` exactly where the entry point's page isn't
-/// executable.
+/// It is refused for the first reason that holds, in this order: `Table` where the function table
+/// isn't read whole; `Place` where the base isn't a multiple of 65,536, is below 4 GiB, the image's
+/// size is above 256 MiB or its end is above 2^47; `Import` where an import names none of
+/// `RaiseException`, `__C_specific_handler`, `_local_unwind`, `protect` and `put`, whatever its
+/// library is called; `Entry` where the entry point's page isn't executable.
 pub fn load<'image, 'bytes>(
     alloc: Global,
     image: &'image ImageView<'bytes>,
@@ -65,11 +93,8 @@ pub fn load<'image, 'bytes>(
     ensures accepted { IfOk result (λ h. model.load_refusal image.now ≡ None) }
     ensures refused { IfErr result (λ e. IsLoadRefusal image.now e) }
 {
-    if !has_place(image) {
-        return Err(LoadErr::Place { base: image.base() });
-    }
-    if !has_entry(image) {
-        return Err(LoadErr::Entry { rva: image.entry() });
+    if let Some(refusal) = refusal(image) {
+        return Err(refusal);
     }
     match mapped(alloc, image) {
         Err(_) => Err(LoadErr::Memory),

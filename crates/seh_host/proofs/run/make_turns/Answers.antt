@@ -1,5 +1,4 @@
-use Rattle.std.proofs.Common.{◌≡◌, ◌-◌, ◌+◌, ◌++◌, List, [], sym, ap, ◌∙◌, arith, subst, append-nil}
-use Rattle.seh_num.specs.declared.event.Event.{Event}
+use Rattle.std.proofs.Common.{◌≡◌, ◌-◌, ◌+◌, ◌++◌, [], sym, ap, ◌∙◌, arith, subst, append-nil}
 use Rattle.host_model.specs.Machine.{Shown, run}
 use Rattle.host_model.specs.HostStep.{Host, shown_next}
 use Rattle.seh_host.specs.Hosts.{host_of}

@@ -1,4 +1,4 @@
-use Rattle.std.proofs.Common.{◌≡◌, ◌++◌, sym, ap, ◌∙◌, rules, []}
+use Rattle.std.proofs.Common.{◌++◌, ap, ◌∙◌, rules, []}
 use Rattle.seh_io.specs.Text.{lines, end_line}
 use Rattle.seh_io.proofs.Writers.{ran_whole, ran_part, same_grew, same_part}
 use Rattle.host_model.specs.Machine.{run}
