@@ -33,7 +33,7 @@ fn spelling(text: &[u8], name: Name) -> &[u8]
 }
 
 /// Whether a name is this word.
-fn is_word(text: &[u8], name: Name, word: &[u8]) -> bool
+pub fn is_word(text: &[u8], name: Name, word: &[u8]) -> bool
     ensures { result ≡ is_word text.now name word.now }
 {
     spelling(text, name) == word

@@ -253,24 +253,24 @@ kind_typed (kinds.Integer value type) h = absurd (omega arith)
 kind_typed (kinds.Character value) h = absurd (omega arith)
 kind_typed (kinds.Sign s) h = sign_typed s h
 
-low_begins : (ts : List Token) → front ts ≤ 5 → begins ts ≡ 0
+pub low_begins : (ts : List Token) → front ts ≤ 5 → begins ts ≡ 0
 low_begins [] h = absurd (omega arith)
 low_begins (t ∷ ts) h = kind_low t.kind h
 
-typed_begins : (ts : List Token) → front ts ≡ 7 → begins ts ≡ 1
+pub typed_begins : (ts : List Token) → front ts ≡ 7 → begins ts ≡ 1
 typed_begins [] h = absurd (omega arith)
 typed_begins (t ∷ ts) h = kind_typed t.kind h
 
 -- ---- expressions between signs
 
 -- an expression up to a sign that ends it
-up_to : (text : List ℕ) (s : Sign) (e f : Expression) (ts us rest end r q : List Token) → ts ≡ us → 16 < sign_follows s → Derives text 16 e ts rest → Derives text 16 f us end → HasSign s rest r → HasSign s end q → (e ≡ f) × (r ≡ q)
+pub up_to : (text : List ℕ) (s : Sign) (e f : Expression) (ts us rest end r q : List Token) → ts ≡ us → 16 < sign_follows s → Derives text 16 e ts rest → Derives text 16 f us end → HasSign s rest r → HasSign s end q → (e ≡ f) × (r ≡ q)
 up_to text s e f ts us rest end r q p l h g x y =
     let k : Derives text 16 f ts end = subst (λ (z : List Token). Derives text 16 f z end) (sym p) g in
     let a = one_expression text 16 e f ts rest end h k (has_stops s rest r 16 x l) (has_stops s end q 16 y l) in
     (a.0, has_same s rest end r q a.1 x y)
 
-optional : (text : List ℕ) (s : Sign) (e f : Option Expression) (ts us rest end r q : List Token) → ts ≡ us → 16 < sign_follows s → sign_class s ≡ 6 → IsOptional text e ts rest → IsOptional text f us end → HasSign s rest r → HasSign s end q → (e ≡ f) × (r ≡ q)
+pub optional : (text : List ℕ) (s : Sign) (e f : Option Expression) (ts us rest end r q : List Token) → ts ≡ us → 16 < sign_follows s → sign_class s ≡ 6 → IsOptional text e ts rest → IsOptional text f us end → HasSign s rest r → HasSign s end q → (e ≡ f) × (r ≡ q)
 optional text s None None ts us rest end r q p l c h g x y = (refl, has_same s rest end r q (sym h ∙ p ∙ g) x y)
 optional text s None (Some f) ts us rest end r q p l c h g x y =
     let a = has_front s rest r x in let b = expression_front text f us end g.spells in let d = ap front h in let m = ap front p in absurd (omega arith)
@@ -281,7 +281,7 @@ optional text s (Some e) (Some f) ts us rest end r q p l c h g x y = let a = up_
     some : Expression → Option Expression
     some z = Some z
 
-condition : (text : List ℕ) (e f : Expression) (ts us rest end : List Token) → ts ≡ us → IsCondition text e ts rest → IsCondition text f us end → (e ≡ f) × (rest ≡ end)
+pub condition : (text : List ℕ) (e f : Expression) (ts us rest end : List Token) → ts ≡ us → IsCondition text e ts rest → IsCondition text f us end → (e ≡ f) × (rest ≡ end)
 condition text e f ts us rest end p h g =
     let a = has_same signs.OpenParenthesis ts us h.0 g.0 p h.2 g.2 in
     up_to text signs.CloseParenthesis e f h.0 g.0 h.1 g.1 rest end a (omega arith) h.3 g.3 h.4 g.4
@@ -291,7 +291,7 @@ condition text e f ts us rest end p h g =
 abbrev present : Expression → Option Expression
 present e = Some e
 
-initialiser : (text : List ℕ) (e f : Option Expression) (ts us rest end : List Token) → ts ≡ us → Stops 15 rest → Stops 15 end → IsInitialiser text e ts rest → IsInitialiser text f us end → (e ≡ f) × (rest ≡ end)
+pub initialiser : (text : List ℕ) (e f : Option Expression) (ts us rest end : List Token) → ts ≡ us → Stops 15 rest → Stops 15 end → IsInitialiser text e ts rest → IsInitialiser text f us end → (e ≡ f) × (rest ≡ end)
 initialiser text None None ts us rest end p s z h g = (refl, sym h ∙ p ∙ g)
 initialiser text None (Some f) ts us rest end p s z h g = let a = follows_sign signs.Assign g.1.0 us g.0 15 g.1.1 refl in let b = ap follows h in let c = ap follows p in absurd (omega arith)
 initialiser text (Some e) None ts us rest end p s z h g = let a = follows_sign signs.Assign h.1.0 ts h.0 15 h.1.1 refl in let b = ap follows g in let c = ap follows p in absurd (omega arith)
@@ -312,21 +312,21 @@ name_type name ts rest h = λ e. let q : front ts ≡ 0 = ap front h in absurd (
 abbrev make : ℕ → Name → Option Expression → Local
 make n name e = record { pointers = n; name = name; initialiser = e }
 
-local : (text : List ℕ) (l m : Local) (ts us rest end : List Token) → ts ≡ us → Stops 15 rest → Stops 15 end → IsLocal text l ts rest → IsLocal text m us end → (l ≡ m) × (rest ≡ end)
+pub local : (text : List ℕ) (l m : Local) (ts us rest end : List Token) → ts ≡ us → Stops 15 rest → Stops 15 end → IsLocal text l ts rest → IsLocal text m us end → (l ≡ m) × (rest ≡ end)
 local text l m ts us rest end p s z h g =
     let a = stars_once l.pointers m.pointers ts us h.0 g.0 p (name_star l.name h.0 h.1 h.3) (name_star m.name g.0 g.1 g.3) h.2 g.2 in
     let b = name_same l.name m.name h.0 g.0 h.1 g.1 a.1 h.3 g.3 in
     let c = initialiser text l.initialiser m.initialiser h.1 g.1 rest end b.1 s z h.4 g.4 in
     (ap (λ (n : ℕ). make n l.name l.initialiser) a.0 ∙ ap (λ (n : Name). make m.pointers n l.initialiser) b.0 ∙ ap (λ (e : Option Expression). make m.pointers m.name e) c.0, c.1)
 
-locals_stop : (text : List ℕ) (ls : List Local) (ts rest : List Token) → AreMoreLocals text ls ts rest → Stops 15 ts
+pub locals_stop : (text : List ℕ) (ls : List Local) (ts rest : List Token) → AreMoreLocals text ls ts rest → Stops 15 ts
 locals_stop text [] ts rest h = has_stops signs.Semicolon ts rest 15 h (omega arith)
 locals_stop text (l ∷ ls) ts rest h = has_stops signs.Comma ts h.0 15 h.2 (omega arith)
 
 other_sign : (s z : Sign) (ts us rest end : List Token) → ts ≡ us → HasSign s ts rest → HasSign z us end → s ≡ z
 other_sign s z ts us rest end p h g = (sign_same s z h.0 g.0 ts us rest end p h.1 g.1).0
 
-more_locals : (text : List ℕ) (ls ms : List Local) (ts us rest end : List Token) → ts ≡ us → AreMoreLocals text ls ts rest → AreMoreLocals text ms us end → (ls ≡ ms) × (rest ≡ end)
+pub more_locals : (text : List ℕ) (ls ms : List Local) (ts us rest end : List Token) → ts ≡ us → AreMoreLocals text ls ts rest → AreMoreLocals text ms us end → (ls ≡ ms) × (rest ≡ end)
 more_locals text [] [] ts us rest end p h g = (refl, has_same signs.Semicolon ts us rest end p h g)
 more_locals text [] (m ∷ ms) ts us rest end p h g = let e : signs.Semicolon ≡ signs.Comma = other_sign signs.Semicolon signs.Comma ts us rest g.0 p h g.2 in absurd cc
 more_locals text (l ∷ ls) [] ts us rest end p h g = let e : signs.Comma ≡ signs.Semicolon = other_sign signs.Comma signs.Semicolon ts us h.0 end p h.2 g in absurd cc
@@ -336,7 +336,7 @@ more_locals text (l ∷ ls) (m ∷ ms) ts us rest end p h g =
     let c = more_locals text ls ms h.1 g.1 rest end b.1 h.4 g.4 in
     (ap (λ (x : Local). x ∷ ls) b.0 ∙ ap (λ (x : List Local). m ∷ x) c.0, c.1)
 
-locals : (text : List ℕ) (ls ms : List Local) (ts us rest end : List Token) → ts ≡ us → AreLocals text ls ts rest → AreLocals text ms us end → (ls ≡ ms) × (rest ≡ end)
+pub locals : (text : List ℕ) (ls ms : List Local) (ts us rest end : List Token) → ts ≡ us → AreLocals text ls ts rest → AreLocals text ms us end → (ls ≡ ms) × (rest ≡ end)
 locals text [] ms ts us rest end p h g = absurd h
 locals text (l ∷ ls) [] ts us rest end p h g = absurd g
 locals text (l ∷ ls) (m ∷ ms) ts us rest end p h g =
@@ -344,24 +344,24 @@ locals text (l ∷ ls) (m ∷ ms) ts us rest end p h g =
     let c = more_locals text ls ms h.0 g.0 rest end b.1 h.2 g.2 in
     (ap (λ (x : Local). x ∷ ls) b.0 ∙ ap (λ (x : List Local). m ∷ x) c.0, c.1)
 
-local_type : (text : List ℕ) (l : Local) (ts rest : List Token) → IsLocal text l ts rest → NoType ts
+pub local_type : (text : List ℕ) (l : Local) (ts rest : List Token) → IsLocal text l ts rest → NoType ts
 local_type text l ts rest h = stars_front l.pointers ts h.0 (name_type l.name h.0 h.1 h.3) h.2
 
-locals_type : (text : List ℕ) (ls : List Local) (ts rest : List Token) → AreLocals text ls ts rest → NoType ts
+pub locals_type : (text : List ℕ) (ls : List Local) (ts rest : List Token) → AreLocals text ls ts rest → NoType ts
 locals_type text [] ts rest h = absurd h
 locals_type text (l ∷ ls) ts rest h = local_type text l ts h.0 h.1
 
-declaration : (text : List ℕ) (b d : Base) (ls ms : List Local) (ts us rest end : List Token) → ts ≡ us → IsDeclaration text b ls ts rest → IsDeclaration text d ms us end → (b ≡ d) × (ls ≡ ms) × (rest ≡ end)
+pub declaration : (text : List ℕ) (b d : Base) (ls ms : List Local) (ts us rest end : List Token) → ts ≡ us → IsDeclaration text b ls ts rest → IsDeclaration text d ms us end → (b ≡ d) × (ls ≡ ms) × (rest ≡ end)
 declaration text b d ls ms ts us rest end p h g =
     let x = base_once b d ts us h.0 g.0 p (locals_type text ls h.0 rest h.2) (locals_type text ms g.0 end g.2) h.1 g.1 in
     let y = locals text ls ms h.0 g.0 rest end x.1 h.2 g.2 in
     (x.0, y.0, y.1)
 
-optional_front : (text : List ℕ) (s : Sign) (e : Option Expression) (ts rest r : List Token) → sign_class s ≡ 6 → IsOptional text e ts rest → HasSign s rest r → front ts ≤ 6
+pub optional_front : (text : List ℕ) (s : Sign) (e : Option Expression) (ts rest r : List Token) → sign_class s ≡ 6 → IsOptional text e ts rest → HasSign s rest r → front ts ≤ 6
 optional_front text s None ts rest r c h x = let a = has_front s rest r x in let b = ap front h in omega arith
 optional_front text s (Some e) ts rest r c h x = let a = expression_front text e ts rest h.spells in omega arith
 
-first : (text : List ℕ) (f g : First) (ts us rest end : List Token) → ts ≡ us → IsFirst text f ts rest → IsFirst text g us end → (f ≡ g) × (rest ≡ end)
+pub first : (text : List ℕ) (f g : First) (ts us rest end : List Token) → ts ≡ us → IsFirst text f ts rest → IsFirst text g us end → (f ≡ g) × (rest ≡ end)
 first text (Declaring b ls) (Declaring d ms) ts us rest end p h g =
     let a = declaration text b d ls ms ts us rest end p h g in
     (ap (λ (x : Base). Declaring x ls) a.0 ∙ ap (λ (x : List Local). Declaring d x) a.1, a.2)
@@ -375,7 +375,7 @@ first text (Evaluating e) (Evaluating f) ts us rest end p h g =
 
 -- ---- first tokens of statements
 
-abbrev item_class : Statement → ℕ
+abbrev pub item_class : Statement → ℕ
 item_class (Declare base ls) = 1
 item_class (Block ss) = 2
 item_class (Evaluate e) = 0
@@ -411,7 +411,7 @@ item_begins text (Leave at) ts rest h = ap begins h.1.1
 item_begins text (TryExcept body at f handler) ts rest h = ap begins h.6.1.1
 item_begins text (TryFinally body at last) ts rest h = ap begins h.5.1.1
 
-class_low : (s : Statement) → item_class s ≤ 11
+pub class_low : (s : Statement) → item_class s ≤ 11
 class_low (Declare base ls) = omega arith
 class_low (Block ss) = omega arith
 class_low (Evaluate e) = omega arith
@@ -427,40 +427,40 @@ class_low (Leave at) = omega arith
 class_low (TryExcept body at f handler) = omega arith
 class_low (TryFinally body at last) = omega arith
 
-no_else : (ts : List Token) → begins ts ≤ 11 → NoElse ts
+pub no_else : (ts : List Token) → begins ts ≤ 11 → NoElse ts
 no_else ts h = λ end g. let e : begins ts ≡ 20 = ap begins g.1.1 in absurd (omega arith)
 
 -- no `else` stands behind what is in a block
-items_else : (text : List ℕ) (ss : Statements) (ts rest : List Token) → AreItems text ss ts rest → NoElse ts
+pub items_else : (text : List ℕ) (ss : Statements) (ts rest : List Token) → AreItems text ss ts rest → NoElse ts
 items_else text Empty ts rest h = λ end g.
     let q = kind_same (kinds.Sign signs.CloseBrace) (kinds.Keyword keywords.Else) h.0 g.0 ts ts rest end refl h.1 g.1 in
     let e : kinds.Sign signs.CloseBrace ≡ kinds.Keyword keywords.Else = q.0 in cc
 items_else text (Then s ss) ts rest h = no_else ts (let a = item_begins text s ts h.0 h.1 in let b = class_low s in omega arith)
 
-brace_begins : (ts rest : List Token) → HasSign signs.CloseBrace ts rest → begins ts ≡ 20
+pub brace_begins : (ts rest : List Token) → HasSign signs.CloseBrace ts rest → begins ts ≡ 20
 brace_begins ts rest h = ap begins h.1.1
 
-place : (k : Keyword) (at to : ℕ) (ts us rest end : List Token) → ts ≡ us → IsKeyword k at ts rest → IsKeyword k to us end → (at ≡ to) × (rest ≡ end)
+pub place : (k : Keyword) (at to : ℕ) (ts us rest end : List Token) → ts ≡ us → IsKeyword k at ts rest → IsKeyword k to us end → (at ≡ to) × (rest ≡ end)
 place k at to ts us rest end p h g = let a = kind_same (kinds.Keyword k) (kinds.Keyword k) at to ts us rest end p h g in (a.1, a.2)
 
-word : (k : Keyword) (ts us rest end : List Token) → ts ≡ us → HasKeyword k ts rest → HasKeyword k us end → rest ≡ end
+pub word : (k : Keyword) (ts us rest end : List Token) → ts ≡ us → HasKeyword k ts rest → HasKeyword k us end → rest ≡ end
 word k ts us rest end p h g = (keyword_same k k ts us rest end p h g).1
 
-absent : (s : Statement) (ts : List Token) → IsFalse (dangles s) → Closed s ts
+pub absent : (s : Statement) (ts : List Token) → IsFalse (dangles s) → Closed s ts
 absent s ts f = λ t. absurd (both (dangles s) t f)
   where
     both : (b : Bool) → IsTrue b → IsFalse b → ⊥
     both true t f = cc
     both false t f = cc
 
-while_else : (at : ℕ) (ts rest : List Token) → IsKeyword keywords.While at ts rest → NoElse ts
+pub while_else : (at : ℕ) (ts rest : List Token) → IsKeyword keywords.While at ts rest → NoElse ts
 while_else at ts rest h = no_else ts (let a : begins ts ≡ 4 = ap begins h.1 in omega arith)
 
-else_at : (ts us rest : List Token) → ts ≡ us → HasKeyword keywords.Else us rest → HasKeyword keywords.Else ts rest
+pub else_at : (ts us rest : List Token) → ts ≡ us → HasKeyword keywords.Else us rest → HasKeyword keywords.Else ts rest
 else_at ts us rest p h = subst (λ (x : List Token). HasKeyword keywords.Else x rest) (sym p) h
 
 -- statements that begin otherwise
-apart : (text : List ℕ) (s z : Statement) (ts us rest end : List Token) → ts ≡ us → IsItem text s ts rest → IsItem text z us end → (item_class s ≡ item_class z → ⊥) → ⊥
+pub apart : (text : List ℕ) (s z : Statement) (ts us rest end : List Token) → ts ≡ us → IsItem text s ts rest → IsItem text z us end → (item_class s ≡ item_class z → ⊥) → ⊥
 apart text s z ts us rest end p h g n = n (sym (item_begins text s ts rest h) ∙ ap begins p ∙ item_begins text z us end g)
 
 -- ---- statements

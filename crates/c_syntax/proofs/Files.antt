@@ -29,11 +29,11 @@ use Rattle.c_syntax.proofs.Blocks.{name_star, name_type, same_items}
 
 -- ---- constants
 
-literal_class : (literal : Literal) → kind_class (literal_kind literal) ≡ 2
+pub literal_class : (literal : Literal) → kind_class (literal_kind literal) ≡ 2
 literal_class (literals.Integer value type) = refl
 literal_class (literals.Character value) = refl
 
-literal_front : (negative : Bool) (at : ℕ) (literal : Literal) (ts rest : List Token) → IsLiteral negative at literal ts rest → front ts ≤ 5
+pub literal_front : (negative : Bool) (at : ℕ) (literal : Literal) (ts rest : List Token) → IsLiteral negative at literal ts rest → front ts ≤ 5
 literal_front false at literal ts rest h = let a = ap front h.1 in let b = literal_class literal in omega arith
 literal_front true at literal ts rest h = let a = ap front h.2.1 in omega arith
 
@@ -51,12 +51,12 @@ literal_once true true at to a b ts us rest end p h g =
 abbrev made : ℕ → Bool → Literal → Constant
 made at negative literal = record { at = at; negative = negative; literal = literal }
 
-constant_once : (c d : Constant) (ts us rest end : List Token) → ts ≡ us → IsConstant c ts rest → IsConstant d us end → (c ≡ d) × (rest ≡ end)
+pub constant_once : (c d : Constant) (ts us rest end : List Token) → ts ≡ us → IsConstant c ts rest → IsConstant d us end → (c ≡ d) × (rest ≡ end)
 constant_once c d ts us rest end p h g =
     let q = literal_once c.negative d.negative c.at d.at c.literal d.literal ts us rest end p h g in
     (ap (λ (x : ℕ). made x c.negative c.literal) q.1 ∙ ap (λ (x : Bool). made d.at x c.literal) q.0 ∙ ap (λ (x : Literal). made d.at d.negative x) q.2, q.3)
 
-other_sign : (s z : Sign) (ts us rest end : List Token) → ts ≡ us → HasSign s ts rest → HasSign z us end → s ≡ z
+pub other_sign : (s z : Sign) (ts us rest end : List Token) → ts ≡ us → HasSign s ts rest → HasSign z us end → s ≡ z
 other_sign s z ts us rest end p h g = (sign_same s z h.0 g.0 ts us rest end p h.1 g.1).0
 
 more_constants : (cs ds : List Constant) (ts us rest end : List Token) → ts ≡ us → AreMoreConstants cs ts rest → AreMoreConstants ds us end → (cs ≡ ds) × (rest ≡ end)
@@ -69,7 +69,7 @@ more_constants (c ∷ cs) (d ∷ ds) ts us rest end p h g =
     let e = more_constants cs ds h.1 g.1 rest end b.1 h.4 g.4 in
     (ap (λ (x : Constant). x ∷ cs) b.0 ∙ ap (λ (x : List Constant). d ∷ x) e.0, e.1)
 
-constants : (cs ds : List Constant) (ts us rest end : List Token) → ts ≡ us → AreConstants cs ts rest → AreConstants ds us end → (cs ≡ ds) × (rest ≡ end)
+pub constants : (cs ds : List Constant) (ts us rest end : List Token) → ts ≡ us → AreConstants cs ts rest → AreConstants ds us end → (cs ≡ ds) × (rest ≡ end)
 constants [] ds ts us rest end p h g = absurd h
 constants (c ∷ cs) [] ts us rest end p h g = absurd g
 constants (c ∷ cs) (d ∷ ds) ts us rest end p h g =
@@ -79,16 +79,16 @@ constants (c ∷ cs) (d ∷ ds) ts us rest end p h g =
 
 -- ---- globals
 
-assign_not : (ts us rest end : List Token) → ts ≡ us → ts ≡ rest → Stops 15 rest → HasSign signs.Assign us end → ⊥
+pub assign_not : (ts us rest end : List Token) → ts ≡ us → ts ≡ rest → Stops 15 rest → HasSign signs.Assign us end → ⊥
 assign_not ts us rest end p q s h = let a = follows_sign signs.Assign h.0 us end 15 h.1 refl in let b = ap follows q in let c = ap follows p in absurd (omega arith)
 
-brace_not : (c : Constant) (at : ℕ) (ts us rest end : List Token) → ts ≡ us → IsConstant c ts rest → IsSign signs.OpenBrace at us end → ⊥
+pub brace_not : (c : Constant) (at : ℕ) (ts us rest end : List Token) → ts ≡ us → IsConstant c ts rest → IsSign signs.OpenBrace at us end → ⊥
 brace_not c at ts us rest end p h g = let a = literal_front c.negative c.at c.literal ts rest h in let b = ap front g.1 in let d = ap front p in absurd (omega arith)
 
 abbrev begun : Initialiser → Option Initialiser
 begun i = Some i
 
-initialiser_once : (i j : Option Initialiser) (ts us rest end : List Token) → ts ≡ us → Stops 15 rest → Stops 15 end → IsInitialiser i ts rest → IsInitialiser j us end → (i ≡ j) × (rest ≡ end)
+pub initialiser_once : (i j : Option Initialiser) (ts us rest end : List Token) → ts ≡ us → Stops 15 rest → Stops 15 end → IsInitialiser i ts rest → IsInitialiser j us end → (i ≡ j) × (rest ≡ end)
 initialiser_once None None ts us rest end p s z h g = (refl, sym h ∙ p ∙ g)
 initialiser_once None (Some (Single d)) ts us rest end p s z h g = absurd (assign_not ts us rest g.0 p h s g.1)
 initialiser_once None (Some (Several to ds)) ts us rest end p s z h g = absurd (assign_not ts us rest g.0 p h s g.2)
@@ -106,7 +106,7 @@ initialiser_once (Some (Several at cs)) (Some (Several to ds)) ts us rest end p 
     let c = constants cs ds h.1 g.1 rest end b.2 h.4 g.4 in
     (ap (λ (x : ℕ). begun (Several x cs)) b.1 ∙ ap (λ (x : List Constant). begun (Several to x)) c.0, c.1)
 
-initialiser_stops : (i : Option Initialiser) (ts rest : List Token) → Stops 15 rest → IsInitialiser i ts rest → Stops 1 ts
+pub initialiser_stops : (i : Option Initialiser) (ts rest : List Token) → Stops 15 rest → IsInitialiser i ts rest → Stops 1 ts
 initialiser_stops None ts rest s h = let a = ap follows h in omega arith
 initialiser_stops (Some (Single c)) ts rest s h = has_stops signs.Assign ts h.0 1 h.1 (omega arith)
 initialiser_stops (Some (Several at cs)) ts rest s h = has_stops signs.Assign ts h.0 1 h.2 (omega arith)
@@ -117,7 +117,7 @@ sized at value = Some (record { at = at; value = value })
 bracket_not : (ts us rest end : List Token) → ts ≡ us → ts ≡ rest → Stops 1 rest → HasSign signs.OpenBracket us end → ⊥
 bracket_not ts us rest end p q s h = let a = follows_sign signs.OpenBracket h.0 us end 1 h.1 refl in let b = ap follows q in let c = ap follows p in absurd (omega arith)
 
-length_once : (i j : Option Length) (ts us rest end : List Token) → ts ≡ us → Stops 1 rest → Stops 1 end → IsLength i ts rest → IsLength j us end → (i ≡ j) × (rest ≡ end)
+pub length_once : (i j : Option Length) (ts us rest end : List Token) → ts ≡ us → Stops 1 rest → Stops 1 end → IsLength i ts rest → IsLength j us end → (i ≡ j) × (rest ≡ end)
 length_once None None ts us rest end p s z h g = (refl, sym h ∙ p ∙ g)
 length_once None (Some m) ts us rest end p s z h g = absurd (bracket_not ts us rest g.0 p h s g.2)
 length_once (Some n) None ts us rest end p s z h g = absurd (bracket_not us ts end h.0 (sym p) g z h.2)
@@ -126,14 +126,14 @@ length_once (Some n) (Some m) ts us rest end p s z h g =
     let b = integer_same n.value m.value n.at m.at h.0 g.0 h.1 g.1 a h.3 g.3 in
     (ap (λ (x : ℕ). sized n.at x) b.0 ∙ ap (λ (x : ℕ). sized x m.value) b.1, has_same signs.CloseBracket h.1 g.1 rest end b.2 h.4 g.4)
 
-length_stops : (i : Option Length) (ts rest : List Token) → Stops 1 rest → IsLength i ts rest → Stops 0 ts
+pub length_stops : (i : Option Length) (ts rest : List Token) → Stops 1 rest → IsLength i ts rest → Stops 0 ts
 length_stops None ts rest s h = let a = ap follows h in omega arith
 length_stops (Some n) ts rest s h = has_stops signs.OpenBracket ts h.0 0 h.2 (omega arith)
 
 abbrev make : ℕ → Name → Option Length → Option Initialiser → Global
 make n name l i = record { pointers = n; name = name; length = l; initialiser = i }
 
-global_once : (k m : Global) (ts us rest end : List Token) → ts ≡ us → Stops 15 rest → Stops 15 end → IsGlobal k ts rest → IsGlobal m us end → (k ≡ m) × (rest ≡ end)
+pub global_once : (k m : Global) (ts us rest end : List Token) → ts ≡ us → Stops 15 rest → Stops 15 end → IsGlobal k ts rest → IsGlobal m us end → (k ≡ m) × (rest ≡ end)
 global_once k m ts us rest end p s z h g =
     let a = stars_once k.pointers m.pointers ts us h.0 g.0 p (name_star k.name h.0 h.1 h.4) (name_star m.name g.0 g.1 g.4) h.3 g.3 in
     let b = name_same k.name m.name h.0 g.0 h.1 g.1 a.1 h.4 g.4 in
@@ -141,7 +141,7 @@ global_once k m ts us rest end p s z h g =
     let d = initialiser_once k.initialiser m.initialiser h.2 g.2 rest end c.1 s z h.6 g.6 in
     (ap (λ (x : ℕ). make x k.name k.length k.initialiser) a.0 ∙ ap (λ (x : Name). make m.pointers x k.length k.initialiser) b.0 ∙ ap (λ (x : Option Length). make m.pointers m.name x k.initialiser) c.0 ∙ ap (λ (x : Option Initialiser). make m.pointers m.name m.length x) d.0, d.1)
 
-globals_stop : (gs : List Global) (ts rest : List Token) → AreMoreGlobals gs ts rest → Stops 15 ts
+pub globals_stop : (gs : List Global) (ts rest : List Token) → AreMoreGlobals gs ts rest → Stops 15 ts
 globals_stop [] ts rest h = has_stops signs.Semicolon ts rest 15 h (omega arith)
 globals_stop (k ∷ gs) ts rest h = has_stops signs.Comma ts h.0 15 h.2 (omega arith)
 
@@ -163,7 +163,7 @@ globals (k ∷ ks) (m ∷ ms) ts us rest end p h g =
     let c = more_globals ks ms h.0 g.0 rest end b.1 h.2 g.2 in
     (ap (λ (x : Global). x ∷ ks) b.0 ∙ ap (λ (x : List Global). m ∷ x) c.0, c.1)
 
-globals_type : (gs : List Global) (ts rest : List Token) → AreGlobals gs ts rest → NoType ts
+pub globals_type : (gs : List Global) (ts rest : List Token) → AreGlobals gs ts rest → NoType ts
 globals_type [] ts rest h = absurd h
 globals_type (k ∷ gs) ts rest h = stars_front k.pointers ts h.1.0 (name_type k.name h.1.0 h.1.1 h.1.4) h.1.3
 
@@ -172,7 +172,7 @@ globals_type (k ∷ gs) ts rest h = stars_front k.pointers ts h.1.0 (name_type k
 abbrev parameter : CType → Name → Parameter
 parameter t name = record { «of» = t; name = name }
 
-parameter_once : (a b : Parameter) (ts us rest end : List Token) → ts ≡ us → IsParameter a ts rest → IsParameter b us end → (a ≡ b) × (rest ≡ end)
+pub parameter_once : (a b : Parameter) (ts us rest end : List Token) → ts ≡ us → IsParameter a ts rest → IsParameter b us end → (a ≡ b) × (rest ≡ end)
 parameter_once a b ts us rest end p h g =
     let t = type_once a.«of» b.«of» ts us h.0 g.0 p (name_type a.name h.0 rest h.2) (name_type b.name g.0 end g.2) (name_star a.name h.0 rest h.2) (name_star b.name g.0 end g.2) h.1 g.1 in
     let n = name_same a.name b.name h.0 g.0 rest end t.1 h.2 g.2 in
@@ -188,24 +188,24 @@ more_parameters (k ∷ ks) (m ∷ ms) ts us rest end p h g =
     let c = more_parameters ks ms h.1 g.1 rest end b.1 h.4 g.4 in
     (ap (λ (x : Parameter). x ∷ ks) b.0 ∙ ap (λ (x : List Parameter). m ∷ x) c.0, c.1)
 
-parameter_front : (k : Parameter) (ts rest : List Token) → IsParameter k ts rest → front ts ≡ 7
+pub parameter_front : (k : Parameter) (ts rest : List Token) → IsParameter k ts rest → front ts ≡ 7
 parameter_front k ts rest h = base_front k.«of».base ts h.1.0 h.1.1
 
 abbrev void : CType
 void = record { base = bases.Void; pointers = 0 }
 
 -- `void` before the parenthesis is no type of a parameter
-void_not : (k : Parameter) (ts us a rest end : List Token) → ts ≡ us → HasKeyword keywords.Void ts a → HasSign signs.CloseParenthesis a rest → IsParameter k us end → ⊥
+pub void_not : (k : Parameter) (ts us a rest end : List Token) → ts ≡ us → HasKeyword keywords.Void ts a → HasSign signs.CloseParenthesis a rest → IsParameter k us end → ⊥
 void_not k ts us a rest end p h s g =
     let t = type_once void k.«of» ts us a g.0 p (close_type a rest s) (name_type k.name g.0 end g.2) (close_star a rest s) (name_star k.name g.0 end g.2) (a, inl (a, h, refl), refl) g.1 in
     let x = has_front signs.CloseParenthesis a rest s in
     let y = ap front g.2 in
     let z = ap front t.1 in absurd (omega arith)
 
-void_close : (ts us a end : List Token) → ts ≡ us → HasKeyword keywords.Void ts a → HasSign signs.CloseParenthesis us end → ⊥
+pub void_close : (ts us a end : List Token) → ts ≡ us → HasKeyword keywords.Void ts a → HasSign signs.CloseParenthesis us end → ⊥
 void_close ts us a end p h g = let x = has_front signs.CloseParenthesis us end g in let y = ap front h.1.1 in let z = ap front p in absurd (omega arith)
 
-parameters : (ks ms : List Parameter) (ts us rest end : List Token) → ts ≡ us → AreParameters ks ts rest → AreParameters ms us end → (ks ≡ ms) × (rest ≡ end)
+pub parameters : (ks ms : List Parameter) (ts us rest end : List Token) → ts ≡ us → AreParameters ks ts rest → AreParameters ms us end → (ks ≡ ms) × (rest ≡ end)
 parameters [] [] ts us rest end p (inl h) (inl g) = (refl, has_same signs.CloseParenthesis ts us rest end p h g)
 parameters [] [] ts us rest end p (inl h) (inr g) = absurd (void_close us ts g.0 rest (sym p) g.1 h)
 parameters [] [] ts us rest end p (inr h) (inl g) = absurd (void_close ts us h.0 end p h.1 g)
@@ -226,7 +226,7 @@ parameters (k ∷ ks) (m ∷ ms) ts us rest end p h g =
 -- ---- externals
 
 -- behind the name of a global stands no parenthesis
-open_not : (gs : List Global) (t : CType) (name : Name) (ts us a b c rest : List Token) → ts ≡ us → AreGlobals gs ts rest → AreStars t.pointers us a → IsName name a b → HasSign signs.OpenParenthesis b c → ⊥
+pub open_not : (gs : List Global) (t : CType) (name : Name) (ts us a b c rest : List Token) → ts ≡ us → AreGlobals gs ts rest → AreStars t.pointers us a → IsName name a b → HasSign signs.OpenParenthesis b c → ⊥
 open_not [] t name ts us a b c rest p h x n s = absurd h
 open_not (k ∷ gs) t name ts us a b c rest p h x n s =
     let g = h.1 in
@@ -236,12 +236,12 @@ open_not (k ∷ gs) t name ts us a b c rest p h x n s =
     let o = follows_sign signs.OpenParenthesis s.0 b c 0 s.1 refl in
     let q = ap follows e.1 in absurd (omega arith)
 
-apart : (base : Base) (gs : List Global) (t : CType) (name : Name) (ts us a b c rest : List Token) → ts ≡ us → (m : List Token) × IsBase base ts m × AreGlobals gs m rest → IsType t us a → IsName name a b → HasSign signs.OpenParenthesis b c → ⊥
+pub apart : (base : Base) (gs : List Global) (t : CType) (name : Name) (ts us a b c rest : List Token) → ts ≡ us → (m : List Token) × IsBase base ts m × AreGlobals gs m rest → IsType t us a → IsName name a b → HasSign signs.OpenParenthesis b c → ⊥
 apart base gs t name ts us a b c rest p h x n s =
     let d = base_once base t.base ts us h.0 x.0 p (globals_type gs h.0 rest h.2) (stars_front t.pointers x.0 a (name_type name a b n) x.2) h.1 x.1 in
     open_not gs t name h.0 x.0 a b c rest d.1 h.2 x.2 n s
 
-external_once : (text : List ℕ) (x y : External) (ts us rest end : List Token) → ts ≡ us → IsExternal text x ts rest → IsExternal text y us end → (x ≡ y) × (rest ≡ end)
+pub external_once : (text : List ℕ) (x y : External) (ts us rest end : List Token) → ts ≡ us → IsExternal text x ts rest → IsExternal text y us end → (x ≡ y) × (rest ≡ end)
 external_once text (Globals b ks) (Globals d ms) ts us rest end p h g =
     let a = base_once b d ts us h.0 g.0 p (globals_type ks h.0 rest h.2) (globals_type ms g.0 end g.2) h.1 g.1 in
     let c = globals ks ms h.0 g.0 rest end a.1 h.2 g.2 in
@@ -257,11 +257,11 @@ external_once text (Function t name ps body) (Function t' name' ps' body') ts us
     let f = same_items text body body' h.4 g.4 rest end e h.10 g.10 in
     (ap (λ (v : CType). Function v name ps body) a.0 ∙ ap (λ (v : Name). Function t' v ps body) b.0 ∙ ap (λ (v : List Parameter). Function t' name' v body) d.0 ∙ ap (λ (v : Statements). Function t' name' ps' v) f.0, f.1)
 
-external_front : (text : List ℕ) (x : External) (ts rest : List Token) → IsExternal text x ts rest → front ts ≡ 7
+pub external_front : (text : List ℕ) (x : External) (ts rest : List Token) → IsExternal text x ts rest → front ts ≡ 7
 external_front text (Globals b ks) ts rest h = base_front b ts h.0 h.1
 external_front text (Function t name ps body) ts rest h = base_front t.base ts h.5.0 h.5.1
 
-program_once : (text : List ℕ) (xs ys : List External) (ts us : List Token) → ts ≡ us → IsProgram text xs ts → IsProgram text ys us → xs ≡ ys
+pub program_once : (text : List ℕ) (xs ys : List External) (ts us : List Token) → ts ≡ us → IsProgram text xs ts → IsProgram text ys us → xs ≡ ys
 program_once text [] [] ts us p h g = refl
 program_once text [] (y ∷ ys) ts us p h g = let a = external_front text y us g.0 g.1 in let b = ap front p in let c = ap front h in absurd (omega arith)
 program_once text (x ∷ xs) [] ts us p h g = let a = external_front text x ts h.0 h.1 in let b = ap front p in let c = ap front g in absurd (omega arith)

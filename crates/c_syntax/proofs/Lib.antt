@@ -6,3 +6,4 @@ pub mod Rows
 pub mod Blocks
 pub mod Files
 pub mod Passing
+pub mod Shorter

@@ -21,7 +21,8 @@ use Rattle.c_syntax.specs.Expressions.{rank, literal_kind, IsInteger, IsField, S
 use Rattle.c_syntax.specs.Follow.{sign_follows, follows, Stops, OneExpression}
 use Rattle.c_syntax.specs.Operators.{level, binary_sign, unary_sign, increment_sign, assignment_sign}
 use Rattle.c_syntax.specs.Tokens.{HasSign, HasWord}
-use Rattle.c_syntax.proofs.Spine.{Step, At, After, With, Choose, Set, And, apply, Tail, Run, IsHead, spine, levels, follows_sign, step_follows, reach, run_reach, run_rank, run_height}
+use Rattle.c_syntax.specs.Steps.{Step, At, After, With, Choose, Set, And, apply, Tail, Run, IsHead, Closes}
+use Rattle.c_syntax.proofs.Spine.{spine, levels, follows_sign, step_follows, closes, run_reach, run_rank, run_height}
 use Rattle.c_syntax.proofs.Fronts.{kind_same, sign_same, has_same, name_same, same_binary, same_unary, same_increment, same_assignment, sign_class, kind_class, front, increment_class, unary_class, base_front, type_once, close_type, close_star}
 
 -- ---- of lower expressions
@@ -29,7 +30,7 @@ use Rattle.c_syntax.proofs.Fronts.{kind_same, sign_same, has_same, name_same, sa
 abbrev pub Below : List ℕ → ℕ → Type 0
 Below text n = (l : ℕ) (e f : Expression) (ts rest end : List Token) → height e < n → Derives text l e ts rest → Derives text l f ts end → Stops l rest → Stops l end → (e ≡ f) × (rest ≡ end)
 
-rank_low : (e : Expression) → rank e ≤ 16
+pub rank_low : (e : Expression) → rank e ≤ 16
 rank_low (Constant at literal) = omega arith
 rank_low (Variable name) = omega arith
 rank_low (Information at field) = omega arith
@@ -63,7 +64,7 @@ bracket_not increments.Increment e = cc
 bracket_not increments.Decrement e = cc
 
 -- a step and what follows it are found by where it begins
-pub same_tail : (text : List ℕ) (n : ℕ) (left left' : Expression) (s s' : Step) (ts rest end : List Token) → Below text n → height (apply left s) ≤ n → reach (apply left s) < follows rest → reach (apply left s') < follows end → Tail text s ts rest → Tail text s' ts end → (s ≡ s') × (rest ≡ end)
+pub same_tail : (text : List ℕ) (n : ℕ) (left left' : Expression) (s s' : Step) (ts rest end : List Token) → Below text n → height (apply left s) ≤ n → Closes (apply left s) rest → Closes (apply left s') end → Tail text s ts rest → Tail text s' ts end → (s ≡ s') × (rest ≡ end)
 same_tail text n left left' (At at i) (At to j) ts rest end u low r z h g =
     let a = sign_same signs.OpenBracket signs.OpenBracket at to ts ts h.0 g.0 refl h.2 g.2 in
     let b = whole text n i j h.0 g.0 h.1 g.1 u a.2 (omega arith) h.3 g.3 (has_stops signs.CloseBracket h.1 rest 16 h.4 (omega arith)) (has_stops signs.CloseBracket g.1 end 16 g.4 (omega arith)) in
@@ -138,7 +139,7 @@ same_run text n l left (x ∷ steps) [] ts e f rest end u low a b s z h g =
     absurd (omega arith)
 same_run text n l left (x ∷ steps) (y ∷ steps') ts e f rest end u low a b s z h g =
     let k = run_height text (apply left x) steps h.0 e rest h.3 in
-    let p = same_tail text n left left x y ts h.0 g.0 u (omega arith) (run_reach text (apply left x) steps h.0 e rest l h.3 a s) (run_reach text (apply left y) steps' g.0 f end l g.3 b z) h.2 g.2 in
+    let p = same_tail text n left left x y ts h.0 g.0 u (omega arith) (closes (apply left x) h.0 (run_reach text (apply left x) steps h.0 e rest l h.3 a s)) (closes (apply left y) g.0 (run_reach text (apply left y) steps' g.0 f end l g.3 b z)) h.2 g.2 in
     let v : Run text (apply left x) steps' g.0 f end = subst (λ (w : Step). Run text (apply left w) steps' g.0 f end) (sym p.0) g.3 in
     let w : Run text (apply left x) steps' h.0 f end = subst (λ (w : List Token). Run text (apply left x) steps' w f end) (sym p.1) v in
     same_run text n l (apply left x) steps steps' h.0 e f rest end u low a b s z h.3 w
@@ -284,7 +285,7 @@ field_once text (fields.Information index at) (fields.Information number to) ts 
 
 -- ---- first operands
 
-pub same_head : (text : List ℕ) (n : ℕ) (e f : Expression) (ts rest end : List Token) → Below text n → height e ≤ n → IsHead e → IsHead f → reach e < follows rest → reach f < follows end → Spells text e ts rest → Spells text f ts end → (e ≡ f) × (rest ≡ end)
+pub same_head : (text : List ℕ) (n : ℕ) (e f : Expression) (ts rest end : List Token) → Below text n → height e ≤ n → IsHead e → IsHead f → Closes e rest → Closes f end → Spells text e ts rest → Spells text f ts end → (e ≡ f) × (rest ≡ end)
 same_head text n (Constant at literal) (Constant at' literal') ts rest end u low k m r z h g =
     let a = kind_same (literal_kind literal) (literal_kind literal') at at' ts ts rest end refl h g in
     (ap (λ (x : ℕ). Constant x literal) a.1 ∙ ap (λ (x : Literal). Constant at' x) (literal_same literal literal' a.0), a.2)
@@ -441,7 +442,7 @@ same text n l e f ts rest end u low h g s z =
     let c = spine text e ts rest h.spells in
     let d = spine text f ts end g.spells in
     let k = run_height text c.head c.steps c.after e rest c.run in
-    let p = same_head text n c.head d.head ts c.after d.after u (omega arith) c.is_head d.is_head (run_reach text c.head c.steps c.after e rest l c.run h.fits s) (run_reach text d.head d.steps d.after f end l d.run g.fits z) c.spells d.spells in
+    let p = same_head text n c.head d.head ts c.after d.after u (omega arith) c.is_head d.is_head (closes c.head c.after (run_reach text c.head c.steps c.after e rest l c.run h.fits s)) (closes d.head d.after (run_reach text d.head d.steps d.after f end l d.run g.fits z)) c.spells d.spells in
     let v : Run text c.head d.steps d.after f end = subst (λ (x : Expression). Run text x d.steps d.after f end) (sym p.0) d.run in
     let w : Run text c.head d.steps c.after f end = subst (λ (x : List Token). Run text c.head d.steps x f end) (sym p.1) v in
     same_run text n l c.head c.steps d.steps c.after e f rest end u low h.fits g.fits s z c.run w

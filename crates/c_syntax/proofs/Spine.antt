@@ -1,4 +1,4 @@
--- An expression as its first operand and the steps behind it, from left to right.
+-- An expression is its first operand and the steps behind it, from left to right.
 use Rattle.std.proofs.Common.{◌≡◌, ◌≤◌, ◌<◌, ◌-◌, ℕ, List, [], ◌∷◌, ◌++◌, Option, Some, None, refl, sym, ap, ◌∙◌, subst, arith}
 use Rattle.c_lex.specs.declared.sign.Sign.{Sign}
 use Rattle.c_lex.specs.declared.sign.Sign.TheVariants as signs
@@ -17,62 +17,8 @@ use Rattle.c_syntax.specs.Expression.{Expression, Constant, Variable, Informatio
 use Rattle.c_syntax.specs.Expressions.{rank, Spells}
 use Rattle.c_syntax.specs.Follow.{sign_follows, kind_follows, follows, Stops}
 use Rattle.c_syntax.specs.Operators.{level, level_of_arithmetic, level_of_comparison, binary_sign, sign_of_arithmetic, sign_of_comparison, increment_sign, assignment_sign}
+use Rattle.c_syntax.specs.Steps.{Step, At, After, With, Choose, Set, And, apply, bound, Tail, Run, IsHead, Closes}
 use Rattle.c_syntax.specs.Tokens.{IsSign, HasSign}
-
--- ---- what stands behind an operand
-
-pub data Step : Type 0 where
-  At : ℕ → Expression → Step
-  After : Increment → ℕ → Step
-  With : ℕ → BinaryOperator → Expression → Step
-  Choose : ℕ → Expression → Expression → Step
-  Set : ℕ → Option Arithmetic → Expression → Step
-  And : ℕ → Expression → Step
-
-abbrev pub apply : Expression → Step → Expression
-apply e (At at i) = Index e at i
-apply e (After op at) = Postfix e op at
-apply e (With at op f) = Binary e at op f
-apply e (Choose at f g) = Conditional e at f g
-apply e (Set at op f) = Assign e at op f
-apply e (And at f) = Comma e at f
-
--- the loosest level of the operand
-abbrev pub bound : Step → ℕ
-bound (At at i) = 1
-bound (After op at) = 1
-bound (With at op f) = level op
-bound (Choose at f g) = 13
-bound (Set at op f) = 2
-bound (And at f) = 16
-
-abbrev pub Tail : List ℕ → Step → List Token → List Token → Type 0
-Tail text (At at i) ts rest = (b : List Token) × (c : List Token) × IsSign signs.OpenBracket at ts b × Spells text i b c × HasSign signs.CloseBracket c rest
-Tail text (After op at) ts rest = IsSign (increment_sign op) at ts rest
-Tail text (With at op f) ts rest = (b : List Token) × IsSign (binary_sign op) at ts b × (rank f < level op) × Spells text f b rest
-Tail text (Choose at f g) ts rest = (b : List Token) × (c : List Token) × (d : List Token) × IsSign signs.Question at ts b × Spells text f b c × HasSign signs.Colon c d × (rank g ≤ 14) × Spells text g d rest
-Tail text (Set at op f) ts rest = (b : List Token) × IsSign (assignment_sign op) at ts b × (rank f ≤ 15) × Spells text f b rest
-Tail text (And at f) ts rest = (b : List Token) × IsSign signs.Comma at ts b × (rank f ≤ 15) × Spells text f b rest
-
-abbrev pub Run : List ℕ → Expression → List Step → List Token → Expression → List Token → Type 0
-Run text left [] ts e end = (left ≡ e) × (ts ≡ end)
-Run text left (s ∷ steps) ts e end = (mid : List Token) × (rank left ≤ bound s) × Tail text s ts mid × Run text (apply left s) steps mid e end
-
-abbrev pub IsHead : Expression → Type 0
-IsHead (Constant at literal) = Unit {0}
-IsHead (Variable name) = Unit {0}
-IsHead (Information at field) = Unit {0}
-IsHead (Call name es) = Unit {0}
-IsHead (Parentheses at e) = Unit {0}
-IsHead (Index a at i) = ⊥
-IsHead (Postfix e op at) = ⊥
-IsHead (Prefix at op e) = Unit {0}
-IsHead (Unary at op e) = Unit {0}
-IsHead (Cast at to e) = Unit {0}
-IsHead (Binary a at op b) = ⊥
-IsHead (Conditional c at a b) = ⊥
-IsHead (Assign a at op b) = ⊥
-IsHead (Comma a at b) = ⊥
 
 pub record Spine (text : List ℕ) (e : Expression) (ts end : List Token) : Type 0 where
   pub head : Expression
@@ -244,6 +190,22 @@ reach (Binary a at op b) = level op - 1
 reach (Conditional c at a b) = 14
 reach (Assign a at op b) = 15
 reach (Comma a at b) = 15
+
+pub closes : (e : Expression) (ts : List Token) → reach e < follows ts → Closes e ts
+closes (Constant at literal) ts h = tt
+closes (Variable name) ts h = h
+closes (Information at field) ts h = tt
+closes (Call name es) ts h = tt
+closes (Parentheses at e) ts h = tt
+closes (Index a at i) ts h = tt
+closes (Postfix e op at) ts h = tt
+closes (Prefix at op e) ts h = h
+closes (Unary at op e) ts h = h
+closes (Cast at to e) ts h = h
+closes (Binary a at op b) ts h = h
+closes (Conditional c at a b) ts h = h
+closes (Assign a at op b) ts h = h
+closes (Comma a at b) ts h = h
 
 -- what follows an expression of a level b ends its last operand too
 pub record Wide (b f : ℕ) : Type 0 where

@@ -7,6 +7,7 @@ pub mod SignReaders
 pub mod Types
 pub mod Expressions
 pub mod Follow
+pub mod Steps
 pub mod Statements
 pub mod Programs
 pub mod Limits
