@@ -1,0 +1,5 @@
+pub mod Climbing
+pub mod Operations
+pub mod Operands
+pub mod Listing
+pub mod Front

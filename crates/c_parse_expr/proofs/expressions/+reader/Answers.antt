@@ -1,0 +1,229 @@
+use Rattle.std.proofs.Common.{◌≡◌, ℕ, map, List, sym, ap, ◌∙◌, subst, arith}
+use Rattle.std.proofs.lemmas.Result.{err_from_is_err_and, IfOk-weaker, IfErr-weaker}
+use Rattle.c_lex.specs.declared.sign.Sign.{Sign}
+use Rattle.c_lex.specs.declared.sign.Sign.TheVariants as signs
+use Rattle.c_lex.specs.declared.token.Token.{Token}
+use Rattle.c_syntax.specs.Expression.{Expression, expression, arguments, height, heights}
+use Rattle.c_syntax.specs.Expressions.{Derives}
+use Rattle.c_syntax.specs.Follow.{Stops}
+use Rattle.c_syntax.specs.Steps as steps
+use Rattle.c_syntax.specs.Steps.{Closes}
+use Rattle.c_syntax.specs.Tokens.{IsSign}
+use Rattle.c_syntax.proofs.Shorter as shorter
+use Rattle.c_parse_atom.proofs.Signs.{increment_only, unary_only}
+use Rattle.c_parse_type.proofs.Types.{sign_shorter}
+use Rattle.c_parse_expr.specs.declared.step.Operation.{Operation}
+use Rattle.c_parse_expr.specs.Operations.{with}
+use Rattle.c_parse_expr.specs.Readings.{NoArguments, AreListed, IsBehind}
+use Rattle.c_parse_expr.specs.Steps as code_steps
+use Rattle.c_parse_expr.proofs.Climbing.{refuses_so, refuses, no_operand, no_step, goes_on, not_closed}
+use Rattle.c_parse_expr.proofs.Listing.{listed_behind, heights_behind, mapped_behind, positive, listed_spelled, stuck, no_next, no_first, no_place}
+use Rattle.c_parse_expr.proofs.Operands.{none_begins, no_parenthesis, no_cast, not_cast, no_group, same_rest}
+use Rattle.c_parse_expr.proofs.Operations.{applied_height, none_first, none_second, right_behind, is_step, no_sign, none_behind}
+use Rattle.c_parse_expr.proofs.expressions.+reader.Goals as goal
+
+-- ---- expressions
+
+pub expression-returns-in_err-left-clause-refused : goal.expression-returns-in_err-left-clause-refused
+expression-returns-in_err-left-clause-refused t c =
+    let p = err_from_is_err_and c.from_residual.result c.from_residual.ensures.1 in
+    rw (p.1, p.2) (refuses_so c.in_err-left.field-0.0 _ _ (λ n. no_operand c.args.text.now c.args.level c.args.room c.args.tokens.now n) c.in_err-left.ensures.refused)
+
+pub expression-loop-alloc-init : goal.expression-loop-alloc-init
+expression-loop-alloc-init t c = (c.in_ok-left.ensures.low, c.in_ok-left.ensures.found.derives, c.in_ok-left.ensures.found.closes)
+
+pub expression-returns-in_err-behind-clause-refused : goal.expression-returns-in_err-behind-clause-refused
+expression-returns-in_err-behind-clause-refused t c =
+    let p = err_from_is_err_and c.from_residual-in_err-behind.result c.from_residual-in_err-behind.ensures.1 in
+    let f = c.follows.ensures in
+    let g = c.loop-alloc-test.true in
+    rw (p.1, p.2) (refuses_so c.in_err-behind.field-0.0 _ _
+    (λ n. no_step c.args.text.now c.args.level c.args.room (expression c.loop-alloc.left.expr) c.args.tokens.now c.loop-alloc.left.rest.now c.loop-alloc.invariant.1 c.loop-alloc.invariant.2 (omega arith) n)
+    c.in_err-behind.ensures.refused)
+
+pub expression-loop-alloc-preserved : goal.expression-loop-alloc-preserved
+expression-loop-alloc-preserved t c =
+    let f = c.follows.ensures in
+    let g = c.loop-alloc-test.true in
+    let text = c.args.text.now in
+    let ts = c.args.tokens.now in
+    let left = expression c.loop-alloc.left.expr in
+    let s = code_steps.step c.in_ok-behind.behind.step in
+    let mid = c.in_ok-behind.behind.rest.now in
+    let made : expression c.in_ok-left-2.left.expr ≡ steps.apply left s = c.in_ok-left-2.ensures.made in
+    let rest : c.in_ok-left-2.left.rest.now ≡ mid = c.in_ok-left-2.ensures.rest in
+    let found = c.in_ok-behind.ensures.found in
+    let d : Derives text c.args.level (steps.apply left s) ts mid = goes_on text c.args.level left s ts c.loop-alloc.left.rest.now mid c.loop-alloc.invariant.1 (omega arith) found in
+    let h = applied_height left s in
+    let k = ap height made in
+    let a = c.loop-alloc.left.exact in
+    let b = c.in_ok-behind.behind.exact in
+    let e = c.in_ok-left-2.left.exact in
+    let low = c.in_ok-behind.ensures.low in
+    let fits = c.in_ok-behind.ensures.fits in (
+      omega arith,
+      subst (λ (x : Expression). Derives text c.args.level x ts c.in_ok-left-2.left.rest.now) (sym made) (subst (λ (z : List Token). Derives text c.args.level (steps.apply left s) ts z) (sym rest) d),
+      subst (λ (x : Expression). Closes x c.in_ok-left-2.left.rest.now) (sym made) (subst (λ (z : List Token). Closes (steps.apply left s) z) (sym rest) found.closes),
+    )
+
+pub expression-returns-clause-found : goal.expression-returns-clause-found
+expression-returns-clause-found t c = c.loop-alloc.invariant.1
+
+pub expression-returns-clause-low : goal.expression-returns-clause-low
+expression-returns-clause-low t c = c.loop-alloc.invariant.0
+
+pub enclosed-returns-clause-refused : goal.enclosed-returns-clause-refused
+enclosed-returns-clause-refused t c =
+    refuses _ _ (not_closed c.args.text.now c.args.close c.args.room (expression c.in_ok-inner.inner.expr) c.args.tokens.now c.in_ok-inner.inner.rest.now c.requires.close c.in_ok-inner.ensures.found c.in_ok-inner.ensures.stops c.in-None.ensures.none)
+
+-- ---- steps
+
+pub step-returns-in_default-clause-refused : goal.step-returns-in_default-clause-refused
+step-returns-in_default-clause-refused t c =
+    refuses _ _ (no_sign c.args.text.now c.args.room (expression c.args.operand.now.expr) c.args.operand.now.rest.now c.in_default.ensures.none)
+
+pub step-returns-clause-found : goal.step-returns-clause-found
+step-returns-clause-found t c =
+    let text = c.args.text.now in
+    let e = expression c.args.operand.now.expr in
+    let a = c.bound.ensures in
+    let b = c.rank.ensures in
+    let n = c.if-bound-rank.false in
+    IfOk-weaker c.operated.result _ _
+    (λ x h. is_step text e c.in-Some-operation_of.operation c.in-Some.sign c.in-Some.at (code_steps.step x.step) c.args.operand.now.rest.now c.in-Some.rest.now x.rest.now (sym c.in-Some-operation_of.ensures) (omega arith) c.in-Some.ensures.found h)
+    c.operated.ensures.found
+
+pub step-returns-clause-refused : goal.step-returns-clause-refused
+step-returns-clause-refused t c =
+    let text = c.args.text.now in
+    let e = expression c.args.operand.now.expr in
+    IfErr-weaker c.operated.result _ _
+    (λ y h. refuses_so y _ _ (λ n. none_behind text c.args.room e c.in-Some.sign c.in-Some-operation_of.operation c.in-Some.at c.args.operand.now.rest.now c.in-Some.rest.now c.in-Some.ensures.found (sym c.in-Some-operation_of.ensures) n) h)
+    c.operated.ensures.refused
+
+pub chosen-returns-in_err-yes-clause-refused : goal.chosen-returns-in_err-yes-clause-refused
+chosen-returns-in_err-yes-clause-refused t c =
+    let p = err_from_is_err_and c.from_residual.result c.from_residual.ensures.1 in
+    rw (p.1, p.2) (refuses_so c.in_err-yes.field-0.0 _ _ (λ n. none_first c.args.text.now c.args.room c.args.tokens.now n) c.in_err-yes.ensures.refused)
+
+pub chosen-returns-in_err-no-clause-refused : goal.chosen-returns-in_err-no-clause-refused
+chosen-returns-in_err-no-clause-refused t c =
+    let p = err_from_is_err_and c.from_residual-in_err-no.result c.from_residual-in_err-no.ensures.1 in
+    rw (p.1, p.2) (refuses_so c.in_err-no.field-0.0 _ _
+    (λ n. none_second c.args.text.now c.args.room (expression c.in_ok-yes.yes.expr) c.args.tokens.now c.in_ok-yes.yes.rest.now c.in_ok-yes.ensures.found n)
+    c.in_err-no.ensures.refused)
+
+pub operated-returns-in_ok-value-in-Infix-clause-found : goal.operated-returns-in_ok-value-in-Infix-clause-found
+operated-returns-in_ok-value-in-Infix-clause-found t c =
+    let text = c.args.text.now in
+    let op = c.in-Infix.operator in
+    let k = c.in_ok-value-in-Infix in
+    let e = expression k.value.expr in
+    let ts = c.args.tokens.now in
+    let rest = k.value.rest.now in
+    let q = c.right.ensures in
+    subst (λ (o : Operation). IsBehind text o c.args.at (with op c.args.at e) ts rest) (sym c.in-Infix.is)
+    (right_behind text op c.args.at e ts rest (subst (λ (l : ℕ). Derives text l e ts rest) q k.ensures.found) (subst (λ (l : ℕ). Stops l rest) q k.ensures.stops))
+
+-- ---- operands
+
+pub operand-returns-in-None-clause-refused : goal.operand-returns-in-None-clause-refused
+operand-returns-in-None-clause-refused t c =
+    refuses _ _ (none_begins c.args.text.now c.args.level c.args.room c.args.tokens.now c.in_default.ensures.none c.in_default-name.ensures.none c.in_default-information.ensures.none c.in-None.ensures.none)
+
+pub named-returns-in-None-clause-found : goal.named-returns-in-None-clause-found
+named-returns-in-None-clause-found t c =
+    rw c.variable.ensures (record { derives = record { fits = omega arith; spells = c.requires.name }; head = tt; closes = no_parenthesis c.args.rest.now c.in-None.ensures.none })
+
+pub signed-returns-in-Some-clause-found : goal.signed-returns-in-Some-clause-found
+signed-returns-in-Some-clause-found t c =
+    let op = c.in-Some.operator in
+    let q = increment_only op c.args.sign (sym c.in-Some.ensures) in
+    let k = c.in_ok-inner in
+    let level = c.requires.level in
+    let h = subst (λ (z : Sign). IsSign z c.args.at c.args.tokens.now c.args.rest.now) q c.requires.sign in
+    rw c.in_ok-expr.ensures.made (record { derives = record { fits = omega arith; spells = (c.args.rest.now, h, k.ensures.found.fits, k.ensures.found.spells) }; head = tt; closes = k.ensures.stops })
+
+pub signed-returns-in-Some-unary_of-clause-found : goal.signed-returns-in-Some-unary_of-clause-found
+signed-returns-in-Some-unary_of-clause-found t c =
+    let op = c.in-Some-unary_of.operator in
+    let q = unary_only op c.args.sign (sym c.in-Some-unary_of.ensures) in
+    let k = c.in_ok-inner-2 in
+    let level = c.requires.level in
+    let h = subst (λ (z : Sign). IsSign z c.args.at c.args.tokens.now c.args.rest.now) q c.requires.sign in
+    rw c.in_ok-expr-2.ensures.made (record { derives = record { fits = omega arith; spells = (c.args.rest.now, h, k.ensures.found.fits, k.ensures.found.spells) }; head = tt; closes = k.ensures.stops })
+
+pub parenthesised-returns-in_default-clause-refused : goal.parenthesised-returns-in_default-clause-refused
+parenthesised-returns-in_default-clause-refused t c =
+    refuses _ _
+    (no_cast c.args.text.now c.args.level c.args.room c.args.at c.in-Some.to c.args.tokens.now c.args.rest.now c.in-Some.rest.now c.requires.sign c.in-Some.ensures.found
+    (λ to rest h n m. same_rest (c.in-Some.ensures.only to rest h n m))
+    (λ e after end z d s low. c.in_default.ensures.none after z))
+
+pub parenthesised-returns-in_err-inner-in-Some-clause-refused : goal.parenthesised-returns-in_err-inner-in-Some-clause-refused
+parenthesised-returns-in_err-inner-in-Some-clause-refused t c =
+    let p = err_from_is_err_and c.from_residual.result c.from_residual.ensures.1 in
+    rw (p.1, p.2) (refuses_so c.in_err-inner-in-Some.field-0.0 _ _
+    (λ n. not_cast c.args.text.now c.args.level c.args.room c.args.at c.in-Some.to c.args.tokens.now c.args.rest.now c.in-Some.rest.now c.in-Some-after.rest.now c.requires.sign c.in-Some.ensures.found
+    (λ to rest h a b. same_rest (c.in-Some.ensures.only to rest h a b)) c.in-Some-after.ensures.found n)
+    c.in_err-inner-in-Some.ensures.refused)
+
+pub grouped-returns-in_err-inner-clause-refused : goal.grouped-returns-in_err-inner-clause-refused
+grouped-returns-in_err-inner-clause-refused t c =
+    let p = err_from_is_err_and c.from_residual.result c.from_residual.ensures.1 in
+    rw (p.1, p.2) (refuses_so c.in_err-inner.field-0.0 _ _ (λ n. no_group c.args.text.now c.args.level c.args.room c.args.at c.args.tokens.now c.args.rest.now c.requires.sign c.requires.base n) c.in_err-inner.ensures.refused)
+
+-- ---- arguments
+
+pub arguments-returns-then-room-eq0-clause-refused : goal.arguments-returns-then-room-eq0-clause-refused
+arguments-returns-then-room-eq0-clause-refused t c =
+    refuses _ _ (subst (λ (z : ℕ). NoArguments c.args.text.now z c.args.tokens.now) (sym c.if-room-eq0.true) (no_place c.args.text.now c.args.tokens.now c.in_default.ensures.none))
+
+pub arguments-returns-in_err-first-clause-refused : goal.arguments-returns-in_err-first-clause-refused
+arguments-returns-in_err-first-clause-refused t c =
+    let p = err_from_is_err_and c.from_residual.result c.from_residual.ensures.1 in
+    rw (p.1, p.2) (refuses_so c.in_err-first.field-0.0 _ _ (λ n. no_first c.args.text.now c.args.room c.args.tokens.now c.in_default.ensures.none n) c.in_err-first.ensures.refused)
+
+pub arguments-returns-in_err-next-clause-refused : goal.arguments-returns-in_err-next-clause-refused
+arguments-returns-in_err-next-clause-refused t c =
+    let p = err_from_is_err_and c.from_residual-in_err-next.result c.from_residual-in_err-next.ensures.1 in
+    let i = c.loop-behind.invariant in
+    rw (p.1, p.2) (refuses_so c.in_err-next.field-0.0 _ _
+    (λ n. no_next c.args.text.now c.args.room (map expression c.loop-behind.exprs.items) c.args.tokens.now c.loop-behind.rest.now c.in-Some-after.behind.now i.3 i.4 c.in-Some-after.ensures.found n)
+    c.in_err-next.ensures.refused)
+
+pub arguments-loop-behind-smaller : goal.arguments-loop-behind-smaller
+arguments-loop-behind-smaller t c =
+    let a = shorter.expression c.args.text.now (expression c.in_ok-next.next.expr) c.in-Some-after.behind.now c.in_ok-next.next.rest.now c.in_ok-next.ensures.found.spells in
+    let b = sign_shorter signs.Comma c.in-Some-after.ensures.found.0 c.loop-behind.rest.now c.in-Some-after.behind.now c.in-Some-after.ensures.found.1 in omega arith
+
+pub arguments-loop-behind-preserved : goal.arguments-loop-behind-preserved
+arguments-loop-behind-preserved t c =
+    let i = c.loop-behind.invariant in
+    let old = c.loop-behind.exprs.items in
+    let e = expression c.in_ok-next.next.expr in
+    let q = ap (map expression) c.in_ok-push-2.ensures.items ∙ mapped_behind expression old c.in_ok-next.next.expr in
+    let r = positive c.args.room i.0 in
+    let a = c.higher-over.ensures in
+    let b = c.in_ok-next.ensures.low in
+    let d = c.in_ok-next.next.exact in
+    let h = heights_behind (map expression old) e in
+    let k = ap (λ (z : List Expression). heights (arguments z)) q in
+    let l = i.1 in
+    let m = i.2 in (
+      i.0,
+      omega arith,
+      omega arith,
+      subst (λ (z : List Expression). AreListed c.args.text.now z c.args.tokens.now c.in_ok-next.next.rest.now) (sym q)
+          (listed_behind c.args.text.now (map expression old) e c.args.tokens.now c.loop-behind.rest.now c.in-Some-after.behind.now c.in_ok-next.next.rest.now i.3 c.in-Some-after.ensures.found c.in_ok-next.ensures.found),
+      c.in_ok-next.ensures.stops,
+    )
+
+pub arguments-returns-in-Some-after-2-clause-found : goal.arguments-returns-in-Some-after-2-clause-found
+arguments-returns-in-Some-after-2-clause-found t c =
+    listed_spelled c.args.text.now (map expression c.loop-behind.exprs.items) c.args.tokens.now c.loop-behind.rest.now c.in-Some-after-2.rest.now c.loop-behind.invariant.3 c.in-Some-after-2.ensures.found
+
+pub arguments-returns-clause-refused : goal.arguments-returns-clause-refused
+arguments-returns-clause-refused t c =
+    let i = c.loop-behind.invariant in
+    refuses _ _ (stuck c.args.text.now c.args.room (map expression c.loop-behind.exprs.items) c.args.tokens.now c.loop-behind.rest.now i.3 i.4 c.in-None.ensures.none c.in_default-after.ensures.none)

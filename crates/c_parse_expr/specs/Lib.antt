@@ -1,0 +1,4 @@
+pub mod Refusals
+pub mod Operations
+pub mod Steps
+pub mod Readings

@@ -1,0 +1,452 @@
+//! Expressions by the levels of their operators.
+
+ghost use Rattle.std.specs.Prelude.{◌≡◌, ◌≤◌, ◌<◌, ◌+◌, max, map, IfOk, IfErr};
+ghost use Rattle.c_lex.specs.declared.sign.Sign.TheVariants as signs;
+ghost use Rattle.c_syntax.specs.Expression.{expression, arguments, height, heights};
+ghost use Rattle.c_syntax.specs.Expressions.{SpellsArguments, Derives};
+ghost use Rattle.c_syntax.specs.Follow.{Stops, sign_follows};
+ghost use Rattle.c_syntax.specs.Steps as steps;
+ghost use Rattle.c_syntax.specs.Tokens.{IsSign, IsName};
+ghost use Rattle.c_parse_type.specs.Bases.{NoBase};
+ghost use Rattle.c_parse_expr.specs.declared.step.Operation.TheVariants as operations;
+ghost use Rattle.c_parse_expr.specs.declared.refusal.ParseErr.TheVariants.{Memory};
+ghost use Rattle.c_parse_expr.specs.Refusals.{Refuses};
+ghost use Rattle.c_parse_expr.specs.Readings.{NoExpression, Encloses, NoneEnclosed, NoArguments, IsOperand, NoOperand, IsStep, NoStep, IsBehind, NoneBehind};
+ghost use Rattle.c_parse_expr.specs.Steps as code_steps;
+
+use crate::fault::{begins, departure};
+use crate::refusal::{ParseErr, too_deep, unexpected};
+use crate::step::{
+    Operation, Step, apply, first_sign, operation_of, prefix, rank, unary, variable,
+};
+use c_lex::sign::Sign;
+use c_lex::token::Token;
+use c_parse_atom::information::information;
+use c_parse_atom::operands::{literal, name};
+use c_parse_atom::operators::{follows, increment_of, unary_of};
+use c_parse_type::front::after;
+use c_parse_type::specifiers::c_type;
+use c_syntax::expression::{Expr, Name};
+use std::alloc::Global;
+
+/// An expression, the most expressions that stand around one of its parts, and what follows it.
+#[derive(Drop)]
+pub struct Parsed<'a> {
+    pub expr: Expr,
+    pub over: u64,
+    pub rest: &'a [Token],
+    ghost exact: { over ≡ height (expression expr) },
+}
+
+/// Arguments, the most expressions that stand around a part of one, and what follows them.
+#[derive(Drop)]
+struct Listed<'a> {
+    exprs: Vec<Expr>,
+    over: u64,
+    rest: &'a [Token],
+    ghost exact: { over ≡ heights (arguments (map expression exprs.items)) },
+}
+
+/// A step, the most expressions that stand around a part of what it adds, and what follows it.
+#[derive(Drop)]
+struct Behind<'a> {
+    step: Step,
+    over: u64,
+    rest: &'a [Token],
+    ghost exact: { over ≡ code_steps.over (code_steps.step step) },
+}
+
+/// The greater of two heights.
+fn higher(a: u64, b: u64) -> u64
+    ensures { result ≡ max a b }
+{
+    if a < b { b } else { a }
+}
+
+/// The expression of an operand and the step behind it.
+fn extended<'a>(
+    alloc: Global,
+    operand: Parsed<'a>,
+    behind: Behind<'a>,
+) -> Result<Parsed<'a>, ParseErr>
+    requires operand { operand.over < 64 }
+    requires behind { behind.over < 64 }
+    ensures made { IfOk result (λ x. expression x.expr ≡ steps.apply (expression operand.entry.expr) (code_steps.step behind.entry.step)) }
+    ensures rest { IfOk result (λ x. x.rest.now ≡ behind.entry.rest.now) }
+    ensures err { IfErr result (λ e. e ≡ Memory) }
+{
+    let over = higher(operand.over, behind.over) + 1;
+    let rest = behind.rest;
+    let expr = apply(alloc, operand.expr, behind.step)?;
+    Ok(Parsed { expr, over, rest })
+}
+
+/// The expression of a level or a tighter one at the front, as far as it goes, with at most `room`
+/// expressions around each part. The levels are those of the productions of C11, 6.5: 2 is unary, 3 a
+/// cast, 4 products to 13 `||`, 14 is `?:`, 15 an assignment, 16 a comma.
+#[cycle(reader)]
+pub fn expression<'a>(
+    alloc: Global,
+    text: &[u8],
+    room: u64,
+    level: u8,
+    tokens: &'a [Token],
+) -> Result<Parsed<'a>, ParseErr>
+    requires room { room ≤ 64 }
+    requires level { 2 ≤ level }
+    ensures found { IfOk result (λ x. Derives text.now level (expression x.expr) tokens.now x.rest.now) }
+    ensures stops { IfOk result (λ x. Stops level x.rest.now) }
+    ensures low { IfOk result (λ x. x.over ≤ room) }
+    ensures refused { IfErr result (λ e. Refuses e (NoExpression text.now level room tokens.now)) }
+{
+    let mut left = operand(alloc, text, room, level, tokens)?;
+    while follows(left.rest) <= level {
+        let behind = step(alloc, text, room, &left)?;
+        left = extended(alloc, left, behind)?;
+    }
+    Ok(left)
+}
+
+/// The step behind an operand, if that may stand before it.
+#[cycle(reader)]
+fn step<'a>(
+    alloc: Global,
+    text: &[u8],
+    room: u64,
+    operand: &Parsed<'a>,
+) -> Result<Behind<'a>, ParseErr>
+    requires { room ≤ 64 }
+    ensures found { IfOk result (λ x. IsStep text.now (expression operand.now.expr) (code_steps.step x.step) operand.now.rest.now x.rest.now) }
+    ensures fits { IfOk result (λ x. operand.now.over < room) }
+    ensures low { IfOk result (λ x. x.over < room) }
+    ensures refused { IfErr result (λ e. Refuses e (NoStep text.now room (expression operand.now.expr) operand.now.rest.now)) }
+{
+    let Some((sign, at, rest)) = first_sign(operand.rest) else {
+        return Err(unexpected(text, operand.rest));
+    };
+    let Some(operation) = operation_of(sign) else {
+        return Err(unexpected(text, operand.rest));
+    };
+    if operation.bound() < rank(&operand.expr) {
+        return Err(unexpected(text, operand.rest));
+    }
+    if room <= operand.over {
+        return Err(too_deep(text, operand.rest));
+    }
+    operated(alloc, text, room - 1, operation, at, rest)
+}
+
+/// What follows the sign of an operation, and the step that they are. `at` is the sign's place.
+#[cycle(reader)]
+fn operated<'a>(
+    alloc: Global,
+    text: &[u8],
+    room: u64,
+    operation: Operation,
+    at: u64,
+    tokens: &'a [Token],
+) -> Result<Behind<'a>, ParseErr>
+    requires { room < 64 }
+    ensures found { IfOk result (λ x. IsBehind text.now operation at (code_steps.step x.step) tokens.now x.rest.now) }
+    ensures low { IfOk result (λ x. x.over ≤ room) }
+    ensures refused { IfErr result (λ e. Refuses e (NoneBehind text.now room operation tokens.now)) }
+{
+    match operation {
+        Operation::Index => {
+            let inner = enclosed(alloc, text, room, Sign::CloseBracket, tokens)?;
+            let (over, rest) = (inner.over, inner.rest);
+            let index = inner.expr;
+            let step = Step::Index { at, index };
+            Ok(Behind { step, over, rest })
+        }
+        Operation::Postfix(operator) => {
+            let step = Step::Postfix { operator, at };
+            let (over, rest) = (0, tokens);
+            Ok(Behind { step, over, rest })
+        }
+        Operation::Infix(operator) => {
+            let value = expression(alloc, text, room, operator.right(), tokens)?;
+            let (over, rest) = (value.over, value.rest);
+            let right = value.expr;
+            let step = Step::Infix {
+                at,
+                operator,
+                right,
+            };
+            Ok(Behind { step, over, rest })
+        }
+        Operation::Conditional => chosen(alloc, text, room, at, tokens),
+    }
+}
+
+/// The two branches behind `?`, which stands at a place.
+#[cycle(reader)]
+fn chosen<'a>(
+    alloc: Global,
+    text: &[u8],
+    room: u64,
+    at: u64,
+    tokens: &'a [Token],
+) -> Result<Behind<'a>, ParseErr>
+    requires { room < 64 }
+    ensures found { IfOk result (λ x. IsBehind text.now operations.Conditional at (code_steps.step x.step) tokens.now x.rest.now) }
+    ensures low { IfOk result (λ x. x.over ≤ room) }
+    ensures refused { IfErr result (λ e. Refuses e (NoneBehind text.now room operations.Conditional tokens.now)) }
+{
+    let yes = enclosed(alloc, text, room, Sign::Colon, tokens)?;
+    let no = expression(alloc, text, room, 14, yes.rest)?;
+    let over = higher(yes.over, no.over);
+    let rest = no.rest;
+    let (yes, no) = (yes.expr, no.expr);
+    let step = Step::Conditional { at, yes, no };
+    Ok(Behind { step, over, rest })
+}
+
+/// The expression at the front and the sign that ends it; what follows the sign.
+#[cycle(reader)]
+fn enclosed<'a>(
+    alloc: Global,
+    text: &[u8],
+    room: u64,
+    close: Sign,
+    tokens: &'a [Token],
+) -> Result<Parsed<'a>, ParseErr>
+    requires room { room < 64 }
+    requires close { sign_follows close ≡ 17 }
+    ensures found { IfOk result (λ x. Encloses text.now close (expression x.expr) tokens.now x.rest.now) }
+    ensures low { IfOk result (λ x. x.over ≤ room) }
+    ensures refused { IfErr result (λ e. Refuses e (NoneEnclosed text.now close room tokens.now)) }
+{
+    let inner = expression(alloc, text, room, 16, tokens)?;
+    match after(close, inner.rest) {
+        Some(rest) => {
+            let (expr, over) = (inner.expr, inner.over);
+            Ok(Parsed { expr, over, rest })
+        }
+        None => Err(unexpected(text, inner.rest)),
+    }
+}
+
+/// The first operand at the front of an expression of a level.
+#[cycle(reader)]
+fn operand<'a>(
+    alloc: Global,
+    text: &[u8],
+    room: u64,
+    level: u8,
+    tokens: &'a [Token],
+) -> Result<Parsed<'a>, ParseErr>
+    requires room { room ≤ 64 }
+    requires level { 2 ≤ level }
+    ensures found { IfOk result (λ x. IsOperand text.now level (expression x.expr) tokens.now x.rest.now) }
+    ensures low { IfOk result (λ x. x.over ≤ room) }
+    ensures refused { IfErr result (λ e. Refuses e (NoOperand text.now level room tokens.now)) }
+{
+    if let Some((literal, at, rest)) = literal(tokens) {
+        let expr = Expr::Literal { at, literal };
+        return Ok(Parsed {
+            expr,
+            over: 0,
+            rest,
+        });
+    }
+    if let Some((name, rest)) = name(tokens) {
+        return named(alloc, text, room, level, name, tokens, rest);
+    }
+    if let Some((at, field, rest)) = information(text, tokens) {
+        let expr = Expr::Information { at, field };
+        return Ok(Parsed {
+            expr,
+            over: 0,
+            rest,
+        });
+    }
+    match first_sign(tokens) {
+        Some((sign, at, rest)) => signed(alloc, text, room, level, sign, at, tokens, rest),
+        None => Err(unexpected(text, departure(text, tokens))),
+    }
+}
+
+/// A name at the front, with its arguments if it is called.
+#[cycle(reader)]
+fn named<'a>(
+    alloc: Global,
+    text: &[u8],
+    room: u64,
+    level: u8,
+    name: Name,
+    tokens: &'a [Token],
+    rest: &'a [Token],
+) -> Result<Parsed<'a>, ParseErr>
+    requires room { room ≤ 64 }
+    requires name { IsName name tokens.now rest.now }
+    ensures found { IfOk result (λ x. IsOperand text.now level (expression x.expr) tokens.now x.rest.now) }
+    ensures low { IfOk result (λ x. x.over ≤ room) }
+    ensures refused { IfErr result (λ e. Refuses e (NoOperand text.now level room tokens.now)) }
+{
+    match after(Sign::OpenParenthesis, rest) {
+        Some(rest) => {
+            let found = arguments(alloc, text, room, rest)?;
+            let (over, rest) = (found.over, found.rest);
+            let arguments = found.exprs;
+            let expr = Expr::Call { name, arguments };
+            Ok(Parsed { expr, over, rest })
+        }
+        None => Ok(Parsed {
+            expr: variable(name),
+            over: 0,
+            rest,
+        }),
+    }
+}
+
+/// The refusal of the first token where no argument is within the limit.
+fn no_argument(text: &[u8], tokens: &[Token]) -> ParseErr {
+    if begins(tokens) {
+        too_deep(text, tokens)
+    } else {
+        unexpected(text, tokens)
+    }
+}
+
+/// Arguments and the parenthesis that ends them; what follows it.
+#[cycle(reader)]
+fn arguments<'a>(
+    alloc: Global,
+    text: &[u8],
+    room: u64,
+    tokens: &'a [Token],
+) -> Result<Listed<'a>, ParseErr>
+    requires { room ≤ 64 }
+    ensures found { IfOk result (λ x. SpellsArguments text.now (arguments (map expression x.exprs.items)) tokens.now x.rest.now) }
+    ensures low { IfOk result (λ x. x.over ≤ room) }
+    ensures refused { IfErr result (λ e. Refuses e (NoArguments text.now room tokens.now)) }
+{
+    let mut exprs = Vec::new(alloc);
+    if let Some(rest) = after(Sign::CloseParenthesis, tokens) {
+        return Ok(Listed {
+            exprs,
+            over: 0,
+            rest,
+        });
+    }
+    if room == 0 {
+        return Err(no_argument(text, tokens));
+    }
+    let first = expression(alloc, text, room - 1, 15, tokens)?;
+    let (mut over, mut rest) = (first.over + 1, first.rest);
+    exprs.push(first.expr)?;
+    while let Some(behind) = after(Sign::Comma, rest) {
+        let next = expression(alloc, text, room - 1, 15, behind)?;
+        over = higher(over, next.over + 1);
+        rest = next.rest;
+        exprs.push(next.expr)?;
+    }
+    match after(Sign::CloseParenthesis, rest) {
+        Some(rest) => Ok(Listed { exprs, over, rest }),
+        None => Err(unexpected(text, rest)),
+    }
+}
+
+/// A sign at the front, and the operand that it begins.
+#[cycle(reader)]
+fn signed<'a>(
+    alloc: Global,
+    text: &[u8],
+    room: u64,
+    level: u8,
+    sign: Sign,
+    at: u64,
+    tokens: &'a [Token],
+    rest: &'a [Token],
+) -> Result<Parsed<'a>, ParseErr>
+    requires room { room ≤ 64 }
+    requires level { 2 ≤ level }
+    requires sign { IsSign sign at tokens.now rest.now }
+    ensures found { IfOk result (λ x. IsOperand text.now level (expression x.expr) tokens.now x.rest.now) }
+    ensures low { IfOk result (λ x. x.over ≤ room) }
+    ensures refused { IfErr result (λ e. Refuses e (NoOperand text.now level room tokens.now)) }
+{
+    let increment = increment_of(sign);
+    if sign != Sign::OpenParenthesis && increment.is_none() && unary_of(sign).is_none() {
+        return Err(unexpected(text, tokens));
+    }
+    if room == 0 {
+        return Err(too_deep(text, tokens));
+    }
+    if let Some(operator) = increment {
+        let inner = expression(alloc, text, room - 1, 2, rest)?;
+        let (over, rest) = (inner.over + 1, inner.rest);
+        let expr = prefix(alloc, at, operator, inner.expr)?;
+        return Ok(Parsed { expr, over, rest });
+    }
+    if let Some(operator) = unary_of(sign) {
+        let inner = expression(alloc, text, room - 1, 3, rest)?;
+        let (over, rest) = (inner.over + 1, inner.rest);
+        let expr = unary(alloc, at, operator, inner.expr)?;
+        return Ok(Parsed { expr, over, rest });
+    }
+    parenthesised(alloc, text, room - 1, level, at, tokens, rest)
+}
+
+/// What `(` at the front begins: a cast, or an expression in parentheses.
+#[cycle(reader)]
+fn parenthesised<'a>(
+    alloc: Global,
+    text: &[u8],
+    room: u64,
+    level: u8,
+    at: u64,
+    tokens: &'a [Token],
+    rest: &'a [Token],
+) -> Result<Parsed<'a>, ParseErr>
+    requires room { room < 64 }
+    requires level { 2 ≤ level }
+    requires sign { IsSign signs.OpenParenthesis at tokens.now rest.now }
+    ensures found { IfOk result (λ x. IsOperand text.now level (expression x.expr) tokens.now x.rest.now) }
+    ensures low { IfOk result (λ x. x.over ≤ room + 1) }
+    ensures refused { IfErr result (λ e. Refuses e (NoOperand text.now level (room + 1) tokens.now)) }
+{
+    if level == 2 {
+        return grouped(alloc, text, room, level, at, tokens, rest);
+    }
+    match c_type(rest) {
+        Some((to, rest)) => {
+            let Some(rest) = after(Sign::CloseParenthesis, rest) else {
+                return Err(unexpected(text, rest));
+            };
+            let inner = expression(alloc, text, room, 3, rest)?;
+            let (over, rest) = (inner.over + 1, inner.rest);
+            let operand = Box::new(alloc, inner.expr)?;
+            let expr = Expr::Cast { at, to, operand };
+            Ok(Parsed { expr, over, rest })
+        }
+        None => grouped(alloc, text, room, level, at, tokens, rest),
+    }
+}
+
+/// An expression in parentheses, of which the first is at the front.
+#[cycle(reader)]
+fn grouped<'a>(
+    alloc: Global,
+    text: &[u8],
+    room: u64,
+    level: u8,
+    at: u64,
+    tokens: &'a [Token],
+    rest: &'a [Token],
+) -> Result<Parsed<'a>, ParseErr>
+    requires room { room < 64 }
+    requires level { 2 ≤ level }
+    requires sign { IsSign signs.OpenParenthesis at tokens.now rest.now }
+    requires base { (3 ≤ level) → NoBase rest.now }
+    ensures found { IfOk result (λ x. IsOperand text.now level (expression x.expr) tokens.now x.rest.now) }
+    ensures low { IfOk result (λ x. x.over ≤ room + 1) }
+    ensures refused { IfErr result (λ e. Refuses e (NoOperand text.now level (room + 1) tokens.now)) }
+{
+    let inner = enclosed(alloc, text, room, Sign::CloseParenthesis, rest)?;
+    let (over, rest) = (inner.over + 1, inner.rest);
+    let inner = Box::new(alloc, inner.expr)?;
+    let expr = Expr::Parentheses { at, inner };
+    Ok(Parsed { expr, over, rest })
+}

@@ -1,0 +1,13 @@
+//! Expressions of C from tokens.
+//!
+//! An expression at the front of tokens is read by the levels of its operators (C11, 6.5), as far as it
+//! goes on. What is read is such an expression within the limit of nesting, and a refusal comes only
+//! where there is none.
+#![tactic(auto)]
+
+pub mod expressions;
+pub mod fault;
+pub mod refusal;
+pub mod step;
+#[cfg(test)]
+mod tests;

@@ -1,0 +1,75 @@
+//! Why tokens are no program.
+
+ghost use Rattle.std.specs.Prelude.{◌≡◌};
+ghost use Rattle.c_parse_expr.specs.declared.refusal.ParseErr.TheVariants.{Memory};
+
+use c_lex::token::Token;
+use std::alloc::{AllocError, AllocFailed};
+
+/// What has a limit of number.
+#[derive(Clone, Copy, Debug, PartialEq, Eq)]
+pub enum Count {
+    /// Locals of a function: 256.
+    Locals,
+    /// Parameters of a function: 8.
+    Parameters,
+    /// Functions of a program: 4,096.
+    Functions,
+    /// Bytes of a program's globals: 1,048,576.
+    Globals,
+    /// Filters and `__finally` blocks of a program that have a number: 16,384.
+    Funclets,
+}
+
+/// Why tokens are no program within the limits. `at` is the place of the first token with which no
+/// such program goes on, in bytes from the text's begin; the text's length where the text ends too
+/// early.
+#[derive(Clone, Copy, Debug, PartialEq, Eq)]
+pub enum ParseErr {
+    /// No program goes on so.
+    Unexpected { at: u64 },
+    /// Programs go on so, but none with at most 64 expressions and 64 statements around each part.
+    TooDeep { at: u64 },
+    /// Programs go on so, but none with so few of these.
+    TooMany { at: u64, what: Count },
+    /// No memory was left.
+    Memory,
+}
+
+impl From<AllocError> for ParseErr {
+    ghost from_gives = { λ _ e. e ≡ Memory };
+
+    fn from(_e: AllocError) -> ParseErr {
+        ParseErr::Memory
+    }
+}
+
+impl<T: Drop> From<AllocFailed<T>> for ParseErr {
+    ghost from_gives = { λ _ e. e ≡ Memory };
+
+    fn from(_e: AllocFailed<T>) -> ParseErr {
+        ParseErr::Memory
+    }
+}
+
+/// The place of the first token; the text's length where there is none.
+pub fn place(text: &[u8], tokens: &[Token]) -> u64 {
+    match tokens {
+        [] => text.len() as u64,
+        [first, ..] => first.start,
+    }
+}
+
+/// The refusal of the first token, with which no program goes on.
+pub fn unexpected(text: &[u8], tokens: &[Token]) -> ParseErr {
+    ParseErr::Unexpected {
+        at: place(text, tokens),
+    }
+}
+
+/// The refusal of the first token, behind which nothing is within the limits of nesting.
+pub fn too_deep(text: &[u8], tokens: &[Token]) -> ParseErr {
+    ParseErr::TooDeep {
+        at: place(text, tokens),
+    }
+}
