@@ -1,0 +1,17 @@
+use Rattle.std.proofs.Common.{Some, ap, ◌∙◌}
+use Rattle.c_syntax.specs.declared.statement.Stmt.{Stmt}
+use Rattle.c_syntax.specs.declared.statement.Stmt.TheViews.{roll-Stmt}
+use Rattle.c_syntax.specs.declared.statement.Stmt.TheVariants.{rolls-If}
+use Rattle.c_syntax.specs.declared.statement.Stmt.TheOpen.{If as If_F}
+use Rattle.c_syntax.specs.declared.statement.Stmt.TheFolds.{fold-roll-Stmt}
+use denote.Hole.Carrier as Carrier
+use Rattle.c_syntax.specs.Expression.{expression}
+use Rattle.c_syntax.specs.Statement.{Statement, IfElse, node, statement}
+use Rattle.c_parse_stmt.proofs.build.if_else_of.Goals as goal
+
+pub returns-clause-made : goal.returns-clause-made
+unfolding roll-Stmt Carrier.roll
+returns-clause-made c =
+    let k = c.in_ok-then in
+    let j = c.in_ok-otherwise in
+    ap statement (rolls-If c.args.at c.args.condition k.then (Some j.otherwise)) ∙ fold-roll-Stmt Statement node (If_F c.args.at c.args.condition k.then (Some j.otherwise)) ∙ ap (λ (s : Stmt). IfElse c.args.at (expression c.args.condition) (statement s) (statement j.otherwise.value)) k.ensures.ok ∙ ap (λ (s : Stmt). IfElse c.args.at (expression c.args.condition) (statement c.args.then) (statement s)) j.ensures.ok

@@ -1,0 +1,16 @@
+use Rattle.std.proofs.Common.{None, ap, ◌∙◌}
+use Rattle.c_syntax.specs.declared.statement.Stmt.{Stmt}
+use Rattle.c_syntax.specs.declared.statement.Stmt.TheViews.{roll-Stmt}
+use Rattle.c_syntax.specs.declared.statement.Stmt.TheVariants.{rolls-If}
+use Rattle.c_syntax.specs.declared.statement.Stmt.TheOpen.{If as If_F}
+use Rattle.c_syntax.specs.declared.statement.Stmt.TheFolds.{fold-roll-Stmt}
+use denote.Hole.Carrier as Carrier
+use Rattle.c_syntax.specs.Expression.{expression}
+use Rattle.c_syntax.specs.Statement.{Statement, If, node, statement}
+use Rattle.c_parse_stmt.proofs.build.if_of.Goals as goal
+
+pub returns-clause-made : goal.returns-clause-made
+unfolding roll-Stmt Carrier.roll
+returns-clause-made c =
+    let k = c.in_ok-then in
+    ap statement (rolls-If c.args.at c.args.condition k.then None) ∙ fold-roll-Stmt Statement node (If_F c.args.at c.args.condition k.then None) ∙ ap (λ (s : Stmt). If c.args.at (expression c.args.condition) (statement s)) k.ensures.ok

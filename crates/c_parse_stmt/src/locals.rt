@@ -1,0 +1,181 @@
+//! Declarations of locals.
+
+ghost use Rattle.std.specs.Prelude.{◌≡◌, ◌≤◌, ◌+◌, List, IfOk, IfErr, map, length, option_map};
+ghost use Rattle.c_syntax.specs.Expression.{expression};
+ghost use Rattle.c_syntax.specs.Follow.{Stops};
+ghost use Rattle.c_syntax.specs.Limits.{height_of, one_over, height_of_locals, one_over_locals, height_of_first, locals_of_first};
+ghost use Rattle.c_syntax.specs.Statement as trees;
+ghost use Rattle.c_syntax.specs.Statements.{IsInitialiser, IsLocal, AreLocals, IsDeclaration, IsFirst};
+ghost use Rattle.c_parse_expr.specs.Refusals.{Refuses};
+ghost use Rattle.c_parse_stmt.specs.Parts.{NoInitialiser, NoLocal, NoLocals, NoDeclaration, NoFirst};
+
+use crate::parts::{expect, optional};
+use c_lex::sign::Sign;
+use c_lex::token::Token;
+use c_parse_atom::operands::name;
+use c_parse_atom::operators::follows;
+use c_parse_expr::expressions::expression;
+use c_parse_expr::refusal::{Count, ParseErr, place, too_deep, unexpected};
+use c_parse_type::front::after;
+use c_parse_type::specifiers::{base, stars};
+use c_syntax::expression::Expr;
+use c_syntax::statement::{Declaration, ForFirst, Local};
+use std::alloc::Global;
+
+/// The most expressions that stand around an expression.
+const DEEPEST: u64 = 64;
+
+/// The level of an assignment, which is what an initialiser is (C11, 6.7.9).
+const ASSIGNMENT: u8 = 15;
+
+/// The refusal of the first token, with which the function has one local too many.
+fn too_many_locals(text: &[u8], tokens: &[Token]) -> ParseErr {
+    ParseErr::TooMany {
+        at: place(text, tokens),
+        what: Count::Locals,
+    }
+}
+
+/// The initialiser of a local, if there is one, and what follows it: nothing else goes on behind a
+/// local's name but `,` and `;`. At most `room` statements stand around it.
+fn initialiser<'a>(
+    alloc: Global,
+    text: &[u8],
+    room: u64,
+    tokens: &'a [Token],
+) -> Result<(Option<Expr>, &'a [Token]), ParseErr>
+    ensures found { IfOk result (λ x. IsInitialiser text.now (option_map expression x.0) tokens.now x.1.now) }
+    ensures stops { IfOk result (λ x. Stops 15 x.1.now) }
+    ensures low { IfOk result (λ x. height_of (option_map expression x.0) ≤ 64) }
+    ensures over { IfOk result (λ x. one_over (option_map expression x.0) ≤ room) }
+    ensures refused { IfErr result (λ e. Refuses e (NoInitialiser text.now room tokens.now)) }
+{
+    match after(Sign::Assign, tokens) {
+        Some(value) => {
+            if room == 0 {
+                return Err(too_deep(text, tokens));
+            }
+            let parsed = expression(alloc, text, DEEPEST, ASSIGNMENT, value)?;
+            Ok((Some(parsed.expr), parsed.rest))
+        }
+        None => {
+            if follows(tokens) <= ASSIGNMENT {
+                return Err(unexpected(text, tokens));
+            }
+            Ok((None, tokens))
+        }
+    }
+}
+
+/// The local of a declaration at the front, and what follows it.
+fn local<'a>(
+    alloc: Global,
+    text: &[u8],
+    room: u64,
+    tokens: &'a [Token],
+) -> Result<(Local, &'a [Token]), ParseErr>
+    ensures found { IfOk result (λ x. IsLocal text.now (trees.local x.0) tokens.now x.1.now) }
+    ensures stops { IfOk result (λ x. Stops 15 x.1.now) }
+    ensures low { IfOk result (λ x. height_of (trees.local x.0).initialiser ≤ 64) }
+    ensures over { IfOk result (λ x. one_over (trees.local x.0).initialiser ≤ room) }
+    ensures refused { IfErr result (λ e. Refuses e (NoLocal text.now room tokens.now)) }
+{
+    let (pointers, declarator) = stars(tokens);
+    match name(declarator) {
+        Some((name, behind)) => {
+            let (initialiser, rest) = initialiser(alloc, text, room, behind)?;
+            let local = Local {
+                pointers,
+                name,
+                initialiser,
+            };
+            Ok((local, rest))
+        }
+        None => Err(unexpected(text, declarator)),
+    }
+}
+
+/// The locals of a declaration behind their base, up to the semicolon, how many the function may still
+/// declare, and what follows the semicolon. The function may declare at least one.
+fn locals<'a>(
+    alloc: Global,
+    text: &[u8],
+    room: u64,
+    left: u64,
+    tokens: &'a [Token],
+) -> Result<(Vec<Local>, u64, &'a [Token]), ParseErr>
+    requires { 1 ≤ left }
+    ensures found { IfOk result (λ x. AreLocals text.now (map trees.local x.0.items) tokens.now x.2.now) }
+    ensures low { IfOk result (λ x. height_of_locals (map trees.local x.0.items) ≤ 64) }
+    ensures over { IfOk result (λ x. one_over_locals (map trees.local x.0.items) ≤ room) }
+    ensures taken { IfOk result (λ x. x.1 + length (map trees.local x.0.items) ≡ left) }
+    ensures refused { IfErr result (λ e. Refuses e (NoLocals text.now room left tokens.now)) }
+{
+    let (first, mut rest) = local(alloc, text, room, tokens)?;
+    let mut left = left - 1;
+    let mut found = Vec::new(alloc);
+    found.push(first)?;
+    while let Some(behind) = after(Sign::Comma, rest) {
+        if left == 0 {
+            return Err(too_many_locals(text, rest));
+        }
+        let (next, after) = local(alloc, text, room, behind)?;
+        found.push(next)?;
+        left -= 1;
+        rest = after;
+    }
+    let end = expect(text, Sign::Semicolon, rest)?;
+    Ok((found, left, end))
+}
+
+/// The declaration of locals at the front (C11, 6.7), how many the function may still declare, and what
+/// follows it. At most `room` statements stand around an initialiser.
+pub fn declaration<'a>(
+    alloc: Global,
+    text: &[u8],
+    room: u64,
+    left: u64,
+    tokens: &'a [Token],
+) -> Result<(Declaration, u64, &'a [Token]), ParseErr>
+    ensures found { IfOk result (λ x. IsDeclaration text.now x.0.base (map trees.local x.0.locals.items) tokens.now x.2.now) }
+    ensures low { IfOk result (λ x. height_of_locals (map trees.local x.0.locals.items) ≤ 64) }
+    ensures over { IfOk result (λ x. one_over_locals (map trees.local x.0.locals.items) ≤ room) }
+    ensures taken { IfOk result (λ x. x.1 + length (map trees.local x.0.locals.items) ≡ left) }
+    ensures refused { IfErr result (λ e. Refuses e (NoDeclaration text.now room left tokens.now)) }
+{
+    match base(tokens) {
+        Some((base, behind)) => {
+            if left == 0 {
+                return Err(too_many_locals(text, tokens));
+            }
+            let (locals, left, rest) = locals(alloc, text, room, left, behind)?;
+            Ok((Declaration { base, locals }, left, rest))
+        }
+        None => Err(unexpected(text, tokens)),
+    }
+}
+
+/// What a `for` does first, up to its semicolon (C11, 6.8.5.3), how many locals the function may still
+/// declare, and what follows the semicolon.
+pub fn for_first<'a>(
+    alloc: Global,
+    text: &[u8],
+    left: u64,
+    tokens: &'a [Token],
+) -> Result<(ForFirst, u64, &'a [Token]), ParseErr>
+    ensures found { IfOk result (λ x. IsFirst text.now (trees.first x.0) tokens.now x.2.now) }
+    ensures low { IfOk result (λ x. height_of_first (trees.first x.0) ≤ 64) }
+    ensures taken { IfOk result (λ x. x.1 + locals_of_first (trees.first x.0) ≡ left) }
+    ensures refused { IfErr result (λ e. Refuses e (NoFirst text.now left tokens.now)) }
+{
+    match base(tokens) {
+        Some(_) => {
+            let (declaration, left, rest) = declaration(alloc, text, 1, left, tokens)?;
+            Ok((ForFirst::Declaration(declaration), left, rest))
+        }
+        None => {
+            let (expr, rest) = optional(alloc, text, 1, Sign::Semicolon, tokens)?;
+            Ok((ForFirst::Expression(expr), left, rest))
+        }
+    }
+}
