@@ -1,0 +1,82 @@
+-- How many nodes a program has: each expression, statement, declarator, parameter, constant of an initialiser and function is one.
+use Rattle.std.specs.Prelude.{ℕ, ◌+◌, List, [], ◌∷◌, length, Option, Some, None}
+use Rattle.c_syntax.specs.Expression.{Expression, Constant, Variable, Information, Call, Parentheses, Index, Postfix, Prefix, Unary, Cast, Binary, Conditional, Assign, Comma, Arguments, Done, Next}
+use Rattle.c_syntax.specs.Program.{Initialiser, Single, Several, Global, External, Globals, Function}
+use Rattle.c_syntax.specs.Statement.{Local, First, Declaring, Evaluating, Statement, Declare, Block, Evaluate, If, IfElse, While, DoWhile, For, Return, Break, Continue, Leave, TryExcept, TryFinally, Statements, Empty, Then}
+
+-- ---- expressions
+
+abbrev mutual
+  pub nodes : Expression → ℕ
+  nodes (Constant at literal) = 1
+  nodes (Variable name) = 1
+  nodes (Information at field) = 1
+  nodes (Call name es) = 1 + nodes_of_arguments es
+  nodes (Parentheses at e) = 1 + nodes e
+  nodes (Index e at i) = 1 + (nodes e + nodes i)
+  nodes (Postfix e op at) = 1 + nodes e
+  nodes (Prefix at op e) = 1 + nodes e
+  nodes (Unary at op e) = 1 + nodes e
+  nodes (Cast at to e) = 1 + nodes e
+  nodes (Binary e at op f) = 1 + (nodes e + nodes f)
+  nodes (Conditional e at f g) = 1 + (nodes e + (nodes f + nodes g))
+  nodes (Assign e at op f) = 1 + (nodes e + nodes f)
+  nodes (Comma e at f) = 1 + (nodes e + nodes f)
+
+  pub nodes_of_arguments : Arguments → ℕ
+  nodes_of_arguments Done = 0
+  nodes_of_arguments (Next e es) = nodes e + nodes_of_arguments es
+
+abbrev pub nodes_of_optional : Option Expression → ℕ
+nodes_of_optional None = 0
+nodes_of_optional (Some e) = nodes e
+
+-- ---- statements
+
+abbrev pub nodes_of_locals : List Local → ℕ
+nodes_of_locals [] = 0
+nodes_of_locals (l ∷ ls) = 1 + (nodes_of_optional l.initialiser + nodes_of_locals ls)
+
+abbrev pub nodes_of_first : First → ℕ
+nodes_of_first (Declaring base ls) = nodes_of_locals ls
+nodes_of_first (Evaluating e) = nodes_of_optional e
+
+abbrev mutual
+  pub nodes_of_statement : Statement → ℕ
+  nodes_of_statement (Declare base ls) = 1 + nodes_of_locals ls
+  nodes_of_statement (Block ss) = 1 + nodes_of_statements ss
+  nodes_of_statement (Evaluate e) = 1 + nodes_of_optional e
+  nodes_of_statement (If at c s) = 1 + (nodes c + nodes_of_statement s)
+  nodes_of_statement (IfElse at c s t) = 1 + (nodes c + (nodes_of_statement s + nodes_of_statement t))
+  nodes_of_statement (While at c s) = 1 + (nodes c + nodes_of_statement s)
+  nodes_of_statement (DoWhile s at c) = 1 + (nodes_of_statement s + nodes c)
+  nodes_of_statement (For at f c n s) = 1 + (nodes_of_first f + (nodes_of_optional c + (nodes_of_optional n + nodes_of_statement s)))
+  nodes_of_statement (Return at e) = 1 + nodes_of_optional e
+  nodes_of_statement (Break at) = 1
+  nodes_of_statement (Continue at) = 1
+  nodes_of_statement (Leave at) = 1
+  nodes_of_statement (TryExcept body at f handler) = 1 + (nodes_of_statements body + (nodes f + nodes_of_statements handler))
+  nodes_of_statement (TryFinally body at last) = 1 + (nodes_of_statements body + nodes_of_statements last)
+
+  pub nodes_of_statements : Statements → ℕ
+  nodes_of_statements Empty = 0
+  nodes_of_statements (Then s ss) = nodes_of_statement s + nodes_of_statements ss
+
+-- ---- programs
+
+abbrev pub nodes_of_initialiser : Option Initialiser → ℕ
+nodes_of_initialiser None = 0
+nodes_of_initialiser (Some (Single c)) = 1
+nodes_of_initialiser (Some (Several at cs)) = length cs
+
+abbrev pub nodes_of_globals : List Global → ℕ
+nodes_of_globals [] = 0
+nodes_of_globals (g ∷ gs) = 1 + (nodes_of_initialiser g.initialiser + nodes_of_globals gs)
+
+abbrev pub nodes_of_external : External → ℕ
+nodes_of_external (Globals base gs) = nodes_of_globals gs
+nodes_of_external (Function returns name ps body) = 1 + (length ps + nodes_of_statements body)
+
+abbrev pub nodes_of : List External → ℕ
+nodes_of [] = 0
+nodes_of (x ∷ xs) = nodes_of_external x + nodes_of xs

@@ -1,0 +1,133 @@
+//! Functions.
+
+ghost use Rattle.std.specs.Prelude.{◌≡◌, ◌≤◌, ◌+◌, List, length, map, IfOk, IfErr, IfSome, IfNone};
+ghost use Rattle.c_lex.specs.declared.token.Token.{Token};
+ghost use Rattle.c_syntax.specs.Limits as limits;
+ghost use Rattle.c_syntax.specs.Programs.{IsParameter, AreParameters};
+ghost use Rattle.c_syntax.specs.Statement.{statement, statements};
+ghost use Rattle.c_parse_expr.specs.Refusals.{Refuses};
+ghost use Rattle.c_parse.specs.Parts.{NoParameter, IsVoid, NoListed, NoParameters, IsTail, NoTail};
+
+use c_lex::keyword::Keyword;
+use c_lex::sign::Sign;
+use c_lex::token::Token;
+use c_parse_atom::operands::name;
+use c_parse_expr::refusal::{Count, ParseErr, place, unexpected};
+use c_parse_stmt::left::Left;
+use c_parse_stmt::parts::{expect, word};
+use c_parse_stmt::statements::items;
+use c_parse_type::front::after;
+use c_parse_type::specifiers::c_type;
+use c_syntax::declaration::Parameter;
+use c_syntax::statement::Stmt;
+use std::alloc::Global;
+
+/// The most locals of a function, parameters aside.
+const MOST_LOCALS: u64 = 256;
+
+/// The most statements around a statement in a function's block, and one more for the block, which is
+/// none.
+const DEEPEST: u64 = 65;
+
+/// The refusal of the first token, with which a function has one parameter too many.
+fn too_many_parameters(text: &[u8], tokens: &[Token]) -> ParseErr {
+    ParseErr::TooMany {
+        at: place(text, tokens),
+        what: Count::Parameters,
+    }
+}
+
+/// The parameter at the front, and what follows it.
+fn parameter<'a>(text: &[u8], tokens: &'a [Token]) -> Result<(Parameter, &'a [Token]), ParseErr>
+    ensures found { IfOk result (λ x. IsParameter x.0 tokens.now x.1.now) }
+    ensures refused { IfErr result (λ e. Refuses e (NoParameter tokens.now)) }
+{
+    match c_type(tokens) {
+        Some((of, behind)) => match name(behind) {
+            Some((name, rest)) => Ok((Parameter { of, name }, rest)),
+            None => Err(unexpected(text, behind)),
+        },
+        None => Err(unexpected(text, tokens)),
+    }
+}
+
+/// What follows `void` and the parenthesis, if both are at the front.
+fn after_void(tokens: &[Token]) -> Option<&[Token]>
+    ensures found { IfSome result (λ rest. IsVoid tokens.now rest.now) }
+    ensures none { IfNone result ((rest : List Token) → IsVoid tokens.now rest → ⊥) }
+{
+    match word(Keyword::Void, tokens) {
+        Some((_, behind)) => after(Sign::CloseParenthesis, behind),
+        None => None,
+    }
+}
+
+/// One parameter at least and the parenthesis, and what follows it.
+fn listed<'a>(
+    alloc: Global,
+    text: &[u8],
+    tokens: &'a [Token],
+) -> Result<(Vec<Parameter>, &'a [Token]), ParseErr>
+    ensures found { IfOk result (λ x. AreParameters x.0.items tokens.now x.1.now) }
+    ensures few { IfOk result (λ x. length x.0.items ≤ 8) }
+    ensures refused { IfErr result (λ e. Refuses e (NoListed tokens.now)) }
+{
+    let (first, mut rest) = parameter(text, tokens)?;
+    let mut left: u64 = 7;
+    let mut found = Vec::new(alloc);
+    found.push(first)?;
+    while let Some(behind) = after(Sign::Comma, rest) {
+        if left == 0 {
+            return Err(too_many_parameters(text, rest));
+        }
+        let (next, after) = parameter(text, behind)?;
+        found.push(next)?;
+        left -= 1;
+        rest = after;
+    }
+    let end = expect(text, Sign::CloseParenthesis, rest)?;
+    Ok((found, end))
+}
+
+/// The parameters of a function behind the parenthesis (C11, 6.7.6.3), at most 8, and what follows the
+/// other parenthesis. Nothing and `void` stand for none.
+fn parameters<'a>(
+    alloc: Global,
+    text: &[u8],
+    tokens: &'a [Token],
+) -> Result<(Vec<Parameter>, &'a [Token]), ParseErr>
+    ensures found { IfOk result (λ x. AreParameters x.0.items tokens.now x.1.now) }
+    ensures few { IfOk result (λ x. length x.0.items ≤ 8) }
+    ensures refused { IfErr result (λ e. Refuses e (NoParameters tokens.now)) }
+{
+    if let Some(rest) = after(Sign::CloseParenthesis, tokens) {
+        return Ok((Vec::new(alloc), rest));
+    }
+    if let Some(rest) = after_void(tokens) {
+        return Ok((Vec::new(alloc), rest));
+    }
+    listed(alloc, text, tokens)
+}
+
+/// The parameters and the body of a function behind its name and the parenthesis (C11, 6.9.1), how many
+/// numbered filters and `__finally` blocks the program may still have, and what follows the body.
+pub fn tail<'a>(
+    alloc: Global,
+    text: &[u8],
+    funclets: u64,
+    tokens: &'a [Token],
+) -> Result<(Vec<Parameter>, Vec<Stmt>, u64, &'a [Token]), ParseErr>
+    ensures found { IfOk result (λ x. IsTail text.now x.0.items (statements (map statement x.1.items)) tokens.now x.3.now) }
+    ensures within { IfOk result (λ x. limits.FunctionWithin x.0.items (statements (map statement x.1.items))) }
+    ensures taken { IfOk result (λ x. x.2 + length (limits.all_numbered text.now (statements (map statement x.1.items))) ≡ funclets) }
+    ensures refused { IfErr result (λ e. Refuses e (NoTail text.now funclets tokens.now)) }
+{
+    let (parameters, behind) = parameters(alloc, text, tokens)?;
+    let inner = expect(text, Sign::OpenBrace, behind)?;
+    let left = Left {
+        locals: MOST_LOCALS,
+        funclets,
+    };
+    let (body, left, rest) = items(alloc, text, DEEPEST, left, inner)?;
+    Ok((parameters, body, left.funclets, rest))
+}

@@ -1,0 +1,202 @@
+//! Globals, and where they lie.
+
+ghost use Rattle.std.specs.Prelude.{◌≡◌, ◌≤◌, ◌<◌, ◌+◌, ◌*◌, Some, IfOk, IfErr, IfSome, IfNone, map};
+ghost use Rattle.c_lex.specs.declared.sign.Sign.TheVariants as signs;
+ghost use Rattle.c_syntax.specs.Follow.{Stops};
+ghost use Rattle.c_syntax.specs.Limits as limits;
+ghost use Rattle.c_syntax.specs.Program as trees;
+ghost use Rattle.c_syntax.specs.Programs.{IsLength, IsGlobal, AreGlobals};
+ghost use Rattle.c_parse_expr.specs.Refusals.{Refuses};
+ghost use Rattle.c_parse.specs.Parts as parts;
+ghost use Rattle.c_parse.specs.Parts.{NoLength, NoGlobal, NoGlobals};
+
+use crate::initialisers::{initialiser, stop};
+use c_lex::sign::Sign;
+use c_lex::token::Token;
+use c_parse_atom::operands::{integer, name};
+use c_parse_expr::refusal::{Count, ParseErr, place, unexpected};
+use c_parse_stmt::parts::expect;
+use c_parse_type::front::after;
+use c_parse_type::specifiers::stars;
+use c_syntax::declaration::{Global, Length};
+use c_syntax::expression::Base;
+use std::alloc::Global as Allocator;
+
+/// The most bytes that a program's globals take.
+const MOST_BYTES: u64 = 1_048_576;
+
+/// The level of `[`: behind a length stands nothing with which a postfix expression goes on.
+const POSTFIX: u8 = 1;
+
+/// How many bytes a type has: those of its base, or 8 of a pointer. `void` has none.
+fn size_of(base: Base, pointers: u64) -> u64
+    ensures size { result ≡ limits.size base pointers }
+    ensures small { result ≤ 8 }
+{
+    match pointers {
+        0 => match base {
+            Base::Void => 0,
+            Base::Char | Base::UnsignedChar => 1,
+            Base::Short | Base::UnsignedShort => 2,
+            Base::Int | Base::Unsigned => 4,
+            Base::LongLong | Base::UnsignedLongLong => 8,
+        },
+        _ => 8,
+    }
+}
+
+/// Where `count` elements of a size end that are placed behind `at` bytes, at a multiple of the size;
+/// none where that is too far.
+fn end_of(size: u64, count: u64, at: u64) -> Option<u64>
+    requires size { size ≤ 8 }
+    requires at { at ≤ 1048576 }
+    ensures found { IfSome result (λ end. end ≡ limits.aligned at size + size * count) }
+    ensures low { IfSome result (λ end. end ≤ 1048576) }
+    ensures none { IfNone result (1048576 < limits.aligned at size + size * count) }
+{
+    if size == 0 {
+        return Some(at);
+    }
+    let start = (at + (size - 1)) / size * size;
+    if start > MOST_BYTES || count > (MOST_BYTES - start) / size {
+        return None;
+    }
+    Some(start + size * count)
+}
+
+/// The refusal at a place from which on the program's globals take too many bytes.
+fn too_many_bytes(at: u64) -> ParseErr {
+    ParseErr::TooMany {
+        at,
+        what: Count::Globals,
+    }
+}
+
+/// The refusal of the first token behind the name of a scalar that takes too many bytes.
+fn no_room(text: &[u8], tokens: &[Token]) -> ParseErr {
+    for sign in [Sign::Semicolon, Sign::Comma, Sign::Assign] {
+        if after(sign, tokens).is_some() {
+            return too_many_bytes(place(text, tokens));
+        }
+    }
+    unexpected(text, tokens)
+}
+
+/// The length of an array behind its bracket, where the array ends, and what follows the other bracket.
+fn bracketed<'a>(
+    text: &[u8],
+    base: Base,
+    pointers: u64,
+    bytes: u64,
+    tokens: &'a [Token],
+) -> Result<(Length, u64, &'a [Token]), ParseErr>
+    requires { bytes ≤ 1048576 }
+    ensures found { IfOk result (λ x. parts.IsBracketed x.0 tokens.now x.2.now) }
+    ensures stops { IfOk result (λ x. Stops 1 x.2.now) }
+    ensures end { IfOk result (λ x. x.1 ≡ parts.end_of base pointers (Some x.0) bytes) }
+    ensures low { IfOk result (λ x. x.1 ≤ 1048576) }
+    ensures refused { IfErr result (λ e. Refuses e (parts.NoneBracketed base pointers bytes tokens.now)) }
+{
+    match integer(tokens) {
+        Some((value, at, behind)) => match end_of(size_of(base, pointers), value, bytes) {
+            Some(end) => {
+                let rest = expect(text, Sign::CloseBracket, behind)?;
+                stop(text, POSTFIX, rest)?;
+                Ok((Length { at, value }, end, rest))
+            }
+            None => Err(too_many_bytes(at)),
+        },
+        None => Err(unexpected(text, tokens)),
+    }
+}
+
+/// The length of a global behind its name, if it is an array (C11, 6.7.6.2), where the global ends that
+/// is placed behind so many bytes, and what follows the length.
+fn length<'a>(
+    text: &[u8],
+    base: Base,
+    pointers: u64,
+    bytes: u64,
+    tokens: &'a [Token],
+) -> Result<(Option<Length>, u64, &'a [Token]), ParseErr>
+    requires { bytes ≤ 1048576 }
+    ensures found { IfOk result (λ x. IsLength x.0 tokens.now x.2.now) }
+    ensures stops { IfOk result (λ x. Stops 1 x.2.now) }
+    ensures end { IfOk result (λ x. x.1 ≡ parts.end_of base pointers x.0 bytes) }
+    ensures low { IfOk result (λ x. x.1 ≤ 1048576) }
+    ensures refused { IfErr result (λ e. Refuses e (NoLength base pointers bytes tokens.now)) }
+{
+    match after(Sign::OpenBracket, tokens) {
+        Some(inner) => {
+            let (length, end, rest) = bracketed(text, base, pointers, bytes, inner)?;
+            Ok((Some(length), end, rest))
+        }
+        None => {
+            stop(text, POSTFIX, tokens)?;
+            match end_of(size_of(base, pointers), 1, bytes) {
+                Some(end) => Ok((None, end, tokens)),
+                None => Err(no_room(text, tokens)),
+            }
+        }
+    }
+}
+
+/// The global at the front, where it ends that is placed behind so many bytes, and what follows it.
+fn global<'a>(
+    alloc: Allocator,
+    text: &[u8],
+    base: Base,
+    bytes: u64,
+    tokens: &'a [Token],
+) -> Result<(Global, u64, &'a [Token]), ParseErr>
+    requires { bytes ≤ 1048576 }
+    ensures found { IfOk result (λ x. IsGlobal (trees.global x.0) tokens.now x.2.now) }
+    ensures stops { IfOk result (λ x. Stops 15 x.2.now) }
+    ensures end { IfOk result (λ x. x.1 ≡ parts.end_of base (trees.global x.0).pointers (trees.global x.0).length bytes) }
+    ensures low { IfOk result (λ x. x.1 ≤ 1048576) }
+    ensures refused { IfErr result (λ e. Refuses e (NoGlobal base bytes tokens.now)) }
+{
+    let (pointers, declarator) = stars(tokens);
+    match name(declarator) {
+        Some((name, behind)) => {
+            let (length, end, behind) = length(text, base, pointers, bytes, behind)?;
+            let (initialiser, rest) = initialiser(alloc, text, behind)?;
+            let global = Global {
+                pointers,
+                name,
+                length,
+                initialiser,
+            };
+            Ok((global, end, rest))
+        }
+        None => Err(unexpected(text, declarator)),
+    }
+}
+
+/// The globals of a declaration behind their base, up to the semicolon, where they end that are placed
+/// behind so many bytes, and what follows the semicolon.
+pub fn globals<'a>(
+    alloc: Allocator,
+    text: &[u8],
+    base: Base,
+    bytes: u64,
+    tokens: &'a [Token],
+) -> Result<(Vec<Global>, u64, &'a [Token]), ParseErr>
+    requires { bytes ≤ 1048576 }
+    ensures found { IfOk result (λ x. AreGlobals (map trees.global x.0.items) tokens.now x.2.now) }
+    ensures end { IfOk result (λ x. x.1 ≡ limits.end_of_globals base (map trees.global x.0.items) bytes) }
+    ensures low { IfOk result (λ x. x.1 ≤ 1048576) }
+    ensures refused { IfErr result (λ e. Refuses e (NoGlobals base bytes tokens.now)) }
+{
+    let (first, mut end, mut rest) = global(alloc, text, base, bytes, tokens)?;
+    let mut found = Vec::new(alloc);
+    found.push(first)?;
+    while let Some(behind) = after(Sign::Comma, rest) {
+        let (next, further, after) = global(alloc, text, base, end, behind)?;
+        found.push(next)?;
+        end = further;
+        rest = after;
+    }
+    let rest = expect(text, Sign::Semicolon, rest)?;
+    Ok((found, end, rest))
+}

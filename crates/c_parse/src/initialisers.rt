@@ -1,0 +1,149 @@
+//! Initialisers of globals.
+
+ghost use Rattle.std.specs.Prelude.{◌≡◌, ℕ, List, IfOk, IfErr, IfSome, IfNone, option_map};
+ghost use Rattle.c_lex.specs.declared.token.Token.{Token};
+ghost use Rattle.c_syntax.specs.Follow.{Stops};
+ghost use Rattle.c_syntax.specs.Program as trees;
+ghost use Rattle.c_syntax.specs.Programs.{IsConstant, AreConstants, IsInitialiser};
+ghost use Rattle.c_syntax.specs.Tokens.{IsSign};
+ghost use Rattle.c_parse_expr.specs.Refusals.{Refuses};
+ghost use Rattle.c_parse.specs.Parts.{NoConstant, NoConstants, IsGiven, NoneGiven, NoInitialiser};
+
+use c_lex::sign::Sign;
+use c_lex::token::Token;
+use c_parse_atom::operands::literal;
+use c_parse_atom::operators::follows;
+use c_parse_expr::refusal::{ParseErr, unexpected};
+use c_parse_expr::step::first_sign;
+use c_parse_stmt::parts::expect;
+use c_parse_type::front::after;
+use c_syntax::declaration::{Constant, Initialiser};
+use std::alloc::Global;
+
+/// The level of an assignment: behind an initialiser stands nothing with which such an expression goes
+/// on.
+const ASSIGNMENT: u8 = 15;
+
+/// The place of the wanted sign, and what follows it, if that is at the front.
+fn sign_at(wanted: Sign, tokens: &[Token]) -> Option<(u64, &[Token])>
+    ensures found { IfSome result (λ x. IsSign wanted x.0 tokens.now x.1.now) }
+    ensures none { IfNone result ((at : ℕ) (rest : List Token) → IsSign wanted at tokens.now rest → ⊥) }
+{
+    match first_sign(tokens) {
+        Some((found, at, rest)) => {
+            if found == wanted {
+                Some((at, rest))
+            } else {
+                None
+            }
+        }
+        None => None,
+    }
+}
+
+/// Refuses the first token where an expression of the level or a tighter one would go on with it.
+pub fn stop(text: &[u8], level: u8, tokens: &[Token]) -> Result<(), ParseErr>
+    ensures found { IfOk result (λ x. Stops level tokens.now) }
+    ensures refused { IfErr result (λ e. Refuses e (Stops level tokens.now → ⊥)) }
+{
+    if follows(tokens) <= level {
+        return Err(unexpected(text, tokens));
+    }
+    Ok(())
+}
+
+/// The constant at the front, a literal or `-` and a literal, and what follows it.
+fn constant<'a>(text: &[u8], tokens: &'a [Token]) -> Result<(Constant, &'a [Token]), ParseErr>
+    ensures found { IfOk result (λ x. IsConstant x.0 tokens.now x.1.now) }
+    ensures refused { IfErr result (λ e. Refuses e (NoConstant tokens.now)) }
+{
+    match sign_at(Sign::Minus, tokens) {
+        Some((at, behind)) => match literal(behind) {
+            Some((literal, _, rest)) => {
+                let constant = Constant {
+                    at,
+                    negative: true,
+                    literal,
+                };
+                Ok((constant, rest))
+            }
+            None => Err(unexpected(text, behind)),
+        },
+        None => match literal(tokens) {
+            Some((literal, at, rest)) => {
+                let constant = Constant {
+                    at,
+                    negative: false,
+                    literal,
+                };
+                Ok((constant, rest))
+            }
+            None => Err(unexpected(text, tokens)),
+        },
+    }
+}
+
+/// The constants of a list, up to the brace that ends it, and what follows the brace.
+fn constants<'a>(
+    alloc: Global,
+    text: &[u8],
+    tokens: &'a [Token],
+) -> Result<(Vec<Constant>, &'a [Token]), ParseErr>
+    ensures found { IfOk result (λ x. AreConstants x.0.items tokens.now x.1.now) }
+    ensures refused { IfErr result (λ e. Refuses e (NoConstants tokens.now)) }
+{
+    let (first, mut rest) = constant(text, tokens)?;
+    let mut found = Vec::new(alloc);
+    found.push(first)?;
+    while let Some(behind) = after(Sign::Comma, rest) {
+        let (next, after) = constant(text, behind)?;
+        found.push(next)?;
+        rest = after;
+    }
+    let end = expect(text, Sign::CloseBrace, rest)?;
+    Ok((found, end))
+}
+
+/// What stands behind `=`: a constant, or constants in braces; and what follows it.
+fn given<'a>(
+    alloc: Global,
+    text: &[u8],
+    tokens: &'a [Token],
+) -> Result<(Initialiser, &'a [Token]), ParseErr>
+    ensures found { IfOk result (λ x. IsGiven (trees.initialiser x.0) tokens.now x.1.now) }
+    ensures refused { IfErr result (λ e. Refuses e (NoneGiven tokens.now)) }
+{
+    match sign_at(Sign::OpenBrace, tokens) {
+        Some((at, inner)) => {
+            let (constants, rest) = constants(alloc, text, inner)?;
+            Ok((Initialiser::List { at, constants }, rest))
+        }
+        None => {
+            let (constant, rest) = constant(text, tokens)?;
+            Ok((Initialiser::Single(constant), rest))
+        }
+    }
+}
+
+/// The initialiser of a global, if there is one (C11, 6.7.9), and what follows it.
+pub fn initialiser<'a>(
+    alloc: Global,
+    text: &[u8],
+    tokens: &'a [Token],
+) -> Result<(Option<Initialiser>, &'a [Token]), ParseErr>
+    ensures found { IfOk result (λ x. IsInitialiser (option_map trees.initialiser x.0) tokens.now x.1.now) }
+    ensures stops { IfOk result (λ x. Stops 15 x.1.now) }
+    ensures refused { IfErr result (λ e. Refuses e (NoInitialiser tokens.now)) }
+{
+    match after(Sign::Assign, tokens) {
+        Some(value) => {
+            let (given, rest) = given(alloc, text, value)?;
+            stop(text, ASSIGNMENT, rest)?;
+            Ok((Some(given), rest))
+        }
+        None => {
+            stop(text, ASSIGNMENT, tokens)?;
+            Ok((None, tokens))
+        }
+    }
+}

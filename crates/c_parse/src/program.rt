@@ -1,0 +1,168 @@
+//! Whole programs.
+
+ghost use Rattle.std.specs.Prelude.{◌≡◌, ◌≤◌, List, length, IfOk, IfErr, MatchResult, map};
+ghost use Rattle.c_syntax.specs.Limits.{Within};
+ghost use Rattle.c_syntax.specs.Program as trees;
+ghost use Rattle.c_syntax.specs.Programs.{IsExternal, IsProgram};
+ghost use Rattle.c_parse_expr.specs.declared.refusal.ParseErr.TheVariants.{Memory};
+ghost use Rattle.c_parse_expr.specs.Refusals.{Refuses};
+ghost use Rattle.c_parse.specs.Counts.{Taken, NoExternal};
+ghost use Rattle.c_parse.specs.Nodes.{nodes_of};
+ghost use Rattle.c_parse.specs.Parts.{IsHead, NoHead};
+
+use crate::counts::Counts;
+use crate::functions::tail;
+use crate::globals::globals;
+use c_lex::sign::Sign;
+use c_lex::token::Token;
+use c_parse_atom::operands::name;
+use c_parse_expr::refusal::{Count, ParseErr, place, unexpected};
+use c_parse_type::front::after;
+use c_parse_type::specifiers::{base, stars};
+use c_syntax::declaration::External;
+use c_syntax::expression::{Base, CType, Name};
+use std::alloc::Global;
+
+/// The most functions of a program.
+const MOST_FUNCTIONS: u64 = 4_096;
+
+/// The most numbered filters and `__finally` blocks of a program.
+const MOST_FUNCLETS: u64 = 16_384;
+
+/// A program: its external declarations, in their order.
+#[derive(Drop)]
+pub struct Program {
+    pub externals: Vec<External>,
+}
+
+/// The refusal of the first token, with which the program has one function too many.
+fn too_many_functions(text: &[u8], tokens: &[Token]) -> ParseErr {
+    ParseErr::TooMany {
+        at: place(text, tokens),
+        what: Count::Functions,
+    }
+}
+
+/// What an external declaration begins with: a base, stars and a name.
+#[derive(Clone, Copy)]
+struct Heading<'a> {
+    base: Base,
+    /// What follows the base.
+    declarators: &'a [Token],
+    pointers: u64,
+    name: Name,
+    /// What follows the name.
+    rest: &'a [Token],
+}
+
+/// The head of the external declaration at the front.
+fn head<'a>(text: &[u8], tokens: &'a [Token]) -> Result<Heading<'a>, ParseErr>
+    ensures found { IfOk result (λ h. IsHead h.base h.pointers h.name tokens.now h.declarators.now h.rest.now) }
+    ensures refused { IfErr result (λ e. Refuses e (NoHead tokens.now)) }
+{
+    match base(tokens) {
+        Some((base, declarators)) => {
+            let (pointers, declarator) = stars(declarators);
+            match name(declarator) {
+                Some((name, rest)) => {
+                    let head = Heading {
+                        base,
+                        declarators,
+                        pointers,
+                        name,
+                        rest,
+                    };
+                    Ok(head)
+                }
+                None => Err(unexpected(text, declarator)),
+            }
+        }
+        None => Err(unexpected(text, tokens)),
+    }
+}
+
+/// The external declaration at the front (C11, 6.9), the counts behind it, and what follows it.
+fn external<'a>(
+    alloc: Global,
+    text: &[u8],
+    counts: Counts,
+    tokens: &'a [Token],
+) -> Result<(External, Counts, &'a [Token]), ParseErr>
+    requires { counts.bytes ≤ 1048576 }
+    ensures found { IfOk result (λ x. IsExternal text.now (trees.external x.0) tokens.now x.2.now) }
+    ensures taken { IfOk result (λ x. Taken text.now counts x.1 (trees.external x.0)) }
+    ensures refused { IfErr result (λ e. Refuses e (NoExternal text.now counts tokens.now)) }
+{
+    let head = head(text, tokens)?;
+    match after(Sign::OpenParenthesis, head.rest) {
+        Some(inner) => {
+            if counts.functions == 0 {
+                return Err(too_many_functions(text, head.rest));
+            }
+            let (parameters, body, funclets, rest) = tail(alloc, text, counts.funclets, inner)?;
+            let function = External::Function {
+                returns: CType {
+                    base: head.base,
+                    pointers: head.pointers,
+                },
+                name: head.name,
+                parameters,
+                body,
+            };
+            let counts = Counts {
+                functions: counts.functions - 1,
+                bytes: counts.bytes,
+                funclets,
+            };
+            Ok((function, counts, rest))
+        }
+        None => {
+            let (globals, bytes, rest) = globals(
+                alloc,
+                text,
+                head.base,
+                counts.bytes,
+                head.declarators,
+            )?;
+            let declaration = External::Globals {
+                base: head.base,
+                globals,
+            };
+            let counts = Counts {
+                functions: counts.functions,
+                bytes,
+                funclets: counts.funclets,
+            };
+            Ok((declaration, counts, rest))
+        }
+    }
+}
+
+/// The program that all tokens are (C11, 6.9), within the limits.
+pub fn parse(alloc: Global, text: &[u8], tokens: &[Token]) -> Result<Program, ParseErr>
+    // The tokens are the program.
+    ensures found { IfOk result (λ p. IsProgram text.now (map trees.external p.externals.items) tokens.now) }
+    // It is within the limits.
+    ensures within { IfOk result (λ p. Within text.now (map trees.external p.externals.items)) }
+    // It has no more nodes than there are tokens, and so than the text has bytes.
+    ensures few { IfOk result (λ p. nodes_of (map trees.external p.externals.items) ≤ length tokens.now) }
+    // A program within the limits isn't refused, unless memory runs out, and is the one that is read.
+    ensures only { (xs : List trees.External) → IsProgram text.now xs tokens.now → Within text.now xs → MatchResult result (λ p. map trees.external p.externals.items ≡ xs) (λ e. e ≡ Memory) }
+    // Tokens are refused only where they are no program within the limits, or memory runs out.
+    ensures refused { IfErr result (λ e. Refuses e ((xs : List trees.External) → IsProgram text.now xs tokens.now → Within text.now xs → ⊥)) }
+{
+    let mut externals = Vec::new(alloc);
+    let mut counts = Counts {
+        functions: MOST_FUNCTIONS,
+        bytes: 0,
+        funclets: MOST_FUNCLETS,
+    };
+    let mut rest = tokens;
+    while !rest.is_empty() {
+        let (next, less, behind) = external(alloc, text, counts, rest)?;
+        externals.push(next)?;
+        counts = less;
+        rest = behind;
+    }
+    Ok(Program { externals })
+}
