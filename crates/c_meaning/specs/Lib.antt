@@ -2,9 +2,4 @@ pub mod Syntax
 pub mod Programs
 pub mod Meaning
 pub mod Steps
-pub mod Words
-pub mod Tokens
-pub mod Spans
-pub mod Grammar
-pub mod Refusals
 pub mod Worked

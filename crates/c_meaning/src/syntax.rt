@@ -11,7 +11,7 @@ pub enum BinaryOperator {
 /// An expression of type `int`.
 #[derive(Drop)]
 pub enum Expr {
-    /// A decimal literal, at most 2,147,483,647.
+    /// A number, at most 2,147,483,647.
     Literal(u32),
     /// An operator between its left and its right operand.
     Binary(BinaryOperator, Box<Expr>, Box<Expr>),

@@ -1,0 +1,9 @@
+//! What one program is where it is compiled.
+
+ghost use Rattle.c_first.specs.Worked.{IsFourteen};
+
+/// `int main(void) { put(2+3*4); return 7; }` is a program within the limits, and it is compiled as
+/// these two statements.
+pub fn worked_program()
+    ensures { IsFourteen }
+{}

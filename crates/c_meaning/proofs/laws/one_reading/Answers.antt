@@ -1,5 +1,0 @@
-use Rattle.c_meaning.proofs.Readings.{one_reading}
-use Rattle.c_meaning.proofs.laws.one_reading.Goals as goal
-
-pub returns : goal.returns
-returns c = one_reading
