@@ -1,5 +1,5 @@
 -- The code of a program.
-use Rattle.std.proofs.Common.{◌≡◌, ◌≢◌, ℕ, zero, suc, ◌+◌, ◌-◌, ◌*◌, ◌%◌, ◌^◌, ◌<◌, ◌≤◌, true, false, List, [], ◌∷◌, ◌++◌, length, get_or, set, Some, Ok, refl, sym, ap, subst, ◌∙◌, arith, inl, inr, get_or-set_same, get_or-set_other, add_assoc, length-set, eq-eqb}
+use Rattle.std.proofs.Common.{◌≡◌, ◌≢◌, ℕ, zero, suc, ◌+◌, ◌-◌, ◌*◌, ◌%◌, ◌^◌, ◌<◌, ◌≤◌, true, List, [], ◌∷◌, ◌++◌, length, get_or, set, Some, Ok, refl, sym, ap, subst, ◌∙◌, arith, inl, inr, get_or-set_same, get_or-set_other, add_assoc, length-set, eq-eqb}
 use Rattle.std.proofs.lemmas.Bool.{cases_lt}
 use Rattle.std.proofs.lemmas.List.{append-nil}
 use Rattle.seh_num.specs.declared.width.Width.TheVariants.{W32, W64}
@@ -7,7 +7,7 @@ use Rattle.seh_num.specs.declared.event.Event.{Event}
 use Rattle.seh_num.specs.declared.event.Event.TheVariants as events
 use Rattle.seh_num.specs.declared.end.RunEnd.TheVariants as ends
 use Rattle.seh_num.specs.Widths.{low, signed}
-use Rattle.flat_memory.specs.Memory.{number_at, may_read, may_write}
+use Rattle.flat_memory.specs.Memory.{number_at, may_read}
 use Rattle.x64_instr.specs.declared.register.Reg.TheVariants.{Rax, Rcx, Rsp}
 use Rattle.x64_instr.specs.declared.operand.Place.TheVariants as places
 use Rattle.x64_instr.specs.declared.operand.Operand.TheVariants as operands
@@ -33,7 +33,7 @@ use Rattle.x64_emit.proofs.Spelled.{has_code, main_encodable}
 use Rattle.x64_emit.proofs.Turns.{steps, one_turn}
 use Rattle.x64_emit.proofs.Longer.{begins, longer, none_yet, covers_then}
 use Rattle.x64_emit.proofs.Expressions.{all_may, load_at, rsp, after_rax, after_rcx, rax_is, rcx_is, keeps_rax, keeps_rcx, within, rest_le, le_self, Gives, expression_runs}
-use Rattle.x64_emit.proofs.Statements.{HasFrame, Holds, holds_of_keeps, frame_kept, slots_of, Does, put_runs}
+use Rattle.x64_emit.proofs.Statements.{HasFrame, Holds, holds_of_keeps, unwritten, frame_kept, slots_of, Does, put_runs}
 
 -- ---- the end
 
@@ -118,17 +118,6 @@ return_runs s to v placed code h rax =
 
 -- ---- statements
 
--- what may not be written is as it was
-unwritten : (s t : State) → HasFrame s → Holds s t → (a : ℕ) → may_write s.memory a ≡ false → t.memory.byte a ≡ s.memory.byte a
-unwritten s t h k a plain = k.byte a (
-    elim (cases_lt (a + 8) (rsp s)) [
-      | inl lt ↦ inl lt
-      | inr le ↦ elim (cases_lt a (rsp s + 552)) [
-        | inl lt ↦ let may = h.writable a le lt in let f : false ≡ true = sym plain ∙ may in absurd cc
-        | inr ge ↦ inr ge
-      ]
-    ])
-
 held_code : (s t : State) (at : ℕ) (is : List Instr) (to : ℕ) → HasFrame s → Holds s t → HasCode s.memory at is to → HasCode t.memory at is to
 held_code s t at is to h k c = code_kept s.memory t.memory at is to (unwritten s t h k) k.mode c
 
@@ -169,10 +158,10 @@ module _ (rest : List Statement) (e : Expression) (s : State) (mid : ℕ) (g : G
   abbrev return_then : List Event → Valued → meaning.Shown
   return_then out o = then (unfinished out) (λ v left. ended out (signed W32 v)) o
 
-  cost : length (expression_code e 0) + 4 ≤ 256 * (nodes e + 2)
+  cost : length (expression_code e 0) + 5 ≤ 256 * (nodes e + 2)
   cost = let f = few e 0 in omega arith
 
-  put_case : (mid2 : ℕ) (d : Does 4 g.after (events.Put (signed W32 (value e)) ∷ []) mid2 s) → Shows rest d.after → Shows (Put e ∷ rest) s
+  put_case : (mid2 : ℕ) (d : Does 5 g.after (events.Put (signed W32 (value e)) ∷ []) mid2 s) → Shows rest d.after → Shows (Put e ∷ rest) s
   put_case mid2 d h zero out = early s out (limit 0)
   put_case mid2 d h (suc zero) out = early s out (limit 1)
   put_case mid2 d h (suc (suc k)) out =
@@ -184,8 +173,8 @@ module _ (rest : List Statement) (e : Expression) (s : State) (mid : ℕ) (g : G
         | inr le ↦
             let left : suc (suc k) - w ≡ k - nodes e = omega arith in
             subst (λ o. CoversRun (put_then out o) (run (limit (suc (suc k))) (host s) out)) (sym (enough e k le))
-            (put_covers (c + 4) w (suc (suc k)) s d.after ev out (shown_by rest (k - nodes e) (out ++ ev)) cost (omega arith)
-            (λ j o. ap (λ i. run i (host s) o) (add_assoc c 4 j) ∙ g.comes (4 + j) o ∙ d.comes j o)
+            (put_covers (c + 5) w (suc (suc k)) s d.after ev out (shown_by rest (k - nodes e) (out ++ ev)) cost (omega arith)
+            (λ j o. ap (λ i. run i (host s) o) (add_assoc c 5 j) ∙ g.comes (5 + j) o ∙ d.comes j o)
             (subst (λ n. CoversRun (shown_by rest (k - nodes e) (out ++ ev)) (run (limit n) (host d.after) (out ++ ev))) (sym left) (h (k - nodes e) (out ++ ev))))
       ]
 
@@ -206,7 +195,7 @@ module _ (rest : List Statement) (e : Expression) (s : State) (mid : ℕ) (g : G
 after_expression : (e : Expression) (s : State) (mid : ℕ) → height e ≤ 64 → HasFrame s → IsPlaced s.cpu.rip mid → HasCode s.memory s.cpu.rip (expression_code e 0) mid → Gives (length (expression_code e 0)) 0 s mid (value e)
 after_expression e s mid le h placed code = expression_runs e 0 (omega arith) s mid (slots_of s h) placed code
 
-put_after : (e : Expression) (s : State) (mid mid2 : ℕ) → HasFrame s → IsPlaced mid mid2 → HasCode s.memory mid put_code mid2 → (g : Gives (length (expression_code e 0)) 0 s mid (value e)) → Does 4 g.after (events.Put (signed W32 (value e)) ∷ []) mid2 s
+put_after : (e : Expression) (s : State) (mid mid2 : ℕ) → HasFrame s → IsPlaced mid mid2 → HasCode s.memory mid put_code mid2 → (g : Gives (length (expression_code e 0)) 0 s mid (value e)) → Does 5 g.after (events.Put (signed W32 (value e)) ∷ []) mid2 s
 put_after e s mid mid2 h placed code g =
     let held = holds_of_keeps s g.after g.keeps in
     put_runs s g.after mid2 (value e) g.value (value_small e) (frame_kept s g.after h held) held (subst (λ r. IsPlaced r mid2) (sym g.rip) placed) (subst (λ r. HasCode g.after.memory r put_code mid2) (sym g.rip) (held_code s g.after mid put_code mid2 h held code))
@@ -247,7 +236,7 @@ body_shows (Put e ∷ rest) s to deep h placed code =
     let p1 = three_placed s.cpu.rip c.0 r.0 to placed l1 l2 l3 in
     let g = after_expression e s c.0 (omega arith) h p1.0 c.1 in
     let done = put_after e s c.0 r.0 h p1.1 c.2 g in
-    put_case rest e s c.0 g r.0 done (rest_after rest 4 r.0 to (events.Put (signed W32 (value e)) ∷ []) s g.after h p1.2 r.2 done (λ t ft pt ct. body_shows rest t to (omega arith) ft pt ct))
+    put_case rest e s c.0 g r.0 done (rest_after rest 5 r.0 to (events.Put (signed W32 (value e)) ∷ []) s g.after h p1.2 r.2 done (λ t ft pt ct. body_shows rest t to (omega arith) ft pt ct))
 body_shows (Return e ∷ rest) s to deep h placed code =
     let r = has_split s.memory s.cpu.rip (expression_code e 0 ++ leave_code) (body_code rest) to code in
     let c = has_split s.memory s.cpu.rip (expression_code e 0) leave_code r.0 r.1 in
@@ -297,6 +286,7 @@ module _ (s : State) (next next2 : ℕ) (f : Flags) (room : HasRoom s) where
         writable = λ a p q. room.writable a (omega arith) (omega arith);
         readable = λ a p q. room.readable a (omega arith) (omega arith);
         back = ap (λ (x : ℕ). number_at s.memory.byte 8 (x + 552)) e ∙ ap (number_at s.memory.byte 8) back ∙ room.back;
+        thunk = room.thunk;
       }
 
 from_code : (p : List Statement) (s : State) (to n : ℕ) → deepest p ≤ 64 → HasRoom s → IsPlaced s.cpu.rip to → HasCode s.memory s.cpu.rip (main_code p) to → CoversRun (shown_by p n []) (run (256 * n + 256) (host s) [])

@@ -15,6 +15,7 @@ use Rattle.c_meaning.specs.declared.syntax.BinaryOperator.TheVariants.{Multiply,
 use Rattle.c_meaning.specs.Syntax.{Expression, Literal, Binary, height, Statement, Put, Return, deepest}
 use Rattle.x64_emit.specs.Code.{slot_offset, keep, finish, expression_code, put_code, leave_code, statement_code, enter_code, body_code, main_code, spelled}
 use Rattle.x64_emit.specs.Standing.{Stands}
+use Rattle.x64_emit.specs.Thunk.{thunk}
 use Rattle.x64_emit.proofs.Standing.{HasCode}
 
 -- each of the instructions has a spelling
@@ -28,14 +29,14 @@ both (i ∷ a) b p q = (p.0, both a b p.1 q)
 
 -- ---- from bytes to code
 
-stands_split : (m : Memory) (at : ℕ) (a b : List ℕ) → Stands m at (a ++ b) → Stands m at a × Stands m (at + length a) b
+pub stands_split : (m : Memory) (at : ℕ) (a b : List ℕ) → Stands m at (a ++ b) → Stands m at a × Stands m (at + length a) b
 stands_split m at [] b h = (tt, let e : at ≡ at + 0 = omega arith in subst (λ x. Stands m x b) e h)
 stands_split m at (x ∷ a) b h =
     let r = stands_split m (at + 1) a b h.3 in
     let e : at + 1 + length a ≡ at + length (x ∷ a) = omega arith in
     ((h.0, h.1, h.2, r.0), subst (λ y. Stands m y b) e r.1)
 
-spells : (i : Instr) → is_encodable i ≡ true → Spells i (chosen i)
+pub spells : (i : Instr) → is_encodable i ≡ true → Spells i (chosen i)
 spells i e = ap instr (sym (append-nil (chosen i))) ∙ again i [] e
 
 pub has_code : (m : Memory) (at : ℕ) (is : List Instr) → Encodable is → Stands m at (spelled is) → HasCode m at is (at + length (spelled is))
@@ -52,6 +53,9 @@ small_number n = let h : low W32 n < 2 ^ 32 = omega arith in lt-ltb _ _ h
 
 small_offset : (d : ℕ) → d < 64 → is_signed W32 W64 (slot_offset d) ≡ true
 small_offset d lt = let h : slot_offset d < 2 ^ 31 = omega arith in let e : ltb (slot_offset d) (2 ^ 31) ≡ true = lt-ltb _ _ h in rw e refl
+
+pub thunk_encodable : (away : ℕ) → away < 2 ^ 31 → is_encodable (thunk away) ≡ true
+thunk_encodable away lt = let e : ltb away (2 ^ 31) ≡ true = lt-ltb _ _ lt in rw e refl
 
 finish_encodable : (op : BinaryOperator) (d : ℕ) → d < 64 → Encodable (finish op d)
 finish_encodable Multiply d lt = (refl, (small_offset d lt, (refl, tt)))

@@ -11,7 +11,7 @@ use Rattle.seh_num.specs.Widths.{low, signed, wrapped}
 use Rattle.flat_memory.specs.declared.access.Access.{Access}
 use Rattle.flat_memory.specs.declared.mode.Mode.{Mode}
 use Rattle.flat_memory.specs.Modes.{is_readable, is_writable}
-use Rattle.flat_memory.specs.Memory.{number_at, with_number, may_read, may_write, access, first_refused, loaded, executable}
+use Rattle.flat_memory.specs.Memory.{Memory, number_at, with_number, may_read, may_write, access, first_refused, loaded, executable}
 use Rattle.flat_memory.proofs.Stores.{untouched, stored_is_loaded}
 use Rattle.x64_instr.specs.declared.register.Reg.TheVariants.{Rax, Rcx}
 use Rattle.x64_instr.specs.declared.operand.Place.TheVariants as places
@@ -22,14 +22,18 @@ use Rattle.x64_instr.specs.declared.instruction.Instr.{Instr}
 use Rattle.x64_instr.specs.declared.instruction.Instr.TheVariants as instrs
 use Rattle.x64_instr.specs.Spelling.{Spells, leading}
 use Rattle.x64_machine.specs.Services.{in_host_page, service_at}
-use Rattle.x64_machine.specs.Effect.{State, Answer, ◌>>=◌, register, with_rip, store, effect, step, execute, hosted}
+use Rattle.x64_machine.specs.Effect.{State, Answer, ◌>>=◌, register, with_rip, load, store, effect, step, execute, hosted}
 use Rattle.host_model.specs.HostStep.{Goes, host, put, returned, turn, turned}
 use Rattle.host_model.specs.Machine.{run}
-use Rattle.x64_emit.specs.Code.{put_code}
+use Rattle.x64_encode.specs.Chosen.{chosen, modrm}
+use Rattle.x64_encode.proofs.Lengths.{longest}
+use Rattle.x64_emit.specs.Code.{thunk_at, put_code}
+use Rattle.x64_emit.specs.Thunk.{thunk, slot_at, HasThunk}
 use Rattle.x64_emit.specs.Standing.{Stands, IsPlaced}
-use Rattle.x64_emit.proofs.Standing.{HasCode}
+use Rattle.x64_emit.proofs.Standing.{HasCode, stands_kept}
+use Rattle.x64_emit.proofs.Spelled.{spells, thunk_encodable}
 use Rattle.x64_emit.proofs.Turns.{steps, one_turn}
-use Rattle.x64_emit.proofs.Expressions.{all_may, same_number, store_at, rsp, HasSlots, Keeps, after_rax, after_rcx, rax_is, rcx_is, keeps_rax, keeps_rcx, within, rest_le, le_self, one_not_zero}
+use Rattle.x64_emit.proofs.Expressions.{all_may, same_number, store_at, load_at, rsp, HasSlots, Keeps, after_rax, after_rcx, rax_is, rcx_is, keeps_rax, keeps_rcx, within, rest_le, le_self, one_not_zero}
 
 -- ---- numbers of 32 bits in 64
 
@@ -81,6 +85,32 @@ extended_high v le lt =
 pub extended_is : (v : ℕ) → v < 2 ^ 32 → signed W64 (extended v) ≡ signed W32 v
 extended_is v lt = elim (cases_lt v (2 ^ 31)) [ inl h ↦ extended_low v h | inr h ↦ extended_high v h lt ]
 
+-- ---- the thunk
+
+pub thunk_length : (away : ℕ) → length (chosen (thunk away)) ≡ 6
+unfolding modrm
+thunk_length away = refl
+
+thunk_kept : (m m' : Memory) → ((a : ℕ) → may_write m a ≡ false → m'.byte a ≡ m.byte a) → m'.mode ≡ m.mode → HasThunk m → HasThunk m'
+thunk_kept m m' kept same t =
+    let near = t.near in
+    record {
+      away = t.away;
+      near = t.near;
+      stands = stands_kept m m' thunk_at (chosen (thunk t.away)) kept same t.stands;
+      readable = λ a p q. ap (λ (f : ℕ → Mode). is_readable (f a).rights) same ∙ t.readable a p q;
+      fixed = λ a p q. ap (λ (f : ℕ → Mode). is_writable (f a).rights) same ∙ t.fixed a p q;
+      bound = same_number m'.byte m.byte 8 (slot_at t.away) (omega arith) (λ a p q. kept a (t.fixed a p q)) ∙ t.bound;
+    }
+
+-- the jump goes where the slot says
+thunk_step : (s : State) (next away to : ℕ) → next + away ≡ slot_at away → away < 2 ^ 31 → ((a : ℕ) → slot_at away ≤ a → a < slot_at away + 8 → may_read s.memory a ≡ true) → number_at s.memory.byte 8 (slot_at away) ≡ to → effect (with_rip s next) (thunk away) ≡ Ok (with_rip s to)
+thunk_step s next away to at near readable bound =
+    let e : (next + 0 + away) % 2 ^ 64 ≡ slot_at away = omega arith in
+    ap (λ (a : ℕ). load s.memory a W64 >>= λ target. Ok (with_rip s target)) e
+    ∙ ap (λ (o : Answer ℕ). o >>= λ target. Ok (with_rip s target)) (load_at s.memory (slot_at away) (all_may (may_read s.memory) 8 (slot_at away) (omega arith) readable))
+    ∙ ap (λ (a : ℕ). Ok (with_rip s a)) bound
+
 -- ---- the frame
 
 -- inside `main`: the frame and eight bytes below it, and the return address above it, which is 0
@@ -91,6 +121,7 @@ pub record HasFrame (s : State) : Type 0 where
   pub writable : (a : ℕ) → rsp s ≤ a + 8 → a < rsp s + 552 → may_write s.memory a ≡ true
   pub readable : (a : ℕ) → rsp s ≤ a + 8 → a < rsp s + 560 → may_read s.memory a ≡ true
   pub back : number_at s.memory.byte 8 (rsp s + 552) ≡ 0
+  pub thunk : HasThunk s.memory
 
 -- what a statement leaves as it was
 pub record Holds (s t : State) : Type 0 where
@@ -110,6 +141,17 @@ holds_then s t u a b = record {
   byte = λ x h. b.byte x (elim h [ inl l ↦ inl (let st = a.stack in omega arith) | inr r ↦ inr (let st = a.stack in omega arith) ]) ∙ a.byte x h;
 }
 
+-- what may not be written is as it was
+pub unwritten : (s t : State) → HasFrame s → Holds s t → (a : ℕ) → may_write s.memory a ≡ false → t.memory.byte a ≡ s.memory.byte a
+unwritten s t h k a plain = k.byte a (
+    elim (cases_lt (a + 8) (rsp s)) [
+      | inl lt ↦ inl lt
+      | inr le ↦ elim (cases_lt a (rsp s + 552)) [
+        | inl lt ↦ let may = h.writable a le lt in let f : false ≡ true = sym plain ∙ may in absurd cc
+        | inr ge ↦ inr ge
+      ]
+    ])
+
 pub frame_kept : (s t : State) → HasFrame s → Holds s t → HasFrame t
 frame_kept s t h k =
     let st = k.stack in
@@ -122,6 +164,7 @@ frame_kept s t h k =
       writable = λ a p q. ap (λ (f : ℕ → Mode). is_writable (f a).rights) k.mode ∙ h.writable a (omega arith) (omega arith);
       readable = λ a p q. ap (λ (f : ℕ → Mode). is_readable (f a).rights) k.mode ∙ h.readable a (omega arith) (omega arith);
       back = ap (λ (x : ℕ). number_at t.memory.byte 8 (x + 552)) k.stack ∙ same_number t.memory.byte s.memory.byte 8 (rsp s + 552) (omega arith) (λ a p q. k.byte a (inr p)) ∙ h.back;
+      thunk = thunk_kept s.memory t.memory (unwritten s t h k) k.mode h.thunk;
     }
 
 pub slots_of : (s : State) → HasFrame s → HasSlots s
@@ -234,15 +277,34 @@ module _ (base : State) where
       let high = h.high in
       untouched s.memory.byte 8 (rsp s - 8) next a (λ i lt z. absurd (elim out [ inl l ↦ omega arith | inr r ↦ omega arith ])) (omega arith) ∙ held.byte a out
 
-  -- the call of the service: its return address is stored below RSP
-  call_runs : (s : State) (to : ℕ) (v : ℤ) → register s.cpu Rax ≡ 0x7FF00010 → signed W64 (register s.cpu Rcx) ≡ v → HasFrame s → Holds base s → IsPlaced s.cpu.rip to → HasCode s.memory s.cpu.rip (call_rax ∷ []) to → Does 2 s (events.Put v ∷ []) to base
+  -- what the return address doesn't cover
+  pushed_kept : (s : State) (next : ℕ) → HasFrame s → (a : ℕ) → may_write s.memory a ≡ false → with_number s.memory.byte 8 (rsp s - 8) next a ≡ s.memory.byte a
+  pushed_kept s next h a plain =
+      let bottom = h.low in
+      let high = h.high in
+      untouched s.memory.byte 8 (rsp s - 8) next a (λ i lt z. let may = h.writable a (omega arith) (omega arith) in let f : false ≡ true = sym plain ∙ may in absurd cc) (omega arith)
+
+  -- the thunk, once the return address is stored below RSP
+  thunk_runs : (s : State) (next to : ℕ) (v : ℤ) → next ≡ to → to < 2 ^ 48 → signed W64 (register s.cpu Rcx) ≡ v → HasFrame s → Holds base s → Does 2 (after_call s next thunk_at) (events.Put v ∷ []) to base
+  thunk_runs s next to v same high rcx h held =
+      let t = after_call s next thunk_at in
+      let u = after_call s next 0x7FF00010 in
+      let there = thunk_kept s.memory t.memory (pushed_kept s next h) refl h.thunk in
+      let d = there.away in
+      let near = there.near in
+      let n = thunk_length d in
+      stage t u (thunk d) (chosen (thunk d)) 1 to (events.Put v ∷ []) base (spells (thunk d) (thunk_encodable d near)) (longest (thunk d)) there.stands (record { low = omega arith; high = omega arith })
+      (thunk_step t (thunk_at + length (chosen (thunk d))) d 0x7FF00010 (omega arith) near there.readable there.bound)
+      (service_runs u to v refl (ap (signed W64) (get_or-set_other s.cpu.registers 4 1 (rsp s - 8) 0 four_apart) ∙ rcx) (length-set s.cpu.registers 4 (rsp s - 8) ∙ h.registers) (rsp_below s h) (rsp_readable s h) (pushed s next to h same high)
+      (rsp_back s h held) held.mode (pushed_byte s next h held))
+
+  -- the call of the thunk
+  call_runs : (s : State) (to : ℕ) (v : ℤ) → register s.cpu Rax ≡ thunk_at → signed W64 (register s.cpu Rcx) ≡ v → HasFrame s → Holds base s → IsPlaced s.cpu.rip to → HasCode s.memory s.cpu.rip (call_rax ∷ []) to → Does 3 s (events.Put v ∷ []) to base
   call_runs s to v rax rcx h held placed code =
       let next = s.cpu.rip + length code.0 in
-      let t = after_call s next (low W64 (register s.cpu Rax)) in
-      let at : low W64 (register s.cpu Rax) ≡ 0x7FF00010 = omega arith in
-      stage s t call_rax code.0 1 to (events.Put v ∷ []) base code.1 code.2 code.3 (subst (IsPlaced s.cpu.rip) (sym code.4) placed) (call_step s next h)
-      (service_runs t to v at (ap (signed W64) (get_or-set_other s.cpu.registers 4 1 (rsp s - 8) 0 four_apart) ∙ rcx) (length-set s.cpu.registers 4 (rsp s - 8) ∙ h.registers) (rsp_below s h) (rsp_readable s h) (pushed s next to h code.4 placed.high)
-      (rsp_back s h held) held.mode (pushed_byte s next h held))
+      let at : low W64 (register s.cpu Rax) ≡ thunk_at = omega arith in
+      stage s (after_call s next thunk_at) call_rax code.0 2 to (events.Put v ∷ []) base code.1 code.2 code.3 (subst (IsPlaced s.cpu.rip) (sym code.4) placed) (call_step s next h ∙ ap (λ (a : ℕ). Ok (after_call s next a)) at)
+      (thunk_runs s next to v code.4 placed.high rcx h held)
 
   -- a stage that leaves all but RAX or RCX
   quiet_stage : (s t : State) (i : Instr) (is : List Instr) (c to : ℕ) (ev : List Event) → HasFrame s → Holds base s → IsPlaced s.cpu.rip to → (code : HasCode s.memory s.cpu.rip (i ∷ is) to) → effect (with_rip s (s.cpu.rip + length code.0)) i ≡ Ok t → Keeps 0 s t → t.memory ≡ s.memory → t.cpu.rip ≡ s.cpu.rip + length code.0
@@ -254,18 +316,18 @@ module _ (base : State) where
       stage s t i code.0 c to ev base code.1 code.2 code.3 (within s.cpu.rip to s.cpu.rip next placed (le_self s.cpu.rip) order.1) e
       (rest (frame_kept s t h kt) (holds_then base s t held kt) (subst (λ r. IsPlaced r to) (sym rip) (within s.cpu.rip to next to placed order.0 (le_self to))) (subst (λ m. HasCode m t.cpu.rip is to) (sym memory) (subst (λ r. HasCode s.memory r is to) (sym rip) code.4)))
 
-  address_runs : (s : State) (to : ℕ) (v : ℤ) → signed W64 (register s.cpu Rcx) ≡ v → HasFrame s → Holds base s → IsPlaced s.cpu.rip to → HasCode s.memory s.cpu.rip (instrs.Move W64 (places.Register Rax) (operands.Immediate 0x7FF00010) ∷ call_rax ∷ []) to → Does 3 s (events.Put v ∷ []) to base
+  address_runs : (s : State) (to : ℕ) (v : ℤ) → signed W64 (register s.cpu Rcx) ≡ v → HasFrame s → Holds base s → IsPlaced s.cpu.rip to → HasCode s.memory s.cpu.rip (instrs.Move W64 (places.Register Rax) (operands.Immediate thunk_at) ∷ call_rax ∷ []) to → Does 4 s (events.Put v ∷ []) to base
   address_runs s to v rcx h held placed code =
       let next = s.cpu.rip + length code.0 in
-      let t = after_rax s next 0x7FF00010 s.cpu.flags in
-      quiet_stage s t (instrs.Move W64 (places.Register Rax) (operands.Immediate 0x7FF00010)) (call_rax ∷ []) 2 to (events.Put v ∷ []) h held placed code refl (keeps_rax 0 s next 0x7FF00010 s.cpu.flags h.registers) refl refl
-      (call_runs t to v (rax_is s.cpu.registers 0x7FF00010 h.registers) (ap (signed W64) (get_or-set_other s.cpu.registers 0 1 0x7FF00010 0 one_not_zero) ∙ rcx))
+      let t = after_rax s next thunk_at s.cpu.flags in
+      quiet_stage s t (instrs.Move W64 (places.Register Rax) (operands.Immediate thunk_at)) (call_rax ∷ []) 3 to (events.Put v ∷ []) h held placed code refl (keeps_rax 0 s next thunk_at s.cpu.flags h.registers) refl refl
+      (call_runs t to v (rax_is s.cpu.registers thunk_at h.registers) (ap (signed W64) (get_or-set_other s.cpu.registers 0 1 thunk_at 0 one_not_zero) ∙ rcx))
 
   -- the code that writes the number in EAX
-  pub put_runs : (s : State) (to v : ℕ) → register s.cpu Rax ≡ v → v < 2 ^ 32 → HasFrame s → Holds base s → IsPlaced s.cpu.rip to → HasCode s.memory s.cpu.rip put_code to → Does 4 s (events.Put (signed W32 v) ∷ []) to base
+  pub put_runs : (s : State) (to v : ℕ) → register s.cpu Rax ≡ v → v < 2 ^ 32 → HasFrame s → Holds base s → IsPlaced s.cpu.rip to → HasCode s.memory s.cpu.rip put_code to → Does 5 s (events.Put (signed W32 v) ∷ []) to base
   put_runs s to v rax lt h held placed code =
       let next = s.cpu.rip + length code.0 in
       let x = extended (register s.cpu Rax) in
       let t = after_rcx s next x in
-      quiet_stage s t (instrs.Extend Sign W64 Rcx W32 (places.Register Rax)) (instrs.Move W64 (places.Register Rax) (operands.Immediate 0x7FF00010) ∷ call_rax ∷ []) 3 to (events.Put (signed W32 v) ∷ []) h held placed code refl (keeps_rcx 0 s next x h.registers) refl refl
+      quiet_stage s t (instrs.Extend Sign W64 Rcx W32 (places.Register Rax)) (instrs.Move W64 (places.Register Rax) (operands.Immediate thunk_at) ∷ call_rax ∷ []) 4 to (events.Put (signed W32 v) ∷ []) h held placed code refl (keeps_rcx 0 s next x h.registers) refl refl
       (address_runs t to (signed W32 v) (ap (signed W64) (rcx_is s.cpu.registers x h.registers ∙ ap extended rax) ∙ extended_is v lt))

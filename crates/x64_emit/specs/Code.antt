@@ -55,11 +55,15 @@ expression_code (Binary op a b) d = expression_code a d ++ (keep d ∷ (expressi
 
 -- ---- statements
 
--- `put` takes a number of 64 bits in RCX, and is called by its address
+-- where the thunk of `put` stands
+abbrev pub thunk_at : ℕ
+thunk_at = 0x140002000
+
+-- `put` takes a number of 64 bits in RCX, and is called through its thunk
 abbrev pub put_code : List Instr
 put_code =
     instrs.Extend Sign W64 Rcx W32 (places.Register Rax)
-    ∷ instrs.Move W64 (places.Register Rax) (operands.Immediate 0x7FF00010)
+    ∷ instrs.Move W64 (places.Register Rax) (operands.Immediate thunk_at)
     ∷ instrs.Call (Indirect (places.Register Rax))
     ∷ []
 

@@ -11,13 +11,14 @@ use Rattle.c_meaning.specs.Syntax.{Statement, deepest}
 use Rattle.c_meaning.specs.Meaning.{shown_by}
 use Rattle.x64_emit.specs.Code.{frame_size, main_bytes}
 use Rattle.x64_emit.specs.Standing.{Stands, IsPlaced}
+use Rattle.x64_emit.specs.Thunk.{HasThunk}
 
 -- a run shows these events at least; if there is this end, it has ended so and shows nothing else
 pub record Covers (events : List Event) (end : Option RunEnd) (shown : Shown) : Type 0 where
   pub shows : (more : List Event) × (shown.events ≡ events ++ more)
   pub ends : (e : RunEnd) → end ≡ Some e → shown ≡ record { events = events; end = Some e }
 
--- where `main` begins: below RSP there is room for its frame and for what it calls, and the return address is 0
+-- where `main` begins: below RSP there is room for its frame and for what it calls, the return address is 0, and there is the thunk of `put`
 pub record HasRoom (s : State) : Type 0 where
   pub registers : length s.cpu.registers ≡ 16
   pub low : frame_size + 8 ≤ register s.cpu Rsp
@@ -25,6 +26,7 @@ pub record HasRoom (s : State) : Type 0 where
   pub writable : (a : ℕ) → register s.cpu Rsp ≤ a + (frame_size + 8) → a < register s.cpu Rsp → may_write s.memory a ≡ true
   pub readable : (a : ℕ) → register s.cpu Rsp ≤ a + (frame_size + 8) → a < register s.cpu Rsp + 8 → may_read s.memory a ≡ true
   pub back : number_at s.memory.byte 8 (register s.cpu Rsp) ≡ 0
+  pub thunk : HasThunk s.memory
 
 -- 256 turns for each step, and as many again, are enough
 abbrev pub ProgramShows : Type 0

@@ -1,3 +1,4 @@
 pub mod Code
 pub mod Standing
 pub mod Correct
+pub mod Thunk

@@ -1,12 +1,15 @@
 //! From programs to bytes.
 
-ghost use Rattle.std.specs.Prelude.{◌≡◌, ◌+◌, ◌*◌, ◌≤◌, ◌++◌, OnOk, IfOk, map, length};
+ghost use Rattle.std.specs.Prelude.{◌≡◌, ◌+◌, ◌*◌, ◌≤◌, ◌<◌, ◌^◌, ◌++◌, [], ◌∷◌, OnOk, IfOk, map, length};
 ghost use Rattle.c_meaning.specs.Syntax.{expression, statement, nesting, height};
 ghost use Rattle.c_meaning.specs.Steps.{size};
 ghost use Rattle.c_meaning.specs.Programs.{program};
 ghost use Rattle.x64_emit.specs.Code as spec;
+ghost use Rattle.x64_emit.specs.Thunk.{thunk};
 
-use crate::template::{put_call, put_enter, put_finish, put_keep, put_leave, put_literal};
+use crate::template::{
+    put_call, put_enter, put_finish, put_keep, put_leave, put_literal, put_thunk,
+};
 use c_meaning::checked::Checked;
 use c_meaning::syntax::{Expr, Stmt};
 use std::alloc::{AllocError, Global};
@@ -56,4 +59,13 @@ pub fn emit(alloc: Global, checked: &Checked) -> Result<Vec<u8>, AllocError>
     put_literal(&mut code, 0)?;
     put_leave(&mut code)?;
     Ok(code)
+}
+
+/// Adds the bytes of the thunk by which `main` calls `put`: a jump through the slot that lies `away`
+/// bytes behind its end. It has to stand at 0x140002000.
+pub fn emit_thunk(code: &mut Vec<u8>, away: u32) -> Result<(), AllocError>
+    requires { away < 2 ^ 31 }
+    ensures { OnOk result (code.new.items ≡ code.old.items ++ spec.spelled (thunk away ∷ [])) }
+{
+    put_thunk(code, away)
 }

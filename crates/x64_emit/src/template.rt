@@ -1,8 +1,9 @@
 //! The instructions that parts of a program are compiled to.
 
-ghost use Rattle.std.specs.Prelude.{◌≡◌, ◌<◌, [], ◌∷◌, ◌++◌, OnOk};
+ghost use Rattle.std.specs.Prelude.{◌≡◌, ◌<◌, ◌^◌, [], ◌∷◌, ◌++◌, OnOk};
 ghost use Rattle.x64_encode.specs.Chosen.{IsEncodable};
 ghost use Rattle.x64_emit.specs.Code as spec;
+ghost use Rattle.x64_emit.specs.Thunk.{thunk};
 
 use arrayvec::ArrayVec;
 use c_meaning::syntax::BinaryOperator;
@@ -22,8 +23,8 @@ const RSP: Place = Place::Register(Reg::Rsp);
 /// How many bytes below the return address a frame takes.
 const FRAME_SIZE: u64 = 552;
 
-/// The address of the host's service `put`.
-const PUT: u64 = 0x7FF0_0010;
+/// Where the thunk of `put` stands.
+const THUNK: u64 = 0x1_4000_2000;
 
 fn slot(depth: u64) -> MemRef
     requires { depth < 64 }
@@ -138,7 +139,7 @@ pub(crate) fn put_call(code: &mut Vec<u8>) -> Result<(), AllocError>
         from: RAX,
     };
     put(code, &extend)?;
-    put(code, &number(Width::W64, RAX, PUT))?;
+    put(code, &number(Width::W64, RAX, THUNK))?;
     put(code, &Instr::Call(Target::Indirect(RAX)))
 }
 
@@ -157,4 +158,18 @@ pub(crate) fn put_leave(code: &mut Vec<u8>) -> Result<(), AllocError>
     put(code, &number(Width::W32, RCX, FRAME_SIZE))?;
     put(code, &arithmetic(Operation::Add, Width::W64, RSP, Reg::Rcx))?;
     put(code, &Instr::Return)
+}
+
+/// Adds the thunk of `put`, a jump through a slot that lies so far behind its end.
+#[tactic(auto, using(crate::proofs::Spelled::thunk_encodable))]
+pub(crate) fn put_thunk(code: &mut Vec<u8>, away: u32) -> Result<(), AllocError>
+    requires { away < 2 ^ 31 }
+    ensures { OnOk result (code.new.items ≡ code.old.items ++ spec.spelled (thunk away ∷ [])) }
+{
+    let slot = MemRef {
+        base: Base::Rip,
+        index: None,
+        displacement: away as u64,
+    };
+    put(code, &Instr::Jump(Target::Indirect(Place::Memory(slot))))
 }

@@ -1,9 +1,10 @@
-use Rattle.std.proofs.Common.{◌<◌, ◌∙◌, ℕ, List, length, ap, subst, sym, arith}
+use Rattle.std.proofs.Common.{◌<◌, ◌≤◌, ◌∙◌, ℕ, List, length, ap, subst, sym, arith}
 use Rattle.std.specs.Prelude.{Result, Ok, Err, IfOk}
 use Rattle.c_meaning.specs.Programs.{program}
-use Rattle.pe_image.specs.Written.{written, image_read}
+use Rattle.pe_write.specs.Program.{image_of, sizes_of, end_at}
 use Rattle.pe_image.specs.Reading.{IsImage}
 use Rattle.x64_emit.proofs.Bytes.{main_some}
+use Rattle.image_link.specs.Linked.{linked}
 use Rattle.image_link.proofs.Realised.{compiled}
 use Rattle.image_link.proofs.link.compile.Goals as goal
 
@@ -14,8 +15,9 @@ both_ok P Q R (Err e) f p q = tt
 pub returns : goal.returns
 returns c =
     let p = program c.args.checked.now in
-    let code = c.in_ok-code.code.items in
-    let few = c.in_ok-code.ensures.small in
+    let main = c.in_ok-main.main.items in
+    let few = c.in_ok-main.ensures.small in
+    let is = c.in_ok-image.ensures ∙ ap linked c.deref.ensures.value in
     both_ok _ _ _ c.write.result
-    (λ bytes w r. compiled p bytes.items code c.args.checked.now.nested c.in_ok-code.ensures.bytes (omega arith) (subst (λ (b : List ℕ). 0 < length b) (sym c.in_ok-code.ensures.bytes) (main_some p)) (w ∙ ap written c.in_ok-image.ensures) (subst (λ i. IsImage bytes.items (image_read i)) c.in_ok-image.ensures r))
-    c.write.ensures.written c.write.ensures.read_again
+    (λ bytes w r. compiled p bytes.items main c.args.checked.now.nested c.in_ok-main.ensures.bytes (omega arith) (subst (λ (b : List ℕ). 0 < length b) (sym c.in_ok-main.ensures.bytes) (main_some p)) (subst (λ i. length bytes.items ≤ end_at (sizes_of i)) is w) (subst (λ i. IsImage bytes.items (image_of i)) is r))
+    c.write.ensures.small c.write.ensures.read_again
