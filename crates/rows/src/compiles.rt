@@ -53,6 +53,10 @@ fn compiled_programs(rt: HostRuntime) -> Result<(), Fail> {
         ("int main(void){ put(2+3*4); return 7; }", "14\nexit 7\n"),
         ("int main(void){}", "exit 0\n"),
         ("int\tmain (\nvoid ) { put ( 1 ) ; }", "1\nexit 0\n"),
+        (
+            "long main() { /* all of int */ put((017)); return 0x10*(2-1); // end\n}",
+            "15\nexit 16\n",
+        ),
         // To the left: (1 - 2) - 3, and 2147483647 + 1 wraps.
         (
             "int main(void){ put(1-2-3); put(2147483647+1); return 0-1; put(9); }",
@@ -76,29 +80,71 @@ fn compiled_programs(rt: HostRuntime) -> Result<(), Fail> {
     shows(&rt, alloc, &long, str::from_utf8(&shown).unwrap_or(""))
 }
 
+/// What `compile` writes to `err` for a text that it refuses.
+fn refuses(rt: &impl Abort, alloc: Global, text: &[u8], line: &str) -> Result<(), Fail> {
+    let mut out = VecSink::new(alloc);
+    let mut err = VecSink::new(alloc);
+    let status = answer(alloc, "compile", text, &mut out, &mut err)?;
+    assert_eq!(rt; status, Status::Refused);
+    assert!(rt; out.bytes.is_empty());
+    assert_eq!(rt; err.bytes.as_slice(), line.as_bytes());
+    Ok(())
+}
+
+/// Texts that aren't made of tokens, and tokens that are no program.
 #[test]
 fn refused_texts(rt: HostRuntime) -> Result<(), Fail> {
     let alloc = rt.alloc();
-    let too_deep = with(alloc, "int main(void){ put(1", "+1", 64, "); }")?;
-    let texts: [&[u8]; 10] = [
-        b"",
-        b"int main(void){ put(2147483648); }",
-        b"int main(void){ put(01); }",
-        b"int main(void){ put(1u); }",
-        b"int main(void){ put((1)); }",
-        b"int main(void){ put(1--1); }",
-        b"int main(void){ put(1) }",
-        b"int main(void){ puts(1); }",
-        b"int main(void){ } int",
-        &too_deep,
-    ];
-    for text in texts {
-        let mut out = VecSink::new(alloc);
-        let mut err = VecSink::new(alloc);
-        let status = answer(alloc, "compile", text, &mut out, &mut err)?;
-        assert_eq!(rt; status, Status::Refused);
-        assert!(rt; out.bytes.is_empty());
-        assert_eq!(rt; err.bytes.as_slice(), b"refused Later 0\n".as_slice());
+    for (text, line) in [
+        ("int a /* x", "refused OpenComment 6\n"),
+        ("int main(void){ return 'ab'; }", "refused BadChar 23\n"),
+        (
+            "int main(void){ return 18446744073709551616; }",
+            "refused BigLiteral 23\n",
+        ),
+        ("int main(void){ return @; }", "refused BadByte 23\n"),
+        ("int main(void){ return 7;", "refused Unexpected 25\n"),
+        ("int main(void){ if 1; }", "refused Unexpected 19\n"),
+        ("int main(void){ put(1--1); }", "refused Unexpected 23\n"),
+        ("int main(void){ put(1) }", "refused Unexpected 23\n"),
+        ("int main(void){ } int", "refused Unexpected 21\n"),
+        (
+            "int f(int a,int a,int a,int a,int a,int a,int a,int a,int a){}",
+            "refused TooMany 53 parameters\n",
+        ),
+    ] {
+        refuses(&rt, alloc, text.as_bytes(), line)?;
+    }
+    // 64 operators under `put`, 65 under `return` and 65 parentheses nest too deep.
+    let deep = with(alloc, "int main(void){ put(1", "+1", 64, "); }")?;
+    refuses(&rt, alloc, &deep, "refused TooDeep 147\n")?;
+    let deep = with(alloc, "int main(void){ return 1", "*1", 65, "; }")?;
+    refuses(&rt, alloc, &deep, "refused TooDeep 152\n")?;
+    let deep = with(alloc, "int main(void){ return ", "(", 65, "1; }")?;
+    refuses(&rt, alloc, &deep, "refused TooDeep 87\n")
+}
+
+/// Programs of C that aren't compiled yet, and a text that is too long.
+#[test]
+fn later_programs(rt: HostRuntime) -> Result<(), Fail> {
+    let alloc = rt.alloc();
+    for text in [
+        "",
+        "int main(void){ put(2147483648); }",
+        "int main(void){ put(1u); }",
+        "int main(void){ put('a'); }",
+        "int main(void){ put(1,2); }",
+        "int main(void){ puts(1); }",
+        "int main(void){ return; }",
+        "int main(void){ ; }",
+        "int main(void){ int a; return 1; }",
+        "int main(int n){ return 1; }",
+        "int *main(void){ return 1; }",
+        "int main(void){ return 1; } int a;",
+        "int f(void){ return 1; }",
+        "int main(void){ __try { put(1); } __finally { put(2); } }",
+    ] {
+        refuses(&rt, alloc, text.as_bytes(), "refused Later 0\n")?;
     }
     let long = with(alloc, "int main(void){", " ", 1_048_576, "}")?;
     let mut out = VecSink::new(alloc);

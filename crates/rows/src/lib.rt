@@ -6,6 +6,10 @@ mod compiles;
 #[cfg(test)]
 mod image;
 #[cfg(test)]
+mod linked;
+#[cfg(test)]
+mod loads;
+#[cfg(test)]
 mod runs;
 #[cfg(test)]
 mod streams;

@@ -9,7 +9,7 @@ use std::process::Abort;
 use std::test::Fail;
 
 /// Compares the status of `exec`, and what was written.
-fn answers(
+pub fn answers(
     rt: &impl Abort,
     alloc: Global,
     bytes: &[u8],

@@ -48,7 +48,7 @@ fn entry(out: &mut Vec<u8>, begin: u8, info: u8) -> Result<(), AllocError> {
 
 /// An image of three unwind infos, each of eight bytes, and behind them the first entries of three,
 /// each with its own.
-fn tables(alloc: Global, infos: &[u8], count: u8) -> Result<Vec<u8>, AllocError> {
+pub fn tables(alloc: Global, infos: &[u8], count: u8) -> Result<Vec<u8>, AllocError> {
     let mut out = headers(alloc, count)?;
     out.extend_from_slice(infos)?;
     entry(&mut out, 0, 0)?;
@@ -58,7 +58,7 @@ fn tables(alloc: Global, infos: &[u8], count: u8) -> Result<Vec<u8>, AllocError>
 }
 
 /// Compares what `show` answers for an image.
-fn shown(
+pub fn shown(
     rt: &impl Abort,
     alloc: Global,
     bytes: &[u8],

@@ -11,6 +11,8 @@ use Rattle.seh.specs.Answers.{text_limit, IsInput, IsCompileAnswer, IsInputAnswe
 
 pub from_text : (text : List ℕ) (source source' out out' : Stream) (answer : Result Outcome Refusal) → IsInput source source' text → IsCompileAnswer text out out' answer → IsInputAnswer text_limit IsCompileAnswer source source' out out' answer
 from_text text source source' out out' (Ok done) input h = record { bytes = text; input = input; comes = h }
+from_text text source source' out out' (Err (refusals.Lex e)) input h = record { bytes = text; input = input; comes = h }
+from_text text source source' out out' (Err (refusals.Parse e)) input h = record { bytes = text; input = input; comes = h }
 from_text text source source' out out' (Err refusals.Later) input h = record { bytes = text; input = input; comes = h }
 from_text text source source' out out' (Err refusals.WriteFault) input h = record { bytes = text; input = input; comes = h }
 from_text text source source' out out' (Err refusals.NoMemory) input h = h

@@ -13,8 +13,18 @@ use Rattle.host_model.specs.Loading.{load_refusal}
 use Rattle.host_model.specs.Machine.{Shown, machine}
 use Rattle.seh_host.specs.Turns.{end_within}
 use Rattle.seh_host.specs.Hosts.{IsLoadRefusal}
-use Rattle.c_meaning.specs.Syntax.{Statement, deepest}
-use Rattle.c_meaning.specs.Grammar.{Reads}
+use Rattle.c_lex.specs.declared.lexing.LexErr.{LexErr}
+use Rattle.c_lex.specs.declared.token.Token.{Token}
+use Rattle.c_lex.specs.declared.word.Fault.{Fault}
+use Rattle.c_lex.specs.Answers.{refused}
+use Rattle.c_lex.specs.Text.{IsTokens, IsFault}
+use Rattle.c_syntax.specs.Limits.{Within}
+use Rattle.c_syntax.specs.Program.{External}
+use Rattle.c_syntax.specs.Programs.{Reads}
+use Rattle.c_parse_expr.specs.declared.refusal.ParseErr.{ParseErr}
+use Rattle.c_parse_expr.specs.declared.refusal.ParseErr.TheVariants as parses
+use Rattle.c_first.specs.First.{first}
+use Rattle.c_meaning.specs.Syntax.{Statement}
 use Rattle.image_link.specs.Realises.{Realises}
 use Rattle.command_line.specs.declared.command.Command.{Command}
 use Rattle.command_line.specs.declared.command.Command.TheVariants.{Compile, Exec, Show}
@@ -90,20 +100,59 @@ IsShowAnswer bytes out out' answer = ⊥
 
 -- ---- compiling
 
--- the text is that of an accepted program, and the image does what the program means
+-- the text is that of a program of C within the limits
+pub record IsAccepted (text : List ℕ) (xs : List External) : Type 0 where
+  pub reads : Reads text xs
+  pub within : Within text xs
+
+-- the text is that of a program that is compiled, and this is the program as one of the first part
+pub record IsCompilable (text : List ℕ) (program : List Statement) : Type 0 where
+  pub whole : List External
+  pub accepted : IsAccepted text whole
+  pub compilable : first text whole ≡ Some program
+
+-- the image does what the text's program means
 pub record IsCompiled (text image : List ℕ) : Type 0 where
   pub program : List Statement
-  pub reads : Reads text program
-  pub nested : deepest program ≤ 64
+  pub compilable : IsCompilable text program
   pub realises : Realises image program
 
--- no accepted program has this text
-abbrev pub IsLater : List ℕ → Type 0
-IsLater text = (program : List Statement) → Reads text program → deepest program ≤ 64 → ⊥
+-- the first text that is no token, white space or comment is this fault
+abbrev pub IsNoText : List ℕ → LexErr → Type 0
+IsNoText text e = (f : Fault) × (at : ℕ) × (e ≡ refused f at) × IsFault text f at
 
--- what comes of a text: the whole image; a refusal, where the text isn't an accepted program's; or a part of the image, where the sink had a fault
+-- the text has tokens, and they are no program of C within the limits
+pub record IsNoProgram (text : List ℕ) : Type 0 where
+  pub tokens : List Token
+  pub lexed : IsTokens text tokens
+  pub none : (xs : List External) → IsAccepted text xs → ⊥
+
+-- the text is that of a program of C within the limits which isn't compiled
+pub record IsLater (text : List ℕ) : Type 0 where
+  pub whole : List External
+  pub accepted : IsAccepted text whole
+  pub later : first text whole ≡ None
+
+-- why a text isn't compiled; want of memory says nothing
+abbrev pub IsTextRefusal : List ℕ → Refusal → Type 0
+IsTextRefusal text (refusals.Lex e) = IsNoText text e
+IsTextRefusal text (refusals.Parse e) = IsNoProgram text
+IsTextRefusal text refusals.Later = IsLater text
+IsTextRefusal text refusals.NoMemory = Unit {0}
+IsTextRefusal text r = ⊥
+
+-- the refusal of tokens
+abbrev pub parse_refusal : ParseErr → Refusal
+parse_refusal (parses.Unexpected at) = refusals.Parse (parses.Unexpected at)
+parse_refusal (parses.TooDeep at) = refusals.Parse (parses.TooDeep at)
+parse_refusal (parses.TooMany at what) = refusals.Parse (parses.TooMany at what)
+parse_refusal parses.Memory = refusals.NoMemory
+
+-- what comes of a text: the whole image; a refusal, where its bytes are no tokens, its tokens no program or its program isn't compiled; or a part of the image, where the sink had a fault
 abbrev pub IsCompileAnswer : Judged
 IsCompileAnswer text out out' (Ok Compiled) = (image : List ℕ) × IsCompiled text image × Grew out.bytes image out'.bytes
+IsCompileAnswer text out out' (Err (refusals.Lex e)) = IsNoText text e × Quiet out out'
+IsCompileAnswer text out out' (Err (refusals.Parse e)) = IsNoProgram text × Quiet out out'
 IsCompileAnswer text out out' (Err refusals.Later) = IsLater text × Quiet out out'
 IsCompileAnswer text out out' (Err refusals.WriteFault) = (image : List ℕ) × IsCompiled text image × Rose out.faults out'.faults × ((count : ℕ) × TookPart out.bytes image out'.bytes count)
 IsCompileAnswer text out out' (Err refusals.NoMemory) = Quiet out out'

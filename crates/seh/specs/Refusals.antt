@@ -3,8 +3,16 @@ use Rattle.std.specs.Prelude.{◌≡◌, ◌⊎◌, ℕ, List, ◌++◌, codes, 
 use Rattle.std.specs.Fmt.{decimal}
 use Rattle.seh_io.specs.Streams.{Rose, Grew}
 use Rattle.seh_io.specs.Text.{ended}
+use Rattle.c_lex.specs.declared.lexing.LexErr.{LexErr}
+use Rattle.c_lex.specs.declared.lexing.LexErr.TheVariants as lexes
+use Rattle.c_parse_expr.specs.declared.refusal.Count.{Count}
+use Rattle.c_parse_expr.specs.declared.refusal.Count.TheVariants as counts
+use Rattle.c_parse_expr.specs.declared.refusal.ParseErr.{ParseErr}
+use Rattle.c_parse_expr.specs.declared.refusal.ParseErr.TheVariants as parses
 use Rattle.pe_image.specs.declared.refusal.ImageErr.{ImageErr}
 use Rattle.pe_image.specs.declared.refusal.ImageErr.TheVariants as images
+use Rattle.eh_tables.specs.declared.refusal.TableErr.{TableErr}
+use Rattle.eh_tables.specs.declared.refusal.TableErr.TheVariants as tables
 use Rattle.host_model.specs.declared.refusal.LoadErr.{LoadErr}
 use Rattle.host_model.specs.declared.refusal.LoadErr.TheVariants as loads
 use Rattle.seh.specs.declared.outcome.Outcome.{Outcome}
@@ -19,6 +27,30 @@ use Rattle.seh.specs.Streams.{Stream}
 abbrev pub named : List ℕ → ℕ → List ℕ
 named name n = name ++ decimal n
 
+-- and one more
+abbrev pub named_two : List ℕ → ℕ → ℕ → List ℕ
+named_two name n m = name ++ decimal n ++ codes " " ++ decimal m
+
+abbrev pub lex_text : LexErr → List ℕ
+lex_text (lexes.BadByte at) = named (codes "refused BadByte ") at
+lex_text (lexes.OpenComment at) = named (codes "refused OpenComment ") at
+lex_text (lexes.BadChar at) = named (codes "refused BadChar ") at
+lex_text (lexes.BigLiteral at) = named (codes "refused BigLiteral ") at
+lex_text lexes.Memory = codes "no memory"
+
+abbrev pub count_text : Count → List ℕ
+count_text counts.Locals = codes " locals"
+count_text counts.Parameters = codes " parameters"
+count_text counts.Functions = codes " functions"
+count_text counts.Globals = codes " globals"
+count_text counts.Funclets = codes " funclets"
+
+abbrev pub parse_text : ParseErr → List ℕ
+parse_text (parses.Unexpected at) = named (codes "refused Unexpected ") at
+parse_text (parses.TooDeep at) = named (codes "refused TooDeep ") at
+parse_text (parses.TooMany at what) = codes "refused TooMany " ++ decimal at ++ count_text what
+parse_text parses.Memory = codes "no memory"
+
 abbrev pub image_text : ImageErr → List ℕ
 image_text (images.Truncated at) = named (codes "image Truncated ") at
 image_text (images.NotPe at) = named (codes "image NotPe ") at
@@ -28,8 +60,22 @@ image_text (images.Layout section) = named (codes "image Layout ") section
 image_text (images.ImportBad index) = named (codes "image ImportBad ") index
 image_text images.Memory = codes "no memory"
 
+abbrev pub table_text : TableErr → List ℕ
+table_text (tables.Truncated rva) = named (codes "table Truncated ") rva
+table_text (tables.Misaligned rva) = named (codes "table Misaligned ") rva
+table_text (tables.EmptyRange index) = named (codes "table EmptyRange ") index
+table_text (tables.Unsorted index) = named (codes "table Unsorted ") index
+table_text (tables.Version index found) = named_two (codes "table Version ") index found
+table_text (tables.Flags index) = named (codes "table Flags ") index
+table_text (tables.Op index slot) = named_two (codes "table Op ") index slot
+table_text (tables.CodeOrder index slot) = named_two (codes "table CodeOrder ") index slot
+table_text (tables.ChainLong index) = named (codes "table ChainLong ") index
+table_text (tables.ScopeRange index row) = named_two (codes "table ScopeRange ") index row
+
 abbrev pub load_text : LoadErr → List ℕ
+load_text (loads.Table e) = table_text e
 load_text (loads.Place base) = named (codes "load Place ") base
+load_text (loads.Import index) = named (codes "load Import ") index
 load_text (loads.Entry rva) = named (codes "load Entry ") rva
 load_text loads.Memory = codes "no memory"
 
@@ -37,6 +83,8 @@ abbrev pub refusal_text : Refusal → List ℕ
 refusal_text refusals.Usage = codes "usage"
 refusal_text refusals.ReadFault = codes "read fault"
 refusal_text (refusals.TooLong limit) = named (codes "too long ") limit
+refusal_text (refusals.Lex e) = lex_text e
+refusal_text (refusals.Parse e) = parse_text e
 refusal_text refusals.Later = codes "refused Later 0"
 refusal_text (refusals.Image e) = image_text e
 refusal_text (refusals.Load e) = load_text e
@@ -47,6 +95,10 @@ abbrev pub refusal_status : Refusal → Status
 refusal_status refusals.Usage = statuses.Usage
 refusal_status refusals.ReadFault = statuses.ReadFault
 refusal_status (refusals.TooLong limit) = statuses.TooLong
+refusal_status (refusals.Lex lexes.Memory) = statuses.NoMemory
+refusal_status (refusals.Lex e) = statuses.Refused
+refusal_status (refusals.Parse parses.Memory) = statuses.NoMemory
+refusal_status (refusals.Parse e) = statuses.Refused
 refusal_status refusals.Later = statuses.Refused
 refusal_status (refusals.Image images.Memory) = statuses.NoMemory
 refusal_status (refusals.Image e) = statuses.Image

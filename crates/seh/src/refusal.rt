@@ -1,12 +1,14 @@
 //! Refusals, each with its line and its status.
 
 ghost use Rattle.std.specs.Prelude.{◌≡◌, ◌+◌, ◌≤◌, ◌++◌, length};
-ghost use Rattle.seh.specs.Refusals.{refusal_status, refusal_text, image_text, load_text, named, Reported};
+ghost use Rattle.seh.specs.Refusals.{refusal_status, refusal_text, lex_text, count_text, parse_text, image_text, table_text, load_text, named, named_two, Reported};
 ghost use Rattle.seh.specs.Streams.{stream};
 
 use crate::status::Status;
+use c_lex::lexing::LexErr;
+use c_parse_expr::refusal::{Count, ParseErr};
 use pe_image::ImageErr;
-use seh_host::LoadErr;
+use seh_host::{LoadErr, TableErr};
 use seh_io::line::Line;
 use seh_io::sink::Sink;
 use seh_io::writing::put_all;
@@ -20,11 +22,15 @@ pub enum Refusal {
     ReadFault,
     /// The source holds more than so many bytes.
     TooLong { limit: u64 },
-    /// The text isn't of the part of C that is compiled.
+    /// The text isn't made of tokens.
+    Lex(LexErr),
+    /// Its tokens are no program of C within the limits.
+    Parse(ParseErr),
+    /// The program isn't of the part of C that is compiled.
     Later,
     /// The bytes are no image.
     Image(ImageErr),
-    /// The image can't be loaded.
+    /// The image can't be loaded, or its function table can't be read.
     Load(LoadErr),
     /// The sink had a fault.
     WriteFault,
@@ -41,8 +47,11 @@ impl Refusal {
             Refusal::Usage => Status::Usage,
             Refusal::ReadFault => Status::ReadFault,
             Refusal::TooLong { .. } => Status::TooLong,
-            Refusal::Later => Status::Refused,
-            Refusal::Image(ImageErr::Memory) | Refusal::Load(LoadErr::Memory) => Status::NoMemory,
+            Refusal::Lex(LexErr::Memory)
+            | Refusal::Parse(ParseErr::Memory)
+            | Refusal::Image(ImageErr::Memory)
+            | Refusal::Load(LoadErr::Memory) => Status::NoMemory,
+            Refusal::Lex(_) | Refusal::Parse(_) | Refusal::Later => Status::Refused,
             Refusal::Image(_) | Refusal::Load(_) => Status::Image,
             Refusal::WriteFault => Status::WriteFault,
             Refusal::NoMemory => Status::NoMemory,
@@ -58,6 +67,67 @@ fn named(line: &mut Line, name: &[u8], number: u64)
 {
     line.text(name);
     line.natural(number);
+}
+
+/// A name and two numbers behind it.
+fn named_two(line: &mut Line, name: &[u8], first: u64, second: u64)
+    requires { length line.old + length name.now ≤ 22 }
+    ensures value { line.new ≡ line.old ++ named_two name.now first second }
+    ensures len { length line.new ≤ 63 }
+{
+    line.text(name);
+    line.natural(first);
+    line.text(b" ");
+    line.natural(second);
+}
+
+/// The text of a refusal of bytes that are no tokens.
+fn lex_text(error: &LexErr) -> Line
+    ensures value { result ≡ lex_text error.now }
+    ensures len { length result ≤ 63 }
+{
+    let mut line = Line::new();
+    match error {
+        LexErr::BadByte { at } => named(&mut line, b"refused BadByte ", *at),
+        LexErr::OpenComment { at } => named(&mut line, b"refused OpenComment ", *at),
+        LexErr::BadChar { at } => named(&mut line, b"refused BadChar ", *at),
+        LexErr::BigLiteral { at } => named(&mut line, b"refused BigLiteral ", *at),
+        LexErr::Memory => line.text(b"no memory"),
+    }
+    line
+}
+
+/// The word for what there are too many of.
+fn count_text(what: Count) -> &'static [u8]
+    ensures value { result.now ≡ count_text what }
+    ensures len { length result.now ≤ 11 }
+{
+    match what {
+        Count::Locals => b" locals",
+        Count::Parameters => b" parameters",
+        Count::Functions => b" functions",
+        Count::Globals => b" globals",
+        Count::Funclets => b" funclets",
+    }
+}
+
+/// The text of a refusal of tokens that are no program.
+fn parse_text(error: &ParseErr) -> Line
+    ensures value { result ≡ parse_text error.now }
+    ensures len { length result ≤ 63 }
+{
+    let mut line = Line::new();
+    match error {
+        ParseErr::Unexpected { at } => named(&mut line, b"refused Unexpected ", *at),
+        ParseErr::TooDeep { at } => named(&mut line, b"refused TooDeep ", *at),
+        ParseErr::TooMany { at, what } => {
+            line.text(b"refused TooMany ");
+            line.natural(*at);
+            line.text(count_text(*what));
+        }
+        ParseErr::Memory => line.text(b"no memory"),
+    }
+    line
 }
 
 /// The text of an image's refusal.
@@ -78,6 +148,33 @@ fn image_text(error: &ImageErr) -> Line
     line
 }
 
+/// The text of a function table's refusal.
+fn table_text(error: &TableErr) -> Line
+    ensures value { result ≡ table_text error.now }
+    ensures len { length result ≤ 63 }
+{
+    let mut line = Line::new();
+    match error {
+        TableErr::Truncated { rva } => named(&mut line, b"table Truncated ", *rva),
+        TableErr::Misaligned { rva } => named(&mut line, b"table Misaligned ", *rva),
+        TableErr::EmptyRange { index } => named(&mut line, b"table EmptyRange ", *index),
+        TableErr::Unsorted { index } => named(&mut line, b"table Unsorted ", *index),
+        TableErr::Version { index, found } => {
+            named_two(&mut line, b"table Version ", *index, u64::from(*found))
+        }
+        TableErr::Flags { index } => named(&mut line, b"table Flags ", *index),
+        TableErr::Op { index, slot } => named_two(&mut line, b"table Op ", *index, *slot),
+        TableErr::CodeOrder { index, slot } => {
+            named_two(&mut line, b"table CodeOrder ", *index, *slot)
+        }
+        TableErr::ChainLong { index } => named(&mut line, b"table ChainLong ", *index),
+        TableErr::ScopeRange { index, row } => {
+            named_two(&mut line, b"table ScopeRange ", *index, *row)
+        }
+    }
+    line
+}
+
 /// The text of a load's refusal.
 fn load_text(error: &LoadErr) -> Line
     ensures value { result ≡ load_text error.now }
@@ -85,7 +182,9 @@ fn load_text(error: &LoadErr) -> Line
 {
     let mut line = Line::new();
     match error {
+        LoadErr::Table(error) => return table_text(error),
         LoadErr::Place { base } => named(&mut line, b"load Place ", *base),
+        LoadErr::Import { index } => named(&mut line, b"load Import ", *index),
         LoadErr::Entry { rva } => named(&mut line, b"load Entry ", *rva),
         LoadErr::Memory => line.text(b"no memory"),
     }
@@ -116,6 +215,8 @@ fn refusal_text(refusal: &Refusal) -> Line
             named(&mut line, b"too long ", *limit);
             line
         }
+        Refusal::Lex(error) => lex_text(error),
+        Refusal::Parse(error) => parse_text(error),
         Refusal::Later => plain(b"refused Later 0"),
         Refusal::Image(error) => image_text(error),
         Refusal::Load(error) => load_text(error),

@@ -8,14 +8,14 @@ use Rattle.seh.proofs.compile.compile_text.Goals as goal
 pub returns-in-Ok-put_all : goal.returns-in-Ok-put_all
 returns-in-Ok-put_all g c = (
   c.in-Ok-compile_program.image.items,
-  record { program = program c.in-Ok.checked; reads = c.in-Ok.ensures.found; nested = c.in-Ok.checked.nested; realises = c.in-Ok-compile_program.ensures },
+  record { program = program c.in-Ok.checked; compilable = c.in-Ok.ensures.found; realises = c.in-Ok-compile_program.ensures },
   subst (λ t. Grew (g.O.Sink.taken c.args.out.now) t (g.O.Sink.taken c.put_all.new.sink)) c.deref.ensures.value c.in-Ok-put_all.ensures.ok,
 )
 
 pub returns : goal.returns
 returns g c = (
   c.in-Ok-compile_program.image.items,
-  record { program = program c.in-Ok.checked; reads = c.in-Ok.ensures.found; nested = c.in-Ok.checked.nested; realises = c.in-Ok-compile_program.ensures },
+  record { program = program c.in-Ok.checked; compilable = c.in-Ok.ensures.found; realises = c.in-Ok-compile_program.ensures },
   c.in-Err-put_all.ensures.cause,
   (
     c.in-Err-put_all.field-0.taken,
