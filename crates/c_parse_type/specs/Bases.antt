@@ -1,13 +1,15 @@
 -- What the reader of specifiers does, on lists; and what isn't at the front.
-use Rattle.std.specs.Prelude.{List, Option, Some, None}
+use Rattle.std.specs.Prelude.{◌≡◌, List, ◌++◌, Option, Some, None}
 use Rattle.c_lex.specs.declared.keyword.Keyword.{Keyword}
 use Rattle.c_lex.specs.declared.keyword.Keyword.TheVariants as keywords
 use Rattle.c_lex.specs.declared.sign.Sign.TheVariants as signs
 use Rattle.c_lex.specs.declared.token.Token.{Token}
 use Rattle.c_syntax.specs.declared.expression.Base.{Base}
 use Rattle.c_syntax.specs.declared.expression.Base.TheVariants as bases
+use Rattle.c_syntax.specs.declared.expression.CType.{CType}
+use Rattle.c_syntax.specs.Faults.{SameFirst}
 use Rattle.c_syntax.specs.Tokens.{HasSign}
-use Rattle.c_syntax.specs.Types.{IsBase}
+use Rattle.c_syntax.specs.Types.{IsBase, IsType}
 use Rattle.c_parse_type.specs.Fronts.{after_keyword}
 
 abbrev pub int_or : Option (Keyword × List Token) → List Token → List Token
@@ -64,3 +66,15 @@ NoBase ts = (b : Base) (rest : List Token) → IsBase b ts rest → ⊥
 -- no star is at the front
 abbrev pub NoStar : List Token → Type 0
 NoStar ts = (rest : List Token) → HasSign signs.Star ts rest → ⊥
+
+-- Specifiers go no further: with the next token, whatever follows it, no others stand there that nothing of a base follows.
+pub record EndsBase (b : Base) (ts rest : List Token) : Type 0 where
+  pub front : List Token
+  pub split : ts ≡ front ++ rest
+  pub only : (other : List Token) → SameFirst rest other → (d : Base) (end : List Token) → IsBase d (front ++ other) end → NoBase end → (b ≡ d) × (other ≡ end)
+
+-- nor does a type
+pub record EndsType (t : CType) (ts rest : List Token) : Type 0 where
+  pub front : List Token
+  pub split : ts ≡ front ++ rest
+  pub only : (other : List Token) → SameFirst rest other → (d : CType) (end : List Token) → IsType d (front ++ other) end → NoBase end → NoStar end → (t ≡ d) × (other ≡ end)

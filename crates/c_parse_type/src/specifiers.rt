@@ -6,7 +6,7 @@ ghost use Rattle.c_syntax.specs.declared.expression.Base.{Base};
 ghost use Rattle.c_syntax.specs.declared.expression.CType.{CType};
 ghost use Rattle.c_syntax.specs.Types.{IsBase, IsType, AreStars};
 ghost use Rattle.c_parse_type.specs.Bases as bases;
-ghost use Rattle.c_parse_type.specs.Bases.{NoBase, NoStar};
+ghost use Rattle.c_parse_type.specs.Bases.{NoBase, NoStar, EndsBase, EndsType};
 
 use crate::front::{after, keyword};
 use c_lex::keyword::Keyword;
@@ -84,6 +84,7 @@ fn specifiers(tokens: &[Token]) -> Option<(Base, &[Token])>
 /// them; none where no specifiers are at the front.
 pub fn base(tokens: &[Token]) -> Option<(Base, &[Token])>
     ensures found { IfSome result (λ x. IsBase x.0 tokens.now x.1.now) }
+    ensures far { IfSome result (λ x. EndsBase x.0 tokens.now x.1.now) }
     ensures only { (b : Base) (rest : List Token) → IsBase b tokens.now rest → NoBase rest → option_map {U = Base × List Token} (λ x. (x.0, x.1.now)) result ≡ Some (b, rest) }
     ensures none { IfNone result (NoBase tokens.now) }
 {
@@ -108,6 +109,7 @@ pub fn stars(tokens: &[Token]) -> (u64, &[Token])
 /// no specifiers are at the front.
 pub fn c_type(tokens: &[Token]) -> Option<(CType, &[Token])>
     ensures found { IfSome result (λ x. IsType x.0 tokens.now x.1.now) }
+    ensures far { IfSome result (λ x. EndsType x.0 tokens.now x.1.now) }
     ensures only { (of : CType) (rest : List Token) → IsType of tokens.now rest → NoBase rest → NoStar rest → option_map {U = CType × List Token} (λ x. (x.0, x.1.now)) result ≡ Some (of, rest) }
     ensures none { IfNone result (NoBase tokens.now) }
 {

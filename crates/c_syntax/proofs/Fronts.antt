@@ -253,31 +253,31 @@ base_by w =
     cond (nat_eq w 1) bases.Void (cond (nat_eq w 10) bases.Char (cond (nat_eq w 10010) bases.UnsignedChar (cond (nat_eq w 100) bases.Short (cond (nat_eq w 10100) bases.UnsignedShort
     (cond (nat_eq w 10000) bases.Unsigned (cond (nat_eq w 11000) bases.Unsigned (cond (nat_eq w 2000) bases.LongLong (cond (nat_eq w 12000) bases.UnsignedLongLong bases.Int))))))))
 
-abbrev Typed : List Keyword → Type 0
+abbrev pub Typed : List Keyword → Type 0
 Typed [] = Unit {0}
 Typed (k ∷ ks) = (keyword_class k ≡ 7) × Typed ks
 
-abbrev Begun : List Keyword → Type 0
+abbrev pub Begun : List Keyword → Type 0
 Begun [] = ⊥
 Begun (k ∷ ks) = Unit {0}
 
-abbrev Sound : Base → List (List Keyword) → Type 0
+abbrev pub Sound : Base → List (List Keyword) → Type 0
 Sound b [] = Unit {0}
 Sound b (ks ∷ more) = (base_by (weight ks) ≡ b) × Typed ks × Begun ks × Sound b more
 
-record Picked (b : Base) (ts rest : List Token) : Type 0 where
-  words : List Keyword
+pub record Picked (b : Base) (ts rest : List Token) : Type 0 where
+  pub words : List Keyword
   base : base_by (weight words) ≡ b
-  typed : Typed words
-  begun : Begun words
-  are : AreKeywords words ts rest
+  pub typed : Typed words
+  pub begun : Begun words
+  pub are : AreKeywords words ts rest
 
-pick : (b : Base) (kss : List (List Keyword)) (ts rest : List Token) → Sound b kss → IsOneOf kss ts rest → Picked b ts rest
+pub pick : (b : Base) (kss : List (List Keyword)) (ts rest : List Token) → Sound b kss → IsOneOf kss ts rest → Picked b ts rest
 pick b [] ts rest s h = absurd h
 pick b (ks ∷ more) ts rest s (inl h) = record { words = ks; base = s.0; typed = s.1; begun = s.2; are = h }
 pick b (ks ∷ more) ts rest s (inr h) = pick b more ts rest s.3 h
 
-sound : (b : Base) → Sound b (spellings b)
+pub sound : (b : Base) → Sound b (spellings b)
 sound bases.Void = (refl, (refl, tt), tt, tt)
 sound bases.Char = (refl, (refl, tt), tt, (refl, (refl, (refl, tt)), tt, tt))
 sound bases.UnsignedChar = (refl, (refl, (refl, tt)), tt, tt)

@@ -7,3 +7,9 @@ pub mod Blocks
 pub mod Files
 pub mod Passing
 pub mod Shorter
+pub mod Failing
+pub mod Moves
+pub mod FirstFault
+pub mod Firsts
+pub mod MovesStatements
+pub mod MovesPrograms

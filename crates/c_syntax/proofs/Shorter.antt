@@ -1,5 +1,5 @@
 -- What is read takes tokens.
-use Rattle.std.proofs.Common.{◌≡◌, ◌≤◌, ◌<◌, ℕ, zero, suc, List, [], ◌∷◌, length, Option, Some, None, ap, arith, inl, inr}
+use Rattle.std.proofs.Common.{◌≤◌, ◌<◌, ℕ, zero, suc, List, [], ◌∷◌, length, Option, Some, None, ap, arith, inl, inr}
 use Rattle.c_lex.specs.declared.keyword.Keyword.{Keyword}
 use Rattle.c_lex.specs.declared.token.Kind.{Kind}
 use Rattle.c_lex.specs.declared.token.Token.{Token}
@@ -10,7 +10,7 @@ use Rattle.c_syntax.specs.Expression.{Expression, Constant, Variable, Informatio
 use Rattle.c_syntax.specs.Expressions.{IsField, Spells, SpellsArguments, SpellsMore}
 use Rattle.c_syntax.specs.Statement.{Local, First, Declaring, Evaluating, Statement, Declare, Block, Evaluate, If, IfElse, While, DoWhile, For, Return, Break, Continue, Leave, TryExcept, TryFinally, Statements, Empty, Then}
 use Rattle.c_syntax.specs.Statements.{IsInitialiser, IsLocal, AreMoreLocals, AreLocals, IsDeclaration, IsOptional, IsCondition, IsFirst, IsItem, AreItems}
-use Rattle.c_syntax.specs.Tokens.{IsKind, HasSign, HasKeyword}
+use Rattle.c_syntax.specs.Tokens.{IsKind}
 use Rattle.c_syntax.specs.Types.{spellings, AreKeywords, IsOneOf, IsBase, AreStars}
 
 pub by_kind : (k : Kind) (at : ℕ) (ts rest : List Token) → IsKind k at ts rest → length rest < length ts

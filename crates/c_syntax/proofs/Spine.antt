@@ -18,7 +18,7 @@ use Rattle.c_syntax.specs.Expressions.{rank, Spells}
 use Rattle.c_syntax.specs.Follow.{sign_follows, kind_follows, follows, Stops}
 use Rattle.c_syntax.specs.Operators.{level, level_of_arithmetic, level_of_comparison, binary_sign, sign_of_arithmetic, sign_of_comparison, increment_sign, assignment_sign}
 use Rattle.c_syntax.specs.Steps.{Step, At, After, With, Choose, Set, And, apply, bound, Tail, Run, IsHead, Closes}
-use Rattle.c_syntax.specs.Tokens.{IsSign, HasSign}
+use Rattle.c_syntax.specs.Tokens.{IsSign}
 
 pub record Spine (text : List ℕ) (e : Expression) (ts end : List Token) : Type 0 where
   pub head : Expression

@@ -11,4 +11,6 @@ pub mod Steps
 pub mod Statements
 pub mod Programs
 pub mod Limits
+pub mod Faults
+pub mod Viable
 pub mod Rows
