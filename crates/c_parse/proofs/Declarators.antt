@@ -1,55 +1,112 @@
 -- Globals are read as far as they go.
-use Rattle.std.proofs.Common.{◌≡◌, ◌≤◌, ◌<◌, ℕ, List, [], ◌∷◌, ◌++◌, length, map, Option, Some, None, refl, sym, ap, ◌∙◌, subst, arith}
-use Rattle.std.proofs.lemmas.List.{append-nil}
+use Rattle.std.proofs.Common.{◌≡◌, ◌≤◌, ◌<◌, ◌⊎◌, ℕ, suc, false, List, [], ◌∷◌, ◌++◌, length, Option, Some, None, inl, inr, refl, sym, ap, ◌∙◌, subst, arith}
 use Rattle.c_lex.specs.declared.sign.Sign.TheVariants as signs
+use Rattle.c_lex.specs.declared.token.IntegerType.TheVariants as types
+use Rattle.c_lex.specs.declared.token.Kind.TheVariants as kinds
 use Rattle.c_lex.specs.declared.token.Token.{Token}
-use Rattle.c_syntax.specs.declared.declaration.Global.{Global as Global'}
+use Rattle.c_syntax.specs.declared.declaration.Constant.{Constant}
 use Rattle.c_syntax.specs.declared.declaration.Length.{Length}
 use Rattle.c_syntax.specs.declared.expression.Base.{Base}
+use Rattle.c_syntax.specs.declared.expression.Literal.TheVariants as literals
 use Rattle.c_syntax.specs.declared.expression.Name.{Name}
 use Rattle.c_syntax.specs.Expressions.{IsInteger}
+use Rattle.c_syntax.specs.Faults.{SameFirst, place, Onward, Failed, Wraps}
 use Rattle.c_syntax.specs.Follow.{follows, Stops}
-use Rattle.c_syntax.specs.Limits.{end_of_globals}
-use Rattle.c_syntax.specs.Program.{Initialiser, Single, Several, Global, global}
+use Rattle.c_syntax.specs.Program.{Initialiser, Single, Several, Global}
 use Rattle.c_syntax.specs.Programs.{AreConstants, AreMoreConstants, IsInitialiser, IsLength, IsGlobal, AreMoreGlobals, AreGlobals}
-use Rattle.c_syntax.specs.Tokens.{IsName, HasSign}
+use Rattle.c_syntax.specs.Tokens.{token, IsName, HasSign}
 use Rattle.c_syntax.specs.Types.{AreStars}
-use Rattle.c_syntax.specs.declared.declaration.Constant.{Constant}
+use Rattle.c_syntax.proofs.Failing.{append_append, alike_same}
+use Rattle.c_syntax.proofs.Moves as moves
+use Rattle.c_syntax.proofs.MovesPrograms as programs
+use Rattle.c_syntax.proofs.Firsts as firsts
 use Rattle.c_syntax.proofs.Fronts.{has_same, name_same, stars_once}
 use Rattle.c_syntax.proofs.Spine.{follows_sign}
 use Rattle.c_syntax.proofs.Once.{integer_same}
 use Rattle.c_syntax.proofs.Blocks.{name_star}
-use Rattle.c_syntax.proofs.Files.{other_sign, initialiser_stops, length_once, global_once, globals_stop}
+use Rattle.c_syntax.proofs.Files.{initialiser_stops, length_once, globals_stop}
 use Rattle.c_syntax.proofs.Shorter.{stars}
 use Rattle.c_parse_type.specs.Bases.{NoStar}
-use Rattle.c_parse.specs.Parts.{NoInitialiser, end_of, IsBracketed, NoneBracketed, NoLength, NoGlobal, NoGlobals}
-use Rattle.c_parse.proofs.Lists.{Lacks, Begun, Back, goes_on, snoc}
+use Rattle.c_parse_expr.specs.declared.refusal.Count.TheVariants.{Globals}
+use Rattle.c_parse_expr.specs.declared.refusal.ParseErr.{ParseErr}
+use Rattle.c_parse_expr.specs.declared.refusal.ParseErr.TheVariants.{Unexpected, TooMany}
+use Rattle.c_parse_expr.specs.Refusals.{Placed}
+use Rattle.c_parse_stmt.specs.Parts.{NoSign, ASign}
+use Rattle.c_parse.specs.Parts.{NoInitialiser, HasInitialiser, end_of, IsBracketed, NoneBracketed, HasBracketed, IsBehindName, NoLength, HasLength, EndsScalar, NoGlobal, HasGlobals}
+use Rattle.c_parse.proofs.Refusing.{missing, sign, named, name, digit, has_it, behind, Lacks, NoInteger, NoName, goes_on as refusing_goes_on}
 use Rattle.c_parse.proofs.Constants.{constant_shorter}
-use Rattle.c_parse.proofs.Placing.{grows}
+use Rattle.c_parse.proofs.Placing.{no_elements}
 
--- ---- lengths
+-- ---- lengths in brackets
 
-abbrev pub NoInteger : List Token → Type 0
-NoInteger ts = (value at : ℕ) (rest : List Token) → IsInteger value at ts rest → ⊥
+abbrev length_of : ℕ → ℕ → Length
+length_of at value = record { at = at; value = value }
 
-pub no_integer : (base : Base) (pointers at : ℕ) (ts : List Token) → NoInteger ts → NoneBracketed base pointers at ts
-no_integer base pointers at ts none n end h s low = none n.value n.at h.0 h.1
+pub no_integer : (text : List ℕ) (base : Base) (pointers at : ℕ) (ts : List Token) → at ≤ 1048576 → NoInteger ts → Failed 0 (place text ts) (NoneBracketed base pointers at) (HasBracketed base pointers at) text ts
+no_integer text base pointers at ts w none =
+    missing (NoneBracketed base pointers at) (HasBracketed base pointers at) text ts [] ts refl
+    (λ text' other s l end h st low. firsts.no_integer ts other s none l.value l.at h.0 h.1)
+    (λ text'. record {
+      more = digit 0 ∷ sign signs.CloseBracket ∷ [];
+      has = record { tree = length_of 0 0; is = λ other. (sign signs.CloseBracket ∷ other, (types.Int, (0, refl)), has_it signs.CloseBracket other); low = λ k. no_elements base pointers at w };
+    })
 
-pub too_long : (base : Base) (pointers at value place : ℕ) (ts b : List Token) → IsInteger value place ts b → 1048576 < end_of base pointers (Some (record { at = place; value = value })) at → NoneBracketed base pointers at ts
-too_long base pointers at value place ts b is far n end h s low =
-    let q = integer_same value n.value place n.at ts ts b h.0 refl is h.1 in
-    let e : end_of base pointers (Some (record { at = place; value = value })) at ≡ end_of base pointers (Some n) at = ap (λ (v : ℕ). end_of base pointers (Some (record { at = place; value = v })) at) q.0 in
+integer_first : (value p : ℕ) (ts b other : List Token) → IsInteger value p ts b → SameFirst ts other → (more : List Token) × IsInteger value p other more
+integer_first value p ts b other is s = let q = subst (λ (z : List Token). SameFirst z other) is.1.1 s in (q.0, (is.0, (is.1.0, q.1)))
+
+far : (base : Base) (pointers at value p n : ℕ) (text : List ℕ) (ts b : List Token) → 5 ≤ n → IsInteger value p ts b → 1048576 < end_of base pointers (Some (length_of p value)) at → NoneBracketed base pointers at n text ts
+far base pointers at value p n text ts b five is f l end h s low =
+    let q = integer_same value l.value p l.at ts ts b h.0 refl is h.1 in
+    let e : end_of base pointers (Some (length_of p value)) at ≡ end_of base pointers (Some l) at = ap (λ (v : ℕ). end_of base pointers (Some (length_of p v)) at) q.0 in
+    let a = low five in
     absurd (omega arith)
 
-pub unclosed : (base : Base) (pointers at value place : ℕ) (ts b : List Token) → IsInteger value place ts b → Lacks signs.CloseBracket b → NoneBracketed base pointers at ts
-unclosed base pointers at value place ts b is l n end h s low =
-    let q = integer_same value n.value place n.at ts ts b h.0 refl is h.1 in
-    l end (subst (λ (x : List Token). HasSign signs.CloseBracket x end) (sym q.2) h.2)
+pub too_long : (text : List ℕ) (base : Base) (pointers at value p : ℕ) (ts b : List Token) → at ≤ 1048576 → IsInteger value p ts b → 1048576 < end_of base pointers (Some (length_of p value)) at → Failed 5 p (NoneBracketed base pointers at) (HasBracketed base pointers at) text ts
+too_long text base pointers at value p ts b w is f =
+    let t = token (kinds.Integer value is.0) p is.1.0 in record {
+      front = [];
+      fault = ts;
+      split = refl;
+      stands = sym (ap (λ (z : List Token). place text z) is.1.1);
+      against = λ text' other a s. let i = integer_first value p ts b other is s in far base pointers at value p 5 text' other i.0 (omega arith) i.1 f;
+      able = λ text' a k. record {
+        more = digit 0 ∷ sign signs.CloseBracket ∷ [];
+        has = record { tree = length_of 0 0; is = λ other. (sign signs.CloseBracket ∷ other, (types.Int, (0, refl)), has_it signs.CloseBracket other); low = λ k. no_elements base pointers at w };
+      };
+      further = λ text' k a s e. record {
+        token = t;
+        rest = b;
+        more = sign signs.CloseBracket ∷ [];
+        is = is.1.1;
+        has = record { tree = length_of p value; is = λ other. (sign signs.CloseBracket ∷ other, (is.0, (is.1.0, refl)), has_it signs.CloseBracket other); low = λ five. absurd (omega arith) };
+      };
+    }
 
-pub goes_further : (base : Base) (pointers at value place : ℕ) (ts b rest : List Token) → IsInteger value place ts b → HasSign signs.CloseBracket b rest → (Stops 1 rest → ⊥) → NoneBracketed base pointers at ts
-goes_further base pointers at value place ts b rest is c z n end h s low =
-    let q = integer_same value n.value place n.at ts ts b h.0 refl is h.1 in
-    z (subst (λ (x : List Token). Stops 1 x) (sym (has_same signs.CloseBracket b h.0 rest end q.2 c h.2)) s)
+pub in_close : (text : List ℕ) (base : Base) (pointers at value p : ℕ) (ts b : List Token) → IsInteger value p ts b → end_of base pointers (Some (length_of p value)) at ≤ 1048576 → Wraps (NoSign signs.CloseBracket) (ASign signs.CloseBracket) (NoneBracketed base pointers at) (HasBracketed base pointers at) text b ts
+in_close text base pointers at value p ts b is w =
+    let t = token (kinds.Integer value is.0) p is.1.0 in record {
+      before = t ∷ [];
+      split = is.1.1;
+      no = λ n text' other a s x l end h st low.
+          let q = integer_same value l.value p l.at (t ∷ other) (t ∷ other) other h.0 refl (is.0, (is.1.0, refl)) h.1 in
+          x end (subst (λ (z : List Token). HasSign signs.CloseBracket z end) (sym q.2) h.2);
+      has = λ n text' inner a s h. record {
+        more = [];
+        has = record { tree = length_of p value; is = λ other. behind (λ z. IsBracketed (length_of p value) z other) (t ∷ inner) [] other (inner ++ other, (is.0, (is.1.0, refl)), h other); low = λ five. w };
+      };
+    }
+
+pub goes_further : (text : List ℕ) (base : Base) (pointers at value p : ℕ) (ts b rest : List Token) → IsInteger value p ts b → HasSign signs.CloseBracket b rest → end_of base pointers (Some (length_of p value)) at ≤ 1048576 → (Stops 1 rest → ⊥) → Failed 0 (place text rest) (NoneBracketed base pointers at) (HasBracketed base pointers at) text ts
+goes_further text base pointers at value p ts b rest is c w z =
+    let t = token (kinds.Integer value is.0) p is.1.0 in
+    let u = token (kinds.Sign signs.CloseBracket) c.0 c.1.0 in
+    missing (NoneBracketed base pointers at) (HasBracketed base pointers at) text ts (t ∷ u ∷ []) rest (is.1.1 ∙ ap (λ (x : List Token). t ∷ x) c.1.1)
+    (λ text' other s l end h st low.
+    let q = integer_same value l.value p l.at (t ∷ u ∷ other) (t ∷ u ∷ other) (u ∷ other) h.0 refl (is.0, (is.1.0, refl)) h.1 in
+    refusing_goes_on 1 rest other s z (subst (λ (x : List Token). Stops 1 x) (sym (has_same signs.CloseBracket (u ∷ other) h.0 other end q.2 (c.0, (c.1.0, refl)) h.2)) st))
+    (λ text'. record { more = []; has = record { tree = length_of p value; is = λ other. (u ∷ other, (is.0, (is.1.0, refl)), (c.0, (c.1.0, refl))); low = λ five. w } })
+
+-- ---- lengths
 
 pub bracketed : (n : Length) (ts a rest : List Token) → HasSign signs.OpenBracket ts a → IsBracketed n a rest → IsLength (Some n) ts rest
 bracketed n ts a rest o h = (a, h.0, o, h.1, h.2)
@@ -57,38 +114,246 @@ bracketed n ts a rest o h = (a, h.0, o, h.1, h.2)
 bracket_not : (ts end b : List Token) → ts ≡ end → Stops 1 end → HasSign signs.OpenBracket ts b → ⊥
 bracket_not ts end b p s o = let a = follows_sign signs.OpenBracket o.0 ts b 1 o.1 refl in let c = ap follows p in absurd (omega arith)
 
-pub none_bracketed : (base : Base) (pointers at : ℕ) (ts a : List Token) → HasSign signs.OpenBracket ts a → NoneBracketed base pointers at a → NoLength base pointers at ts
-none_bracketed base pointers at ts a o none None end h s low = absurd (bracket_not ts end a h s o)
-none_bracketed base pointers at ts a o none (Some n) end h s low =
-    none n end (h.1, subst (λ (x : List Token). IsInteger n.value n.at x h.1) (has_same signs.OpenBracket ts ts h.0 a refl h.2 o) h.3, h.4) s low
+-- nothing goes on with a length
+stops : (i : Option Initialiser) (gs : List Global) (a b end : List Token) → IsInitialiser i a b → AreMoreGlobals gs b end → Stops 1 a
+stops i gs a b end h m = initialiser_stops i a b (globals_stop gs b end m) h
 
-pub no_scalar : (base : Base) (pointers at : ℕ) (ts : List Token) → Lacks signs.OpenBracket ts → (Stops 1 ts → ⊥) → NoLength base pointers at ts
-no_scalar base pointers at ts l z None end h s low = z (subst (λ (x : List Token). Stops 1 x) (sym h) s)
-no_scalar base pointers at ts l z (Some n) end h s low = l h.0 h.2
+none_bracketed : (base : Base) (pointers at n : ℕ) (text : List ℕ) (ts a : List Token) → HasSign signs.OpenBracket ts a → NoneBracketed base pointers at n text a → NoLength base pointers at n text ts
+none_bracketed base pointers at n text ts a o none None i gs end h low = absurd (bracket_not ts h.0 a h.2 (stops i gs h.0 h.1 end h.3 h.4) o)
+none_bracketed base pointers at n text ts a o none (Some l) i gs end h low =
+    none l h.0 (h.2.1, subst (λ (x : List Token). IsInteger l.value l.at x h.2.1) (has_same signs.OpenBracket ts ts h.2.0 a refl h.2.2 o) h.2.3, h.2.4) (stops i gs h.0 h.1 end h.3 h.4) low
 
-pub scalar_too_far : (base : Base) (pointers at : ℕ) (ts : List Token) → Lacks signs.OpenBracket ts → 1048576 < end_of base pointers None at → NoLength base pointers at ts
-scalar_too_far base pointers at ts l far None end h s low = absurd (omega arith)
-scalar_too_far base pointers at ts l far (Some n) end h s low = l h.0 h.2
+pub in_bracketed : (text : List ℕ) (base : Base) (pointers at : ℕ) (ts a : List Token) → HasSign signs.OpenBracket ts a → Wraps (NoneBracketed base pointers at) (HasBracketed base pointers at) (NoLength base pointers at) (HasLength base pointers at) text a ts
+in_bracketed text base pointers at ts a o =
+    let t = token (kinds.Sign signs.OpenBracket) o.0 o.1.0 in record {
+      before = t ∷ [];
+      split = o.1.1;
+      no = λ n text' other b s x. none_bracketed base pointers at n text' (t ∷ other) other (o.0, (o.1.0, refl)) x;
+      has = λ n text' inner b s h. record {
+        more = sign signs.Semicolon ∷ [];
+        has = record {
+          length = Some h.tree;
+          initialiser = None;
+          others = [];
+          is = λ other.
+              let rest = sign signs.Semicolon ∷ other in
+              behind (λ z. IsBehindName (Some h.tree) None [] z other) (t ∷ inner) (sign signs.Semicolon ∷ []) other
+              (rest, rest, bracketed h.tree (t ∷ (inner ++ rest)) (inner ++ rest) rest (o.0, (o.1.0, refl)) (h.is rest), refl, has_it signs.Semicolon other);
+          low = h.low;
+        };
+      };
+    }
+
+-- an array with no elements, in each place
+abbrev pub array : List Token
+array = sign signs.OpenBracket ∷ digit 0 ∷ sign signs.CloseBracket ∷ sign signs.Semicolon ∷ []
+
+pub is_array : (other : List Token) → IsLength (Some (length_of 0 0)) (array ++ other) (sign signs.Semicolon ∷ other)
+is_array other = (digit 0 ∷ sign signs.CloseBracket ∷ sign signs.Semicolon ∷ other, sign signs.CloseBracket ∷ sign signs.Semicolon ∷ other, has_it signs.OpenBracket _, (types.Int, (0, refl)), has_it signs.CloseBracket _)
+
+array_has : (base : Base) (pointers at n : ℕ) (text : List ℕ) → at ≤ 1048576 → HasLength base pointers at n text array
+array_has base pointers at n text w = record {
+  length = Some (length_of 0 0);
+  initialiser = None;
+  others = [];
+  is = λ other. (sign signs.Semicolon ∷ other, sign signs.Semicolon ∷ other, is_array other, refl, has_it signs.Semicolon other);
+  low = λ five. no_elements base pointers at w;
+}
+
+no_scalar : (base : Base) (pointers at n : ℕ) (text : List ℕ) (ts : List Token) → Lacks signs.OpenBracket ts → (Stops 1 ts → ⊥) → NoLength base pointers at n text ts
+no_scalar base pointers at n text ts l z None i gs end h low = z (subst (λ (x : List Token). Stops 1 x) (sym h.2) (stops i gs h.0 h.1 end h.3 h.4))
+no_scalar base pointers at n text ts l z (Some m) i gs end h low = l h.2.0 h.2.2
+
+pub not_scalar : (text : List ℕ) (base : Base) (pointers at : ℕ) (ts : List Token) → at ≤ 1048576 → Lacks signs.OpenBracket ts → (Stops 1 ts → ⊥) → Failed 0 (place text ts) (NoLength base pointers at) (HasLength base pointers at) text ts
+not_scalar text base pointers at ts w l z =
+    missing (NoLength base pointers at) (HasLength base pointers at) text ts [] ts refl
+    (λ text' other s. no_scalar base pointers at 0 text' other (firsts.no_sign signs.OpenBracket ts other s l) (refusing_goes_on 1 ts other s z))
+    (λ text'. record { more = array; has = array_has base pointers at 6 text' w })
+
+scalar_far : (base : Base) (pointers at n : ℕ) (text : List ℕ) (ts : List Token) → 5 ≤ n → Lacks signs.OpenBracket ts → 1048576 < end_of base pointers None at → NoLength base pointers at n text ts
+scalar_far base pointers at n text ts five l f None i gs end h low = let a = low five in absurd (omega arith)
+scalar_far base pointers at n text ts five l f (Some m) i gs end h low = l h.2.0 h.2.2
+
+sign_goes_on : (base : Base) (pointers at k : ℕ) (text : List ℕ) (ts : List Token) → 5 ≡ suc k → EndsScalar ts → Onward (HasLength base pointers at) k text [] ts
+sign_goes_on base pointers at k text ts e (rest, inl h) =
+    let t = token (kinds.Sign signs.Semicolon) h.0 h.1.0 in record {
+      token = t;
+      rest = rest;
+      more = [];
+      is = h.1.1;
+      has = record { length = None; initialiser = None; others = []; is = λ other. (t ∷ other, t ∷ other, refl, refl, (h.0, (h.1.0, refl))); low = λ five. absurd (omega arith) };
+    }
+sign_goes_on base pointers at k text ts e (rest, inr (inl h)) =
+    let t = token (kinds.Sign signs.Comma) h.0 h.1.0 in record {
+      token = t;
+      rest = rest;
+      more = name ∷ sign signs.Semicolon ∷ [];
+      is = h.1.1;
+      has = record {
+        length = None;
+        initialiser = None;
+        others = record { pointers = 0; name = named; length = None; initialiser = None } ∷ [];
+        is = λ other.
+            let s = sign signs.Semicolon ∷ other in
+            let m = name ∷ s in
+            (t ∷ m, t ∷ m, refl, refl, (m, s, (h.0, (h.1.0, refl)), (m, s, s, refl, refl, refl, refl), has_it signs.Semicolon other));
+        low = λ five. absurd (omega arith);
+      };
+    }
+sign_goes_on base pointers at k text ts e (rest, inr (inr h)) =
+    let t = token (kinds.Sign signs.Assign) h.0 h.1.0 in record {
+      token = t;
+      rest = rest;
+      more = digit 1 ∷ sign signs.Semicolon ∷ [];
+      is = h.1.1;
+      has = record {
+        length = None;
+        initialiser = Some (Single (record { at = 0; negative = false; literal = literals.Integer 1 types.Int }));
+        others = [];
+        is = λ other.
+            let s = sign signs.Semicolon ∷ other in
+            (t ∷ digit 1 ∷ s, s, refl, (digit 1 ∷ s, (h.0, (h.1.0, refl)), (0, refl)), has_it signs.Semicolon other);
+        low = λ five. absurd (omega arith);
+      };
+    }
+
+scalar_too_far : (text : List ℕ) (base : Base) (pointers at : ℕ) (ts : List Token) → at ≤ 1048576 → Lacks signs.OpenBracket ts → 1048576 < end_of base pointers None at → EndsScalar ts → Failed 5 (place text ts) (NoLength base pointers at) (HasLength base pointers at) text ts
+scalar_too_far text base pointers at ts w l f g = record {
+  front = [];
+  fault = ts;
+  split = refl;
+  stands = refl;
+  against = λ text' other a s. scalar_far base pointers at 5 text' other (omega arith) (firsts.no_sign signs.OpenBracket ts other s l) f;
+  able = λ text' a k. record { more = array; has = array_has base pointers at 6 text' w };
+  further = λ text' k a s e. sign_goes_on base pointers at k text' ts e g;
+}
+
+pub no_ends : (ts : List Token) → Lacks signs.Semicolon ts → Lacks signs.Comma ts → Lacks signs.Assign ts → EndsScalar ts → ⊥
+no_ends ts a b c (rest, inl h) = a rest h
+no_ends ts a b c (rest, inr (inl h)) = b rest h
+no_ends ts a b c (rest, inr (inr h)) = c rest h
+
+ends_first : (ts other : List Token) → SameFirst ts other → (EndsScalar ts → ⊥) → EndsScalar other → ⊥
+ends_first ts other s n =
+    no_ends other (firsts.no_sign signs.Semicolon ts other s (λ end h. n (end, inl h))) (firsts.no_sign signs.Comma ts other s (λ end h. n (end, inr (inl h)))) (firsts.no_sign signs.Assign ts other s (λ end h. n (end, inr (inr h))))
+
+at_end : (ts a : List Token) → ts ≡ a → EndsScalar a → EndsScalar ts
+at_end ts a p h = subst EndsScalar (sym p) h
+
+no_sign : (base : Base) (pointers at n : ℕ) (text : List ℕ) (ts : List Token) → Lacks signs.OpenBracket ts → (EndsScalar ts → ⊥) → NoLength base pointers at n text ts
+no_sign base pointers at n text ts l z (Some m) i gs end h low = l h.2.0 h.2.2
+no_sign base pointers at n text ts l z None None [] end h low = z (at_end ts h.1 (h.2 ∙ h.3) (end, inl h.4))
+no_sign base pointers at n text ts l z None None (g ∷ gs) end h low = z (at_end ts h.1 (h.2 ∙ h.3) (h.4.0, inr (inl h.4.2)))
+no_sign base pointers at n text ts l z None (Some (Single c)) gs end h low = z (at_end ts h.0 h.2 (h.3.0, inr (inr h.3.1)))
+no_sign base pointers at n text ts l z None (Some (Several to cs)) gs end h low = z (at_end ts h.0 h.2 (h.3.0, inr (inr h.3.2)))
+
+scalar_ends : (text : List ℕ) (base : Base) (pointers at : ℕ) (ts : List Token) → at ≤ 1048576 → Lacks signs.OpenBracket ts → (EndsScalar ts → ⊥) → Failed 0 (place text ts) (NoLength base pointers at) (HasLength base pointers at) text ts
+scalar_ends text base pointers at ts w l z =
+    missing (NoLength base pointers at) (HasLength base pointers at) text ts [] ts refl
+    (λ text' other s. no_sign base pointers at 0 text' other (firsts.no_sign signs.OpenBracket ts other s l) (ends_first ts other s z))
+    (λ text'. record { more = array; has = array_has base pointers at 6 text' w })
+
+pub scalar : (e : ParseErr) (text : List ℕ) (base : Base) (pointers at : ℕ) (ts : List Token) → at ≤ 1048576 → Lacks signs.OpenBracket ts → 1048576 < end_of base pointers None at
+    → ((e ≡ TooMany (place text ts) Globals) × EndsScalar ts) ⊎ ((e ≡ Unexpected (place text ts)) × (EndsScalar ts → ⊥))
+    → Placed e (NoLength base pointers at) (HasLength base pointers at) text ts
+scalar e text base pointers at ts w l f (inl h) = subst (λ (x : ParseErr). Placed x (NoLength base pointers at) (HasLength base pointers at) text ts) (sym h.0) (scalar_too_far text base pointers at ts w l f h.1)
+scalar e text base pointers at ts w l f (inr h) = subst (λ (x : ParseErr). Placed x (NoLength base pointers at) (HasLength base pointers at) text ts) (sym h.0) (scalar_ends text base pointers at ts w l h.1)
 
 -- ---- one global
 
-pub no_name : (base : Base) (at n : ℕ) (ts d : List Token) → AreStars n ts d → NoStar d → ((name : Name) (rest : List Token) → IsName name d rest → ⊥) → NoGlobal base at ts
-no_name base at n ts d s z none g end h st low =
-    let p = stars_once n g.pointers ts ts d h.0 refl z (name_star g.name h.0 h.1 h.4) s h.3 in
-    none g.name h.1 (subst (λ (x : List Token). IsName g.name x h.1) (sym p.1) h.4)
+not_named : (base : Base) (at k n : ℕ) (text : List ℕ) (ts d : List Token) → AreStars n ts d → NoStar d → NoName d → NoGlobal base at k text ts
+not_named base at k n text ts d s z none g gs end h low =
+    let p = stars_once n g.pointers ts ts d h.1.0 refl z (name_star g.name h.1.0 h.1.1 h.1.4) s h.1.3 in
+    none g.name h.1.1 (subst (λ (x : List Token). IsName g.name x h.1.1) (sym p.1) h.1.4)
 
-pub no_length : (base : Base) (at n : ℕ) (name : Name) (ts d b : List Token) → AreStars n ts d → NoStar d → IsName name d b → NoLength base n at b → NoGlobal base at ts
-no_length base at n name ts d b s z m none g end h st low =
-    let p = stars_once n g.pointers ts ts d h.0 refl z (name_star g.name h.0 h.1 h.4) s h.3 in
-    let q = name_same name g.name d h.0 b h.1 p.1 m h.4 in
-    none g.length h.2 (subst (λ (x : List Token). IsLength g.length x h.2) (sym q.1) h.5) (initialiser_stops g.initialiser h.2 end st h.6) (subst (λ (x : ℕ). end_of base x g.length at ≤ 1048576) (sym p.0) low)
+pub no_name : (text : List ℕ) (base : Base) (at n : ℕ) (ts d : List Token) → at ≤ 1048576 → AreStars n ts d → NoStar d → NoName d → Failed 0 (place text d) (NoGlobal base at) (HasGlobals base at) text ts
+no_name text base at n ts d w s z none =
+    let m = moves.stars n text ts d s in
+    let again : (other : List Token) → AreStars n (m.front ++ other) other = λ other. m.again text other (alike_same text ts) in
+    let g : Global = record { pointers = n; name = named; length = Some (length_of 0 0); initialiser = None } in
+    missing (NoGlobal base at) (HasGlobals base at) text ts m.front d m.split
+    (λ text' other f. not_named base at 0 n text' (m.front ++ other) other (again other) (firsts.no_sign signs.Star d other f z) (firsts.no_name d other f none))
+    (λ text'. record {
+      more = name ∷ array;
+      has = record {
+        trees = g ∷ [];
+        are = λ other.
+            let rest = sign signs.Semicolon ∷ other in
+            behind (λ x. AreGlobals (g ∷ []) x other) m.front (name ∷ array) other
+            (rest, (name ∷ (array ++ other), array ++ other, rest, again (name ∷ (array ++ other)), refl, is_array other, refl), has_it signs.Semicolon other);
+        low = λ five. no_elements base n at w;
+      };
+    })
 
-pub no_initialiser : (base : Base) (at n : ℕ) (name : Name) (l : Option Length) (ts d b c : List Token) → AreStars n ts d → NoStar d → IsName name d b → IsLength l b c → Stops 1 c → NoInitialiser c → NoGlobal base at ts
-no_initialiser base at n name l ts d b c s z m k t none g end h st low =
-    let p = stars_once n g.pointers ts ts d h.0 refl z (name_star g.name h.0 h.1 h.4) s h.3 in
-    let q = name_same name g.name d h.0 b h.1 p.1 m h.4 in
-    let r = length_once l g.length b h.1 c h.2 q.1 t (initialiser_stops g.initialiser h.2 end st h.6) k h.5 in
-    none g.initialiser end (subst (λ (x : List Token). IsInitialiser g.initialiser x end) (sym r.1) h.6) st
+no_length : (base : Base) (at k n : ℕ) (text : List ℕ) (called : Name) (ts d b : List Token) → AreStars n ts d → NoStar d → IsName called d b → NoLength base n at k text b → NoGlobal base at k text ts
+no_length base at k n text called ts d b s z m none g gs end h low =
+    let p = stars_once n g.pointers ts ts d h.1.0 refl z (name_star g.name h.1.0 h.1.1 h.1.4) s h.1.3 in
+    let q = name_same called g.name d h.1.0 b h.1.1 p.1 m h.1.4 in
+    none g.length g.initialiser gs end (h.1.2, h.0, subst (λ (x : List Token). IsLength g.length x h.1.2) (sym q.1) h.1.5, h.1.6, h.2) (λ five. subst (λ (x : ℕ). end_of base x g.length at ≤ 1048576) (sym p.0) (low five))
+
+no_star : (called : Name) (other : List Token) → NoStar (token kinds.Name called.start called.end ∷ other)
+no_star called other = name_star called (token kinds.Name called.start called.end ∷ other) other refl
+
+pub in_length : (text : List ℕ) (base : Base) (at n : ℕ) (called : Name) (ts d b : List Token) → AreStars n ts d → IsName called d b → Wraps (NoLength base n at) (HasLength base n at) (NoGlobal base at) (HasGlobals base at) text b ts
+in_length text base at n called ts d b s e =
+    let m = moves.stars n text ts d s in
+    let again : (other : List Token) → AreStars n (m.front ++ other) other = λ other. m.again text other (alike_same text ts) in
+    let t = token kinds.Name called.start called.end in record {
+      before = m.front ++ t ∷ [];
+      split = m.split ∙ ap (λ (x : List Token). m.front ++ x) e ∙ sym (append_append m.front (t ∷ []) b);
+      no = λ k text' other a f x. behind (λ z. NoGlobal base at k text' z) m.front (t ∷ []) other (no_length base at k n text' called (m.front ++ t ∷ other) (t ∷ other) other (again (t ∷ other)) (no_star called other) refl x);
+      has = λ k text' inner a f h.
+          let g : Global = record { pointers = n; name = called; length = h.length; initialiser = h.initialiser } in record {
+            more = [];
+            has = record {
+              trees = g ∷ h.others;
+              are = λ other.
+                  let q = h.is other in
+                  behind (λ z. AreGlobals (g ∷ h.others) z other) ((m.front ++ t ∷ []) ++ inner) [] other
+                  (behind (λ z. AreGlobals (g ∷ h.others) z other) (m.front ++ t ∷ []) inner other
+                  (behind (λ z. AreGlobals (g ∷ h.others) z other) m.front (t ∷ []) (inner ++ other)
+                  (q.1, (t ∷ (inner ++ other), inner ++ other, q.0, again (t ∷ (inner ++ other)), refl, q.2, q.3), q.4)));
+              low = h.low;
+            };
+          };
+    }
+
+no_initialiser : (base : Base) (at k n : ℕ) (text : List ℕ) (called : Name) (l : Option Length) (ts d b c : List Token) → AreStars n ts d → NoStar d → IsName called d b → IsLength l b c → Stops 1 c → NoInitialiser k text c → NoGlobal base at k text ts
+no_initialiser base at k n text called l ts d b c s z m e t none g gs end h low =
+    let st = globals_stop gs h.0 end h.2 in
+    let p = stars_once n g.pointers ts ts d h.1.0 refl z (name_star g.name h.1.0 h.1.1 h.1.4) s h.1.3 in
+    let q = name_same called g.name d h.1.0 b h.1.1 p.1 m h.1.4 in
+    let r = length_once l g.length b h.1.1 c h.1.2 q.1 t (initialiser_stops g.initialiser h.1.2 h.0 st h.1.6) e h.1.5 in
+    none g.initialiser h.0 (subst (λ (x : List Token). IsInitialiser g.initialiser x h.0) (sym r.1) h.1.6) st
+
+pub in_initialiser : (text : List ℕ) (base : Base) (at n : ℕ) (called : Name) (l : Option Length) (ts d b c : List Token) → AreStars n ts d → IsName called d b → IsLength l b c → Stops 1 c → end_of base n l at ≤ 1048576 → Wraps NoInitialiser HasInitialiser (NoGlobal base at) (HasGlobals base at) text c ts
+in_initialiser text base at n called l ts d b c s e i stop w =
+    let m = moves.stars n text ts d s in
+    let again : (other : List Token) → AreStars n (m.front ++ other) other = λ other. m.again text other (alike_same text ts) in
+    let o = programs.length l text b c i in
+    let length_again : (other : List Token) → IsLength l (o.front ++ other) other = λ other. o.again text other (alike_same text b) in
+    let t = token kinds.Name called.start called.end in record {
+      before = m.front ++ t ∷ o.front;
+      split = m.split ∙ ap (λ (x : List Token). m.front ++ x) (e ∙ ap (λ (x : List Token). t ∷ x) o.split) ∙ sym (append_append m.front (t ∷ o.front) c);
+      no = λ k text' other a f x. behind (λ z. NoGlobal base at k text' z) m.front (t ∷ o.front) other
+          (no_initialiser base at k n text' called l (m.front ++ t ∷ (o.front ++ other)) (t ∷ (o.front ++ other)) (o.front ++ other) other (again (t ∷ (o.front ++ other))) (no_star called (o.front ++ other)) refl (length_again other) (firsts.stops 1 c other f stop) x);
+      has = λ k text' inner a f h.
+          let g : Global = record { pointers = n; name = called; length = l; initialiser = h.tree } in record {
+            more = sign signs.Semicolon ∷ [];
+            has = record {
+              trees = g ∷ [];
+              are = λ other.
+                  let rest = sign signs.Semicolon ∷ other in
+                  behind (λ z. AreGlobals (g ∷ []) z other) ((m.front ++ t ∷ o.front) ++ inner) (sign signs.Semicolon ∷ []) other
+                  (behind (λ z. AreGlobals (g ∷ []) z other) (m.front ++ t ∷ o.front) inner rest
+                  (behind (λ z. AreGlobals (g ∷ []) z other) m.front (t ∷ o.front) (inner ++ rest)
+                  (rest, (t ∷ (o.front ++ (inner ++ rest)), o.front ++ (inner ++ rest), inner ++ rest, again (t ∷ (o.front ++ (inner ++ rest))), refl, length_again (inner ++ rest), h.is rest), has_it signs.Semicolon other)));
+              low = λ five. w;
+            };
+          };
+    }
+
+-- ---- what is read takes tokens
 
 more_shorter : (cs : List Constant) (ts end : List Token) → AreMoreConstants cs ts end → length end < length ts
 more_shorter [] ts end h = let a = ap length h.1.1 in omega arith
@@ -110,73 +375,3 @@ length_shorter (Some n) ts end h = let a = ap length h.2.1.1 in let b = ap lengt
 pub global_shorter : (g : Global) (ts end : List Token) → IsGlobal g ts end → length end < length ts
 global_shorter g ts end h =
     let a = stars g.pointers ts h.0 h.3 in let b = ap length h.4 in let c = length_shorter g.length h.1 h.2 h.5 in let d = initialiser_shorter g.initialiser h.2 end h.6 in omega arith
-
--- ---- a list of them
-
--- what was read of the globals of a declaration, up to the rest, and where they end
-abbrev pub Read : Base → ℕ → List Token → List Global' → List Token → ℕ → Type 0
-Read base at ts found rest now = Begun AreGlobals AreMoreGlobals ts (map global found) rest × ((gs : List Global) → end_of_globals base (map global found ++ gs) at ≡ end_of_globals base gs now)
-
-first_back : (ts rest : List Token) (x : Global) → IsGlobal x ts rest → Stops 15 rest → Back AreGlobals AreMoreGlobals ts (x ∷ []) rest
-first_back ts rest x is s [] end h = absurd h
-first_back ts rest x is s (g ∷ gs) end h =
-    let u = global_once x g ts ts rest h.0 refl s (globals_stop gs h.0 end h.2) is h.1 in
-    (gs, ap (λ (z : Global). z ∷ gs) (sym u.0), subst (λ (z : List Token). AreMoreGlobals gs z end) (sym u.1) h.2)
-
-pub begins : (base : Base) (at now : ℕ) (ts rest : List Token) (x : Global') → IsGlobal (global x) ts rest → Stops 15 rest → now ≡ end_of base (global x).pointers (global x).length at → Read base at ts (x ∷ []) rest now
-begins base at now ts rest x is s e = ((λ gs end m. (rest, is, m), first_back ts rest (global x) is s), λ gs. ap (λ (n : ℕ). end_of_globals base gs n) (sym e))
-
-next_back : (rest b after : List Token) (x : Global) → HasSign signs.Comma rest b → IsGlobal x b after → Stops 15 after → (xs : List Global) (end : List Token) → AreMoreGlobals xs rest end → (ys : List Global) × (xs ≡ x ∷ ys) × AreMoreGlobals ys after end
-next_back rest b after x k is s [] end m = let e : signs.Comma ≡ signs.Semicolon = other_sign signs.Comma signs.Semicolon rest rest b end refl k m in absurd cc
-next_back rest b after x k is s (g ∷ gs) end m =
-    let p = has_same signs.Comma rest rest b m.0 refl k m.2 in
-    let u = global_once x g b m.0 after m.1 p s (globals_stop gs m.1 end m.4) is m.3 in
-    (gs, ap (λ (z : Global). z ∷ gs) (sym u.0), subst (λ (z : List Token). AreMoreGlobals gs z end) (sym u.1) m.4)
-
-mapped : (found : List Global') (x : Global') → map global (found ++ x ∷ []) ≡ map global found ++ global x ∷ []
-mapped [] x = refl
-mapped (y ∷ found) x = ap (λ (z : List Global). global y ∷ z) (mapped found x)
-
-pub next : (base : Base) (at now further : ℕ) (ts rest b after : List Token) (found : List Global') (x : Global') → HasSign signs.Comma rest b → IsGlobal (global x) b after → Stops 15 after → further ≡ end_of base (global x).pointers (global x).length now → Read base at ts found rest now → Read base at ts (found ++ x ∷ []) after further
-next base at now further ts rest b after found x k is s e d =
-    let r : Begun AreGlobals AreMoreGlobals ts (map global found ++ global x ∷ []) after = goes_on AreGlobals AreMoreGlobals ts rest after (map global found) (global x) (λ gs end m. (b, after, k, is, m)) (next_back rest b after (global x) k is s) d.0 in (
-      subst (λ (z : List Global). Begun AreGlobals AreMoreGlobals ts z after) (sym (mapped found x)) r,
-      λ gs. ap (λ (z : List Global). end_of_globals base (z ++ gs) at) (mapped found x) ∙ ap (λ (z : List Global). end_of_globals base z at) (snoc (map global found) (global x) gs) ∙ d.1 (global x ∷ gs) ∙ ap (λ (n : ℕ). end_of_globals base gs n) (sym e),
-    )
-
-pub ends : (base : Base) (at now : ℕ) (ts rest end : List Token) (found : List Global') → Read base at ts found rest now → HasSign signs.Semicolon rest end → AreGlobals (map global found) ts end
-ends base at now ts rest end found d h = subst (λ (z : List Global). AreGlobals z ts end) (append-nil (map global found)) (d.0.0 [] end h)
-
-pub ends_at : (base : Base) (at now : ℕ) (ts rest : List Token) (found : List Global') → Read base at ts found rest now → now ≡ end_of_globals base (map global found) at
-ends_at base at now ts rest found d = sym (ap (λ (z : List Global). end_of_globals base z at) (sym (append-nil (map global found))) ∙ d.1 [])
-
-abbrev NoMore : Base → ℕ → List Token → Type 0
-NoMore base at ts = (gs : List Global) (end : List Token) → AreMoreGlobals gs ts end → end_of_globals base gs at ≤ 1048576 → ⊥
-
-stuck : (base : Base) (at now : ℕ) (ts rest : List Token) (found : List Global') → Read base at ts found rest now → NoMore base now rest → NoGlobals base at ts
-stuck base at now ts rest found d none gs end h low =
-    let r = d.0.1 gs end h in
-    let e = ap (λ (z : List Global). end_of_globals base z at) r.1 ∙ d.1 r.0 in
-    none r.0 end r.2 (subst (λ (n : ℕ). n ≤ 1048576) e low)
-
-pub no_first : (base : Base) (at : ℕ) (ts : List Token) → NoGlobal base at ts → NoGlobals base at ts
-no_first base at ts none [] end h low = absurd h
-no_first base at ts none (g ∷ gs) end h low =
-    let a = grows base gs (end_of base g.pointers g.length at) in
-    none g h.0 h.1 (globals_stop gs h.0 end h.2) (omega arith)
-
-pub no_next : (base : Base) (at now : ℕ) (ts rest b : List Token) (found : List Global') → Read base at ts found rest now → HasSign signs.Comma rest b → NoGlobal base now b → NoGlobals base at ts
-no_next base at now ts rest b found d k none = stuck base at now ts rest found d more
-  where
-    more : NoMore base now rest
-    more [] end m low = let e : signs.Comma ≡ signs.Semicolon = other_sign signs.Comma signs.Semicolon rest rest b end refl k m in absurd cc
-    more (g ∷ gs) end m low =
-        let a = grows base gs (end_of base g.pointers g.length now) in
-        none g m.1 (subst (λ (z : List Token). IsGlobal g z m.1) (has_same signs.Comma rest rest m.0 b refl m.2 k) m.3) (globals_stop gs m.1 end m.4) (omega arith)
-
-pub unended : (base : Base) (at now : ℕ) (ts rest : List Token) (found : List Global') → Read base at ts found rest now → Lacks signs.Comma rest → Lacks signs.Semicolon rest → NoGlobals base at ts
-unended base at now ts rest found d k s = stuck base at now ts rest found d more
-  where
-    more : NoMore base now rest
-    more [] end m low = s end m
-    more (g ∷ gs) end m low = k m.0 m.2

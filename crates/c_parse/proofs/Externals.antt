@@ -1,52 +1,134 @@
 -- External declarations are read by their heads.
-use Rattle.std.proofs.Common.{◌≡◌, ◌≤◌, ◌<◌, ◌+◌, ℕ, List, [], ◌∷◌, length, length-append, Option, Some, refl, sym, ap, subst, arith, inl, inr}
+use Rattle.std.proofs.Common.{◌≡◌, ◌≤◌, ◌<◌, ◌+◌, ◌⊎◌, ℕ, List, [], ◌∷◌, ◌++◌, length, length-append, refl, sym, ap, ◌∙◌, subst, arith, inl, inr, Some, None}
+use Rattle.std.proofs.lemmas.List.{append_cancel_right}
 use Rattle.c_lex.specs.declared.sign.Sign.TheVariants as signs
+use Rattle.c_lex.specs.declared.token.Kind.TheVariants as kinds
 use Rattle.c_lex.specs.declared.token.Token.{Token}
 use Rattle.c_syntax.specs.declared.declaration.Parameter.{Parameter}
 use Rattle.c_syntax.specs.declared.expression.Base.{Base}
+use Rattle.c_syntax.specs.declared.expression.Base.TheVariants as bases
 use Rattle.c_syntax.specs.declared.expression.CType.{CType}
 use Rattle.c_syntax.specs.declared.expression.Name.{Name}
+use Rattle.c_syntax.specs.Faults.{SameFirst, place, Failed, Wraps}
 use Rattle.c_syntax.specs.Limits.{end_of_globals, all_numbered, FunctionWithin}
 use Rattle.c_syntax.specs.Program.{Global, External, Globals, Function}
 use Rattle.c_syntax.specs.Programs.{AreMoreGlobals, AreGlobals, AreMoreParameters, AreParameters, IsExternal}
-use Rattle.c_syntax.specs.Statement.{Statements}
-use Rattle.c_syntax.specs.Tokens.{IsName, HasSign}
+use Rattle.c_syntax.specs.Statement.{Statements, Empty}
+use Rattle.c_syntax.specs.Tokens.{token, IsName, HasSign}
 use Rattle.c_syntax.specs.Types.{IsBase, AreStars}
+use Rattle.c_syntax.proofs.Failing.{append_append, alike_same, alike_inner, first_behind}
+use Rattle.c_syntax.proofs.Firsts as firsts
+use Rattle.c_syntax.proofs.Moves as moves
 use Rattle.c_syntax.proofs.Fronts.{has_same, name_same, base_once, base_front, stars_once, stars_front, NoType}
 use Rattle.c_syntax.proofs.Blocks.{name_star, name_type}
 use Rattle.c_syntax.proofs.Files.{globals_type, apart}
 use Rattle.c_syntax.proofs.Shorter.{base, stars, items}
-use Rattle.c_parse_type.specs.Bases.{NoBase, NoStar}
+use Rattle.c_parse_type.specs.Bases.{NoBase, NoStar, EndsBase}
 use Rattle.c_parse.specs.declared.counts.Counts.{Counts}
-use Rattle.c_parse.specs.Counts.{Taken, NoExternal}
-use Rattle.c_parse.specs.Parts.{NoGlobals, IsTail, NoTail, IsHead, NoHead}
-use Rattle.c_parse.proofs.Lists.{Lacks}
-use Rattle.c_parse.proofs.Declarators.{global_shorter}
+use Rattle.c_parse.specs.Counts.{Taken, NoExternal, HasExternal}
+use Rattle.c_parse.specs.Parts.{NoGlobals, HasGlobals, IsTail, NoTail, HasTail, IsHead, NoHead, HasHead}
+use Rattle.c_parse.proofs.Refusing.{missing, sign, named, name, has_it, behind, Lacks, NoName}
+use Rattle.c_parse.proofs.Placing.{no_elements}
+use Rattle.c_parse.proofs.Declarators.{global_shorter, array, is_array}
+use Rattle.c_parse.proofs.Parameters.{word}
+use Rattle.c_parse.proofs.Bodies.{empty}
 
 -- ---- heads
 
-abbrev pub OnlyBase : Base → List Token → List Token → Type 0
-OnlyBase found behind ts = (b : Base) (rest : List Token) → IsBase b ts rest → NoBase rest → ◌≡◌ {A = Option (Base × List Token)} (Some (found, behind)) (Some (b, rest))
+declarators_type : (n : ℕ) (called : Name) (ts a end : List Token) → AreStars n ts a → IsName called a end → NoType ts
+declarators_type n called ts a end s m = stars_front n ts a (name_type called a end m) s
 
-declarators_type : (n : ℕ) (name : Name) (ts a end : List Token) → AreStars n ts a → IsName name a end → NoType ts
-declarators_type n name ts a end s m = stars_front n ts a (name_type name a end m) s
+pub no_base : (text : List ℕ) (ts : List Token) → NoBase ts → Failed 0 (place text ts) NoHead HasHead text ts
+no_base text ts none =
+    missing NoHead HasHead text ts [] ts refl
+    (λ text' other s b n m d end h. firsts.no_base ts other s none b d h.1)
+    (λ text'. record {
+      more = word ∷ name ∷ [];
+      has = record { base = bases.Int; pointers = 0; name = named; is = λ other. (name ∷ other, (name ∷ other, inl (name ∷ other, (0, (0, refl)), refl), refl, refl)) };
+    })
 
-pub no_base : (ts : List Token) → NoBase ts → NoHead ts
-no_base ts none b n name d end h = none b d h.1
+pub no_name : (text : List ℕ) (b : Base) (k : ℕ) (ts d a : List Token) → IsBase b ts d → EndsBase b ts d → AreStars k d a → NoStar a → NoName a → Failed 0 (place text a) NoHead HasHead text ts
+no_name text b k ts d a is far s z none =
+    let mb = moves.base b text ts d is in
+    let e : mb.front ≡ far.front = append_cancel_right mb.front far.front d (sym mb.split ∙ far.split) in
+    let ms = moves.stars k text d a s in
+    let again : (other : List Token) → AreStars k (ms.front ++ other) other = λ other. ms.again text other (alike_same text d) in
+    missing NoHead HasHead text ts (far.front ++ ms.front) a (far.split ∙ ap (λ (x : List Token). far.front ++ x) ms.split ∙ sym (append_append far.front ms.front a))
+    (λ text' other f. behind (λ x. NoHead 0 text' x) far.front ms.front other (λ c n m g end h.
+    let t = declarators_type n m g h.0 end h.2 h.3 in
+    let q = far.only (ms.front ++ other) (subst (λ (x : List Token). SameFirst x (ms.front ++ other)) (sym ms.split) (first_behind ms.front a other f)) c g h.1 (λ x y w. t (base_front x g y w)) in
+    let r = stars_once k n (ms.front ++ other) g other h.0 q.1 (firsts.no_sign signs.Star a other f z) (name_star m h.0 end h.3) (again other) h.2 in
+    firsts.no_name a other f none m end (subst (λ (x : List Token). IsName m x end) (sym r.1) h.3)))
+    (λ text'. record {
+      more = name ∷ [];
+      has = record {
+        base = b;
+        pointers = k;
+        name = named;
+        is = λ other.
+            let rest = name ∷ other in
+            behind (λ x. (g : List Token) × IsHead b k named x g other) (far.front ++ ms.front) (name ∷ []) other
+            (behind (λ x. (g : List Token) × IsHead b k named x g other) far.front ms.front rest
+            (ms.front ++ rest, (rest, subst (λ (x : List Token). IsBase b (x ++ (ms.front ++ rest)) (ms.front ++ rest)) e (mb.again text (ms.front ++ rest) (alike_same text ts)), again rest, refl)));
+      };
+    })
 
-pub no_name : (found : Base) (k : ℕ) (ts d a : List Token) → OnlyBase found d ts → AreStars k d a → NoStar a → ((name : Name) (rest : List Token) → IsName name a rest → ⊥) → NoHead ts
-no_name found k ts d a only s z none b n name e end h =
-    let t = declarators_type n name e h.0 end h.2 h.3 in
-    let q = only b e h.1 (λ x y g. t (base_front x e y g)) in
-    let f : ◌≡◌ {A = Base × List Token} (found, d) (b, e) = cc in
-    let p : d ≡ e = ap (λ (x : Base × List Token). x.1) f in
-    let r = stars_once k n d e a h.0 p z (name_star name h.0 end h.3) s h.2 in
-    none name end (subst (λ (x : List Token). IsName name x end) (sym r.1) h.3)
+-- a head stands before other tokens
+pub record Headed (b : Base) (n : ℕ) (called : Name) (ts d rest : List Token) : Type 0 where
+  pub front : List Token
+  pub split : ts ≡ front ++ d
+  pub declared : List Token
+  pub split_declared : d ≡ declared ++ rest
+  pub again : (other : List Token) → IsBase b (front ++ other) other
+  pub declares : (other : List Token) → (a : List Token) × AreStars n (declared ++ other) a × IsName called a other
 
-pub no_head : (text : List ℕ) (counts : Counts) (ts : List Token) → NoHead ts → NoExternal text counts ts
-no_head text counts ts none (Globals b []) end h w = absurd h.2
-no_head text counts ts none (Globals b (g ∷ gs)) end h w = none b g.pointers g.name h.0 h.2.1.1 (h.2.1.0, h.1, h.2.1.3, h.2.1.4)
-no_head text counts ts none (Function t name ps body) end h w = none t.base t.pointers name h.5.0 h.1 (h.0, h.5.1, h.5.2, h.6)
+pub headed : (text : List ℕ) (b : Base) (n : ℕ) (called : Name) (ts d rest : List Token) → IsHead b n called ts d rest → Headed b n called ts d rest
+headed text b n called ts d rest h =
+    let mb = moves.base b text ts d h.1 in
+    let ms = moves.stars n text d h.0 h.2 in
+    let t = token kinds.Name called.start called.end in record {
+      front = mb.front;
+      split = mb.split;
+      declared = ms.front ++ t ∷ [];
+      split_declared = ms.split ∙ ap (λ (x : List Token). ms.front ++ x) h.3 ∙ sym (append_append ms.front (t ∷ []) rest);
+      again = λ other. mb.again text other (alike_same text ts);
+      declares = λ other. behind (λ x. (a : List Token) × AreStars n x a × IsName called a other) ms.front (t ∷ []) other (t ∷ other, ms.again text (t ∷ other) (alike_same text d), refl);
+    }
+
+-- with these tokens behind it
+is_head : (b : Base) (n : ℕ) (called : Name) (ts d rest : List Token) (m : Headed b n called ts d rest) (other : List Token) → IsHead b n called (m.front ++ (m.declared ++ other)) (m.declared ++ other) other
+is_head b n called ts d rest m other = let q = m.declares other in (q.0, m.again (m.declared ++ other), q.1, q.2)
+
+whole_split : (b : Base) (n : ℕ) (called : Name) (ts d rest : List Token) (m : Headed b n called ts d rest) → ts ≡ (m.front ++ m.declared) ++ rest
+whole_split b n called ts d rest m = m.split ∙ ap (λ (x : List Token). m.front ++ x) m.split_declared ∙ sym (append_append m.front m.declared rest)
+
+has_head : (n : ℕ) (text : List ℕ) (b : Base) (k : ℕ) (called : Name) (ts d rest : List Token) (m : Headed b k called ts d rest) → HasHead n text (m.front ++ m.declared)
+has_head n text b k called ts d rest m = record { base = b; pointers = k; name = called; is = λ other. behind (λ x. (g : List Token) × IsHead b k called x g other) m.front m.declared other (m.declared ++ other, is_head b k called ts d rest m other) }
+
+-- an array with no elements completes it
+array_behind : (counts : Counts) (n : ℕ) (text : List ℕ) (inner : List Token) → counts.bytes ≤ 1048576 → HasHead n text inner → HasExternal counts n text (inner ++ array)
+array_behind counts n text inner w h =
+    let g : Global = record { pointers = h.pointers; name = h.name; length = Some (record { at = 0; value = 0 }); initialiser = None } in record {
+      tree = Globals h.base (g ∷ []);
+      is = λ other.
+          let q = h.is (array ++ other) in
+          let rest = sign signs.Semicolon ∷ other in
+          behind (λ x. IsExternal text (Globals h.base (g ∷ [])) x other) inner array other (q.0, q.1.1, (rest, (q.1.0, array ++ other, rest, q.1.2, q.1.3, is_array other, refl), has_it signs.Semicolon other));
+      fits = record { each = tt; functions = λ four. omega arith; bytes = λ five. no_elements h.base h.pointers counts.bytes w; funclets = λ six. omega arith };
+    }
+
+no_head : (counts : Counts) (n : ℕ) (text : List ℕ) (ts : List Token) → NoHead n text ts → NoExternal counts n text ts
+no_head counts n text ts none (Globals b []) end h w = absurd h.2
+no_head counts n text ts none (Globals b (g ∷ gs)) end h w = none b g.pointers g.name h.0 h.2.1.1 (h.2.1.0, h.1, h.2.1.3, h.2.1.4)
+no_head counts n text ts none (Function t called ps body) end h w = none t.base t.pointers called h.5.0 h.1 (h.0, h.5.1, h.5.2, h.6)
+
+pub in_head : (text : List ℕ) (counts : Counts) (ts : List Token) → counts.bytes ≤ 1048576 → Wraps NoHead HasHead (NoExternal counts) (HasExternal counts) text ts ts
+in_head text counts ts w = record {
+  before = [];
+  split = refl;
+  no = λ n text' other a s x. no_head counts n text' other x;
+  has = λ n text' inner a s h. record { more = array; has = array_behind counts n text' inner w h };
+}
 
 -- ---- functions
 
@@ -54,46 +136,166 @@ abbrev typed : Base → ℕ → CType
 typed b n = record { base = b; pointers = n }
 
 -- no globals stand where a parenthesis is behind the head
-not_globals : (text : List ℕ) (b base : Base) (n : ℕ) (name : Name) (gs : List Global) (ts d rest inner end : List Token) → IsHead base n name ts d rest → HasSign signs.OpenParenthesis rest inner → IsExternal text (Globals b gs) ts end → ⊥
-not_globals text b base n name gs ts d rest inner end h o g = apart b gs (typed base n) name ts ts h.0 rest inner end refl g (d, h.1, h.2) h.3 o
+not_globals : (text : List ℕ) (b base : Base) (n : ℕ) (called : Name) (gs : List Global) (ts d rest inner end : List Token) → IsHead base n called ts d rest → HasSign signs.OpenParenthesis rest inner → IsExternal text (Globals b gs) ts end → ⊥
+not_globals text b base n called gs ts d rest inner end h o g = apart b gs (typed base n) called ts ts h.0 rest inner end refl g (d, h.1, h.2) h.3 o
 
 -- a function has one head
-head_once : (base other : Base) (n m : ℕ) (name called : Name) (ts d e rest end : List Token) → IsHead base n name ts d rest → IsHead other m called ts e end → rest ≡ end
-head_once base other n m name called ts d e rest end h g =
-    let b = base_once base other ts ts d e refl (declarators_type n name d h.0 rest h.2 h.3) (declarators_type m called e g.0 end g.2 g.3) h.1 g.1 in
-    let s = stars_once n m d e h.0 g.0 b.1 (name_star name h.0 rest h.3) (name_star called g.0 end g.3) h.2 g.2 in
-    (name_same name called h.0 g.0 rest end s.1 h.3 g.3).1
+head_once : (base other : Base) (n m : ℕ) (called again : Name) (ts d e rest end : List Token) → IsHead base n called ts d rest → IsHead other m again ts e end → rest ≡ end
+head_once base other n m called again ts d e rest end h g =
+    let b = base_once base other ts ts d e refl (declarators_type n called d h.0 rest h.2 h.3) (declarators_type m again e g.0 end g.2 g.3) h.1 g.1 in
+    let s = stars_once n m d e h.0 g.0 b.1 (name_star called h.0 rest h.3) (name_star again g.0 end g.3) h.2 g.2 in
+    (name_same called again h.0 g.0 rest end s.1 h.3 g.3).1
 
-pub functions_full : (text : List ℕ) (counts : Counts) (base : Base) (n : ℕ) (name : Name) (ts d rest inner : List Token) → IsHead base n name ts d rest → HasSign signs.OpenParenthesis rest inner → counts.functions ≡ 0 → NoExternal text counts ts
-functions_full text counts base n name ts d rest inner h o z (Globals b gs) end g w = not_globals text b base n name gs ts d rest inner end h o g
-functions_full text counts base n name ts d rest inner h o z (Function t called ps body) end g w = let a = w.functions in absurd (omega arith)
+pub function : (text : List ℕ) (base : Base) (n : ℕ) (called : Name) (ps : List Parameter) (body : Statements) (ts d rest inner end : List Token) → IsHead base n called ts d rest → HasSign signs.OpenParenthesis rest inner → IsTail text ps body inner end → IsExternal text (Function (typed base n) called ps body) ts end
+function text base n called ps body ts d rest inner end h o t = (h.0, rest, inner, t.0, t.1, (d, h.1, h.2), h.3, o, t.2, t.3, t.4)
 
-pub no_tail : (text : List ℕ) (counts : Counts) (base : Base) (n : ℕ) (name : Name) (ts d rest inner : List Token) → IsHead base n name ts d rest → HasSign signs.OpenParenthesis rest inner → NoTail text counts.funclets inner → NoExternal text counts ts
-no_tail text counts base n name ts d rest inner h o none (Globals b gs) end g w = not_globals text b base n name gs ts d rest inner end h o g
-no_tail text counts base n name ts d rest inner h o none (Function t called ps body) end g w =
-    let r = head_once base t.base n t.pointers name called ts d g.5.0 rest g.1 h (g.0, g.5.1, g.5.2, g.6) in
+full : (counts : Counts) (k : ℕ) (text : List ℕ) (base : Base) (n : ℕ) (called : Name) (ts d rest inner : List Token) → 4 ≤ k → IsHead base n called ts d rest → HasSign signs.OpenParenthesis rest inner → counts.functions ≡ 0 → NoExternal counts k text ts
+full counts k text base n called ts d rest inner four h o z (Globals b gs) end g w = not_globals text b base n called gs ts d rest inner end h o g
+full counts k text base n called ts d rest inner four h o z (Function t again ps body) end g w = let a = w.functions four in absurd (omega arith)
+
+abbrev nothing : List Token
+nothing = sign signs.CloseParenthesis ∷ sign signs.OpenBrace ∷ sign signs.CloseBrace ∷ []
+
+pub functions_full : (text : List ℕ) (counts : Counts) (base : Base) (n : ℕ) (called : Name) (ts d rest inner : List Token) → counts.bytes ≤ 1048576 → IsHead base n called ts d rest → HasSign signs.OpenParenthesis rest inner → counts.functions ≡ 0 → Failed 4 (place text rest) (NoExternal counts) (HasExternal counts) text ts
+functions_full text counts base n called ts d rest inner w h o z =
+    let m = headed text base n called ts d rest h in
+    let t = token (kinds.Sign signs.OpenParenthesis) o.0 o.1.0 in record {
+      front = m.front ++ m.declared;
+      fault = rest;
+      split = whole_split base n called ts d rest m;
+      stands = refl;
+      against = λ text' other a s.
+          let f = subst (λ (x : List Token). SameFirst x other) o.1.1 s in
+          behind (λ x. NoExternal counts 4 text' x) m.front m.declared other
+          (full counts 4 text' base n called (m.front ++ (m.declared ++ other)) (m.declared ++ other) other f.0 (omega arith) (is_head base n called ts d rest m other) (o.0, (o.1.0, f.1)) z);
+      able = λ text' a s. record { more = array; has = array_behind counts 6 text' (m.front ++ m.declared) w (has_head 6 text' base n called ts d rest m) };
+      further = λ text' k a s e. record {
+        token = t;
+        rest = inner;
+        more = nothing;
+        is = o.1.1;
+        has = record {
+          tree = Function (typed base n) called [] Empty;
+          is = λ other.
+              let u = t ∷ (nothing ++ other) in
+              behind (λ x. IsExternal text' (Function (typed base n) called [] Empty) x other) (m.front ++ m.declared) (t ∷ nothing) other
+              (behind (λ x. IsExternal text' (Function (typed base n) called [] Empty) x other) m.front m.declared u
+              (function text' base n called [] Empty (m.front ++ (m.declared ++ u)) (m.declared ++ u) u (nothing ++ other) other (is_head base n called ts d rest m u) (o.0, (o.1.0, refl))
+              (sign signs.OpenBrace ∷ sign signs.CloseBrace ∷ other, sign signs.CloseBrace ∷ other, inl (has_it signs.CloseParenthesis (sign signs.OpenBrace ∷ sign signs.CloseBrace ∷ other)), has_it signs.OpenBrace (sign signs.CloseBrace ∷ other), has_it signs.CloseBrace other)));
+          fits = record { each = (empty k [] (λ three. omega arith), tt); functions = λ four. absurd (omega arith); bytes = λ five. w; funclets = λ six. omega arith };
+        };
+      };
+    }
+
+no_tail : (counts : Counts) (k : ℕ) (text : List ℕ) (base : Base) (n : ℕ) (called : Name) (ts d rest inner : List Token) → IsHead base n called ts d rest → HasSign signs.OpenParenthesis rest inner → NoTail counts.funclets k text inner → NoExternal counts k text ts
+no_tail counts k text base n called ts d rest inner h o none (Globals b gs) end g w = not_globals text b base n called gs ts d rest inner end h o g
+no_tail counts k text base n called ts d rest inner h o none (Function t again ps body) end g w =
+    let r = head_once base t.base n t.pointers called again ts d g.5.0 rest g.1 h (g.0, g.5.1, g.5.2, g.6) in
     let i = has_same signs.OpenParenthesis rest g.1 inner g.2 r o g.7 in
-    let a = w.funclets in
     let b = length-append (all_numbered text body) [] in
-    none ps body end (g.3, g.4, subst (λ (x : List Token). AreParameters ps x g.3) (sym i) g.8, g.9, g.10) w.each.0 (omega arith)
+    none ps body end (g.3, g.4, subst (λ (x : List Token). AreParameters ps x g.3) (sym i) g.8, g.9, g.10) w.each.0 (λ six. let a = w.funclets six in omega arith)
 
-pub function : (text : List ℕ) (base : Base) (n : ℕ) (name : Name) (ps : List Parameter) (body : Statements) (ts d rest inner end : List Token) → IsHead base n name ts d rest → HasSign signs.OpenParenthesis rest inner → IsTail text ps body inner end → IsExternal text (Function (typed base n) name ps body) ts end
-function text base n name ps body ts d rest inner end h o t = (h.0, rest, inner, t.0, t.1, (d, h.1, h.2), h.3, o, t.2, t.3, t.4)
+pub in_tail : (text : List ℕ) (counts : Counts) (base : Base) (n : ℕ) (called : Name) (ts d rest inner : List Token) → counts.bytes ≤ 1048576 → IsHead base n called ts d rest → HasSign signs.OpenParenthesis rest inner → (counts.functions ≡ 0 → ⊥) → Wraps (NoTail counts.funclets) (HasTail counts.funclets) (NoExternal counts) (HasExternal counts) text inner ts
+in_tail text counts base n called ts d rest inner w h o z =
+    let m = headed text base n called ts d rest h in
+    let t = token (kinds.Sign signs.OpenParenthesis) o.0 o.1.0 in record {
+      before = (m.front ++ m.declared) ++ t ∷ [];
+      split = whole_split base n called ts d rest m ∙ ap (λ (x : List Token). (m.front ++ m.declared) ++ x) o.1.1 ∙ sym (append_append (m.front ++ m.declared) (t ∷ []) inner);
+      no = λ k text' other a s x.
+          behind (λ y. NoExternal counts k text' y) (m.front ++ m.declared) (t ∷ []) other
+          (behind (λ y. NoExternal counts k text' y) m.front m.declared (t ∷ other)
+          (no_tail counts k text' base n called (m.front ++ (m.declared ++ t ∷ other)) (m.declared ++ t ∷ other) (t ∷ other) other (is_head base n called ts d rest m (t ∷ other)) (o.0, (o.1.0, refl)) x));
+      has = λ k text' more a s g.
+          let x = Function (typed base n) called g.parameters g.body in
+          let e = length-append (all_numbered text' g.body) [] in record {
+            more = [];
+            has = record {
+              tree = x;
+              is = λ other.
+                  let u = t ∷ (more ++ other) in
+                  behind (λ y. IsExternal text' x y other) ((m.front ++ m.declared) ++ t ∷ [] ++ more) [] other
+                  (behind (λ y. IsExternal text' x y other) ((m.front ++ m.declared) ++ t ∷ []) more other
+                  (behind (λ y. IsExternal text' x y other) (m.front ++ m.declared) (t ∷ []) (more ++ other)
+                  (behind (λ y. IsExternal text' x y other) m.front m.declared u
+                  (function text' base n called g.parameters g.body (m.front ++ (m.declared ++ u)) (m.declared ++ u) u (more ++ other) other (is_head base n called ts d rest m u) (o.0, (o.1.0, refl)) (g.is other)))));
+              fits = record { each = (g.within, tt); functions = λ four. grind arith; bytes = λ five. w; funclets = λ six. let b = g.numbered six in omega arith };
+            };
+          };
+    }
 
-pub function_taken : (text : List ℕ) (counts after : Counts) (type : CType) (name : Name) (ps : List Parameter) (body : Statements) → after.functions + 1 ≡ counts.functions → after.bytes ≡ counts.bytes → counts.bytes ≤ 1048576 → FunctionWithin ps body → after.funclets + length (all_numbered text body) ≡ counts.funclets → Taken text counts after (Function type name ps body)
-function_taken text counts after type name ps body f b low w n =
+pub function_taken : (text : List ℕ) (counts after : Counts) (type : CType) (called : Name) (ps : List Parameter) (body : Statements) → after.functions + 1 ≡ counts.functions → after.bytes ≡ counts.bytes → counts.bytes ≤ 1048576 → FunctionWithin ps body → after.funclets + length (all_numbered text body) ≡ counts.funclets → Taken text counts after (Function type called ps body)
+function_taken text counts after type called ps body f b low w n =
     let a = length-append (all_numbered text body) [] in
     record { each = (w, tt); functions = f; bytes = b; low = omega arith; funclets = omega arith }
 
 -- ---- globals
 
-pub no_globals : (text : List ℕ) (counts : Counts) (base : Base) (n : ℕ) (name : Name) (ts d rest : List Token) → IsHead base n name ts d rest → Lacks signs.OpenParenthesis rest → NoGlobals base counts.bytes d → NoExternal text counts ts
-no_globals text counts base n name ts d rest h l none (Globals b gs) end g w =
-    let q = base_once base b ts ts d g.0 refl (declarators_type n name d h.0 rest h.2 h.3) (globals_type gs g.0 end g.2) h.1 g.1 in
-    none gs end (subst (λ (x : List Token). AreGlobals gs x end) (sym q.1) g.2) (subst (λ (x : Base). end_of_globals x gs counts.bytes ≤ 1048576) (sym q.0) w.bytes)
-no_globals text counts base n name ts d rest h l none (Function t called ps body) end g w =
-    let r = head_once base t.base n t.pointers name called ts d g.5.0 rest g.1 h (g.0, g.5.1, g.5.2, g.6) in
+no_globals : (counts : Counts) (k : ℕ) (text : List ℕ) (base : Base) (n : ℕ) (called : Name) (ts d rest : List Token) → IsHead base n called ts d rest → Lacks signs.OpenParenthesis rest → NoGlobals base counts.bytes k text d → NoExternal counts k text ts
+no_globals counts k text base n called ts d rest h l none (Globals b gs) end g w =
+    let q = base_once base b ts ts d g.0 refl (declarators_type n called d h.0 rest h.2 h.3) (globals_type gs g.0 end g.2) h.1 g.1 in
+    none gs end (subst (λ (x : List Token). AreGlobals gs x end) (sym q.1) g.2) (λ five. subst (λ (x : Base). end_of_globals x gs counts.bytes ≤ 1048576) (sym q.0) (w.bytes five))
+no_globals counts k text base n called ts d rest h l none (Function t again ps body) end g w =
+    let r = head_once base t.base n t.pointers called again ts d g.5.0 rest g.1 h (g.0, g.5.1, g.5.2, g.6) in
     l g.2 (subst (λ (x : List Token). HasSign signs.OpenParenthesis x g.2) (sym r) g.7)
+
+-- of two ways to cut a list one goes further
+abbrev Cuts : List Token → List Token → List Token → List Token → Type 0
+Cuts xs ys us vs = ((g : List Token) × (us ≡ xs ++ g) × (ys ≡ g ++ vs)) ⊎ ((t : Token) × (g : List Token) × (xs ≡ us ++ t ∷ g) × (vs ≡ t ∷ (g ++ ys)))
+
+further : (x : Token) (xs ys us vs : List Token) → Cuts xs ys us vs → Cuts (x ∷ xs) ys (x ∷ us) vs
+further x xs ys us vs (inl (g, p, q)) = inl (g, ap (λ (z : List Token). x ∷ z) p, q)
+further x xs ys us vs (inr (t, g, p, q)) = inr (t, g, ap (λ (z : List Token). x ∷ z) p, q)
+
+cut : (xs ys us vs : List Token) → xs ++ ys ≡ us ++ vs → Cuts xs ys us vs
+cut [] ys us vs p = inl (us, refl, p)
+cut (x ∷ xs) ys [] vs p = inr (x, xs, refl, sym p)
+cut (x ∷ xs) ys (u ∷ us) vs p =
+    let e : x ≡ u = cc in
+    let q : xs ++ ys ≡ us ++ vs = cc in
+    subst (λ (z : Token). Cuts (x ∷ xs) ys (z ∷ us) vs) e (further x xs ys us vs (cut xs ys us vs q))
+
+against : (counts : Counts) (k : ℕ) (text : List ℕ) (base : Base) (n : ℕ) (called : Name) (ts d rest front fault other : List Token) (m : Headed base n called ts d rest) → counts.bytes ≤ 1048576 → Lacks signs.OpenParenthesis rest → SameFirst fault other
+    → ((o : List Token) → SameFirst fault o → NoGlobals base counts.bytes k text (front ++ o)) → Cuts m.declared rest front fault → NoExternal counts k text (m.front ++ (front ++ other))
+against counts k text base n called ts d rest front fault other m w l s f (inl (g, p, q)) =
+    let e : front ++ other ≡ m.declared ++ (g ++ other) = ap (λ (z : List Token). z ++ other) p ∙ append_append m.declared g other in
+    let lacks = firsts.no_sign signs.OpenParenthesis rest (g ++ other) (subst (λ (z : List Token). SameFirst z (g ++ other)) (sym q) (first_behind g fault other s)) l in
+    subst (λ (z : List Token). NoExternal counts k text (m.front ++ z)) (sym e)
+    (no_globals counts k text base n called (m.front ++ (m.declared ++ (g ++ other))) (m.declared ++ (g ++ other)) (g ++ other) (is_head base n called ts d rest m (g ++ other)) lacks (subst (λ (z : List Token). NoGlobals base counts.bytes k text z) e (f other s)))
+against counts k text base n called ts d rest front fault other m w l s f (inr (t, g, p, q)) =
+    let o = t ∷ (g ++ array) in
+    let e : m.declared ++ array ≡ front ++ o = ap (λ (z : List Token). z ++ array) p ∙ append_append front (t ∷ g) array in
+    let x : Global = record { pointers = n; name = called; length = Some (record { at = 0; value = 0 }); initialiser = None } in
+    let h = m.declares array in
+    let rest' = sign signs.Semicolon ∷ [] in
+    let are : AreGlobals (x ∷ []) (m.declared ++ array) [] = (rest', (h.0, array, rest', h.1, h.2, is_array [], refl), has_it signs.Semicolon []) in
+    absurd (f o (subst (λ (z : List Token). SameFirst z o) (sym q) (g ++ array, refl)) (x ∷ []) [] (subst (λ (z : List Token). AreGlobals (x ∷ []) z []) e are) (λ five. no_elements base n counts.bytes w))
+
+globals_has : (counts : Counts) (k : ℕ) (text : List ℕ) (base : Base) (front inner : List Token) → ((other : List Token) → IsBase base (front ++ other) other) → HasGlobals base counts.bytes k text inner → HasExternal counts k text (front ++ inner)
+globals_has counts k text base front inner b h = record {
+  tree = Globals base h.trees;
+  is = λ other. behind (λ z. IsExternal text (Globals base h.trees) z other) front inner other (inner ++ other, b (inner ++ other), h.are other);
+  fits = record { each = tt; functions = λ four. omega arith; bytes = h.low; funclets = λ six. omega arith };
+}
+
+-- What fails as globals fails as an external declaration: it fails behind the head, which no parenthesis follows.
+pub as_globals : (text : List ℕ) (counts : Counts) (base : Base) (n : ℕ) (called : Name) (ts d rest : List Token) → counts.bytes ≤ 1048576 → IsHead base n called ts d rest → Lacks signs.OpenParenthesis rest
+    → (kind at : ℕ) → Failed kind at (NoGlobals base counts.bytes) (HasGlobals base counts.bytes) text d → Failed kind at (NoExternal counts) (HasExternal counts) text ts
+as_globals text counts base n called ts d rest w h l kind at f =
+    let m = headed text base n called ts d rest h in record {
+      front = m.front ++ f.front;
+      fault = f.fault;
+      split = m.split ∙ ap (λ (x : List Token). m.front ++ x) f.split ∙ sym (append_append m.front f.front f.fault);
+      stands = f.stands;
+      against = λ text' other a s.
+          behind (λ z. NoExternal counts kind text' z) m.front f.front other
+          (against counts kind text' base n called ts d rest f.front f.fault other m w l s (λ o q. f.against text' o (alike_inner text text' m.front d ts m.split a) q) (cut m.declared rest f.front f.fault (sym m.split_declared ∙ f.split)));
+      able = λ text' a k.
+          let o = f.able text' (alike_inner text text' m.front d ts m.split a) k in
+          record { more = o.more; has = subst (λ (z : List Token). HasExternal counts 6 text' z) (sym (append_append m.front f.front o.more)) (globals_has counts 6 text' base m.front (f.front ++ o.more) m.again o.has) };
+      further = λ text' k a s e.
+          let o = f.further text' k (alike_inner text text' m.front d ts m.split a) s e in
+          record { token = o.token; rest = o.rest; more = o.more; is = o.is; has = subst (λ (z : List Token). HasExternal counts k text' z) (sym (append_append m.front f.front (o.token ∷ o.more))) (globals_has counts k text' base m.front (f.front ++ o.token ∷ o.more) m.again o.has) };
+    }
 
 pub globals_taken : (text : List ℕ) (counts after : Counts) (base : Base) (gs : List Global) → after.functions ≡ counts.functions → after.bytes ≡ end_of_globals base gs counts.bytes → after.bytes ≤ 1048576 → after.funclets ≡ counts.funclets → Taken text counts after (Globals base gs)
 globals_taken text counts after base gs f b low n = record { each = tt; functions = omega arith; bytes = b; low = low; funclets = omega arith }

@@ -1,8 +1,12 @@
+pub mod Refusing
 pub mod Lists
 pub mod Constants
 pub mod Placing
 pub mod Declarators
+pub mod Declarations
 pub mod Parameters
+pub mod Bodies
 pub mod Externals
-pub mod Programs
 pub mod Nodes
+pub mod Beyond
+pub mod Programs

@@ -1,12 +1,8 @@
 -- Lists with commas between their elements are read in a loop.
 use Rattle.std.proofs.Common.{◌≡◌, List, [], ◌∷◌, ◌++◌, refl, sym, ap, ◌∙◌, subst}
-use Rattle.c_lex.specs.declared.sign.Sign.{Sign}
 use Rattle.c_lex.specs.declared.token.Token.{Token}
-use Rattle.c_syntax.specs.Tokens.{HasSign}
-
--- the sign isn't at the front
-abbrev pub Lacks : Sign → List Token → Type 0
-Lacks s ts = (rest : List Token) → HasSign s ts rest → ⊥
+use Rattle.c_syntax.specs.Faults.{SameFirst}
+use Rattle.c_syntax.proofs.Failing.{append_append, first_behind}
 
 -- what may stand behind elements of a list, and whole lists
 abbrev pub Listed : Type 0 → Type 1
@@ -20,25 +16,30 @@ Forward {A} Are More ts found rest = (xs : List A) (end : List Token) → More x
 abbrev pub Back : {A : Type 0} → Listed A → Listed A → List Token → List A → List Token → Type 0
 Back {A} Are More ts found rest = (xs : List A) (end : List Token) → Are xs ts end → (ys : List A) × (xs ≡ found ++ ys) × More ys rest end
 
-abbrev pub Begun : {A : Type 0} → Listed A → Listed A → List Token → List A → List Token → Type 0
-Begun Are More ts found rest = Forward Are More ts found rest × Back Are More ts found rest
+-- Elements were read up to the rest: whatever stands in its place, and back where that begins with the same token.
+pub record Begun {A : Type 0} (Are More : Listed A) (ts : List Token) (found : List A) (rest : List Token) : Type 0 where
+  pub front : List Token
+  pub split : ts ≡ front ++ rest
+  pub forward : (other : List Token) → Forward Are More (front ++ other) found other
+  pub back : (other : List Token) → SameFirst rest other → Back Are More (front ++ other) found other
 
 pub snoc : {A : Type 0} (xs : List A) (x : A) (ys : List A) → (xs ++ x ∷ []) ++ ys ≡ xs ++ x ∷ ys
 snoc [] x ys = refl
 snoc {A} (z ∷ xs) x ys = ap (λ (l : List A). z ∷ l) (snoc xs x ys)
 
 -- one element more
-pub goes_on : {A : Type 0} (Are More : Listed A) (ts rest after : List Token) (found : List A) (x : A)
-    → ((xs : List A) (end : List Token) → More xs after end → More (x ∷ xs) rest end)
-    → ((xs : List A) (end : List Token) → More xs rest end → (ys : List A) × (xs ≡ x ∷ ys) × More ys after end)
+pub goes_on : {A : Type 0} (Are More : Listed A) (ts rest mid after : List Token) (found : List A) (x : A) → rest ≡ mid ++ after
+    → ((other : List Token) (xs : List A) (end : List Token) → More xs other end → More (x ∷ xs) (mid ++ other) end)
+    → ((other : List Token) → SameFirst after other → (xs : List A) (end : List Token) → More xs (mid ++ other) end → (ys : List A) × (xs ≡ x ∷ ys) × More ys other end)
     → Begun Are More ts found rest → Begun Are More ts (found ++ x ∷ []) after
-goes_on {A} Are More ts rest after found x f b d = (forward, back)
-  where
-    forward : Forward Are More ts (found ++ x ∷ []) after
-    forward xs end m = subst (λ (l : List A). Are l ts end) (sym (snoc found x xs)) (d.0 (x ∷ xs) end (f xs end m))
-
-    back : Back Are More ts (found ++ x ∷ []) after
-    back xs end h =
-        let r = d.1 xs end h in
-        let s = b r.0 end r.2 in
-        (s.0, r.1 ∙ ap (λ (l : List A). found ++ l) s.1 ∙ sym (snoc found x s.0), s.2)
+goes_on {A} Are More ts rest mid after found x p f b d = record {
+  front = d.front ++ mid;
+  split = d.split ∙ ap (λ (z : List Token). d.front ++ z) p ∙ sym (append_append d.front mid after);
+  forward = λ other xs end m.
+      subst (λ (z : List Token). Are ((found ++ x ∷ []) ++ xs) z end) (sym (append_append d.front mid other))
+      (subst (λ (l : List A). Are l (d.front ++ (mid ++ other)) end) (sym (snoc found x xs)) (d.forward (mid ++ other) (x ∷ xs) end (f other xs end m)));
+  back = λ other s xs end h.
+      let r = d.back (mid ++ other) (subst (λ (z : List Token). SameFirst z (mid ++ other)) (sym p) (first_behind mid after other s)) xs end (subst (λ (z : List Token). Are xs z end) (append_append d.front mid other) h) in
+      let w = b other s r.0 end r.2 in
+      (w.0, r.1 ∙ ap (λ (l : List A). found ++ l) w.1 ∙ sym (snoc found x w.0), w.2);
+}

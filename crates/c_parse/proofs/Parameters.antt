@@ -1,46 +1,68 @@
--- Parameters and functions are read as far as they go.
-use Rattle.std.proofs.Common.{◌≡◌, ◌≤◌, ◌+◌, ℕ, List, [], ◌∷◌, ◌++◌, length, length-append, Option, Some, None, refl, sym, ap, subst, arith, inl, inr}
+-- Parameters are read as far as they go.
+use Rattle.std.proofs.Common.{◌≡◌, ◌≤◌, ◌+◌, ℕ, List, [], ◌∷◌, ◌++◌, length, length-append, Option, Some, None, refl, sym, ap, ◌∙◌, subst, arith, inl, inr}
 use Rattle.std.specs.Prelude.{IfNone}
-use Rattle.std.proofs.lemmas.List.{append-nil}
+use Rattle.std.proofs.lemmas.List.{append-nil, append_cancel_right}
 use Rattle.c_lex.specs.declared.keyword.Keyword.TheVariants as keywords
 use Rattle.c_lex.specs.declared.sign.Sign.TheVariants as signs
+use Rattle.c_lex.specs.declared.token.Kind.TheVariants as kinds
 use Rattle.c_lex.specs.declared.token.Token.{Token}
 use Rattle.c_syntax.specs.declared.declaration.Parameter.{Parameter}
+use Rattle.c_syntax.specs.declared.expression.Base.TheVariants as bases
 use Rattle.c_syntax.specs.declared.expression.CType.{CType}
 use Rattle.c_syntax.specs.declared.expression.Name.{Name}
-use Rattle.c_syntax.specs.Limits.{FunctionWithin}
+use Rattle.c_syntax.specs.Faults.{SameFirst, place, Failed, Wraps}
 use Rattle.c_syntax.specs.Programs.{IsParameter, AreMoreParameters, AreParameters}
-use Rattle.c_syntax.specs.Statement.{Statements}
-use Rattle.c_syntax.specs.Statements.{AreItems}
-use Rattle.c_syntax.specs.Tokens.{IsName, HasSign, HasKeyword}
+use Rattle.c_syntax.specs.Tokens.{token, IsName, HasSign, HasKeyword}
 use Rattle.c_syntax.specs.Types.{IsType}
+use Rattle.c_syntax.proofs.Failing.{append_append, alike_same, first_behind}
+use Rattle.c_syntax.proofs.Moves as moves
+use Rattle.c_syntax.proofs.MovesPrograms as programs
+use Rattle.c_syntax.proofs.Firsts as firsts
 use Rattle.c_syntax.proofs.Fronts.{has_same, keyword_same, base_front}
 use Rattle.c_syntax.proofs.Once.{has_front}
 use Rattle.c_syntax.proofs.Blocks.{name_star, name_type}
-use Rattle.c_syntax.proofs.Files.{other_sign, parameter_once, parameter_front, parameters, void_not}
-use Rattle.c_parse_type.specs.Bases.{NoBase, NoStar}
-use Rattle.c_parse_stmt.specs.declared.left.Left.{Left}
-use Rattle.c_parse_stmt.specs.Within.{AllTaken, NoItems}
-use Rattle.c_parse.specs.Parts.{NoParameter, IsVoid, NoListed, NoParameters, NoTail}
-use Rattle.c_parse.proofs.Lists.{Lacks, Begun, Back, goes_on}
+use Rattle.c_syntax.proofs.Files.{other_sign, parameter_once, parameter_front, void_not}
+use Rattle.c_parse_type.specs.Bases.{NoBase, EndsType}
+use Rattle.c_parse_stmt.specs.Parts.{NoSign, ASign}
+use Rattle.c_parse.specs.Parts.{NoParameter, HasParameter, IsVoid, NoListed, HasListed, NoParameters, HasParameters}
+use Rattle.c_parse.proofs.Lists.{Begun, Back, goes_on}
+use Rattle.c_parse.proofs.Refusing.{missing, sign, named, name, has_it, behind, Lacks, NoName}
 
 -- ---- one parameter
 
-name_base : (name : Name) (ts rest : List Token) → IsName name ts rest → NoBase ts
-name_base name ts rest m b end h = name_type name ts rest m (base_front b ts end h)
+name_base : (called : Name) (ts rest : List Token) → IsName called ts rest → NoBase ts
+name_base called ts rest m b end h = name_type called ts rest m (base_front b ts end h)
 
-abbrev pub OnlyType : CType → List Token → List Token → Type 0
-OnlyType found behind ts = (type : CType) (rest : List Token) → IsType type ts rest → NoBase rest → NoStar rest → ◌≡◌ {A = Option (CType × List Token)} (Some (found, behind)) (Some (type, rest))
+abbrev pub word : Token
+word = token (kinds.Keyword keywords.Int) 0 0
 
-pub no_name : (found : CType) (ts behind : List Token) → OnlyType found behind ts → ((name : Name) (rest : List Token) → IsName name behind rest → ⊥) → NoParameter ts
-no_name found ts behind only none p end h =
-    let e = only p.«of» h.0 h.1 (name_base p.name h.0 end h.2) (name_star p.name h.0 end h.2) in
-    let f : ◌≡◌ {A = CType × List Token} (found, behind) (p.«of», h.0) = cc in
-    let q : behind ≡ h.0 = ap (λ (x : CType × List Token). x.1) f in
-    none p.name end (subst (λ (x : List Token). IsName p.name x end) (sym q) h.2)
+abbrev pub int_named : Parameter
+int_named = record { «of» = record { base = bases.Int; pointers = 0 }; name = named }
 
-pub no_type : (ts : List Token) → NoBase ts → NoParameter ts
-no_type ts none p end h = none p.«of».base h.1.0 h.1.1
+pub is_int_named : (other : List Token) → IsParameter int_named (word ∷ name ∷ other) other
+is_int_named other = (name ∷ other, (name ∷ other, inl (name ∷ other, (0, (0, refl)), refl), refl), refl)
+
+pub no_type : (text : List ℕ) (ts : List Token) → NoBase ts → Failed 0 (place text ts) NoParameter HasParameter text ts
+no_type text ts none =
+    missing NoParameter HasParameter text ts [] ts refl
+    (λ text' other s p end h. firsts.no_base ts other s none p.«of».base h.1.0 h.1.1)
+    (λ text'. record { more = word ∷ name ∷ []; has = record { tree = int_named; is = is_int_named } })
+
+pub no_name : (text : List ℕ) (t : CType) (ts b : List Token) → IsType t ts b → EndsType t ts b → NoName b → Failed 0 (place text b) NoParameter HasParameter text ts
+no_name text t ts b is far none =
+    let m = moves.type t text ts b is in
+    let e : m.front ≡ far.front = append_cancel_right m.front far.front b (sym m.split ∙ far.split) in
+    missing NoParameter HasParameter text ts far.front b far.split
+    (λ text' other s p end h.
+    let q = far.only other s p.«of» h.0 h.1 (name_base p.name h.0 end h.2) (name_star p.name h.0 end h.2) in
+    firsts.no_name b other s none p.name end (subst (λ (x : List Token). IsName p.name x end) (sym q.1) h.2))
+    (λ text'. record {
+      more = name ∷ [];
+      has = record {
+        tree = record { «of» = t; name = named };
+        is = λ other. behind (λ z. IsParameter (record { «of» = t; name = named }) z other) far.front (name ∷ []) other (name ∷ other, subst (λ (x : List Token). IsType t (x ++ name ∷ other) (name ∷ other)) e (m.again text (name ∷ other) (alike_same text ts)), refl);
+      };
+    })
 
 -- ---- `void`
 
@@ -68,8 +90,15 @@ first_back ts rest x is (p ∷ ps) end h =
     let u = parameter_once x p ts ts rest h.0 refl is h.1 in
     (ps, ap (λ (z : Parameter). z ∷ ps) (sym u.0), subst (λ (z : List Token). AreMoreParameters ps z end) (sym u.1) h.2)
 
-pub begins : (ts rest : List Token) (x : Parameter) → IsParameter x ts rest → Parameters ts (x ∷ []) rest
-begins ts rest x is = (λ ps end m. (rest, is, m), first_back ts rest x is)
+pub begins : (text : List ℕ) (ts rest : List Token) (x : Parameter) → IsParameter x ts rest → Parameters ts (x ∷ []) rest
+begins text ts rest x is =
+    let m = programs.parameter x text ts rest is in
+    let again : (other : List Token) → IsParameter x (m.front ++ other) other = λ other. m.again text other (alike_same text ts) in record {
+      front = m.front;
+      split = m.split;
+      forward = λ other ps end h. (other, again other, h);
+      back = λ other s. first_back (m.front ++ other) other x (again other);
+    }
 
 next_back : (rest b after : List Token) (x : Parameter) → HasSign signs.Comma rest b → IsParameter x b after → (xs : List Parameter) (end : List Token) → AreMoreParameters xs rest end → (ys : List Parameter) × (xs ≡ x ∷ ys) × AreMoreParameters ys after end
 next_back rest b after x k is [] end m = let e : signs.Comma ≡ signs.CloseParenthesis = other_sign signs.Comma signs.CloseParenthesis rest rest b end refl k m in absurd cc
@@ -78,72 +107,166 @@ next_back rest b after x k is (p ∷ ps) end m =
     let u = parameter_once x p b m.0 after m.1 q is m.3 in
     (ps, ap (λ (z : Parameter). z ∷ ps) (sym u.0), subst (λ (z : List Token). AreMoreParameters ps z end) (sym u.1) m.4)
 
-pub next : (ts rest b after : List Token) (found : List Parameter) (x : Parameter) → HasSign signs.Comma rest b → IsParameter x b after → Parameters ts found rest → Parameters ts (found ++ x ∷ []) after
-next ts rest b after found x k is d = goes_on AreParameters AreMoreParameters ts rest after found x (λ ps end m. (b, after, k, is, m)) (next_back rest b after x k is) d
+pub next : (text : List ℕ) (ts rest b after : List Token) (found : List Parameter) (x : Parameter) → HasSign signs.Comma rest b → IsParameter x b after → Parameters ts found rest → Parameters ts (found ++ x ∷ []) after
+next text ts rest b after found x k is d =
+    let m = programs.parameter x text b after is in
+    let again : (other : List Token) → IsParameter x (m.front ++ other) other = λ other. m.again text other (alike_same text b) in
+    let t = token (kinds.Sign signs.Comma) k.0 k.1.0 in
+    goes_on AreParameters AreMoreParameters ts rest (t ∷ m.front) after found x (k.1.1 ∙ ap (λ (z : List Token). t ∷ z) m.split)
+    (λ other ps end h. (m.front ++ other, other, (k.0, (k.1.0, refl)), again other, h))
+    (λ other s. next_back (t ∷ (m.front ++ other)) (m.front ++ other) other x (k.0, (k.1.0, refl)) (again other))
+    d
 
 pub counted : (found : List Parameter) (x : Parameter) → length (found ++ x ∷ []) ≡ length found + 1
 counted found x = length-append found (x ∷ [])
 
 pub ends : (ts rest end : List Token) (found : List Parameter) → Parameters ts found rest → HasSign signs.CloseParenthesis rest end → AreParameters found ts end
-ends ts rest end found d h = subst (λ (z : List Parameter). AreParameters z ts end) (append-nil found) (d.0 [] end h)
+ends ts rest end found d h =
+    subst (λ (x : List Token). AreParameters found x end) (sym d.split) (subst (λ (z : List Parameter). AreParameters z (d.front ++ rest) end) (append-nil found) (d.forward rest [] end h))
 
-pub no_first : (ts : List Token) → NoParameter ts → NoListed ts
-no_first ts none p ps end h few = none p h.0 h.1
+-- ---- refusals
 
-abbrev NoMore : ℕ → List Token → Type 0
-NoMore left ts = (ps : List Parameter) (end : List Token) → AreMoreParameters ps ts end → length ps ≤ left → ⊥
+listed_of : (n : ℕ) (text : List ℕ) (ts : List Token) (ps : List Parameter) → 1 ≤ length ps → ((other : List Token) → AreParameters ps (ts ++ other) other) → (3 ≤ n → length ps ≤ 8) → HasListed n text ts
+listed_of n text ts [] some are few = absurd (omega arith)
+listed_of n text ts (p ∷ ps) some are few = record { first = p; others = ps; are = are; few = few }
 
-stuck : (left : ℕ) (ts rest : List Token) (found : List Parameter) → Parameters ts found rest → left + length found ≡ 8 → NoMore left rest → NoListed ts
-stuck left ts rest found d n none p ps end h few =
-    let r = d.1 (p ∷ ps) end h in
-    let e = ap length r.1 in
-    let f = length-append found r.0 in
-    none r.0 end r.2 (omega arith)
+abbrev close : Token
+close = sign signs.CloseParenthesis
 
-pub full : (left : ℕ) (ts rest b : List Token) (found : List Parameter) → Parameters ts found rest → left + length found ≡ 8 → left ≡ 0 → HasSign signs.Comma rest b → NoListed ts
-full left ts rest b found d n z k = stuck left ts rest found d n more
-  where
-    more : NoMore left rest
-    more [] end m few = let e : signs.Comma ≡ signs.CloseParenthesis = other_sign signs.Comma signs.CloseParenthesis rest rest b end refl k m in absurd cc
-    more (p ∷ ps) end m few = absurd (omega arith)
+pub in_first : (text : List ℕ) (ts : List Token) → Wraps NoParameter HasParameter NoListed HasListed text ts ts
+in_first text ts = record {
+  before = [];
+  split = refl;
+  no = λ n text' other a s x p ps end h few. x p h.0 h.1;
+  has = λ n text' inner a s h. record {
+    more = close ∷ [];
+    has = record { first = h.tree; others = []; are = λ other. behind (λ z. AreParameters (h.tree ∷ []) z other) inner (close ∷ []) other (close ∷ other, h.is (close ∷ other), has_it signs.CloseParenthesis other); few = λ three. omega arith };
+  };
+}
 
-pub no_next : (left : ℕ) (ts rest b : List Token) (found : List Parameter) → Parameters ts found rest → left + length found ≡ 8 → HasSign signs.Comma rest b → NoParameter b → NoListed ts
-no_next left ts rest b found d n k none = stuck left ts rest found d n more
-  where
-    more : NoMore left rest
-    more [] end m few = let e : signs.Comma ≡ signs.CloseParenthesis = other_sign signs.Comma signs.CloseParenthesis rest rest b end refl k m in absurd cc
-    more (p ∷ ps) end m few = none p m.1 (subst (λ (z : List Token). IsParameter p z m.1) (has_same signs.Comma rest rest m.0 b refl m.2 k) m.3)
+-- one more behind the comma
+one_more : (n : ℕ) (text : List ℕ) (ts rest b inner : List Token) (found : List Parameter) (p : Parameter) → (d : Parameters ts found rest) → (k : HasSign signs.Comma rest b) → ((other : List Token) → IsParameter p (inner ++ other) other) → (3 ≤ n → length found + 1 ≤ 8) → HasListed n text (d.front ++ token (kinds.Sign signs.Comma) k.0 k.1.0 ∷ (inner ++ close ∷ []))
+one_more n text ts rest b inner found p d k is few =
+    let t = token (kinds.Sign signs.Comma) k.0 k.1.0 in
+    let e = counted found p in
+    listed_of n text (d.front ++ t ∷ (inner ++ close ∷ [])) (found ++ p ∷ []) (omega arith)
+    (λ other.
+    behind (λ z. AreParameters (found ++ p ∷ []) z other) d.front (t ∷ (inner ++ close ∷ [])) other
+    (d.forward (t ∷ (inner ++ close ∷ [] ++ other)) (p ∷ []) other
+    (inner ++ close ∷ [] ++ other, close ∷ other, (k.0, (k.1.0, refl)), behind (λ z. IsParameter p z (close ∷ other)) inner (close ∷ []) other (is (close ∷ other)), has_it signs.CloseParenthesis other)))
+    (λ three. let a = few three in omega arith)
 
-pub unended : (left : ℕ) (ts rest : List Token) (found : List Parameter) → Parameters ts found rest → left + length found ≡ 8 → Lacks signs.Comma rest → Lacks signs.CloseParenthesis rest → NoListed ts
-unended left ts rest found d n k s = stuck left ts rest found d n more
-  where
-    more : NoMore left rest
-    more [] end m few = s end m
-    more (p ∷ ps) end m few = k m.0 m.2
+no_more : (n left : ℕ) (rest b : List Token) → left ≡ 0 → HasSign signs.Comma rest b → (ps : List Parameter) (end : List Token) → AreMoreParameters ps rest end → length ps ≤ left → ⊥
+no_more n left rest b z k [] end m few = let e : signs.Comma ≡ signs.CloseParenthesis = other_sign signs.Comma signs.CloseParenthesis rest rest b end refl k m in absurd cc
+no_more n left rest b z k (p ∷ ps) end m few = absurd (omega arith)
+
+ended : (ts rest : List Token) (found : List Parameter) (n : ℕ) (text : List ℕ) (left : ℕ) → (d : Parameters ts found rest) → left ≤ 7 → left + length found ≡ 8 → HasListed n text (d.front ++ close ∷ [])
+ended ts rest found n text left d low e =
+    let q = length-append found (◌++◌ {A = Parameter} [] []) in
+    listed_of n text (d.front ++ close ∷ []) (found ++ []) (subst (λ (z : List Parameter). 1 ≤ length z) (sym (append-nil found)) (omega arith))
+    (λ other. behind (λ z. AreParameters (found ++ []) z other) d.front (close ∷ []) other (d.forward (close ∷ other) [] other (has_it signs.CloseParenthesis other)))
+    (λ three. subst (λ (z : List Parameter). length z ≤ 8) (sym (append-nil found)) (omega arith))
+
+pub full : (text : List ℕ) (left : ℕ) (ts rest b : List Token) (found : List Parameter) → Parameters ts found rest → left + length found ≡ 8 → left ≡ 0 → HasSign signs.Comma rest b → Failed 3 (place text rest) NoListed HasListed text ts
+full text left ts rest b found d e z k =
+    let t = token (kinds.Sign signs.Comma) k.0 k.1.0 in record {
+      front = d.front;
+      fault = rest;
+      split = d.split;
+      stands = refl;
+      against = λ text' other a s p ps end h few.
+          let r = d.back other s (p ∷ ps) end h in
+          let l = ap length r.1 in
+          let f = length-append found r.0 in
+          let w = few (omega arith) in
+          let o = subst (λ (x : List Token). SameFirst x other) k.1.1 s in
+          no_more 3 left other o.0 z (k.0, (k.1.0, o.1)) r.0 end r.2 (omega arith);
+      able = λ text' a k. record { more = close ∷ []; has = ended ts rest found 6 text' left d (omega arith) e };
+      further = λ text' n a s q. record {
+        token = t;
+        rest = b;
+        more = word ∷ name ∷ close ∷ [];
+        is = k.1.1;
+        has = one_more n text' ts rest b (word ∷ name ∷ []) found int_named d k is_int_named (λ three. absurd (omega arith));
+      };
+    }
+
+none_next : (n left : ℕ) (rest b : List Token) → HasSign signs.Comma rest b → NoParameter 0 [] b → (ps : List Parameter) (end : List Token) → AreMoreParameters ps rest end → ⊥
+none_next n left rest b k none [] end m = let e : signs.Comma ≡ signs.CloseParenthesis = other_sign signs.Comma signs.CloseParenthesis rest rest b end refl k m in absurd cc
+none_next n left rest b k none (p ∷ ps) end m = none p m.1 (subst (λ (z : List Token). IsParameter p z m.1) (has_same signs.Comma rest rest m.0 b refl m.2 k) m.3)
+
+pub in_next : (text : List ℕ) (left : ℕ) (ts rest b : List Token) (found : List Parameter) → Parameters ts found rest → left + length found ≡ 8 → (left ≡ 0 → ⊥) → HasSign signs.Comma rest b → Wraps NoParameter HasParameter NoListed HasListed text b ts
+in_next text left ts rest b found d e z k =
+    let t = token (kinds.Sign signs.Comma) k.0 k.1.0 in record {
+      before = d.front ++ t ∷ [];
+      split = d.split ∙ ap (λ (x : List Token). d.front ++ x) k.1.1 ∙ sym (append_append d.front (t ∷ []) b);
+      no = λ n text' other a s x. behind (λ y. NoListed n text' y) d.front (t ∷ []) other (λ p ps end h few.
+          let r = d.back (t ∷ other) (subst (λ (y : List Token). SameFirst y (t ∷ other)) (sym k.1.1) (other, refl)) (p ∷ ps) end h in
+          none_next n left (t ∷ other) other (k.0, (k.1.0, refl)) x r.0 end r.2);
+      has = λ n text' inner a s h. record {
+        more = close ∷ [];
+        has = behind (λ y. HasListed n text' y) (d.front ++ t ∷ []) inner (close ∷ []) (behind (λ y. HasListed n text' y) d.front (t ∷ []) (inner ++ close ∷ []) (one_more n text' ts rest b inner found h.tree d k h.is (λ three. grind arith)));
+      };
+    }
+
+no_end : (rest : List Token) → Lacks signs.Comma rest → Lacks signs.CloseParenthesis rest → (ps : List Parameter) (end : List Token) → AreMoreParameters ps rest end → ⊥
+no_end rest k s [] end m = s end m
+no_end rest k s (p ∷ ps) end m = k m.0 m.2
+
+pub in_end : (text : List ℕ) (left : ℕ) (ts rest : List Token) (found : List Parameter) → Parameters ts found rest → left + length found ≡ 8 → left ≤ 7 → Lacks signs.Comma rest → Wraps (NoSign signs.CloseParenthesis) (ASign signs.CloseParenthesis) NoListed HasListed text rest ts
+in_end text left ts rest found d e low k = record {
+  before = d.front;
+  split = d.split;
+  no = λ n text' other a s x p ps end h few.
+      let r = d.back other s (p ∷ ps) end h in
+      no_end other (firsts.no_sign signs.Comma rest other s k) x r.0 end r.2;
+  has = λ n text' inner a s h. record {
+    more = [];
+    has = listed_of n text' (d.front ++ inner ++ []) (found ++ []) (subst (λ (z : List Parameter). 1 ≤ length z) (sym (append-nil found)) (omega arith))
+        (λ other. behind (λ z. AreParameters (found ++ []) z other) (d.front ++ inner) [] other (behind (λ z. AreParameters (found ++ []) z other) d.front inner other (d.forward (inner ++ other) [] other (h other))))
+        (λ three. subst (λ (z : List Parameter). length z ≤ 8) (sym (append-nil found)) (omega arith));
+  };
+}
 
 -- ---- all parameters
 
-pub no_list : (ts : List Token) → Lacks signs.CloseParenthesis ts → ((rest : List Token) → IsVoid ts rest → ⊥) → NoListed ts → NoParameters ts
-no_list ts c v none [] end (inl h) few = c end h
-no_list ts c v none [] end (inr h) few = v end h
-no_list ts c v none (p ∷ ps) end h few = none p ps end h few
+widen : (n : ℕ) (text : List ℕ) (ts : List Token) → HasListed n text ts → HasParameters n text ts
+widen n text ts h = record { trees = h.first ∷ h.others; are = h.are; few = h.few }
 
--- ---- parameters and body
+-- A list doesn't fail where `void` could stand before the parenthesis.
+no_void : (n : ℕ) (text : List ℕ) (ts front fault other end : List Token) → ts ≡ front ++ fault → ((rest : List Token) → IsVoid ts rest → ⊥) → SameFirst fault other → ((o : List Token) → SameFirst fault o → NoListed n text (front ++ o)) → IsVoid (front ++ other) end → ⊥
+no_void n text ts [] [] other end p v s f h = let e : [] ≡ token (kinds.Keyword keywords.Void) h.1.0 h.1.1.0 ∷ h.0 = sym s ∙ h.1.1.1 in cc
+no_void n text ts [] (t ∷ us) other end p v s f h =
+    let e : t ∷ s.0 ≡ token (kinds.Keyword keywords.Void) h.1.0 h.1.1.0 ∷ h.0 = sym s.1 ∙ h.1.1.1 in
+    let q : t ≡ token (kinds.Keyword keywords.Void) h.1.0 h.1.1.0 = cc in
+    let b = name ∷ close ∷ [] in
+    f (t ∷ b) (b, refl) (record { «of» = record { base = bases.Void; pointers = 0 }; name = named }) [] []
+    (close ∷ [], (b, (b, inl (b, (h.1.0, (h.1.1.0, ap (λ (x : Token). x ∷ b) q)), refl), refl), refl), has_it signs.CloseParenthesis []) (λ three. omega arith)
+no_void n text ts (t ∷ []) fault other end p v s f h =
+    let e : t ∷ other ≡ token (kinds.Keyword keywords.Void) h.1.0 h.1.1.0 ∷ h.0 = h.1.1.1 in
+    let q : t ≡ token (kinds.Keyword keywords.Void) h.1.0 h.1.1.0 = cc in
+    let r : other ≡ h.0 = cc in
+    firsts.no_sign signs.CloseParenthesis fault other s (λ rest c. v rest (fault, (h.1.0, (h.1.1.0, p ∙ ap (λ (x : Token). x ∷ fault) q)), c)) end (subst (λ (x : List Token). HasSign signs.CloseParenthesis x end) (sym r) h.2)
+no_void n text ts (t ∷ u ∷ front) fault other end p v s f h =
+    let e : t ∷ u ∷ (front ++ other) ≡ token (kinds.Keyword keywords.Void) h.1.0 h.1.1.0 ∷ h.0 = h.1.1.1 in
+    let q : t ≡ token (kinds.Keyword keywords.Void) h.1.0 h.1.1.0 = cc in
+    let r : u ∷ (front ++ other) ≡ h.0 = cc in
+    let c : u ∷ (front ++ other) ≡ token (kinds.Sign signs.CloseParenthesis) h.2.0 h.2.1.0 ∷ end = r ∙ h.2.1.1 in
+    let d : u ≡ token (kinds.Sign signs.CloseParenthesis) h.2.0 h.2.1.0 = cc in
+    v (front ++ fault) (u ∷ (front ++ fault), (h.1.0, (h.1.1.0, p ∙ ap (λ (x : Token). x ∷ u ∷ (front ++ fault)) q)), (h.2.0, (h.2.1.0, ap (λ (x : Token). x ∷ (front ++ fault)) d)))
 
-pub no_parameters : (text : List ℕ) (funclets : ℕ) (ts : List Token) → NoParameters ts → NoTail text funclets ts
-no_parameters text funclets ts none ps body end h w n = none ps h.0 h.2 w.parameters
+none_at_all : (n : ℕ) (text : List ℕ) (ts front fault other : List Token) → ts ≡ front ++ fault → Lacks signs.CloseParenthesis ts → ((rest : List Token) → IsVoid ts rest → ⊥) → SameFirst fault other → ((o : List Token) → SameFirst fault o → NoListed n text (front ++ o)) → NoParameters n text (front ++ other)
+none_at_all n text ts front fault other p c v s f [] end (inl h) few = firsts.no_sign signs.CloseParenthesis ts (front ++ other) (subst (λ (x : List Token). SameFirst x (front ++ other)) (sym p) (first_behind front fault other s)) c end h
+none_at_all n text ts front fault other p c v s f [] end (inr h) few = no_void n text ts front fault other end p v s f h
+none_at_all n text ts front fault other p c v s f (x ∷ xs) end h few = f other s x xs end h few
 
-pub no_brace : (text : List ℕ) (funclets : ℕ) (ts b : List Token) (found : List Parameter) → AreParameters found ts b → Lacks signs.OpenBrace b → NoTail text funclets ts
-no_brace text funclets ts b found is l ps body end h w n =
-    let q = parameters found ps ts ts b h.0 refl is h.2 in
-    l h.1 (subst (λ (x : List Token). HasSign signs.OpenBrace x h.1) (sym q.1) h.3)
-
-pub no_body : (text : List ℕ) (left : Left) (ts b c : List Token) (found : List Parameter) → left.locals ≡ 256 → AreParameters found ts b → HasSign signs.OpenBrace b c → NoItems text 65 left c → NoTail text left.funclets ts
-no_body text left ts b c found l is o none ps body end h w n =
-    let q = parameters found ps ts ts b h.0 refl is h.2 in
-    let r = has_same signs.OpenBrace b h.0 c h.1 q.1 o h.3 in
-    let a = w.locals in
-    none body end (subst (λ (x : List Token). AreItems text body x end) (sym r) h.4) (record { statements = w.statements; expressions = w.expressions; locals = omega arith; funclets = n })
-
-pub whole : (text : List ℕ) (left after : Left) (ps : List Parameter) (body : Statements) → left.locals ≡ 256 → length ps ≤ 8 → AllTaken text 65 left after body → FunctionWithin ps body
-whole text left after ps body l few t = let a = t.locals in record { parameters = few; locals = omega arith; statements = t.statements; expressions = t.expressions }
+pub all : (text : List ℕ) (ts : List Token) → Lacks signs.CloseParenthesis ts → ((rest : List Token) → IsVoid ts rest → ⊥) → (kind at : ℕ) → Failed kind at NoListed HasListed text ts → Failed kind at NoParameters HasParameters text ts
+all text ts c v kind at f = record {
+  front = f.front;
+  fault = f.fault;
+  split = f.split;
+  stands = f.stands;
+  against = λ text' other a s. none_at_all kind text' ts f.front f.fault other f.split c v s (λ o q. f.against text' o a q);
+  able = λ text' a k. let o = f.able text' a k in record { more = o.more; has = widen 6 text' (f.front ++ o.more) o.has };
+  further = λ text' k a s e. let o = f.further text' k a s e in record { token = o.token; rest = o.rest; more = o.more; is = o.is; has = widen k text' (f.front ++ o.token ∷ o.more) o.has };
+}

@@ -1,7 +1,8 @@
 -- Where globals lie.
-use Rattle.std.proofs.Common.{◌≡◌, ◌≤◌, ◌<◌, ◌+◌, ◌-◌, ◌*◌, ◌/◌, ℕ, zero, suc, List, [], ◌∷◌, refl, ap, arith}
+use Rattle.std.proofs.Common.{◌≡◌, ◌≤◌, ◌<◌, ◌+◌, ◌-◌, ◌*◌, ◌/◌, ℕ, zero, suc, List, [], ◌∷◌, Some, refl, ap, subst, arith}
 use Rattle.std.proofs.Math.Nat.{mul-div-le, mul-le-mul_left, lt-div-mul-add, lt-mul-div-succ}
 use Rattle.c_syntax.specs.declared.expression.Base.{Base}
+use Rattle.c_syntax.specs.declared.expression.Base.TheVariants as bases
 use Rattle.c_syntax.specs.Limits.{size, aligned, end_of_globals}
 use Rattle.c_syntax.specs.Program.{Global}
 use Rattle.c_parse.specs.Parts.{end_of}
@@ -45,3 +46,27 @@ grows base (g ∷ gs) at =
 pub positive : (n : ℕ) → (n ≡ 0 → ⊥) → 0 < n
 positive zero h = absurd (h refl)
 positive (suc n) h = omega arith
+
+-- each limit of bytes is at a multiple of each size
+pub aligned_low : (base : Base) (n at : ℕ) → at ≤ 1048576 → aligned at (size base n) ≤ 1048576
+aligned_low base (suc n) at h = omega arith
+aligned_low bases.Void zero at h = h
+aligned_low bases.Char zero at h = omega arith
+aligned_low bases.UnsignedChar zero at h = omega arith
+aligned_low bases.Short zero at h = omega arith
+aligned_low bases.UnsignedShort zero at h = omega arith
+aligned_low bases.Int zero at h = omega arith
+aligned_low bases.Unsigned zero at h = omega arith
+aligned_low bases.LongLong zero at h = omega arith
+aligned_low bases.UnsignedLongLong zero at h = omega arith
+
+-- an array with no elements has room
+pub no_elements : (base : Base) (n at : ℕ) → at ≤ 1048576 → end_of base n (Some (record { at = 0; value = 0 })) at ≤ 1048576
+no_elements base n at h = let a = aligned_low base n at h in omega arith
+
+-- by the size that was computed
+pub room : (base : Base) (pointers at s count end : ℕ) → s ≡ size base pointers → end ≡ aligned at s + s * count → end ≤ 1048576 → aligned at (size base pointers) + size base pointers * count ≤ 1048576
+room base pointers at s count end e f low = subst (λ (x : ℕ). aligned at x + x * count ≤ 1048576) e (subst (λ (x : ℕ). x ≤ 1048576) f low)
+
+pub no_room : (base : Base) (pointers at s count : ℕ) → s ≡ size base pointers → 1048576 < aligned at s + s * count → 1048576 < aligned at (size base pointers) + size base pointers * count
+no_room base pointers at s count e far = subst (λ (x : ℕ). 1048576 < aligned at x + x * count) e far

@@ -1,3 +1,4 @@
 pub mod Parts
 pub mod Counts
 pub mod Nodes
+pub mod Bounds

@@ -1,5 +1,5 @@
--- Parts of external declarations; and that none stands at the front.
-use Rattle.std.specs.Prelude.{◌≤◌, ◌+◌, ◌*◌, ℕ, List, length, ◌∷◌, Option, Some}
+-- Parts of external declarations; that none stands at the front; and that tokens are such a part, whatever follows. Limits count where the first n of them hold: the third is the parameters of a function, the fifth the bytes of the globals, the sixth the numbered filters and finally blocks of the program.
+use Rattle.std.specs.Prelude.{◌≤◌, ◌+◌, ◌*◌, ◌⊎◌, ℕ, List, length, ◌∷◌, ◌++◌, Option, Some}
 use Rattle.c_lex.specs.declared.sign.Sign.TheVariants as signs
 use Rattle.c_lex.specs.declared.keyword.Keyword.TheVariants as keywords
 use Rattle.c_lex.specs.declared.token.Token.{Token}
@@ -10,32 +10,49 @@ use Rattle.c_syntax.specs.declared.expression.Base.{Base}
 use Rattle.c_syntax.specs.declared.expression.Name.{Name}
 use Rattle.c_syntax.specs.Expressions.{IsInteger}
 use Rattle.c_syntax.specs.Follow.{Stops}
-use Rattle.c_syntax.specs.Limits.{size, elements, aligned, end_of_globals, all_numbered, FunctionWithin}
+use Rattle.c_syntax.specs.Limits.{size, elements, aligned, end_of_globals, all_numbered}
 use Rattle.c_syntax.specs.Program.{Initialiser, Single, Several, Global}
-use Rattle.c_syntax.specs.Programs.{IsConstant, AreConstants, IsInitialiser, IsLength, IsGlobal, AreGlobals, IsParameter, AreParameters}
+use Rattle.c_syntax.specs.Programs.{IsConstant, AreConstants, IsInitialiser, IsLength, AreMoreGlobals, AreGlobals, IsParameter, AreParameters}
 use Rattle.c_syntax.specs.Statement.{Statements}
 use Rattle.c_syntax.specs.Statements.{AreItems}
 use Rattle.c_syntax.specs.Tokens.{IsSign, IsName, HasSign, HasKeyword}
 use Rattle.c_syntax.specs.Types.{IsBase, AreStars}
+use Rattle.c_syntax.specs.Viable.{FunctionWithinFirst}
 
 -- ---- initialisers
 
-abbrev pub NoConstant : List Token → Type 0
-NoConstant ts = (c : Constant) (end : List Token) → IsConstant c ts end → ⊥
+abbrev pub NoConstant : ℕ → List ℕ → List Token → Type 0
+NoConstant n text ts = (c : Constant) (end : List Token) → IsConstant c ts end → ⊥
 
-abbrev pub NoConstants : List Token → Type 0
-NoConstants ts = (cs : List Constant) (end : List Token) → AreConstants cs ts end → ⊥
+pub record HasConstant (n : ℕ) (text : List ℕ) (ts : List Token) : Type 0 where
+  pub tree : Constant
+  pub is : (other : List Token) → IsConstant tree (ts ++ other) other
+
+abbrev pub NoConstants : ℕ → List ℕ → List Token → Type 0
+NoConstants n text ts = (cs : List Constant) (end : List Token) → AreConstants cs ts end → ⊥
+
+pub record HasConstants (n : ℕ) (text : List ℕ) (ts : List Token) : Type 0 where
+  pub trees : List Constant
+  pub are : (other : List Token) → AreConstants trees (ts ++ other) other
 
 -- what stands behind `=`
 abbrev pub IsGiven : Initialiser → List Token → List Token → Type 0
 IsGiven (Single c) ts rest = IsConstant c ts rest
 IsGiven (Several at cs) ts rest = (a : List Token) × IsSign signs.OpenBrace at ts a × AreConstants cs a rest
 
-abbrev pub NoneGiven : List Token → Type 0
-NoneGiven ts = (i : Initialiser) (end : List Token) → IsGiven i ts end → ⊥
+abbrev pub NoneGiven : ℕ → List ℕ → List Token → Type 0
+NoneGiven n text ts = (i : Initialiser) (end : List Token) → IsGiven i ts end → ⊥
 
-abbrev pub NoInitialiser : List Token → Type 0
-NoInitialiser ts = (i : Option Initialiser) (end : List Token) → IsInitialiser i ts end → Stops 15 end → ⊥
+pub record HasGiven (n : ℕ) (text : List ℕ) (ts : List Token) : Type 0 where
+  pub tree : Initialiser
+  pub is : (other : List Token) → IsGiven tree (ts ++ other) other
+
+abbrev pub NoInitialiser : ℕ → List ℕ → List Token → Type 0
+NoInitialiser n text ts = (i : Option Initialiser) (end : List Token) → IsInitialiser i ts end → Stops 15 end → ⊥
+
+pub record HasInitialiser (n : ℕ) (text : List ℕ) (ts : List Token) : Type 0 where
+  pub tree : Option Initialiser
+  pub is : (other : List Token) → IsInitialiser tree (ts ++ other) other
 
 -- ---- globals
 
@@ -47,40 +64,90 @@ end_of base pointers n at = aligned at (size base pointers) + size base pointers
 abbrev pub IsBracketed : Length → List Token → List Token → Type 0
 IsBracketed n ts rest = (a : List Token) × IsInteger n.value n.at ts a × HasSign signs.CloseBracket a rest
 
-abbrev pub NoneBracketed : Base → ℕ → ℕ → List Token → Type 0
-NoneBracketed base pointers at ts = (n : Length) (end : List Token) → IsBracketed n ts end → Stops 1 end → end_of base pointers (Some n) at ≤ 1048576 → ⊥
+abbrev pub NoneBracketed : Base → ℕ → ℕ → ℕ → List ℕ → List Token → Type 0
+NoneBracketed base pointers at n text ts = (l : Length) (end : List Token) → IsBracketed l ts end → Stops 1 end → (5 ≤ n → end_of base pointers (Some l) at ≤ 1048576) → ⊥
 
-abbrev pub NoLength : Base → ℕ → ℕ → List Token → Type 0
-NoLength base pointers at ts = (n : Option Length) (end : List Token) → IsLength n ts end → Stops 1 end → end_of base pointers n at ≤ 1048576 → ⊥
+pub record HasBracketed (base : Base) (pointers at n : ℕ) (text : List ℕ) (ts : List Token) : Type 0 where
+  pub tree : Length
+  pub is : (other : List Token) → IsBracketed tree (ts ++ other) other
+  pub low : 5 ≤ n → end_of base pointers (Some tree) at ≤ 1048576
 
-abbrev pub NoGlobal : Base → ℕ → List Token → Type 0
-NoGlobal base at ts = (g : Global) (end : List Token) → IsGlobal g ts end → Stops 15 end → end_of base g.pointers g.length at ≤ 1048576 → ⊥
+-- what stands behind the name of a global, up to the semicolon: its length and its initialiser, and further globals
+abbrev pub IsBehindName : Option Length → Option Initialiser → List Global → List Token → List Token → Type 0
+IsBehindName l i gs ts rest = (a : List Token) × (b : List Token) × IsLength l ts a × IsInitialiser i a b × AreMoreGlobals gs b rest
 
-abbrev pub NoGlobals : Base → ℕ → List Token → Type 0
-NoGlobals base at ts = (gs : List Global) (end : List Token) → AreGlobals gs ts end → end_of_globals base gs at ≤ 1048576 → ⊥
+-- The length counts, and what stands behind it only has to be there.
+abbrev pub NoLength : Base → ℕ → ℕ → ℕ → List ℕ → List Token → Type 0
+NoLength base pointers at n text ts =
+    (l : Option Length) (i : Option Initialiser) (gs : List Global) (end : List Token) → IsBehindName l i gs ts end → (5 ≤ n → end_of base pointers l at ≤ 1048576) → ⊥
+
+pub record HasLength (base : Base) (pointers at n : ℕ) (text : List ℕ) (ts : List Token) : Type 0 where
+  pub length : Option Length
+  pub initialiser : Option Initialiser
+  pub others : List Global
+  pub is : (other : List Token) → IsBehindName length initialiser others (ts ++ other) other
+  pub low : 5 ≤ n → end_of_globals base others (end_of base pointers length at) ≤ 1048576
+
+-- a sign that stands behind the name of a scalar
+abbrev pub EndsScalar : List Token → Type 0
+EndsScalar ts = (rest : List Token) × (HasSign signs.Semicolon ts rest ⊎ (HasSign signs.Comma ts rest ⊎ HasSign signs.Assign ts rest))
+
+-- here too, the global counts
+abbrev pub NoGlobal : Base → ℕ → ℕ → List ℕ → List Token → Type 0
+NoGlobal base at n text ts = (g : Global) (gs : List Global) (end : List Token) → AreGlobals (g ∷ gs) ts end → (5 ≤ n → end_of base g.pointers g.length at ≤ 1048576) → ⊥
+
+abbrev pub NoGlobals : Base → ℕ → ℕ → List ℕ → List Token → Type 0
+NoGlobals base at n text ts = (gs : List Global) (end : List Token) → AreGlobals gs ts end → (5 ≤ n → end_of_globals base gs at ≤ 1048576) → ⊥
+
+pub record HasGlobals (base : Base) (at n : ℕ) (text : List ℕ) (ts : List Token) : Type 0 where
+  pub trees : List Global
+  pub are : (other : List Token) → AreGlobals trees (ts ++ other) other
+  pub low : 5 ≤ n → end_of_globals base trees at ≤ 1048576
 
 -- ---- functions
 
-abbrev pub NoParameter : List Token → Type 0
-NoParameter ts = (p : Parameter) (end : List Token) → IsParameter p ts end → ⊥
+abbrev pub NoParameter : ℕ → List ℕ → List Token → Type 0
+NoParameter n text ts = (p : Parameter) (end : List Token) → IsParameter p ts end → ⊥
+
+pub record HasParameter (n : ℕ) (text : List ℕ) (ts : List Token) : Type 0 where
+  pub tree : Parameter
+  pub is : (other : List Token) → IsParameter tree (ts ++ other) other
 
 -- `void` before the parenthesis
 abbrev pub IsVoid : List Token → List Token → Type 0
 IsVoid ts rest = (a : List Token) × HasKeyword keywords.Void ts a × HasSign signs.CloseParenthesis a rest
 
 -- none but nothing and `void`
-abbrev pub NoListed : List Token → Type 0
-NoListed ts = (p : Parameter) (ps : List Parameter) (end : List Token) → AreParameters (p ∷ ps) ts end → length (p ∷ ps) ≤ 8 → ⊥
+abbrev pub NoListed : ℕ → List ℕ → List Token → Type 0
+NoListed n text ts = (p : Parameter) (ps : List Parameter) (end : List Token) → AreParameters (p ∷ ps) ts end → (3 ≤ n → length (p ∷ ps) ≤ 8) → ⊥
 
-abbrev pub NoParameters : List Token → Type 0
-NoParameters ts = (ps : List Parameter) (end : List Token) → AreParameters ps ts end → length ps ≤ 8 → ⊥
+pub record HasListed (n : ℕ) (text : List ℕ) (ts : List Token) : Type 0 where
+  pub first : Parameter
+  pub others : List Parameter
+  pub are : (other : List Token) → AreParameters (first ∷ others) (ts ++ other) other
+  pub few : 3 ≤ n → length (first ∷ others) ≤ 8
+
+abbrev pub NoParameters : ℕ → List ℕ → List Token → Type 0
+NoParameters n text ts = (ps : List Parameter) (end : List Token) → AreParameters ps ts end → (3 ≤ n → length ps ≤ 8) → ⊥
+
+pub record HasParameters (n : ℕ) (text : List ℕ) (ts : List Token) : Type 0 where
+  pub trees : List Parameter
+  pub are : (other : List Token) → AreParameters trees (ts ++ other) other
+  pub few : 3 ≤ n → length trees ≤ 8
 
 -- what stands behind the name and the parenthesis
 abbrev pub IsTail : List ℕ → List Parameter → Statements → List Token → List Token → Type 0
 IsTail text ps body ts rest = (a : List Token) × (b : List Token) × AreParameters ps ts a × HasSign signs.OpenBrace a b × AreItems text body b rest
 
-abbrev pub NoTail : List ℕ → ℕ → List Token → Type 0
-NoTail text funclets ts = (ps : List Parameter) (body : Statements) (end : List Token) → IsTail text ps body ts end → FunctionWithin ps body → length (all_numbered text body) ≤ funclets → ⊥
+abbrev pub NoTail : ℕ → ℕ → List ℕ → List Token → Type 0
+NoTail funclets n text ts = (ps : List Parameter) (body : Statements) (end : List Token) → IsTail text ps body ts end → FunctionWithinFirst n ps body → (6 ≤ n → length (all_numbered text body) ≤ funclets) → ⊥
+
+pub record HasTail (funclets n : ℕ) (text : List ℕ) (ts : List Token) : Type 0 where
+  pub parameters : List Parameter
+  pub body : Statements
+  pub is : (other : List Token) → IsTail text parameters body (ts ++ other) other
+  pub within : FunctionWithinFirst n parameters body
+  pub numbered : 6 ≤ n → length (all_numbered text body) ≤ funclets
 
 -- ---- external declarations
 
@@ -88,5 +155,11 @@ NoTail text funclets ts = (ps : List Parameter) (body : Statements) (end : List 
 abbrev pub IsHead : Base → ℕ → Name → List Token → List Token → List Token → Type 0
 IsHead base pointers name ts declarators rest = (a : List Token) × IsBase base ts declarators × AreStars pointers declarators a × IsName name a rest
 
-abbrev pub NoHead : List Token → Type 0
-NoHead ts = (base : Base) (pointers : ℕ) (name : Name) (declarators end : List Token) → IsHead base pointers name ts declarators end → ⊥
+abbrev pub NoHead : ℕ → List ℕ → List Token → Type 0
+NoHead n text ts = (base : Base) (pointers : ℕ) (name : Name) (declarators end : List Token) → IsHead base pointers name ts declarators end → ⊥
+
+pub record HasHead (n : ℕ) (text : List ℕ) (ts : List Token) : Type 0 where
+  pub base : Base
+  pub pointers : ℕ
+  pub name : Name
+  pub is : (other : List Token) → (declarators : List Token) × IsHead base pointers name (ts ++ other) declarators other

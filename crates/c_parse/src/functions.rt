@@ -2,11 +2,14 @@
 
 ghost use Rattle.std.specs.Prelude.{◌≡◌, ◌≤◌, ◌+◌, List, length, map, IfOk, IfErr, IfSome, IfNone};
 ghost use Rattle.c_lex.specs.declared.token.Token.{Token};
+ghost use Rattle.c_syntax.specs.Faults as faults;
 ghost use Rattle.c_syntax.specs.Limits as limits;
 ghost use Rattle.c_syntax.specs.Programs.{IsParameter, AreParameters};
 ghost use Rattle.c_syntax.specs.Statement.{statement, statements};
-ghost use Rattle.c_parse_expr.specs.Refusals.{Refuses};
-ghost use Rattle.c_parse.specs.Parts.{NoParameter, IsVoid, NoListed, NoParameters, IsTail, NoTail};
+ghost use Rattle.c_parse_expr.specs.declared.refusal.Count.TheVariants as counts;
+ghost use Rattle.c_parse_expr.specs.declared.refusal.ParseErr.TheVariants.{TooMany};
+ghost use Rattle.c_parse_expr.specs.Refusals.{Placed};
+ghost use Rattle.c_parse.specs.Parts.{NoParameter, HasParameter, IsVoid, NoListed, HasListed, NoParameters, HasParameters, IsTail, NoTail, HasTail};
 
 use c_lex::keyword::Keyword;
 use c_lex::sign::Sign;
@@ -30,7 +33,9 @@ const MOST_LOCALS: u64 = 256;
 const DEEPEST: u64 = 65;
 
 /// The refusal of the first token, with which a function has one parameter too many.
-fn too_many_parameters(text: &[u8], tokens: &[Token]) -> ParseErr {
+fn too_many_parameters(text: &[u8], tokens: &[Token]) -> ParseErr
+    ensures { result ≡ TooMany (faults.place text.now tokens.now) counts.Parameters }
+{
     ParseErr::TooMany {
         at: place(text, tokens),
         what: Count::Parameters,
@@ -40,7 +45,7 @@ fn too_many_parameters(text: &[u8], tokens: &[Token]) -> ParseErr {
 /// The parameter at the front, and what follows it.
 fn parameter<'a>(text: &[u8], tokens: &'a [Token]) -> Result<(Parameter, &'a [Token]), ParseErr>
     ensures found { IfOk result (λ x. IsParameter x.0 tokens.now x.1.now) }
-    ensures refused { IfErr result (λ e. Refuses e (NoParameter tokens.now)) }
+    ensures refused { IfErr result (λ e. Placed e NoParameter HasParameter text.now tokens.now) }
 {
     match c_type(tokens) {
         Some((of, behind)) => match name(behind) {
@@ -70,7 +75,7 @@ fn listed<'a>(
 ) -> Result<(Vec<Parameter>, &'a [Token]), ParseErr>
     ensures found { IfOk result (λ x. AreParameters x.0.items tokens.now x.1.now) }
     ensures few { IfOk result (λ x. length x.0.items ≤ 8) }
-    ensures refused { IfErr result (λ e. Refuses e (NoListed tokens.now)) }
+    ensures refused { IfErr result (λ e. Placed e NoListed HasListed text.now tokens.now) }
 {
     let (first, mut rest) = parameter(text, tokens)?;
     let mut left: u64 = 7;
@@ -98,7 +103,7 @@ fn parameters<'a>(
 ) -> Result<(Vec<Parameter>, &'a [Token]), ParseErr>
     ensures found { IfOk result (λ x. AreParameters x.0.items tokens.now x.1.now) }
     ensures few { IfOk result (λ x. length x.0.items ≤ 8) }
-    ensures refused { IfErr result (λ e. Refuses e (NoParameters tokens.now)) }
+    ensures refused { IfErr result (λ e. Placed e NoParameters HasParameters text.now tokens.now) }
 {
     if let Some(rest) = after(Sign::CloseParenthesis, tokens) {
         return Ok((Vec::new(alloc), rest));
@@ -120,7 +125,7 @@ pub fn tail<'a>(
     ensures found { IfOk result (λ x. IsTail text.now x.0.items (statements (map statement x.1.items)) tokens.now x.3.now) }
     ensures within { IfOk result (λ x. limits.FunctionWithin x.0.items (statements (map statement x.1.items))) }
     ensures taken { IfOk result (λ x. x.2 + length (limits.all_numbered text.now (statements (map statement x.1.items))) ≡ funclets) }
-    ensures refused { IfErr result (λ e. Refuses e (NoTail text.now funclets tokens.now)) }
+    ensures refused { IfErr result (λ e. Placed e (NoTail funclets) (HasTail funclets) text.now tokens.now) }
 {
     let (parameters, behind) = parameters(alloc, text, tokens)?;
     let inner = expect(text, Sign::OpenBrace, behind)?;

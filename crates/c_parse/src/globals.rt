@@ -1,14 +1,17 @@
 //! Globals, and where they lie.
 
-ghost use Rattle.std.specs.Prelude.{◌≡◌, ◌≤◌, ◌<◌, ◌+◌, ◌*◌, Some, IfOk, IfErr, IfSome, IfNone, map};
+ghost use Rattle.std.specs.Prelude.{◌≡◌, ◌≤◌, ◌<◌, ◌+◌, ◌*◌, ◌⊎◌, Some, IfOk, IfErr, IfSome, IfNone, map};
 ghost use Rattle.c_lex.specs.declared.sign.Sign.TheVariants as signs;
+ghost use Rattle.c_syntax.specs.Faults as faults;
 ghost use Rattle.c_syntax.specs.Follow.{Stops};
 ghost use Rattle.c_syntax.specs.Limits as limits;
 ghost use Rattle.c_syntax.specs.Program as trees;
 ghost use Rattle.c_syntax.specs.Programs.{IsLength, IsGlobal, AreGlobals};
-ghost use Rattle.c_parse_expr.specs.Refusals.{Refuses};
+ghost use Rattle.c_parse_expr.specs.declared.refusal.Count.TheVariants as counts;
+ghost use Rattle.c_parse_expr.specs.declared.refusal.ParseErr.TheVariants.{Unexpected, TooMany};
+ghost use Rattle.c_parse_expr.specs.Refusals.{Placed};
 ghost use Rattle.c_parse.specs.Parts as parts;
-ghost use Rattle.c_parse.specs.Parts.{NoLength, NoGlobal, NoGlobals};
+ghost use Rattle.c_parse.specs.Parts.{EndsScalar, NoLength, HasLength, NoGlobal, NoGlobals, HasGlobals};
 
 use crate::initialisers::{initialiser, stop};
 use c_lex::sign::Sign;
@@ -65,7 +68,9 @@ fn end_of(size: u64, count: u64, at: u64) -> Option<u64>
 }
 
 /// The refusal at a place from which on the program's globals take too many bytes.
-fn too_many_bytes(at: u64) -> ParseErr {
+fn too_many_bytes(at: u64) -> ParseErr
+    ensures { result ≡ TooMany at counts.Globals }
+{
     ParseErr::TooMany {
         at,
         what: Count::Globals,
@@ -73,11 +78,18 @@ fn too_many_bytes(at: u64) -> ParseErr {
 }
 
 /// The refusal of the first token behind the name of a scalar that takes too many bytes.
-fn no_room(text: &[u8], tokens: &[Token]) -> ParseErr {
-    for sign in [Sign::Semicolon, Sign::Comma, Sign::Assign] {
-        if after(sign, tokens).is_some() {
-            return too_many_bytes(place(text, tokens));
-        }
+fn no_room(text: &[u8], tokens: &[Token]) -> ParseErr
+    ensures { ((result ≡ TooMany (faults.place text.now tokens.now) counts.Globals) × EndsScalar tokens.now)
+        ⊎ ((result ≡ Unexpected (faults.place text.now tokens.now)) × (EndsScalar tokens.now → ⊥)) }
+{
+    if let Some(_) = after(Sign::Semicolon, tokens) {
+        return too_many_bytes(place(text, tokens));
+    }
+    if let Some(_) = after(Sign::Comma, tokens) {
+        return too_many_bytes(place(text, tokens));
+    }
+    if let Some(_) = after(Sign::Assign, tokens) {
+        return too_many_bytes(place(text, tokens));
     }
     unexpected(text, tokens)
 }
@@ -95,7 +107,7 @@ fn bracketed<'a>(
     ensures stops { IfOk result (λ x. Stops 1 x.2.now) }
     ensures end { IfOk result (λ x. x.1 ≡ parts.end_of base pointers (Some x.0) bytes) }
     ensures low { IfOk result (λ x. x.1 ≤ 1048576) }
-    ensures refused { IfErr result (λ e. Refuses e (parts.NoneBracketed base pointers bytes tokens.now)) }
+    ensures refused { IfErr result (λ e. Placed e (parts.NoneBracketed base pointers bytes) (parts.HasBracketed base pointers bytes) text.now tokens.now) }
 {
     match integer(tokens) {
         Some((value, at, behind)) => match end_of(size_of(base, pointers), value, bytes) {
@@ -124,7 +136,7 @@ fn length<'a>(
     ensures stops { IfOk result (λ x. Stops 1 x.2.now) }
     ensures end { IfOk result (λ x. x.1 ≡ parts.end_of base pointers x.0 bytes) }
     ensures low { IfOk result (λ x. x.1 ≤ 1048576) }
-    ensures refused { IfErr result (λ e. Refuses e (NoLength base pointers bytes tokens.now)) }
+    ensures refused { IfErr result (λ e. Placed e (NoLength base pointers bytes) (HasLength base pointers bytes) text.now tokens.now) }
 {
     match after(Sign::OpenBracket, tokens) {
         Some(inner) => {
@@ -154,7 +166,7 @@ fn global<'a>(
     ensures stops { IfOk result (λ x. Stops 15 x.2.now) }
     ensures end { IfOk result (λ x. x.1 ≡ parts.end_of base (trees.global x.0).pointers (trees.global x.0).length bytes) }
     ensures low { IfOk result (λ x. x.1 ≤ 1048576) }
-    ensures refused { IfErr result (λ e. Refuses e (NoGlobal base bytes tokens.now)) }
+    ensures refused { IfErr result (λ e. Placed e (NoGlobal base bytes) (HasGlobals base bytes) text.now tokens.now) }
 {
     let (pointers, declarator) = stars(tokens);
     match name(declarator) {
@@ -186,7 +198,7 @@ pub fn globals<'a>(
     ensures found { IfOk result (λ x. AreGlobals (map trees.global x.0.items) tokens.now x.2.now) }
     ensures end { IfOk result (λ x. x.1 ≡ limits.end_of_globals base (map trees.global x.0.items) bytes) }
     ensures low { IfOk result (λ x. x.1 ≤ 1048576) }
-    ensures refused { IfErr result (λ e. Refuses e (NoGlobals base bytes tokens.now)) }
+    ensures refused { IfErr result (λ e. Placed e (NoGlobals base bytes) (HasGlobals base bytes) text.now tokens.now) }
 {
     let (first, mut end, mut rest) = global(alloc, text, base, bytes, tokens)?;
     let mut found = Vec::new(alloc);

@@ -6,8 +6,10 @@ ghost use Rattle.c_syntax.specs.Follow.{Stops};
 ghost use Rattle.c_syntax.specs.Program as trees;
 ghost use Rattle.c_syntax.specs.Programs.{IsConstant, AreConstants, IsInitialiser};
 ghost use Rattle.c_syntax.specs.Tokens.{IsSign};
-ghost use Rattle.c_parse_expr.specs.Refusals.{Refuses};
-ghost use Rattle.c_parse.specs.Parts.{NoConstant, NoConstants, IsGiven, NoneGiven, NoInitialiser};
+ghost use Rattle.c_syntax.specs.Faults as faults;
+ghost use Rattle.c_parse_expr.specs.declared.refusal.ParseErr.TheVariants.{Unexpected};
+ghost use Rattle.c_parse_expr.specs.Refusals.{Placed};
+ghost use Rattle.c_parse.specs.Parts.{NoConstant, HasConstant, NoConstants, HasConstants, IsGiven, NoneGiven, HasGiven, NoInitialiser, HasInitialiser};
 
 use c_lex::sign::Sign;
 use c_lex::token::Token;
@@ -44,7 +46,8 @@ fn sign_at(wanted: Sign, tokens: &[Token]) -> Option<(u64, &[Token])>
 /// Refuses the first token where an expression of the level or a tighter one would go on with it.
 pub fn stop(text: &[u8], level: u8, tokens: &[Token]) -> Result<(), ParseErr>
     ensures found { IfOk result (λ x. Stops level tokens.now) }
-    ensures refused { IfErr result (λ e. Refuses e (Stops level tokens.now → ⊥)) }
+    ensures refused { IfErr result (λ e. e ≡ Unexpected (faults.place text.now tokens.now)) }
+    ensures goes_on { IfErr result (λ _. Stops level tokens.now → ⊥) }
 {
     if follows(tokens) <= level {
         return Err(unexpected(text, tokens));
@@ -55,7 +58,7 @@ pub fn stop(text: &[u8], level: u8, tokens: &[Token]) -> Result<(), ParseErr>
 /// The constant at the front, a literal or `-` and a literal, and what follows it.
 fn constant<'a>(text: &[u8], tokens: &'a [Token]) -> Result<(Constant, &'a [Token]), ParseErr>
     ensures found { IfOk result (λ x. IsConstant x.0 tokens.now x.1.now) }
-    ensures refused { IfErr result (λ e. Refuses e (NoConstant tokens.now)) }
+    ensures refused { IfErr result (λ e. Placed e NoConstant HasConstant text.now tokens.now) }
 {
     match sign_at(Sign::Minus, tokens) {
         Some((at, behind)) => match literal(behind) {
@@ -90,7 +93,7 @@ fn constants<'a>(
     tokens: &'a [Token],
 ) -> Result<(Vec<Constant>, &'a [Token]), ParseErr>
     ensures found { IfOk result (λ x. AreConstants x.0.items tokens.now x.1.now) }
-    ensures refused { IfErr result (λ e. Refuses e (NoConstants tokens.now)) }
+    ensures refused { IfErr result (λ e. Placed e NoConstants HasConstants text.now tokens.now) }
 {
     let (first, mut rest) = constant(text, tokens)?;
     let mut found = Vec::new(alloc);
@@ -111,7 +114,7 @@ fn given<'a>(
     tokens: &'a [Token],
 ) -> Result<(Initialiser, &'a [Token]), ParseErr>
     ensures found { IfOk result (λ x. IsGiven (trees.initialiser x.0) tokens.now x.1.now) }
-    ensures refused { IfErr result (λ e. Refuses e (NoneGiven tokens.now)) }
+    ensures refused { IfErr result (λ e. Placed e NoneGiven HasGiven text.now tokens.now) }
 {
     match sign_at(Sign::OpenBrace, tokens) {
         Some((at, inner)) => {
@@ -133,7 +136,7 @@ pub fn initialiser<'a>(
 ) -> Result<(Option<Initialiser>, &'a [Token]), ParseErr>
     ensures found { IfOk result (λ x. IsInitialiser (option_map trees.initialiser x.0) tokens.now x.1.now) }
     ensures stops { IfOk result (λ x. Stops 15 x.1.now) }
-    ensures refused { IfErr result (λ e. Refuses e (NoInitialiser tokens.now)) }
+    ensures refused { IfErr result (λ e. Placed e NoInitialiser HasInitialiser text.now tokens.now) }
 {
     match after(Sign::Assign, tokens) {
         Some(value) => {

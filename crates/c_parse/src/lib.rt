@@ -1,10 +1,10 @@
 //! Programs of C from tokens.
 //!
 //! All tokens are read as one program (C11, 6.9) within the limits of nesting and of counts. What is
-//! read is that program, and a refusal comes only where there is none. Which token a refusal tells, and
-//! which limit, is no clause's: it is the first token with which no such program goes on, and tests
-//! show it. No program goes on so at all: `Unexpected`; else none within the limits of nesting:
-//! `TooDeep`; else `TooMany`, with what there is too much of.
+//! read is that program, and a refusal tells the first token with which no such program goes on, or the
+//! text's end. If no program goes on so at all, it is `Unexpected`; else, if none is within the limit of
+//! nesting, `TooDeep`; else `TooMany`, with the first count, in the order of `Count`, of which each has
+//! too much.
 #![tactic(auto)]
 
 pub mod counts;

@@ -1,14 +1,18 @@
 //! Whole programs.
 
 ghost use Rattle.std.specs.Prelude.{◌≡◌, ◌≤◌, List, length, IfOk, IfErr, MatchResult, map};
+ghost use Rattle.c_lex.specs.Text.{IsTokens};
+ghost use Rattle.c_syntax.specs.Faults as faults;
 ghost use Rattle.c_syntax.specs.Limits.{Within};
 ghost use Rattle.c_syntax.specs.Program as trees;
 ghost use Rattle.c_syntax.specs.Programs.{IsExternal, IsProgram};
-ghost use Rattle.c_parse_expr.specs.declared.refusal.ParseErr.TheVariants.{Memory};
-ghost use Rattle.c_parse_expr.specs.Refusals.{Refuses};
-ghost use Rattle.c_parse.specs.Counts.{Taken, NoExternal};
+ghost use Rattle.c_parse_expr.specs.declared.refusal.Count.TheVariants as counts;
+ghost use Rattle.c_parse_expr.specs.declared.refusal.ParseErr.TheVariants.{TooMany, Memory};
+ghost use Rattle.c_parse_expr.specs.Refusals.{Placed, Refuses};
+ghost use Rattle.c_parse.specs.Bounds.{IsBounded};
+ghost use Rattle.c_parse.specs.Counts.{Taken, NoExternal, HasExternal};
 ghost use Rattle.c_parse.specs.Nodes.{nodes_of};
-ghost use Rattle.c_parse.specs.Parts.{IsHead, NoHead};
+ghost use Rattle.c_parse.specs.Parts.{IsHead, NoHead, HasHead};
 
 use crate::counts::Counts;
 use crate::functions::tail;
@@ -29,14 +33,20 @@ const MOST_FUNCTIONS: u64 = 4_096;
 /// The most numbered filters and `__finally` blocks of a program.
 const MOST_FUNCLETS: u64 = 16_384;
 
-/// A program: its external declarations, in their order.
+/// A program: its external declarations, in their order. It is within the limits, and has no more nodes
+/// than its text has bytes.
 #[derive(Drop)]
 pub struct Program {
     pub externals: Vec<External>,
+    /// How many bytes its text has.
+    pub length: u64,
+    ghost bounded: { ∥ IsBounded length (map trees.external externals.items) ∥₁ },
 }
 
 /// The refusal of the first token, with which the program has one function too many.
-fn too_many_functions(text: &[u8], tokens: &[Token]) -> ParseErr {
+fn too_many_functions(text: &[u8], tokens: &[Token]) -> ParseErr
+    ensures { result ≡ TooMany (faults.place text.now tokens.now) counts.Functions }
+{
     ParseErr::TooMany {
         at: place(text, tokens),
         what: Count::Functions,
@@ -58,7 +68,7 @@ struct Heading<'a> {
 /// The head of the external declaration at the front.
 fn head<'a>(text: &[u8], tokens: &'a [Token]) -> Result<Heading<'a>, ParseErr>
     ensures found { IfOk result (λ h. IsHead h.base h.pointers h.name tokens.now h.declarators.now h.rest.now) }
-    ensures refused { IfErr result (λ e. Refuses e (NoHead tokens.now)) }
+    ensures refused { IfErr result (λ e. Placed e NoHead HasHead text.now tokens.now) }
 {
     match base(tokens) {
         Some((base, declarators)) => {
@@ -91,7 +101,7 @@ fn external<'a>(
     requires { counts.bytes ≤ 1048576 }
     ensures found { IfOk result (λ x. IsExternal text.now (trees.external x.0) tokens.now x.2.now) }
     ensures taken { IfOk result (λ x. Taken text.now counts x.1 (trees.external x.0)) }
-    ensures refused { IfErr result (λ e. Refuses e (NoExternal text.now counts tokens.now)) }
+    ensures refused { IfErr result (λ e. Placed e (NoExternal counts) (HasExternal counts) text.now tokens.now) }
 {
     let head = head(text, tokens)?;
     match after(Sign::OpenParenthesis, head.rest) {
@@ -140,16 +150,20 @@ fn external<'a>(
 
 /// The program that all tokens are (C11, 6.9), within the limits.
 pub fn parse(alloc: Global, text: &[u8], tokens: &[Token]) -> Result<Program, ParseErr>
-    // The tokens are the program.
+    // The tokens are the text's.
+    requires tokens { IsTokens text.now tokens.now }
+    // They are the program.
     ensures found { IfOk result (λ p. IsProgram text.now (map trees.external p.externals.items) tokens.now) }
     // It is within the limits.
     ensures within { IfOk result (λ p. Within text.now (map trees.external p.externals.items)) }
     // It has no more nodes than there are tokens, and so than the text has bytes.
     ensures few { IfOk result (λ p. nodes_of (map trees.external p.externals.items) ≤ length tokens.now) }
+    // It keeps the text's length.
+    ensures long { IfOk result (λ p. p.length ≡ length text.now) }
     // A program within the limits isn't refused, unless memory runs out, and is the one that is read.
     ensures only { (xs : List trees.External) → IsProgram text.now xs tokens.now → Within text.now xs → MatchResult result (λ p. map trees.external p.externals.items ≡ xs) (λ e. e ≡ Memory) }
-    // Tokens are refused only where they are no program within the limits, or memory runs out.
-    ensures refused { IfErr result (λ e. Refuses e ((xs : List trees.External) → IsProgram text.now xs tokens.now → Within text.now xs → ⊥)) }
+    // A refusal names the first token with which no program within the limits goes on, or the text's end, and the first limit that excludes them all; or memory runs out.
+    ensures refused { IfErr result (λ e. Refuses e text.now tokens.now) }
 {
     let mut externals = Vec::new(alloc);
     let mut counts = Counts {
@@ -164,5 +178,8 @@ pub fn parse(alloc: Global, text: &[u8], tokens: &[Token]) -> Result<Program, Pa
         counts = less;
         rest = behind;
     }
-    Ok(Program { externals })
+    Ok(Program {
+        externals,
+        length: text.len() as u64,
+    })
 }

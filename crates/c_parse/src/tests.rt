@@ -47,6 +47,7 @@ fn accepted(rt: HostRuntime) -> Result<(), Fail> {
         ),
         (b"char a; long long b[131071];".as_slice(), 2, (1, 0, 0)),
         (b"char a[1048575]; int *b[0];".as_slice(), 2, (1, 0, 0)),
+        (b"char a[1048576]; int f() {}".as_slice(), 2, (0, 0, 0)),
         (b"void a[18446744073709551615];".as_slice(), 1, (1, 0, 0)),
         (
             b"int main(void){ return ((((((((((((((((((((((((((((((((((((((((((((((((((((((((((((((((1)))))))))))))))))))))))))))))))))))))))))))))))))))))))))))))))); }".as_slice(),
@@ -99,6 +100,10 @@ fn unexpected(rt: HostRuntime) -> Result<(), Fail> {
         (b"int f(int a,) {}".as_slice(), 12),
         (b"int f(a) {}".as_slice(), 6),
         (b"int f();".as_slice(), 7),
+        (b"int f(int a, void) {}".as_slice(), 17),
+        (b"int f(void a".as_slice(), 12),
+        (b"long int int a;".as_slice(), 9),
+        (b"signed unsigned a;".as_slice(), 7),
         (b"int f() { ".as_slice(), 10),
         (b"int f() {} }".as_slice(), 11),
         (b"int main(void){ if 1; }".as_slice(), 19),

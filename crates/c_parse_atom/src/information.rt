@@ -40,7 +40,7 @@ pub fn is_word(text: &[u8], name: Name, word: &[u8]) -> bool
 }
 
 /// What follows a name with this spelling, if that is at the front.
-fn after_word<'a>(text: &[u8], word: &[u8], tokens: &'a [Token]) -> Option<&'a [Token]>
+pub fn after_word<'a>(text: &[u8], word: &[u8], tokens: &'a [Token]) -> Option<&'a [Token]>
     ensures found { IfSome result (λ rest. HasWord text.now word.now tokens.now rest.now) }
     ensures none { IfNone result ((rest : List Token) → HasWord text.now word.now tokens.now rest → ⊥) }
 {
@@ -53,7 +53,7 @@ fn after_word<'a>(text: &[u8], word: &[u8], tokens: &'a [Token]) -> Option<&'a [
 }
 
 /// The place of `GetExceptionInformation` at the front, and what follows it.
-fn intrinsic(tokens: &[Token]) -> Option<(u64, &[Token])>
+pub fn intrinsic(tokens: &[Token]) -> Option<(u64, &[Token])>
     ensures found { IfSome result (λ x. IsKeyword keywords.GetExceptionInformation x.0 tokens.now x.1.now) }
     ensures none { IfNone result ((at : ℕ) (rest : List Token) → IsKeyword keywords.GetExceptionInformation at tokens.now rest → ⊥) }
 {

@@ -11,27 +11,12 @@ use Rattle.c_syntax.proofs.Fronts.{has_same}
 use Rattle.c_syntax.proofs.Once.{rank_low, has_stops, one_expression}
 use Rattle.c_syntax.proofs.Passing.{passes}
 use Rattle.c_syntax.proofs.Spine.{spine, closes, step_follows, run_reach, run_rank, run_height}
-use Rattle.c_parse_expr.specs.declared.refusal.ParseErr.{ParseErr}
-use Rattle.c_parse_expr.specs.declared.refusal.ParseErr.TheVariants as errs
-use Rattle.c_parse_expr.specs.Refusals.{Refuses}
 use Rattle.c_parse_expr.specs.Readings.{NoExpression, Encloses, NoneEnclosed, NoOperand, IsStep, NoStep}
-
-pub refuses_so : (e : ParseErr) (P Q : Type 0) → (P → Q) → Refuses e P → Refuses e Q
-refuses_so (errs.Unexpected at) P Q f h = f h
-refuses_so (errs.TooDeep at) P Q f h = f h
-refuses_so (errs.TooMany at what) P Q f h = f h
-refuses_so errs.Memory P Q f h = tt
-
-pub refuses : (e : ParseErr) (P : Type 0) → P → Refuses e P
-refuses (errs.Unexpected at) P h = h
-refuses (errs.TooDeep at) P h = h
-refuses (errs.TooMany at what) P h = h
-refuses errs.Memory P h = tt
 
 -- ---- operand and steps
 
-pub no_operand : (text : List ℕ) (l room : ℕ) (ts : List Token) → NoOperand text l room ts → NoExpression text l room ts
-no_operand text l room ts n e end d s low =
+pub no_operand : (text : List ℕ) (w l room : ℕ) (ts : List Token) → NoOperand l room w text ts → NoExpression l room w text ts
+no_operand text w l room ts n e end d s low =
     let x = spine text e ts end d.spells in
     let a = run_rank text x.head x.steps x.after e end x.run in
     let b = run_height text x.head x.steps x.after e end x.run in
@@ -40,13 +25,13 @@ no_operand text l room ts n e end d s low =
     (record { derives = record { fits = omega arith; spells = x.spells }; head = x.is_head; closes = closes x.head x.after (run_reach text x.head x.steps x.after e end l x.run d.fits s) })
     (omega arith)
 
-pub no_step : (text : List ℕ) (l room : ℕ) (left : Expression) (ts rest : List Token) → Derives text l left ts rest → Closes left rest → follows rest ≤ l → NoStep text room left rest → NoExpression text l room ts
-no_step text l room left ts rest h c f n e end d s low =
+pub no_step : (text : List ℕ) (w l room : ℕ) (left : Expression) (ts rest : List Token) → Derives text l left ts rest → Closes left rest → follows rest ≤ l → NoStep room left w text rest → NoExpression l room w text ts
+no_step text w l room left ts rest h c f n e end d s low =
     let g = passes text l left ts rest e end h.spells h.fits c f d s in
     let k = run_height text (apply left g.step) g.steps g.mid e end g.run in
-    n g.step g.mid (record { fits = g.fits; tail = g.tail; closes = g.ends }) (omega arith)
+    n g.step g.mid (record { fits = g.fits; tail = g.tail; closes = g.ends }) (λ q. let r = low q in omega arith)
 
-joined : (text : List ℕ) (e : Expression) (s : Step) (ts mid end : List Token) → Spells text e ts mid → rank e ≤ bound s → Tail text s mid end → Spells text (apply e s) ts end
+pub joined : (text : List ℕ) (e : Expression) (s : Step) (ts mid end : List Token) → Spells text e ts mid → rank e ≤ bound s → Tail text s mid end → Spells text (apply e s) ts end
 joined text e (At at i) ts mid end h f t = (mid, t.0, t.1, f, h, t.2, t.3, t.4)
 joined text e (After op at) ts mid end h f t = (mid, f, h, t)
 joined text e (With at op g) ts mid end h f t = (mid, t.0, f, h, t.1, t.2, t.3)
@@ -61,16 +46,16 @@ goes_on text l left s ts rest end h f x =
 
 -- ---- an expression and the sign that ends it
 
-pub none_inside : (text : List ℕ) (close : Sign) (room : ℕ) (ts : List Token) → sign_follows close ≡ 17 → NoExpression text 16 room ts → NoneEnclosed text close room ts
-none_inside text close room ts p n e end x low = n e x.mid (record { fits = rank_low e; spells = x.spells }) (has_stops close x.mid end 16 x.closed (omega arith)) low
+pub none_inside : (text : List ℕ) (w : ℕ) (close : Sign) (room : ℕ) (ts : List Token) → sign_follows close ≡ 17 → NoExpression 16 room w text ts → NoneEnclosed close room w text ts
+none_inside text w close room ts p n e end x low = n e x.mid (record { fits = rank_low e; spells = x.spells }) (has_stops close x.mid end 16 x.closed (omega arith)) low
 
 inside : (text : List ℕ) (close : Sign) (e f : Expression) (ts mid end : List Token) → sign_follows close ≡ 17 → Derives text 16 e ts mid → Stops 16 mid → Encloses text close f ts end → (e ≡ f) × HasSign close mid end
 inside text close e f ts mid end p h s x =
     let q = one_expression text 16 e f ts mid x.mid h (record { fits = rank_low f; spells = x.spells }) s (has_stops close x.mid end 16 x.closed (omega arith)) in
     (q.0, subst (λ (z : List Token). HasSign close z end) (sym q.1) x.closed)
 
-pub not_closed : (text : List ℕ) (close : Sign) (room : ℕ) (e : Expression) (ts mid : List Token) → sign_follows close ≡ 17 → Derives text 16 e ts mid → Stops 16 mid → ((end : List Token) → HasSign close mid end → ⊥) → NoneEnclosed text close room ts
-not_closed text close room e ts mid p h s n f end x low = n end (inside text close e f ts mid end p h s x).1
+pub not_closed : (text : List ℕ) (w : ℕ) (close : Sign) (room : ℕ) (e : Expression) (ts mid : List Token) → sign_follows close ≡ 17 → Derives text 16 e ts mid → Stops 16 mid → ((end : List Token) → HasSign close mid end → ⊥) → NoneEnclosed close room w text ts
+not_closed text w close room e ts mid p h s n f end x low = n end (inside text close e f ts mid end p h s x).1
 
 pub enclosed_once : (text : List ℕ) (close : Sign) (e f : Expression) (ts rest end : List Token) → sign_follows close ≡ 17 → Encloses text close e ts rest → Encloses text close f ts end → (e ≡ f) × (rest ≡ end)
 enclosed_once text close e f ts rest end p x y =

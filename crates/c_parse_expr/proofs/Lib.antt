@@ -3,3 +3,8 @@ pub mod Operations
 pub mod Operands
 pub mod Listing
 pub mod Front
+pub mod Placing
+pub mod Wrapping
+pub mod Beginning
+pub mod Arguing
+pub mod Departing

@@ -67,56 +67,56 @@ not_both ts rest end h g = let q = (sign_same signs.Comma signs.CloseParenthesis
 not_begun : (text : List ℕ) (e : Expression) (ts rest end : List Token) → Spells text e ts rest → HasSign signs.CloseParenthesis ts end → ⊥
 not_begun text e ts rest end h g = let a = expression_front text e ts rest h in let b : front ts ≡ 6 = ap front g.1.1 in absurd (omega arith)
 
-record Left (text : List ℕ) (room : ℕ) (ts end : List Token) : Type 0 where
+record Left (text : List ℕ) (w room : ℕ) (ts end : List Token) : Type 0 where
   others : Arguments
   spells : SpellsMore text others ts end
-  low : heights others ≤ room
+  low : 1 ≤ w → heights others ≤ room
 
 same_next : (text : List ℕ) (e x : Expression) (ts us rest end : List Token) → ts ≡ us → Derives text 15 e ts rest → Stops 15 rest → Derives text 15 x us end → Stops 15 end → rest ≡ end
 same_next text e x ts us rest end p d s g z =
     (one_expression text 15 e x ts rest end d (record { fits = g.fits; spells = subst (λ (y : List Token). Spells text x y end) (sym p) g.spells }) s z).1
 
-more_back : (text : List ℕ) (room : ℕ) (es : List Expression) (xs : Arguments) (ts rest end : List Token) → AreMore text es ts rest → Stops 15 rest → SpellsMore text xs ts end → heights xs ≤ room → Left text room rest end
-more_back text room [] xs ts rest end h s g low = record { others = xs; spells = subst (λ (z : List Token). SpellsMore text xs z end) h g; low = low }
-more_back text room (e ∷ es) Done ts rest end h s g low = absurd (not_both ts h.0 end h.2 g)
-more_back text room (e ∷ es) (Next x xs) ts rest end h s g low =
+more_back : (text : List ℕ) (w room : ℕ) (es : List Expression) (xs : Arguments) (ts rest end : List Token) → AreMore text es ts rest → Stops 15 rest → SpellsMore text xs ts end → (1 ≤ w → heights xs ≤ room) → Left text w room rest end
+more_back text w room [] xs ts rest end h s g low = record { others = xs; spells = subst (λ (z : List Token). SpellsMore text xs z end) h g; low = low }
+more_back text w room (e ∷ es) Done ts rest end h s g low = absurd (not_both ts h.0 end h.2 g)
+more_back text w room (e ∷ es) (Next x xs) ts rest end h s g low =
     let p = has_same signs.Comma ts ts h.0 g.0 refl h.2 g.2 in
     let q = same_next text e x h.0 g.0 h.1 g.1 p h.3 (more_stops text es h.1 rest h.4 s) (record { fits = g.3; spells = g.4 }) (spelled_stops text xs g.1 end g.5) in
-    more_back text room es xs h.1 rest end h.4 s (subst (λ (z : List Token). SpellsMore text xs z end) (sym q) g.5) (omega arith)
+    more_back text w room es xs h.1 rest end h.4 s (subst (λ (z : List Token). SpellsMore text xs z end) (sym q) g.5) (λ k. let a = low k in omega arith)
 
-listed_back : (text : List ℕ) (room : ℕ) (es : List Expression) (xs : Arguments) (ts rest end : List Token) → AreListed text es ts rest → Stops 15 rest → SpellsArguments text xs ts end → heights xs ≤ room → Left text room rest end
-listed_back text room [] xs ts rest end h s g low = absurd h
-listed_back text room (e ∷ es) Done ts rest end h s g low = absurd (not_begun text e ts h.0 end h.1.spells g)
-listed_back text room (e ∷ es) (Next x xs) ts rest end h s g low =
+listed_back : (text : List ℕ) (w room : ℕ) (es : List Expression) (xs : Arguments) (ts rest end : List Token) → AreListed text es ts rest → Stops 15 rest → SpellsArguments text xs ts end → (1 ≤ w → heights xs ≤ room) → Left text w room rest end
+listed_back text w room [] xs ts rest end h s g low = absurd h
+listed_back text w room (e ∷ es) Done ts rest end h s g low = absurd (not_begun text e ts h.0 end h.1.spells g)
+listed_back text w room (e ∷ es) (Next x xs) ts rest end h s g low =
     let q = same_next text e x ts ts h.0 g.0 refl h.1 (more_stops text es h.0 rest h.2 s) (record { fits = g.1; spells = g.2 }) (spelled_stops text xs g.0 end g.3) in
-    more_back text room es xs h.0 rest end h.2 s (subst (λ (z : List Token). SpellsMore text xs z end) (sym q) g.3) (omega arith)
+    more_back text w room es xs h.0 rest end h.2 s (subst (λ (z : List Token). SpellsMore text xs z end) (sym q) g.3) (λ k. let a = low k in omega arith)
 
 -- ---- refusals
 
-none_left : (text : List ℕ) (room : ℕ) (xs : Arguments) (rest end : List Token) → SpellsMore text xs rest end → heights xs ≤ room
+none_left : (text : List ℕ) (w room : ℕ) (xs : Arguments) (rest end : List Token) → SpellsMore text xs rest end → (1 ≤ w → heights xs ≤ room)
     → ((b : List Token) → HasSign signs.CloseParenthesis rest b → ⊥)
-    → ((x : Expression) (b c : List Token) → HasSign signs.Comma rest b → Derives text 15 x b c → Stops 15 c → height x < room → ⊥)
+    → ((x : Expression) (b c : List Token) → HasSign signs.Comma rest b → Derives text 15 x b c → Stops 15 c → (1 ≤ w → height x < room) → ⊥)
     → ⊥
-none_left text room Done rest end h low n m = n end h
-none_left text room (Next x xs) rest end h low n m = m x h.0 h.1 h.2 (record { fits = h.3; spells = h.4 }) (spelled_stops text xs h.1 end h.5) (omega arith)
+none_left text w room Done rest end h low n m = n end h
+none_left text w room (Next x xs) rest end h low n m = m x h.0 h.1 h.2 (record { fits = h.3; spells = h.4 }) (spelled_stops text xs h.1 end h.5) (λ k. let a = low k in omega arith)
 
-pub stuck : (text : List ℕ) (room : ℕ) (es : List Expression) (ts rest : List Token) → AreListed text es ts rest → Stops 15 rest
+pub stuck : (text : List ℕ) (w room : ℕ) (es : List Expression) (ts rest : List Token) → AreListed text es ts rest → Stops 15 rest
     → ((b : List Token) → HasSign signs.CloseParenthesis rest b → ⊥)
     → ((b : List Token) → HasSign signs.Comma rest b → ⊥)
-    → NoArguments text room ts
-stuck text room es ts rest h s n m xs end g low =
-    let l = listed_back text room es xs ts rest end h s g low in none_left text room l.others rest end l.spells l.low n (λ x b c k d z u. m b k)
+    → NoArguments room w text ts
+stuck text w room es ts rest h s n m xs end g low =
+    let l = listed_back text w room es xs ts rest end h s g low in none_left text w room l.others rest end l.spells l.low n (λ x b c k d z u. m b k)
 
-pub no_next : (text : List ℕ) (room : ℕ) (es : List Expression) (ts rest behind : List Token) → AreListed text es ts rest → Stops 15 rest → HasSign signs.Comma rest behind → NoExpression text 15 (room - 1) behind → NoArguments text room ts
-no_next text room es ts rest behind h s k n xs end g low =
-    let l = listed_back text room es xs ts rest end h s g low in
-    none_left text room l.others rest end l.spells l.low (λ b c. not_both rest behind b k c)
-    (λ x b c j d z u. let q = has_same signs.Comma rest rest b behind refl j k in n x c (record { fits = d.fits; spells = subst (λ (y : List Token). Spells text x y c) q d.spells }) z (omega arith))
+pub no_next : (text : List ℕ) (w room : ℕ) (es : List Expression) (ts rest behind : List Token) → AreListed text es ts rest → Stops 15 rest → HasSign signs.Comma rest behind → NoExpression 15 (room - 1) w text behind → NoArguments room w text ts
+no_next text w room es ts rest behind h s k n xs end g low =
+    let l = listed_back text w room es xs ts rest end h s g low in
+    none_left text w room l.others rest end l.spells l.low (λ b c. not_both rest behind b k c)
+    (λ x b c j d z u. let q = has_same signs.Comma rest rest b behind refl j k in n x c (record { fits = d.fits; spells = subst (λ (y : List Token). Spells text x y c) q d.spells }) z (λ k. let a = u k in omega arith))
 
-pub no_first : (text : List ℕ) (room : ℕ) (ts : List Token) → ((b : List Token) → HasSign signs.CloseParenthesis ts b → ⊥) → NoExpression text 15 (room - 1) ts → NoArguments text room ts
-no_first text room ts n m Done end g low = n end g
-no_first text room ts n m (Next x xs) end g low = m x g.0 (record { fits = g.1; spells = g.2 }) (spelled_stops text xs g.0 end g.3) (omega arith)
+pub no_first : (text : List ℕ) (w room : ℕ) (ts : List Token) → ((b : List Token) → HasSign signs.CloseParenthesis ts b → ⊥) → NoExpression 15 (room - 1) w text ts → NoArguments room w text ts
+no_first text w room ts n m Done end g low = n end g
+no_first text w room ts n m (Next x xs) end g low = m x g.0 (record { fits = g.1; spells = g.2 }) (spelled_stops text xs g.0 end g.3) (λ k. let a = low k in omega arith)
 
-pub no_place : (text : List ℕ) (ts : List Token) → ((b : List Token) → HasSign signs.CloseParenthesis ts b → ⊥) → NoArguments text 0 ts
+pub no_place : (text : List ℕ) (ts : List Token) → ((b : List Token) → HasSign signs.CloseParenthesis ts b → ⊥) → NoArguments 0 1 text ts
 no_place text ts n Done end g low = n end g
-no_place text ts n (Next x xs) end g low = absurd (omega arith)
+no_place text ts n (Next x xs) end g low = let a = low (omega arith) in absurd (omega arith)

@@ -1,5 +1,5 @@
 -- First operands by the token at the front.
-use Rattle.std.proofs.Common.{◌≡◌, ◌≤◌, ◌<◌, ◌+◌, ◌-◌, ℕ, List, [], ◌∷◌, Option, Some, None, refl, sym, ap, ◌∙◌, subst, arith}
+use Rattle.std.proofs.Common.{◌≡◌, ◌≤◌, ◌<◌, ◌+◌, ◌-◌, ℕ, List, [], ◌∷◌, Some, None, refl, sym, ap, ◌∙◌, subst, arith}
 use Rattle.c_lex.specs.declared.keyword.Keyword.TheVariants as keywords
 use Rattle.c_lex.specs.declared.sign.Sign.{Sign}
 use Rattle.c_lex.specs.declared.sign.Sign.TheVariants as signs
@@ -30,26 +30,26 @@ use Rattle.c_parse_expr.specs.Readings.{NoExpression, Encloses, NoneEnclosed, No
 
 -- ---- no operand
 
-pub none_begins : (text : List ℕ) (l room : ℕ) (ts : List Token)
+pub none_begins : (text : List ℕ) (w l room : ℕ) (ts : List Token)
     → ((x : Literal) (at : ℕ) (rest : List Token) → IsKind (literal_kind x) at ts rest → ⊥)
     → ((x : Name) (rest : List Token) → IsName x ts rest → ⊥)
     → ((at : ℕ) (x : Field) (rest : List Token) → Spells text (Information at x) ts rest → ⊥)
     → ((s : Sign) (at : ℕ) (rest : List Token) → IsSign s at ts rest → ⊥)
-    → NoOperand text l room ts
-none_begins text l room ts a b c d (Constant at x) end o low = a x at end o.derives.spells
-none_begins text l room ts a b c d (Variable x) end o low = b x end o.derives.spells
-none_begins text l room ts a b c d (Information at x) end o low = c at x end o.derives.spells
-none_begins text l room ts a b c d (Call x es) end o low = let h = o.derives.spells in b x h.0 h.2
-none_begins text l room ts a b c d (Parentheses at e) end o low = let h = o.derives.spells in d signs.OpenParenthesis at h.0 h.2
-none_begins text l room ts a b c d (Index e at i) end o low = o.head
-none_begins text l room ts a b c d (Postfix e op at) end o low = o.head
-none_begins text l room ts a b c d (Prefix at op e) end o low = let h = o.derives.spells in d (increment_sign op) at h.0 h.1
-none_begins text l room ts a b c d (Unary at op e) end o low = let h = o.derives.spells in d (unary_sign op) at h.0 h.1
-none_begins text l room ts a b c d (Cast at to e) end o low = let h = o.derives.spells in d signs.OpenParenthesis at h.0 h.3
-none_begins text l room ts a b c d (Binary e at op f) end o low = o.head
-none_begins text l room ts a b c d (Conditional e at f g) end o low = o.head
-none_begins text l room ts a b c d (Assign e at op f) end o low = o.head
-none_begins text l room ts a b c d (Comma e at f) end o low = o.head
+    → NoOperand l room w text ts
+none_begins text w l room ts a b c d (Constant at x) end o low = a x at end o.derives.spells
+none_begins text w l room ts a b c d (Variable x) end o low = b x end o.derives.spells
+none_begins text w l room ts a b c d (Information at x) end o low = c at x end o.derives.spells
+none_begins text w l room ts a b c d (Call x es) end o low = let h = o.derives.spells in b x h.0 h.2
+none_begins text w l room ts a b c d (Parentheses at e) end o low = let h = o.derives.spells in d signs.OpenParenthesis at h.0 h.2
+none_begins text w l room ts a b c d (Index e at i) end o low = o.head
+none_begins text w l room ts a b c d (Postfix e op at) end o low = o.head
+none_begins text w l room ts a b c d (Prefix at op e) end o low = let h = o.derives.spells in d (increment_sign op) at h.0 h.1
+none_begins text w l room ts a b c d (Unary at op e) end o low = let h = o.derives.spells in d (unary_sign op) at h.0 h.1
+none_begins text w l room ts a b c d (Cast at to e) end o low = let h = o.derives.spells in d signs.OpenParenthesis at h.0 h.3
+none_begins text w l room ts a b c d (Binary e at op f) end o low = o.head
+none_begins text w l room ts a b c d (Conditional e at f g) end o low = o.head
+none_begins text w l room ts a b c d (Assign e at op f) end o low = o.head
+none_begins text w l room ts a b c d (Comma e at f) end o low = o.head
 
 literal_name : (x : Literal) → literal_kind x ≡ kinds.Name → ⊥
 literal_name (literals.Integer value type) e = cc
@@ -79,36 +79,36 @@ name_not_sign s e = cc
 
 -- ---- behind a name
 
-pub none_named : (text : List ℕ) (l room : ℕ) (x : Name) (ts rest : List Token) → IsName x ts rest
+pub none_named : (text : List ℕ) (w l room : ℕ) (x : Name) (ts rest : List Token) → IsName x ts rest
     → (0 < follows rest → ⊥)
-    → ((es : Arguments) (b end : List Token) → HasSign signs.OpenParenthesis rest b → SpellsArguments text es b end → heights es ≤ room → ⊥)
-    → NoOperand text l room ts
-none_named text l room x ts rest n v c (Constant at y) end o low = literal_name y (other_kind _ _ at x.start ts end rest o.derives.spells (name_kind x ts rest n))
-none_named text l room x ts rest n v c (Variable y) end o low =
+    → ((es : Arguments) (b end : List Token) → HasSign signs.OpenParenthesis rest b → SpellsArguments text es b end → (1 ≤ w → heights es ≤ room) → ⊥)
+    → NoOperand l room w text ts
+none_named text w l room x ts rest n v c (Constant at y) end o low = literal_name y (other_kind _ _ at x.start ts end rest o.derives.spells (name_kind x ts rest n))
+none_named text w l room x ts rest n v c (Variable y) end o low =
     let q = (name_same x y ts ts rest end refl n o.derives.spells).1 in let p = ap follows q in let k = o.closes in v (omega arith)
-none_named text l room x ts rest n v c (Information at y) end o low =
+none_named text w l room x ts rest n v c (Information at y) end o low =
     let h = o.derives.spells in keyword_not_name (other_kind _ _ at x.start ts h.0 rest h.6 (name_kind x ts rest n))
-none_named text l room x ts rest n v c (Call y es) end o low =
+none_named text w l room x ts rest n v c (Call y es) end o low =
     let h = o.derives.spells in
     let q = (name_same y x ts ts h.0 rest refl h.2 n).1 in
     c es h.1 end (subst (λ (z : List Token). HasSign signs.OpenParenthesis z h.1) q h.3) h.4 low
-none_named text l room x ts rest n v c (Parentheses at e) end o low = let h = o.derives.spells in sign_not_name _ (other_kind _ _ at x.start ts h.0 rest h.2 (name_kind x ts rest n))
-none_named text l room x ts rest n v c (Index e at i) end o low = o.head
-none_named text l room x ts rest n v c (Postfix e op at) end o low = o.head
-none_named text l room x ts rest n v c (Prefix at op e) end o low = let h = o.derives.spells in sign_not_name _ (other_kind _ _ at x.start ts h.0 rest h.1 (name_kind x ts rest n))
-none_named text l room x ts rest n v c (Unary at op e) end o low = let h = o.derives.spells in sign_not_name _ (other_kind _ _ at x.start ts h.0 rest h.1 (name_kind x ts rest n))
-none_named text l room x ts rest n v c (Cast at to e) end o low = let h = o.derives.spells in sign_not_name _ (other_kind _ _ at x.start ts h.0 rest h.3 (name_kind x ts rest n))
-none_named text l room x ts rest n v c (Binary e at op f) end o low = o.head
-none_named text l room x ts rest n v c (Conditional e at f g) end o low = o.head
-none_named text l room x ts rest n v c (Assign e at op f) end o low = o.head
-none_named text l room x ts rest n v c (Comma e at f) end o low = o.head
+none_named text w l room x ts rest n v c (Parentheses at e) end o low = let h = o.derives.spells in sign_not_name _ (other_kind _ _ at x.start ts h.0 rest h.2 (name_kind x ts rest n))
+none_named text w l room x ts rest n v c (Index e at i) end o low = o.head
+none_named text w l room x ts rest n v c (Postfix e op at) end o low = o.head
+none_named text w l room x ts rest n v c (Prefix at op e) end o low = let h = o.derives.spells in sign_not_name _ (other_kind _ _ at x.start ts h.0 rest h.1 (name_kind x ts rest n))
+none_named text w l room x ts rest n v c (Unary at op e) end o low = let h = o.derives.spells in sign_not_name _ (other_kind _ _ at x.start ts h.0 rest h.1 (name_kind x ts rest n))
+none_named text w l room x ts rest n v c (Cast at to e) end o low = let h = o.derives.spells in sign_not_name _ (other_kind _ _ at x.start ts h.0 rest h.3 (name_kind x ts rest n))
+none_named text w l room x ts rest n v c (Binary e at op f) end o low = o.head
+none_named text w l room x ts rest n v c (Conditional e at f g) end o low = o.head
+none_named text w l room x ts rest n v c (Assign e at op f) end o low = o.head
+none_named text w l room x ts rest n v c (Comma e at f) end o low = o.head
 
 call_follows : (rest b : List Token) → HasSign signs.OpenParenthesis rest b → follows rest ≡ 0
 call_follows rest b h = ap follows h.1.1
 
-pub no_call : (text : List ℕ) (l room : ℕ) (x : Name) (ts rest b : List Token) → IsName x ts rest → HasSign signs.OpenParenthesis rest b → NoArguments text room b → NoOperand text l room ts
-no_call text l room x ts rest b n h a =
-    none_named text l room x ts rest n
+pub no_call : (text : List ℕ) (w l room : ℕ) (x : Name) (ts rest b : List Token) → IsName x ts rest → HasSign signs.OpenParenthesis rest b → NoArguments room w text b → NoOperand l room w text ts
+no_call text w l room x ts rest b n h a =
+    none_named text w l room x ts rest n
     (λ p. let q = call_follows rest b h in absurd (omega arith))
     (λ es d end g s low. a es end (subst (λ (z : List Token). SpellsArguments text es z end) (has_same signs.OpenParenthesis rest rest d b refl g h) s) low)
 
@@ -173,38 +173,38 @@ no_parenthesis (t ∷ ts) n = positive_kind t.kind t.start t.end ts n
 
 -- ---- behind a sign
 
-pub none_signed : (text : List ℕ) (l room : ℕ) (s : Sign) (at : ℕ) (ts rest : List Token) → IsSign s at ts rest
-    → ((e : Expression) (end : List Token) → s ≡ signs.OpenParenthesis → Encloses text signs.CloseParenthesis e rest end → height e < room → ⊥)
-    → ((op : Increment) (e : Expression) (end : List Token) → s ≡ increment_sign op → Derives text 2 e rest end → Stops 2 end → height e < room → ⊥)
-    → ((op : UnaryOperator) (e : Expression) (end : List Token) → s ≡ unary_sign op → Derives text 3 e rest end → Stops 3 end → height e < room → ⊥)
-    → ((to : CType) (e : Expression) (b c end : List Token) → s ≡ signs.OpenParenthesis → 3 ≤ l → IsType to rest b → HasSign signs.CloseParenthesis b c → Derives text 3 e c end → Stops 3 end → height e < room → ⊥)
-    → NoOperand text l room ts
-none_signed text l room s at ts rest n pa pr un ca (Constant to y) end o low = literal_sign y s (other_kind _ _ to at ts end rest o.derives.spells n)
-none_signed text l room s at ts rest n pa pr un ca (Variable y) end o low = name_not_sign s (other_kind _ _ y.start at ts end rest (name_kind y ts end o.derives.spells) n)
-none_signed text l room s at ts rest n pa pr un ca (Information to y) end o low = let h = o.derives.spells in keyword_not_sign s (other_kind _ _ to at ts h.0 rest h.6 n)
-none_signed text l room s at ts rest n pa pr un ca (Call y es) end o low = let h = o.derives.spells in name_not_sign s (other_kind _ _ y.start at ts h.0 rest (name_kind y ts h.0 h.2) n)
-none_signed text l room s at ts rest n pa pr un ca (Parentheses to e) end o low =
+pub none_signed : (text : List ℕ) (w l room : ℕ) (s : Sign) (at : ℕ) (ts rest : List Token) → IsSign s at ts rest
+    → ((e : Expression) (end : List Token) → s ≡ signs.OpenParenthesis → Encloses text signs.CloseParenthesis e rest end → (1 ≤ w → height e < room) → ⊥)
+    → ((op : Increment) (e : Expression) (end : List Token) → s ≡ increment_sign op → Derives text 2 e rest end → Stops 2 end → (1 ≤ w → height e < room) → ⊥)
+    → ((op : UnaryOperator) (e : Expression) (end : List Token) → s ≡ unary_sign op → Derives text 3 e rest end → Stops 3 end → (1 ≤ w → height e < room) → ⊥)
+    → ((to : CType) (e : Expression) (b c end : List Token) → s ≡ signs.OpenParenthesis → 3 ≤ l → IsType to rest b → HasSign signs.CloseParenthesis b c → Derives text 3 e c end → Stops 3 end → (1 ≤ w → height e < room) → ⊥)
+    → NoOperand l room w text ts
+none_signed text w l room s at ts rest n pa pr un ca (Constant to y) end o low = literal_sign y s (other_kind _ _ to at ts end rest o.derives.spells n)
+none_signed text w l room s at ts rest n pa pr un ca (Variable y) end o low = name_not_sign s (other_kind _ _ y.start at ts end rest (name_kind y ts end o.derives.spells) n)
+none_signed text w l room s at ts rest n pa pr un ca (Information to y) end o low = let h = o.derives.spells in keyword_not_sign s (other_kind _ _ to at ts h.0 rest h.6 n)
+none_signed text w l room s at ts rest n pa pr un ca (Call y es) end o low = let h = o.derives.spells in name_not_sign s (other_kind _ _ y.start at ts h.0 rest (name_kind y ts h.0 h.2) n)
+none_signed text w l room s at ts rest n pa pr un ca (Parentheses to e) end o low =
     let h = o.derives.spells in
     let q = sign_same s signs.OpenParenthesis at to ts ts rest h.0 refl n h.2 in
-    pa e end q.0 (record { mid = h.1; spells = subst (λ (z : List Token). Spells text e z h.1) (sym q.2) h.3; closed = h.4 }) (omega arith)
-none_signed text l room s at ts rest n pa pr un ca (Index e to i) end o low = o.head
-none_signed text l room s at ts rest n pa pr un ca (Postfix e op to) end o low = o.head
-none_signed text l room s at ts rest n pa pr un ca (Prefix to op e) end o low =
+    pa e end q.0 (record { mid = h.1; spells = subst (λ (z : List Token). Spells text e z h.1) (sym q.2) h.3; closed = h.4 }) (λ k. let a = low k in omega arith)
+none_signed text w l room s at ts rest n pa pr un ca (Index e to i) end o low = o.head
+none_signed text w l room s at ts rest n pa pr un ca (Postfix e op to) end o low = o.head
+none_signed text w l room s at ts rest n pa pr un ca (Prefix to op e) end o low =
     let h = o.derives.spells in
     let q = sign_same s (increment_sign op) at to ts ts rest h.0 refl n h.1 in
-    pr op e end q.0 (record { fits = h.2; spells = subst (λ (z : List Token). Spells text e z end) (sym q.2) h.3 }) o.closes (omega arith)
-none_signed text l room s at ts rest n pa pr un ca (Unary to op e) end o low =
+    pr op e end q.0 (record { fits = h.2; spells = subst (λ (z : List Token). Spells text e z end) (sym q.2) h.3 }) o.closes (λ k. let a = low k in omega arith)
+none_signed text w l room s at ts rest n pa pr un ca (Unary to op e) end o low =
     let h = o.derives.spells in
     let q = sign_same s (unary_sign op) at to ts ts rest h.0 refl n h.1 in
-    un op e end q.0 (record { fits = h.2; spells = subst (λ (z : List Token). Spells text e z end) (sym q.2) h.3 }) o.closes (omega arith)
-none_signed text l room s at ts rest n pa pr un ca (Cast to type e) end o low =
+    un op e end q.0 (record { fits = h.2; spells = subst (λ (z : List Token). Spells text e z end) (sym q.2) h.3 }) o.closes (λ k. let a = low k in omega arith)
+none_signed text w l room s at ts rest n pa pr un ca (Cast to type e) end o low =
     let h = o.derives.spells in
     let q = sign_same s signs.OpenParenthesis at to ts ts rest h.0 refl n h.3 in
-    ca type e h.1 h.2 end q.0 o.derives.fits (subst (λ (z : List Token). IsType type z h.1) (sym q.2) h.4) h.5 (record { fits = h.6; spells = h.7 }) o.closes (omega arith)
-none_signed text l room s at ts rest n pa pr un ca (Binary e to op f) end o low = o.head
-none_signed text l room s at ts rest n pa pr un ca (Conditional e to f g) end o low = o.head
-none_signed text l room s at ts rest n pa pr un ca (Assign e to op f) end o low = o.head
-none_signed text l room s at ts rest n pa pr un ca (Comma e to f) end o low = o.head
+    ca type e h.1 h.2 end q.0 o.derives.fits (subst (λ (z : List Token). IsType type z h.1) (sym q.2) h.4) h.5 (record { fits = h.6; spells = h.7 }) o.closes (λ k. let a = low k in omega arith)
+none_signed text w l room s at ts rest n pa pr un ca (Binary e to op f) end o low = o.head
+none_signed text w l room s at ts rest n pa pr un ca (Conditional e to f g) end o low = o.head
+none_signed text w l room s at ts rest n pa pr un ca (Assign e to op f) end o low = o.head
+none_signed text w l room s at ts rest n pa pr un ca (Comma e to f) end o low = o.head
 
 pub not_open : (s : Sign) → s ≡ signs.OpenParenthesis → (op : Increment) → increment_of s ≡ Some op → ⊥
 not_open s e op p = let q : increment_of signs.OpenParenthesis ≡ Some op = ap increment_of (sym e) ∙ p in cc
@@ -213,17 +213,17 @@ pub not_open_unary : (s : Sign) → s ≡ signs.OpenParenthesis → (op : UnaryO
 not_open_unary s e op p = let q : unary_of signs.OpenParenthesis ≡ Some op = ap unary_of (sym e) ∙ p in cc
 
 -- a sign that is no operator before an operand and no parenthesis
-pub no_operator : (text : List ℕ) (l room : ℕ) (s : Sign) (at : ℕ) (ts rest : List Token) → IsSign s at ts rest → (s ≡ signs.OpenParenthesis → ⊥) → increment_of s ≡ None → unary_of s ≡ None → NoOperand text l room ts
-no_operator text l room s at ts rest n a b c =
-    none_signed text l room s at ts rest n
+pub no_operator : (text : List ℕ) (w l room : ℕ) (s : Sign) (at : ℕ) (ts rest : List Token) → IsSign s at ts rest → (s ≡ signs.OpenParenthesis → ⊥) → increment_of s ≡ None → unary_of s ≡ None → NoOperand l room w text ts
+no_operator text w l room s at ts rest n a b c =
+    none_signed text w l room s at ts rest n
     (λ e end p x low. a p)
     (λ op e end p d st low. let q : None ≡ Some op = sym b ∙ ap increment_of p ∙ increment_again op in cc)
     (λ op e end p d st low. let q : None ≡ Some op = sym c ∙ ap unary_of p ∙ unary_again op in cc)
     (λ to e b c end p f t z d st low. a p)
 
-pub no_room : (text : List ℕ) (l : ℕ) (s : Sign) (at : ℕ) (ts rest : List Token) → IsSign s at ts rest → NoOperand text l 0 ts
+pub no_room : (text : List ℕ) (l : ℕ) (s : Sign) (at : ℕ) (ts rest : List Token) → IsSign s at ts rest → NoOperand l 0 1 text ts
 no_room text l s at ts rest n =
-    none_signed text l 0 s at ts rest n (λ e end p x low. absurd (omega arith)) (λ op e end p d st low. absurd (omega arith)) (λ op e end p d st low. absurd (omega arith)) (λ to e b c end p f t z d st low. absurd (omega arith))
+    none_signed text 1 l 0 s at ts rest n (λ e end p x low. let a = low (omega arith) in absurd (omega arith)) (λ op e end p d st low. let a = low (omega arith) in absurd (omega arith)) (λ op e end p d st low. let a = low (omega arith) in absurd (omega arith)) (λ to e b c end p f t z d st low. let a = low (omega arith) in absurd (omega arith))
 
 unary_no_increment : (o : UnaryOperator) (op : Increment) → increment_of (unary_sign o) ≡ Some op → ⊥
 unary_no_increment unary_operators.Plus op e = cc
@@ -249,20 +249,20 @@ open_no_unary unary_operators.Complement e = cc
 open_no_unary unary_operators.Indirection e = cc
 open_no_unary unary_operators.AddressOf e = cc
 
-pub no_prefixed : (text : List ℕ) (l room : ℕ) (s : Sign) (op : Increment) (at : ℕ) (ts rest : List Token) → IsSign s at ts rest → increment_of s ≡ Some op → NoExpression text 2 (room - 1) rest → NoOperand text l room ts
-no_prefixed text l room s op at ts rest n p x =
-    none_signed text l room s at ts rest n
+pub no_prefixed : (text : List ℕ) (w l room : ℕ) (s : Sign) (op : Increment) (at : ℕ) (ts rest : List Token) → IsSign s at ts rest → increment_of s ≡ Some op → NoExpression 2 (room - 1) w text rest → NoOperand l room w text ts
+no_prefixed text w l room s op at ts rest n p x =
+    none_signed text w l room s at ts rest n
     (λ e end q y low. not_open s q op p)
-    (λ o e end q d st low. x e end d st (omega arith))
+    (λ o e end q d st low. x e end d st (λ k. let a = low k in omega arith))
     (λ o e end q d st low. let r : increment_of (unary_sign o) ≡ Some op = ap increment_of (sym q) ∙ p in unary_no_increment o op r)
     (λ to e b c end q f t z d st low. not_open s q op p)
 
-pub no_unary : (text : List ℕ) (l room : ℕ) (s : Sign) (op : UnaryOperator) (at : ℕ) (ts rest : List Token) → IsSign s at ts rest → unary_of s ≡ Some op → NoExpression text 3 (room - 1) rest → NoOperand text l room ts
-no_unary text l room s op at ts rest n p x =
-    none_signed text l room s at ts rest n
+pub no_unary : (text : List ℕ) (w l room : ℕ) (s : Sign) (op : UnaryOperator) (at : ℕ) (ts rest : List Token) → IsSign s at ts rest → unary_of s ≡ Some op → NoExpression 3 (room - 1) w text rest → NoOperand l room w text ts
+no_unary text w l room s op at ts rest n p x =
+    none_signed text w l room s at ts rest n
     (λ e end q y low. not_open_unary s q op p)
     (λ o e end q d st low. let r : unary_of (increment_sign o) ≡ Some op = ap unary_of (sym q) ∙ p in increment_no_unary o op r)
-    (λ o e end q d st low. x e end d st (omega arith))
+    (λ o e end q d st low. x e end d st (λ k. let a = low k in omega arith))
     (λ to e b c end q f t z d st low. not_open_unary s q op p)
 
 -- ---- behind `(`
@@ -270,16 +270,16 @@ no_unary text l room s op at ts rest n p x =
 abbrev Open : ℕ → List Token → List Token → Type 0
 Open at ts rest = IsSign signs.OpenParenthesis at ts rest
 
-pub none_open : (text : List ℕ) (l room at : ℕ) (ts rest : List Token) → Open at ts rest
-    → ((e : Expression) (end : List Token) → Encloses text signs.CloseParenthesis e rest end → height e ≤ room → ⊥)
-    → ((to : CType) (e : Expression) (b c end : List Token) → 3 ≤ l → IsType to rest b → HasSign signs.CloseParenthesis b c → Derives text 3 e c end → Stops 3 end → height e ≤ room → ⊥)
-    → NoOperand text l (room + 1) ts
-none_open text l room at ts rest n pa ca =
-    none_signed text l (room + 1) signs.OpenParenthesis at ts rest n
-    (λ e end q x low. pa e end x (omega arith))
+pub none_open : (text : List ℕ) (w l room at : ℕ) (ts rest : List Token) → Open at ts rest
+    → ((e : Expression) (end : List Token) → Encloses text signs.CloseParenthesis e rest end → (1 ≤ w → height e ≤ room) → ⊥)
+    → ((to : CType) (e : Expression) (b c end : List Token) → 3 ≤ l → IsType to rest b → HasSign signs.CloseParenthesis b c → Derives text 3 e c end → Stops 3 end → (1 ≤ w → height e ≤ room) → ⊥)
+    → NoOperand l (room + 1) w text ts
+none_open text w l room at ts rest n pa ca =
+    none_signed text w l (room + 1) signs.OpenParenthesis at ts rest n
+    (λ e end q x low. pa e end x (λ k. let a = low k in omega arith))
     (λ o e end q d st low. open_no_increment o q)
     (λ o e end q d st low. open_no_unary o q)
-    (λ to e b c end q f t z d st low. ca to e b c end f t z d st (omega arith))
+    (λ to e b c end q f t z d st low. ca to e b c end f t z d st (λ k. let a = low k in omega arith))
 
 type_front : (to : CType) (ts rest : List Token) → IsType to ts rest → front ts ≡ 7
 type_front to ts rest t = base_front to.base ts t.0 t.1
@@ -294,22 +294,19 @@ close_base ts rest h b end g = let a = base_front b ts end g in let q : front ts
 abbrev pub OnlyType : List Token → List Token → Type 0
 OnlyType ts mid = (to : CType) (rest : List Token) → IsType to ts rest → NoBase rest → NoStar rest → mid ≡ rest
 
-pub no_cast : (text : List ℕ) (l room at : ℕ) (to : CType) (ts rest mid : List Token) → Open at ts rest → IsType to rest mid → OnlyType rest mid
-    → ((e : Expression) (c end : List Token) → HasSign signs.CloseParenthesis mid c → Derives text 3 e c end → Stops 3 end → height e ≤ room → ⊥)
-    → NoOperand text l (room + 1) ts
-no_cast text l room at to ts rest mid n t only x =
-    none_open text l room at ts rest n
+pub no_cast : (text : List ℕ) (w l room at : ℕ) (to : CType) (ts rest mid : List Token) → Open at ts rest → IsType to rest mid → OnlyType rest mid
+    → ((e : Expression) (c end : List Token) → HasSign signs.CloseParenthesis mid c → Derives text 3 e c end → Stops 3 end → (1 ≤ w → height e ≤ room) → ⊥)
+    → NoOperand l (room + 1) w text ts
+no_cast text w l room at to ts rest mid n t only x =
+    none_open text w l room at ts rest n
     (λ e end y low. no_type_inside text to e rest mid end t y)
     (λ u e b c end f g z d st low. x e c end (subst (λ (y : List Token). HasSign signs.CloseParenthesis y c) (sym (only u b g (close_base b c z) (close_star b c z))) z) d st low)
 
-pub not_cast : (text : List ℕ) (l room at : ℕ) (to : CType) (ts rest mid after : List Token) → Open at ts rest → IsType to rest mid → OnlyType rest mid → HasSign signs.CloseParenthesis mid after → NoExpression text 3 room after → NoOperand text l (room + 1) ts
-not_cast text l room at to ts rest mid after n t only h x =
-    no_cast text l room at to ts rest mid n t only
+pub not_cast : (text : List ℕ) (w l room at : ℕ) (to : CType) (ts rest mid after : List Token) → Open at ts rest → IsType to rest mid → OnlyType rest mid → HasSign signs.CloseParenthesis mid after → NoExpression 3 room w text after → NoOperand l (room + 1) w text ts
+not_cast text w l room at to ts rest mid after n t only h x =
+    no_cast text w l room at to ts rest mid n t only
     (λ e c end z d st low. x e end (let q = has_same signs.CloseParenthesis mid mid c after refl z h in record { fits = d.fits; spells = subst (λ (y : List Token). Spells text e y end) q d.spells }) st low)
 
-pub no_group : (text : List ℕ) (l room at : ℕ) (ts rest : List Token) → Open at ts rest → ((3 ≤ l) → NoBase rest) → NoneEnclosed text signs.CloseParenthesis room rest → NoOperand text l (room + 1) ts
-no_group text l room at ts rest n b x =
-    none_open text l room at ts rest n (λ e end y low. x e end y low) (λ u e m c end f g z d st low. b f u.base g.0 g.1)
-
-pub same_rest : {A B : Type 0} {a b : A} {x y : B} → ◌≡◌ {A = Option (A × B)} (Some (a, x)) (Some (b, y)) → x ≡ y
-same_rest {A = A} {B = B} {a = a} {b = b} {x = x} {y = y} e = let q : ◌≡◌ {A = A × B} (a, x) (b, y) = cc in ap (λ (z : A × B). z.1) q
+pub no_group : (text : List ℕ) (w l room at : ℕ) (ts rest : List Token) → Open at ts rest → ((3 ≤ l) → NoBase rest) → NoneEnclosed signs.CloseParenthesis room w text rest → NoOperand l (room + 1) w text ts
+no_group text w l room at ts rest n b x =
+    none_open text w l room at ts rest n (λ e end y low. x e end y low) (λ u e m c end f g z d st low. b f u.base g.0 g.1)

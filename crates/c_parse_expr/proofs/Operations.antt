@@ -157,46 +157,46 @@ tailed text e (And at f) ts end b = ((b.mid, b.begins, b.behind.derives.fits, b.
 
 -- ---- refusals behind a sign
 
-pub none_indexed : (text : List ℕ) (room : ℕ) (ts : List Token) → NoneEnclosed text signs.CloseBracket room ts → NoneBehind text room Index ts
-none_indexed text room ts n (At at i) end e b low = n i end b low
-none_indexed text room ts n (After op at) end e b low = absurd cc
-none_indexed text room ts n (With at op f) end e b low = absurd cc
-none_indexed text room ts n (Choose at f g) end e b low = absurd cc
-none_indexed text room ts n (Set at op f) end e b low = absurd cc
-none_indexed text room ts n (And at f) end e b low = absurd cc
+pub none_indexed : (text : List ℕ) (w room : ℕ) (ts : List Token) → NoneEnclosed signs.CloseBracket room w text ts → NoneBehind room Index w text ts
+none_indexed text w room ts n (At at i) end e b low = n i end b low
+none_indexed text w room ts n (After op at) end e b low = absurd cc
+none_indexed text w room ts n (With at op f) end e b low = absurd cc
+none_indexed text w room ts n (Choose at f g) end e b low = absurd cc
+none_indexed text w room ts n (Set at op f) end e b low = absurd cc
+none_indexed text w room ts n (And at f) end e b low = absurd cc
 
 same_infix : (a b : Infix') → Infix a ≡ Infix b → a ≡ b
 same_infix a b e = cc
 
-at_level : (text : List ℕ) (room a b : ℕ) (f : Expression) (ts end : List Token) → a ≡ b → NoExpression text b room ts → Reads text a f ts end → height f ≤ room → ⊥
-at_level text room a b f ts end p n r low = n f end (record { fits = let x = r.derives.fits in omega arith; spells = r.derives.spells }) (let s = r.stops in omega arith) low
+at_level : (text : List ℕ) (w room a b : ℕ) (f : Expression) (ts end : List Token) → a ≡ b → NoExpression b room w text ts → Reads text a f ts end → (1 ≤ w → height f ≤ room) → ⊥
+at_level text w room a b f ts end p n r low = n f end (record { fits = let x = r.derives.fits in omega arith; spells = r.derives.spells }) (let s = r.stops in omega arith) low
 
-pub none_right : (text : List ℕ) (room : ℕ) (op : Infix') (ts : List Token) → NoExpression text (right op) room ts → NoneBehind text room (Infix op) ts
-none_right text room op ts n (At at i) end e b low = absurd cc
-none_right text room op ts n (After op' at) end e b low = absurd cc
-none_right text room op ts n (With at op' f) end e b low = at_level text room (level op' - 1) (right op) f ts end (ap right (same_infix (infixes.Binary op') op e)) n b low
-none_right text room op ts n (Choose at f g) end e b low = absurd cc
-none_right text room op ts n (Set at op' f) end e b low = at_level text room 15 (right op) f ts end (ap right (same_infix (infixes.Assign op') op e)) n b low
-none_right text room op ts n (And at f) end e b low = at_level text room 15 (right op) f ts end (ap right (same_infix infixes.Comma op e)) n b low
+pub none_right : (text : List ℕ) (w room : ℕ) (op : Infix') (ts : List Token) → NoExpression (right op) room w text ts → NoneBehind room (Infix op) w text ts
+none_right text w room op ts n (At at i) end e b low = absurd cc
+none_right text w room op ts n (After op' at) end e b low = absurd cc
+none_right text w room op ts n (With at op' f) end e b low = at_level text w room (level op' - 1) (right op) f ts end (ap right (same_infix (infixes.Binary op') op e)) n b low
+none_right text w room op ts n (Choose at f g) end e b low = absurd cc
+none_right text w room op ts n (Set at op' f) end e b low = at_level text w room 15 (right op) f ts end (ap right (same_infix (infixes.Assign op') op e)) n b low
+none_right text w room op ts n (And at f) end e b low = at_level text w room 15 (right op) f ts end (ap right (same_infix infixes.Comma op e)) n b low
 
-pub none_first : (text : List ℕ) (room : ℕ) (ts : List Token) → NoneEnclosed text signs.Colon room ts → NoneBehind text room Conditional ts
-none_first text room ts n (At at i) end e b low = absurd cc
-none_first text room ts n (After op at) end e b low = absurd cc
-none_first text room ts n (With at op f) end e b low = absurd cc
-none_first text room ts n (Choose at f g) end e b low = n f b.0 b.1 (omega arith)
-none_first text room ts n (Set at op f) end e b low = absurd cc
-none_first text room ts n (And at f) end e b low = absurd cc
+pub none_first : (text : List ℕ) (w room : ℕ) (ts : List Token) → NoneEnclosed signs.Colon room w text ts → NoneBehind room Conditional w text ts
+none_first text w room ts n (At at i) end e b low = absurd cc
+none_first text w room ts n (After op at) end e b low = absurd cc
+none_first text w room ts n (With at op f) end e b low = absurd cc
+none_first text w room ts n (Choose at f g) end e b low = n f b.0 b.1 (λ k. let a = low k in omega arith)
+none_first text w room ts n (Set at op f) end e b low = absurd cc
+none_first text w room ts n (And at f) end e b low = absurd cc
 
-pub none_second : (text : List ℕ) (room : ℕ) (a : Expression) (ts mid : List Token) → Encloses text signs.Colon a ts mid → NoExpression text 14 room mid → NoneBehind text room Conditional ts
-none_second text room a ts mid x n (At at i) end e b low = absurd cc
-none_second text room a ts mid x n (After op at) end e b low = absurd cc
-none_second text room a ts mid x n (With at op f) end e b low = absurd cc
-none_second text room a ts mid x n (Choose at f g) end e b low =
+pub none_second : (text : List ℕ) (w room : ℕ) (a : Expression) (ts mid : List Token) → Encloses text signs.Colon a ts mid → NoExpression 14 room w text mid → NoneBehind room Conditional w text ts
+none_second text w room a ts mid x n (At at i) end e b low = absurd cc
+none_second text w room a ts mid x n (After op at) end e b low = absurd cc
+none_second text w room a ts mid x n (With at op f) end e b low = absurd cc
+none_second text w room a ts mid x n (Choose at f g) end e b low =
     let q = enclosed_once text signs.Colon a f ts mid b.0 refl x b.1 in
     let r = b.2 in
-    n g end (record { fits = r.derives.fits; spells = subst (λ (z : List Token). Spells text g z end) (sym q.1) r.derives.spells }) r.stops (omega arith)
-none_second text room a ts mid x n (Set at op f) end e b low = absurd cc
-none_second text room a ts mid x n (And at f) end e b low = absurd cc
+    n g end (record { fits = r.derives.fits; spells = subst (λ (z : List Token). Spells text g z end) (sym q.1) r.derives.spells }) r.stops (λ k. let a = low k in omega arith)
+none_second text w room a ts mid x n (Set at op f) end e b low = absurd cc
+none_second text w room a ts mid x n (And at f) end e b low = absurd cc
 
 pub right_behind : (text : List ℕ) (op : Infix') (at : ℕ) (e : Expression) (ts rest : List Token) → Derives text (right op) e ts rest → Stops (right op) rest → IsBehind text (Infix op) at (with op at e) ts rest
 right_behind text (infixes.Binary op) at e ts rest h s = record { operation = refl; place = refl; behind = record { derives = h; stops = s } }
@@ -230,24 +230,24 @@ begins_so text e s ts end x sign' at mid h =
     let f = x.fits in
     (ap operation_of q.0 ∙ again (operation s), omega arith, subst (λ (z : List Token). Behind text s z end) (sym q.2) b.behind)
 
-pub no_sign : (text : List ℕ) (room : ℕ) (e : Expression) (ts : List Token) → ((s : Sign) (at : ℕ) (rest : List Token) → IsSign s at ts rest → ⊥) → NoStep text room e ts
-no_sign text room e ts n s end x low = let b = begun text e s ts end x.tail x.closes in n (sign (operation s)) (place s) b.mid b.begins
+pub no_sign : (text : List ℕ) (w room : ℕ) (e : Expression) (ts : List Token) → ((s : Sign) (at : ℕ) (rest : List Token) → IsSign s at ts rest → ⊥) → NoStep room e w text ts
+no_sign text w room e ts n s end x low = let b = begun text e s ts end x.tail x.closes in n (sign (operation s)) (place s) b.mid b.begins
 
-pub no_operation : (text : List ℕ) (room : ℕ) (e : Expression) (sign' : Sign) (at : ℕ) (ts mid : List Token) → IsSign sign' at ts mid → operation_of sign' ≡ None → NoStep text room e ts
-no_operation text room e sign' at ts mid h p s end x low = let b = begins_so text e s ts end x sign' at mid h in let q : None ≡ Some (operation s) = sym p ∙ b.0 in absurd cc
+pub no_operation : (text : List ℕ) (w room : ℕ) (e : Expression) (sign' : Sign) (at : ℕ) (ts mid : List Token) → IsSign sign' at ts mid → operation_of sign' ≡ None → NoStep room e w text ts
+no_operation text w room e sign' at ts mid h p s end x low = let b = begins_so text e s ts end x sign' at mid h in let q : None ≡ Some (operation s) = sym p ∙ b.0 in absurd cc
 
-pub too_loose : (text : List ℕ) (room : ℕ) (e : Expression) (sign' : Sign) (o : Operation) (at : ℕ) (ts mid : List Token) → IsSign sign' at ts mid → operation_of sign' ≡ Some o → bound o < rank e → NoStep text room e ts
-too_loose text room e sign' o at ts mid h p f s end x low =
+pub too_loose : (text : List ℕ) (w room : ℕ) (e : Expression) (sign' : Sign) (o : Operation) (at : ℕ) (ts mid : List Token) → IsSign sign' at ts mid → operation_of sign' ≡ Some o → bound o < rank e → NoStep room e w text ts
+too_loose text w room e sign' o at ts mid h p f s end x low =
     let b = begins_so text e s ts end x sign' at mid h in
     let q : o ≡ operation s = some_same o (operation s) (sym p ∙ b.0) in
     let r = ap bound q in let g = b.1 in absurd (omega arith)
 
-pub too_high : (text : List ℕ) (room : ℕ) (e : Expression) (ts : List Token) → room ≤ height e → NoStep text room e ts
-too_high text room e ts f s end x low = let a = applied_height e s in absurd (omega arith)
+pub too_high : (text : List ℕ) (room : ℕ) (e : Expression) (ts : List Token) → room ≤ height e → NoStep room e 1 text ts
+too_high text room e ts f s end x low = let a = applied_height e s in let b = low (omega arith) in absurd (omega arith)
 
-pub none_behind : (text : List ℕ) (room : ℕ) (e : Expression) (sign' : Sign) (o : Operation) (at : ℕ) (ts mid : List Token) → IsSign sign' at ts mid → operation_of sign' ≡ Some o → NoneBehind text (room - 1) o mid → NoStep text room e ts
-none_behind text room e sign' o at ts mid h p n s end x low =
+pub none_behind : (text : List ℕ) (w room : ℕ) (e : Expression) (sign' : Sign) (o : Operation) (at : ℕ) (ts mid : List Token) → IsSign sign' at ts mid → operation_of sign' ≡ Some o → NoneBehind (room - 1) o w text mid → NoStep room e w text ts
+none_behind text w room e sign' o at ts mid h p n s end x low =
     let b = begins_so text e s ts end x sign' at mid h in
     let q : o ≡ operation s = some_same o (operation s) (sym p ∙ b.0) in
     let a = applied_height e s in
-    n s end (sym q) b.2 (omega arith)
+    n s end (sym q) b.2 (λ k. let l = low k in omega arith)

@@ -1,16 +1,21 @@
--- What stands at the front of tokens; and that nothing of the kind stands there.
-use Rattle.std.specs.Prelude.{◌≡◌, ◌≤◌, ◌-◌, ℕ, List, [], ◌∷◌}
+-- What stands at the front of tokens; that nothing of the kind stands there; and that tokens are such a phrase, whatever follows. The limit of nesting counts where 1 ≤ n: where the first n limits hold.
+use Rattle.std.specs.Prelude.{◌≡◌, ◌≤◌, ◌-◌, ◌⊎◌, ℕ, List, [], ◌∷◌, ◌++◌, Some}
 use Rattle.c_lex.specs.declared.sign.Sign.{Sign}
 use Rattle.c_lex.specs.declared.sign.Sign.TheVariants as signs
 use Rattle.c_lex.specs.declared.token.Token.{Token}
-use Rattle.c_syntax.specs.Expression.{Expression, Arguments, height, heights}
-use Rattle.c_syntax.specs.Expressions.{rank, Spells, SpellsArguments, Derives}
+use Rattle.c_syntax.specs.declared.expression.Field.{Field}
+use Rattle.c_syntax.specs.Expression.{Expression, Information, Arguments, height, heights}
+use Rattle.c_syntax.specs.Expressions.{rank, IsField, Spells, SpellsArguments, Derives}
+use Rattle.c_syntax.specs.Faults.{SameFirst, Speaks, Onward}
 use Rattle.c_syntax.specs.Follow.{Stops}
+use Rattle.c_syntax.specs.declared.operator.Increment.{Increment}
+use Rattle.c_syntax.specs.declared.operator.UnaryOperator.{UnaryOperator}
 use Rattle.c_syntax.specs.Operators.{level, conditional, assignment}
+use Rattle.c_syntax.specs.SignReaders.{increment_of, unary_of}
 use Rattle.c_syntax.specs.Steps.{Step, At, After, With, Choose, Set, And, apply, bound, Tail, IsHead, Closes}
-use Rattle.c_syntax.specs.Tokens.{HasSign}
+use Rattle.c_syntax.specs.Tokens.{IsSign, HasSign}
 use Rattle.c_parse_expr.specs.declared.step.Operation.{Operation}
-use Rattle.c_parse_expr.specs.Operations.{operation, place}
+use Rattle.c_parse_expr.specs.Operations.{operation, place, sign}
 use Rattle.c_parse_expr.specs.Steps.{over}
 
 -- an expression of a level, as far as it goes
@@ -19,8 +24,13 @@ pub record Reads (text : List ℕ) (l : ℕ) (e : Expression) (ts rest : List To
   pub stops : Stops l rest
 
 -- no expression of a level stands at the front that nothing goes on with, with at most so many expressions around each part
-abbrev pub NoExpression : List ℕ → ℕ → ℕ → List Token → Type 0
-NoExpression text l room ts = (e : Expression) (end : List Token) → Derives text l e ts end → Stops l end → height e ≤ room → ⊥
+abbrev pub NoExpression : ℕ → ℕ → ℕ → List ℕ → List Token → Type 0
+NoExpression l room n text ts = (e : Expression) (end : List Token) → Derives text l e ts end → Stops l end → (1 ≤ n → height e ≤ room) → ⊥
+
+pub record HasExpression (l room n : ℕ) (text : List ℕ) (ts : List Token) : Type 0 where
+  pub tree : Expression
+  pub derives : (other : List Token) → Derives text l tree (ts ++ other) other
+  pub low : 1 ≤ n → height tree ≤ room
 
 -- ---- an expression and the sign that ends it
 
@@ -29,13 +39,23 @@ pub record Encloses (text : List ℕ) (close : Sign) (e : Expression) (ts rest :
   pub spells : Spells text e ts mid
   pub closed : HasSign close mid rest
 
-abbrev pub NoneEnclosed : List ℕ → Sign → ℕ → List Token → Type 0
-NoneEnclosed text close room ts = (e : Expression) (end : List Token) → Encloses text close e ts end → height e ≤ room → ⊥
+abbrev pub NoneEnclosed : Sign → ℕ → ℕ → List ℕ → List Token → Type 0
+NoneEnclosed close room n text ts = (e : Expression) (end : List Token) → Encloses text close e ts end → (1 ≤ n → height e ≤ room) → ⊥
+
+pub record HasEnclosed (close : Sign) (room n : ℕ) (text : List ℕ) (ts : List Token) : Type 0 where
+  pub tree : Expression
+  pub encloses : (other : List Token) → Encloses text close tree (ts ++ other) other
+  pub low : 1 ≤ n → height tree ≤ room
 
 -- ---- arguments, and the parenthesis behind them
 
-abbrev pub NoArguments : List ℕ → ℕ → List Token → Type 0
-NoArguments text room ts = (es : Arguments) (end : List Token) → SpellsArguments text es ts end → heights es ≤ room → ⊥
+abbrev pub NoArguments : ℕ → ℕ → List ℕ → List Token → Type 0
+NoArguments room n text ts = (es : Arguments) (end : List Token) → SpellsArguments text es ts end → (1 ≤ n → heights es ≤ room) → ⊥
+
+pub record HasArguments (room n : ℕ) (text : List ℕ) (ts : List Token) : Type 0 where
+  pub trees : Arguments
+  pub spells : (other : List Token) → SpellsArguments text trees (ts ++ other) other
+  pub low : 1 ≤ n → heights trees ≤ room
 
 -- expressions with commas between them
 abbrev pub AreMore : List ℕ → List Expression → List Token → List Token → Type 0
@@ -53,8 +73,8 @@ pub record IsOperand (text : List ℕ) (l : ℕ) (e : Expression) (ts rest : Lis
   pub head : IsHead e
   pub closes : Closes e rest
 
-abbrev pub NoOperand : List ℕ → ℕ → ℕ → List Token → Type 0
-NoOperand text l room ts = (e : Expression) (end : List Token) → IsOperand text l e ts end → height e ≤ room → ⊥
+abbrev pub NoOperand : ℕ → ℕ → ℕ → List ℕ → List Token → Type 0
+NoOperand l room n text ts = (e : Expression) (end : List Token) → IsOperand text l e ts end → (1 ≤ n → height e ≤ room) → ⊥
 
 -- ---- a step behind an operand
 
@@ -63,8 +83,19 @@ pub record IsStep (text : List ℕ) (operand : Expression) (s : Step) (ts rest :
   pub tail : Tail text s ts rest
   pub closes : Closes (apply operand s) rest
 
-abbrev pub NoStep : List ℕ → ℕ → Expression → List Token → Type 0
-NoStep text room operand ts = (s : Step) (end : List Token) → IsStep text operand s ts end → height (apply operand s) ≤ room → ⊥
+abbrev pub NoStep : ℕ → Expression → ℕ → List ℕ → List Token → Type 0
+NoStep room operand n text ts = (s : Step) (end : List Token) → IsStep text operand s ts end → (1 ≤ n → height (apply operand s) ≤ room) → ⊥
+
+pub record AStep (room : ℕ) (operand : Expression) (l n : ℕ) (text : List ℕ) (ts : List Token) : Type 0 where
+  pub step : Step
+  pub fits : rank operand ≤ bound step
+  pub loose : rank (apply operand step) ≤ l
+  pub tail : (other : List Token) → Tail text step (ts ++ other) other
+  pub low : 1 ≤ n → height (apply operand step) ≤ room
+
+-- of a level or a tighter one; the operand may stand alone
+abbrev pub HasStep : ℕ → Expression → ℕ → ℕ → List ℕ → List Token → Type 0
+HasStep room operand l n text ts = (ts ≡ []) ⊎ AStep room operand l n text ts
 
 -- ---- what follows the sign of a step
 
@@ -81,5 +112,45 @@ pub record IsBehind (text : List ℕ) (o : Operation) (at : ℕ) (s : Step) (ts 
   pub place : place s ≡ at
   pub behind : Behind text s ts rest
 
-abbrev pub NoneBehind : List ℕ → ℕ → Operation → List Token → Type 0
-NoneBehind text room o ts = (s : Step) (end : List Token) → operation s ≡ o → Behind text s ts end → over s ≤ room → ⊥
+abbrev pub NoneBehind : ℕ → Operation → ℕ → List ℕ → List Token → Type 0
+NoneBehind room o n text ts = (s : Step) (end : List Token) → operation s ≡ o → Behind text s ts end → (1 ≤ n → over s ≤ room) → ⊥
+
+-- behind the sign at a place
+pub record HasBehind (room : ℕ) (o : Operation) (at n : ℕ) (text : List ℕ) (ts : List Token) : Type 0 where
+  pub step : Step
+  pub operation : operation step ≡ o
+  pub tail : (begin other : List Token) → IsSign (sign o) at begin (ts ++ other) → Tail text step begin other
+  pub low : 1 ≤ n → over step ≤ room
+
+-- ---- the field of an exception's record that is read
+
+abbrev pub NoField : ℕ → List ℕ → List Token → Type 0
+NoField n text ts = (field : Field) (end : List Token) → IsField text field ts end → ⊥
+
+pub record HasField (n : ℕ) (text : List ℕ) (ts : List Token) : Type 0 where
+  pub field : Field
+  pub is : (other : List Token) → IsField text field (ts ++ other) other
+
+abbrev pub NoInformation : ℕ → List ℕ → List Token → Type 0
+NoInformation n text ts = (at : ℕ) (field : Field) (end : List Token) → Spells text (Information at field) ts end → ⊥
+
+pub record HasInformation (n : ℕ) (text : List ℕ) (ts : List Token) : Type 0 where
+  pub at : ℕ
+  pub field : Field
+  pub spells : (other : List Token) → Spells text (Information at field) (ts ++ other) other
+
+-- ---- the first token
+
+-- some expression begins with it
+abbrev pub Begins : List Token → Type 0
+Begins ts = (text : List ℕ) → Speaks text → Onward (HasExpression assignment 0) 0 text [] ts
+
+-- no expression begins with it
+abbrev pub NeverBegins : List Token → Type 0
+NeverBegins ts = (text : List ℕ) (other : List Token) → SameFirst ts other → (e : Expression) (end : List Token) → Spells text e other end → ⊥
+
+-- a sign that begins an operand
+pub data Opens (s : Sign) : Type 0 where
+  Parenthesis : s ≡ signs.OpenParenthesis → Opens s
+  Steps : (op : Increment) → increment_of s ≡ Some op → Opens s
+  Operates : (op : UnaryOperator) → unary_of s ≡ Some op → Opens s

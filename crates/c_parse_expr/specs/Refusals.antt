@@ -1,10 +1,31 @@
 -- What refusals say.
+use Rattle.std.specs.Prelude.{ℕ, List}
+use Rattle.c_lex.specs.declared.token.Token.{Token}
+use Rattle.c_syntax.specs.Faults.{Family, Failed}
+use Rattle.c_syntax.specs.Viable.{IsFault}
+use Rattle.c_parse_expr.specs.declared.refusal.Count.{Count}
+use Rattle.c_parse_expr.specs.declared.refusal.Count.TheVariants.{Locals, Parameters, Functions, Globals, Funclets}
 use Rattle.c_parse_expr.specs.declared.refusal.ParseErr.{ParseErr}
 use Rattle.c_parse_expr.specs.declared.refusal.ParseErr.TheVariants.{Unexpected, TooDeep, TooMany, Memory}
 
--- want of memory says nothing
-abbrev pub Refuses : ParseErr → Type 0 → Type 0
-Refuses (Unexpected at) P = P
-Refuses (TooDeep at) P = P
-Refuses (TooMany at what) P = P
-Refuses Memory P = Unit {0}
+-- the number of a limit, in the order in which they hold; nesting is the first
+abbrev pub number : Count → ℕ
+number Locals = 2
+number Parameters = 3
+number Functions = 4
+number Globals = 5
+number Funclets = 6
+
+-- A refusal stands where the reading of a phrase fails; want of memory says nothing.
+abbrev pub Placed : ParseErr → Family → Family → List ℕ → List Token → Type 0
+Placed (Unexpected at) No Has text ts = Failed 0 at No Has text ts
+Placed (TooDeep at) No Has text ts = Failed 1 at No Has text ts
+Placed (TooMany at what) No Has text ts = Failed (number what) at No Has text ts
+Placed Memory No Has text ts = Unit {0}
+
+-- A refusal stands at the first fault of a text's tokens, and says which limit excludes every program that goes on there.
+abbrev pub Refuses : ParseErr → List ℕ → List Token → Type 0
+Refuses (Unexpected at) text ts = IsFault 0 at text ts
+Refuses (TooDeep at) text ts = IsFault 1 at text ts
+Refuses (TooMany at what) text ts = IsFault (number what) at text ts
+Refuses Memory text ts = Unit {0}

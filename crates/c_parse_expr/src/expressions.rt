@@ -1,20 +1,21 @@
 //! Expressions by the levels of their operators.
 
-ghost use Rattle.std.specs.Prelude.{◌≡◌, ◌≤◌, ◌<◌, ◌+◌, max, map, IfOk, IfErr};
+ghost use Rattle.std.specs.Prelude.{◌≡◌, ◌≤◌, ◌<◌, ◌+◌, List, max, map, IfOk, IfErr};
 ghost use Rattle.c_lex.specs.declared.sign.Sign.TheVariants as signs;
+ghost use Rattle.c_lex.specs.declared.token.Token.{Token};
 ghost use Rattle.c_syntax.specs.Expression.{expression, arguments, height, heights};
 ghost use Rattle.c_syntax.specs.Expressions.{SpellsArguments, Derives};
-ghost use Rattle.c_syntax.specs.Follow.{Stops, sign_follows};
+ghost use Rattle.c_syntax.specs.Follow.{Stops, sign_follows, follows};
 ghost use Rattle.c_syntax.specs.Steps as steps;
-ghost use Rattle.c_syntax.specs.Tokens.{IsSign, IsName};
+ghost use Rattle.c_syntax.specs.Tokens.{IsSign, IsName, HasSign};
 ghost use Rattle.c_parse_type.specs.Bases.{NoBase};
 ghost use Rattle.c_parse_expr.specs.declared.step.Operation.TheVariants as operations;
 ghost use Rattle.c_parse_expr.specs.declared.refusal.ParseErr.TheVariants.{Memory};
-ghost use Rattle.c_parse_expr.specs.Refusals.{Refuses};
-ghost use Rattle.c_parse_expr.specs.Readings.{NoExpression, Encloses, NoneEnclosed, NoArguments, IsOperand, NoOperand, IsStep, NoStep, IsBehind, NoneBehind};
+ghost use Rattle.c_parse_expr.specs.Refusals.{Placed};
+ghost use Rattle.c_parse_expr.specs.Readings.{NoExpression, HasExpression, Encloses, NoneEnclosed, HasEnclosed, NoArguments, HasArguments, IsOperand, NoOperand, IsStep, NoStep, HasStep, IsBehind, NoneBehind, HasBehind};
 ghost use Rattle.c_parse_expr.specs.Steps as code_steps;
 
-use crate::fault::{begins, departure};
+use crate::fault::{begins, departure, opens};
 use crate::refusal::{ParseErr, too_deep, unexpected};
 use crate::step::{
     Operation, Step, apply, first_sign, operation_of, prefix, rank, unary, variable,
@@ -97,7 +98,7 @@ pub fn expression<'a>(
     ensures found { IfOk result (λ x. Derives text.now level (expression x.expr) tokens.now x.rest.now) }
     ensures stops { IfOk result (λ x. Stops level x.rest.now) }
     ensures low { IfOk result (λ x. x.over ≤ room) }
-    ensures refused { IfErr result (λ e. Refuses e (NoExpression text.now level room tokens.now)) }
+    ensures refused { IfErr result (λ e. Placed e (NoExpression level room) (HasExpression level room) text.now tokens.now) }
 {
     let mut left = operand(alloc, text, room, level, tokens)?;
     while follows(left.rest) <= level {
@@ -119,7 +120,7 @@ fn step<'a>(
     ensures found { IfOk result (λ x. IsStep text.now (expression operand.now.expr) (code_steps.step x.step) operand.now.rest.now x.rest.now) }
     ensures fits { IfOk result (λ x. operand.now.over < room) }
     ensures low { IfOk result (λ x. x.over < room) }
-    ensures refused { IfErr result (λ e. Refuses e (NoStep text.now room (expression operand.now.expr) operand.now.rest.now)) }
+    ensures refused { IfErr result (λ e. Placed e (NoStep room (expression operand.now.expr)) (HasStep room (expression operand.now.expr) (follows operand.now.rest.now)) text.now operand.now.rest.now) }
 {
     let Some((sign, at, rest)) = first_sign(operand.rest) else {
         return Err(unexpected(text, operand.rest));
@@ -149,7 +150,7 @@ fn operated<'a>(
     requires { room < 64 }
     ensures found { IfOk result (λ x. IsBehind text.now operation at (code_steps.step x.step) tokens.now x.rest.now) }
     ensures low { IfOk result (λ x. x.over ≤ room) }
-    ensures refused { IfErr result (λ e. Refuses e (NoneBehind text.now room operation tokens.now)) }
+    ensures refused { IfErr result (λ e. Placed e (NoneBehind room operation) (HasBehind room operation at) text.now tokens.now) }
 {
     match operation {
         Operation::Index => {
@@ -191,7 +192,7 @@ fn chosen<'a>(
     requires { room < 64 }
     ensures found { IfOk result (λ x. IsBehind text.now operations.Conditional at (code_steps.step x.step) tokens.now x.rest.now) }
     ensures low { IfOk result (λ x. x.over ≤ room) }
-    ensures refused { IfErr result (λ e. Refuses e (NoneBehind text.now room operations.Conditional tokens.now)) }
+    ensures refused { IfErr result (λ e. Placed e (NoneBehind room operations.Conditional) (HasBehind room operations.Conditional at) text.now tokens.now) }
 {
     let yes = enclosed(alloc, text, room, Sign::Colon, tokens)?;
     let no = expression(alloc, text, room, 14, yes.rest)?;
@@ -215,7 +216,7 @@ fn enclosed<'a>(
     requires close { sign_follows close ≡ 17 }
     ensures found { IfOk result (λ x. Encloses text.now close (expression x.expr) tokens.now x.rest.now) }
     ensures low { IfOk result (λ x. x.over ≤ room) }
-    ensures refused { IfErr result (λ e. Refuses e (NoneEnclosed text.now close room tokens.now)) }
+    ensures refused { IfErr result (λ e. Placed e (NoneEnclosed close room) (HasEnclosed close room) text.now tokens.now) }
 {
     let inner = expression(alloc, text, room, 16, tokens)?;
     match after(close, inner.rest) {
@@ -240,7 +241,7 @@ fn operand<'a>(
     requires level { 2 ≤ level }
     ensures found { IfOk result (λ x. IsOperand text.now level (expression x.expr) tokens.now x.rest.now) }
     ensures low { IfOk result (λ x. x.over ≤ room) }
-    ensures refused { IfErr result (λ e. Refuses e (NoOperand text.now level room tokens.now)) }
+    ensures refused { IfErr result (λ e. Placed e (NoOperand level room) (HasExpression level room) text.now tokens.now) }
 {
     if let Some((literal, at, rest)) = literal(tokens) {
         let expr = Expr::Literal { at, literal };
@@ -282,7 +283,7 @@ fn named<'a>(
     requires name { IsName name tokens.now rest.now }
     ensures found { IfOk result (λ x. IsOperand text.now level (expression x.expr) tokens.now x.rest.now) }
     ensures low { IfOk result (λ x. x.over ≤ room) }
-    ensures refused { IfErr result (λ e. Refuses e (NoOperand text.now level room tokens.now)) }
+    ensures refused { IfErr result (λ e. Placed e (NoOperand level room) (HasExpression level room) text.now tokens.now) }
 {
     match after(Sign::OpenParenthesis, rest) {
         Some(rest) => {
@@ -301,7 +302,10 @@ fn named<'a>(
 }
 
 /// The refusal of the first token where no argument is within the limit.
-fn no_argument(text: &[u8], tokens: &[Token]) -> ParseErr {
+fn no_argument(text: &[u8], tokens: &[Token]) -> ParseErr
+    requires { (rest : List Token) → HasSign signs.CloseParenthesis tokens.now rest → ⊥ }
+    ensures { Placed result (NoArguments 0) (HasArguments 0) text.now tokens.now }
+{
     if begins(tokens) {
         too_deep(text, tokens)
     } else {
@@ -320,7 +324,7 @@ fn arguments<'a>(
     requires { room ≤ 64 }
     ensures found { IfOk result (λ x. SpellsArguments text.now (arguments (map expression x.exprs.items)) tokens.now x.rest.now) }
     ensures low { IfOk result (λ x. x.over ≤ room) }
-    ensures refused { IfErr result (λ e. Refuses e (NoArguments text.now room tokens.now)) }
+    ensures refused { IfErr result (λ e. Placed e (NoArguments room) (HasArguments room) text.now tokens.now) }
 {
     let mut exprs = Vec::new(alloc);
     if let Some(rest) = after(Sign::CloseParenthesis, tokens) {
@@ -365,16 +369,15 @@ fn signed<'a>(
     requires sign { IsSign sign at tokens.now rest.now }
     ensures found { IfOk result (λ x. IsOperand text.now level (expression x.expr) tokens.now x.rest.now) }
     ensures low { IfOk result (λ x. x.over ≤ room) }
-    ensures refused { IfErr result (λ e. Refuses e (NoOperand text.now level room tokens.now)) }
+    ensures refused { IfErr result (λ e. Placed e (NoOperand level room) (HasExpression level room) text.now tokens.now) }
 {
-    let increment = increment_of(sign);
-    if sign != Sign::OpenParenthesis && increment.is_none() && unary_of(sign).is_none() {
+    if !opens(sign) {
         return Err(unexpected(text, tokens));
     }
     if room == 0 {
         return Err(too_deep(text, tokens));
     }
-    if let Some(operator) = increment {
+    if let Some(operator) = increment_of(sign) {
         let inner = expression(alloc, text, room - 1, 2, rest)?;
         let (over, rest) = (inner.over + 1, inner.rest);
         let expr = prefix(alloc, at, operator, inner.expr)?;
@@ -405,7 +408,7 @@ fn parenthesised<'a>(
     requires sign { IsSign signs.OpenParenthesis at tokens.now rest.now }
     ensures found { IfOk result (λ x. IsOperand text.now level (expression x.expr) tokens.now x.rest.now) }
     ensures low { IfOk result (λ x. x.over ≤ room + 1) }
-    ensures refused { IfErr result (λ e. Refuses e (NoOperand text.now level (room + 1) tokens.now)) }
+    ensures refused { IfErr result (λ e. Placed e (NoOperand level (room + 1)) (HasExpression level (room + 1)) text.now tokens.now) }
 {
     if level == 2 {
         return grouped(alloc, text, room, level, at, tokens, rest);
@@ -442,7 +445,7 @@ fn grouped<'a>(
     requires base { (3 ≤ level) → NoBase rest.now }
     ensures found { IfOk result (λ x. IsOperand text.now level (expression x.expr) tokens.now x.rest.now) }
     ensures low { IfOk result (λ x. x.over ≤ room + 1) }
-    ensures refused { IfErr result (λ e. Refuses e (NoOperand text.now level (room + 1) tokens.now)) }
+    ensures refused { IfErr result (λ e. Placed e (NoOperand level (room + 1)) (HasExpression level (room + 1)) text.now tokens.now) }
 {
     let inner = enclosed(alloc, text, room, Sign::CloseParenthesis, rest)?;
     let (over, rest) = (inner.over + 1, inner.rest);

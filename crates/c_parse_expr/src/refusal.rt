@@ -1,7 +1,8 @@
 //! Why tokens are no program.
 
 ghost use Rattle.std.specs.Prelude.{◌≡◌};
-ghost use Rattle.c_parse_expr.specs.declared.refusal.ParseErr.TheVariants.{Memory};
+ghost use Rattle.c_syntax.specs.Faults as faults;
+ghost use Rattle.c_parse_expr.specs.declared.refusal.ParseErr.TheVariants.{Unexpected, TooDeep, Memory};
 
 use c_lex::token::Token;
 use std::alloc::{AllocError, AllocFailed};
@@ -53,7 +54,9 @@ impl<T: Drop> From<AllocFailed<T>> for ParseErr {
 }
 
 /// The place of the first token; the text's length where there is none.
-pub fn place(text: &[u8], tokens: &[Token]) -> u64 {
+pub fn place(text: &[u8], tokens: &[Token]) -> u64
+    ensures { result ≡ faults.place text.now tokens.now }
+{
     match tokens {
         [] => text.len() as u64,
         [first, ..] => first.start,
@@ -61,14 +64,18 @@ pub fn place(text: &[u8], tokens: &[Token]) -> u64 {
 }
 
 /// The refusal of the first token, with which no program goes on.
-pub fn unexpected(text: &[u8], tokens: &[Token]) -> ParseErr {
+pub fn unexpected(text: &[u8], tokens: &[Token]) -> ParseErr
+    ensures { result ≡ Unexpected (faults.place text.now tokens.now) }
+{
     ParseErr::Unexpected {
         at: place(text, tokens),
     }
 }
 
 /// The refusal of the first token, behind which nothing is within the limits of nesting.
-pub fn too_deep(text: &[u8], tokens: &[Token]) -> ParseErr {
+pub fn too_deep(text: &[u8], tokens: &[Token]) -> ParseErr
+    ensures { result ≡ TooDeep (faults.place text.now tokens.now) }
+{
     ParseErr::TooDeep {
         at: place(text, tokens),
     }

@@ -1,38 +1,136 @@
 -- Conditions and optional expressions are read as far as they go.
-use Rattle.std.proofs.Common.{◌≡◌, ◌<◌, ℕ, List, Some, None, refl, sym, subst, arith}
+use Rattle.std.proofs.Common.{◌≡◌, ◌≤◌, ◌<◌, ℕ, List, [], ◌∷◌, ◌++◌, Some, None, refl, sym, ◌∙◌, subst, append_assoc, arith}
 use Rattle.c_lex.specs.declared.sign.Sign.{Sign}
 use Rattle.c_lex.specs.declared.sign.Sign.TheVariants as signs
 use Rattle.c_lex.specs.declared.token.Token.{Token}
-use Rattle.c_syntax.specs.Expression.{Expression}
+use Rattle.c_syntax.specs.Expression.{Expression, height}
 use Rattle.c_syntax.specs.Expressions.{Derives}
+use Rattle.c_syntax.specs.Faults.{Alike, SameFirst, Wraps}
 use Rattle.c_syntax.specs.Follow.{sign_follows, Stops}
+use Rattle.c_syntax.specs.Statements.{IsCondition}
 use Rattle.c_syntax.specs.Tokens.{HasSign}
+use Rattle.c_syntax.proofs.Failing.{first_keeps, first_behind}
 use Rattle.c_syntax.proofs.Fronts.{has_same}
+use Rattle.c_syntax.proofs.Moves.{both, has_sign, derives}
 use Rattle.c_syntax.proofs.Once.{one_expression, has_stops}
-use Rattle.c_parse_expr.specs.Readings.{NoExpression}
-use Rattle.c_parse_stmt.specs.Parts.{NoCondition, NoneUpTo}
+use Rattle.c_parse_expr.specs.Readings.{NoExpression, HasExpression}
+use Rattle.c_parse_stmt.specs.Parts.{NoSign, ASign, NoCondition, HasCondition, NoneUpTo, HasUpTo}
+use Rattle.c_parse_stmt.proofs.Begins.{sign, name, variable}
+use Rattle.c_parse_stmt.proofs.Placing.{Lacks, lacks_first}
 
--- the sign isn't at the front
-abbrev pub Lacks : Sign → List Token → Type 0
-Lacks s ts = (rest : List Token) → HasSign s ts rest → ⊥
+-- ---- lists, and what is told by the first token
 
-pub unclosed : (text : List ℕ) (e : Expression) (ts a b : List Token) → HasSign signs.OpenParenthesis ts a → Derives text 16 e a b → Stops 16 b → Lacks signs.CloseParenthesis b → NoCondition text ts
-unclosed text e ts a b o d s none f end h low =
+pub flat : (before inner more other : List Token) → before ++ inner ++ more ++ other ≡ before ++ (inner ++ (more ++ other))
+flat before inner more other = append_assoc (before ++ inner) more other ∙ append_assoc before inner (more ++ other)
+
+pub stops_first : (l : ℕ) (ts other : List Token) → SameFirst ts other → Stops l ts → Stops l other
+stops_first l ts other same s = first_keeps (Stops l) (λ t xs ys h. h) ts other same s
+
+pub same_behind : (before ts ts' other : List Token) → ts' ≡ before ++ ts → SameFirst ts other → SameFirst ts' (before ++ other)
+same_behind before ts ts' other e same = subst (λ (z : List Token). SameFirst z (before ++ other)) (sym e) (first_behind before ts other same)
+
+-- ---- conditions
+
+pub unopened : (text : List ℕ) (ts : List Token) → Wraps (NoSign signs.OpenParenthesis) (ASign signs.OpenParenthesis) NoCondition HasCondition text ts ts
+unopened text ts = record {
+  before = [];
+  split = refl;
+  no = λ n text' other a same none e end h low. none h.0 h.2;
+  has = λ n text' inner a speaks h. record {
+    more = name ∷ sign signs.CloseParenthesis ∷ [];
+    has = record {
+      tree = variable;
+      is = λ other. (name ∷ sign signs.CloseParenthesis ∷ other, sign signs.CloseParenthesis ∷ other, subst (λ (z : List Token). HasSign signs.OpenParenthesis z (name ∷ sign signs.CloseParenthesis ∷ other)) (sym (append_assoc inner (name ∷ sign signs.CloseParenthesis ∷ []) other)) (h (name ∷ sign signs.CloseParenthesis ∷ other)), record { fits = omega arith; spells = refl }, (0, (0, refl)));
+      low = λ k. omega arith;
+    };
+  };
+}
+
+pub in_condition : (text : List ℕ) (ts a : List Token) → HasSign signs.OpenParenthesis ts a → Wraps (NoExpression 16 64) (HasExpression 16 64) NoCondition HasCondition text a ts
+in_condition text ts a o =
+    let m = has_sign signs.OpenParenthesis text ts a o in
+    record {
+      before = m.front;
+      split = m.split;
+      no = λ n text' other k same none e end h low.
+          let p = has_same signs.OpenParenthesis (m.front ++ other) (m.front ++ other) h.0 other refl h.2 (m.again text' other k) in
+          none e h.1 (subst (λ (x : List Token). Derives text' 16 e x h.1) p h.3) (has_stops signs.CloseParenthesis h.1 end 16 h.4 (omega arith)) low;
+      has = λ n text' inner k speaks h. record {
+        more = sign signs.CloseParenthesis ∷ [];
+        has = record {
+          tree = h.tree;
+          is = λ other. subst (λ (z : List Token). IsCondition text' h.tree z other) (sym (flat m.front inner (sign signs.CloseParenthesis ∷ []) other)) (inner ++ sign signs.CloseParenthesis ∷ other, sign signs.CloseParenthesis ∷ other, m.again text' (inner ++ sign signs.CloseParenthesis ∷ other) k, h.derives (sign signs.CloseParenthesis ∷ other), (0, (0, refl)));
+          low = h.low;
+        };
+      };
+    }
+
+unclosed_at : (text : List ℕ) (e : Expression) (ts a b : List Token) (n : ℕ) → HasSign signs.OpenParenthesis ts a → Derives text 16 e a b → Stops 16 b → Lacks signs.CloseParenthesis b → NoCondition n text ts
+unclosed_at text e ts a b n o d s none f end h low =
     let p = has_same signs.OpenParenthesis ts ts h.0 a refl h.2 o in
     let k : Derives text 16 f a h.1 = subst (λ (x : List Token). Derives text 16 f x h.1) p h.3 in
     let u = one_expression text 16 e f a b h.1 d k s (has_stops signs.CloseParenthesis h.1 end 16 h.4 (omega arith)) in
     none end (subst (λ (x : List Token). HasSign signs.CloseParenthesis x end) (sym u.1) h.4)
 
-pub no_room : (text : List ℕ) (s : Sign) (room : ℕ) (ts : List Token) → room ≡ 0 → Lacks s ts → NoneUpTo text s room ts
-no_room text s room ts z none None end h low over = none end (subst (λ (x : List Token). HasSign s x end) (sym h.1) h.2)
-no_room text s room ts z none (Some e) end h low over = absurd (omega arith)
+pub unclosed : (text : List ℕ) (e : Expression) (ts a b : List Token) → HasSign signs.OpenParenthesis ts a → Derives text 16 e a b → Stops 16 b → height e ≤ 64 → Wraps (NoSign signs.CloseParenthesis) (ASign signs.CloseParenthesis) NoCondition HasCondition text b ts
+unclosed text e ts a b o d s low =
+    let m = both (has_sign signs.OpenParenthesis text ts a o) (derives 16 e text a b d) in
+    record {
+      before = m.front;
+      split = m.split;
+      no = λ n text' other k same none. let g = m.again text' other k in unclosed_at text' e (m.front ++ other) g.0 other n g.1 g.2 (stops_first 16 b other same s) none;
+      has = λ n text' inner k speaks h. record {
+        more = [];
+        has = record {
+          tree = e;
+          is = λ other. let g = m.again text' (inner ++ other) k in subst (λ (z : List Token). IsCondition text' e z other) (sym (flat m.front inner [] other)) (g.0, inner ++ other, g.1, g.2, h other);
+          low = λ k. low;
+        };
+      };
+    }
 
-pub no_expression : (text : List ℕ) (s : Sign) (room : ℕ) (ts : List Token) → 16 < sign_follows s → Lacks s ts → NoExpression text 16 64 ts → NoneUpTo text s room ts
-no_expression text s room ts l none nothing None end h low over = none end (subst (λ (x : List Token). HasSign s x end) (sym h.1) h.2)
-no_expression text s room ts l none nothing (Some e) end h low over = nothing e h.0 h.1 (has_stops s h.0 end 16 h.2 l) low
+-- ---- expressions or nothing
 
-pub unended : (text : List ℕ) (s : Sign) (room : ℕ) (e : Expression) (ts b : List Token) → 16 < sign_follows s → Lacks s ts → Derives text 16 e ts b → Stops 16 b → Lacks s b → NoneUpTo text s room ts
-unended text s room e ts b l none d st lacks None end h low over = none end (subst (λ (x : List Token). HasSign s x end) (sym h.1) h.2)
-unended text s room e ts b l none d st lacks (Some f) end h low over =
+pub no_expression : (text : List ℕ) (s : Sign) (room : ℕ) (ts : List Token) → 16 < sign_follows s → Lacks s ts → 1 ≤ room → Wraps (NoExpression 16 64) (HasExpression 16 64) (NoneUpTo s room) (HasUpTo s room) text ts ts
+no_expression text s room ts l lacks some = record {
+  before = [];
+  split = refl;
+  no = against;
+  has = λ n text' inner a speaks h. record {
+    more = sign s ∷ [];
+    has = record {
+      tree = Some h.tree;
+      is = λ other. (sign s ∷ other, subst (λ (z : List Token). Derives text' 16 h.tree z (sign s ∷ other)) (sym (append_assoc inner (sign s ∷ []) other)) (h.derives (sign s ∷ other)), (0, (0, refl)));
+      low = h.low;
+      over = λ k. some;
+    };
+  };
+}
+  where
+    against : (n : ℕ) (text' : List ℕ) (other : List Token) → Alike text text' ts → SameFirst ts other → NoExpression 16 64 n text' other → NoneUpTo s room n text' other
+    against n text' other a same nothing None end h low over = lacks_first s ts other same lacks end (subst (λ (x : List Token). HasSign s x end) (sym h.1) h.2)
+    against n text' other a same nothing (Some e) end h low over = nothing e h.0 h.1 (has_stops s h.0 end 16 h.2 l) low
+
+unended_at : (text : List ℕ) (s : Sign) (room : ℕ) (e : Expression) (ts b : List Token) (n : ℕ) → 16 < sign_follows s → Lacks s ts → Derives text 16 e ts b → Stops 16 b → Lacks s b → NoneUpTo s room n text ts
+unended_at text s room e ts b n l none d st lacks None end h low over = none end (subst (λ (x : List Token). HasSign s x end) (sym h.1) h.2)
+unended_at text s room e ts b n l none d st lacks (Some f) end h low over =
     let u = one_expression text 16 e f ts b h.0 d h.1 st (has_stops s h.0 end 16 h.2 l) in
     lacks end (subst (λ (x : List Token). HasSign s x end) (sym u.1) h.2)
+
+pub unended : (text : List ℕ) (s : Sign) (room : ℕ) (e : Expression) (ts b : List Token) → 16 < sign_follows s → Lacks s ts → Derives text 16 e ts b → Stops 16 b → height e ≤ 64 → 1 ≤ room → Wraps (NoSign s) (ASign s) (NoneUpTo s room) (HasUpTo s room) text b ts
+unended text s room e ts b l lacks d st low some =
+    let m = derives 16 e text ts b d in
+    record {
+      before = m.front;
+      split = m.split;
+      no = λ n text' other k same none. unended_at text' s room e (m.front ++ other) other n l (lacks_first s ts (m.front ++ other) (same_behind m.front b ts other m.split same) lacks) (m.again text' other k) (stops_first 16 b other same st) none;
+      has = λ n text' inner k speaks h. record {
+        more = [];
+        has = record {
+          tree = Some e;
+          is = λ other. (inner ++ other, subst (λ (z : List Token). Derives text' 16 e z (inner ++ other)) (sym (flat m.front inner [] other)) (m.again text' (inner ++ other) k), h other);
+          low = λ k. low;
+          over = λ k. some;
+        };
+      };
+    }

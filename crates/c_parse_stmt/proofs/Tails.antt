@@ -11,7 +11,10 @@ use Rattle.c_syntax.specs.Tokens.{IsKeyword, HasSign, HasKeyword}
 use Rattle.c_syntax.proofs.Fronts.{has_same}
 use Rattle.c_syntax.proofs.Blocks.{begins, item_begins, place, word}
 use Rattle.c_parse_stmt.specs.Parts.{IsUpTo}
-use Rattle.c_parse_stmt.specs.Within.{IsBraced}
+
+-- a block, with both braces
+abbrev pub IsBraced : List ℕ → Statements → List Token → List Token → Type 0
+IsBraced text ss ts rest = (a : List Token) × HasSign signs.OpenBrace ts a × AreItems text ss a rest
 
 -- what stands behind each keyword, in some statement
 abbrev pub AfterIf : List ℕ → ℕ → Statement → List Token → List Token → Type 0

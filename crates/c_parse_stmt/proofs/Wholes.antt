@@ -5,7 +5,6 @@ use Rattle.c_lex.specs.declared.keyword.Keyword.{Keyword}
 use Rattle.c_lex.specs.declared.keyword.Keyword.TheVariants as keywords
 use Rattle.c_lex.specs.declared.sign.Sign.{Sign}
 use Rattle.c_lex.specs.declared.sign.Sign.TheVariants as signs
-use Rattle.c_lex.specs.declared.token.Kind.TheVariants as kinds
 use Rattle.c_lex.specs.declared.token.Token.{Token}
 use Rattle.c_syntax.specs.Expression.{Expression, height}
 use Rattle.c_syntax.specs.Follow.{sign_follows, NoElse, Closed}
@@ -13,20 +12,26 @@ use Rattle.c_syntax.specs.Limits.{height_of, one_over, height_of_first, statemen
 use Rattle.c_syntax.specs.Statement.{First, Statement, Declare, Block, Evaluate, If, IfElse, While, DoWhile, For, Return, Break, Continue, Leave, TryExcept, TryFinally, Statements}
 use Rattle.c_syntax.specs.Statements.{IsCondition, IsFirst, dangles, IsItem, AreItems}
 use Rattle.c_syntax.specs.Tokens.{IsKeyword, HasSign, HasKeyword}
-use Rattle.c_syntax.proofs.Fronts.{kind_same, keyword_same, has_same, sign_class}
+use Rattle.c_syntax.proofs.Fronts.{keyword_same, has_same, sign_class}
 use Rattle.c_syntax.proofs.Blocks.{condition, optional, first, place, word, absent, while_else, same_items, one_statement}
 use Rattle.c_parse_stmt.specs.declared.left.Left.{Left}
 use Rattle.c_parse_stmt.specs.Filters.{numbers_of, NoFilter}
 use Rattle.c_parse_stmt.specs.Parts.{IsUpTo, NoCondition, NoneUpTo, NoFirst}
-use Rattle.c_parse_stmt.specs.Within.{AllTaken, NoItems, IsBraced, NoneBraced, Within, Reads, NoStatement, NoEvaluation, Behind}
-use Rattle.c_parse_stmt.proofs.Ends.{Lacks}
-use Rattle.c_parse_stmt.proofs.Tails.{AfterIf, AfterIfElse, AfterExcept, AfterFinally, after_if, after_while, after_do, after_for, after_return, after_break, after_continue, after_leave, after_try, after_brace}
+use Rattle.c_parse_stmt.specs.Within.{AllWithin, AllTaken, NoItems, Within, Reads, NoStatement, NoEvaluation, Behind}
+use Rattle.c_parse_stmt.proofs.Tails.{IsBraced, AfterIf, AfterIfElse, AfterExcept, AfterFinally, after_if, after_while, after_do, after_for, after_return, after_break, after_continue, after_leave, after_try, after_brace}
 
-abbrev Fits : List ℕ → ℕ → Left → Statement → Type 0
-Fits text room left s = Within text (statements_over s) room left s
+abbrev Fits : ℕ → List ℕ → ℕ → Left → Statement → Type 0
+Fits limits text room left s = Within limits text (statements_over s) room left s
 
-fits : (text : List ℕ) (room : ℕ) (left : Left) (s z : Statement) → s ≡ z → Fits text room left s → Fits text room left z
-fits text room left s z e w = subst (λ (x : Statement). Fits text room left x) e w
+abbrev pub NoneBraced : ℕ → Left → ℕ → List ℕ → List Token → Type 0
+NoneBraced room left n text ts = (ss : Statements) (end : List Token) → IsBraced text ss ts end → AllWithin n text room left ss → ⊥
+
+-- the sign isn't at the front
+abbrev pub Lacks : Sign → List Token → Type 0
+Lacks s ts = (rest : List Token) → HasSign s ts rest → ⊥
+
+fits : (limits : ℕ) (text : List ℕ) (room : ℕ) (left : Left) (s z : Statement) → s ≡ z → Fits limits text room left s → Fits limits text room left z
+fits limits text room left s z e w = subst (λ (x : Statement). Fits limits text room left x) e w
 
 closed_as : (s z : Statement) (end : List Token) → s ≡ z → Closed s end → Closed z end
 closed_as s z end e c = subst (λ (x : Statement). Closed x end) e c
@@ -42,59 +47,56 @@ while_found text room less at left after c z a b rest n is low r ts k =
     let t = r.taken in let o = t.statements in let x = t.expressions in
     record { is = (a, b, k, is, r.statement, r.is); statement = refl; closed = r.closed; taken = record { statements = omega arith; expressions = omega arith; locals = t.locals; funclets = t.funclets } }
 
-pub no_while_room : (text : List ℕ) (room at : ℕ) (left : Left) (a : List Token) → room ≡ 0 → Behind keywords.While at a (NoStatement text room left)
-no_while_room text room at left a n ts k s end h d c w =
+pub no_while_room : (limits : ℕ) (text : List ℕ) (room at : ℕ) (left : Left) (a : List Token) → 1 ≤ limits → room ≡ 0 → Behind keywords.While at a (NoStatement room left limits text)
+no_while_room limits text room at left a i n ts k s end h d c w =
     let t = after_while text at s ts a end k h in
-    let o = (fits text room left s (While at t.0 t.1) t.3 w).statements in absurd (omega arith)
+    let v = fits limits text room left s (While at t.0 t.1) t.3 w in let o = v.statements (omega arith) in absurd (omega arith)
 
-pub no_while_condition : (text : List ℕ) (room at : ℕ) (left : Left) (a : List Token) → NoCondition text a → Behind keywords.While at a (NoStatement text room left)
-no_while_condition text room at left a none ts k s end h d c w =
+pub no_while_condition : (limits : ℕ) (text : List ℕ) (room at : ℕ) (left : Left) (a : List Token) → NoCondition limits text a → Behind keywords.While at a (NoStatement room left limits text)
+no_while_condition limits text room at left a none ts k s end h d c w =
     let t = after_while text at s ts a end k h in
-    let x = (fits text room left s (While at t.0 t.1) t.3 w).expressions in
-    none t.0 t.2 t.4 (omega arith)
+    let v = fits limits text room left s (While at t.0 t.1) t.3 w in
+    none t.0 t.2 t.4 (λ lim. let o = v.expressions lim in omega arith)
 
-pub no_while_body : (text : List ℕ) (room less at : ℕ) (left : Left) (e : Expression) (a b : List Token) → less + 1 ≡ room → IsCondition text e a b → NoStatement text less left b → Behind keywords.While at a (NoStatement text room left)
-no_while_body text room less at left e a b n is none ts k s end h d c w =
+pub no_while_body : (limits : ℕ) (text : List ℕ) (room less at : ℕ) (left : Left) (e : Expression) (a b : List Token) → less + 1 ≡ room → IsCondition text e a b → NoStatement less left limits text b → Behind keywords.While at a (NoStatement room left limits text)
+no_while_body limits text room less at left e a b n is none ts k s end h d c w =
     let t = after_while text at s ts a end k h in
-    let v = fits text room left s (While at t.0 t.1) t.3 w in
-    let o = v.statements in let x = v.expressions in
+    let v = fits limits text room left s (While at t.0 t.1) t.3 w in
     let p = after_condition text e t.0 a b t.2 is t.4 in
-    none t.1 end (subst (λ (y : List Token). IsItem text t.1 y end) (sym p) t.6) t.5 (closed_as s (While at t.0 t.1) end t.3 c) (record { statements = omega arith; expressions = omega arith; locals = v.locals; funclets = v.funclets })
+    none t.1 end (subst (λ (y : List Token). IsItem text t.1 y end) (sym p) t.6) t.5 (closed_as s (While at t.0 t.1) end t.3 c) (record { statements = λ lim. let o = v.statements lim in omega arith; expressions = λ lim. let o = v.expressions lim in omega arith; locals = v.locals; funclets = v.funclets })
 
 -- ---- `if`
 
-pub no_if_room : (text : List ℕ) (room at : ℕ) (left : Left) (a : List Token) → room ≡ 0 → Behind keywords.If at a (NoStatement text room left)
-no_if_room text room at left a n ts k s end h d c w = by (after_if text at s ts a end k h)
+pub no_if_room : (limits : ℕ) (text : List ℕ) (room at : ℕ) (left : Left) (a : List Token) → 1 ≤ limits → room ≡ 0 → Behind keywords.If at a (NoStatement room left limits text)
+no_if_room limits text room at left a i n ts k s end h d c w = by (after_if text at s ts a end k h)
   where
     by : (AfterIf text at s a end ⊎ AfterIfElse text at s a end) → ⊥
-    by (inl t) = let o = (fits text room left s (If at t.0 t.1) t.3 w).statements in absurd (omega arith)
-    by (inr t) = let o = (fits text room left s (IfElse at t.0 t.1 t.2) t.6 w).statements in absurd (omega arith)
+    by (inl t) = let v = fits limits text room left s (If at t.0 t.1) t.3 w in let o = v.statements (omega arith) in absurd (omega arith)
+    by (inr t) = let v = fits limits text room left s (IfElse at t.0 t.1 t.2) t.6 w in let o = v.statements (omega arith) in absurd (omega arith)
 
-pub no_if_condition : (text : List ℕ) (room at : ℕ) (left : Left) (a : List Token) → NoCondition text a → Behind keywords.If at a (NoStatement text room left)
-no_if_condition text room at left a none ts k s end h d c w = by (after_if text at s ts a end k h)
+pub no_if_condition : (limits : ℕ) (text : List ℕ) (room at : ℕ) (left : Left) (a : List Token) → NoCondition limits text a → Behind keywords.If at a (NoStatement room left limits text)
+no_if_condition limits text room at left a none ts k s end h d c w = by (after_if text at s ts a end k h)
   where
     by : (AfterIf text at s a end ⊎ AfterIfElse text at s a end) → ⊥
-    by (inl t) = let x = (fits text room left s (If at t.0 t.1) t.3 w).expressions in none t.0 t.2 t.4 (omega arith)
-    by (inr t) = let x = (fits text room left s (IfElse at t.0 t.1 t.2) t.6 w).expressions in none t.0 t.3 t.7 (omega arith)
+    by (inl t) = let v = fits limits text room left s (If at t.0 t.1) t.3 w in none t.0 t.2 t.4 (λ lim. let o = v.expressions lim in omega arith)
+    by (inr t) = let v = fits limits text room left s (IfElse at t.0 t.1 t.2) t.6 w in none t.0 t.3 t.7 (λ lim. let o = v.expressions lim in omega arith)
 
-pub no_then : (text : List ℕ) (room less at : ℕ) (left : Left) (e : Expression) (a b : List Token) → less + 1 ≡ room → IsCondition text e a b → NoStatement text less left b → Behind keywords.If at a (NoStatement text room left)
-no_then text room less at left e a b n is none ts k s end h d c w = by (after_if text at s ts a end k h)
+pub no_then : (limits : ℕ) (text : List ℕ) (room less at : ℕ) (left : Left) (e : Expression) (a b : List Token) → less + 1 ≡ room → IsCondition text e a b → NoStatement less left limits text b → Behind keywords.If at a (NoStatement room left limits text)
+no_then limits text room less at left e a b n is none ts k s end h d c w = by (after_if text at s ts a end k h)
   where
     by : (AfterIf text at s a end ⊎ AfterIfElse text at s a end) → ⊥
     by (inl t) =
-        let v = fits text room left s (If at t.0 t.1) t.3 w in
-        let o = v.statements in let x = v.expressions in
+        let v = fits limits text room left s (If at t.0 t.1) t.3 w in
         let p = after_condition text e t.0 a b t.2 is t.4 in
         let f : NoElse end = closed_as s (If at t.0 t.1) end t.3 c refl in
-        none t.1 end (subst (λ (y : List Token). IsItem text t.1 y end) (sym p) t.6) t.5 (λ i. f) (record { statements = omega arith; expressions = omega arith; locals = v.locals; funclets = v.funclets })
+        none t.1 end (subst (λ (y : List Token). IsItem text t.1 y end) (sym p) t.6) t.5 (λ i. f) (record { statements = λ lim. let o = v.statements lim in omega arith; expressions = λ lim. let o = v.expressions lim in omega arith; locals = v.locals; funclets = v.funclets })
     by (inr t) =
-        let v = fits text room left s (IfElse at t.0 t.1 t.2) t.6 w in
-        let o = v.statements in let x = v.expressions in let l = v.locals in let m = v.funclets in
+        let v = fits limits text room left s (IfElse at t.0 t.1 t.2) t.6 w in
         let p = after_condition text e t.0 a b t.3 is t.7 in
-        none t.1 t.4 (subst (λ (y : List Token). IsItem text t.1 y t.4) (sym p) t.10) t.8 (absent t.1 t.4 t.9) (record { statements = omega arith; expressions = omega arith; locals = omega arith; funclets = omega (arith, length-append {A = ℕ}) })
+        none t.1 t.4 (subst (λ (y : List Token). IsItem text t.1 y t.4) (sym p) t.10) t.8 (absent t.1 t.4 t.9) (record { statements = λ lim. let o = v.statements lim in omega arith; expressions = λ lim. let o = v.expressions lim in omega arith; locals = λ lim. let o = v.locals lim in omega arith; funclets = λ lim. let o = v.funclets lim in omega (arith, length-append {A = ℕ}) })
 
-pub no_otherwise : (text : List ℕ) (room less at : ℕ) (left mid : Left) (e : Expression) (z : Statement) (a b j g : List Token) → less + 1 ≡ room → IsCondition text e a b → Reads text less left mid z b j → HasKeyword keywords.Else j g → NoStatement text less mid g → Behind keywords.If at a (NoStatement text room left)
-no_otherwise text room less at left mid e z a b j g n is r els none ts k s end h d c w = by (after_if text at s ts a end k h)
+pub no_otherwise : (limits : ℕ) (text : List ℕ) (room less at : ℕ) (left mid : Left) (e : Expression) (z : Statement) (a b j g : List Token) → less + 1 ≡ room → IsCondition text e a b → Reads text less left mid z b j → HasKeyword keywords.Else j g → NoStatement less mid limits text g → Behind keywords.If at a (NoStatement room left limits text)
+no_otherwise limits text room less at left mid e z a b j g n is r els none ts k s end h d c w = by (after_if text at s ts a end k h)
   where
     by : (AfterIf text at s a end ⊎ AfterIfElse text at s a end) → ⊥
     by (inl t) =
@@ -103,22 +105,21 @@ no_otherwise text room less at left mid e z a b j g n is r els none ts k s end h
         let u = one_statement text z t.1 b j end r.is (subst (λ (y : List Token). IsItem text t.1 y end) (sym p) t.6) r.closed (λ i. f) in
         f g (subst (λ (y : List Token). HasKeyword keywords.Else y g) u.1 els)
     by (inr t) =
-        let v = fits text room left s (IfElse at t.0 t.1 t.2) t.6 w in
-        let o = v.statements in let x = v.expressions in let l = v.locals in let m = v.funclets in
+        let v = fits limits text room left s (IfElse at t.0 t.1 t.2) t.6 w in
         let p = after_condition text e t.0 a b t.3 is t.7 in
         let u = one_statement text z t.1 b j t.4 r.is (subst (λ (y : List Token). IsItem text t.1 y t.4) (sym p) t.10) r.closed (absent t.1 t.4 t.9) in
         let q = word keywords.Else j t.4 g t.5 u.1 els t.11 in
         let i = r.taken in let i0 = i.locals in let i1 = i.funclets in
         let m0 = ap locals u.0 in
         let m1 = ap (λ (y : Statement). length (numbered text y)) u.0 in
-        none t.2 end (subst (λ (y : List Token). IsItem text t.2 y end) (sym q) t.13) t.12 (closed_as s (IfElse at t.0 t.1 t.2) end t.6 c) (record { statements = omega arith; expressions = omega arith; locals = omega arith; funclets = omega (arith, length-append {A = ℕ}) })
+        none t.2 end (subst (λ (y : List Token). IsItem text t.2 y end) (sym q) t.13) t.12 (closed_as s (IfElse at t.0 t.1 t.2) end t.6 c) (record { statements = λ lim. let o = v.statements lim in omega arith; expressions = λ lim. let o = v.expressions lim in omega arith; locals = λ lim. let o = v.locals lim in omega arith; funclets = λ lim. let o = v.funclets lim in omega (arith, length-append {A = ℕ}) })
 
 pub if_found : (text : List ℕ) (room less at : ℕ) (left after : Left) (c : Expression) (z : Statement) (a b rest : List Token) → less + 1 ≡ room → IsCondition text c a b → height c ≤ 64 → Reads text less left after z b rest → NoElse rest → Behind keywords.If at a (λ ts. Reads text room left after (If at c z) ts rest)
 if_found text room less at left after c z a b rest n is low r f ts k =
     let t = r.taken in let o = t.statements in let x = t.expressions in
     record { is = (a, b, k, is, r.statement, r.is); statement = refl; closed = λ i. f; taken = record { statements = omega arith; expressions = omega arith; locals = t.locals; funclets = t.funclets } }
 
-not_dangling : (b : Bool) → (IsTrue b → ⊥) → IsFalse b
+pub not_dangling : (b : Bool) → (IsTrue b → ⊥) → IsFalse b
 not_dangling true h = absurd (h refl)
 not_dangling false h = refl
 
@@ -135,34 +136,33 @@ if_else_found text room less at left mid after c z y a b d e rest n is low r els
 
 -- ---- `do`
 
-pub no_do_room : (text : List ℕ) (room at : ℕ) (left : Left) (a : List Token) → room ≡ 0 → Behind keywords.Do at a (NoStatement text room left)
-no_do_room text room at left a n ts k s end h d c w =
+pub no_do_room : (limits : ℕ) (text : List ℕ) (room at : ℕ) (left : Left) (a : List Token) → 1 ≤ limits → room ≡ 0 → Behind keywords.Do at a (NoStatement room left limits text)
+no_do_room limits text room at left a i n ts k s end h d c w =
     let t = after_do text at s ts a end k h in
-    let o = (fits text room left s (DoWhile t.0 t.1 t.2) t.6 w).statements in absurd (omega arith)
+    let v = fits limits text room left s (DoWhile t.0 t.1 t.2) t.6 w in let o = v.statements (omega arith) in absurd (omega arith)
 
-pub no_do_body : (text : List ℕ) (room less at : ℕ) (left : Left) (a : List Token) → less + 1 ≡ room → NoStatement text less left a → Behind keywords.Do at a (NoStatement text room left)
-no_do_body text room less at left a n none ts k s end h d c w =
+pub no_do_body : (limits : ℕ) (text : List ℕ) (room less at : ℕ) (left : Left) (a : List Token) → less + 1 ≡ room → NoStatement less left limits text a → Behind keywords.Do at a (NoStatement room left limits text)
+no_do_body limits text room less at left a n none ts k s end h d c w =
     let t = after_do text at s ts a end k h in
-    let v = fits text room left s (DoWhile t.0 t.1 t.2) t.6 w in
-    let o = v.statements in let x = v.expressions in
-    none t.0 t.3 t.8 t.7 (λ i. while_else t.1 t.3 t.4 t.9) (record { statements = omega arith; expressions = omega arith; locals = v.locals; funclets = v.funclets })
+    let v = fits limits text room left s (DoWhile t.0 t.1 t.2) t.6 w in
+    none t.0 t.3 t.8 t.7 (λ i. while_else t.1 t.3 t.4 t.9) (record { statements = λ lim. let o = v.statements lim in omega arith; expressions = λ lim. let o = v.expressions lim in omega arith; locals = v.locals; funclets = v.funclets })
 
-pub no_do_while : (text : List ℕ) (room less at : ℕ) (left mid : Left) (z : Statement) (a b : List Token) → Reads text less left mid z a b → ((rest : List Token) → HasKeyword keywords.While b rest → ⊥) → Behind keywords.Do at a (NoStatement text room left)
-no_do_while text room less at left mid z a b r none ts k s end h d c w =
+pub no_do_while : (limits : ℕ) (text : List ℕ) (room less at : ℕ) (left mid : Left) (z : Statement) (a b : List Token) → Reads text less left mid z a b → ((rest : List Token) → HasKeyword keywords.While b rest → ⊥) → Behind keywords.Do at a (NoStatement room left limits text)
+no_do_while limits text room less at left mid z a b r none ts k s end h d c w =
     let t = after_do text at s ts a end k h in
     let p = (one_statement text z t.0 a b t.3 r.is t.8 r.closed (λ i. while_else t.1 t.3 t.4 t.9)).1 in
     none t.4 (subst (λ (y : List Token). HasKeyword keywords.While y t.4) (sym p) (t.1, t.9))
 
-pub no_do_condition : (text : List ℕ) (room less at p : ℕ) (left mid : Left) (z : Statement) (a b j : List Token) → Reads text less left mid z a b → IsKeyword keywords.While p b j → NoCondition text j → Behind keywords.Do at a (NoStatement text room left)
-no_do_condition text room less at p left mid z a b j r kw none ts k s end h d c w =
+pub no_do_condition : (limits : ℕ) (text : List ℕ) (room less at p : ℕ) (left mid : Left) (z : Statement) (a b j : List Token) → Reads text less left mid z a b → IsKeyword keywords.While p b j → NoCondition limits text j → Behind keywords.Do at a (NoStatement room left limits text)
+no_do_condition limits text room less at p left mid z a b j r kw none ts k s end h d c w =
     let t = after_do text at s ts a end k h in
-    let x = (fits text room left s (DoWhile t.0 t.1 t.2) t.6 w).expressions in
+    let v = fits limits text room left s (DoWhile t.0 t.1 t.2) t.6 w in
     let q = (one_statement text z t.0 a b t.3 r.is t.8 r.closed (λ i. while_else t.1 t.3 t.4 t.9)).1 in
     let u = place keywords.While p t.1 b t.3 j t.4 q kw t.9 in
-    none t.2 t.5 (subst (λ (y : List Token). IsCondition text t.2 y t.5) (sym u.1) t.10) (omega arith)
+    none t.2 t.5 (subst (λ (y : List Token). IsCondition text t.2 y t.5) (sym u.1) t.10) (λ lim. let o = v.expressions lim in omega arith)
 
-pub no_do_end : (text : List ℕ) (room less at p : ℕ) (left mid : Left) (z : Statement) (e : Expression) (a b j g : List Token) → Reads text less left mid z a b → IsKeyword keywords.While p b j → IsCondition text e j g → Lacks signs.Semicolon g → Behind keywords.Do at a (NoStatement text room left)
-no_do_end text room less at p left mid z e a b j g r kw is none ts k s end h d c w =
+pub no_do_end : (limits : ℕ) (text : List ℕ) (room less at p : ℕ) (left mid : Left) (z : Statement) (e : Expression) (a b j g : List Token) → Reads text less left mid z a b → IsKeyword keywords.While p b j → IsCondition text e j g → Lacks signs.Semicolon g → Behind keywords.Do at a (NoStatement room left limits text)
+no_do_end limits text room less at p left mid z e a b j g r kw is none ts k s end h d c w =
     let t = after_do text at s ts a end k h in
     let q = (one_statement text z t.0 a b t.3 r.is t.8 r.closed (λ i. while_else t.1 t.3 t.4 t.9)).1 in
     let u = place keywords.While p t.1 b t.3 j t.4 q kw t.9 in
@@ -182,16 +182,16 @@ up_to text s e f ts us r q p l c h g = (optional text s e f ts us h.0 g.0 r q p 
 pub evaluated : (text : List ℕ) (room : ℕ) (left : Left) (e : Option Expression) (ts rest : List Token) → IsUpTo text signs.Semicolon e ts rest → height_of e ≤ 64 → one_over e ≤ room → Reads text room left left (Evaluate e) ts rest
 evaluated text room left e ts rest is low over = record { is = is; statement = refl; closed = λ i. absurd cc; taken = record { statements = over; expressions = low; locals = omega arith; funclets = omega arith } }
 
-pub no_evaluation : (text : List ℕ) (room : ℕ) (left : Left) (ts : List Token) → NoneUpTo text signs.Semicolon room ts → NoEvaluation text room left ts
-no_evaluation text room left ts none e end h w = none e end h w.expressions w.statements
+pub no_evaluation : (limits : ℕ) (text : List ℕ) (room : ℕ) (left : Left) (ts : List Token) → NoneUpTo signs.Semicolon room limits text ts → NoEvaluation room left limits text ts
+no_evaluation limits text room left ts none e end h w = none e end h w.expressions w.statements
 
 pub returned : (text : List ℕ) (room at : ℕ) (left : Left) (e : Option Expression) (a rest : List Token) → IsUpTo text signs.Semicolon e a rest → height_of e ≤ 64 → one_over e ≤ room → Behind keywords.Return at a (λ ts. Reads text room left left (Return at e) ts rest)
 returned text room at left e a rest is low over ts k = record { is = (a, is.0, k, is.1, is.2); statement = refl; closed = λ i. absurd cc; taken = record { statements = over; expressions = low; locals = omega arith; funclets = omega arith } }
 
-pub no_return : (text : List ℕ) (room at : ℕ) (left : Left) (a : List Token) → NoneUpTo text signs.Semicolon room a → Behind keywords.Return at a (NoStatement text room left)
-no_return text room at left a none ts k s end h d c w =
+pub no_return : (limits : ℕ) (text : List ℕ) (room at : ℕ) (left : Left) (a : List Token) → NoneUpTo signs.Semicolon room limits text a → Behind keywords.Return at a (NoStatement room left limits text)
+no_return limits text room at left a none ts k s end h d c w =
     let t = after_return text at s ts a end k h in
-    let v = fits text room left s (Return at t.0) t.1 w in
+    let v = fits limits text room left s (Return at t.0) t.1 w in
     none t.0 end t.2 v.expressions v.statements
 
 pub broken : (text : List ℕ) (room at : ℕ) (left : Left) (ts a rest : List Token) → IsKeyword keywords.Break at ts a → HasSign signs.Semicolon a rest → Reads text room left left (Break at) ts rest
@@ -203,32 +203,31 @@ continued text room at left ts a rest k h = record { is = (a, k, h); statement =
 pub left_by : (text : List ℕ) (room at : ℕ) (left : Left) (ts a rest : List Token) → IsKeyword keywords.Leave at ts a → HasSign signs.Semicolon a rest → Reads text room left left (Leave at) ts rest
 left_by text room at left ts a rest k h = record { is = (a, k, h); statement = refl; closed = λ i. absurd cc; taken = record { statements = omega arith; expressions = omega arith; locals = omega arith; funclets = omega arith } }
 
-pub no_break : (text : List ℕ) (room at : ℕ) (left : Left) (ts a : List Token) → IsKeyword keywords.Break at ts a → Lacks signs.Semicolon a → NoStatement text room left ts
-no_break text room at left ts a k none s end h d c w = none end (after_break text at s ts a end k h)
+pub no_break : (limits : ℕ) (text : List ℕ) (room at : ℕ) (left : Left) (ts a : List Token) → IsKeyword keywords.Break at ts a → Lacks signs.Semicolon a → NoStatement room left limits text ts
+no_break limits text room at left ts a k none s end h d c w = none end (after_break text at s ts a end k h)
 
-pub no_continue : (text : List ℕ) (room at : ℕ) (left : Left) (ts a : List Token) → IsKeyword keywords.Continue at ts a → Lacks signs.Semicolon a → NoStatement text room left ts
-no_continue text room at left ts a k none s end h d c w = none end (after_continue text at s ts a end k h)
+pub no_continue : (limits : ℕ) (text : List ℕ) (room at : ℕ) (left : Left) (ts a : List Token) → IsKeyword keywords.Continue at ts a → Lacks signs.Semicolon a → NoStatement room left limits text ts
+no_continue limits text room at left ts a k none s end h d c w = none end (after_continue text at s ts a end k h)
 
-pub no_leave : (text : List ℕ) (room at : ℕ) (left : Left) (ts a : List Token) → IsKeyword keywords.Leave at ts a → Lacks signs.Semicolon a → NoStatement text room left ts
-no_leave text room at left ts a k none s end h d c w = none end (after_leave text at s ts a end k h)
+pub no_leave : (limits : ℕ) (text : List ℕ) (room at : ℕ) (left : Left) (ts a : List Token) → IsKeyword keywords.Leave at ts a → Lacks signs.Semicolon a → NoStatement room left limits text ts
+no_leave limits text room at left ts a k none s end h d c w = none end (after_leave text at s ts a end k h)
 
 -- ---- `for`
 
-pub no_for_room : (text : List ℕ) (room at : ℕ) (left : Left) (a : List Token) → room ≡ 0 → Behind keywords.For at a (NoStatement text room left)
-no_for_room text room at left a n ts k s end h d c w =
+pub no_for_room : (limits : ℕ) (text : List ℕ) (room at : ℕ) (left : Left) (a : List Token) → 1 ≤ limits → room ≡ 0 → Behind keywords.For at a (NoStatement room left limits text)
+no_for_room limits text room at left a i n ts k s end h d c w =
     let t = after_for text at s ts a end k h in
-    let o = (fits text room left s (For at t.0 t.1 t.2 t.3) t.8 w).statements in absurd (omega arith)
+    let v = fits limits text room left s (For at t.0 t.1 t.2 t.3) t.8 w in let o = v.statements (omega arith) in absurd (omega arith)
 
-pub no_for_open : (text : List ℕ) (room at : ℕ) (left : Left) (a : List Token) → Lacks signs.OpenParenthesis a → Behind keywords.For at a (NoStatement text room left)
-no_for_open text room at left a none ts k s end h d c w = let t = after_for text at s ts a end k h in none t.4 t.9
+pub no_for_open : (limits : ℕ) (text : List ℕ) (room at : ℕ) (left : Left) (a : List Token) → Lacks signs.OpenParenthesis a → Behind keywords.For at a (NoStatement room left limits text)
+no_for_open limits text room at left a none ts k s end h d c w = let t = after_for text at s ts a end k h in none t.4 t.9
 
-pub no_for_first : (text : List ℕ) (room at : ℕ) (left : Left) (a b : List Token) → HasSign signs.OpenParenthesis a b → NoFirst text left.locals b → Behind keywords.For at a (NoStatement text room left)
-no_for_first text room at left a b o none ts k s end h d c w =
+pub no_for_first : (limits : ℕ) (text : List ℕ) (room at : ℕ) (left : Left) (a b : List Token) → HasSign signs.OpenParenthesis a b → NoFirst left.locals limits text b → Behind keywords.For at a (NoStatement room left limits text)
+no_for_first limits text room at left a b o none ts k s end h d c w =
     let t = after_for text at s ts a end k h in
-    let v = fits text room left s (For at t.0 t.1 t.2 t.3) t.8 w in
-    let x = v.expressions in let l = v.locals in
+    let v = fits limits text room left s (For at t.0 t.1 t.2 t.3) t.8 w in
     let p = has_same signs.OpenParenthesis a a b t.4 refl o t.9 in
-    none t.0 t.5 (subst (λ (y : List Token). IsFirst text t.0 y t.5) (sym p) t.10) (omega arith) (omega arith)
+    none t.0 t.5 (subst (λ (y : List Token). IsFirst text t.0 y t.5) (sym p) t.10) (λ lim. let o = v.expressions lim in omega arith) (λ lim. let o = v.locals lim in omega arith)
 
 -- what was read behind `for`
 pub record Started (text : List ℕ) (left mid : Left) (f : First) (a b e : List Token) : Type 0 where
@@ -245,32 +244,31 @@ some_over : (e : Option Expression) → one_over e ≤ 1
 some_over None = omega arith
 some_over (Some e) = omega arith
 
-pub no_for_condition : (text : List ℕ) (room at : ℕ) (left mid : Left) (f : First) (a b e : List Token) → Started text left mid f a b e → NoneUpTo text signs.Semicolon 1 e → Behind keywords.For at a (NoStatement text room left)
-no_for_condition text room at left mid f a b e st none ts k s end h d c w =
+pub no_for_condition : (limits : ℕ) (text : List ℕ) (room at : ℕ) (left mid : Left) (f : First) (a b e : List Token) → Started text left mid f a b e → NoneUpTo signs.Semicolon 1 limits text e → Behind keywords.For at a (NoStatement room left limits text)
+no_for_condition limits text room at left mid f a b e st none ts k s end h d c w =
     let t = after_for text at s ts a end k h in
-    let x = (fits text room left s (For at t.0 t.1 t.2 t.3) t.8 w).expressions in
+    let v = fits limits text room left s (For at t.0 t.1 t.2 t.3) t.8 w in
     let p = after_first text left mid f t.0 a b e t.4 t.5 st t.9 t.10 in
-    none t.1 t.6 (subst (λ (y : List Token). IsUpTo text signs.Semicolon t.1 y t.6) (sym p.1) t.11) (omega arith) (some_over t.1)
+    none t.1 t.6 (subst (λ (y : List Token). IsUpTo text signs.Semicolon t.1 y t.6) (sym p.1) t.11) (λ lim. let o = v.expressions lim in omega arith) (λ i. some_over t.1)
 
-pub no_for_next : (text : List ℕ) (room at : ℕ) (left mid : Left) (f : First) (m : Option Expression) (a b e g : List Token) → Started text left mid f a b e → IsUpTo text signs.Semicolon m e g → NoneUpTo text signs.CloseParenthesis 1 g → Behind keywords.For at a (NoStatement text room left)
-no_for_next text room at left mid f m a b e g st is none ts k s end h d c w =
+pub no_for_next : (limits : ℕ) (text : List ℕ) (room at : ℕ) (left mid : Left) (f : First) (m : Option Expression) (a b e g : List Token) → Started text left mid f a b e → IsUpTo text signs.Semicolon m e g → NoneUpTo signs.CloseParenthesis 1 limits text g → Behind keywords.For at a (NoStatement room left limits text)
+no_for_next limits text room at left mid f m a b e g st is none ts k s end h d c w =
     let t = after_for text at s ts a end k h in
-    let x = (fits text room left s (For at t.0 t.1 t.2 t.3) t.8 w).expressions in
+    let v = fits limits text room left s (For at t.0 t.1 t.2 t.3) t.8 w in
     let p = after_first text left mid f t.0 a b e t.4 t.5 st t.9 t.10 in
     let q = up_to text signs.Semicolon m t.1 e t.5 g t.6 p.1 (omega arith) refl is t.11 in
-    none t.2 t.7 (subst (λ (y : List Token). IsUpTo text signs.CloseParenthesis t.2 y t.7) (sym q) t.12) (omega arith) (some_over t.2)
+    none t.2 t.7 (subst (λ (y : List Token). IsUpTo text signs.CloseParenthesis t.2 y t.7) (sym q) t.12) (λ lim. let o = v.expressions lim in omega arith) (λ i. some_over t.2)
 
-pub no_for_body : (text : List ℕ) (room less at : ℕ) (left mid : Left) (f : First) (m n : Option Expression) (a b e g j : List Token) → less + 1 ≡ room → Started text left mid f a b e → IsUpTo text signs.Semicolon m e g → IsUpTo text signs.CloseParenthesis n g j → NoStatement text less mid j → Behind keywords.For at a (NoStatement text room left)
-no_for_body text room less at left mid f m n a b e g j i st is is' none ts k s end h d c w =
+pub no_for_body : (limits : ℕ) (text : List ℕ) (room less at : ℕ) (left mid : Left) (f : First) (m n : Option Expression) (a b e g j : List Token) → less + 1 ≡ room → Started text left mid f a b e → IsUpTo text signs.Semicolon m e g → IsUpTo text signs.CloseParenthesis n g j → NoStatement less mid limits text j → Behind keywords.For at a (NoStatement room left limits text)
+no_for_body limits text room less at left mid f m n a b e g j i st is is' none ts k s end h d c w =
     let t = after_for text at s ts a end k h in
-    let v = fits text room left s (For at t.0 t.1 t.2 t.3) t.8 w in
-    let o = v.statements in let x = v.expressions in let l = v.locals in let u = v.funclets in
+    let v = fits limits text room left s (For at t.0 t.1 t.2 t.3) t.8 w in
     let p = after_first text left mid f t.0 a b e t.4 t.5 st t.9 t.10 in
     let q = up_to text signs.Semicolon m t.1 e t.5 g t.6 p.1 (omega arith) refl is t.11 in
     let r = up_to text signs.CloseParenthesis n t.2 g t.6 j t.7 q (omega arith) refl is' t.12 in
     let y = ap locals_of_first p.0 in
     let z = st.locals in let z' = st.funclets in
-    none t.3 end (subst (λ (y : List Token). IsItem text t.3 y end) (sym r) t.14) t.13 (closed_as s (For at t.0 t.1 t.2 t.3) end t.8 c) (record { statements = omega arith; expressions = omega arith; locals = omega arith; funclets = omega arith })
+    none t.3 end (subst (λ (y : List Token). IsItem text t.3 y end) (sym r) t.14) t.13 (closed_as s (For at t.0 t.1 t.2 t.3) end t.8 c) (record { statements = λ lim. let o = v.statements lim in omega arith; expressions = λ lim. let o = v.expressions lim in omega arith; locals = λ lim. let o = v.locals lim in omega arith; funclets = λ lim. let o = v.funclets lim in omega (arith, length-append {A = ℕ}) })
 
 pub for_found : (text : List ℕ) (room less at : ℕ) (left mid after : Left) (f : First) (m n : Option Expression) (z : Statement) (a b e g j rest : List Token) → less + 1 ≡ room → Started text left mid f a b e → IsUpTo text signs.Semicolon m e g → height_of m ≤ 64 → IsUpTo text signs.CloseParenthesis n g j → height_of n ≤ 64 → Reads text less mid after z j rest → Behind keywords.For at a (λ ts. Reads text room left after (For at f m n z) ts rest)
 for_found text room less at left mid after f m n z a b e g j rest i st is low is' low' r ts k =
@@ -288,38 +286,36 @@ for_found text room less at left mid after f m n z a b e g j rest i st is low is
 pub block_found : (text : List ℕ) (room : ℕ) (left after : Left) (ss : Statements) (ts a rest : List Token) → HasSign signs.OpenBrace ts a → AreItems text ss a rest → AllTaken text room left after ss → Reads text room left after (Block ss) ts rest
 block_found text room left after ss ts a rest o is t = record { is = (a, o, is); statement = refl; closed = λ i. absurd cc; taken = record { statements = t.statements; expressions = t.expressions; locals = t.locals; funclets = t.funclets } }
 
-pub no_block : (text : List ℕ) (room : ℕ) (left : Left) (ts a : List Token) → HasSign signs.OpenBrace ts a → NoItems text room left a → NoStatement text room left ts
-no_block text room left ts a o none s end h d c w =
+pub no_block : (limits : ℕ) (text : List ℕ) (room : ℕ) (left : Left) (ts a : List Token) → HasSign signs.OpenBrace ts a → NoItems room left limits text a → NoStatement room left limits text ts
+no_block limits text room left ts a o none s end h d c w =
     let t = after_brace text s ts a end o h in
-    let v = fits text room left s (Block t.0) t.1 w in
+    let v = fits limits text room left s (Block t.0) t.1 w in
     none t.0 end t.2 (record { statements = v.statements; expressions = v.expressions; locals = v.locals; funclets = v.funclets })
 
 after_braces : (text : List ℕ) (ss zs : Statements) (ts rest end : List Token) → IsBraced text ss ts rest → IsBraced text zs ts end → (ss ≡ zs) × (rest ≡ end)
 after_braces text ss zs ts rest end h g = same_items text ss zs h.0 g.0 rest end (has_same signs.OpenBrace ts ts h.0 g.0 refl h.1 g.1) h.2 g.2
 
-number_length : (b : Bool) (at : ℕ) → length (cond b [] (at ∷ [])) ≡ numbers_of b
+pub number_length : (b : Bool) (at : ℕ) → length (cond b [] (at ∷ [])) ≡ numbers_of b
 number_length true at = refl
 number_length false at = refl
 
-pub no_try : (text : List ℕ) (room at : ℕ) (left : Left) (a : List Token) → room ≡ 0 → left.funclets ≡ 0 → Behind keywords.Try at a (NoStatement text room left)
-no_try text room at left a n m ts k s end h d c w = by (after_try text at s ts a end k h)
+pub no_try : (limits : ℕ) (text : List ℕ) (room at : ℕ) (left : Left) (a : List Token) → 6 ≤ limits → room ≡ 0 → left.funclets ≡ 0 → Behind keywords.Try at a (NoStatement room left limits text)
+no_try limits text room at left a i n m ts k s end h d c w = by (after_try text at s ts a end k h)
   where
     by : (AfterExcept text s a end ⊎ AfterFinally text s a end) → ⊥
-    by (inl t) = let o = (fits text room left s (TryExcept t.0 t.1 t.2 t.3) t.7 w).statements in absurd (omega arith)
-    by (inr t) = let o = (fits text room left s (TryFinally t.0 t.1 t.2) t.5 w).funclets in absurd (omega (arith, length-append {A = ℕ}))
+    by (inl t) = let v = fits limits text room left s (TryExcept t.0 t.1 t.2 t.3) t.7 w in let o = v.statements (omega arith) in absurd (omega arith)
+    by (inr t) = let v = fits limits text room left s (TryFinally t.0 t.1 t.2) t.5 w in let o = v.funclets i in absurd (omega (arith, length-append {A = ℕ}))
 
-pub no_try_body : (text : List ℕ) (room at : ℕ) (left : Left) (a : List Token) → NoneBraced text room left a → Behind keywords.Try at a (NoStatement text room left)
-no_try_body text room at left a none ts k s end h d c w = by (after_try text at s ts a end k h)
+pub no_try_body : (limits : ℕ) (text : List ℕ) (room at : ℕ) (left : Left) (a : List Token) → NoneBraced room left limits text a → Behind keywords.Try at a (NoStatement room left limits text)
+no_try_body limits text room at left a none ts k s end h d c w = by (after_try text at s ts a end k h)
   where
     by : (AfterExcept text s a end ⊎ AfterFinally text s a end) → ⊥
     by (inl t) =
-        let v = fits text room left s (TryExcept t.0 t.1 t.2 t.3) t.7 w in
-        let o = v.statements in let x = v.expressions in let l = v.locals in let u = v.funclets in
-        none t.0 t.4 t.8 (record { statements = omega arith; expressions = omega arith; locals = omega arith; funclets = omega (arith, length-append {A = ℕ}) })
+        let v = fits limits text room left s (TryExcept t.0 t.1 t.2 t.3) t.7 w in
+        none t.0 t.4 t.8 (record { statements = λ lim. let o = v.statements lim in omega arith; expressions = λ lim. let o = v.expressions lim in omega arith; locals = λ lim. let o = v.locals lim in omega arith; funclets = λ lim. let o = v.funclets lim in omega (arith, length-append {A = ℕ}) })
     by (inr t) =
-        let v = fits text room left s (TryFinally t.0 t.1 t.2) t.5 w in
-        let o = v.statements in let x = v.expressions in let l = v.locals in let u = v.funclets in
-        none t.0 t.3 t.6 (record { statements = omega arith; expressions = omega arith; locals = omega arith; funclets = omega (arith, length-append {A = ℕ}) })
+        let v = fits limits text room left s (TryFinally t.0 t.1 t.2) t.5 w in
+        none t.0 t.3 t.6 (record { statements = λ lim. let o = v.statements lim in omega arith; expressions = λ lim. let o = v.expressions lim in omega arith; locals = λ lim. let o = v.locals lim in omega arith; funclets = λ lim. let o = v.funclets lim in omega (arith, length-append {A = ℕ}) })
 
 not_finally : (text : List ℕ) (body : Statements) (p : ℕ) (s : Statement) (a b j end : List Token) → IsBraced text body a b → IsKeyword keywords.Except p b j → AfterFinally text s a end → ⊥
 not_finally text body p s a b j end is kw t =
@@ -331,35 +327,33 @@ not_except text body p s a b j end is kw t =
     let u = after_braces text body t.0 a b t.4 is t.8 in
     let e : keywords.Finally ≡ keywords.Except = (keyword_same keywords.Finally keywords.Except b t.4 j t.5 u.1 (p, kw) (t.1, t.9)).0 in cc
 
-pub no_except_room : (text : List ℕ) (room at p : ℕ) (left : Left) (body : Statements) (a b j : List Token) → room ≡ 0 → IsBraced text body a b → IsKeyword keywords.Except p b j → Behind keywords.Try at a (NoStatement text room left)
-no_except_room text room at p left body a b j n is kw ts k s end h d c w = by (after_try text at s ts a end k h)
+pub no_except_room : (limits : ℕ) (text : List ℕ) (room at p : ℕ) (left : Left) (body : Statements) (a b j : List Token) → 1 ≤ limits → room ≡ 0 → IsBraced text body a b → IsKeyword keywords.Except p b j → Behind keywords.Try at a (NoStatement room left limits text)
+no_except_room limits text room at p left body a b j i n is kw ts k s end h d c w = by (after_try text at s ts a end k h)
   where
     by : (AfterExcept text s a end ⊎ AfterFinally text s a end) → ⊥
-    by (inl t) = let o = (fits text room left s (TryExcept t.0 t.1 t.2 t.3) t.7 w).statements in absurd (omega arith)
+    by (inl t) = let v = fits limits text room left s (TryExcept t.0 t.1 t.2 t.3) t.7 w in let o = v.statements (omega arith) in absurd (omega arith)
     by (inr t) = not_finally text body p s a b j end is kw t
 
-pub no_filter : (text : List ℕ) (room at p : ℕ) (left mid : Left) (body : Statements) (a b j : List Token) → IsBraced text body a b → AllTaken text room left mid body → IsKeyword keywords.Except p b j → NoFilter text mid.funclets j → Behind keywords.Try at a (NoStatement text room left)
-no_filter text room at p left mid body a b j is tk kw none ts k s end h d c w = by (after_try text at s ts a end k h)
+pub no_filter : (limits : ℕ) (text : List ℕ) (room at p : ℕ) (left mid : Left) (body : Statements) (a b j : List Token) → IsBraced text body a b → AllTaken text room left mid body → IsKeyword keywords.Except p b j → NoFilter mid.funclets limits text j → Behind keywords.Try at a (NoStatement room left limits text)
+no_filter limits text room at p left mid body a b j is tk kw none ts k s end h d c w = by (after_try text at s ts a end k h)
   where
     by : (AfterExcept text s a end ⊎ AfterFinally text s a end) → ⊥
     by (inl t) =
-        let v = fits text room left s (TryExcept t.0 t.1 t.2 t.3) t.7 w in
-        let x = v.expressions in let m = v.funclets in
+        let v = fits limits text room left s (TryExcept t.0 t.1 t.2 t.3) t.7 w in
         let u = after_braces text body t.0 a b t.4 is t.8 in
         let q = place keywords.Except p t.1 b t.4 j t.5 u.1 kw t.9 in
         let y = number_length (accepts text t.2) t.1 in
         let z = tk.funclets in
         let e = ap (λ (i : Statements). length (all_numbered text i)) u.0 in
-        none t.2 t.6 (subst (λ (i : List Token). IsCondition text t.2 i t.6) (sym q.1) t.10) (omega arith) (omega (arith, length-append {A = ℕ}))
+        none t.2 t.6 (subst (λ (i : List Token). IsCondition text t.2 i t.6) (sym q.1) t.10) (λ lim. let o = v.expressions lim in omega arith) (λ lim. let o = v.funclets lim in omega (arith, length-append {A = ℕ}))
     by (inr t) = not_finally text body p s a b j end is kw t
 
-pub no_handler : (text : List ℕ) (room at p : ℕ) (left mid next : Left) (body : Statements) (f : Expression) (a b j g : List Token) → IsBraced text body a b → AllTaken text room left mid body → IsKeyword keywords.Except p b j → IsCondition text f j g → next.funclets + numbers_of (accepts text f) ≡ mid.funclets → next.locals ≡ mid.locals → NoneBraced text room next g → Behind keywords.Try at a (NoStatement text room left)
-no_handler text room at p left mid next body f a b j g is tk kw cn nx ny none ts k s end h d c w = by (after_try text at s ts a end k h)
+pub no_handler : (limits : ℕ) (text : List ℕ) (room at p : ℕ) (left mid next : Left) (body : Statements) (f : Expression) (a b j g : List Token) → IsBraced text body a b → AllTaken text room left mid body → IsKeyword keywords.Except p b j → IsCondition text f j g → next.funclets + numbers_of (accepts text f) ≡ mid.funclets → next.locals ≡ mid.locals → NoneBraced room next limits text g → Behind keywords.Try at a (NoStatement room left limits text)
+no_handler limits text room at p left mid next body f a b j g is tk kw cn nx ny none ts k s end h d c w = by (after_try text at s ts a end k h)
   where
     by : (AfterExcept text s a end ⊎ AfterFinally text s a end) → ⊥
     by (inl t) =
-        let v = fits text room left s (TryExcept t.0 t.1 t.2 t.3) t.7 w in
-        let o = v.statements in let x = v.expressions in let l = v.locals in let m = v.funclets in
+        let v = fits limits text room left s (TryExcept t.0 t.1 t.2 t.3) t.7 w in
         let u = after_braces text body t.0 a b t.4 is t.8 in
         let q = place keywords.Except p t.1 b t.4 j t.5 u.1 kw t.9 in
         let r = condition text f t.2 j t.5 g t.6 q.1 cn t.10 in
@@ -368,7 +362,7 @@ no_handler text room at p left mid next body f a b j g is tk kw cn nx ny none ts
         let e = ap (λ (i : Statements). length (all_numbered text i)) u.0 in
         let e' = ap locals_of_all u.0 in
         let i = ap (λ (i : Expression). numbers_of (accepts text i)) r.0 in
-        none t.3 end (subst (λ (i : List Token). IsBraced text t.3 i end) (sym r.1) t.11) (record { statements = omega arith; expressions = omega arith; locals = omega arith; funclets = omega (arith, length-append {A = ℕ}) })
+        none t.3 end (subst (λ (i : List Token). IsBraced text t.3 i end) (sym r.1) t.11) (record { statements = λ lim. let o = v.statements lim in omega arith; expressions = λ lim. let o = v.expressions lim in omega arith; locals = λ lim. let o = v.locals lim in omega arith; funclets = λ lim. let o = v.funclets lim in omega (arith, length-append {A = ℕ}) })
     by (inr t) = not_finally text body p s a b j end is kw t
 
 pub except_found : (text : List ℕ) (room at p : ℕ) (left mid next after : Left) (body handler : Statements) (f : Expression) (a b j g rest : List Token) → 1 ≤ room → IsBraced text body a b → AllTaken text room left mid body → IsKeyword keywords.Except p b j → IsCondition text f j g → height f ≤ 64 → next.funclets + numbers_of (accepts text f) ≡ mid.funclets → next.locals ≡ mid.locals → IsBraced text handler g rest → AllTaken text room next after handler → Behind keywords.Try at a (λ ts. Reads text room left after (TryExcept body p f handler) ts rest)
@@ -383,39 +377,38 @@ except_found text room at p left mid next after body handler f a b j g rest n is
       taken = record { statements = omega arith; expressions = omega arith; locals = omega arith; funclets = omega (arith, length-append {A = ℕ}) };
     }
 
-pub unguarded : (text : List ℕ) (room at : ℕ) (left : Left) (body : Statements) (a b : List Token) → IsBraced text body a b → ((rest : List Token) → HasKeyword keywords.Except b rest → ⊥) → ((rest : List Token) → HasKeyword keywords.Finally b rest → ⊥) → Behind keywords.Try at a (NoStatement text room left)
-unguarded text room at left body a b is x y ts k s end h d c w = by (after_try text at s ts a end k h)
+pub unguarded : (limits : ℕ) (text : List ℕ) (room at : ℕ) (left : Left) (body : Statements) (a b : List Token) → IsBraced text body a b → ((rest : List Token) → HasKeyword keywords.Except b rest → ⊥) → ((rest : List Token) → HasKeyword keywords.Finally b rest → ⊥) → Behind keywords.Try at a (NoStatement room left limits text)
+unguarded limits text room at left body a b is x y ts k s end h d c w = by (after_try text at s ts a end k h)
   where
     by : (AfterExcept text s a end ⊎ AfterFinally text s a end) → ⊥
     by (inl t) = let u = after_braces text body t.0 a b t.4 is t.8 in x t.5 (subst (λ (i : List Token). HasKeyword keywords.Except i t.5) (sym u.1) (t.1, t.9))
     by (inr t) = let u = after_braces text body t.0 a b t.3 is t.6 in y t.4 (subst (λ (i : List Token). HasKeyword keywords.Finally i t.4) (sym u.1) (t.1, t.7))
 
-pub no_finally_left : (text : List ℕ) (room at p : ℕ) (left mid : Left) (body : Statements) (a b j : List Token) → IsBraced text body a b → AllTaken text room left mid body → IsKeyword keywords.Finally p b j → mid.funclets ≡ 0 → Behind keywords.Try at a (NoStatement text room left)
-no_finally_left text room at p left mid body a b j is tk kw n ts k s end h d c w = by (after_try text at s ts a end k h)
+pub no_finally_left : (limits : ℕ) (text : List ℕ) (room at p : ℕ) (left mid : Left) (body : Statements) (a b j : List Token) → IsBraced text body a b → AllTaken text room left mid body → IsKeyword keywords.Finally p b j → 6 ≤ limits → mid.funclets ≡ 0 → Behind keywords.Try at a (NoStatement room left limits text)
+no_finally_left limits text room at p left mid body a b j is tk kw i n ts k s end h d c w = by (after_try text at s ts a end k h)
   where
     by : (AfterExcept text s a end ⊎ AfterFinally text s a end) → ⊥
     by (inl t) = not_except text body p s a b j end is kw t
     by (inr t) =
-        let m = (fits text room left s (TryFinally t.0 t.1 t.2) t.5 w).funclets in
+        let v = fits limits text room left s (TryFinally t.0 t.1 t.2) t.5 w in
         let u = after_braces text body t.0 a b t.3 is t.6 in
         let e = ap (λ (i : Statements). length (all_numbered text i)) u.0 in
         let z = tk.funclets in
-        absurd (omega (arith, length-append {A = ℕ}))
+        let o = v.funclets i in absurd (omega (arith, length-append {A = ℕ}))
 
-pub no_last : (text : List ℕ) (room at p : ℕ) (left mid next : Left) (body : Statements) (a b j : List Token) → IsBraced text body a b → AllTaken text room left mid body → IsKeyword keywords.Finally p b j → next.funclets + 1 ≡ mid.funclets → next.locals ≡ mid.locals → NoneBraced text room next j → Behind keywords.Try at a (NoStatement text room left)
-no_last text room at p left mid next body a b j is tk kw nx ny none ts k s end h d c w = by (after_try text at s ts a end k h)
+pub no_last : (limits : ℕ) (text : List ℕ) (room at p : ℕ) (left mid next : Left) (body : Statements) (a b j : List Token) → IsBraced text body a b → AllTaken text room left mid body → IsKeyword keywords.Finally p b j → next.funclets + 1 ≡ mid.funclets → next.locals ≡ mid.locals → NoneBraced room next limits text j → Behind keywords.Try at a (NoStatement room left limits text)
+no_last limits text room at p left mid next body a b j is tk kw nx ny none ts k s end h d c w = by (after_try text at s ts a end k h)
   where
     by : (AfterExcept text s a end ⊎ AfterFinally text s a end) → ⊥
     by (inl t) = not_except text body p s a b j end is kw t
     by (inr t) =
-        let v = fits text room left s (TryFinally t.0 t.1 t.2) t.5 w in
-        let o = v.statements in let x = v.expressions in let l = v.locals in let m = v.funclets in
+        let v = fits limits text room left s (TryFinally t.0 t.1 t.2) t.5 w in
         let u = after_braces text body t.0 a b t.3 is t.6 in
         let q = place keywords.Finally p t.1 b t.3 j t.4 u.1 kw t.7 in
         let z = tk.funclets in let z' = tk.locals in
         let e = ap (λ (i : Statements). length (all_numbered text i)) u.0 in
         let e' = ap locals_of_all u.0 in
-        none t.2 end (subst (λ (i : List Token). IsBraced text t.2 i end) (sym q.1) t.8) (record { statements = omega arith; expressions = omega arith; locals = omega arith; funclets = omega (arith, length-append {A = ℕ}) })
+        none t.2 end (subst (λ (i : List Token). IsBraced text t.2 i end) (sym q.1) t.8) (record { statements = λ lim. let o = v.statements lim in omega arith; expressions = λ lim. let o = v.expressions lim in omega arith; locals = λ lim. let o = v.locals lim in omega arith; funclets = λ lim. let o = v.funclets lim in omega (arith, length-append {A = ℕ}) })
 
 pub finally_found : (text : List ℕ) (room at p : ℕ) (left mid next after : Left) (body last : Statements) (a b j rest : List Token) → IsBraced text body a b → AllTaken text room left mid body → IsKeyword keywords.Finally p b j → next.funclets + 1 ≡ mid.funclets → next.locals ≡ mid.locals → IsBraced text last j rest → AllTaken text room next after last → Behind keywords.Try at a (λ ts. Reads text room left after (TryFinally body p last) ts rest)
 finally_found text room at p left mid next after body last a b j rest is tk kw nx ny is' tk' ts k =
@@ -453,28 +446,21 @@ Plain keywords.Finally = Unit {0}
 Plain keywords.Leave = ⊥
 Plain keywords.GetExceptionInformation = Unit {0}
 
-pub only_evaluations : (text : List ℕ) (room : ℕ) (left : Left) (ts : List Token) → Lacks signs.OpenBrace ts → ((k : Keyword) (rest : List Token) → HasKeyword k ts rest → Plain k) → NoEvaluation text room left ts → NoStatement text room left ts
-only_evaluations text room left ts o p none (Declare b ls) end h d c w = cc
-only_evaluations text room left ts o p none (Block ss) end h d c w = o h.0 h.1
-only_evaluations text room left ts o p none (Evaluate e) end h d c w = none e end h w
-only_evaluations text room left ts o p none (If at e s) end h d c w = p keywords.If h.0 (at, h.2)
-only_evaluations text room left ts o p none (IfElse at e s t) end h d c w = p keywords.If h.0 (at, h.4)
-only_evaluations text room left ts o p none (While at e s) end h d c w = p keywords.While h.0 (at, h.2)
-only_evaluations text room left ts o p none (DoWhile s at e) end h d c w = p keywords.Do h.0 h.4
-only_evaluations text room left ts o p none (For at f e n s) end h d c w = p keywords.For h.0 (at, h.7)
-only_evaluations text room left ts o p none (Return at e) end h d c w = p keywords.Return h.0 (at, h.2)
-only_evaluations text room left ts o p none (Break at) end h d c w = p keywords.Break h.0 (at, h.1)
-only_evaluations text room left ts o p none (Continue at) end h d c w = p keywords.Continue h.0 (at, h.1)
-only_evaluations text room left ts o p none (Leave at) end h d c w = p keywords.Leave h.0 (at, h.1)
-only_evaluations text room left ts o p none (TryExcept body at f l) end h d c w = p keywords.Try h.0 h.6
-only_evaluations text room left ts o p none (TryFinally body at l) end h d c w = p keywords.Try h.0 h.5
-
-pub plainly : (text : List ℕ) (room at : ℕ) (left : Left) (k : Keyword) (ts a : List Token) → IsKeyword k at ts a → Plain k → NoEvaluation text room left ts → NoStatement text room left ts
-plainly text room at left k ts a is p none =
-    only_evaluations text room left ts
-    (λ rest h. let q = kind_same (kinds.Sign signs.OpenBrace) (kinds.Keyword k) h.0 at ts ts rest a refl h.1 is in let e : kinds.Sign signs.OpenBrace ≡ kinds.Keyword k = q.0 in cc)
-    (λ j rest h. subst Plain (sym (keyword_same j k ts ts rest a refl h (at, is)).0) p)
-    none
+pub only_evaluations : (limits : ℕ) (text : List ℕ) (room : ℕ) (left : Left) (ts : List Token) → Lacks signs.OpenBrace ts → ((k : Keyword) (rest : List Token) → HasKeyword k ts rest → Plain k) → NoEvaluation room left limits text ts → NoStatement room left limits text ts
+only_evaluations limits text room left ts o p none (Declare b ls) end h d c w = cc
+only_evaluations limits text room left ts o p none (Block ss) end h d c w = o h.0 h.1
+only_evaluations limits text room left ts o p none (Evaluate e) end h d c w = none e end h w
+only_evaluations limits text room left ts o p none (If at e s) end h d c w = p keywords.If h.0 (at, h.2)
+only_evaluations limits text room left ts o p none (IfElse at e s t) end h d c w = p keywords.If h.0 (at, h.4)
+only_evaluations limits text room left ts o p none (While at e s) end h d c w = p keywords.While h.0 (at, h.2)
+only_evaluations limits text room left ts o p none (DoWhile s at e) end h d c w = p keywords.Do h.0 h.4
+only_evaluations limits text room left ts o p none (For at f e n s) end h d c w = p keywords.For h.0 (at, h.7)
+only_evaluations limits text room left ts o p none (Return at e) end h d c w = p keywords.Return h.0 (at, h.2)
+only_evaluations limits text room left ts o p none (Break at) end h d c w = p keywords.Break h.0 (at, h.1)
+only_evaluations limits text room left ts o p none (Continue at) end h d c w = p keywords.Continue h.0 (at, h.1)
+only_evaluations limits text room left ts o p none (Leave at) end h d c w = p keywords.Leave h.0 (at, h.1)
+only_evaluations limits text room left ts o p none (TryExcept body at f l) end h d c w = p keywords.Try h.0 h.6
+only_evaluations limits text room left ts o p none (TryFinally body at l) end h d c w = p keywords.Try h.0 h.5
 
 pub plain_by : (k : Keyword) → (k ≡ keywords.If → ⊥) → (k ≡ keywords.While → ⊥) → (k ≡ keywords.Do → ⊥) → (k ≡ keywords.For → ⊥) → (k ≡ keywords.Try → ⊥) → (k ≡ keywords.Return → ⊥) → (k ≡ keywords.Break → ⊥) → (k ≡ keywords.Continue → ⊥) → (k ≡ keywords.Leave → ⊥) → Plain k
 plain_by keywords.Break i w d f t r b c l = b refl
@@ -504,5 +490,5 @@ front_of k j at ts rest e h = subst (λ (x : Keyword). IsKeyword x at ts rest) e
 abbrev pub left_of : ℕ → ℕ → Left
 left_of locals funclets = record { locals = locals; funclets = funclets }
 
-pub no_braced : (text : List ℕ) (room : ℕ) (left : Left) (ts a : List Token) → HasSign signs.OpenBrace ts a → NoItems text room left a → NoneBraced text room left ts
-no_braced text room left ts a o none ss end h w = none ss end (subst (λ (y : List Token). AreItems text ss y end) (has_same signs.OpenBrace ts ts h.0 a refl h.1 o) h.2) w
+pub no_braced : (limits : ℕ) (text : List ℕ) (room : ℕ) (left : Left) (ts a : List Token) → HasSign signs.OpenBrace ts a → NoItems room left limits text a → NoneBraced room left limits text ts
+no_braced limits text room left ts a o none ss end h w = none ss end (subst (λ (y : List Token). AreItems text ss y end) (has_same signs.OpenBrace ts ts h.0 a refl h.1 o) h.2) w

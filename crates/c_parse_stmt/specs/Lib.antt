@@ -1,3 +1,6 @@
 pub mod Filters
 pub mod Parts
 pub mod Within
+pub mod Openings
+pub mod Endings
+pub mod Begins

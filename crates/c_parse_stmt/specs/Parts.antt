@@ -1,5 +1,5 @@
--- Parts of statements with what ends them; and that none stands at the front.
-use Rattle.std.specs.Prelude.{◌≤◌, ℕ, List, length, Option}
+-- Parts of statements with what ends them; that none stands at the front; and that tokens are such a part, whatever follows. Limits count where the first n of them hold: the first is nesting, the second the locals of a function.
+use Rattle.std.specs.Prelude.{◌≡◌, ◌≤◌, ◌⊎◌, ℕ, List, [], ◌++◌, length, Option}
 use Rattle.c_lex.specs.declared.sign.Sign.{Sign}
 use Rattle.c_lex.specs.declared.token.Token.{Token}
 use Rattle.c_syntax.specs.declared.expression.Base.{Base}
@@ -14,34 +14,88 @@ use Rattle.c_syntax.specs.Tokens.{HasSign}
 abbrev pub IsUpTo : List ℕ → Sign → Option Expression → List Token → List Token → Type 0
 IsUpTo text sign e ts rest = (a : List Token) × IsOptional text e ts a × HasSign sign a rest
 
-abbrev pub NoCondition : List ℕ → List Token → Type 0
-NoCondition text ts = (e : Expression) (end : List Token) → IsCondition text e ts end → height e ≤ 64 → ⊥
+-- ---- a sign
 
-abbrev pub NoneUpTo : List ℕ → Sign → ℕ → List Token → Type 0
-NoneUpTo text sign room ts = (e : Option Expression) (end : List Token) → IsUpTo text sign e ts end → height_of e ≤ 64 → one_over e ≤ room → ⊥
+abbrev pub NoSign : Sign → ℕ → List ℕ → List Token → Type 0
+NoSign sign n text ts = (end : List Token) → HasSign sign ts end → ⊥
+
+abbrev pub ASign : Sign → ℕ → List ℕ → List Token → Type 0
+ASign sign n text ts = (other : List Token) → HasSign sign (ts ++ other) other
+
+-- ---- expressions
+
+abbrev pub NoCondition : ℕ → List ℕ → List Token → Type 0
+NoCondition n text ts = (e : Expression) (end : List Token) → IsCondition text e ts end → (1 ≤ n → height e ≤ 64) → ⊥
+
+pub record HasCondition (n : ℕ) (text : List ℕ) (ts : List Token) : Type 0 where
+  pub tree : Expression
+  pub is : (other : List Token) → IsCondition text tree (ts ++ other) other
+  pub low : 1 ≤ n → height tree ≤ 64
+
+abbrev pub NoneUpTo : Sign → ℕ → ℕ → List ℕ → List Token → Type 0
+NoneUpTo sign room n text ts = (e : Option Expression) (end : List Token) → IsUpTo text sign e ts end → (1 ≤ n → height_of e ≤ 64) → (1 ≤ n → one_over e ≤ room) → ⊥
+
+pub record HasUpTo (sign : Sign) (room n : ℕ) (text : List ℕ) (ts : List Token) : Type 0 where
+  pub tree : Option Expression
+  pub is : (other : List Token) → IsUpTo text sign tree (ts ++ other) other
+  pub low : 1 ≤ n → height_of tree ≤ 64
+  pub over : 1 ≤ n → one_over tree ≤ room
 
 -- ---- locals
 
-abbrev pub NoInitialiser : List ℕ → ℕ → List Token → Type 0
-NoInitialiser text room ts = (e : Option Expression) (end : List Token) → IsInitialiser text e ts end → Stops 15 end → height_of e ≤ 64 → one_over e ≤ room → ⊥
+abbrev pub NoInitialiser : ℕ → ℕ → List ℕ → List Token → Type 0
+NoInitialiser room n text ts = (e : Option Expression) (end : List Token) → IsInitialiser text e ts end → Stops 15 end → (1 ≤ n → height_of e ≤ 64) → (1 ≤ n → one_over e ≤ room) → ⊥
 
-abbrev pub NoLocal : List ℕ → ℕ → List Token → Type 0
-NoLocal text room ts = (l : Local) (end : List Token) → IsLocal text l ts end → Stops 15 end → height_of l.initialiser ≤ 64 → one_over l.initialiser ≤ room → ⊥
+pub record HasInitialiser (room n : ℕ) (text : List ℕ) (ts : List Token) : Type 0 where
+  pub tree : Option Expression
+  pub is : (other : List Token) → IsInitialiser text tree (ts ++ other) other
+  pub low : 1 ≤ n → height_of tree ≤ 64
+  pub over : 1 ≤ n → one_over tree ≤ room
+
+abbrev pub NoLocal : ℕ → ℕ → List ℕ → List Token → Type 0
+NoLocal room n text ts = (l : Local) (end : List Token) → IsLocal text l ts end → Stops 15 end → (1 ≤ n → height_of l.initialiser ≤ 64) → (1 ≤ n → one_over l.initialiser ≤ room) → ⊥
+
+pub record HasLocal (room n : ℕ) (text : List ℕ) (ts : List Token) : Type 0 where
+  pub tree : Local
+  pub is : (other : List Token) → IsLocal text tree (ts ++ other) other
+  pub low : 1 ≤ n → height_of tree.initialiser ≤ 64
+  pub over : 1 ≤ n → one_over tree.initialiser ≤ room
 
 -- at most so many, with 64 expressions around each expression at most, and one statement where there may be one
-pub record LocalsWithin (room left : ℕ) (ls : List Local) : Type 0 where
-  pub expressions : height_of_locals ls ≤ 64
-  pub statements : one_over_locals ls ≤ room
-  pub count : length ls ≤ left
+pub record LocalsWithin (n room left : ℕ) (ls : List Local) : Type 0 where
+  pub expressions : 1 ≤ n → height_of_locals ls ≤ 64
+  pub statements : 1 ≤ n → one_over_locals ls ≤ room
+  pub count : 2 ≤ n → length ls ≤ left
 
-abbrev pub NoMoreLocals : List ℕ → ℕ → ℕ → List Token → Type 0
-NoMoreLocals text room left ts = (ls : List Local) (end : List Token) → AreMoreLocals text ls ts end → LocalsWithin room left ls → ⊥
+abbrev pub NoMoreLocals : ℕ → ℕ → ℕ → List ℕ → List Token → Type 0
+NoMoreLocals room left n text ts = (ls : List Local) (end : List Token) → AreMoreLocals text ls ts end → LocalsWithin n room left ls → ⊥
 
-abbrev pub NoLocals : List ℕ → ℕ → ℕ → List Token → Type 0
-NoLocals text room left ts = (ls : List Local) (end : List Token) → AreLocals text ls ts end → LocalsWithin room left ls → ⊥
+abbrev pub NoLocals : ℕ → ℕ → ℕ → List ℕ → List Token → Type 0
+NoLocals room left n text ts = (ls : List Local) (end : List Token) → AreLocals text ls ts end → LocalsWithin n room left ls → ⊥
 
-abbrev pub NoDeclaration : List ℕ → ℕ → ℕ → List Token → Type 0
-NoDeclaration text room left ts = (base : Base) (ls : List Local) (end : List Token) → IsDeclaration text base ls ts end → LocalsWithin room left ls → ⊥
+pub record HasLocals (room left n : ℕ) (text : List ℕ) (ts : List Token) : Type 0 where
+  pub trees : List Local
+  pub are : (other : List Token) → AreLocals text trees (ts ++ other) other
+  pub within : LocalsWithin n room left trees
 
-abbrev pub NoFirst : List ℕ → ℕ → List Token → Type 0
-NoFirst text left ts = (f : First) (end : List Token) → IsFirst text f ts end → height_of_first f ≤ 64 → locals_of_first f ≤ left → ⊥
+abbrev pub NoDeclaration : ℕ → ℕ → ℕ → List ℕ → List Token → Type 0
+NoDeclaration room left n text ts = (base : Base) (ls : List Local) (end : List Token) → IsDeclaration text base ls ts end → LocalsWithin n room left ls → ⊥
+
+pub record ADeclaration (room left n : ℕ) (text : List ℕ) (ts : List Token) : Type 0 where
+  pub base : Base
+  pub trees : List Local
+  pub is : (other : List Token) → IsDeclaration text base trees (ts ++ other) other
+  pub within : LocalsWithin n room left trees
+
+-- something else may stand in its place: where no local is left, there is no declaration
+abbrev pub HasDeclaration : ℕ → ℕ → ℕ → List ℕ → List Token → Type 0
+HasDeclaration room left n text ts = (ts ≡ []) ⊎ ADeclaration room left n text ts
+
+abbrev pub NoFirst : ℕ → ℕ → List ℕ → List Token → Type 0
+NoFirst left n text ts = (f : First) (end : List Token) → IsFirst text f ts end → (1 ≤ n → height_of_first f ≤ 64) → (2 ≤ n → locals_of_first f ≤ left) → ⊥
+
+pub record HasFirst (left n : ℕ) (text : List ℕ) (ts : List Token) : Type 0 where
+  pub tree : First
+  pub is : (other : List Token) → IsFirst text tree (ts ++ other) other
+  pub low : 1 ≤ n → height_of_first tree ≤ 64
+  pub count : 2 ≤ n → locals_of_first tree ≤ left

@@ -1,21 +1,38 @@
 //! Filters, and which of them have a number.
 
-ghost use Rattle.std.specs.Prelude.{◌≡◌, ◌≤◌, ◌+◌, length, IfOk, IfErr};
+ghost use Rattle.std.specs.Prelude.{◌≡◌, ◌≤◌, ◌<◌, ◌+◌, true, List, ◌∷◌, IsTrue, IsFalse, IfSome, IfNone, IfOk, IfErr};
+ghost use Rattle.c_lex.specs.declared.sign.Sign.TheVariants as signs;
+ghost use Rattle.c_lex.specs.declared.token.Token.{Token};
 ghost use Rattle.c_syntax.specs.Expression.{expression, height};
+ghost use Rattle.c_syntax.specs.Faults as faults;
+ghost use Rattle.c_syntax.specs.Faults.{Failed};
 ghost use Rattle.c_syntax.specs.Limits as limits;
 ghost use Rattle.c_syntax.specs.Statements.{IsCondition};
-ghost use Rattle.c_parse_expr.specs.declared.refusal.ParseErr.TheVariants.{Memory};
-ghost use Rattle.c_parse_expr.specs.Refusals.{Refuses};
-ghost use Rattle.c_parse_stmt.specs.Filters.{is_one, numbers_of, NoFilter};
+ghost use Rattle.c_syntax.specs.Tokens.{HasSign};
+ghost use Rattle.c_parse_expr.specs.declared.refusal.Count.TheVariants.{Funclets};
+ghost use Rattle.c_parse_expr.specs.declared.refusal.ParseErr.TheVariants.{TooMany};
+ghost use Rattle.c_parse_expr.specs.Refusals.{Placed};
+ghost use Rattle.c_parse_stmt.specs.Begins.{first_over};
+ghost use Rattle.c_parse_stmt.specs.Filters.{is_one, numbers_of, accepts_alone, AreOpening, AreClosing, GoesInside, NoneInside, GoesBehind, NoneBehind, NoFilter, HasFilter, Departs};
+ghost use Rattle.c_parse_stmt.specs.Parts.{NoCondition, HasCondition};
 
-use crate::parts::condition;
+use crate::parts::{begins_expression, condition};
 use c_lex::sign::Sign;
 use c_lex::token::{Kind, Token};
 use c_parse_atom::information::is_word;
+use c_parse_atom::operators::follows;
 use c_parse_expr::refusal::{Count, ParseErr, place};
 use c_parse_type::front::{after, front};
+use c_parse_type::specifiers::base;
 use c_syntax::expression::{Expr, Literal, Name};
 use std::alloc::Global;
+
+/// The most opening parentheses that a filter may have: its own, and those of the expressions around a
+/// part of it.
+const OPENING: u64 = 65;
+
+/// The level of a whole expression, commas too (C11, 6.5.17).
+const COMMA: u8 = 16;
 
 /// Whether a literal is an integer of value 1.
 fn is_one(literal: Literal) -> bool
@@ -40,19 +57,51 @@ fn accepts(text: &[u8], filter: &Expr) -> bool
     }
 }
 
-/// What follows the opening parentheses at the front.
-fn past_parentheses(tokens: &[Token]) -> &[Token]
-    ensures { length result.now ≤ length tokens.now }
+/// How many opening parentheses are at the front, as far as a filter may have so many, and what
+/// follows them.
+fn past_opening(tokens: &[Token]) -> (u64, &[Token])
+    ensures opened { AreOpening result.0 tokens.now result.1.now }
+    ensures most { result.0 ≤ 65 }
+    ensures all { result.0 < 65 → (rest : List Token) → HasSign signs.OpenParenthesis result.1.now rest → ⊥ }
 {
+    let mut count = 0;
     let mut rest = tokens;
-    while let Some(behind) = after(Sign::OpenParenthesis, rest) {
-        rest = behind;
+    while count < OPENING {
+        match after(Sign::OpenParenthesis, rest) {
+            Some(behind) => {
+                count += 1;
+                rest = behind;
+            }
+            None => return (count, rest),
+        }
     }
-    rest
+    (count, rest)
 }
 
-/// Whether a token alone is a filter that accepts whatever was raised.
-fn is_accepting(text: &[u8], token: Token) -> bool {
+/// How many closing parentheses are at the front, at most so many, and what follows them.
+fn past_closing(most: u64, tokens: &[Token]) -> (u64, &[Token])
+    ensures closed { AreClosing result.0 tokens.now result.1.now }
+    ensures most { result.0 ≤ most }
+    ensures all { result.0 < most → (rest : List Token) → HasSign signs.CloseParenthesis result.1.now rest → ⊥ }
+{
+    let mut count = 0;
+    let mut rest = tokens;
+    while count < most {
+        match after(Sign::CloseParenthesis, rest) {
+            Some(behind) => {
+                count += 1;
+                rest = behind;
+            }
+            None => return (count, rest),
+        }
+    }
+    (count, rest)
+}
+
+/// Whether a token alone is an expression that accepts whatever was raised.
+fn accepts_alone(text: &[u8], token: Token) -> bool
+    ensures { result ≡ accepts_alone text.now token }
+{
     match token.kind {
         Kind::Integer { value, .. } => value == 1,
         Kind::Name => {
@@ -66,59 +115,115 @@ fn is_accepting(text: &[u8], token: Token) -> bool {
     }
 }
 
-/// What follows the closing parentheses at the front, at most `depth` of them.
-fn past_closing(depth: usize, tokens: &[Token]) -> &[Token] {
-    let mut rest = tokens;
-    for _ in 0..depth {
-        match after(Sign::CloseParenthesis, rest) {
-            Some(behind) => rest = behind,
-            None => return rest,
-        }
+/// The token at the front, if it accepts alone, and what follows it.
+fn accepting<'a>(text: &[u8], tokens: &'a [Token]) -> Option<(Token, &'a [Token])>
+    ensures found { IfSome result (λ x. tokens.now ≡ x.0 ∷ x.1.now) }
+    ensures accepts { IfSome result (λ x. accepts_alone text.now x.0 ≡ true) }
+    ensures none { IfNone result ((t : Token) (rest : List Token) → tokens.now ≡ t ∷ rest → accepts_alone text.now t ≡ true → ⊥) }
+{
+    let (token, rest) = front(tokens)?;
+    if accepts_alone(text, token) {
+        Some((token, rest))
+    } else {
+        None
     }
-    rest
 }
 
-/// The place of the first token, from the parenthesis of a filter on, with which no filter goes on that
-/// accepts whatever was raised: behind opening parentheses stands a token that accepts alone, and as
+/// How many expressions at least stand around a part of one that begins with the first token: a sign
+/// there is an operator's or a parenthesis.
+fn first_over(tokens: &[Token]) -> u64
+    ensures { result ≡ first_over tokens.now }
+{
+    match front(tokens) {
+        Some((token, _)) => match token.kind {
+            Kind::Sign(_) => 1,
+            _ => 0,
+        },
+        None => 0,
+    }
+}
+
+/// Whether some filter goes on with the first token behind so many opening parentheses: an expression
+/// begins with it, or a type in the last of them, within the limit of nesting.
+fn goes_inside(opened: u64, tokens: &[Token]) -> bool
+    requires some { 1 ≤ opened }
+    requires most { opened ≤ 65 }
+    ensures some { IsTrue result → GoesInside opened tokens.now }
+    ensures none { IsFalse result → NoneInside opened tokens.now }
+{
+    if begins_expression(tokens) {
+        return opened + first_over(tokens) <= OPENING;
+    }
+    match base(tokens) {
+        Some(_) => 2 <= opened,
+        None => false,
+    }
+}
+
+/// Whether some filter goes on with the first token behind opening parentheses, a token that accepts
+/// alone, and fewer closing ones: it is an operator within the limit of nesting, or makes a call.
+fn goes_behind(opened: u64, closed: u64, atom: Token, tokens: &[Token]) -> bool
+    requires fewer { closed < opened }
+    requires most { opened ≤ 65 }
+    requires unclosed { (rest : List Token) → HasSign signs.CloseParenthesis tokens.now rest → ⊥ }
+    ensures some { IsTrue result → GoesBehind opened closed atom tokens.now }
+    ensures none { IsFalse result → NoneBehind opened closed atom tokens.now }
+{
+    let level = follows(tokens);
+    if level == 0 {
+        return closed == 0 && matches!(atom.kind, Kind::Name);
+    }
+    level <= COMMA && opened < OPENING
+}
+
+/// The tokens from the first with which no filter goes on that accepts whatever was raised, and whether
+/// another one goes on there: such a filter is opening parentheses, a token that accepts alone, and as
 /// many closing ones.
-fn departure(text: &[u8], tokens: &[Token]) -> u64 {
-    let inner = past_parentheses(tokens);
-    let depth = tokens.len() - inner.len();
-    match front(inner) {
+fn departure<'a>(text: &[u8], tokens: &'a [Token]) -> (&'a [Token], bool)
+    ensures many { IsTrue result.1 → NoFilter 0 6 text.now tokens.now → Failed 6 (faults.place text.now result.0.now) (NoFilter 0) (HasFilter 0) text.now tokens.now }
+    ensures none { IsFalse result.1 → NoFilter 0 6 text.now tokens.now → Departs text.now tokens.now result.0.now }
+{
+    let (opened, inner) = past_opening(tokens);
+    if opened == 0 {
+        return (inner, false);
+    }
+    match accepting(text, inner) {
         Some((token, behind)) => {
-            if is_accepting(text, token) {
-                place(text, past_closing(depth, behind))
-            } else {
-                place(text, inner)
+            let (closed, rest) = past_closing(opened, behind);
+            if closed == opened {
+                return (rest, false);
             }
+            (rest, goes_behind(opened, closed, token, rest))
         }
-        None => place(text, inner),
+        None => (inner, goes_inside(opened, inner)),
     }
 }
 
 /// The refusal of a filter or a `__finally` block that has one number too many.
-pub fn too_many_funclets(at: u64) -> ParseErr {
+pub fn too_many_funclets(at: u64) -> ParseErr
+    ensures { result ≡ TooMany at Funclets }
+{
     ParseErr::TooMany {
         at,
         what: Count::Funclets,
     }
 }
 
-/// The refusal that comes first where no filter may have a number: this one, or that of the token at
-/// `departure`, with which no other filter goes on. At one place it is this one.
-fn earlier(refusal: ParseErr, departure: u64) -> ParseErr
-    ensures { refusal ≡ Memory → result ≡ Memory }
+/// The refusal that comes first where no filter may have a number: this one of a condition, or that of
+/// the token from which no other filter goes on.
+fn earlier(text: &[u8], refusal: ParseErr, tokens: &[Token]) -> ParseErr
+    ensures { Placed refusal NoCondition HasCondition text.now tokens.now → Placed result (NoFilter 0) (HasFilter 0) text.now tokens.now }
 {
     match refusal {
-        ParseErr::Unexpected { at } | ParseErr::TooDeep { at } => {
-            if departure < at {
-                too_many_funclets(departure)
+        ParseErr::Memory => refusal,
+        _ => {
+            let (rest, goes_on) = departure(text, tokens);
+            if goes_on {
+                too_many_funclets(place(text, rest))
             } else {
                 refusal
             }
         }
-        ParseErr::TooMany { .. } => refusal,
-        ParseErr::Memory => ParseErr::Memory,
     }
 }
 
@@ -134,7 +239,7 @@ pub fn filter<'a>(
     ensures found { IfOk result (λ x. IsCondition text.now (expression x.0) tokens.now x.2.now) }
     ensures low { IfOk result (λ x. height (expression x.0) ≤ 64) }
     ensures taken { IfOk result (λ x. x.1 + numbers_of (limits.accepts text.now (expression x.0)) ≡ funclets) }
-    ensures refused { IfErr result (λ e. Refuses e (NoFilter text.now funclets tokens.now)) }
+    ensures refused { IfErr result (λ e. Placed e (NoFilter funclets) (HasFilter funclets) text.now tokens.now) }
 {
     match condition(alloc, text, tokens) {
         Ok((filter, rest)) => {
@@ -142,13 +247,14 @@ pub fn filter<'a>(
                 return Ok((filter, funclets, rest));
             }
             if funclets == 0 {
-                return Err(too_many_funclets(departure(text, tokens)));
+                let (rest, _) = departure(text, tokens);
+                return Err(too_many_funclets(place(text, rest)));
             }
             Ok((filter, funclets - 1, rest))
         }
         Err(refusal) => {
             if funclets == 0 {
-                return Err(earlier(refusal, departure(text, tokens)));
+                return Err(earlier(text, refusal, tokens));
             }
             Err(refusal)
         }

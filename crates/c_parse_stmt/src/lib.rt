@@ -2,18 +2,21 @@
 //!
 //! A statement at the front of tokens is read as far as it goes on (C11, 6.8; Microsoft C reference,
 //! "try-except statement" and "try-finally statement"): an `else` belongs to the nearest `if`. What is
-//! read is such a statement within the limits of nesting and of counts, and a refusal comes only where
-//! there is none. Of each reader the clause `found` says that what is read stands at the front,
-//! `taken` (for one statement a part of `found`) that it is within the limits and what is left of the
-//! counts, and `refused` that nothing of the kind within the limits stands there. Which token a refusal
-//! tells, and which limit, is no clause's: it is the first token with which no program goes on, and
-//! tests show it.
+//! read is such a statement within the limits of nesting and of counts. Of each reader the clause
+//! `found` says that what is read stands at the front, `taken` (for one statement a part of `found`)
+//! that it is within the limits and what is left of the counts, and `refused` that a refusal tells the
+//! first token with which no phrase of the kind goes on, and the limit that excludes each.
+//!
+//! A statement is read by how it begins (`openings`), up to the first statement or block in it, and by
+//! how it goes on behind that (`endings`). Only `statements` reads one within another.
 #![tactic(auto)]
 
 pub mod build;
+pub mod endings;
 pub mod filters;
 pub mod left;
 pub mod locals;
+pub mod openings;
 pub mod parts;
 pub mod statements;
 #[cfg(test)]

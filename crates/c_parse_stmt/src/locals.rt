@@ -2,12 +2,15 @@
 
 ghost use Rattle.std.specs.Prelude.{◌≡◌, ◌≤◌, ◌+◌, List, IfOk, IfErr, map, length, option_map};
 ghost use Rattle.c_syntax.specs.Expression.{expression};
+ghost use Rattle.c_syntax.specs.Faults as faults;
 ghost use Rattle.c_syntax.specs.Follow.{Stops};
 ghost use Rattle.c_syntax.specs.Limits.{height_of, one_over, height_of_locals, one_over_locals, height_of_first, locals_of_first};
 ghost use Rattle.c_syntax.specs.Statement as trees;
 ghost use Rattle.c_syntax.specs.Statements.{IsInitialiser, IsLocal, AreLocals, IsDeclaration, IsFirst};
-ghost use Rattle.c_parse_expr.specs.Refusals.{Refuses};
-ghost use Rattle.c_parse_stmt.specs.Parts.{NoInitialiser, NoLocal, NoLocals, NoDeclaration, NoFirst};
+ghost use Rattle.c_parse_expr.specs.declared.refusal.Count.TheVariants.{Locals};
+ghost use Rattle.c_parse_expr.specs.declared.refusal.ParseErr.TheVariants.{TooMany};
+ghost use Rattle.c_parse_expr.specs.Refusals.{Placed};
+ghost use Rattle.c_parse_stmt.specs.Parts.{NoInitialiser, HasInitialiser, NoLocal, HasLocal, NoLocals, HasLocals, NoDeclaration, HasDeclaration, NoFirst, HasFirst};
 
 use crate::parts::{expect, optional};
 use c_lex::sign::Sign;
@@ -29,7 +32,9 @@ const DEEPEST: u64 = 64;
 const ASSIGNMENT: u8 = 15;
 
 /// The refusal of the first token, with which the function has one local too many.
-fn too_many_locals(text: &[u8], tokens: &[Token]) -> ParseErr {
+fn too_many_locals(text: &[u8], tokens: &[Token]) -> ParseErr
+    ensures { result ≡ TooMany (faults.place text.now tokens.now) Locals }
+{
     ParseErr::TooMany {
         at: place(text, tokens),
         what: Count::Locals,
@@ -48,7 +53,7 @@ fn initialiser<'a>(
     ensures stops { IfOk result (λ x. Stops 15 x.1.now) }
     ensures low { IfOk result (λ x. height_of (option_map expression x.0) ≤ 64) }
     ensures over { IfOk result (λ x. one_over (option_map expression x.0) ≤ room) }
-    ensures refused { IfErr result (λ e. Refuses e (NoInitialiser text.now room tokens.now)) }
+    ensures refused { IfErr result (λ e. Placed e (NoInitialiser room) (HasInitialiser room) text.now tokens.now) }
 {
     match after(Sign::Assign, tokens) {
         Some(value) => {
@@ -78,7 +83,7 @@ fn local<'a>(
     ensures stops { IfOk result (λ x. Stops 15 x.1.now) }
     ensures low { IfOk result (λ x. height_of (trees.local x.0).initialiser ≤ 64) }
     ensures over { IfOk result (λ x. one_over (trees.local x.0).initialiser ≤ room) }
-    ensures refused { IfErr result (λ e. Refuses e (NoLocal text.now room tokens.now)) }
+    ensures refused { IfErr result (λ e. Placed e (NoLocal room) (HasLocal room) text.now tokens.now) }
 {
     let (pointers, declarator) = stars(tokens);
     match name(declarator) {
@@ -109,7 +114,7 @@ fn locals<'a>(
     ensures low { IfOk result (λ x. height_of_locals (map trees.local x.0.items) ≤ 64) }
     ensures over { IfOk result (λ x. one_over_locals (map trees.local x.0.items) ≤ room) }
     ensures taken { IfOk result (λ x. x.1 + length (map trees.local x.0.items) ≡ left) }
-    ensures refused { IfErr result (λ e. Refuses e (NoLocals text.now room left tokens.now)) }
+    ensures refused { IfErr result (λ e. Placed e (NoLocals room left) (HasLocals room left) text.now tokens.now) }
 {
     let (first, mut rest) = local(alloc, text, room, tokens)?;
     let mut left = left - 1;
@@ -141,7 +146,7 @@ pub fn declaration<'a>(
     ensures low { IfOk result (λ x. height_of_locals (map trees.local x.0.locals.items) ≤ 64) }
     ensures over { IfOk result (λ x. one_over_locals (map trees.local x.0.locals.items) ≤ room) }
     ensures taken { IfOk result (λ x. x.1 + length (map trees.local x.0.locals.items) ≡ left) }
-    ensures refused { IfErr result (λ e. Refuses e (NoDeclaration text.now room left tokens.now)) }
+    ensures refused { IfErr result (λ e. Placed e (NoDeclaration room left) (HasDeclaration room left) text.now tokens.now) }
 {
     match base(tokens) {
         Some((base, behind)) => {
@@ -166,7 +171,7 @@ pub fn for_first<'a>(
     ensures found { IfOk result (λ x. IsFirst text.now (trees.first x.0) tokens.now x.2.now) }
     ensures low { IfOk result (λ x. height_of_first (trees.first x.0) ≤ 64) }
     ensures taken { IfOk result (λ x. x.1 + locals_of_first (trees.first x.0) ≡ left) }
-    ensures refused { IfErr result (λ e. Refuses e (NoFirst text.now left tokens.now)) }
+    ensures refused { IfErr result (λ e. Placed e (NoFirst left) (HasFirst left) text.now tokens.now) }
 {
     match base(tokens) {
         Some(_) => {

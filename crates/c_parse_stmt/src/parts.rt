@@ -1,15 +1,20 @@
 //! Parts of statements: keywords and signs that have to stand, expressions and what ends them.
 
-ghost use Rattle.std.specs.Prelude.{◌≤◌, ◌<◌, ℕ, List, IfOk, IfErr, IfSome, IfNone, option_map};
+ghost use Rattle.std.specs.Prelude.{◌≤◌, ◌<◌, ℕ, List, IsTrue, IsFalse, IfOk, IfErr, IfSome, IfNone, option_map};
 ghost use Rattle.c_lex.specs.declared.keyword.Keyword.{Keyword};
+ghost use Rattle.c_lex.specs.declared.sign.Sign.{Sign};
 ghost use Rattle.c_lex.specs.declared.token.Token.{Token};
 ghost use Rattle.c_syntax.specs.Expression.{expression, height};
 ghost use Rattle.c_syntax.specs.Follow.{sign_follows};
 ghost use Rattle.c_syntax.specs.Limits.{height_of, one_over};
 ghost use Rattle.c_syntax.specs.Statements.{IsCondition};
 ghost use Rattle.c_syntax.specs.Tokens.{IsKeyword, HasKeyword, HasSign};
-ghost use Rattle.c_parse_expr.specs.Refusals.{Refuses};
-ghost use Rattle.c_parse_stmt.specs.Parts.{IsUpTo, NoCondition, NoneUpTo};
+ghost use Rattle.c_parse_expr.specs.Refusals.{Placed};
+ghost use Rattle.c_parse_type.specs.Bases.{NoBase};
+ghost use Rattle.c_parse_stmt.specs.declared.left.Left.{Left};
+ghost use Rattle.c_parse_stmt.specs.Begins.{BeginsExpression, BeginsNoExpression, BeginsStatement, BeginsNoStatement};
+ghost use Rattle.c_parse_stmt.specs.Parts.{NoSign, ASign, IsUpTo, NoCondition, HasCondition, NoneUpTo, HasUpTo};
+ghost use Rattle.c_parse_stmt.specs.Within.{NoItem, HasItem};
 
 use c_lex::keyword::Keyword;
 use c_lex::sign::Sign;
@@ -58,7 +63,7 @@ pub fn word(wanted: Keyword, tokens: &[Token]) -> Option<(u64, &[Token])>
 /// What follows the wanted sign, which has to be at the front.
 pub fn expect<'a>(text: &[u8], wanted: Sign, tokens: &'a [Token]) -> Result<&'a [Token], ParseErr>
     ensures found { IfOk result (λ rest. HasSign wanted tokens.now rest.now) }
-    ensures refused { IfErr result (λ e. Refuses e ((rest : List Token) → HasSign wanted tokens.now rest → ⊥)) }
+    ensures refused { IfErr result (λ e. Placed e (NoSign wanted) (ASign wanted) text.now tokens.now) }
 {
     match after(wanted, tokens) {
         Some(rest) => Ok(rest),
@@ -67,11 +72,14 @@ pub fn expect<'a>(text: &[u8], wanted: Sign, tokens: &'a [Token]) -> Result<&'a 
 }
 
 /// Whether an expression begins with the first token (C11, 6.5.1 and 6.5.3).
-fn begins_expression(tokens: &[Token]) -> bool {
+pub fn begins_expression(tokens: &[Token]) -> bool
+    ensures some { IsTrue result → BeginsExpression tokens.now }
+    ensures none { IsFalse result → BeginsNoExpression tokens.now }
+{
     match front(tokens) {
         Some((token, _)) => match token.kind {
             Kind::Name | Kind::Integer { .. } | Kind::Character(_) => true,
-            Kind::Keyword(keyword) => keyword == Keyword::GetExceptionInformation,
+            Kind::Keyword(keyword) => matches!(keyword, Keyword::GetExceptionInformation),
             Kind::Sign(sign) => matches!(
                 sign,
                 Sign::OpenParenthesis
@@ -90,8 +98,14 @@ fn begins_expression(tokens: &[Token]) -> bool {
     }
 }
 
-/// Whether a statement begins with the first token (C11, 6.8).
-fn begins_statement(tokens: &[Token]) -> bool {
+/// Whether a statement begins with the first token (C11, 6.8). A declaration is none.
+fn begins_statement(tokens: &[Token]) -> bool
+    ensures some { IsTrue result → BeginsStatement tokens.now }
+    ensures none { IsFalse result → BeginsNoStatement tokens.now }
+{
+    if begins_expression(tokens) {
+        return true;
+    }
     match front(tokens) {
         Some((token, _)) => match token.kind {
             Kind::Keyword(keyword) => matches!(
@@ -105,10 +119,9 @@ fn begins_statement(tokens: &[Token]) -> bool {
                     | Keyword::Continue
                     | Keyword::Leave
                     | Keyword::Try
-                    | Keyword::GetExceptionInformation
             ),
-            Kind::Sign(Sign::OpenBrace | Sign::Semicolon) => true,
-            _ => begins_expression(tokens),
+            Kind::Sign(sign) => matches!(sign, Sign::OpenBrace | Sign::Semicolon),
+            _ => false,
         },
         None => false,
     }
@@ -116,7 +129,9 @@ fn begins_statement(tokens: &[Token]) -> bool {
 
 /// The refusal of the first token where an expression is one statement too deep: if none begins with
 /// it, no program goes on so at all.
-fn no_room_for_expression(text: &[u8], tokens: &[Token]) -> ParseErr {
+fn no_room_for_expression(text: &[u8], tokens: &[Token]) -> ParseErr
+    ensures { (end : Sign) → ((rest : List Token) → HasSign end tokens.now rest → ⊥) → Placed result (NoneUpTo end 0) (HasUpTo end 0) text.now tokens.now }
+{
     if begins_expression(tokens) {
         too_deep(text, tokens)
     } else {
@@ -124,8 +139,11 @@ fn no_room_for_expression(text: &[u8], tokens: &[Token]) -> ParseErr {
     }
 }
 
-/// The refusal of the first token where each statement is one too deep.
-pub fn no_room_for_statement(text: &[u8], tokens: &[Token]) -> ParseErr {
+/// The refusal of the first token where no declaration begins with it, and each statement is one too
+/// deep: if none begins with it, no program goes on so at all.
+pub fn no_room_for_statement(text: &[u8], tokens: &[Token]) -> ParseErr
+    ensures { (left : Left) → NoBase tokens.now → Placed result (NoItem 0 left) (HasItem 0 left) text.now tokens.now }
+{
     if begins_statement(tokens) {
         too_deep(text, tokens)
     } else {
@@ -141,7 +159,7 @@ pub fn condition<'a>(
 ) -> Result<(Expr, &'a [Token]), ParseErr>
     ensures found { IfOk result (λ x. IsCondition text.now (expression x.0) tokens.now x.1.now) }
     ensures low { IfOk result (λ x. height (expression x.0) ≤ 64) }
-    ensures refused { IfErr result (λ e. Refuses e (NoCondition text.now tokens.now)) }
+    ensures refused { IfErr result (λ e. Placed e NoCondition HasCondition text.now tokens.now) }
 {
     let inner = expect(text, Sign::OpenParenthesis, tokens)?;
     let parsed = expression(alloc, text, DEEPEST, COMMA, inner)?;
@@ -162,7 +180,7 @@ pub fn optional<'a>(
     ensures found { IfOk result (λ x. IsUpTo text.now end (option_map expression x.0) tokens.now x.1.now) }
     ensures low { IfOk result (λ x. height_of (option_map expression x.0) ≤ 64) }
     ensures over { IfOk result (λ x. one_over (option_map expression x.0) ≤ room) }
-    ensures refused { IfErr result (λ e. Refuses e (NoneUpTo text.now end room tokens.now)) }
+    ensures refused { IfErr result (λ e. Placed e (NoneUpTo end room) (HasUpTo end room) text.now tokens.now) }
 {
     match after(end, tokens) {
         Some(rest) => Ok((None, rest)),

@@ -245,10 +245,9 @@ fn statements(rt: HostRuntime) -> Result<(), Fail> {
     Ok(())
 }
 
-/// Refusals behind expressions and in filters.
+/// Refusals behind expressions.
 #[test]
 fn refusals_behind_expressions(rt: HostRuntime) -> Result<(), Fail> {
-    let many = |at, what| ParseErr::TooMany { at, what };
     for (text, room, locals, funclets, refusal) in [
         (b"a }".as_slice(), 1, 0, 0, ParseErr::TooDeep { at: 0 }),
         (b"a }".as_slice(), 2, 0, 0, ParseErr::Unexpected { at: 2 }),
@@ -296,59 +295,88 @@ fn refusals_behind_expressions(rt: HostRuntime) -> Result<(), Fail> {
             0,
             ParseErr::Unexpected { at: 15 },
         ),
-        (b"int a = 1, b".as_slice(), 1, 1, 0, many(9, Count::Locals)),
         (
-            b"__try {} __except (1 +".as_slice(),
-            2,
+            b"int a = 1, b".as_slice(),
+            1,
+            1,
             0,
-            0,
-            many(21, Count::Funclets),
-        ),
-        (
-            b"__try {} __except (f".as_slice(),
-            2,
-            0,
-            0,
-            many(19, Count::Funclets),
-        ),
-        (
-            b"__try {} __except (2".as_slice(),
-            2,
-            0,
-            0,
-            many(19, Count::Funclets),
-        ),
-        (
-            b"__try {} __except ()".as_slice(),
-            2,
-            0,
-            0,
-            ParseErr::Unexpected { at: 19 },
-        ),
-        (
-            b"__try {} __except ((1) ;".as_slice(),
-            2,
-            0,
-            0,
-            ParseErr::Unexpected { at: 23 },
-        ),
-        (
-            b"__try {} __except (1) ;".as_slice(),
-            2,
-            0,
-            0,
-            ParseErr::Unexpected { at: 22 },
-        ),
-        (
-            b"__try {} __except (1)".as_slice(),
-            2,
-            0,
-            0,
-            ParseErr::Unexpected { at: 21 },
+            ParseErr::TooMany {
+                at: 9,
+                what: Count::Locals,
+            },
         ),
     ] {
         let tokens = lex(rt.alloc(), text)?;
         let found = items(rt.alloc(), text, room, Left { locals, funclets }, &tokens);
+        assert_eq!(rt; found.err(), Some(refusal), "of {text:?}");
+    }
+    Ok(())
+}
+
+/// Where no filter may have a number, each text in a block is refused at the first token with which no
+/// filter goes on that accepts whatever was raised.
+#[test]
+fn refusals_in_filters(rt: HostRuntime) -> Result<(), Fail> {
+    let many = |at| ParseErr::TooMany {
+        at,
+        what: Count::Funclets,
+    };
+    let left = Left {
+        locals: 0,
+        funclets: 0,
+    };
+    for (text, refusal) in [
+        (b"__try {} __except (1 +".as_slice(), many(21)),
+        (b"__try {} __except (f".as_slice(), many(19)),
+        (b"__try {} __except (2".as_slice(), many(19)),
+        (
+            b"__try {} __except ()".as_slice(),
+            ParseErr::Unexpected { at: 19 },
+        ),
+        (
+            b"__try {} __except (int".as_slice(),
+            ParseErr::Unexpected { at: 19 },
+        ),
+        (b"__try {} __except ((int".as_slice(), many(20)),
+        (
+            b"__try {} __except (1(".as_slice(),
+            ParseErr::Unexpected { at: 20 },
+        ),
+        (
+            b"__try {} __except (EXCEPTION_EXECUTE_HANDLER(".as_slice(),
+            many(44),
+        ),
+        (
+            b"__try {} __except ((((((((((((((((((((((((((((((((((((((((((((((((((((((((((((((((1 +".as_slice(),
+            many(84),
+        ),
+        (
+            b"__try {} __except (((((((((((((((((((((((((((((((((((((((((((((((((((((((((((((((((1 +".as_slice(),
+            ParseErr::TooDeep { at: 85 },
+        ),
+        (
+            b"__try {} __except (((((((((((((((((((((((((((((((((((((((((((((((((((((((((((((((((int".as_slice(),
+            many(83),
+        ),
+        (
+            b"__try {} __except ((((((((((((((((((((((((((((((((((((((((((((((((((((((((((((((((((1".as_slice(),
+            ParseErr::TooDeep { at: 83 },
+        ),
+        (
+            b"__try {} __except ((1) ;".as_slice(),
+            ParseErr::Unexpected { at: 23 },
+        ),
+        (
+            b"__try {} __except (1) ;".as_slice(),
+            ParseErr::Unexpected { at: 22 },
+        ),
+        (
+            b"__try {} __except (1)".as_slice(),
+            ParseErr::Unexpected { at: 21 },
+        ),
+    ] {
+        let tokens = lex(rt.alloc(), text)?;
+        let found = items(rt.alloc(), text, 2, left, &tokens);
         assert_eq!(rt; found.err(), Some(refusal), "of {text:?}");
     }
     Ok(())

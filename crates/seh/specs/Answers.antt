@@ -1,5 +1,5 @@
 -- Which answer a call of the program has, and by what cause.
-use Rattle.std.specs.Prelude.{◌≡◌, ◌⊎◌, ℕ, ◌<◌, ◌≤◌, List, [], length, Some, None, Result, Ok, Err}
+use Rattle.std.specs.Prelude.{◌≡◌, ◌⊎◌, ℕ, ◌<◌, List, [], length, Some, None, Result, Ok, Err}
 use Rattle.std.specs.Option.{ForSome}
 use Rattle.seh_num.specs.declared.end.RunEnd.{RunEnd}
 use Rattle.seh_io.specs.Streams.{Rose, Grew}
@@ -23,6 +23,7 @@ use Rattle.c_syntax.specs.Program.{External}
 use Rattle.c_syntax.specs.Programs.{Reads}
 use Rattle.c_parse_expr.specs.declared.refusal.ParseErr.{ParseErr}
 use Rattle.c_parse_expr.specs.declared.refusal.ParseErr.TheVariants as parses
+use Rattle.c_parse_expr.specs.Refusals.{Refuses}
 use Rattle.c_first.specs.First.{first}
 use Rattle.c_meaning.specs.Syntax.{Statement}
 use Rattle.image_link.specs.Realises.{Realises}
@@ -121,11 +122,17 @@ pub record IsCompiled (text image : List ℕ) : Type 0 where
 abbrev pub IsNoText : List ℕ → LexErr → Type 0
 IsNoText text e = (f : Fault) × (at : ℕ) × (e ≡ refused f at) × IsFault text f at
 
--- the text has tokens, and they are no program of C within the limits
-pub record IsNoProgram (text : List ℕ) : Type 0 where
+-- the text's tokens have their first fault as the refusal tells: there no program of C within the limits goes on, by the limit that it names
+pub record HasFault (text : List ℕ) (e : ParseErr) : Type 0 where
   pub tokens : List Token
   pub lexed : IsTokens text tokens
-  pub none : (xs : List External) → IsAccepted text xs → ⊥
+  pub refused : Refuses e text tokens
+
+abbrev pub IsNoProgram : List ℕ → ParseErr → Type 0
+IsNoProgram text (parses.Unexpected at) = HasFault text (parses.Unexpected at)
+IsNoProgram text (parses.TooDeep at) = HasFault text (parses.TooDeep at)
+IsNoProgram text (parses.TooMany at what) = HasFault text (parses.TooMany at what)
+IsNoProgram text parses.Memory = ⊥
 
 -- the text is that of a program of C within the limits which isn't compiled
 pub record IsLater (text : List ℕ) : Type 0 where
@@ -136,7 +143,7 @@ pub record IsLater (text : List ℕ) : Type 0 where
 -- why a text isn't compiled; want of memory says nothing
 abbrev pub IsTextRefusal : List ℕ → Refusal → Type 0
 IsTextRefusal text (refusals.Lex e) = IsNoText text e
-IsTextRefusal text (refusals.Parse e) = IsNoProgram text
+IsTextRefusal text (refusals.Parse e) = IsNoProgram text e
 IsTextRefusal text refusals.Later = IsLater text
 IsTextRefusal text refusals.NoMemory = Unit {0}
 IsTextRefusal text r = ⊥
@@ -152,7 +159,7 @@ parse_refusal parses.Memory = refusals.NoMemory
 abbrev pub IsCompileAnswer : Judged
 IsCompileAnswer text out out' (Ok Compiled) = (image : List ℕ) × IsCompiled text image × Grew out.bytes image out'.bytes
 IsCompileAnswer text out out' (Err (refusals.Lex e)) = IsNoText text e × Quiet out out'
-IsCompileAnswer text out out' (Err (refusals.Parse e)) = IsNoProgram text × Quiet out out'
+IsCompileAnswer text out out' (Err (refusals.Parse e)) = IsNoProgram text e × Quiet out out'
 IsCompileAnswer text out out' (Err refusals.Later) = IsLater text × Quiet out out'
 IsCompileAnswer text out out' (Err refusals.WriteFault) = (image : List ℕ) × IsCompiled text image × Rose out.faults out'.faults × ((count : ℕ) × TookPart out.bytes image out'.bytes count)
 IsCompileAnswer text out out' (Err refusals.NoMemory) = Quiet out out'

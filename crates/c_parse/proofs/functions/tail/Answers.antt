@@ -1,7 +1,12 @@
 use Rattle.std.proofs.Common.{refl}
 use Rattle.std.proofs.lemmas.Result.{err_from_is_err_and}
-use Rattle.c_parse_stmt.proofs.Refusing.{refuses_so}
-use Rattle.c_parse.proofs.Parameters.{no_brace, no_body}
+use Rattle.c_lex.specs.declared.sign.Sign.TheVariants as signs
+use Rattle.c_parse_stmt.specs.declared.left.Left.{Left}
+use Rattle.c_parse_stmt.specs.Parts.{NoSign, ASign}
+use Rattle.c_parse_stmt.specs.Within.{NoItems, HasItems}
+use Rattle.c_parse.specs.Parts.{NoParameters, HasParameters, NoTail, HasTail}
+use Rattle.c_parse.proofs.Refusing.{placed_in}
+use Rattle.c_parse.proofs.Bodies.{in_parameters, in_brace, in_body}
 use Rattle.c_parse.proofs.functions.tail.Goals as goal
 
 pub returns-in_err-inner-clause-refused : goal.returns-in_err-inner-clause-refused
@@ -9,11 +14,17 @@ returns-in_err-inner-clause-refused c =
     let r = c.from_residual-in_err-inner in
     let p = err_from_is_err_and r.result r.ensures.1 in
     let k = c.in_ok-parameters in
-    rw (p.1, p.2) (refuses_so c.in_err-inner.field-0.0 _ _ (no_brace c.args.text.now c.args.funclets c.args.tokens.now k.behind.now k.parameters.items k.ensures.found) c.in_err-inner.ensures.refused)
+    rw (p.1, p.2) (placed_in c.in_err-inner.field-0.0 (NoSign signs.OpenBrace) (ASign signs.OpenBrace) (NoTail c.args.funclets) (HasTail c.args.funclets) c.args.text.now k.behind.now c.args.tokens.now (in_brace c.args.text.now c.args.funclets c.args.tokens.now k.behind.now k.parameters.items k.ensures.found k.ensures.few) c.in_err-inner.ensures.refused)
 
 pub returns-in_err-body-clause-refused : goal.returns-in_err-body-clause-refused
 returns-in_err-body-clause-refused c =
     let r = c.from_residual-in_err-body in
     let p = err_from_is_err_and r.result r.ensures.1 in
     let k = c.in_ok-parameters in
-    rw (p.1, p.2) (refuses_so c.in_err-body.field-0.0 _ _ (no_body c.args.text.now (record { locals = 256; funclets = c.args.funclets }) c.args.tokens.now k.behind.now c.in_ok-inner.inner.now k.parameters.items refl k.ensures.found c.in_ok-inner.ensures.found) c.in_err-body.ensures.refused)
+    let left : Left = record { locals = 256; funclets = c.args.funclets } in
+    rw (p.1, p.2) (placed_in c.in_err-body.field-0.0 (NoItems 65 left) (HasItems 65 left) (NoTail c.args.funclets) (HasTail c.args.funclets) c.args.text.now c.in_ok-inner.inner.now c.args.tokens.now (in_body c.args.text.now left c.args.tokens.now k.behind.now c.in_ok-inner.inner.now k.parameters.items refl k.ensures.found k.ensures.few c.in_ok-inner.ensures.found) c.in_err-body.ensures.refused)
+
+pub returns-in_err-parameters-clause-refused : goal.returns-in_err-parameters-clause-refused
+returns-in_err-parameters-clause-refused c =
+    let p = err_from_is_err_and c.from_residual.result c.from_residual.ensures.1 in
+    rw (p.1, p.2) (placed_in c.in_err-parameters.field-0.0 NoParameters HasParameters (NoTail c.args.funclets) (HasTail c.args.funclets) c.args.text.now c.args.tokens.now c.args.tokens.now (in_parameters c.args.text.now c.args.funclets c.args.tokens.now) c.in_err-parameters.ensures.refused)

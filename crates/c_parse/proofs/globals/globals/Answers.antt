@@ -1,32 +1,36 @@
 use Rattle.std.proofs.Common.{length, ap, arith}
 use Rattle.std.proofs.lemmas.Result.{err_from_is_err_and}
 use Rattle.c_syntax.specs.Program.{global}
-use Rattle.c_parse_stmt.proofs.Refusing.{refuses_so}
-use Rattle.c_parse.proofs.Declarators.{global_shorter, begins, next, ends, ends_at, no_first, no_next, unended}
+use Rattle.c_lex.specs.declared.sign.Sign.TheVariants as signs
+use Rattle.c_parse_stmt.specs.Parts.{NoSign, ASign}
+use Rattle.c_parse.specs.Parts.{NoGlobal, NoGlobals, HasGlobals}
+use Rattle.c_parse.proofs.Refusing.{placed_in}
+use Rattle.c_parse.proofs.Declarators.{global_shorter}
+use Rattle.c_parse.proofs.Declarations.{begins, next, ends, ends_at, in_first, in_next, in_end}
 use Rattle.c_parse.proofs.globals.globals.Goals as goal
 
 pub returns-in_err-first-clause-refused : goal.returns-in_err-first-clause-refused
 returns-in_err-first-clause-refused c =
     let p = err_from_is_err_and c.from_residual.result c.from_residual.ensures.1 in
-    rw (p.1, p.2) (refuses_so c.in_err-first.field-0.0 _ _ (no_first c.args.base c.args.bytes c.args.tokens.now) c.in_err-first.ensures.refused)
+    rw (p.1, p.2) (placed_in c.in_err-first.field-0.0 (NoGlobal c.args.base c.args.bytes) (HasGlobals c.args.base c.args.bytes) (NoGlobals c.args.base c.args.bytes) (HasGlobals c.args.base c.args.bytes) c.args.text.now c.args.tokens.now c.args.tokens.now (in_first c.args.text.now c.args.base c.args.bytes c.args.tokens.now) c.in_err-first.ensures.refused)
 
 pub loop-behind-init : goal.loop-behind-init
 loop-behind-init c =
     let k = c.in_ok-first in
-    rw (c.in_ok-push.ensures.items, c.new-found.ensures.items) (begins c.args.base c.args.bytes k.end c.args.tokens.now k.rest.now k.first k.ensures.found k.ensures.stops k.ensures.end, k.ensures.low)
+    rw (c.in_ok-push.ensures.items, c.new-found.ensures.items) (begins c.args.text.now c.args.base c.args.bytes k.end c.args.tokens.now k.rest.now k.first k.ensures.found k.ensures.stops k.ensures.end, k.ensures.low)
 
 pub returns-in_err-next-clause-refused : goal.returns-in_err-next-clause-refused
 returns-in_err-next-clause-refused c =
     let r = c.from_residual-in_err-next in
     let p = err_from_is_err_and r.result r.ensures.1 in
     let s = c.loop-behind in
-    rw (p.1, p.2) (refuses_so c.in_err-next.field-0.0 _ _ (no_next c.args.base c.args.bytes s.end c.args.tokens.now s.rest.now c.in-Some.behind.now s.found.items s.invariant.0 c.in-Some.ensures.found) c.in_err-next.ensures.refused)
+    rw (p.1, p.2) (placed_in c.in_err-next.field-0.0 (NoGlobal c.args.base s.end) (HasGlobals c.args.base s.end) (NoGlobals c.args.base c.args.bytes) (HasGlobals c.args.base c.args.bytes) c.args.text.now c.in-Some.behind.now c.args.tokens.now (in_next c.args.text.now c.args.base c.args.bytes s.end c.args.tokens.now s.rest.now c.in-Some.behind.now s.found.items s.invariant.0 c.in-Some.ensures.found) c.in_err-next.ensures.refused)
 
 pub loop-behind-preserved : goal.loop-behind-preserved
 loop-behind-preserved c =
     let s = c.loop-behind in
     let k = c.in_ok-next in
-    rw c.in_ok-push-2.ensures.items (next c.args.base c.args.bytes s.end k.further c.args.tokens.now s.rest.now c.in-Some.behind.now k.after.now s.found.items k.next c.in-Some.ensures.found k.ensures.found k.ensures.stops k.ensures.end s.invariant.0, k.ensures.low)
+    rw c.in_ok-push-2.ensures.items (next c.args.text.now c.args.base c.args.bytes s.end k.further c.args.tokens.now s.rest.now c.in-Some.behind.now k.after.now s.found.items k.next c.in-Some.ensures.found k.ensures.found k.ensures.stops k.ensures.end s.invariant.0, k.ensures.low)
 
 pub loop-behind-smaller : goal.loop-behind-smaller
 loop-behind-smaller c =
@@ -40,7 +44,7 @@ returns-in_err-rest-clause-refused c =
     let r = c.from_residual-in_err-rest in
     let p = err_from_is_err_and r.result r.ensures.1 in
     let s = c.loop-behind in
-    rw (p.1, p.2) (refuses_so c.in_err-rest.field-0.0 _ _ (unended c.args.base c.args.bytes s.end c.args.tokens.now s.rest.now s.found.items s.invariant.0 c.in_default.ensures.none) c.in_err-rest.ensures.refused)
+    rw (p.1, p.2) (placed_in c.in_err-rest.field-0.0 (NoSign signs.Semicolon) (ASign signs.Semicolon) (NoGlobals c.args.base c.args.bytes) (HasGlobals c.args.base c.args.bytes) c.args.text.now s.rest.now c.args.tokens.now (in_end c.args.text.now c.args.base c.args.bytes s.end c.args.tokens.now s.rest.now s.found.items s.invariant.0 s.invariant.1 c.in_default.ensures.none) c.in_err-rest.ensures.refused)
 
 pub returns-clause-found : goal.returns-clause-found
 returns-clause-found c =

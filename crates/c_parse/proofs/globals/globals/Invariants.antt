@@ -1,5 +1,5 @@
 use Rattle.std.proofs.Common.{◌≤◌, length}
-use Rattle.c_parse.proofs.Declarators.{Read}
+use Rattle.c_parse.proofs.Declarations.{Read}
 use Rattle.c_parse.proofs.globals.globals.Given as goal
 
 abbrev pub invariant-loop-behind : goal.invariant-loop-behind

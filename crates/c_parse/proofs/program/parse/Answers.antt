@@ -1,11 +1,12 @@
 use Rattle.std.proofs.lemmas.Result.{err_from_is_err_and}
 use Rattle.c_syntax.specs.Program.{external}
 use Rattle.c_syntax.proofs.Files.{program_once}
-use Rattle.std.proofs.Common.{map, refl}
-use Rattle.c_parse_stmt.proofs.Refusing.{refuses_so}
+use Rattle.std.proofs.Common.{length, map, refl, arith}
 use Rattle.c_parse.proofs.Externals.{shorter}
 use Rattle.c_parse.proofs.Nodes.{program}
-use Rattle.c_parse.proofs.Programs.{NoProgram, goes_on, ends, stuck, memory, some_left, none_left}
+use Rattle.c_parse.specs.Bounds.{IsBounded}
+use Rattle.c_parse.proofs.Beyond.{few_tokens}
+use Rattle.c_parse.proofs.Programs.{begins, goes_on, ends, within, refuses, memory, some_left, none_left}
 use Rattle.c_parse.proofs.program.parse.Goals as goal
 
 pub returns-in_err-next-clause-refused : goal.returns-in_err-next-clause-refused
@@ -13,15 +14,15 @@ returns-in_err-next-clause-refused c =
     let r = c.from_residual in
     let p = err_from_is_err_and r.result r.ensures.1 in
     let s = c.loop-rest in
-    rw (p.1, p.2) (refuses_so c.in_err-next.field-0.0 _ _ (stuck c.args.text.now c.args.tokens.now s.rest.now s.externals.items s.counts s.invariant (some_left s.rest.now c.is_empty.result c.is_empty.ensures c.loop-rest-test.true)) c.in_err-next.ensures.refused)
+    rw (p.1, p.2) (refuses c.in_err-next.field-0.0 c.args.text.now c.args.tokens.now s.rest.now s.externals.items s.counts s.invariant c.requires.tokens (some_left s.rest.now c.is_empty.result c.is_empty.ensures c.loop-rest-test.true) c.in_err-next.ensures.refused)
 
 pub returns-in_err-next-clause-only : goal.returns-in_err-next-clause-only
 returns-in_err-next-clause-only c =
     let r = c.from_residual in
     let p = err_from_is_err_and r.result r.ensures.1 in
     let s = c.loop-rest in
-    let q = refuses_so c.in_err-next.field-0.0 _ (NoProgram c.args.text.now c.args.tokens.now) (stuck c.args.text.now c.args.tokens.now s.rest.now s.externals.items s.counts s.invariant (some_left s.rest.now c.is_empty.result c.is_empty.ensures c.loop-rest-test.true)) c.in_err-next.ensures.refused in
-    λ xs h w. rw (p.1, p.2) (memory c.in_err-next.field-0.0 (NoProgram c.args.text.now c.args.tokens.now) q (λ n. n xs h w))
+    let q = refuses c.in_err-next.field-0.0 c.args.text.now c.args.tokens.now s.rest.now s.externals.items s.counts s.invariant c.requires.tokens (some_left s.rest.now c.is_empty.result c.is_empty.ensures c.loop-rest-test.true) c.in_err-next.ensures.refused in
+    λ xs h w. rw (p.1, p.2) (memory c.in_err-next.field-0.0 c.args.text.now c.args.tokens.now xs q h w)
 
 pub loop-rest-smaller : goal.loop-rest-smaller
 loop-rest-smaller c = shorter c.args.text.now (external c.in_ok-next.next) c.loop-rest.rest.now c.in_ok-next.behind.now c.in_ok-next.ensures.found
@@ -41,3 +42,26 @@ pub returns-clause-few : goal.returns-clause-few
 returns-clause-few c =
     let s = c.loop-rest in
     program c.args.text.now (map external s.externals.items) c.args.tokens.now (ends c.args.text.now c.args.tokens.now s.rest.now s.externals.items s.counts s.invariant (none_left s.rest.now c.is_empty.result c.is_empty.ensures c.loop-rest-test.false))
+
+pub loop-rest-init : goal.loop-rest-init
+loop-rest-init c = rw c.new-externals.ensures.items (begins c.args.text.now c.args.tokens.now (record { functions = 4096; bytes = 0; funclets = 16384 }) refl refl refl)
+
+pub returns-clause-found : goal.returns-clause-found
+returns-clause-found c =
+    let s = c.loop-rest in
+    ends c.args.text.now c.args.tokens.now s.rest.now s.externals.items s.counts s.invariant (none_left s.rest.now c.is_empty.result c.is_empty.ensures c.loop-rest-test.false)
+
+pub returns-clause-within : goal.returns-clause-within
+returns-clause-within c =
+    let s = c.loop-rest in
+    within c.args.text.now c.args.tokens.now s.rest.now s.externals.items s.counts s.invariant
+
+pub invariant_of-result : goal.invariant_of-result
+invariant_of-result c =
+    let s = c.loop-rest in
+    let text = c.args.text.now in
+    let whole = ends text c.args.tokens.now s.rest.now s.externals.items s.counts s.invariant (none_left s.rest.now c.is_empty.result c.is_empty.ensures c.loop-rest-test.false) in
+    let a = program text (map external s.externals.items) c.args.tokens.now whole in
+    let b = few_tokens text c.args.tokens.now c.requires.tokens in
+    let bounded : IsBounded (length text) (map external s.externals.items) = record { text = text; long = refl; within = within text c.args.tokens.now s.rest.now s.externals.items s.counts s.invariant; few = omega arith } in
+    record { bounded = ∣ bounded ∣₁ }

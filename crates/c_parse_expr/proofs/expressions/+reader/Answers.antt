@@ -5,21 +5,27 @@ use Rattle.c_lex.specs.declared.sign.Sign.TheVariants as signs
 use Rattle.c_lex.specs.declared.token.Token.{Token}
 use Rattle.c_syntax.specs.Expression.{Expression, expression, arguments, height, heights}
 use Rattle.c_syntax.specs.Expressions.{Derives}
-use Rattle.c_syntax.specs.Follow.{Stops}
+use Rattle.c_syntax.specs.Follow.{follows, Stops}
 use Rattle.c_syntax.specs.Steps as steps
 use Rattle.c_syntax.specs.Steps.{Closes}
 use Rattle.c_syntax.specs.Tokens.{IsSign}
+use Rattle.c_syntax.proofs.Failing.{wrapped}
 use Rattle.c_syntax.proofs.Shorter as shorter
 use Rattle.c_parse_atom.proofs.Signs.{increment_only, unary_only}
 use Rattle.c_parse_type.proofs.Types.{sign_shorter}
 use Rattle.c_parse_expr.specs.declared.step.Operation.{Operation}
 use Rattle.c_parse_expr.specs.Operations.{with}
-use Rattle.c_parse_expr.specs.Readings.{NoArguments, AreListed, IsBehind}
+use Rattle.c_parse_expr.specs.Readings.{NoExpression, HasExpression, NoOperand, NoArguments, HasArguments, NoneBehind, HasBehind, AreListed, IsBehind}
+use Rattle.c_parse_expr.specs.Refusals.{Placed}
 use Rattle.c_parse_expr.specs.Steps as code_steps
-use Rattle.c_parse_expr.proofs.Climbing.{refuses_so, refuses, no_operand, no_step, goes_on, not_closed}
-use Rattle.c_parse_expr.proofs.Listing.{listed_behind, heights_behind, mapped_behind, positive, listed_spelled, stuck, no_next, no_first, no_place}
-use Rattle.c_parse_expr.proofs.Operands.{none_begins, no_parenthesis, no_cast, not_cast, no_group, same_rest}
-use Rattle.c_parse_expr.proofs.Operations.{applied_height, none_first, none_second, right_behind, is_step, no_sign, none_behind}
+use Rattle.c_parse_expr.proofs.Arguing.{first_wraps, next_wraps, stuck_there}
+use Rattle.c_parse_expr.proofs.Beginning.{call_wraps, information_wraps, prefix_wraps, unary_wraps, group_wraps, cast_wraps, cast_unclosed, no_operand_there, no_room_there}
+use Rattle.c_parse_expr.proofs.Climbing.{goes_on}
+use Rattle.c_parse_expr.proofs.Listing.{listed_behind, heights_behind, mapped_behind, positive, listed_spelled}
+use Rattle.c_parse_expr.proofs.Operands.{no_parenthesis}
+use Rattle.c_parse_expr.proofs.Operations.{applied_height, right_behind, is_step}
+use Rattle.c_parse_expr.proofs.Placing.{placed_so, placed_as}
+use Rattle.c_parse_expr.proofs.Wrapping.{operand_wraps, step_wraps, enclosed_wraps, unclosed, index_wraps, right_wraps, first_branch_wraps, second_branch_wraps, behind_wraps, signless, no_operator_there, loose_there, high_there}
 use Rattle.c_parse_expr.proofs.expressions.+reader.Goals as goal
 
 -- ---- expressions
@@ -27,7 +33,7 @@ use Rattle.c_parse_expr.proofs.expressions.+reader.Goals as goal
 pub expression-returns-in_err-left-clause-refused : goal.expression-returns-in_err-left-clause-refused
 expression-returns-in_err-left-clause-refused t c =
     let p = err_from_is_err_and c.from_residual.result c.from_residual.ensures.1 in
-    rw (p.1, p.2) (refuses_so c.in_err-left.field-0.0 _ _ (λ n. no_operand c.args.text.now c.args.level c.args.room c.args.tokens.now n) c.in_err-left.ensures.refused)
+    rw (p.1, p.2) (placed_so c.in_err-left.field-0.0 _ _ _ _ _ _ _ (operand_wraps c.args.level c.args.room c.args.text.now c.args.tokens.now) c.in_err-left.ensures.refused)
 
 pub expression-loop-alloc-init : goal.expression-loop-alloc-init
 expression-loop-alloc-init t c = (c.in_ok-left.ensures.low, c.in_ok-left.ensures.found.derives, c.in_ok-left.ensures.found.closes)
@@ -37,8 +43,10 @@ expression-returns-in_err-behind-clause-refused t c =
     let p = err_from_is_err_and c.from_residual-in_err-behind.result c.from_residual-in_err-behind.ensures.1 in
     let f = c.follows.ensures in
     let g = c.loop-alloc-test.true in
-    rw (p.1, p.2) (refuses_so c.in_err-behind.field-0.0 _ _
-    (λ n. no_step c.args.text.now c.args.level c.args.room (expression c.loop-alloc.left.expr) c.args.tokens.now c.loop-alloc.left.rest.now c.loop-alloc.invariant.1 c.loop-alloc.invariant.2 (omega arith) n)
+    let h = c.loop-alloc.left.exact in
+    let low = c.loop-alloc.invariant.0 in
+    rw (p.1, p.2) (placed_so c.in_err-behind.field-0.0 _ _ _ _ _ _ _
+    (step_wraps c.args.level c.args.room (expression c.loop-alloc.left.expr) c.args.text.now c.args.tokens.now c.loop-alloc.left.rest.now c.loop-alloc.invariant.1 c.loop-alloc.invariant.2 (omega arith) (omega arith))
     c.in_err-behind.ensures.refused)
 
 pub expression-loop-alloc-preserved : goal.expression-loop-alloc-preserved
@@ -72,15 +80,48 @@ expression-returns-clause-found t c = c.loop-alloc.invariant.1
 pub expression-returns-clause-low : goal.expression-returns-clause-low
 expression-returns-clause-low t c = c.loop-alloc.invariant.0
 
+pub enclosed-returns-in_err-inner-clause-refused : goal.enclosed-returns-in_err-inner-clause-refused
+enclosed-returns-in_err-inner-clause-refused t c =
+    let p = err_from_is_err_and c.from_residual.result c.from_residual.ensures.1 in
+    rw (p.1, p.2) (placed_so c.in_err-inner.field-0.0 _ _ _ _ _ _ _ (enclosed_wraps c.args.close c.args.room c.args.text.now c.args.tokens.now c.requires.close) c.in_err-inner.ensures.refused)
+
 pub enclosed-returns-clause-refused : goal.enclosed-returns-clause-refused
 enclosed-returns-clause-refused t c =
-    refuses _ _ (not_closed c.args.text.now c.args.close c.args.room (expression c.in_ok-inner.inner.expr) c.args.tokens.now c.in_ok-inner.inner.rest.now c.requires.close c.in_ok-inner.ensures.found c.in_ok-inner.ensures.stops c.in-None.ensures.none)
+    let x = c.in_ok-inner.inner.exact in
+    let low = c.in_ok-inner.ensures.low in
+    placed_as _ _ _ _ _ _ c.unexpected.ensures
+    (unclosed c.args.close c.args.room (expression c.in_ok-inner.inner.expr) c.args.text.now c.args.tokens.now c.in_ok-inner.inner.rest.now c.requires.close c.in_ok-inner.ensures.found c.in_ok-inner.ensures.stops c.in-None.ensures.none (omega arith))
 
 -- ---- steps
 
 pub step-returns-in_default-clause-refused : goal.step-returns-in_default-clause-refused
 step-returns-in_default-clause-refused t c =
-    refuses _ _ (no_sign c.args.text.now c.args.room (expression c.args.operand.now.expr) c.args.operand.now.rest.now c.in_default.ensures.none)
+    placed_as _ _ _ _ _ _ c.unexpected.ensures (signless c.args.room (expression c.args.operand.now.expr) (follows c.args.operand.now.rest.now) c.args.text.now c.args.operand.now.rest.now c.in_default.ensures.none)
+
+pub step-returns-in_default-operation_of-clause-refused : goal.step-returns-in_default-operation_of-clause-refused
+step-returns-in_default-operation_of-clause-refused t c =
+    placed_as _ _ _ _ _ _ c.unexpected-in_default-operation_of.ensures
+    (no_operator_there c.args.room (expression c.args.operand.now.expr) (follows c.args.operand.now.rest.now) c.in-Some.sign c.in-Some.at c.args.text.now c.args.operand.now.rest.now c.in-Some.rest.now c.in-Some.ensures.found (sym c.in_default-operation_of.ensures))
+
+pub step-returns-then-bound-rank-clause-refused : goal.step-returns-then-bound-rank-clause-refused
+step-returns-then-bound-rank-clause-refused t c =
+    let e = expression c.args.operand.now.expr in
+    let a = c.bound.ensures in
+    let b = c.rank.ensures in
+    let n = c.if-bound-rank.true in
+    placed_as _ _ _ _ _ _ c.unexpected-then-bound-rank.ensures
+    (loose_there c.args.room e (follows c.args.operand.now.rest.now) c.in-Some.sign c.in-Some-operation_of.operation c.in-Some.at c.args.text.now c.args.operand.now.rest.now c.in-Some.rest.now c.in-Some.ensures.found (sym c.in-Some-operation_of.ensures) (omega arith))
+
+pub step-returns-then-room-operand-clause-refused : goal.step-returns-then-room-operand-clause-refused
+step-returns-then-room-operand-clause-refused t c =
+    let e = expression c.args.operand.now.expr in
+    let a = c.bound.ensures in
+    let b = c.rank.ensures in
+    let n = c.if-bound-rank.false in
+    let m = c.if-room-operand.true in
+    let x = c.args.operand.now.exact in
+    placed_as _ _ _ _ _ _ c.too_deep.ensures
+    (high_there c.args.room e c.in-Some.sign c.in-Some-operation_of.operation c.in-Some.at c.args.text.now c.args.operand.now.rest.now c.in-Some.rest.now c.in-Some.ensures.found (sym c.in-Some-operation_of.ensures) (omega arith) (omega arith))
 
 pub step-returns-clause-found : goal.step-returns-clause-found
 step-returns-clause-found t c =
@@ -97,21 +138,45 @@ pub step-returns-clause-refused : goal.step-returns-clause-refused
 step-returns-clause-refused t c =
     let text = c.args.text.now in
     let e = expression c.args.operand.now.expr in
+    let a = c.bound.ensures in
+    let b = c.rank.ensures in
+    let n = c.if-bound-rank.false in
+    let m = c.if-room-operand.false in
+    let x = c.args.operand.now.exact in
     IfErr-weaker c.operated.result _ _
-    (λ y h. refuses_so y _ _ (λ n. none_behind text c.args.room e c.in-Some.sign c.in-Some-operation_of.operation c.in-Some.at c.args.operand.now.rest.now c.in-Some.rest.now c.in-Some.ensures.found (sym c.in-Some-operation_of.ensures) n) h)
+    (λ y h. placed_so y _ _ _ _ _ _ _ (behind_wraps c.args.room e c.in-Some.sign c.in-Some-operation_of.operation c.in-Some.at text c.args.operand.now.rest.now c.in-Some.rest.now c.in-Some.ensures.found (sym c.in-Some-operation_of.ensures) (omega arith) (omega arith)) h)
     c.operated.ensures.refused
 
 pub chosen-returns-in_err-yes-clause-refused : goal.chosen-returns-in_err-yes-clause-refused
 chosen-returns-in_err-yes-clause-refused t c =
     let p = err_from_is_err_and c.from_residual.result c.from_residual.ensures.1 in
-    rw (p.1, p.2) (refuses_so c.in_err-yes.field-0.0 _ _ (λ n. none_first c.args.text.now c.args.room c.args.tokens.now n) c.in_err-yes.ensures.refused)
+    rw (p.1, p.2) (placed_so c.in_err-yes.field-0.0 _ _ _ _ _ _ _ (first_branch_wraps c.args.room c.args.at c.args.text.now c.args.tokens.now) c.in_err-yes.ensures.refused)
 
 pub chosen-returns-in_err-no-clause-refused : goal.chosen-returns-in_err-no-clause-refused
 chosen-returns-in_err-no-clause-refused t c =
     let p = err_from_is_err_and c.from_residual-in_err-no.result c.from_residual-in_err-no.ensures.1 in
-    rw (p.1, p.2) (refuses_so c.in_err-no.field-0.0 _ _
-    (λ n. none_second c.args.text.now c.args.room (expression c.in_ok-yes.yes.expr) c.args.tokens.now c.in_ok-yes.yes.rest.now c.in_ok-yes.ensures.found n)
+    let x = c.in_ok-yes.yes.exact in
+    let low = c.in_ok-yes.ensures.low in
+    rw (p.1, p.2) (placed_so c.in_err-no.field-0.0 _ _ _ _ _ _ _
+    (second_branch_wraps c.args.room c.args.at (expression c.in_ok-yes.yes.expr) c.args.text.now c.args.tokens.now c.in_ok-yes.yes.rest.now c.in_ok-yes.ensures.found (omega arith))
     c.in_err-no.ensures.refused)
+
+pub operated-returns-in_err-inner-in-Index-clause-refused : goal.operated-returns-in_err-inner-in-Index-clause-refused
+operated-returns-in_err-inner-in-Index-clause-refused t c =
+    let p = err_from_is_err_and c.from_residual.result c.from_residual.ensures.1 in
+    let e = c.in_err-inner-in-Index.field-0.0 in
+    rw (p.1, p.2) (subst (λ (o : Operation). Placed e (NoneBehind c.args.room o) (HasBehind c.args.room o c.args.at) c.args.text.now c.args.tokens.now) (sym c.in-Index.is)
+    (placed_so e _ _ _ _ _ _ _ (index_wraps c.args.room c.args.at c.args.text.now c.args.tokens.now) c.in_err-inner-in-Index.ensures.refused))
+
+pub operated-returns-in_err-value-in-Infix-clause-refused : goal.operated-returns-in_err-value-in-Infix-clause-refused
+operated-returns-in_err-value-in-Infix-clause-refused t c =
+    let op = c.in-Infix.operator in
+    let k = c.in_err-value-in-Infix in
+    let e = k.field-0.0 in
+    let p = err_from_is_err_and c.from_residual-in_err-value-in-Infix.result c.from_residual-in_err-value-in-Infix.ensures.1 in
+    let h = subst (λ (l : ℕ). Placed e (NoExpression l c.args.room) (HasExpression l c.args.room) c.args.text.now c.args.tokens.now) c.right.ensures k.ensures.refused in
+    rw (p.1, p.2) (subst (λ (o : Operation). Placed e (NoneBehind c.args.room o) (HasBehind c.args.room o c.args.at) c.args.text.now c.args.tokens.now) (sym c.in-Infix.is)
+    (placed_so e _ _ _ _ _ _ _ (right_wraps c.args.room op c.args.at c.args.text.now c.args.tokens.now) h))
 
 pub operated-returns-in_ok-value-in-Infix-clause-found : goal.operated-returns-in_ok-value-in-Infix-clause-found
 operated-returns-in_ok-value-in-Infix-clause-found t c =
@@ -129,11 +194,42 @@ operated-returns-in_ok-value-in-Infix-clause-found t c =
 
 pub operand-returns-in-None-clause-refused : goal.operand-returns-in-None-clause-refused
 operand-returns-in-None-clause-refused t c =
-    refuses _ _ (none_begins c.args.text.now c.args.level c.args.room c.args.tokens.now c.in_default.ensures.none c.in_default-name.ensures.none c.in_default-information.ensures.none c.in-None.ensures.none)
+    placed_as _ _ _ _ _ _ c.unexpected.ensures
+    (wrapped _ _ _ _ 0 _ _ _ _ (information_wraps c.args.level c.args.room c.args.text.now c.args.tokens.now c.in_default.ensures.none c.in_default-name.ensures.none c.in-None.ensures.none) c.departure.ensures)
+
+pub named-returns-in_err-found-in-Some-clause-refused : goal.named-returns-in_err-found-in-Some-clause-refused
+named-returns-in_err-found-in-Some-clause-refused t c =
+    let p = err_from_is_err_and c.from_residual.result c.from_residual.ensures.1 in
+    rw (p.1, p.2) (placed_so c.in_err-found-in-Some.field-0.0 _ _ _ _ _ _ _
+    (call_wraps c.args.level c.args.room c.args.name c.args.text.now c.args.tokens.now c.args.rest.now c.in-Some.rest.now c.requires.name c.in-Some.ensures.found) c.in_err-found-in-Some.ensures.refused)
 
 pub named-returns-in-None-clause-found : goal.named-returns-in-None-clause-found
 named-returns-in-None-clause-found t c =
     rw c.variable.ensures (record { derives = record { fits = omega arith; spells = c.requires.name }; head = tt; closes = no_parenthesis c.args.rest.now c.in-None.ensures.none })
+
+pub signed-returns-then-not-opens-clause-refused : goal.signed-returns-then-not-opens-clause-refused
+signed-returns-then-not-opens-clause-refused t c =
+    placed_as _ _ _ _ _ _ c.unexpected.ensures (no_operand_there c.args.level c.args.room c.args.sign c.args.at c.args.text.now c.args.tokens.now c.args.rest.now c.requires.sign (c.opens.ensures.never c.if-not-opens.true))
+
+pub signed-returns-then-room-eq0-clause-refused : goal.signed-returns-then-room-eq0-clause-refused
+signed-returns-then-room-eq0-clause-refused t c =
+    let o = c.opens.ensures.opens c.if-not-opens.false in
+    subst (λ (z : ℕ). Placed c.too_deep.result (NoOperand c.args.level z) (HasExpression c.args.level z) c.args.text.now c.args.tokens.now) (sym c.if-room-eq0.true)
+    (placed_as _ _ _ _ _ _ c.too_deep.ensures (no_room_there c.args.level c.args.sign c.args.at c.args.text.now c.args.tokens.now c.args.rest.now c.requires.level c.requires.sign o))
+
+pub signed-returns-in_err-inner-clause-refused : goal.signed-returns-in_err-inner-clause-refused
+signed-returns-in_err-inner-clause-refused t c =
+    let p = err_from_is_err_and c.from_residual.result c.from_residual.ensures.1 in
+    rw (p.1, p.2) (placed_so c.in_err-inner.field-0.0 _ _ _ _ _ _ _
+    (prefix_wraps c.args.level c.args.room c.args.sign c.in-Some.operator c.args.at c.args.text.now c.args.tokens.now c.args.rest.now c.requires.level (positive c.args.room c.if-room-eq0.false) c.requires.sign (sym c.in-Some.ensures))
+    c.in_err-inner.ensures.refused)
+
+pub signed-returns-in_err-inner-2-clause-refused : goal.signed-returns-in_err-inner-2-clause-refused
+signed-returns-in_err-inner-2-clause-refused t c =
+    let p = err_from_is_err_and c.from_residual-in_err-inner-2.result c.from_residual-in_err-inner-2.ensures.1 in
+    rw (p.1, p.2) (placed_so c.in_err-inner-2.field-0.0 _ _ _ _ _ _ _
+    (unary_wraps c.args.level c.args.room c.args.sign c.in-Some-unary_of.operator c.args.at c.args.text.now c.args.tokens.now c.args.rest.now c.requires.level (positive c.args.room c.if-room-eq0.false) c.requires.sign (sym c.in-Some-unary_of.ensures))
+    c.in_err-inner-2.ensures.refused)
 
 pub signed-returns-in-Some-clause-found : goal.signed-returns-in-Some-clause-found
 signed-returns-in-Some-clause-found t c =
@@ -155,41 +251,44 @@ signed-returns-in-Some-unary_of-clause-found t c =
 
 pub parenthesised-returns-in_default-clause-refused : goal.parenthesised-returns-in_default-clause-refused
 parenthesised-returns-in_default-clause-refused t c =
-    refuses _ _
-    (no_cast c.args.text.now c.args.level c.args.room c.args.at c.in-Some.to c.args.tokens.now c.args.rest.now c.in-Some.rest.now c.requires.sign c.in-Some.ensures.found
-    (λ to rest h n m. same_rest (c.in-Some.ensures.only to rest h n m))
-    (λ e after end z d s low. c.in_default.ensures.none after z))
+    let l = c.requires.level in
+    let m = c.if-level-eq2.false in
+    placed_as _ _ _ _ _ _ c.unexpected.ensures
+    (cast_unclosed c.args.level c.args.room c.args.at c.in-Some.to c.args.text.now c.args.tokens.now c.args.rest.now c.in-Some.rest.now (omega arith) c.requires.sign c.in-Some.ensures.found c.in-Some.ensures.far c.in_default.ensures.none)
 
 pub parenthesised-returns-in_err-inner-in-Some-clause-refused : goal.parenthesised-returns-in_err-inner-in-Some-clause-refused
 parenthesised-returns-in_err-inner-in-Some-clause-refused t c =
     let p = err_from_is_err_and c.from_residual.result c.from_residual.ensures.1 in
-    rw (p.1, p.2) (refuses_so c.in_err-inner-in-Some.field-0.0 _ _
-    (λ n. not_cast c.args.text.now c.args.level c.args.room c.args.at c.in-Some.to c.args.tokens.now c.args.rest.now c.in-Some.rest.now c.in-Some-after.rest.now c.requires.sign c.in-Some.ensures.found
-    (λ to rest h a b. same_rest (c.in-Some.ensures.only to rest h a b)) c.in-Some-after.ensures.found n)
+    let l = c.requires.level in
+    let m = c.if-level-eq2.false in
+    rw (p.1, p.2) (placed_so c.in_err-inner-in-Some.field-0.0 _ _ _ _ _ _ _
+    (cast_wraps c.args.level c.args.room c.args.at c.in-Some.to c.args.text.now c.args.tokens.now c.args.rest.now c.in-Some.rest.now c.in-Some-after.rest.now (omega arith) c.requires.sign c.in-Some.ensures.found c.in-Some.ensures.far c.in-Some-after.ensures.found)
     c.in_err-inner-in-Some.ensures.refused)
 
 pub grouped-returns-in_err-inner-clause-refused : goal.grouped-returns-in_err-inner-clause-refused
 grouped-returns-in_err-inner-clause-refused t c =
     let p = err_from_is_err_and c.from_residual.result c.from_residual.ensures.1 in
-    rw (p.1, p.2) (refuses_so c.in_err-inner.field-0.0 _ _ (λ n. no_group c.args.text.now c.args.level c.args.room c.args.at c.args.tokens.now c.args.rest.now c.requires.sign c.requires.base n) c.in_err-inner.ensures.refused)
+    rw (p.1, p.2) (placed_so c.in_err-inner.field-0.0 _ _ _ _ _ _ _ (group_wraps c.args.level c.args.room c.args.at c.args.text.now c.args.tokens.now c.args.rest.now c.requires.sign c.requires.base) c.in_err-inner.ensures.refused)
 
 -- ---- arguments
 
 pub arguments-returns-then-room-eq0-clause-refused : goal.arguments-returns-then-room-eq0-clause-refused
 arguments-returns-then-room-eq0-clause-refused t c =
-    refuses _ _ (subst (λ (z : ℕ). NoArguments c.args.text.now z c.args.tokens.now) (sym c.if-room-eq0.true) (no_place c.args.text.now c.args.tokens.now c.in_default.ensures.none))
+    subst (λ (z : ℕ). Placed c.no_argument.result (NoArguments z) (HasArguments z) c.args.text.now c.args.tokens.now) (sym c.if-room-eq0.true) c.no_argument.ensures
 
 pub arguments-returns-in_err-first-clause-refused : goal.arguments-returns-in_err-first-clause-refused
 arguments-returns-in_err-first-clause-refused t c =
     let p = err_from_is_err_and c.from_residual.result c.from_residual.ensures.1 in
-    rw (p.1, p.2) (refuses_so c.in_err-first.field-0.0 _ _ (λ n. no_first c.args.text.now c.args.room c.args.tokens.now c.in_default.ensures.none n) c.in_err-first.ensures.refused)
+    rw (p.1, p.2) (placed_so c.in_err-first.field-0.0 _ _ _ _ _ _ _ (first_wraps c.args.room c.args.text.now c.args.tokens.now (positive c.args.room c.if-room-eq0.false) c.in_default.ensures.none) c.in_err-first.ensures.refused)
 
 pub arguments-returns-in_err-next-clause-refused : goal.arguments-returns-in_err-next-clause-refused
 arguments-returns-in_err-next-clause-refused t c =
     let p = err_from_is_err_and c.from_residual-in_err-next.result c.from_residual-in_err-next.ensures.1 in
     let i = c.loop-behind.invariant in
-    rw (p.1, p.2) (refuses_so c.in_err-next.field-0.0 _ _
-    (λ n. no_next c.args.text.now c.args.room (map expression c.loop-behind.exprs.items) c.args.tokens.now c.loop-behind.rest.now c.in-Some-after.behind.now i.3 i.4 c.in-Some-after.ensures.found n)
+    let a = i.1 in
+    let b = i.2 in
+    rw (p.1, p.2) (placed_so c.in_err-next.field-0.0 _ _ _ _ _ _ _
+    (next_wraps c.args.room (map expression c.loop-behind.exprs.items) c.args.text.now c.args.tokens.now c.loop-behind.rest.now c.in-Some-after.behind.now (positive c.args.room i.0) i.3 i.4 c.in-Some-after.ensures.found (omega arith))
     c.in_err-next.ensures.refused)
 
 pub arguments-loop-behind-smaller : goal.arguments-loop-behind-smaller
@@ -226,4 +325,7 @@ arguments-returns-in-Some-after-2-clause-found t c =
 pub arguments-returns-clause-refused : goal.arguments-returns-clause-refused
 arguments-returns-clause-refused t c =
     let i = c.loop-behind.invariant in
-    refuses _ _ (stuck c.args.text.now c.args.room (map expression c.loop-behind.exprs.items) c.args.tokens.now c.loop-behind.rest.now i.3 i.4 c.in-None.ensures.none c.in_default-after.ensures.none)
+    let a = i.1 in
+    let b = i.2 in
+    placed_as _ _ _ _ _ _ c.unexpected.ensures
+    (stuck_there c.args.room (map expression c.loop-behind.exprs.items) c.args.text.now c.args.tokens.now c.loop-behind.rest.now i.3 i.4 c.in-None.ensures.none c.in_default-after.ensures.none (omega arith))

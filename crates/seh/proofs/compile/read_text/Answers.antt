@@ -1,8 +1,8 @@
-use Rattle.std.proofs.Common.{◌≤◌, List, length, subst, sym, arith}
+use Rattle.std.proofs.Common.{List, subst, sym, arith}
 use Rattle.c_lex.specs.declared.token.Token.{Token}
 use Rattle.c_lex.specs.Text.{IsTokens}
-use Rattle.seh.specs.Answers.{IsTextRefusal}
-use Rattle.seh.proofs.Texts.{few_tokens, no_program}
+use Rattle.c_parse.proofs.Beyond.{few_tokens}
+use Rattle.seh.proofs.Texts.{no_program}
 use Rattle.seh.proofs.compile.read_text.Goals as goal
 
 pub returns-in-Err-parse : goal.returns-in-Err-parse
@@ -19,3 +19,6 @@ first_of-requires-clause-small c =
     let few = few_tokens c.args.text.now c.deref.result.now h in
     let room = c.requires in
     rw c.deref-2.ensures.value (record { tokens = c.deref.result.now; derives = c.in-Ok-parse.ensures.found; few = omega arith })
+
+pub parse-requires : goal.parse-requires
+parse-requires c = record { tokens = subst (λ (z : List Token). IsTokens c.args.text.now z) (sym c.deref.ensures.value) c.in-Ok.ensures.found }

@@ -1,0 +1,94 @@
+-- What one refusal says of another phrase; tokens that close phrases; and what isn't at the front.
+use Rattle.std.specs.Prelude.{Result, Ok, Err, IfErr}
+use Rattle.std.proofs.Common.{◌≡◌, ℕ, List, ◌∷◌, ◌++◌, refl, sym, subst, arith}
+use Rattle.c_lex.specs.declared.sign.Sign.{Sign}
+use Rattle.c_lex.specs.declared.token.IntegerType.TheVariants as types
+use Rattle.c_lex.specs.declared.token.Kind.TheVariants as kinds
+use Rattle.c_lex.specs.declared.token.Token.{Token}
+use Rattle.c_syntax.specs.declared.expression.Literal.{Literal}
+use Rattle.c_syntax.specs.declared.expression.Name.{Name}
+use Rattle.c_syntax.specs.Expressions.{literal_kind, IsInteger}
+use Rattle.c_syntax.specs.Faults.{Family, SameFirst, place, Able, Failed, Wraps}
+use Rattle.c_syntax.specs.Follow.{Stops}
+use Rattle.c_syntax.specs.Tokens.{token, IsKind, IsSign, IsName, HasSign}
+use Rattle.c_syntax.proofs.Failing.{append_append, wrapped}
+use Rattle.c_syntax.proofs.Firsts.{first_back, stops}
+use Rattle.c_parse_expr.specs.declared.refusal.ParseErr.{ParseErr}
+use Rattle.c_parse_expr.specs.declared.refusal.ParseErr.TheVariants.{Unexpected, TooDeep, TooMany, Memory}
+use Rattle.c_parse_expr.specs.Refusals.{number, Placed}
+
+-- ---- refusals
+
+-- in a greater phrase
+pub placed_in : (e : ParseErr) (No Has No' Has' : Family) (text : List ℕ) (ts ts' : List Token) → Wraps No Has No' Has' text ts ts' → Placed e No Has text ts → Placed e No' Has' text ts'
+placed_in (Unexpected at) No Has No' Has' text ts ts' w p = wrapped No Has No' Has' 0 at text ts ts' w p
+placed_in (TooDeep at) No Has No' Has' text ts ts' w p = wrapped No Has No' Has' 1 at text ts ts' w p
+placed_in (TooMany at what) No Has No' Has' text ts ts' w p = wrapped No Has No' Has' (number what) at text ts ts' w p
+placed_in Memory No Has No' Has' text ts ts' w p = tt
+
+-- by what each failure is
+pub placed_so : (e : ParseErr) (No Has No' Has' : Family) (text : List ℕ) (ts ts' : List Token) → ((kind at : ℕ) → Failed kind at No Has text ts → Failed kind at No' Has' text ts') → Placed e No Has text ts → Placed e No' Has' text ts'
+placed_so (Unexpected at) No Has No' Has' text ts ts' w p = w 0 at p
+placed_so (TooDeep at) No Has No' Has' text ts ts' w p = w 1 at p
+placed_so (TooMany at what) No Has No' Has' text ts ts' w p = w (number what) at p
+placed_so Memory No Has No' Has' text ts ts' w p = tt
+
+pub refused_so : {A : Type 0} (r : Result A ParseErr) (No Has No' Has' : Family) (text : List ℕ) (ts ts' : List Token) → ((kind at : ℕ) → Failed kind at No Has text ts → Failed kind at No' Has' text ts') → IfErr r (λ e. Placed e No Has text ts) → IfErr r (λ e. Placed e No' Has' text ts')
+refused_so (Ok x) No Has No' Has' text ts ts' w p = tt
+refused_so (Err e) No Has No' Has' text ts ts' w p = placed_so e No Has No' Has' text ts ts' w p
+
+-- no phrase goes on with the first token of the fault
+pub missing : (No Has : Family) (text : List ℕ) (ts front fault : List Token) → ts ≡ front ++ fault
+    → ((text' : List ℕ) (other : List Token) → SameFirst fault other → No 0 text' (front ++ other))
+    → ((text' : List ℕ) → Able Has 6 text' front)
+    → Failed 0 (place text fault) No Has text ts
+missing No Has text ts front fault p none able = record {
+  front = front;
+  fault = fault;
+  split = p;
+  stands = refl;
+  against = λ text' other a s. none text' other s;
+  able = λ text' a k. able text';
+  further = λ text' k a s e. absurd (omega arith);
+}
+
+-- ---- tokens that close phrases
+
+abbrev pub sign : Sign → Token
+sign s = token (kinds.Sign s) 0 0
+
+abbrev pub named : Name
+named = record { start = 0; end = 0 }
+
+abbrev pub name : Token
+name = token kinds.Name 0 0
+
+abbrev pub digit : ℕ → Token
+digit n = token (kinds.Integer n types.Int) 0 0
+
+pub has_it : (s : Sign) (other : List Token) → HasSign s (sign s ∷ other) other
+has_it s other = (0, (0, refl))
+
+-- two tokens, or some and others, before the rest
+pub behind : (P : List Token → Type 0) (xs ys zs : List Token) → P (xs ++ (ys ++ zs)) → P (xs ++ ys ++ zs)
+behind P xs ys zs h = subst P (sym (append_append xs ys zs)) h
+
+-- ---- what isn't at the front
+
+abbrev pub Lacks : Sign → List Token → Type 0
+Lacks s ts = (rest : List Token) → HasSign s ts rest → ⊥
+
+abbrev pub LacksAt : Sign → List Token → Type 0
+LacksAt s ts = (at : ℕ) (rest : List Token) → IsSign s at ts rest → ⊥
+
+abbrev pub NoLiteral : List Token → Type 0
+NoLiteral ts = (literal : Literal) (at : ℕ) (rest : List Token) → IsKind (literal_kind literal) at ts rest → ⊥
+
+abbrev pub NoInteger : List Token → Type 0
+NoInteger ts = (value at : ℕ) (rest : List Token) → IsInteger value at ts rest → ⊥
+
+abbrev pub NoName : List Token → Type 0
+NoName ts = (n : Name) (rest : List Token) → IsName n ts rest → ⊥
+
+pub goes_on : (l : ℕ) (ts other : List Token) → SameFirst ts other → (Stops l ts → ⊥) → Stops l other → ⊥
+goes_on l ts other h n s = n (stops l other ts (first_back ts other h) s)

@@ -1,0 +1,252 @@
+-- Readings whose parts fail, and steps and closing signs that fail themselves.
+use Rattle.std.proofs.Common.{◌≡◌, ◌≤◌, ◌<◌, ◌-◌, ℕ, List, [], ◌∷◌, ◌++◌, Some, None, refl, sym, ap, ◌∙◌, subst, inl, inr, arith}
+use Rattle.c_lex.specs.declared.sign.Sign.{Sign}
+use Rattle.c_lex.specs.declared.sign.Sign.TheVariants as signs
+use Rattle.c_lex.specs.declared.token.Kind.TheVariants as kinds
+use Rattle.c_lex.specs.declared.token.Token.{Token}
+use Rattle.c_syntax.specs.Expression.{Expression, height}
+use Rattle.c_syntax.specs.Expressions.{rank, Spells, Derives}
+use Rattle.c_syntax.specs.Faults.{SameFirst, place, Failed, Wraps}
+use Rattle.c_syntax.specs.Follow.{sign_follows, follows, Stops}
+use Rattle.c_syntax.specs.Steps.{At, After, With, Choose, Set, And, apply, Tail, Closes}
+use Rattle.c_syntax.specs.Tokens.{token, IsSign, HasSign}
+use Rattle.c_syntax.proofs.Firsts as firsts
+use Rattle.c_syntax.proofs.Failing.{append_append, append_nothing}
+use Rattle.c_syntax.proofs.Moves.{Moves}
+use Rattle.c_syntax.proofs.Moves as moved
+use Rattle.c_syntax.proofs.Spine.{levels, step_follows}
+use Rattle.c_parse_expr.specs.declared.step.Infix.{Infix as Infix'}
+use Rattle.c_parse_expr.specs.declared.step.Infix.TheVariants as infixes
+use Rattle.c_parse_expr.specs.declared.step.Operation.{Operation}
+use Rattle.c_parse_expr.specs.declared.step.Operation.TheVariants.{Index, Postfix, Infix, Conditional}
+use Rattle.c_parse_expr.specs.Operations.{operation_of, sign, right, bound}
+use Rattle.c_parse_expr.specs.Readings.{NoExpression, HasExpression, Encloses, NoneEnclosed, HasEnclosed, NoOperand, NoStep, HasStep, NoneBehind, HasBehind}
+use Rattle.c_parse_expr.proofs.Climbing.{no_operand, no_step, joined, none_inside, not_closed}
+use Rattle.c_parse_expr.proofs.Operations.{only, same_bound, applied_height, none_indexed, none_right, none_first, none_second, no_sign, no_operation, too_loose, too_high, none_behind}
+use Rattle.c_parse_expr.proofs.Placing.{unexpected_at, deep_at, able_now, one, one_tree, sign_token, has_one}
+
+-- ---- expressions
+
+pub operand_wraps : (l room : ℕ) (text : List ℕ) (ts : List Token) → Wraps (NoOperand l room) (HasExpression l room) (NoExpression l room) (HasExpression l room) text ts ts
+operand_wraps l room text ts = record {
+  before = [];
+  split = refl;
+  no = λ n text' other a s x. no_operand text' n l room other x;
+  has = λ n text' inner a k h. able_now (HasExpression l room) n text' inner h;
+}
+
+step_has : (l room f n : ℕ) (left : Expression) (text : List ℕ) (front inner : List Token) → ((other : List Token) → Derives text l left (front ++ other) other) → f ≤ l → height left ≤ room → HasStep room left f n text inner → HasExpression l room n text (front ++ inner)
+step_has l room f n left text front inner d p low (inl e) =
+    let q : front ++ inner ≡ front = ap (λ z. front ++ z) e ∙ append_nothing front in
+    record { tree = left; derives = λ other. subst (λ (z : List Token). Derives text l left z other) (ap (λ z. z ++ other) (sym q)) (d other); low = λ k. low }
+step_has l room f n left text front inner d p low (inr s) = record {
+  tree = apply left s.step;
+  derives = λ other.
+      let q = s.loose in
+      subst (λ (z : List Token). Derives text l (apply left s.step) z other) (sym (append_append front inner other))
+      (record { fits = omega arith; spells = joined text left s.step (front ++ (inner ++ other)) (inner ++ other) other (d (inner ++ other)).spells s.fits (s.tail other) });
+  low = s.low;
+}
+
+pub step_wraps : (l room : ℕ) (left : Expression) (text : List ℕ) (ts rest : List Token) → Derives text l left ts rest → Closes left rest → follows rest ≤ l → height left ≤ room
+    → Wraps (NoStep room left) (HasStep room left (follows rest)) (NoExpression l room) (HasExpression l room) text rest ts
+step_wraps l room left text ts rest d c f low =
+    let m = moved.derives l left text ts rest d in
+    record {
+      before = m.front;
+      split = m.split;
+      no = λ n text' other a s x. no_step text' n l room left (m.front ++ other) other (m.again text' other a) (firsts.closes left rest other s c) (subst (λ n. n ≤ l) (sym (firsts.same_follows rest other s)) f) x;
+      has = λ n text' inner a k h. able_now (HasExpression l room) n text' (m.front ++ inner) (step_has l room (follows rest) n left text' m.front inner (λ other. m.again text' other a) f low h);
+    }
+
+-- ---- an expression and the sign that ends it
+
+pub enclosed_wraps : (close : Sign) (room : ℕ) (text : List ℕ) (ts : List Token) → sign_follows close ≡ 17 → Wraps (NoExpression 16 room) (HasExpression 16 room) (NoneEnclosed close room) (HasEnclosed close room) text ts ts
+enclosed_wraps close room text ts p = record {
+  before = [];
+  split = refl;
+  no = λ n text' other a s x. none_inside text' n close room other p x;
+  has = λ n text' inner a k h. record {
+    more = sign_token close ∷ [];
+    has = record {
+      tree = h.tree;
+      encloses = λ other. record {
+        mid = sign_token close ∷ other;
+        spells = subst (λ (z : List Token). Spells text' h.tree z (sign_token close ∷ other)) (sym (append_append inner (sign_token close ∷ []) other)) (h.derives (sign_token close ∷ other)).spells;
+        closed = (0, (0, refl));
+      };
+      low = h.low;
+    };
+  };
+}
+
+pub unclosed : (close : Sign) (room : ℕ) (e : Expression) (text : List ℕ) (ts rest : List Token) → sign_follows close ≡ 17 → Derives text 16 e ts rest → Stops 16 rest → ((end : List Token) → HasSign close rest end → ⊥) → height e ≤ room
+    → Failed 0 (place text rest) (NoneEnclosed close room) (HasEnclosed close room) text ts
+unclosed close room e text ts rest p d st n low =
+    let m = moved.derives 16 e text ts rest d in
+    unexpected_at (NoneEnclosed close room) (HasEnclosed close room) text ts m.front rest m.split
+    (λ text' other a s. not_closed text' 0 close room e (m.front ++ other) other p (m.again text' other a) (firsts.stops 16 rest other s st) (firsts.no_sign close rest other s n))
+    (λ text' a k. record {
+      more = sign_token close ∷ [];
+      has = record {
+        tree = e;
+        encloses = λ other. record {
+          mid = sign_token close ∷ other;
+          spells = subst (λ (z : List Token). Spells text' e z (sign_token close ∷ other)) (sym (append_append m.front (sign_token close ∷ []) other)) (m.again text' (sign_token close ∷ other) a).spells;
+          closed = (0, (0, refl));
+        };
+        low = λ q. low;
+      };
+    })
+
+encloses_moves : (close : Sign) (e : Expression) (text : List ℕ) (ts rest : List Token) → Encloses text close e ts rest → Moves (λ t. Encloses t close e) text ts rest
+encloses_moves close e text ts rest x = moved.map (moved.both (moved.expression e text ts x.mid x.spells) (moved.has_sign close text x.mid rest x.closed)) (λ t us vs g. record { mid = g.0; spells = g.1; closed = g.2 })
+
+-- ---- what follows the sign of a step
+
+pub index_wraps : (room at : ℕ) (text : List ℕ) (ts : List Token) → Wraps (NoneEnclosed signs.CloseBracket room) (HasEnclosed signs.CloseBracket room) (NoneBehind room Index) (HasBehind room Index at) text ts ts
+index_wraps room at text ts = record {
+  before = [];
+  split = refl;
+  no = λ n text' other a s x. none_indexed text' n room other x;
+  has = λ n text' inner a k h. able_now (HasBehind room Index at) n text' inner
+      (record { step = At at h.tree; operation = refl; tail = λ begin other g. let x = h.encloses other in (inner ++ other, x.mid, g, x.spells, x.closed); low = h.low });
+}
+
+right_has : (room : ℕ) (op : Infix') (at n : ℕ) (text : List ℕ) (inner : List Token) → HasExpression (right op) room n text inner → HasBehind room (Infix op) at n text inner
+right_has room (infixes.Binary op) at n text inner h = record {
+  step = With at op h.tree;
+  operation = refl;
+  tail = λ begin other g. let d = h.derives other in let x = (levels op).0 in let y = d.fits in (inner ++ other, g, omega arith, d.spells);
+  low = h.low;
+}
+right_has room (infixes.Assign op) at n text inner h =
+    record { step = Set at op h.tree; operation = refl; tail = λ begin other g. let d = h.derives other in (inner ++ other, g, d.fits, d.spells); low = h.low }
+right_has room infixes.Comma at n text inner h =
+    record { step = And at h.tree; operation = refl; tail = λ begin other g. let d = h.derives other in (inner ++ other, g, d.fits, d.spells); low = h.low }
+
+pub right_wraps : (room : ℕ) (op : Infix') (at : ℕ) (text : List ℕ) (ts : List Token) → Wraps (NoExpression (right op) room) (HasExpression (right op) room) (NoneBehind room (Infix op)) (HasBehind room (Infix op) at) text ts ts
+right_wraps room op at text ts = record {
+  before = [];
+  split = refl;
+  no = λ n text' other a s x. none_right text' n room op other x;
+  has = λ n text' inner a k h. able_now (HasBehind room (Infix op) at) n text' inner (right_has room op at n text' inner h);
+}
+
+pub first_branch_wraps : (room at : ℕ) (text : List ℕ) (ts : List Token) → Wraps (NoneEnclosed signs.Colon room) (HasEnclosed signs.Colon room) (NoneBehind room Conditional) (HasBehind room Conditional at) text ts ts
+first_branch_wraps room at text ts = record {
+  before = [];
+  split = refl;
+  no = λ n text' other a s x. none_first text' n room other x;
+  has = λ n text' inner a k h. record {
+    more = one ∷ [];
+    has = record {
+      step = Choose at h.tree one_tree;
+      operation = refl;
+      tail = λ begin other g.
+          let x = h.encloses (one ∷ other) in
+          let s = subst (λ (z : List Token). Spells text' h.tree z x.mid) (sym (append_append inner (one ∷ []) other)) x.spells in
+          ((inner ++ (one ∷ [])) ++ other, x.mid, one ∷ other, g, s, x.closed, omega arith, (0, refl));
+      low = λ q. let y = h.low q in omega arith;
+    };
+  };
+}
+
+pub second_branch_wraps : (room at : ℕ) (e : Expression) (text : List ℕ) (ts mid : List Token) → Encloses text signs.Colon e ts mid → height e ≤ room
+    → Wraps (NoExpression 14 room) (HasExpression 14 room) (NoneBehind room Conditional) (HasBehind room Conditional at) text mid ts
+second_branch_wraps room at e text ts mid x low =
+    let m = encloses_moves signs.Colon e text ts mid x in
+    record {
+      before = m.front;
+      split = m.split;
+      no = λ n text' other a s y. none_second text' n room e (m.front ++ other) other (m.again text' other a) y;
+      has = λ n text' inner a k h. able_now (HasBehind room Conditional at) n text' (m.front ++ inner)
+          (record {
+            step = Choose at e h.tree;
+            operation = refl;
+            tail = λ begin other g.
+                let y = m.again text' (inner ++ other) a in
+                let d = h.derives other in
+                let s = subst (λ (z : List Token). Spells text' e z y.mid) (sym (append_append m.front inner other)) y.spells in
+                ((m.front ++ inner) ++ other, y.mid, inner ++ other, g, s, y.closed, d.fits, d.spells);
+            low = λ q. let y = h.low q in omega arith;
+          });
+    }
+
+-- the shortest that goes on behind the sign
+abbrev shortest : Operation → List Token
+shortest Index = one ∷ sign_token signs.CloseBracket ∷ []
+shortest (Postfix op) = []
+shortest (Infix op) = one ∷ []
+shortest Conditional = one ∷ sign_token signs.Colon ∷ one ∷ []
+
+has_shortest : (room : ℕ) (o : Operation) (at n : ℕ) (text : List ℕ) → HasBehind room o at n text (shortest o)
+has_shortest room Index at n text = record {
+  step = At at one_tree;
+  operation = refl;
+  tail = λ begin other h. (one ∷ sign_token signs.CloseBracket ∷ other, sign_token signs.CloseBracket ∷ other, h, (0, refl), (0, (0, refl)));
+  low = λ k. omega arith;
+}
+has_shortest room (Postfix op) at n text = record { step = After op at; operation = refl; tail = λ begin other h. h; low = λ k. omega arith }
+has_shortest room (Infix op) at n text = right_has room op at n text (one ∷ []) (has_one (right op) room n text)
+has_shortest room Conditional at n text = record {
+  step = Choose at one_tree one_tree;
+  operation = refl;
+  tail = λ begin other h. (one ∷ sign_token signs.Colon ∷ one ∷ other, sign_token signs.Colon ∷ one ∷ other, one ∷ other, h, (0, refl), (0, (0, refl)), omega arith, (0, refl));
+  low = λ k. omega arith;
+}
+
+-- ---- steps
+
+a_step : (room : ℕ) (e : Expression) (o : Operation) (sign' : Sign) (at end l n : ℕ) (text : List ℕ) (inner : List Token) → sign_follows sign' ≡ l → operation_of sign' ≡ Some o → rank e ≤ bound o → (1 ≤ n → height e < room) → HasBehind (room - 1) o at n text inner
+    → HasStep room e l n text (token (kinds.Sign sign') at end ∷ inner)
+a_step room e o sign' at end l n text inner f p fits low b =
+    let q : sign' ≡ sign o = only o sign' p in
+    let tail : (other : List Token) → Tail text b.step (token (kinds.Sign sign') at end ∷ (inner ++ other)) other =
+    λ other. b.tail (token (kinds.Sign sign') at end ∷ (inner ++ other)) other (end, ap (λ (z : Sign). token (kinds.Sign z) at end ∷ (inner ++ other)) q) in
+    let r = same_bound b.step in
+    let i = ap bound b.operation in
+    let j = step_follows text e b.step (token (kinds.Sign sign') at end ∷ (inner ++ [])) [] (tail []) in
+    let x = applied_height e b.step in
+    inr (record { step = b.step; fits = omega arith; loose = omega arith; tail = tail; low = λ k. let h = low k in let w = b.low k in omega arith })
+
+pub behind_wraps : (room : ℕ) (e : Expression) (sign' : Sign) (o : Operation) (at : ℕ) (text : List ℕ) (ts rest : List Token) → IsSign sign' at ts rest → operation_of sign' ≡ Some o → rank e ≤ bound o → height e < room
+    → Wraps (NoneBehind (room - 1) o) (HasBehind (room - 1) o at) (NoStep room e) (HasStep room e (follows ts)) text rest ts
+behind_wraps room e sign' o at text ts rest h p fits low = record {
+  before = token (kinds.Sign sign') at h.0 ∷ [];
+  split = h.1;
+  no = λ n text' other a s x. none_behind text' n room e sign' o at (token (kinds.Sign sign') at h.0 ∷ other) other (h.0, refl) p x;
+  has = λ n text' inner a k b. able_now (HasStep room e (follows ts)) n text' (token (kinds.Sign sign') at h.0 ∷ inner) (a_step room e o sign' at h.0 (follows ts) n text' inner (sym (ap follows h.1)) p fits (λ q. low) b);
+}
+
+stands_alone : (room : ℕ) (e : Expression) (l : ℕ) (text : List ℕ) (ts : List Token) → ((other : List Token) → SameFirst ts other → (text' : List ℕ) → NoStep room e 0 text' other) → Failed 0 (place text ts) (NoStep room e) (HasStep room e l) text ts
+stands_alone room e l text ts n =
+    unexpected_at (NoStep room e) (HasStep room e l) text ts [] ts refl (λ text' other a s. n other s text') (λ text' a k. able_now (HasStep room e l) 6 text' [] (inl refl))
+
+pub signless : (room : ℕ) (e : Expression) (l : ℕ) (text : List ℕ) (ts : List Token) → ((s : Sign) (at : ℕ) (rest : List Token) → IsSign s at ts rest → ⊥) → Failed 0 (place text ts) (NoStep room e) (HasStep room e l) text ts
+signless room e l text ts n = stands_alone room e l text ts (λ other f text'. no_sign text' 0 room e other (λ s. firsts.no_kind (kinds.Sign s) ts other f (n s)))
+
+-- the same sign is at the front of tokens that begin alike
+same_sign : (s : Sign) (at : ℕ) (ts rest other : List Token) → IsSign s at ts rest → SameFirst ts other → (more : List Token) × IsSign s at other more
+same_sign s at ts rest other h f = let g : SameFirst (token (kinds.Sign s) at h.0 ∷ rest) other = subst (λ (z : List Token). SameFirst z other) h.1 f in (g.0, (h.0, g.1))
+
+pub no_operator_there : (room : ℕ) (e : Expression) (l : ℕ) (sign' : Sign) (at : ℕ) (text : List ℕ) (ts rest : List Token) → IsSign sign' at ts rest → operation_of sign' ≡ None → Failed 0 (place text ts) (NoStep room e) (HasStep room e l) text ts
+no_operator_there room e l sign' at text ts rest h p = stands_alone room e l text ts (λ other f text'. let g = same_sign sign' at ts rest other h f in no_operation text' 0 room e sign' at other g.0 g.1 p)
+
+pub loose_there : (room : ℕ) (e : Expression) (l : ℕ) (sign' : Sign) (o : Operation) (at : ℕ) (text : List ℕ) (ts rest : List Token) → IsSign sign' at ts rest → operation_of sign' ≡ Some o → bound o < rank e
+    → Failed 0 (place text ts) (NoStep room e) (HasStep room e l) text ts
+loose_there room e l sign' o at text ts rest h p b = stands_alone room e l text ts (λ other f text'. let g = same_sign sign' at ts rest other h f in too_loose text' 0 room e sign' o at other g.0 g.1 p b)
+
+pub high_there : (room : ℕ) (e : Expression) (sign' : Sign) (o : Operation) (at : ℕ) (text : List ℕ) (ts rest : List Token) → IsSign sign' at ts rest → operation_of sign' ≡ Some o → rank e ≤ bound o → room ≤ height e
+    → Failed 1 (place text ts) (NoStep room e) (HasStep room e (follows ts)) text ts
+high_there room e sign' o at text ts rest h p fits high =
+    deep_at (NoStep room e) (HasStep room e (follows ts)) text ts [] ts refl
+    (λ text' other a s. too_high text' room e other high)
+    (λ text' a k. able_now (HasStep room e (follows ts)) 6 text' [] (inl refl))
+    (λ text' a k. record {
+      token = token (kinds.Sign sign') at h.0;
+      rest = rest;
+      more = shortest o;
+      is = h.1;
+      has = a_step room e o sign' at h.0 (follows ts) 0 text' (shortest o) (sym (ap follows h.1)) p fits (λ q. omega arith) (has_shortest (room - 1) o at 0 text');
+    })

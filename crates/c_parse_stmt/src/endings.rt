@@ -1,0 +1,195 @@
+//! How statements go on behind the first statement or block that stands in them.
+
+ghost use Rattle.std.specs.Prelude.{◌≡◌, ◌≤◌, ◌+◌, ℕ, List, IfOk, IfErr, map};
+ghost use Rattle.c_lex.specs.declared.keyword.Keyword.TheVariants as keywords;
+ghost use Rattle.c_lex.specs.declared.token.Token.{Token};
+ghost use Rattle.c_syntax.specs.Statement.{Statements, statement, statements};
+ghost use Rattle.c_parse_expr.specs.Refusals.{Placed};
+ghost use Rattle.c_parse_stmt.specs.declared.left.Left.{Left};
+ghost use Rattle.c_parse_stmt.specs.declared.openings.Head.TheVariants.{Do};
+ghost use Rattle.c_parse_stmt.specs.Within.{NoStatement, HasStatement, Behind};
+ghost use Rattle.c_parse_stmt.specs.Openings.{Holds, Guards};
+ghost use Rattle.c_parse_stmt.specs.Endings.{Ends, Continues, with_clause};
+
+use crate::build::{do_of, except_of, finally_of, for_of, if_of, while_of};
+use crate::filters::{filter, too_many_funclets};
+use crate::left::Left;
+use crate::openings::Head;
+use crate::parts::{condition, expect, word};
+use c_lex::keyword::Keyword;
+use c_lex::sign::Sign;
+use c_lex::token::Token;
+use c_parse_expr::refusal::{ParseErr, unexpected};
+use c_syntax::expression::Expr;
+use c_syntax::statement::Stmt;
+use std::alloc::Global;
+
+/// How a statement goes on behind the first statement in it.
+#[derive(Drop)]
+pub enum Ending {
+    /// This is all of it.
+    Whole(Stmt),
+    /// An `else`, and another statement follows.
+    Else {
+        at: u64,
+        condition: Expr,
+        then: Stmt,
+    },
+}
+
+/// How a `__try` statement goes on behind its first block, up to the brace of the second.
+#[derive(Drop)]
+pub enum Clause {
+    Except { at: u64, filter: Expr },
+    Finally { at: u64 },
+}
+
+/// What follows the statement of a `do`: `while`, the condition and `;` (C11, 6.8.5.2).
+fn do_end<'a>(
+    alloc: Global,
+    text: &[u8],
+    body: Stmt,
+    tokens: &'a [Token],
+) -> Result<(Ending, &'a [Token]), ParseErr>
+    ensures found { IfOk result (λ x. Ends text.now Do (statement body) x.0 tokens.now x.1.now) }
+    ensures refused { IfErr result (λ e. (room : ℕ) (left after : Left) (ts : List Token) → Holds text.now room left after Do (statement body) ts tokens.now → Placed e (NoStatement room left) (HasStatement room left) text.now ts) }
+{
+    match word(Keyword::While, tokens) {
+        Some((at, behind)) => {
+            let (condition, behind) = condition(alloc, text, behind)?;
+            let rest = expect(text, Sign::Semicolon, behind)?;
+            let made = do_of(alloc, body, at, condition)?;
+            Ok((Ending::Whole(made), rest))
+        }
+        None => Err(unexpected(text, tokens)),
+    }
+}
+
+/// How the statement with this head and this first statement goes on, and what follows that. An `else`
+/// belongs to the nearest `if` (C11, 6.8.4.1).
+pub fn read_ending<'a>(
+    alloc: Global,
+    text: &[u8],
+    head: Head,
+    inner: Stmt,
+    tokens: &'a [Token],
+) -> Result<(Ending, &'a [Token]), ParseErr>
+    ensures found { IfOk result (λ x. Ends text.now head (statement inner) x.0 tokens.now x.1.now) }
+    ensures refused { IfErr result (λ e. (room : ℕ) (left after : Left) (ts : List Token) → Holds text.now room left after head (statement inner) ts tokens.now → Placed e (NoStatement room left) (HasStatement room left) text.now ts) }
+{
+    match head {
+        Head::If { at, condition } => match word(Keyword::Else, tokens) {
+            Some((_, rest)) => {
+                let then = inner;
+                Ok((
+                    Ending::Else {
+                        at,
+                        condition,
+                        then,
+                    },
+                    rest,
+                ))
+            }
+            None => {
+                let made = if_of(alloc, at, condition, inner)?;
+                Ok((Ending::Whole(made), tokens))
+            }
+        },
+        Head::While { at, condition } => {
+            let made = while_of(alloc, at, condition, inner)?;
+            Ok((Ending::Whole(made), tokens))
+        }
+        Head::Do => do_end(alloc, text, inner, tokens),
+        Head::For {
+            at,
+            first,
+            condition,
+            next,
+        } => {
+            let made = for_of(alloc, at, first, condition, next, inner)?;
+            Ok((Ending::Whole(made), tokens))
+        }
+    }
+}
+
+/// What follows `__except`: its filter in parentheses, and the brace of its block.
+fn except_clause<'a>(
+    alloc: Global,
+    text: &[u8],
+    room: u64,
+    left: Left,
+    at: u64,
+    tokens: &'a [Token],
+) -> Result<(Clause, Left, &'a [Token]), ParseErr>
+    requires { 1 ≤ room + left.funclets }
+    ensures found { IfOk result (λ x. Behind keywords.Except at tokens.now (λ ts. Continues text.now room left x.1 x.0 ts x.2.now)) }
+    ensures refused { IfErr result (λ e. Behind keywords.Except at tokens.now (λ behind. (whole : Left) (body : Statements) (ts : List Token) → Guards text.now room whole left body ts behind → Placed e (NoStatement room whole) (HasStatement room whole) text.now ts)) }
+{
+    if room == 0 {
+        return Err(ParseErr::TooDeep { at });
+    }
+    let (filter, funclets, behind) = filter(alloc, text, left.funclets, tokens)?;
+    let rest = expect(text, Sign::OpenBrace, behind)?;
+    let locals = left.locals;
+    Ok((
+        Clause::Except { at, filter },
+        Left { locals, funclets },
+        rest,
+    ))
+}
+
+/// What follows `__finally`: the brace of its block.
+fn finally_clause<'a>(
+    text: &[u8],
+    room: u64,
+    left: Left,
+    at: u64,
+    tokens: &'a [Token],
+) -> Result<(Clause, Left, &'a [Token]), ParseErr>
+    requires { 1 ≤ room + left.funclets }
+    ensures found { IfOk result (λ x. Behind keywords.Finally at tokens.now (λ ts. Continues text.now room left x.1 x.0 ts x.2.now)) }
+    ensures refused { IfErr result (λ e. Behind keywords.Finally at tokens.now (λ behind. (whole : Left) (body : Statements) (ts : List Token) → Guards text.now room whole left body ts behind → Placed e (NoStatement room whole) (HasStatement room whole) text.now ts)) }
+{
+    if left.funclets == 0 {
+        return Err(too_many_funclets(at));
+    }
+    let rest = expect(text, Sign::OpenBrace, tokens)?;
+    let after = Left {
+        locals: left.locals,
+        funclets: left.funclets - 1,
+    };
+    Ok((Clause::Finally { at }, after, rest))
+}
+
+/// What follows the first block of a `__try`: `__except` with its filter in parentheses, or `__finally`,
+/// and the brace of the second block (Microsoft C reference, "try-except statement" and "try-finally
+/// statement").
+pub fn read_clause<'a>(
+    alloc: Global,
+    text: &[u8],
+    room: u64,
+    left: Left,
+    tokens: &'a [Token],
+) -> Result<(Clause, Left, &'a [Token]), ParseErr>
+    requires { 1 ≤ room + left.funclets }
+    ensures found { IfOk result (λ x. Continues text.now room left x.1 x.0 tokens.now x.2.now) }
+    ensures refused { IfErr result (λ e. (whole : Left) (body : Statements) (ts : List Token) → Guards text.now room whole left body ts tokens.now → Placed e (NoStatement room whole) (HasStatement room whole) text.now ts) }
+{
+    if let Some((at, behind)) = word(Keyword::Except, tokens) {
+        return except_clause(alloc, text, room, left, at, behind);
+    }
+    match word(Keyword::Finally, tokens) {
+        Some((at, behind)) => finally_clause(text, room, left, at, behind),
+        None => Err(unexpected(text, tokens)),
+    }
+}
+
+/// The `__try` statement of these blocks.
+pub fn try_of(body: Vec<Stmt>, clause: Clause, last: Vec<Stmt>) -> Stmt
+    ensures { statement result ≡ with_clause (statements (map statement body.items)) clause (statements (map statement last.items)) }
+{
+    match clause {
+        Clause::Except { at, filter } => except_of(body, at, filter, last),
+        Clause::Finally { at } => finally_of(body, at, last),
+    }
+}

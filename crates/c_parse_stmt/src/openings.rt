@@ -1,0 +1,288 @@
+//! What statements begin with, up to the first statement that stands in them.
+
+ghost use Rattle.std.specs.Prelude.{IfOk, IfErr};
+ghost use Rattle.c_lex.specs.declared.keyword.Keyword.TheVariants as keywords;
+ghost use Rattle.c_syntax.specs.Tokens.{IsKeyword};
+ghost use Rattle.c_parse_expr.specs.Refusals.{Placed};
+ghost use Rattle.c_parse_stmt.specs.Openings.{Opens};
+ghost use Rattle.c_parse_stmt.specs.Within.{NoStatement, HasStatement, NoEvaluation, HasEvaluation, Behind};
+
+use crate::build::{break_of, continue_of, evaluate_of, leave_of, return_of};
+use crate::filters::too_many_funclets;
+use crate::left::Left;
+use crate::locals::for_first;
+use crate::parts::{condition, expect, keyword_at, optional};
+use c_lex::keyword::Keyword;
+use c_lex::sign::Sign;
+use c_lex::token::Token;
+use c_parse_expr::refusal::ParseErr;
+use c_parse_type::front::after;
+use c_syntax::expression::Expr;
+use c_syntax::statement::{ForFirst, Stmt};
+use std::alloc::Global;
+
+/// What stands before the first of the statements in a statement, which is no block.
+#[derive(Drop)]
+pub enum Head {
+    If {
+        at: u64,
+        condition: Expr,
+    },
+    While {
+        at: u64,
+        condition: Expr,
+    },
+    Do,
+    For {
+        at: u64,
+        first: ForFirst,
+        condition: Option<Expr>,
+        next: Option<Expr>,
+    },
+}
+
+/// How a statement begins.
+#[derive(Drop)]
+pub enum Opening {
+    /// No other stands in it: this is all of it.
+    Whole(Stmt),
+    /// A block, with its brace.
+    Block,
+    /// `__try`, with its block's brace.
+    Try,
+    /// A statement follows.
+    Head(Head),
+}
+
+/// The expression statement at the front, or `;` alone (C11, 6.8.3).
+fn evaluate<'a>(
+    alloc: Global,
+    text: &[u8],
+    room: u64,
+    left: Left,
+    tokens: &'a [Token],
+) -> Result<(Opening, Left, &'a [Token]), ParseErr>
+    ensures found { IfOk result (λ x. Opens text.now room left x.1 x.0 tokens.now x.2.now) }
+    ensures refused { IfErr result (λ e. Placed e (NoEvaluation room left) (HasEvaluation room left) text.now tokens.now) }
+{
+    let (expr, rest) = optional(alloc, text, room, Sign::Semicolon, tokens)?;
+    Ok((Opening::Whole(evaluate_of(expr)), left, rest))
+}
+
+/// What follows `return` (C11, 6.8.6.4).
+fn returning<'a>(
+    alloc: Global,
+    text: &[u8],
+    room: u64,
+    left: Left,
+    at: u64,
+    tokens: &'a [Token],
+) -> Result<(Opening, Left, &'a [Token]), ParseErr>
+    ensures found { IfOk result (λ x. Behind keywords.Return at tokens.now (λ ts. Opens text.now room left x.1 x.0 ts x.2.now)) }
+    ensures refused { IfErr result (λ e. Behind keywords.Return at tokens.now (λ ts. Placed e (NoStatement room left) (HasStatement room left) text.now ts)) }
+{
+    let (value, rest) = optional(alloc, text, room, Sign::Semicolon, tokens)?;
+    Ok((Opening::Whole(return_of(at, value)), left, rest))
+}
+
+/// What follows `break` (C11, 6.8.6.3).
+fn breaking<'a>(
+    text: &[u8],
+    room: u64,
+    left: Left,
+    at: u64,
+    tokens: &'a [Token],
+) -> Result<(Opening, Left, &'a [Token]), ParseErr>
+    ensures found { IfOk result (λ x. Behind keywords.Break at tokens.now (λ ts. Opens text.now room left x.1 x.0 ts x.2.now)) }
+    ensures refused { IfErr result (λ e. Behind keywords.Break at tokens.now (λ ts. Placed e (NoStatement room left) (HasStatement room left) text.now ts)) }
+{
+    let rest = expect(text, Sign::Semicolon, tokens)?;
+    Ok((Opening::Whole(break_of(at)), left, rest))
+}
+
+/// What follows `continue` (C11, 6.8.6.2).
+fn continuing<'a>(
+    text: &[u8],
+    room: u64,
+    left: Left,
+    at: u64,
+    tokens: &'a [Token],
+) -> Result<(Opening, Left, &'a [Token]), ParseErr>
+    ensures found { IfOk result (λ x. Behind keywords.Continue at tokens.now (λ ts. Opens text.now room left x.1 x.0 ts x.2.now)) }
+    ensures refused { IfErr result (λ e. Behind keywords.Continue at tokens.now (λ ts. Placed e (NoStatement room left) (HasStatement room left) text.now ts)) }
+{
+    let rest = expect(text, Sign::Semicolon, tokens)?;
+    Ok((Opening::Whole(continue_of(at)), left, rest))
+}
+
+/// What follows `__leave` (Microsoft C reference, "try-finally statement").
+fn leaving<'a>(
+    text: &[u8],
+    room: u64,
+    left: Left,
+    at: u64,
+    tokens: &'a [Token],
+) -> Result<(Opening, Left, &'a [Token]), ParseErr>
+    ensures found { IfOk result (λ x. Behind keywords.Leave at tokens.now (λ ts. Opens text.now room left x.1 x.0 ts x.2.now)) }
+    ensures refused { IfErr result (λ e. Behind keywords.Leave at tokens.now (λ ts. Placed e (NoStatement room left) (HasStatement room left) text.now ts)) }
+{
+    let rest = expect(text, Sign::Semicolon, tokens)?;
+    Ok((Opening::Whole(leave_of(at)), left, rest))
+}
+
+/// What follows `if`: the condition (C11, 6.8.4.1).
+fn if_head<'a>(
+    alloc: Global,
+    text: &[u8],
+    room: u64,
+    left: Left,
+    at: u64,
+    tokens: &'a [Token],
+) -> Result<(Opening, Left, &'a [Token]), ParseErr>
+    ensures found { IfOk result (λ x. Behind keywords.If at tokens.now (λ ts. Opens text.now room left x.1 x.0 ts x.2.now)) }
+    ensures refused { IfErr result (λ e. Behind keywords.If at tokens.now (λ ts. Placed e (NoStatement room left) (HasStatement room left) text.now ts)) }
+{
+    if room == 0 {
+        return Err(ParseErr::TooDeep { at });
+    }
+    let (condition, rest) = condition(alloc, text, tokens)?;
+    Ok((Opening::Head(Head::If { at, condition }), left, rest))
+}
+
+/// What follows `while`: the condition (C11, 6.8.5.1).
+fn while_head<'a>(
+    alloc: Global,
+    text: &[u8],
+    room: u64,
+    left: Left,
+    at: u64,
+    tokens: &'a [Token],
+) -> Result<(Opening, Left, &'a [Token]), ParseErr>
+    ensures found { IfOk result (λ x. Behind keywords.While at tokens.now (λ ts. Opens text.now room left x.1 x.0 ts x.2.now)) }
+    ensures refused { IfErr result (λ e. Behind keywords.While at tokens.now (λ ts. Placed e (NoStatement room left) (HasStatement room left) text.now ts)) }
+{
+    if room == 0 {
+        return Err(ParseErr::TooDeep { at });
+    }
+    let (condition, rest) = condition(alloc, text, tokens)?;
+    Ok((Opening::Head(Head::While { at, condition }), left, rest))
+}
+
+/// What follows `do`, up to the statement (C11, 6.8.5.2).
+fn do_head<'a>(
+    text: &[u8],
+    room: u64,
+    left: Left,
+    at: u64,
+    tokens: &'a [Token],
+) -> Result<(Opening, Left, &'a [Token]), ParseErr>
+    ensures found { IfOk result (λ x. Behind keywords.Do at tokens.now (λ ts. Opens text.now room left x.1 x.0 ts x.2.now)) }
+    ensures refused { IfErr result (λ e. Behind keywords.Do at tokens.now (λ ts. Placed e (NoStatement room left) (HasStatement room left) text.now ts)) }
+{
+    if room == 0 {
+        return Err(ParseErr::TooDeep { at });
+    }
+    Ok((Opening::Head(Head::Do), left, tokens))
+}
+
+/// What follows `for`: in parentheses a declaration or an expression, a condition and an expression, of
+/// which each may be missing (C11, 6.8.5.3).
+fn for_head<'a>(
+    alloc: Global,
+    text: &[u8],
+    room: u64,
+    left: Left,
+    at: u64,
+    tokens: &'a [Token],
+) -> Result<(Opening, Left, &'a [Token]), ParseErr>
+    ensures found { IfOk result (λ x. Behind keywords.For at tokens.now (λ ts. Opens text.now room left x.1 x.0 ts x.2.now)) }
+    ensures refused { IfErr result (λ e. Behind keywords.For at tokens.now (λ ts. Placed e (NoStatement room left) (HasStatement room left) text.now ts)) }
+{
+    if room == 0 {
+        return Err(ParseErr::TooDeep { at });
+    }
+    let behind = expect(text, Sign::OpenParenthesis, tokens)?;
+    let (first, locals, behind) = for_first(alloc, text, left.locals, behind)?;
+    let (condition, behind) = optional(alloc, text, 1, Sign::Semicolon, behind)?;
+    let (next, rest) = optional(alloc, text, 1, Sign::CloseParenthesis, behind)?;
+    let funclets = left.funclets;
+    let head = Head::For {
+        at,
+        first,
+        condition,
+        next,
+    };
+    Ok((Opening::Head(head), Left { locals, funclets }, rest))
+}
+
+/// What follows `__try`: the brace of its block (Microsoft C reference, "try-except statement" and
+/// "try-finally statement"). Where no statement may stand inside and no block may have a number, neither
+/// goes on.
+fn try_head<'a>(
+    text: &[u8],
+    room: u64,
+    left: Left,
+    at: u64,
+    tokens: &'a [Token],
+) -> Result<(Opening, Left, &'a [Token]), ParseErr>
+    ensures found { IfOk result (λ x. Behind keywords.Try at tokens.now (λ ts. Opens text.now room left x.1 x.0 ts x.2.now)) }
+    ensures refused { IfErr result (λ e. Behind keywords.Try at tokens.now (λ ts. Placed e (NoStatement room left) (HasStatement room left) text.now ts)) }
+{
+    if room == 0 && left.funclets == 0 {
+        return Err(too_many_funclets(at));
+    }
+    let rest = expect(text, Sign::OpenBrace, tokens)?;
+    Ok((Opening::Try, left, rest))
+}
+
+/// How the statement at the front begins, whose first token is this keyword.
+fn by_keyword<'a>(
+    alloc: Global,
+    text: &[u8],
+    room: u64,
+    left: Left,
+    keyword: Keyword,
+    at: u64,
+    behind: &'a [Token],
+    tokens: &'a [Token],
+) -> Result<(Opening, Left, &'a [Token]), ParseErr>
+    requires { IsKeyword keyword at tokens.now behind.now }
+    ensures found { IfOk result (λ x. Opens text.now room left x.1 x.0 tokens.now x.2.now) }
+    ensures refused { IfErr result (λ e. Placed e (NoStatement room left) (HasStatement room left) text.now tokens.now) }
+{
+    match keyword {
+        Keyword::If => if_head(alloc, text, room, left, at, behind),
+        Keyword::While => while_head(alloc, text, room, left, at, behind),
+        Keyword::Do => do_head(text, room, left, at, behind),
+        Keyword::For => for_head(alloc, text, room, left, at, behind),
+        Keyword::Try => try_head(text, room, left, at, behind),
+        Keyword::Return => returning(alloc, text, room, left, at, behind),
+        Keyword::Break => breaking(text, room, left, at, behind),
+        Keyword::Continue => continuing(text, room, left, at, behind),
+        Keyword::Leave => leaving(text, room, left, at, behind),
+        _ => evaluate(alloc, text, room, left, tokens),
+    }
+}
+
+/// How the statement at the front begins, what is left of the counts behind that, and what follows it.
+/// At most `room` statements stand around each of the statement's parts.
+pub fn read_opening<'a>(
+    alloc: Global,
+    text: &[u8],
+    room: u64,
+    left: Left,
+    tokens: &'a [Token],
+) -> Result<(Opening, Left, &'a [Token]), ParseErr>
+    ensures found { IfOk result (λ x. Opens text.now room left x.1 x.0 tokens.now x.2.now) }
+    ensures refused { IfErr result (λ e. Placed e (NoStatement room left) (HasStatement room left) text.now tokens.now) }
+{
+    if let Some(inner) = after(Sign::OpenBrace, tokens) {
+        return Ok((Opening::Block, left, inner));
+    }
+    match keyword_at(tokens) {
+        Some((keyword, at, behind)) => {
+            by_keyword(alloc, text, room, left, keyword, at, behind, tokens)
+        }
+        None => evaluate(alloc, text, room, left, tokens),
+    }
+}
