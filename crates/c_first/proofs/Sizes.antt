@@ -7,15 +7,15 @@ use Rattle.c_syntax.specs.declared.declaration.Parameter.{Parameter}
 use Rattle.c_syntax.specs.declared.expression.CType.{CType}
 use Rattle.c_syntax.specs.declared.expression.Literal.{Literal}
 use Rattle.c_syntax.specs.declared.expression.Literal.TheVariants as literals
-use Rattle.c_syntax.specs.declared.expression.Name.{Name}
+use Rattle.c_syntax.specs.declared.expression.Identifier.{Identifier}
 use Rattle.c_syntax.specs.Expression as syntax
-use Rattle.c_syntax.specs.Expressions.{Spells, SpellsArguments}
+use Rattle.c_syntax.specs.Expressions.{SpellsExpression, SpellsArguments}
 use Rattle.c_syntax.specs.Limits.{expressions_over, expressions_over_all, Within}
-use Rattle.c_syntax.specs.Program.{External, Globals, Function}
-use Rattle.c_syntax.specs.Programs.{AreParameters, IsExternal}
+use Rattle.c_syntax.specs.Program.{ExternalDeclaration, Globals, Function}
+use Rattle.c_syntax.specs.Programs.{AreParameters, IsExternalDeclaration}
 use Rattle.c_syntax.specs.Statement as statements
-use Rattle.c_syntax.specs.Statements.{IsItem, AreItems}
-use Rattle.c_syntax.specs.Tokens.{IsName}
+use Rattle.c_syntax.specs.Statements.{IsBlockItem, AreBlockItems}
+use Rattle.c_syntax.specs.Tokens.{IsIdentifier}
 use Rattle.c_syntax.specs.Types.{spellings, AreKeywords, IsOneOf, IsType}
 use Rattle.c_syntax.proofs.Shorter as shorter
 use Rattle.c_meaning.specs.declared.syntax.BinaryOperator.{BinaryOperator}
@@ -54,7 +54,7 @@ low_literal (literals.Integer n types.Int) = low_number n (nat_le n 2147483647)
 low_literal (literals.Integer n types.Unsigned) = tt
 low_literal (literals.Integer n types.LongLong) = tt
 low_literal (literals.Integer n types.UnsignedLongLong) = tt
-low_literal (literals.Character n) = tt
+low_literal (literals.CharacterConstant n) = tt
 
 low_joined : (op : Option BinaryOperator) (a b : Option Expression) (i j : ℕ) → IfSome a (λ m. height m ≤ i) → IfSome b (λ m. height m ≤ j) → IfSome (joined op a b) (λ m. height m ≤ 1 + max i j)
 low_joined None a b i j f g = tt
@@ -126,7 +126,7 @@ low_body : (text : List ℕ) (ss : statements.Statements) → IfSome (body text 
 low_body text statements.Empty = omega arith
 low_body text (statements.Then s ss) = low_before (statement text s) (body text ss) (expressions_over s) (expressions_over_all ss) (low_statement text s) (low_body text ss)
 
-low : (text : List ℕ) (xs : List External) → Within text xs → IfSome (first text xs) (λ ms. deepest ms ≤ 64)
+low : (text : List ℕ) (xs : List ExternalDeclaration) → Within text xs → IfSome (first text xs) (λ ms. deepest ms ≤ 64)
 low text [] w = tt
 low text (Globals base gs ∷ xs) w = tt
 low text (Function returns name ps b ∷ []) w =
@@ -146,7 +146,7 @@ few_literal (literals.Integer n types.Int) = few_number n (nat_le n 2147483647)
 few_literal (literals.Integer n types.Unsigned) = tt
 few_literal (literals.Integer n types.LongLong) = tt
 few_literal (literals.Integer n types.UnsignedLongLong) = tt
-few_literal (literals.Character n) = tt
+few_literal (literals.CharacterConstant n) = tt
 
 few_joined : (op : Option BinaryOperator) (a b : Option Expression) (i j k l : ℕ) → IfSome a (λ m. nodes m + j ≤ i) → j ≡ suc k → IfSome b (λ m. nodes m + l ≤ k) → IfSome (joined op a b) (λ m. nodes m + l ≤ i)
 few_joined None a b i j k l f p g = tt
@@ -154,7 +154,7 @@ few_joined (Some op) None b i j k l f p g = tt
 few_joined (Some op) (Some a) None i j k l f p g = tt
 few_joined (Some op) (Some a) (Some b) i j k l f p g = omega arith
 
-few_value : (text : List ℕ) (e : syntax.Expression) (ts rest : List Token) → Spells text e ts rest → IfSome (value e) (λ m. nodes m + length rest ≤ length ts)
+few_value : (text : List ℕ) (e : syntax.Expression) (ts rest : List Token) → SpellsExpression text e ts rest → IfSome (value e) (λ m. nodes m + length rest ≤ length ts)
 few_value text (syntax.Constant at l) ts rest h = let p = ap length h.1 in weaker (literal l) (λ m. nodes m ≤ 1) (λ m. nodes m + length rest ≤ length ts) (λ m g. omega arith) (few_literal l)
 few_value text (syntax.Variable name) ts rest h = tt
 few_value text (syntax.Information at field) ts rest h = tt
@@ -180,7 +180,7 @@ few_argument text (syntax.Next e syntax.Done) ts rest h =
     weaker (value e) (λ m. nodes m + length h.0 ≤ length ts) (λ m. nodes m + length rest ≤ length ts) (λ m g. omega arith) (few_value text e ts h.0 h.2)
 few_argument text (syntax.Next e (syntax.Next f es)) ts rest h = tt
 
-few_call : (text : List ℕ) (e : syntax.Expression) (ts rest : List Token) → Spells text e ts rest → IfSome (call text e) (λ m. nodes m + length rest ≤ length ts)
+few_call : (text : List ℕ) (e : syntax.Expression) (ts rest : List Token) → SpellsExpression text e ts rest → IfSome (call text e) (λ m. nodes m + length rest ≤ length ts)
 few_call text (syntax.Constant at l) ts rest h = tt
 few_call text (syntax.Variable name) ts rest h = tt
 few_call text (syntax.Information at field) ts rest h = tt
@@ -199,7 +199,7 @@ few_call text (syntax.Conditional c at a b) ts rest h = tt
 few_call text (syntax.Assign a at op b) ts rest h = tt
 few_call text (syntax.Comma a at b) ts rest h = tt
 
-few_statement : (text : List ℕ) (s : statements.Statement) (ts rest : List Token) → IsItem text s ts rest → IfSome (statement text s) (λ m. parts m + length rest ≤ length ts)
+few_statement : (text : List ℕ) (s : statements.Statement) (ts rest : List Token) → IsBlockItem text s ts rest → IfSome (statement text s) (λ m. parts m + length rest ≤ length ts)
 few_statement text (statements.Declare base ls) ts rest h = tt
 few_statement text (statements.Block ss) ts rest h = tt
 few_statement text (statements.Evaluate None) ts rest h = tt
@@ -228,7 +228,7 @@ few_before None ss i j k f g = tt
 few_before (Some s) None i j k f g = tt
 few_before (Some s) (Some ss) i j k f g = omega arith
 
-few_body : (text : List ℕ) (ss : statements.Statements) (ts rest : List Token) → AreItems text ss ts rest → IfSome (body text ss) (λ ms. size ms + length rest ≤ length ts)
+few_body : (text : List ℕ) (ss : statements.Statements) (ts rest : List Token) → AreBlockItems text ss ts rest → IfSome (body text ss) (λ ms. size ms + length rest ≤ length ts)
 few_body text statements.Empty ts rest h = let p = ap length h.1.1 in omega arith
 few_body text (statements.Then s ss) ts rest h =
     few_before (statement text s) (body text ss) (length ts) (length h.0) (length rest) (few_statement text s ts h.0 h.1) (few_body text ss h.0 rest h.2)
@@ -243,7 +243,7 @@ one_of (ks ∷ kss) ts rest (inl h) = keywords ks ts rest h
 one_of (ks ∷ kss) ts rest (inr h) = one_of kss ts rest h
 
 -- the stars and the name are those of a local without initialiser
-named : (text : List ℕ) (type : CType) (name : Name) (ts mid rest : List Token) → IsType type ts mid → IsName name mid rest → length rest ≤ length ts
+named : (text : List ℕ) (type : CType) (name : Identifier) (ts mid rest : List Token) → IsType type ts mid → IsIdentifier name mid rest → length rest ≤ length ts
 named text type name ts mid rest h n =
     let p = one_of (spellings type.base) ts h.0 h.1 in
     let q = shorter.local text (record { pointers = type.pointers; name = name; initialiser = None }) h.0 rest (mid, rest, h.2, n, refl) in
@@ -253,7 +253,7 @@ no_parameters : (ts rest : List Token) → AreParameters [] ts rest → length r
 no_parameters ts rest (inl h) = let p = ap length h.1.1 in omega arith
 no_parameters ts rest (inr h) = let p = ap length h.1.1.1 in let q = ap length h.2.1.1 in omega arith
 
-few_function : (text : List ℕ) (returns : CType) (name : Name) (ps : List Parameter) (b : statements.Statements) (ts rest : List Token) → IsExternal text (Function returns name ps b) ts rest → length ts ≤ 1048576
+few_function : (text : List ℕ) (returns : CType) (name : Identifier) (ps : List Parameter) (b : statements.Statements) (ts rest : List Token) → IsExternalDeclaration text (Function returns name ps b) ts rest → length ts ≤ 1048576
     → IfSome (only_if (is_int returns.base returns.pointers && is_named text (codes "main") name && has_none ps) (body text b)) (λ ms. size ms ≤ 1048576)
 few_function text returns name [] b ts rest h few =
     let p = named text returns name ts h.0 h.1 h.5 h.6 in let q = ap length h.7.1.1 in let r = no_parameters h.2 h.3 h.8 in let s = ap length h.9.1.1 in
@@ -261,7 +261,7 @@ few_function text returns name [] b ts rest h few =
     (weaker (body text b) (λ ms. size ms + length rest ≤ length h.4) (λ ms. size ms ≤ 1048576) (λ ms g. omega arith) (few_body text b h.4 rest h.10))
 few_function text returns name (p ∷ ps) b ts rest h few = excluded (is_int returns.base returns.pointers) (is_named text (codes "main") name) (body text b) (λ ms. size ms ≤ 1048576)
 
-few : (text : List ℕ) (xs : List External) → IsSmall text xs → IfSome (first text xs) (λ ms. size ms ≤ 1048576)
+few : (text : List ℕ) (xs : List ExternalDeclaration) → IsSmall text xs → IfSome (first text xs) (λ ms. size ms ≤ 1048576)
 few text [] s = tt
 few text (Globals base gs ∷ xs) s = tt
 few text (Function returns name ps b ∷ []) s = few_function text returns name ps b s.tokens s.derives.0 s.derives.1 s.few
@@ -269,8 +269,8 @@ few text (Function returns name ps b ∷ x ∷ xs) s = tt
 
 -- ---- what was found
 
-pub nested : (text : List ℕ) (xs : List External) (ss : List Statement) → Within text xs → first text xs ≡ Some ss → deepest ss ≤ 64
+pub nested : (text : List ℕ) (xs : List ExternalDeclaration) (ss : List Statement) → Within text xs → first text xs ≡ Some ss → deepest ss ≤ 64
 nested text xs ss w h = subst (λ (o : Option (List Statement)). IfSome o (λ ms. deepest ms ≤ 64)) h (low text xs w)
 
-pub small : (text : List ℕ) (xs : List External) (ss : List Statement) → IsSmall text xs → first text xs ≡ Some ss → size ss ≤ 1048576
+pub small : (text : List ℕ) (xs : List ExternalDeclaration) (ss : List Statement) → IsSmall text xs → first text xs ≡ Some ss → size ss ≤ 1048576
 small text xs ss s h = subst (λ (o : Option (List Statement)). IfSome o (λ ms. size ms ≤ 1048576)) h (few text xs s)

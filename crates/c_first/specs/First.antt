@@ -8,12 +8,12 @@ use Rattle.c_syntax.specs.declared.expression.Base.{Base}
 use Rattle.c_syntax.specs.declared.expression.Base.TheVariants as bases
 use Rattle.c_syntax.specs.declared.expression.Literal.TheVariants as literals
 use Rattle.c_syntax.specs.declared.expression.Literal.{Literal as Literal'}
-use Rattle.c_syntax.specs.declared.expression.Name.{Name}
+use Rattle.c_syntax.specs.declared.expression.Identifier.{Identifier}
 use Rattle.c_syntax.specs.declared.operator.Arithmetic.TheVariants as arithmetic
 use Rattle.c_syntax.specs.declared.operator.BinaryOperator.{BinaryOperator as BinaryOperator'}
 use Rattle.c_syntax.specs.declared.operator.BinaryOperator.TheVariants as operators
 use Rattle.c_syntax.specs.Expression as syntax
-use Rattle.c_syntax.specs.Program.{External, Globals, Function}
+use Rattle.c_syntax.specs.Program.{ExternalDeclaration, Globals, Function}
 use Rattle.c_syntax.specs.Statement as statements
 use Rattle.c_meaning.specs.declared.syntax.BinaryOperator.{BinaryOperator}
 use Rattle.c_meaning.specs.declared.syntax.BinaryOperator.TheVariants.{Multiply, Add, Subtract}
@@ -34,7 +34,7 @@ integer value types.UnsignedLongLong = None
 
 abbrev pub literal : Literal' → Option Expression
 literal (literals.Integer value type) = integer value type
-literal (literals.Character value) = None
+literal (literals.CharacterConstant value) = None
 
 abbrev pub operator : BinaryOperator' → Option BinaryOperator
 operator (operators.Arithmetic arithmetic.Multiply) = Some Multiply
@@ -75,7 +75,7 @@ value (syntax.Comma a at b) = None
 
 -- ---- statements
 
-abbrev pub is_named : List ℕ → List ℕ → Name → Bool
+abbrev pub is_named : List ℕ → List ℕ → Identifier → Bool
 is_named text word name = bytes_eq (slice_range text name.start name.end) word
 
 abbrev pub only_if : {A : Type 0} → Bool → Option A → Option A
@@ -151,7 +151,7 @@ has_none [] = true
 has_none (p ∷ ps) = false
 
 -- one function, `main`, which returns an `int` and has no parameters
-abbrev pub first : List ℕ → List External → Option (List Statement)
+abbrev pub first : List ℕ → List ExternalDeclaration → Option (List Statement)
 first text [] = None
 first text (Globals base gs ∷ xs) = None
 first text (Function returns name ps b ∷ []) = only_if (is_int returns.base returns.pointers && is_named text (codes "main") name && has_none ps) (body text b)

@@ -1,7 +1,7 @@
 //! Programs as those that are compiled.
 
 ghost use Rattle.std.specs.Prelude.{◌≡◌, ◌&&◌, IfOk, IfErr, map, Some, None, codes};
-ghost use Rattle.c_syntax.specs.Program.{external};
+ghost use Rattle.c_syntax.specs.Program.{external_declaration};
 ghost use Rattle.c_syntax.specs.Limits.{Within};
 ghost use Rattle.c_meaning.specs.Programs.{program};
 ghost use Rattle.c_meaning.specs.Syntax.{statement};
@@ -14,15 +14,15 @@ use crate::statements::body;
 use c_meaning::checked::Checked;
 use c_meaning::syntax::Stmt;
 use c_parse_atom::information::is_word;
-use c_syntax::declaration::{External, Parameter};
-use c_syntax::expression::{Base, CType, Name};
+use c_syntax::declaration::{ExternalDeclaration, Parameter};
+use c_syntax::expression::{Base, CType, Identifier};
 use std::alloc::{AllocError, AllocFailed, Global};
 
 /// Why a program isn't compiled.
 #[derive(Clone, Copy, Debug, PartialEq, Eq)]
 pub enum FirstErr {
     /// It isn't of the part of C that is compiled.
-    Later,
+    Unsupported,
     /// There was too little memory.
     Memory,
 }
@@ -51,20 +51,24 @@ fn is_int(of: CType) -> bool
 }
 
 /// Whether a function is `main`, which returns an `int` and has no parameters.
-fn is_main(text: &[u8], returns: CType, name: Name, parameters: &[Parameter]) -> bool
+fn is_main(text: &[u8], returns: CType, name: Identifier, parameters: &[Parameter]) -> bool
     ensures { result ≡ (definition.is_int returns.base returns.pointers && definition.is_named text.now (codes "main") name && definition.has_none parameters.now) }
 {
     is_int(returns) && is_word(text, name, b"main") && parameters.is_empty()
 }
 
 /// The statements of a program as those that are compiled.
-fn statements_of(alloc: Global, text: &[u8], externals: &[External]) -> Result<Vec<Stmt>, FirstErr>
-    ensures found { IfOk result (λ v. first text.now (map external externals.now) ≡ Some (map statement v.items)) }
-    ensures later { IfErr result (λ e. Refuses e (first text.now (map external externals.now) ≡ None)) }
+fn statements_of(
+    alloc: Global,
+    text: &[u8],
+    external_declarations: &[ExternalDeclaration],
+) -> Result<Vec<Stmt>, FirstErr>
+    ensures found { IfOk result (λ v. first text.now (map external_declaration external_declarations.now) ≡ Some (map statement v.items)) }
+    ensures unsupported { IfErr result (λ e. Refuses e (first text.now (map external_declaration external_declarations.now) ≡ None)) }
 {
-    match externals {
+    match external_declarations {
         [
-            External::Function {
+            ExternalDeclaration::Function {
                 returns,
                 name,
                 parameters,
@@ -74,20 +78,24 @@ fn statements_of(alloc: Global, text: &[u8], externals: &[External]) -> Result<V
             if is_main(text, *returns, *name, parameters) {
                 body(alloc, text, statements)
             } else {
-                Err(FirstErr::Later)
+                Err(FirstErr::Unsupported)
             }
         }
-        _ => Err(FirstErr::Later),
+        _ => Err(FirstErr::Unsupported),
     }
 }
 
 /// A program within the limits as one that is compiled; names are read from its text.
-pub fn first_of(alloc: Global, text: &[u8], externals: &[External]) -> Result<Checked, FirstErr>
-    requires small { IsSmall text.now (map external externals.now) }
-    requires within { Within text.now (map external externals.now) }
-    ensures found { IfOk result (λ p. first text.now (map external externals.now) ≡ Some (program p)) }
-    ensures later { IfErr result (λ e. Refuses e (first text.now (map external externals.now) ≡ None)) }
+pub fn first_of(
+    alloc: Global,
+    text: &[u8],
+    external_declarations: &[ExternalDeclaration],
+) -> Result<Checked, FirstErr>
+    requires small { IsSmall text.now (map external_declaration external_declarations.now) }
+    requires within { Within text.now (map external_declaration external_declarations.now) }
+    ensures found { IfOk result (λ p. first text.now (map external_declaration external_declarations.now) ≡ Some (program p)) }
+    ensures unsupported { IfErr result (λ e. Refuses e (first text.now (map external_declaration external_declarations.now) ≡ None)) }
 {
-    let statements = statements_of(alloc, text, externals)?;
+    let statements = statements_of(alloc, text, external_declarations)?;
     Ok(Checked { statements })
 }

@@ -8,6 +8,4 @@
 pub mod first;
 pub mod laws;
 mod statements;
-#[cfg(test)]
-mod tests;
 mod values;

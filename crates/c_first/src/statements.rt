@@ -17,36 +17,36 @@ use std::alloc::Global;
 /// The only argument as an expression that is compiled.
 fn argument(alloc: Global, arguments: &[syntax::Expr]) -> Result<Expr, FirstErr>
     ensures found { IfOk result (λ e. definition.argument (syntax.arguments (map syntax.expression arguments.now)) ≡ Some (expression e)) }
-    ensures later { IfErr result (λ e. Refuses e (definition.argument (syntax.arguments (map syntax.expression arguments.now)) ≡ None)) }
+    ensures unsupported { IfErr result (λ e. Refuses e (definition.argument (syntax.arguments (map syntax.expression arguments.now)) ≡ None)) }
 {
     match arguments {
-        [] => Err(FirstErr::Later),
+        [] => Err(FirstErr::Unsupported),
         [argument] => value(alloc, argument),
-        [_, _, ..] => Err(FirstErr::Later),
+        [_, _, ..] => Err(FirstErr::Unsupported),
     }
 }
 
 /// The argument of a call of `put`.
 fn call(alloc: Global, text: &[u8], expr: &syntax::Expr) -> Result<Expr, FirstErr>
     ensures found { IfOk result (λ e. definition.call text.now (syntax.expression expr.now) ≡ Some (expression e)) }
-    ensures later { IfErr result (λ e. Refuses e (definition.call text.now (syntax.expression expr.now) ≡ None)) }
+    ensures unsupported { IfErr result (λ e. Refuses e (definition.call text.now (syntax.expression expr.now) ≡ None)) }
 {
     match expr {
         syntax::Expr::Call { name, arguments } => {
             if is_word(text, *name, b"put") {
                 argument(alloc, arguments)
             } else {
-                Err(FirstErr::Later)
+                Err(FirstErr::Unsupported)
             }
         }
-        _ => Err(FirstErr::Later),
+        _ => Err(FirstErr::Unsupported),
     }
 }
 
 /// A statement as one that is compiled.
 fn statement(alloc: Global, text: &[u8], stmt: &statements::Stmt) -> Result<Stmt, FirstErr>
     ensures found { IfOk result (λ s. definition.statement text.now (statements.statement stmt.now) ≡ Some (statement s)) }
-    ensures later { IfErr result (λ e. Refuses e (definition.statement text.now (statements.statement stmt.now) ≡ None)) }
+    ensures unsupported { IfErr result (λ e. Refuses e (definition.statement text.now (statements.statement stmt.now) ≡ None)) }
 {
     match stmt {
         statements::Stmt::Expression(Some(expr)) => {
@@ -60,14 +60,14 @@ fn statement(alloc: Global, text: &[u8], stmt: &statements::Stmt) -> Result<Stmt
             let expr = value(alloc, expr)?;
             Ok(Stmt::Return(expr))
         }
-        _ => Err(FirstErr::Later),
+        _ => Err(FirstErr::Unsupported),
     }
 }
 
 /// The statements of a body as those that are compiled.
 pub fn body(alloc: Global, text: &[u8], body: &[statements::Stmt]) -> Result<Vec<Stmt>, FirstErr>
     ensures found { IfOk result (λ v. definition.body text.now (statements.statements (map statements.statement body.now)) ≡ Some (map statement v.items)) }
-    ensures later { IfErr result (λ e. Refuses e (definition.body text.now (statements.statements (map statements.statement body.now)) ≡ None)) }
+    ensures unsupported { IfErr result (λ e. Refuses e (definition.body text.now (statements.statements (map statements.statement body.now)) ≡ None)) }
 {
     let mut found = Vec::new(alloc);
     let mut rest = body;

@@ -66,12 +66,12 @@ fn join(alloc: Global, operator: BinaryOperator, left: Expr, right: Expr) -> Res
 /// An expression as one that is compiled.
 pub fn value(alloc: Global, expr: &syntax::Expr) -> Result<Expr, FirstErr>
     ensures found { IfOk result (λ e. definition.value (syntax.expression expr.now) ≡ Some (expression e)) }
-    ensures later { IfErr result (λ e. Refuses e (definition.value (syntax.expression expr.now) ≡ None)) }
+    ensures unsupported { IfErr result (λ e. Refuses e (definition.value (syntax.expression expr.now) ≡ None)) }
 {
     match expr {
         syntax::Expr::Literal { literal, .. } => match literal_of(*literal) {
             Some(literal) => Ok(literal),
-            None => Err(FirstErr::Later),
+            None => Err(FirstErr::Unsupported),
         },
         syntax::Expr::Parentheses { inner, .. } => value(alloc, inner),
         syntax::Expr::Binary {
@@ -85,8 +85,8 @@ pub fn value(alloc: Global, expr: &syntax::Expr) -> Result<Expr, FirstErr>
                 let right = value(alloc, right)?;
                 join(alloc, operator, left, right)
             }
-            None => Err(FirstErr::Later),
+            None => Err(FirstErr::Unsupported),
         },
-        _ => Err(FirstErr::Later),
+        _ => Err(FirstErr::Unsupported),
     }
 }

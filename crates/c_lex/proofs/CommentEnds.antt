@@ -1,4 +1,4 @@
--- The longest comment behind `/*`.
+-- The longest comment after `/*`.
 use Rattle.std.proofs.Common.{◌≡◌, ◌-◌, ℕ, Bool, true, false, ◌&&◌, cond, nat_eq, List, [], ◌∷◌, ◌++◌, length, take, drop, refl, sym, ap, subst, ◌∙◌, Option, Some, None, arith}
 use Rattle.c_lex.specs.declared.word.Word.{Word}
 use Rattle.c_lex.specs.declared.word.Word.TheVariants.{Blank, Bad}
@@ -6,7 +6,7 @@ use Rattle.c_lex.specs.declared.word.Fault.TheVariants.{OpenComment}
 use Rattle.c_lex.specs.Longest.{IsLongest}
 use Rattle.c_lex.specs.Comments.{after_mark, or_else, after_end, ended, comment}
 
--- where a `*/` stands at the front, or doesn't, two bytes decide
+-- where a `*/` is at the front, or doesn't, two bytes decide
 mark_at : (a b : ℕ) (bs r : List ℕ) → after_mark (a ∷ b ∷ bs) ≡ Some r → (bs ≡ r) × ((m : List ℕ) → after_mark (a ∷ b ∷ m) ≡ Some m)
 mark_at a b bs r e = by (nat_eq a 42 && nat_eq b 47) refl e
   where
@@ -25,13 +25,13 @@ by_mark : {C : Type 0} (o p : Option (List ℕ)) (r : List ℕ) → (o ≡ Some 
 by_mark None p r f g e = g refl e
 by_mark (Some x) p r f g e = f e
 
--- further bytes stay behind the end
-goes_on : (w m r : List ℕ) → after_end w ≡ Some r → after_end (w ++ m) ≡ Some (r ++ m)
-goes_on [] m r e = absurd (cc)
-goes_on (a ∷ []) m r e = absurd (cc)
-goes_on (a ∷ (b ∷ bs)) m r e = by_mark (after_mark (a ∷ b ∷ bs)) (after_end (b ∷ bs)) r
+-- further bytes stay after the end
+continues : (w m r : List ℕ) → after_end w ≡ Some r → after_end (w ++ m) ≡ Some (r ++ m)
+continues [] m r e = absurd (cc)
+continues (a ∷ []) m r e = absurd (cc)
+continues (a ∷ (b ∷ bs)) m r e = by_mark (after_mark (a ∷ b ∷ bs)) (after_end (b ∷ bs)) r
     (λ f. let k = mark_at a b bs r f in rw (k.1 (bs ++ m)) (ap (λ l. Some (l ++ m)) k.0))
-    (λ n f. rw (no_mark a b bs (bs ++ m) n) (goes_on (b ∷ bs) m r f)) e
+    (λ n f. rw (no_mark a b bs (bs ++ m) n) (continues (b ∷ bs) m r f)) e
 
 record Splits (text r : List ℕ) : Type 0 where
   word : List ℕ
@@ -60,7 +60,7 @@ comment_found text r e =
       record {
         split = s.split;
         is = ap ended s.read_whole;
-        longest = λ m a y p q. end_of m y (sym (ap ended (goes_on s.word m [] s.read_whole)) ∙ q);
+        longest = λ m a y p q. end_of m y (sym (ap ended (continues s.word m [] s.read_whole)) ∙ q);
       },
     )
   where

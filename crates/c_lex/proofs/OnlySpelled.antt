@@ -1,17 +1,17 @@
--- Nothing else is a sign, a keyword or a reserved word than what is spelled so.
+-- Nothing else is a punctuator, a keyword or a reserved word than what is spelled so.
 use Rattle.std.proofs.Common.{◌≡◌, ℕ, true, nat_eq, List, [], ◌∷◌, refl, sym, arith, Some}
 use Rattle.std.specs.Str.{bytes_eq}
 use Rattle.std.proofs.lemmas.Bool.Decides.{nat_tests}
 use Rattle.std.proofs.lemmas.Slice.Eq.{bytes_eq-Decides}
 use Rattle.c_lex.specs.declared.keyword.Keyword.{Keyword}
 use Rattle.c_lex.specs.declared.reserved.Reserved.{Reserved}
-use Rattle.c_lex.specs.declared.sign.Sign.{Sign}
+use Rattle.c_lex.specs.declared.punctuator.Punctuator.{Punctuator}
 use Rattle.c_lex.specs.Keywords as keywords
 use Rattle.c_lex.specs.Keywords.{keyword_of}
 use Rattle.c_lex.specs.ReservedWords as reserved_words
 use Rattle.c_lex.specs.ReservedWords.{reserved_of}
-use Rattle.c_lex.specs.Signs as signs
-use Rattle.c_lex.specs.Signs.{is_same, sign_of}
+use Rattle.c_lex.specs.Punctuators as punctuators
+use Rattle.c_lex.specs.Punctuators.{is_same, punctuator_of}
 use Rattle.c_lex.proofs.Tokens.{found_passes, and_true}
 
 same_text : (v w : List ℕ) → is_same v w ≡ true → v ≡ w
@@ -25,9 +25,9 @@ same_text (a ∷ v) (b ∷ w) e =
     let l : a ≡ b = grind (arith, nat_tests) in
     cc
 
-pub signs_only : (s : Sign) (w : List ℕ) → sign_of w ≡ Some s → w ≡ signs.spelling s
-unfolding sign_of
-signs_only s w e = same_text w (signs.spelling s) (found_passes (λ t. is_same w (signs.spelling t)) signs.signs s e)
+pub punctuators_only : (s : Punctuator) (w : List ℕ) → punctuator_of w ≡ Some s → w ≡ punctuators.spelling s
+unfolding punctuator_of
+punctuators_only s w e = same_text w (punctuators.spelling s) (found_passes (λ t. is_same w (punctuators.spelling t)) punctuators.punctuators s e)
 
 pub keywords_only : (k : Keyword) (w : List ℕ) → keyword_of w ≡ Some k → w ≡ keywords.spelling k
 unfolding keyword_of

@@ -1,4 +1,4 @@
--- The longest character behind a quote.
+-- The longest character after a quote.
 use Rattle.std.proofs.Common.{◌≡◌, ◌+◌, ◌*◌, ℕ, Bool, true, false, ◌&&◌, cond, nat_eq, nat_lt, List, [], ◌∷◌, ◌++◌, refl, sym, ap, subst, ◌∙◌, Option, Some, None}
 use Rattle.std.specs.Prelude.{ℤ}
 use Rattle.c_lex.specs.declared.token.Kind.TheVariants as kinds
@@ -45,9 +45,9 @@ escape_on : (w m r : List ℕ) (v : ℤ) → escape w ≡ Some (v, r) → escape
 escape_on [] m r v e = absurd (cc)
 escape_on (b ∷ bs) m r v e = cond_on (nat_eq b 120) (two_digits bs) (two_digits (bs ++ m)) (closed (escaped b) bs) (closed (escaped b) (bs ++ m)) (v, r) (v, r ++ m) (two_digits_on bs m r v) (closed_on (escaped b) bs m r v) e
 
-goes_on : (w m r : List ℕ) (v : ℤ) → character w ≡ Some (v, r) → character (w ++ m) ≡ Some (v, r ++ m)
-goes_on [] m r v e = absurd (cc)
-goes_on (b ∷ bs) m r v e = cond_on (nat_eq b 92) (escape bs) (escape (bs ++ m)) (cond (is_plain b) (closed (Some b) bs) None) (cond (is_plain b) (closed (Some b) (bs ++ m)) None) (v, r) (v, r ++ m) (escape_on bs m r v)
+continues : (w m r : List ℕ) (v : ℤ) → character w ≡ Some (v, r) → character (w ++ m) ≡ Some (v, r ++ m)
+continues [] m r v e = absurd (cc)
+continues (b ∷ bs) m r v e = cond_on (nat_eq b 92) (escape bs) (escape (bs ++ m)) (cond (is_plain b) (closed (Some b) bs) None) (cond (is_plain b) (closed (Some b) (bs ++ m)) None) (v, r) (v, r ++ m) (escape_on bs m r v)
     (cond_on (is_plain b) (closed (Some b) bs) (closed (Some b) (bs ++ m)) None None (v, r) (v, r ++ m) (closed_on (Some b) bs m r v) (nothing_on (v, r) (v, r ++ m))) e
 
 -- ---- what was read is read from its own bytes alone
@@ -97,9 +97,9 @@ splits (b ∷ bs) r v e = by_cond (nat_eq b 92) (escape bs) (cond (is_plain b) (
     (λ u q. let s = closed_splits (Some b) bs r v q in record { word = b ∷ s.word; split = ap (λ (l : List ℕ). b ∷ l) s.split; read_whole = rw (u, t) s.read_whole })
     (λ u q. absurd (cc)) q) e
 
--- ---- words behind a quote
+-- ---- words after a quote
 
-whole_at : (w : List ℕ) (o : Read) (v : ℤ) → character w ≡ o → o ≡ Some (v, []) → quoted w ≡ Some (Lexeme (kinds.Character v))
+whole_at : (w : List ℕ) (o : Read) (v : ℤ) → character w ≡ o → o ≡ Some (v, []) → quoted w ≡ Some (Lexeme (kinds.CharacterConstant v))
 whole_at [] o v e f = absurd (cc)
 whole_at (b ∷ bs) o v e f = ap whole (e ∙ f)
 
@@ -108,7 +108,7 @@ whole_of None y e = absurd (cc)
 whole_of (Some (v, [])) y e = (v, refl)
 whole_of (Some (v, b ∷ bs)) y e = absurd (cc)
 
-pub quote_found : (text r : List ℕ) (v : ℤ) → character text ≡ Some (v, r) → (w : List ℕ) × IsLongest quoted text w r (Lexeme (kinds.Character v))
+pub quote_found : (text r : List ℕ) (v : ℤ) → character text ≡ Some (v, r) → (w : List ℕ) × IsLongest quoted text w r (Lexeme (kinds.CharacterConstant v))
 quote_found text r v e =
     let s = splits text r v e in (
       s.word,
@@ -125,7 +125,7 @@ quote_found text r v e =
 
     last : (w m : List ℕ) (y : Word) → character w ≡ Some (v, []) → quoted (w ++ m) ≡ Some y → m ≡ []
     last [] m y i q = absurd (cc)
-    last (b ∷ w) m y i q = end_of m y (sym (ap whole (goes_on (b ∷ w) m [] v i)) ∙ q)
+    last (b ∷ w) m y i q = end_of m y (sym (ap whole (continues (b ∷ w) m [] v i)) ∙ q)
 
 pub quote_alone : (text : List ℕ) → character text ≡ None → IsLongest quoted text [] text (Bad BadChar)
 quote_alone text e = record { split = refl; is = refl; longest = go }
@@ -134,6 +134,6 @@ quote_alone text e = record { split = refl; is = refl; longest = go }
     go [] a y p q = refl
     go (b ∷ m) a y p q =
         let s = whole_of (character (b ∷ m)) y q in
-        let k = goes_on (b ∷ m) a [] s.0 s.1 in
+        let k = continues (b ∷ m) a [] s.0 s.1 in
         let n : character (b ∷ m ++ a) ≡ None = subst (λ l. character l ≡ None) p e in
         absurd (cc)

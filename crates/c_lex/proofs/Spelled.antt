@@ -1,72 +1,72 @@
--- Signs, keywords and reserved words are what their spellings are.
+-- Punctuators, keywords and reserved words are what their spellings are.
 use Rattle.std.proofs.Common.{◌≡◌, refl, Some}
 use Rattle.c_lex.specs.declared.keyword.Keyword.{Keyword}
 use Rattle.c_lex.specs.declared.keyword.Keyword.TheVariants as k
 use Rattle.c_lex.specs.declared.reserved.Reserved.{Reserved}
 use Rattle.c_lex.specs.declared.reserved.Reserved.TheVariants as r
-use Rattle.c_lex.specs.declared.sign.Sign.{Sign}
-use Rattle.c_lex.specs.declared.sign.Sign.TheVariants as s
+use Rattle.c_lex.specs.declared.punctuator.Punctuator.{Punctuator}
+use Rattle.c_lex.specs.declared.punctuator.Punctuator.TheVariants as s
 use Rattle.c_lex.specs.declared.token.Kind.TheVariants as kinds
 use Rattle.c_lex.specs.declared.word.Word.TheVariants.{Lexeme}
 use Rattle.c_lex.specs.Keywords as keywords
 use Rattle.c_lex.specs.Keywords.{keyword_of}
 use Rattle.c_lex.specs.ReservedWords as reserved_words
 use Rattle.c_lex.specs.ReservedWords.{reserved_of}
-use Rattle.c_lex.specs.Signs as signs
-use Rattle.c_lex.specs.Signs.{sign_of}
-use Rattle.c_lex.specs.Names.{is_letter, is_digit, is_name_byte, name_kind}
+use Rattle.c_lex.specs.Punctuators as punctuators
+use Rattle.c_lex.specs.Punctuators.{punctuator_of}
+use Rattle.c_lex.specs.Identifiers.{is_letter, is_digit, is_identifier_byte, identifier_kind}
 use Rattle.c_lex.specs.Comments.{is_space}
-use Rattle.c_lex.specs.Words.{sign, word_from, word}
+use Rattle.c_lex.specs.Words.{punctuator, word_from, word}
 
-pub signs_spelled : (s : Sign) → word (signs.spelling s) ≡ Some (Lexeme (kinds.Sign s))
-unfolding word_from is_letter is_digit is_space sign sign_of
-signs_spelled s.OpenParenthesis = refl
-signs_spelled s.CloseParenthesis = refl
-signs_spelled s.OpenBracket = refl
-signs_spelled s.CloseBracket = refl
-signs_spelled s.OpenBrace = refl
-signs_spelled s.CloseBrace = refl
-signs_spelled s.Semicolon = refl
-signs_spelled s.Comma = refl
-signs_spelled s.Question = refl
-signs_spelled s.Colon = refl
-signs_spelled s.Arrow = refl
-signs_spelled s.Assign = refl
-signs_spelled s.PlusAssign = refl
-signs_spelled s.MinusAssign = refl
-signs_spelled s.StarAssign = refl
-signs_spelled s.SlashAssign = refl
-signs_spelled s.PercentAssign = refl
-signs_spelled s.AmpersandAssign = refl
-signs_spelled s.BarAssign = refl
-signs_spelled s.CaretAssign = refl
-signs_spelled s.ShiftLeftAssign = refl
-signs_spelled s.ShiftRightAssign = refl
-signs_spelled s.BarBar = refl
-signs_spelled s.AmpersandAmpersand = refl
-signs_spelled s.Bar = refl
-signs_spelled s.Caret = refl
-signs_spelled s.Ampersand = refl
-signs_spelled s.Equal = refl
-signs_spelled s.NotEqual = refl
-signs_spelled s.Less = refl
-signs_spelled s.Greater = refl
-signs_spelled s.LessEqual = refl
-signs_spelled s.GreaterEqual = refl
-signs_spelled s.ShiftLeft = refl
-signs_spelled s.ShiftRight = refl
-signs_spelled s.Plus = refl
-signs_spelled s.Minus = refl
-signs_spelled s.Star = refl
-signs_spelled s.Slash = refl
-signs_spelled s.Percent = refl
-signs_spelled s.Exclamation = refl
-signs_spelled s.Tilde = refl
-signs_spelled s.PlusPlus = refl
-signs_spelled s.MinusMinus = refl
+pub punctuators_spelled : (s : Punctuator) → word (punctuators.spelling s) ≡ Some (Lexeme (kinds.Punctuator s))
+unfolding word_from is_letter is_digit is_space punctuator punctuator_of
+punctuators_spelled s.OpenParenthesis = refl
+punctuators_spelled s.CloseParenthesis = refl
+punctuators_spelled s.OpenBracket = refl
+punctuators_spelled s.CloseBracket = refl
+punctuators_spelled s.OpenBrace = refl
+punctuators_spelled s.CloseBrace = refl
+punctuators_spelled s.Semicolon = refl
+punctuators_spelled s.Comma = refl
+punctuators_spelled s.Question = refl
+punctuators_spelled s.Colon = refl
+punctuators_spelled s.Arrow = refl
+punctuators_spelled s.Assign = refl
+punctuators_spelled s.PlusAssign = refl
+punctuators_spelled s.MinusAssign = refl
+punctuators_spelled s.StarAssign = refl
+punctuators_spelled s.SlashAssign = refl
+punctuators_spelled s.PercentAssign = refl
+punctuators_spelled s.AmpersandAssign = refl
+punctuators_spelled s.BarAssign = refl
+punctuators_spelled s.CaretAssign = refl
+punctuators_spelled s.ShiftLeftAssign = refl
+punctuators_spelled s.ShiftRightAssign = refl
+punctuators_spelled s.BarBar = refl
+punctuators_spelled s.AmpersandAmpersand = refl
+punctuators_spelled s.Bar = refl
+punctuators_spelled s.Caret = refl
+punctuators_spelled s.Ampersand = refl
+punctuators_spelled s.Equal = refl
+punctuators_spelled s.NotEqual = refl
+punctuators_spelled s.Less = refl
+punctuators_spelled s.Greater = refl
+punctuators_spelled s.LessEqual = refl
+punctuators_spelled s.GreaterEqual = refl
+punctuators_spelled s.ShiftLeft = refl
+punctuators_spelled s.ShiftRight = refl
+punctuators_spelled s.Plus = refl
+punctuators_spelled s.Minus = refl
+punctuators_spelled s.Star = refl
+punctuators_spelled s.Slash = refl
+punctuators_spelled s.Percent = refl
+punctuators_spelled s.Exclamation = refl
+punctuators_spelled s.Tilde = refl
+punctuators_spelled s.PlusPlus = refl
+punctuators_spelled s.MinusMinus = refl
 
 pub keywords_spelled : (k : Keyword) → word (keywords.spelling k) ≡ Some (Lexeme (kinds.Keyword k))
-unfolding word_from is_letter is_digit is_name_byte name_kind keyword_of
+unfolding word_from is_letter is_digit is_identifier_byte identifier_kind keyword_of
 keywords_spelled k.Break = refl
 keywords_spelled k.Char = refl
 keywords_spelled k.Continue = refl
@@ -89,7 +89,7 @@ keywords_spelled k.Leave = refl
 keywords_spelled k.GetExceptionInformation = refl
 
 pub reserved_spelled : (r : Reserved) → word (reserved_words.spelling r) ≡ Some (Lexeme (kinds.Reserved r))
-unfolding word_from is_letter is_digit is_name_byte name_kind keyword_of reserved_of
+unfolding word_from is_letter is_digit is_identifier_byte identifier_kind keyword_of reserved_of
 reserved_spelled r.Auto = refl
 reserved_spelled r.Case = refl
 reserved_spelled r.Const = refl

@@ -14,7 +14,7 @@ at_end of x e = record { split = refl; is = e; longest = λ m a y p q. nothing m
     nothing [] a p = refl
     nothing (b ∷ m) a p = absurd (cc)
 
--- no word goes on with the next byte
+-- no word continues with the next byte
 pub stops : {A : Type 0} (of : List ℕ → Option A) (b : ℕ) (bs : List ℕ) (x : A) → of [] ≡ Some x
     → ((v a : List ℕ) → bs ≡ v ++ a → of (b ∷ v) ≡ None) → IsLongest of (b ∷ bs) [] (b ∷ bs) x
 stops {A = A} of b bs x e none = record { split = refl; is = e; longest = go }
@@ -23,7 +23,7 @@ stops {A = A} of b bs x e none = record { split = refl; is = e; longest = go }
     go [] a y p q = refl
     go (c ∷ m) a y p q = let h : b ≡ c = cc in let n = none m a cc in let q' = subst (λ (k : ℕ). of (k ∷ m) ≡ Some y) (sym h) q in absurd (cc)
 
--- words go on with the next byte as words of another kind begin
+-- words continue with the next byte as words of another kind begin
 pub takes : {A : Type 0} (of u : List ℕ → Option A) (b : ℕ) (bs w r : List ℕ) (x : A)
     → ((v a : List ℕ) → bs ≡ v ++ a → of (b ∷ v) ≡ u v) → IsLongest u bs w r x → IsLongest of (b ∷ bs) (b ∷ w) r x
 takes of u b bs w r x e k = record {

@@ -7,7 +7,7 @@ use Rattle.c_lex.specs.declared.word.Word.TheVariants.{Lexeme, Blank, Bad}
 use Rattle.c_lex.specs.declared.word.Fault.{Fault}
 use Rattle.c_lex.specs.Longest.{IsLongest}
 use Rattle.c_lex.specs.Words.{word}
-use Rattle.c_lex.specs.Text.{Piece, Cut, IsGood, AreGood, size, token, token_of, tokens_of, IsTokens, IsFault}
+use Rattle.c_lex.specs.Text.{Piece, Cut, IsGood, AreGood, size, token, token_of, tokens_of, IsTokens, IsLexicalFault}
 
 -- ---- one word
 
@@ -119,7 +119,7 @@ cut_once (p ∷ ps) (q ∷ qs) text r s (g, gs) (h, hs) (after, k, c) (later, l,
 pub tokens_once : (text : List ℕ) (ts us : List Token) → IsTokens text ts → IsTokens text us → ts ≡ us
 tokens_once text ts us a b = let c = cut_once a.pieces b.pieces text [] [] a.good b.good a.cut b.cut at_end at_end in a.exact ∙ ap (tokens_of 0) c.pieces ∙ sym b.exact
 
-pub no_fault : (text : List ℕ) (ts : List Token) (f : Fault) (at : ℕ) → IsTokens text ts → IsFault text f at → ⊥
+pub no_fault : (text : List ℕ) (ts : List Token) (f : Fault) (at : ℕ) → IsTokens text ts → IsLexicalFault text f at → ⊥
 no_fault text ts f at a b =
     let c = cut_once a.pieces b.pieces text [] b.rest a.good b.good a.cut b.cut at_end (at_fault b.rest b.bytes b.after f b.faulty) in
     let k = subst (λ (t : List ℕ). IsLongest word t b.bytes b.after (Bad f)) (sym c.rest) b.faulty in
@@ -130,7 +130,7 @@ pub record SameFault (f : Fault) (at : ℕ) (g : Fault) (to : ℕ) : Type 0 wher
   pub fault : f ≡ g
   pub place : at ≡ to
 
-pub fault_once : (text : List ℕ) (f g : Fault) (at to : ℕ) → IsFault text f at → IsFault text g to → SameFault f at g to
+pub fault_once : (text : List ℕ) (f g : Fault) (at to : ℕ) → IsLexicalFault text f at → IsLexicalFault text g to → SameFault f at g to
 fault_once text f g at to a b =
     let c = cut_once a.pieces b.pieces text a.rest b.rest a.good b.good a.cut b.cut (at_fault a.rest a.bytes a.after f a.faulty) (at_fault b.rest b.bytes b.after g b.faulty) in
     let k = subst (λ (t : List ℕ). IsLongest word t b.bytes b.after (Bad g)) (sym c.rest) b.faulty in
@@ -180,7 +180,7 @@ with_token text rest after w tokens more x kind k l e p =
 pub all_read : (text rest : List ℕ) (tokens : List Token) → IsReadTo text rest tokens → rest ≡ [] → IsTokens text tokens
 all_read text rest tokens k e = record { pieces = k.pieces; good = k.good; cut = subst (λ (r : List ℕ). Cut k.pieces text r) e k.cut; exact = k.exact }
 
-pub fault_read : (text rest after w : List ℕ) (tokens : List Token) (x : Word) (f : Fault) → IsReadTo text rest tokens → IsLongest word rest w after x → x ≡ Bad f → IsFault text f (length text - length rest)
+pub fault_read : (text rest after w : List ℕ) (tokens : List Token) (x : Word) (f : Fault) → IsReadTo text rest tokens → IsLongest word rest w after x → x ≡ Bad f → IsLexicalFault text f (length text - length rest)
 fault_read text rest after w tokens x f k l e =
     let n = cut_size k.pieces text rest k.cut in
     record {

@@ -15,29 +15,29 @@ use Rattle.c_lex.specs.declared.token.IntegerType.TheVariants.{Int, Unsigned, Lo
 use Rattle.c_lex.specs.Integers.{suffix, suffix_of, limit, types, type_of, literal, digit}
 use Rattle.c_lex.specs.IntegerReaders.{digits, hexadecimal}
 use Rattle.c_lex.specs.IntegerReaders as integers
-use Rattle.c_lex.specs.Signs.{sign_of}
-use Rattle.c_lex.specs.Words.{lone, sign}
+use Rattle.c_lex.specs.Punctuators.{punctuator_of}
+use Rattle.c_lex.specs.Words.{lone, punctuator}
 use Rattle.c_lex.proofs.Fronts.{by_test}
 use Rattle.c_lex.proofs.Taking.{takes, same, Within, two_takes, three_takes}
 
--- ---- signs
+-- ---- punctuators
 
-signs_within : (b : ℕ) (text : List ℕ) → Within (sign b) text 2
-unfolding sign sign_of
-signs_within b text = record { within = λ m a y p q. go m y q }
+punctuators_within : (b : ℕ) (text : List ℕ) → Within (punctuator b) text 2
+unfolding punctuator punctuator_of
+punctuators_within b text = record { within = λ m a y p q. go m y q }
   where
-    go : (m : List ℕ) (y : Word) → sign b m ≡ Some y → length m ≤ 2
+    go : (m : List ℕ) (y : Word) → punctuator b m ≡ Some y → length m ≤ 2
     go [] y q = omega arith
     go (c ∷ []) y q = omega arith
     go (c ∷ (d ∷ [])) y q = omega arith
     go (c ∷ (d ∷ (e ∷ m))) y q = absurd (cc)
 
-sign_alone : (b : ℕ) → sign b [] ≡ Some (lone (sign_of (b ∷ [])))
-unfolding sign
-sign_alone b = refl
+punctuator_alone : (b : ℕ) → punctuator b [] ≡ Some (lone (punctuator_of (b ∷ [])))
+unfolding punctuator
+punctuator_alone b = refl
 
-pub signs_take : (b : ℕ) (text : List ℕ) → (w : List ℕ) × IsLongest (sign b) text w (readers.two (sign b) (lone (sign_of (b ∷ []))) text).1 (readers.two (sign b) (lone (sign_of (b ∷ []))) text).0
-signs_take b text = two_takes (sign b) (lone (sign_of (b ∷ []))) text (sign_alone b) (signs_within b text)
+pub punctuators_take : (b : ℕ) (text : List ℕ) → (w : List ℕ) × IsLongest (punctuator b) text w (readers.two (punctuator b) (lone (punctuator_of (b ∷ []))) text).1 (readers.two (punctuator b) (lone (punctuator_of (b ∷ []))) text).0
+punctuators_take b text = two_takes (punctuator b) (lone (punctuator_of (b ∷ []))) text (punctuator_alone b) (punctuators_within b text)
 
 -- ---- integers
 
@@ -86,7 +86,7 @@ no_fronts : (P : List ℕ → Type 0) → P [] → (v a : List ℕ) → [] ≡ v
 no_fronts P none [] a e = none
 no_fronts P none (c ∷ v) a e = absurd (cc)
 
--- what digits that make n, the digits behind them and a suffix are
+-- what digits that make n, the digits after them and a suffix are
 abbrev IsRead : ℕ → ℕ → List ℕ → ℕ × List ℕ → Type 0
 IsRead base n text r = (w : List ℕ) × IsLongest (digits base n) text w (read_suffix r.1).1 (literal base r.0 (read_suffix r.1).0)
 
@@ -186,11 +186,11 @@ zero_octal text n (c ∷ v) a e = by (nat_eq c 120 || nat_eq c 88) refl
   where
     by : (t : Bool) → (nat_eq c 120 || nat_eq c 88) ≡ t → integers.zero (c ∷ v) ≡ digits 8 0 (c ∷ v)
     by false h = rw h refl
-    by true h = rw h (behind v e ∙ sym (no_octal_x c v h))
+    by true h = rw h (following v e ∙ sym (no_octal_x c v h))
       where
-        behind : (v : List ℕ) → text ≡ c ∷ v ++ a → hexadecimal v ≡ None
-        behind [] e = refl
-        behind (d ∷ v) e =
+        following : (v : List ℕ) → text ≡ c ∷ v ++ a → hexadecimal v ≡ None
+        following [] e = refl
+        following (d ∷ v) e =
             let k : cond ((nat_eq c 120 || nat_eq c 88) && nat_lt (digit d) 16) (Some (digit d, v ++ a)) None ≡ None = subst (λ l. readers.hexadecimal l ≡ None) e n in
             let f : (true && nat_lt (digit d) 16) ≡ false = subst (λ b. (b && nat_lt (digit d) 16) ≡ false) h (not_chosen ((nat_eq c 120 || nat_eq c 88) && nat_lt (digit d) 16) (digit d, v ++ a) k) in
             rw f refl

@@ -11,21 +11,21 @@ use Rattle.c_lex.specs.declared.word.Fault.TheVariants.{OpenComment, BadChar}
 use Rattle.c_lex.specs.Longest.{IsLongest, each}
 use Rattle.c_lex.specs.Readers as readers
 use Rattle.c_lex.specs.Longest.{span}
-use Rattle.c_lex.specs.Names.{is_letter, is_digit, is_name_byte, name_kind}
+use Rattle.c_lex.specs.Identifiers.{is_letter, is_digit, is_identifier_byte, identifier_kind}
 use Rattle.c_lex.specs.IntegerReaders.{digits}
 use Rattle.c_lex.specs.IntegerReaders as integers
 use Rattle.c_lex.specs.CharacterReaders.{character, quoted}
 use Rattle.c_lex.specs.Comments.{is_space, is_other_than_line_feed, after_end, comment}
-use Rattle.c_lex.specs.Words.{sign, slash, word}
-use Rattle.c_lex.specs.Text.{Piece, Cut, AreGood, size, tokens_of, IsTokens, IsFault}
+use Rattle.c_lex.specs.Words.{punctuator, slash, word}
+use Rattle.c_lex.specs.Text.{Piece, Cut, AreGood, size, tokens_of, IsTokens, IsLexicalFault}
 use Rattle.c_lex.proofs.Taking.{takes, same, each_takes}
-use Rattle.c_lex.proofs.Tokens.{signs_take, digits_take, zero_found, zero_alone}
+use Rattle.c_lex.proofs.Tokens.{punctuators_take, digits_take, zero_found, zero_alone}
 use Rattle.c_lex.proofs.Quotes.{quote_found, quote_alone}
 use Rattle.c_lex.proofs.CommentEnds.{comment_found, comment_open}
-use Rattle.c_lex.proofs.FirstBytes.{slash_alone, name_first, zero_first, digit_first, quote_first, slash_first, space_first, sign_first}
+use Rattle.c_lex.proofs.FirstBytes.{slash_alone, name_first, zero_first, digit_first, quote_first, slash_first, space_first, punctuator_first}
 use Rattle.c_lex.proofs.Texts.{shorter}
 
--- some longest word stands at the front
+-- some longest word is at the front
 record Has (of : List ℕ → Option Word) (text : List ℕ) : Type 0 where
   bytes : List ℕ
   after : List ℕ
@@ -42,8 +42,8 @@ by_bool false f g = g refl
 by_byte : {C : Type 0} (b n : ℕ) → (b ≡ n → C) → (b ≢ n → C) → C
 by_byte b n f g = by_bool (nat_eq b n) (λ e. f (grind (arith, nat_tests))) (λ e. g (grind (arith, nat_tests)))
 
-has_sign : (b : ℕ) (bs : List ℕ) → Has (sign b) bs
-has_sign b bs = let k = signs_take b bs in record { bytes = k.0; after = _; is = _; longest = k.1 }
+has_punctuator : (b : ℕ) (bs : List ℕ) → Has (punctuator b) bs
+has_punctuator b bs = let k = punctuators_take b bs in record { bytes = k.0; after = _; is = _; longest = k.1 }
 
 has_digits : (base n : ℕ) (bs : List ℕ) → Has (digits base n) bs
 has_digits base n bs = let k = digits_take base n bs in record { bytes = k.0; after = _; is = _; longest = k.1 }
@@ -60,7 +60,7 @@ has_quoted bs = by (character bs) refl
   where
     by : (o : Option (ℤ × List ℕ)) → character bs ≡ o → Has quoted bs
     by None e = record { bytes = []; after = bs; is = Bad BadChar; longest = quote_alone bs e }
-    by (Some (v, r)) e = found quoted bs r (Lexeme (kinds.Character v)) (quote_found bs r v e)
+    by (Some (v, r)) e = found quoted bs r (Lexeme (kinds.CharacterConstant v)) (quote_found bs r v e)
 
 has_comment : (bs : List ℕ) → Has comment bs
 has_comment bs = by (after_end bs) refl
@@ -70,21 +70,21 @@ has_comment bs = by (after_end bs) refl
     by (Some r) e = found comment bs r Blank (comment_found bs r e)
 
 has_slash : (bs : List ℕ) → Has slash bs
-has_slash [] = let k = has_sign 47 [] in record { bytes = k.bytes; after = k.after; is = k.is; longest = same slash (sign 47) [] k.bytes k.after k.is nothing k.longest }
+has_slash [] = let k = has_punctuator 47 [] in record { bytes = k.bytes; after = k.after; is = k.is; longest = same slash (punctuator 47) [] k.bytes k.after k.is nothing k.longest }
   where
-    nothing : (v a : List ℕ) → [] ≡ v ++ a → slash v ≡ sign 47 v
+    nothing : (v a : List ℕ) → [] ≡ v ++ a → slash v ≡ punctuator 47 v
     nothing [] a e = refl
     nothing (c ∷ v) a e = absurd (cc)
 has_slash (b ∷ bs) = by_byte b 47
     (λ e. let k = each_takes is_other_than_line_feed (λ _. Blank) bs in record { bytes = b ∷ (span is_other_than_line_feed bs).0; after = _; is = Blank; longest = takes slash (each is_other_than_line_feed (λ _. Blank)) b bs (span is_other_than_line_feed bs).0 (span is_other_than_line_feed bs).1 Blank (λ v a q. rw e refl) k })
     (λ n. by_byte b 42
     (λ e. let k = has_comment bs in record { bytes = b ∷ k.bytes; after = k.after; is = k.is; longest = takes slash comment b bs k.bytes k.after k.is (λ v a q. rw e refl) k.longest })
-    (λ m. let k = has_sign 47 (b ∷ bs) in record { bytes = k.bytes; after = k.after; is = k.is; longest = same slash (sign 47) (b ∷ bs) k.bytes k.after k.is (slash_alone (b ∷ bs) n m) k.longest }))
+    (λ m. let k = has_punctuator 47 (b ∷ bs) in record { bytes = k.bytes; after = k.after; is = k.is; longest = same slash (punctuator 47) (b ∷ bs) k.bytes k.after k.is (slash_alone (b ∷ bs) n m) k.longest }))
 
--- at each place of a text stands a word
+-- at each place of a text is a word
 has_word : (b : ℕ) (bs : List ℕ) → Has word (b ∷ bs)
 has_word b bs = by_bool (is_letter b)
-    (λ l. at (span is_name_byte (b ∷ bs)).1 (Lexeme (name_kind (span is_name_byte (b ∷ bs)).0)) (name_first b bs (b ∷ bs) (span is_name_byte (b ∷ bs)).1 (Lexeme (name_kind (span is_name_byte (b ∷ bs)).0)) refl l refl refl))
+    (λ l. at (span is_identifier_byte (b ∷ bs)).1 (Lexeme (identifier_kind (span is_identifier_byte (b ∷ bs)).0)) (name_first b bs (b ∷ bs) (span is_identifier_byte (b ∷ bs)).1 (Lexeme (identifier_kind (span is_identifier_byte (b ∷ bs)).0)) refl l refl refl))
     (λ l. by_byte b 48
     (λ e. let k = has_zero bs in at k.after k.is (zero_first b bs (b ∷ bs) k.after k.is refl l e (k.bytes, k.longest)))
     (λ n. by_bool (is_digit b)
@@ -95,7 +95,7 @@ has_word b bs = by_bool (is_letter b)
     (λ e. let k = has_slash bs in at k.after k.is (slash_first b bs (b ∷ bs) k.after k.is refl l n d m e (k.bytes, k.longest)))
     (λ o. by_bool (is_space b)
     (λ s. at bs Blank (space_first b bs (b ∷ bs) bs Blank refl l n d m o s refl refl))
-    (λ s. let k = has_sign b bs in at k.after k.is (sign_first b bs (b ∷ bs) k.after k.is refl l n d m o s (k.bytes, k.longest))))))))
+    (λ s. let k = has_punctuator b bs in at k.after k.is (punctuator_first b bs (b ∷ bs) k.after k.is refl l n d m o s (k.bytes, k.longest))))))))
   where
     at : (after : List ℕ) (x : Word) → (w : List ℕ) × IsLongest word (b ∷ bs) (b ∷ w) after x → Has word (b ∷ bs)
     at after x (w, k) = record { bytes = b ∷ w; after = after; is = x; longest = k }
@@ -128,9 +128,9 @@ is_cut (suc n) (b ∷ bs) h =
     first w after (Lexeme kind) k c = record { pieces = record { bytes = w; is = Lexeme kind } ∷ c.pieces; rest = c.rest; good = (tt, c.good); cut = (after, k, c.cut); ends = c.ends }
     first w after Blank k c = record { pieces = record { bytes = w; is = Blank } ∷ c.pieces; rest = c.rest; good = (tt, c.good); cut = (after, k, c.cut); ends = c.ends }
 
-pub each_text : (text : List ℕ) → ((ts : List Token) × IsTokens text ts) ⊎ ((f : Fault) × (at : ℕ) × IsFault text f at)
+pub each_text : (text : List ℕ) → ((ts : List Token) × IsTokens text ts) ⊎ ((f : Fault) × (at : ℕ) × IsLexicalFault text f at)
 each_text text = let k = is_cut (length text) text (omega arith) in by k k.ends
   where
-    by : (k : IsCut text) → (k.rest ≡ []) ⊎ Ends k.rest → ((ts : List Token) × IsTokens text ts) ⊎ ((f : Fault) × (at : ℕ) × IsFault text f at)
+    by : (k : IsCut text) → (k.rest ≡ []) ⊎ Ends k.rest → ((ts : List Token) × IsTokens text ts) ⊎ ((f : Fault) × (at : ℕ) × IsLexicalFault text f at)
     by k (inl e) = inl (tokens_of 0 k.pieces, record { pieces = k.pieces; good = k.good; cut = subst (λ (r : List ℕ). Cut k.pieces text r) e k.cut; exact = refl })
     by k (inr d) = inr (d.fault, size k.pieces, record { pieces = k.pieces; rest = k.rest; good = k.good; cut = k.cut; place = refl; bytes = d.bytes; after = d.after; faulty = d.faulty })

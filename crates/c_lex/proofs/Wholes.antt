@@ -4,7 +4,7 @@ use Rattle.std.proofs.Math.Nat.{pow-zero, pow-succ'}
 use Rattle.std.proofs.lemmas.Bool.Decides.{nat_tests}
 use Rattle.c_lex.specs.declared.word.Word.{Word}
 use Rattle.c_lex.specs.Longest.{span}
-use Rattle.c_lex.specs.Names.{is_digit}
+use Rattle.c_lex.specs.Identifiers.{is_digit}
 use Rattle.c_lex.specs.Integers.{suffix_of, literal, digit, place_value, is_digit_of, integer, hexadecimal, after_zero}
 use Rattle.c_lex.specs.IntegerReaders as readers
 use Rattle.c_lex.specs.IntegerReaders.{digits}
@@ -23,16 +23,16 @@ place base n d k v = places base n d (base ^ k) v ∙ ap (λ p. n * p + (d * bas
 pub at_once : (base n : ℕ) → n ≡ n * base ^ zero + 0
 at_once base n = rw pow-zero (omega arith)
 
--- the digits at the front behind digits that make n, and a suffix
-abbrev behind : ℕ → ℕ → List ℕ × List ℕ → Option Word
-behind base n parts = option_map (literal base (n * base ^ length parts.0 + place_value base parts.0)) (suffix_of parts.1)
+-- the digits at the front after digits that make n, and a suffix
+abbrev following : ℕ → ℕ → List ℕ × List ℕ → Option Word
+following base n parts = option_map (literal base (n * base ^ length parts.0 + place_value base parts.0)) (suffix_of parts.1)
 
-digits_whole : (base n : ℕ) (bs : List ℕ) → digits base n bs ≡ behind base n (span (is_digit_of base) bs)
+digits_whole : (base n : ℕ) (bs : List ℕ) → digits base n bs ≡ following base n (span (is_digit_of base) bs)
 digits_whole base n [] = ap (λ m. option_map (literal base m) (suffix_of [])) (at_once base n)
 digits_whole base n (b ∷ bs) = by (nat_lt (digit b) base) refl (digits_whole base (base * n + digit b) bs)
   where
-    by : (t : Bool) → nat_lt (digit b) base ≡ t → digits base (base * n + digit b) bs ≡ behind base (base * n + digit b) (span (is_digit_of base) bs)
-        → digits base n (b ∷ bs) ≡ behind base n (span (is_digit_of base) (b ∷ bs))
+    by : (t : Bool) → nat_lt (digit b) base ≡ t → digits base (base * n + digit b) bs ≡ following base (base * n + digit b) (span (is_digit_of base) bs)
+        → digits base n (b ∷ bs) ≡ following base n (span (is_digit_of base) (b ∷ bs))
     by true e h =
         let s = span (is_digit_of base) bs in
         rw e (h ∙ ap (λ m. option_map (literal base m) (suffix_of s.1)) (place base n (digit b) (length s.0) (place_value base s.0)))
@@ -102,7 +102,7 @@ no_more : (o : Option ℕ) (q c : ℕ) (bs : List ℕ) → whole (closed o (q �
 no_more None q c bs = refl
 no_more (Some n) q c bs = by_bool (nat_eq q 39) (λ e. rw e refl) (λ e. rw e refl)
 
--- behind a backslash
+-- after a backslash
 escape_at : (x : ℕ) (bs : List ℕ) → nat_eq x 120 ≡ false → escape (x ∷ bs) ≡ closed (escaped x) bs
 escape_at x bs e = rw e refl
 
@@ -130,7 +130,7 @@ escape_sequence s b q = by_bool (nat_eq s 92)
     (λ f. rw (e, f, and_true (nat_eq q 39)) (sym (at_end (escaped b) q))))
     (λ e. let n : quoted (s ∷ b ∷ q ∷ []) ≡ None = rw (e, and_false (nat_eq q 39)) refl in n ∙ sym (plain_more s b q [] e))
 
--- behind `\x` stand two digits and a quote
+-- after `\x` stand two digits and a quote
 two_digits_end : (a b q : ℕ) → whole (two_digits (a ∷ b ∷ q ∷ [])) ≡ cond (nat_eq q 39 && (is_hexadecimal a && is_hexadecimal b)) (Some (char (16 * digit a + digit b))) None
 two_digits_end a b q = by_bool (is_hexadecimal a && is_hexadecimal b)
     (λ h. rw (h, and_true (nat_eq q 39)) (at_end (Some (16 * digit a + digit b)) q))

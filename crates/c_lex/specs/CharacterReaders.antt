@@ -13,18 +13,18 @@ closed None bs = None
 closed (Some n) [] = None
 closed (Some n) (b ∷ bs) = if b == 39 then Some (signed_char n, bs) else None
 
--- behind `\x`
+-- after `\x`
 abbrev pub two_digits : List ℕ → Option (ℤ × List ℕ)
 two_digits [] = None
 two_digits (a ∷ []) = None
 two_digits (a ∷ (b ∷ bs)) = if nat_lt (digit a) 16 && nat_lt (digit b) 16 then closed (Some (16 * digit a + digit b)) bs else None
 
--- behind `\`
+-- after `\`
 abbrev pub escape : List ℕ → Option (ℤ × List ℕ)
 escape [] = None
 escape (b ∷ bs) = if b == 120 then two_digits bs else closed (escaped b) bs
 
--- behind the opening quote
+-- after the opening quote
 abbrev pub character : List ℕ → Option (ℤ × List ℕ)
 character [] = None
 character (b ∷ bs) =
@@ -35,7 +35,7 @@ character (b ∷ bs) =
 -- all of the bytes
 abbrev pub whole : Option (ℤ × List ℕ) → Option Word
 whole None = None
-whole (Some (v, [])) = Some (Lexeme (kinds.Character v))
+whole (Some (v, [])) = Some (Lexeme (kinds.CharacterConstant v))
 whole (Some (v, b ∷ bs)) = None
 
 -- what may follow a quote; alone it is no character

@@ -1,4 +1,4 @@
--- Character constants of one character (C11, 6.4.4.4).
+-- CharacterConstant constants of one character (C11, 6.4.4.4).
 use Rattle.std.specs.Prelude.{ℕ, ℤ, pos, ◌+◌, ◌*◌, ◌-ℤ◌, Bool, ◌&&◌, ◌==◌, not, nat_le, nat_lt, if◌then◌else◌, List, [], ◌∷◌, Option, Some, None, option_map}
 use Rattle.c_lex.specs.declared.token.Kind.TheVariants as kinds
 use Rattle.c_lex.specs.declared.word.Word.{Word}
@@ -14,7 +14,7 @@ is_plain b = nat_le 32 b && nat_le b 126 && not (b == 39) && not (b == 92)
 abbrev pub signed_char : ℕ → ℤ
 signed_char n = if nat_lt n 128 then pos n else pos n -ℤ pos 256
 
--- what a letter behind a `\` stands for
+-- what a letter after a `\` means
 unfoldable pub escaped : ℕ → Option ℕ
 escaped b =
     if b == 110 then Some 10  -- \n
@@ -27,7 +27,7 @@ escaped b =
     else None))))))
 
 abbrev pub char : ℕ → Word
-char n = Lexeme (kinds.Character (signed_char n))
+char n = Lexeme (kinds.CharacterConstant (signed_char n))
 
 abbrev pub is_hexadecimal : ℕ → Bool
 is_hexadecimal b = nat_lt (digit b) 16

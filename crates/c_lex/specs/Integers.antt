@@ -82,7 +82,7 @@ place_value base (b ∷ bs) = digit b * base ^ length bs + place_value base bs
 abbrev pub is_digit_of : ℕ → ℕ → Bool
 is_digit_of base b = nat_lt (digit b) base
 
--- digits, and behind them a suffix
+-- digits, and after them a suffix
 unfoldable pub integer : ℕ → List ℕ → Option Word
 integer base bytes =
     let parts = span (is_digit_of base) bytes in

@@ -1,7 +1,7 @@
 pub mod Keywords
 pub mod ReservedWords
-pub mod Signs
-pub mod Names
+pub mod Punctuators
+pub mod Identifiers
 pub mod Integers
 pub mod Characters
 pub mod Comments

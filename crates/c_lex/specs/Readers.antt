@@ -2,12 +2,12 @@
 use Rattle.std.specs.Prelude.{ℕ, ◌+◌, ◌*◌, ◌&&◌, ◌||◌, ◌==◌, nat_lt, if◌then◌else◌, List, [], ◌∷◌, Option, Some, None}
 use Rattle.c_lex.specs.Integers.{digit}
 
--- the value of the digits at the front behind digits that make n, and the rest
+-- the value of the digits at the front after digits that make n, and the rest
 abbrev pub number : ℕ → ℕ → List ℕ → ℕ × List ℕ
 number base n [] = (n, [])
 number base n (b ∷ bs) = if nat_lt (digit b) base then number base (base * n + digit b) bs else (n, b ∷ bs)
 
--- the first digit behind an `x` at the front, and the rest
+-- the first digit after an `x` at the front, and the rest
 abbrev pub hexadecimal : List ℕ → Option (ℕ × List ℕ)
 hexadecimal [] = None
 hexadecimal (x ∷ []) = None

@@ -13,7 +13,7 @@ pub record Piece : Type 0 where
   pub bytes : List ℕ
   pub is : Word
 
--- The text is these words one after another, each the longest that stands at its place, and then rest.
+-- The text is these words one after another, each the longest that is at its place, and then rest.
 abbrev pub Cut : List Piece → List ℕ → List ℕ → Type 0
 Cut [] text rest = text ≡ rest
 Cut (p ∷ ps) text rest = (after : List ℕ) × IsLongest word text p.bytes after p.is × Cut ps after rest
@@ -54,7 +54,7 @@ pub record IsTokens (text : List ℕ) (tokens : List Token) : Type 0 where
   pub exact : tokens ≡ tokens_of 0 pieces
 
 -- The first text that is no token, white space or comment starts there.
-pub record IsFault (text : List ℕ) (fault : Fault) (at : ℕ) : Type 0 where
+pub record IsLexicalFault (text : List ℕ) (fault : Fault) (at : ℕ) : Type 0 where
   pub pieces : List Piece
   pub rest : List ℕ
   pub good : AreGood pieces

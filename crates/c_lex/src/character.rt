@@ -27,7 +27,7 @@ fn signed_char(value: u8) -> i8
     }
 }
 
-/// What a letter behind a `\` stands for.
+/// What a letter after a `\` means.
 #[tactic(auto, unfolding(crate::specs::Characters::escaped))]
 fn escaped(byte: u8) -> Option<u8>
     ensures { result ≡ escaped byte }
@@ -59,7 +59,7 @@ fn closed(value: u8, text: &[u8]) -> Option<(i8, &[u8])>
     }
 }
 
-/// Behind `\x`.
+/// After `\x`.
 fn two_digits(text: &[u8]) -> Option<(i8, &[u8])>
     ensures value { option_map (λ x. (x.0, x.1.now)) result ≡ two_digits text.now }
     ensures fits { IfSome result (λ x. FitsSigned w8 x.0) }
@@ -77,7 +77,7 @@ fn two_digits(text: &[u8]) -> Option<(i8, &[u8])>
     }
 }
 
-/// Behind `\`.
+/// After `\`.
 fn escape(text: &[u8]) -> Option<(i8, &[u8])>
     ensures value { option_map (λ x. (x.0, x.1.now)) result ≡ escape text.now }
     ensures fits { IfSome result (λ x. FitsSigned w8 x.0) }
@@ -96,7 +96,7 @@ fn escape(text: &[u8]) -> Option<(i8, &[u8])>
     }
 }
 
-/// Behind the opening quote.
+/// After the opening quote.
 fn character(text: &[u8]) -> Option<(i8, &[u8])>
     ensures value { option_map (λ x. (x.0, x.1.now)) result ≡ character text.now }
     ensures fits { IfSome result (λ x. FitsSigned w8 x.0) }
@@ -120,7 +120,7 @@ pub(crate) fn quoted(text: &[u8]) -> (Word, &[u8])
     ensures { (w : List ℕ) × IsLongest quoted text.now w result.1.now result.0 }
 {
     match character(text) {
-        Some((value, rest)) => (Word::Lexeme(Kind::Character(value)), rest),
+        Some((value, rest)) => (Word::Lexeme(Kind::CharacterConstant(value)), rest),
         None => (Word::Bad(Fault::BadChar), text),
     }
 }

@@ -209,7 +209,7 @@ fn number(base: u8, start: u8, text: &[u8]) -> (u128, &[u8])
     (value, rest)
 }
 
-/// What the digits at the front, behind one of this value, and a suffix are, and what follows them.
+/// What the digits at the front, after one of this value, and a suffix are, and what follows them.
 pub(crate) fn digits(base: u8, start: u8, text: &[u8]) -> (Word, &[u8])
     requires { base ≤ 16 }
     ensures { (w : List ℕ) × IsLongest (digits base start) text.now w result.1.now result.0 }
@@ -219,7 +219,7 @@ pub(crate) fn digits(base: u8, start: u8, text: &[u8]) -> (Word, &[u8])
     (literal(base, value, suffix), rest)
 }
 
-/// The first digit behind the `x` at the front, and what follows it.
+/// The first digit after the `x` at the front, and what follows it.
 fn hexadecimal(text: &[u8]) -> Option<(u8, &[u8])>
     ensures { option_map (λ x. (x.0, x.1.now)) result ≡ readers.hexadecimal text.now }
 {

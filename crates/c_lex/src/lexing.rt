@@ -5,7 +5,7 @@ ghost use Rattle.c_lex.specs.declared.lexing.LexErr.TheVariants.{Memory};
 ghost use Rattle.c_lex.specs.declared.token.Token.{Token};
 ghost use Rattle.c_lex.specs.declared.word.Fault.{Fault};
 ghost use Rattle.c_lex.specs.Answers.{refused};
-ghost use Rattle.c_lex.specs.Text.{IsTokens, IsFault};
+ghost use Rattle.c_lex.specs.Text.{IsTokens, IsLexicalFault};
 
 use crate::token::Token;
 use crate::word::{Fault, Word, longest_word};
@@ -62,9 +62,9 @@ pub fn lex(alloc: Global, text: &[u8]) -> Result<Vec<Token>, LexErr>
     // What has such a list is not refused, unless memory runs out, and has no other list.
     ensures only { (ts : List Token) → IsTokens text.now ts → MatchResult result (λ v. v.items ≡ ts) (λ e. e ≡ Memory) }
     // A refusal names the first fault and its place.
-    ensures refused { IfErr result (λ e. (e ≡ Memory) ⊎ ((f : Fault) × (at : ℕ) × (e ≡ refused f at) × IsFault text.now f at)) }
+    ensures refused { IfErr result (λ e. (e ≡ Memory) ⊎ ((f : Fault) × (at : ℕ) × (e ≡ refused f at) × IsLexicalFault text.now f at)) }
     // What has a fault is refused for it, unless memory runs out.
-    ensures first { (f : Fault) (at : ℕ) → IsFault text.now f at → MatchResult result (λ v. ⊥) (λ e. (e ≡ Memory) ⊎ (e ≡ refused f at)) }
+    ensures first { (f : Fault) (at : ℕ) → IsLexicalFault text.now f at → MatchResult result (λ v. ⊥) (λ e. (e ≡ Memory) ⊎ (e ≡ refused f at)) }
 {
     let mut tokens = Vec::new(alloc);
     let mut rest = text;

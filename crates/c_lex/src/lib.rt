@@ -1,6 +1,6 @@
 //! Tokens of C.
 //!
-//! A text is cut from its front into words, at each place the longest that stands there (C11, 6.4,
+//! A text is cut from its front into words, at each place the longest that is there (C11, 6.4,
 //! "Lexical elements"). Words are the tokens, white space and comments. What begins no such word is
 //! refused at its place. A text is bytes: it is read as ASCII, and any byte may stand in a comment.
 //!
@@ -11,14 +11,12 @@
 
 mod character;
 mod comment;
+mod identifier;
 mod integer;
 pub mod keyword;
 pub mod laws;
 pub mod lexing;
-mod name;
+pub mod punctuator;
 pub mod reserved;
-pub mod sign;
-#[cfg(test)]
-mod tests;
 pub mod token;
 pub mod word;

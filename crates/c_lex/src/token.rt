@@ -1,6 +1,6 @@
 use crate::keyword::Keyword;
+use crate::punctuator::Punctuator;
 use crate::reserved::Reserved;
-use crate::sign::Sign;
 
 /// Types of integer literals, by their size.
 #[derive(Clone, Copy, Debug, PartialEq, Eq)]
@@ -19,7 +19,7 @@ pub enum IntegerType {
 #[derive(Clone, Copy, Debug, PartialEq, Eq)]
 pub enum Kind {
     /// A name that is no keyword and not reserved.
-    Name,
+    Identifier,
     /// A keyword of the language.
     Keyword(Keyword),
     /// A word that C reserves and that no rule of the language uses.
@@ -27,9 +27,9 @@ pub enum Kind {
     /// An integer literal: its value, and the first of its types that holds it.
     Integer { value: u64, of: IntegerType },
     /// A character: its value as a signed char, of type int.
-    Character(i8),
-    /// A sign.
-    Sign(Sign),
+    CharacterConstant(i8),
+    /// A punctuator.
+    Punctuator(Punctuator),
 }
 
 /// A token: what it is, and its bytes' places in the text, from `start` to below `end`.

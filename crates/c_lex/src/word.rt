@@ -2,15 +2,15 @@
 
 ghost use Rattle.std.specs.Prelude.{◌≡◌, ℕ, List, [], ◌∷◌, IfSome, IfNone};
 ghost use Rattle.c_lex.specs.declared.word.Word.TheVariants.{Lexeme};
-ghost use Rattle.c_lex.specs.Names.{is_name_byte, name_kind};
+ghost use Rattle.c_lex.specs.Identifiers.{is_identifier_byte, identifier_kind};
 ghost use Rattle.c_lex.specs.Words.{slash, word};
 ghost use Rattle.c_lex.specs.Longest.{IsLongest, span};
 
 use crate::character::quoted;
 use crate::comment::{comment, is_space, line};
+use crate::identifier::{after_identifier, identifier_kind, is_digit, is_letter};
 use crate::integer::{digits, zero};
-use crate::name::{after_name, is_digit, is_letter, name_kind};
-use crate::sign::longest_sign;
+use crate::punctuator::longest_punctuator;
 use crate::token::Kind;
 
 /// What is wrong with a text at a place.
@@ -42,14 +42,14 @@ fn slash(text: &[u8]) -> (Word, &[u8])
     ensures { (w : List ℕ) × IsLongest slash text.now w result.1.now result.0 }
 {
     match text {
-        [] => longest_sign(b'/', text),
+        [] => longest_punctuator(b'/', text),
         [first, rest @ ..] => {
             if *first == b'/' {
                 line(rest)
             } else if *first == b'*' {
                 comment(rest)
             } else {
-                longest_sign(b'/', text)
+                longest_punctuator(b'/', text)
             }
         }
     }
@@ -58,12 +58,12 @@ fn slash(text: &[u8]) -> (Word, &[u8])
 /// The word of letters, digits and `_` at the front, and what follows it.
 #[tactic(auto, using(crate::proofs::Fronts::span_front))]
 fn named(text: &[u8]) -> (Word, &[u8])
-    ensures word { result.0 ≡ Lexeme (name_kind (span is_name_byte text.now).0) }
-    ensures rest { result.1.now ≡ (span is_name_byte text.now).1 }
+    ensures word { result.0 ≡ Lexeme (identifier_kind (span is_identifier_byte text.now).0) }
+    ensures rest { result.1.now ≡ (span is_identifier_byte text.now).1 }
 {
-    let rest = after_name(text);
+    let rest = after_identifier(text);
     let name = &text[..text.len() - rest.len()];
-    (Word::Lexeme(name_kind(name)), rest)
+    (Word::Lexeme(identifier_kind(name)), rest)
 }
 
 /// What the word at the front is, by its first byte, and what follows it.
@@ -84,7 +84,7 @@ fn word_from<'a>(first: u8, rest: &'a [u8], text: &'a [u8]) -> (Word, &'a [u8])
     } else if is_space(first) {
         (Word::Blank, rest)
     } else {
-        longest_sign(first, rest)
+        longest_punctuator(first, rest)
     }
 }
 

@@ -8,5 +8,3 @@
 pub mod checked;
 pub mod laws;
 pub mod syntax;
-#[cfg(test)]
-mod tests;

@@ -1,4 +1,4 @@
--- A text that goes on spells the same tokens alike, and can speak the two words by which a record can end.
+-- A text that continues spells the same tokens alike, and can speak the two words by which a record can end.
 use Rattle.std.proofs.Common.{◌≡◌, ◌≤◌, ◌+◌, ◌-◌, ℕ, List, [], ◌∷◌, ◌++◌, length, take, drop, length-drop, sym, ap, ◌∙◌, arith}
 use Rattle.std.specs.Prelude.{codes, slice_range}
 use Rattle.std.proofs.lemmas.List.{take-append-le, drop-append-le}
@@ -9,7 +9,7 @@ use Rattle.c_lex.specs.Text.{IsTokens}
 use Rattle.c_lex.proofs.Covering.{ranges_rise}
 use Rattle.c_syntax.specs.Faults.{Alike, Speaks}
 
--- a part of the text is the same part of one that goes on
+-- a part of the text is the same part of one that continues
 part : (text beyond : List ℕ) (a b : ℕ) → a ≤ b → b ≤ length text → slice_range text a b ≡ slice_range (text ++ beyond) a b
 part text beyond a b p q =
     let l = length-drop a text in
@@ -23,8 +23,8 @@ alike : (text beyond : List ℕ) (at : ℕ) (ts : List Token) → Rises at ts (l
 alike text beyond at [] h = tt
 alike text beyond at (t ∷ ts) h = let c = h.1 in (part text beyond t.start t.end (omega arith) (rises_low t.end ts (length text) h.2), alike text beyond t.end ts h.2)
 
-pub goes_on : (text beyond : List ℕ) (ts : List Token) → IsTokens text ts → Alike text (text ++ beyond) ts
-goes_on text beyond ts h = alike text beyond 0 ts (ranges_rise text ts h)
+pub continues : (text beyond : List ℕ) (ts : List Token) → IsTokens text ts → Alike text (text ++ beyond) ts
+continues text beyond ts h = alike text beyond 0 ts (ranges_rise text ts h)
 
 -- each token is a byte at least
 rises_by : (at : ℕ) (ts : List Token) (end : ℕ) → Rises at ts end → length ts + at ≤ end

@@ -1,6 +1,6 @@
--- Functions are read as far as they go behind their names.
+-- Functions are read as far as they go after their names.
 use Rattle.std.proofs.Common.{◌≡◌, ◌≤◌, ℕ, List, [], ◌∷◌, ◌++◌, length, refl, sym, ap, ◌∙◌, subst, arith}
-use Rattle.c_lex.specs.declared.sign.Sign.TheVariants as signs
+use Rattle.c_lex.specs.declared.punctuator.Punctuator.TheVariants as punctuators
 use Rattle.c_lex.specs.declared.token.Kind.TheVariants as kinds
 use Rattle.c_lex.specs.declared.token.Token.{Token}
 use Rattle.c_syntax.specs.declared.declaration.Parameter.{Parameter}
@@ -8,21 +8,21 @@ use Rattle.c_syntax.specs.Faults.{Wraps}
 use Rattle.c_syntax.specs.Limits.{FunctionWithin}
 use Rattle.c_syntax.specs.Programs.{AreParameters}
 use Rattle.c_syntax.specs.Statement.{Statements, Empty}
-use Rattle.c_syntax.specs.Statements.{AreItems}
-use Rattle.c_syntax.specs.Tokens.{token, HasSign}
+use Rattle.c_syntax.specs.Statements.{AreBlockItems}
+use Rattle.c_syntax.specs.Tokens.{token, HasPunctuator}
 use Rattle.c_syntax.specs.Viable.{FunctionWithinFirst}
 use Rattle.c_syntax.proofs.Failing.{append_append, alike_same}
 use Rattle.c_syntax.proofs.MovesPrograms as programs
 use Rattle.c_syntax.proofs.Fronts.{has_same}
 use Rattle.c_syntax.proofs.Files.{parameters}
 use Rattle.c_parse_stmt.specs.declared.left.Left.{Left}
-use Rattle.c_parse_stmt.specs.Parts.{NoSign, ASign}
-use Rattle.c_parse_stmt.specs.Within.{AllTaken, NoItems, HasItems}
+use Rattle.c_parse_stmt.specs.Parts.{NoPunctuator, APunctuator}
+use Rattle.c_parse_stmt.specs.Within.{AllTaken, NoBlockItems, HasBlockItems}
 use Rattle.c_parse.specs.Parts.{NoParameters, HasParameters, IsTail, NoTail, HasTail}
-use Rattle.c_parse.proofs.Refusing.{sign, has_it, behind}
+use Rattle.c_parse.proofs.Refusing.{punctuator, has_it, following}
 
 abbrev braces : List Token
-braces = sign signs.OpenBrace ∷ sign signs.CloseBrace ∷ []
+braces = punctuator punctuators.OpenBrace ∷ punctuator punctuators.CloseBrace ∷ []
 
 pub empty : (n : ℕ) (ps : List Parameter) → (3 ≤ n → length ps ≤ 8) → FunctionWithinFirst n ps Empty
 empty n ps few = record { statements = λ one. omega arith; expressions = λ one. omega arith; locals = λ two. omega arith; parameters = few }
@@ -37,14 +37,14 @@ in_parameters text funclets ts = record {
     has = record {
       parameters = h.trees;
       body = Empty;
-      is = λ other. behind (λ z. IsTail text' h.trees Empty z other) inner braces other (braces ++ other, sign signs.CloseBrace ∷ other, h.are (braces ++ other), has_it signs.OpenBrace (sign signs.CloseBrace ∷ other), has_it signs.CloseBrace other);
+      is = λ other. following (λ z. IsTail text' h.trees Empty z other) inner braces other (braces ++ other, punctuator punctuators.CloseBrace ∷ other, h.are (braces ++ other), has_it punctuators.OpenBrace (punctuator punctuators.CloseBrace ∷ other), has_it punctuators.CloseBrace other);
       within = empty n h.trees h.few;
       numbered = λ six. omega arith;
     };
   };
 }
 
-pub in_brace : (text : List ℕ) (funclets : ℕ) (ts b : List Token) (found : List Parameter) → AreParameters found ts b → length found ≤ 8 → Wraps (NoSign signs.OpenBrace) (ASign signs.OpenBrace) (NoTail funclets) (HasTail funclets) text b ts
+pub in_brace : (text : List ℕ) (funclets : ℕ) (ts b : List Token) (found : List Parameter) → AreParameters found ts b → length found ≤ 8 → Wraps (NoPunctuator punctuators.OpenBrace) (APunctuator punctuators.OpenBrace) (NoTail funclets) (HasTail funclets) text b ts
 in_brace text funclets ts b found is few =
     let m = programs.parameters found text ts b is in
     let again : (other : List Token) → AreParameters found (m.front ++ other) other = λ other. m.again text other (alike_same text ts) in record {
@@ -52,33 +52,33 @@ in_brace text funclets ts b found is few =
       split = m.split;
       no = λ n text' other a s x ps body end h w k.
           let q = parameters found ps (m.front ++ other) (m.front ++ other) other h.0 refl (again other) h.2 in
-          x h.1 (subst (λ (z : List Token). HasSign signs.OpenBrace z h.1) (sym q.1) h.3);
+          x h.1 (subst (λ (z : List Token). HasPunctuator punctuators.OpenBrace z h.1) (sym q.1) h.3);
       has = λ n text' inner a s h. record {
-        more = sign signs.CloseBrace ∷ [];
+        more = punctuator punctuators.CloseBrace ∷ [];
         has = record {
           parameters = found;
           body = Empty;
           is = λ other.
-              let rest = sign signs.CloseBrace ∷ other in
-              behind (λ z. IsTail text' found Empty z other) (m.front ++ inner) (sign signs.CloseBrace ∷ []) other
-              (behind (λ z. IsTail text' found Empty z other) m.front inner rest (inner ++ rest, rest, again (inner ++ rest), h rest, has_it signs.CloseBrace other));
+              let rest = punctuator punctuators.CloseBrace ∷ other in
+              following (λ z. IsTail text' found Empty z other) (m.front ++ inner) (punctuator punctuators.CloseBrace ∷ []) other
+              (following (λ z. IsTail text' found Empty z other) m.front inner rest (inner ++ rest, rest, again (inner ++ rest), h rest, has_it punctuators.CloseBrace other));
           within = empty n found (λ three. few);
           numbered = λ six. omega arith;
         };
       };
     }
 
-pub in_body : (text : List ℕ) (left : Left) (ts b c : List Token) (found : List Parameter) → left.locals ≡ 256 → AreParameters found ts b → length found ≤ 8 → HasSign signs.OpenBrace b c → Wraps (NoItems 65 left) (HasItems 65 left) (NoTail left.funclets) (HasTail left.funclets) text c ts
+pub in_body : (text : List ℕ) (left : Left) (ts b c : List Token) (found : List Parameter) → left.locals ≡ 256 → AreParameters found ts b → length found ≤ 8 → HasPunctuator punctuators.OpenBrace b c → Wraps (NoBlockItems 65 left) (HasBlockItems 65 left) (NoTail left.funclets) (HasTail left.funclets) text c ts
 in_body text left ts b c found l is few o =
     let m = programs.parameters found text ts b is in
     let again : (other : List Token) → AreParameters found (m.front ++ other) other = λ other. m.again text other (alike_same text ts) in
-    let t = token (kinds.Sign signs.OpenBrace) o.0 o.1.0 in record {
+    let t = token (kinds.Punctuator punctuators.OpenBrace) o.0 o.1.0 in record {
       before = m.front ++ t ∷ [];
       split = m.split ∙ ap (λ (x : List Token). m.front ++ x) o.1.1 ∙ sym (append_append m.front (t ∷ []) c);
-      no = λ n text' other a s x. behind (λ z. NoTail left.funclets n text' z) m.front (t ∷ []) other (λ ps body end h w k.
+      no = λ n text' other a s x. following (λ z. NoTail left.funclets n text' z) m.front (t ∷ []) other (λ ps body end h w k.
           let q = parameters found ps (m.front ++ t ∷ other) (m.front ++ t ∷ other) (t ∷ other) h.0 refl (again (t ∷ other)) h.2 in
-          let r = has_same signs.OpenBrace (t ∷ other) h.0 other h.1 q.1 (o.0, (o.1.0, refl)) h.3 in
-          x body end (subst (λ (z : List Token). AreItems text' body z end) (sym r) h.4) (record { statements = w.statements; expressions = w.expressions; locals = λ two. let a = w.locals two in omega arith; funclets = k }));
+          let r = has_same punctuators.OpenBrace (t ∷ other) h.0 other h.1 q.1 (o.0, (o.1.0, refl)) h.3 in
+          x body end (subst (λ (z : List Token). AreBlockItems text' body z end) (sym r) h.4) (record { statements = w.statements; expressions = w.expressions; locals = λ two. let a = w.locals two in omega arith; funclets = k }));
       has = λ n text' inner a s h.
           let v = h.within in record {
             more = [];
@@ -86,9 +86,9 @@ in_body text left ts b c found l is few o =
               parameters = found;
               body = h.trees;
               is = λ other.
-                  behind (λ z. IsTail text' found h.trees z other) ((m.front ++ t ∷ []) ++ inner) [] other
-                  (behind (λ z. IsTail text' found h.trees z other) (m.front ++ t ∷ []) inner other
-                  (behind (λ z. IsTail text' found h.trees z other) m.front (t ∷ []) (inner ++ other) (t ∷ (inner ++ other), inner ++ other, again (t ∷ (inner ++ other)), (o.0, (o.1.0, refl)), h.are other)));
+                  following (λ z. IsTail text' found h.trees z other) ((m.front ++ t ∷ []) ++ inner) [] other
+                  (following (λ z. IsTail text' found h.trees z other) (m.front ++ t ∷ []) inner other
+                  (following (λ z. IsTail text' found h.trees z other) m.front (t ∷ []) (inner ++ other) (t ∷ (inner ++ other), inner ++ other, again (t ∷ (inner ++ other)), (o.0, (o.1.0, refl)), h.are other)));
               within = record { statements = v.statements; expressions = v.expressions; locals = λ two. let a = v.locals two in omega arith; parameters = λ three. few };
               numbered = v.funclets;
             };

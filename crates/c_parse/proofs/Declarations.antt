@@ -1,7 +1,7 @@
 -- The globals of a declaration are read in a loop.
 use Rattle.std.proofs.Common.{◌≡◌, ◌≤◌, ℕ, List, [], ◌∷◌, ◌++◌, map, refl, sym, ap, ◌∙◌, subst, arith}
 use Rattle.std.proofs.lemmas.List.{append-nil}
-use Rattle.c_lex.specs.declared.sign.Sign.TheVariants as signs
+use Rattle.c_lex.specs.declared.punctuator.Punctuator.TheVariants as punctuators
 use Rattle.c_lex.specs.declared.token.Kind.TheVariants as kinds
 use Rattle.c_lex.specs.declared.token.Token.{Token}
 use Rattle.c_syntax.specs.declared.declaration.Global.{Global as Global'}
@@ -11,16 +11,16 @@ use Rattle.c_syntax.specs.Follow.{Stops}
 use Rattle.c_syntax.specs.Limits.{end_of_globals}
 use Rattle.c_syntax.specs.Program.{Global, global}
 use Rattle.c_syntax.specs.Programs.{IsGlobal, AreMoreGlobals, AreGlobals}
-use Rattle.c_syntax.specs.Tokens.{token, HasSign}
+use Rattle.c_syntax.specs.Tokens.{token, HasPunctuator}
 use Rattle.c_syntax.proofs.Failing.{append_append, alike_same}
 use Rattle.c_syntax.proofs.MovesPrograms as programs
 use Rattle.c_syntax.proofs.Firsts as firsts
 use Rattle.c_syntax.proofs.Fronts.{has_same}
-use Rattle.c_syntax.proofs.Files.{other_sign, global_once, globals_stop}
-use Rattle.c_parse_stmt.specs.Parts.{NoSign, ASign}
+use Rattle.c_syntax.proofs.Files.{other_punctuator, global_once, globals_stop}
+use Rattle.c_parse_stmt.specs.Parts.{NoPunctuator, APunctuator}
 use Rattle.c_parse.specs.Parts.{end_of, NoGlobal, NoGlobals, HasGlobals}
-use Rattle.c_parse.proofs.Lists.{Begun, Back, goes_on, snoc}
-use Rattle.c_parse.proofs.Refusing.{behind, Lacks}
+use Rattle.c_parse.proofs.Lists.{Begun, Back, continues, snoc}
+use Rattle.c_parse.proofs.Refusing.{following, Lacks}
 use Rattle.c_parse.proofs.Placing.{grows}
 
 -- what was read of the globals of a declaration, up to the rest, and where they end
@@ -46,10 +46,10 @@ begins text base at now ts rest x is s e =
       λ gs. ap (λ (n : ℕ). end_of_globals base gs n) (sym e),
     )
 
-next_back : (rest b after : List Token) (x : Global) → HasSign signs.Comma rest b → IsGlobal x b after → Stops 15 after → (xs : List Global) (end : List Token) → AreMoreGlobals xs rest end → (ys : List Global) × (xs ≡ x ∷ ys) × AreMoreGlobals ys after end
-next_back rest b after x k is s [] end m = let e : signs.Comma ≡ signs.Semicolon = other_sign signs.Comma signs.Semicolon rest rest b end refl k m in absurd cc
+next_back : (rest b after : List Token) (x : Global) → HasPunctuator punctuators.Comma rest b → IsGlobal x b after → Stops 15 after → (xs : List Global) (end : List Token) → AreMoreGlobals xs rest end → (ys : List Global) × (xs ≡ x ∷ ys) × AreMoreGlobals ys after end
+next_back rest b after x k is s [] end m = let e : punctuators.Comma ≡ punctuators.Semicolon = other_punctuator punctuators.Comma punctuators.Semicolon rest rest b end refl k m in absurd cc
 next_back rest b after x k is s (g ∷ gs) end m =
-    let p = has_same signs.Comma rest rest b m.0 refl k m.2 in
+    let p = has_same punctuators.Comma rest rest b m.0 refl k m.2 in
     let u = global_once x g b m.0 after m.1 p s (globals_stop gs m.1 end m.4) is m.3 in
     (gs, ap (λ (z : Global). z ∷ gs) (sym u.0), subst (λ (z : List Token). AreMoreGlobals gs z end) (sym u.1) m.4)
 
@@ -57,12 +57,12 @@ mapped : (found : List Global') (x : Global') → map global (found ++ x ∷ [])
 mapped [] x = refl
 mapped (y ∷ found) x = ap (λ (z : List Global). global y ∷ z) (mapped found x)
 
-pub next : (text : List ℕ) (base : Base) (at now further : ℕ) (ts rest b after : List Token) (found : List Global') (x : Global') → HasSign signs.Comma rest b → IsGlobal (global x) b after → Stops 15 after → further ≡ end_of base (global x).pointers (global x).length now → Read base at ts found rest now → Read base at ts (found ++ x ∷ []) after further
+pub next : (text : List ℕ) (base : Base) (at now further : ℕ) (ts rest b after : List Token) (found : List Global') (x : Global') → HasPunctuator punctuators.Comma rest b → IsGlobal (global x) b after → Stops 15 after → further ≡ end_of base (global x).pointers (global x).length now → Read base at ts found rest now → Read base at ts (found ++ x ∷ []) after further
 next text base at now further ts rest b after found x k is s e d =
     let m = programs.global (global x) text b after is in
     let again : (other : List Token) → IsGlobal (global x) (m.front ++ other) other = λ other. m.again text other (alike_same text b) in
-    let t = token (kinds.Sign signs.Comma) k.0 k.1.0 in
-    let r : Begun AreGlobals AreMoreGlobals ts (map global found ++ global x ∷ []) after = goes_on AreGlobals AreMoreGlobals ts rest (t ∷ m.front) after (map global found) (global x) (k.1.1 ∙ ap (λ (z : List Token). t ∷ z) m.split)
+    let t = token (kinds.Punctuator punctuators.Comma) k.0 k.1.0 in
+    let r : Begun AreGlobals AreMoreGlobals ts (map global found ++ global x ∷ []) after = continues AreGlobals AreMoreGlobals ts rest (t ∷ m.front) after (map global found) (global x) (k.1.1 ∙ ap (λ (z : List Token). t ∷ z) m.split)
     (λ other gs end h. (m.front ++ other, other, (k.0, (k.1.0, refl)), again other, h))
     (λ other f. next_back (t ∷ (m.front ++ other)) (m.front ++ other) other (global x) (k.0, (k.1.0, refl)) (again other) (firsts.stops 15 after other f s))
     d.0 in (
@@ -70,7 +70,7 @@ next text base at now further ts rest b after found x k is s e d =
       λ gs. ap (λ (z : List Global). end_of_globals base (z ++ gs) at) (mapped found x) ∙ ap (λ (z : List Global). end_of_globals base z at) (snoc (map global found) (global x) gs) ∙ d.1 (global x ∷ gs) ∙ ap (λ (n : ℕ). end_of_globals base gs n) (sym e),
     )
 
-pub ends : (base : Base) (at now : ℕ) (ts rest end : List Token) (found : List Global') → Read base at ts found rest now → HasSign signs.Semicolon rest end → AreGlobals (map global found) ts end
+pub ends : (base : Base) (at now : ℕ) (ts rest end : List Token) (found : List Global') → Read base at ts found rest now → HasPunctuator punctuators.Semicolon rest end → AreGlobals (map global found) ts end
 ends base at now ts rest end found d h =
     subst (λ (x : List Token). AreGlobals (map global found) x end) (sym d.0.split) (subst (λ (z : List Global). AreGlobals z (d.0.front ++ rest) end) (append-nil (map global found)) (d.0.forward rest [] end h))
 
@@ -89,25 +89,25 @@ in_first text base at ts = record {
   before = [];
   split = refl;
   no = λ n text' other a s x. no_first base at n text' other x;
-  has = λ n text' inner a s h. record { more = []; has = record { trees = h.trees; are = λ other. behind (λ z. AreGlobals h.trees z other) inner [] other (h.are other); low = h.low } };
+  has = λ n text' inner a s h. record { more = []; has = record { trees = h.trees; are = λ other. following (λ z. AreGlobals h.trees z other) inner [] other (h.are other); low = h.low } };
 }
 
-no_more : (base : Base) (now n : ℕ) (text : List ℕ) (rest b : List Token) → HasSign signs.Comma rest b → NoGlobal base now n text b → (gs : List Global) (end : List Token) → AreMoreGlobals gs rest end → (5 ≤ n → end_of_globals base gs now ≤ 1048576) → ⊥
-no_more base now n text rest b k none [] end m low = let e : signs.Comma ≡ signs.Semicolon = other_sign signs.Comma signs.Semicolon rest rest b end refl k m in absurd cc
+no_more : (base : Base) (now n : ℕ) (text : List ℕ) (rest b : List Token) → HasPunctuator punctuators.Comma rest b → NoGlobal base now n text b → (gs : List Global) (end : List Token) → AreMoreGlobals gs rest end → (5 ≤ n → end_of_globals base gs now ≤ 1048576) → ⊥
+no_more base now n text rest b k none [] end m low = let e : punctuators.Comma ≡ punctuators.Semicolon = other_punctuator punctuators.Comma punctuators.Semicolon rest rest b end refl k m in absurd cc
 no_more base now n text rest b k none (g ∷ gs) end m low =
-    none g gs end (m.1, subst (λ (z : List Token). IsGlobal g z m.1) (has_same signs.Comma rest rest m.0 b refl m.2 k) m.3, m.4) (λ five. let a = grows base gs (end_of base g.pointers g.length now) in let c = low five in omega arith)
+    none g gs end (m.1, subst (λ (z : List Token). IsGlobal g z m.1) (has_same punctuators.Comma rest rest m.0 b refl m.2 k) m.3, m.4) (λ five. let a = grows base gs (end_of base g.pointers g.length now) in let c = low five in omega arith)
 
-listed : (gs : List Global) (rest ts end : List Token) → HasSign signs.Comma rest ts → AreGlobals gs ts end → AreMoreGlobals gs rest end
+listed : (gs : List Global) (rest ts end : List Token) → HasPunctuator punctuators.Comma rest ts → AreGlobals gs ts end → AreMoreGlobals gs rest end
 listed [] rest ts end k h = absurd h
 listed (g ∷ gs) rest ts end k h = (ts, h.0, k, h.1, h.2)
 
-pub in_next : (text : List ℕ) (base : Base) (at now : ℕ) (ts rest b : List Token) (found : List Global') → Read base at ts found rest now → HasSign signs.Comma rest b → Wraps (NoGlobal base now) (HasGlobals base now) (NoGlobals base at) (HasGlobals base at) text b ts
+pub in_next : (text : List ℕ) (base : Base) (at now : ℕ) (ts rest b : List Token) (found : List Global') → Read base at ts found rest now → HasPunctuator punctuators.Comma rest b → Wraps (NoGlobal base now) (HasGlobals base now) (NoGlobals base at) (HasGlobals base at) text b ts
 in_next text base at now ts rest b found d k =
-    let t = token (kinds.Sign signs.Comma) k.0 k.1.0 in
+    let t = token (kinds.Punctuator punctuators.Comma) k.0 k.1.0 in
     let front = d.0.front in record {
       before = front ++ t ∷ [];
       split = d.0.split ∙ ap (λ (z : List Token). front ++ z) k.1.1 ∙ sym (append_append front (t ∷ []) b);
-      no = λ n text' other a s x. behind (λ z. NoGlobals base at n text' z) front (t ∷ []) other (λ gs end h low.
+      no = λ n text' other a s x. following (λ z. NoGlobals base at n text' z) front (t ∷ []) other (λ gs end h low.
           let r = d.0.back (t ∷ other) (subst (λ (z : List Token). SameFirst z (t ∷ other)) (sym k.1.1) (other, refl)) gs end h in
           no_more base now n text' (t ∷ other) other (k.0, (k.1.0, refl)) x r.0 end r.2 (λ five. subst (λ (m : ℕ). m ≤ 1048576) (ap (λ (z : List Global). end_of_globals base z at) r.1 ∙ d.1 r.0) (low five)));
       has = λ n text' inner a s h. record {
@@ -115,31 +115,31 @@ in_next text base at now ts rest b found d k =
         has = record {
           trees = map global found ++ h.trees;
           are = λ other.
-              behind (λ z. AreGlobals (map global found ++ h.trees) z other) ((front ++ t ∷ []) ++ inner) [] other
-              (behind (λ z. AreGlobals (map global found ++ h.trees) z other) (front ++ t ∷ []) inner other
-              (behind (λ z. AreGlobals (map global found ++ h.trees) z other) front (t ∷ []) (inner ++ other)
+              following (λ z. AreGlobals (map global found ++ h.trees) z other) ((front ++ t ∷ []) ++ inner) [] other
+              (following (λ z. AreGlobals (map global found ++ h.trees) z other) (front ++ t ∷ []) inner other
+              (following (λ z. AreGlobals (map global found ++ h.trees) z other) front (t ∷ []) (inner ++ other)
               (d.0.forward (t ∷ (inner ++ other)) h.trees other (listed h.trees (t ∷ (inner ++ other)) (inner ++ other) other (k.0, (k.1.0, refl)) (h.are other)))));
           low = λ five. subst (λ (m : ℕ). m ≤ 1048576) (sym (d.1 h.trees)) (h.low five);
         };
       };
     }
 
-no_end : (rest : List Token) → Lacks signs.Comma rest → Lacks signs.Semicolon rest → (gs : List Global) (end : List Token) → AreMoreGlobals gs rest end → ⊥
+no_end : (rest : List Token) → Lacks punctuators.Comma rest → Lacks punctuators.Semicolon rest → (gs : List Global) (end : List Token) → AreMoreGlobals gs rest end → ⊥
 no_end rest k s [] end m = s end m
 no_end rest k s (g ∷ gs) end m = k m.0 m.2
 
-pub in_end : (text : List ℕ) (base : Base) (at now : ℕ) (ts rest : List Token) (found : List Global') → Read base at ts found rest now → now ≤ 1048576 → Lacks signs.Comma rest → Wraps (NoSign signs.Semicolon) (ASign signs.Semicolon) (NoGlobals base at) (HasGlobals base at) text rest ts
+pub in_end : (text : List ℕ) (base : Base) (at now : ℕ) (ts rest : List Token) (found : List Global') → Read base at ts found rest now → now ≤ 1048576 → Lacks punctuators.Comma rest → Wraps (NoPunctuator punctuators.Semicolon) (APunctuator punctuators.Semicolon) (NoGlobals base at) (HasGlobals base at) text rest ts
 in_end text base at now ts rest found d w k = record {
   before = d.0.front;
   split = d.0.split;
   no = λ n text' other a s x gs end h low.
       let r = d.0.back other s gs end h in
-      no_end other (firsts.no_sign signs.Comma rest other s k) x r.0 end r.2;
+      no_end other (firsts.no_punctuator punctuators.Comma rest other s k) x r.0 end r.2;
   has = λ n text' inner a s h. record {
     more = [];
     has = record {
       trees = map global found ++ [];
-      are = λ other. behind (λ z. AreGlobals (map global found ++ []) z other) (d.0.front ++ inner) [] other (behind (λ z. AreGlobals (map global found ++ []) z other) d.0.front inner other (d.0.forward (inner ++ other) [] other (h other)));
+      are = λ other. following (λ z. AreGlobals (map global found ++ []) z other) (d.0.front ++ inner) [] other (following (λ z. AreGlobals (map global found ++ []) z other) d.0.front inner other (d.0.forward (inner ++ other) [] other (h other)));
       low = λ five. subst (λ (m : ℕ). m ≤ 1048576) (sym (d.1 [])) w;
     };
   };

@@ -1,6 +1,6 @@
 -- Globals are read as far as they go.
 use Rattle.std.proofs.Common.{◌≡◌, ◌≤◌, ◌<◌, ◌⊎◌, ℕ, suc, false, List, [], ◌∷◌, ◌++◌, length, Option, Some, None, inl, inr, refl, sym, ap, ◌∙◌, subst, arith}
-use Rattle.c_lex.specs.declared.sign.Sign.TheVariants as signs
+use Rattle.c_lex.specs.declared.punctuator.Punctuator.TheVariants as punctuators
 use Rattle.c_lex.specs.declared.token.IntegerType.TheVariants as types
 use Rattle.c_lex.specs.declared.token.Kind.TheVariants as kinds
 use Rattle.c_lex.specs.declared.token.Token.{Token}
@@ -8,20 +8,20 @@ use Rattle.c_syntax.specs.declared.declaration.Constant.{Constant}
 use Rattle.c_syntax.specs.declared.declaration.Length.{Length}
 use Rattle.c_syntax.specs.declared.expression.Base.{Base}
 use Rattle.c_syntax.specs.declared.expression.Literal.TheVariants as literals
-use Rattle.c_syntax.specs.declared.expression.Name.{Name}
+use Rattle.c_syntax.specs.declared.expression.Identifier.{Identifier}
 use Rattle.c_syntax.specs.Expressions.{IsInteger}
 use Rattle.c_syntax.specs.Faults.{SameFirst, place, Onward, Failed, Wraps}
 use Rattle.c_syntax.specs.Follow.{follows, Stops}
 use Rattle.c_syntax.specs.Program.{Initialiser, Single, Several, Global}
 use Rattle.c_syntax.specs.Programs.{AreConstants, AreMoreConstants, IsInitialiser, IsLength, IsGlobal, AreMoreGlobals, AreGlobals}
-use Rattle.c_syntax.specs.Tokens.{token, IsName, HasSign}
+use Rattle.c_syntax.specs.Tokens.{token, IsIdentifier, HasPunctuator}
 use Rattle.c_syntax.specs.Types.{AreStars}
 use Rattle.c_syntax.proofs.Failing.{append_append, alike_same}
 use Rattle.c_syntax.proofs.Moves as moves
 use Rattle.c_syntax.proofs.MovesPrograms as programs
 use Rattle.c_syntax.proofs.Firsts as firsts
 use Rattle.c_syntax.proofs.Fronts.{has_same, name_same, stars_once}
-use Rattle.c_syntax.proofs.Spine.{follows_sign}
+use Rattle.c_syntax.proofs.Spine.{follows_punctuator}
 use Rattle.c_syntax.proofs.Once.{integer_same}
 use Rattle.c_syntax.proofs.Blocks.{name_star}
 use Rattle.c_syntax.proofs.Files.{initialiser_stops, length_once, globals_stop}
@@ -31,9 +31,9 @@ use Rattle.c_parse_expr.specs.declared.refusal.Count.TheVariants.{Globals}
 use Rattle.c_parse_expr.specs.declared.refusal.ParseErr.{ParseErr}
 use Rattle.c_parse_expr.specs.declared.refusal.ParseErr.TheVariants.{Unexpected, TooMany}
 use Rattle.c_parse_expr.specs.Refusals.{Placed}
-use Rattle.c_parse_stmt.specs.Parts.{NoSign, ASign}
+use Rattle.c_parse_stmt.specs.Parts.{NoPunctuator, APunctuator}
 use Rattle.c_parse.specs.Parts.{NoInitialiser, HasInitialiser, end_of, IsBracketed, NoneBracketed, HasBracketed, IsBehindName, NoLength, HasLength, EndsScalar, NoGlobal, HasGlobals}
-use Rattle.c_parse.proofs.Refusing.{missing, sign, named, name, digit, has_it, behind, Lacks, NoInteger, NoName, goes_on as refusing_goes_on}
+use Rattle.c_parse.proofs.Refusing.{missing, punctuator, named, name, digit, has_it, following, Lacks, NoInteger, NoIdentifier, continues as refusing_goes_on}
 use Rattle.c_parse.proofs.Constants.{constant_shorter}
 use Rattle.c_parse.proofs.Placing.{no_elements}
 
@@ -47,8 +47,8 @@ no_integer text base pointers at ts w none =
     missing (NoneBracketed base pointers at) (HasBracketed base pointers at) text ts [] ts refl
     (λ text' other s l end h st low. firsts.no_integer ts other s none l.value l.at h.0 h.1)
     (λ text'. record {
-      more = digit 0 ∷ sign signs.CloseBracket ∷ [];
-      has = record { tree = length_of 0 0; is = λ other. (sign signs.CloseBracket ∷ other, (types.Int, (0, refl)), has_it signs.CloseBracket other); low = λ k. no_elements base pointers at w };
+      more = digit 0 ∷ punctuator punctuators.CloseBracket ∷ [];
+      has = record { tree = length_of 0 0; is = λ other. (punctuator punctuators.CloseBracket ∷ other, (types.Int, (0, refl)), has_it punctuators.CloseBracket other); low = λ k. no_elements base pointers at w };
     })
 
 integer_first : (value p : ℕ) (ts b other : List Token) → IsInteger value p ts b → SameFirst ts other → (more : List Token) × IsInteger value p other more
@@ -67,78 +67,78 @@ too_long text base pointers at value p ts b w is f =
       front = [];
       fault = ts;
       split = refl;
-      stands = sym (ap (λ (z : List Token). place text z) is.1.1);
+      located = sym (ap (λ (z : List Token). place text z) is.1.1);
       against = λ text' other a s. let i = integer_first value p ts b other is s in far base pointers at value p 5 text' other i.0 (omega arith) i.1 f;
       able = λ text' a k. record {
-        more = digit 0 ∷ sign signs.CloseBracket ∷ [];
-        has = record { tree = length_of 0 0; is = λ other. (sign signs.CloseBracket ∷ other, (types.Int, (0, refl)), has_it signs.CloseBracket other); low = λ k. no_elements base pointers at w };
+        more = digit 0 ∷ punctuator punctuators.CloseBracket ∷ [];
+        has = record { tree = length_of 0 0; is = λ other. (punctuator punctuators.CloseBracket ∷ other, (types.Int, (0, refl)), has_it punctuators.CloseBracket other); low = λ k. no_elements base pointers at w };
       };
       further = λ text' k a s e. record {
         token = t;
         rest = b;
-        more = sign signs.CloseBracket ∷ [];
+        more = punctuator punctuators.CloseBracket ∷ [];
         is = is.1.1;
-        has = record { tree = length_of p value; is = λ other. (sign signs.CloseBracket ∷ other, (is.0, (is.1.0, refl)), has_it signs.CloseBracket other); low = λ five. absurd (omega arith) };
+        has = record { tree = length_of p value; is = λ other. (punctuator punctuators.CloseBracket ∷ other, (is.0, (is.1.0, refl)), has_it punctuators.CloseBracket other); low = λ five. absurd (omega arith) };
       };
     }
 
-pub in_close : (text : List ℕ) (base : Base) (pointers at value p : ℕ) (ts b : List Token) → IsInteger value p ts b → end_of base pointers (Some (length_of p value)) at ≤ 1048576 → Wraps (NoSign signs.CloseBracket) (ASign signs.CloseBracket) (NoneBracketed base pointers at) (HasBracketed base pointers at) text b ts
+pub in_close : (text : List ℕ) (base : Base) (pointers at value p : ℕ) (ts b : List Token) → IsInteger value p ts b → end_of base pointers (Some (length_of p value)) at ≤ 1048576 → Wraps (NoPunctuator punctuators.CloseBracket) (APunctuator punctuators.CloseBracket) (NoneBracketed base pointers at) (HasBracketed base pointers at) text b ts
 in_close text base pointers at value p ts b is w =
     let t = token (kinds.Integer value is.0) p is.1.0 in record {
       before = t ∷ [];
       split = is.1.1;
       no = λ n text' other a s x l end h st low.
           let q = integer_same value l.value p l.at (t ∷ other) (t ∷ other) other h.0 refl (is.0, (is.1.0, refl)) h.1 in
-          x end (subst (λ (z : List Token). HasSign signs.CloseBracket z end) (sym q.2) h.2);
+          x end (subst (λ (z : List Token). HasPunctuator punctuators.CloseBracket z end) (sym q.2) h.2);
       has = λ n text' inner a s h. record {
         more = [];
-        has = record { tree = length_of p value; is = λ other. behind (λ z. IsBracketed (length_of p value) z other) (t ∷ inner) [] other (inner ++ other, (is.0, (is.1.0, refl)), h other); low = λ five. w };
+        has = record { tree = length_of p value; is = λ other. following (λ z. IsBracketed (length_of p value) z other) (t ∷ inner) [] other (inner ++ other, (is.0, (is.1.0, refl)), h other); low = λ five. w };
       };
     }
 
-pub goes_further : (text : List ℕ) (base : Base) (pointers at value p : ℕ) (ts b rest : List Token) → IsInteger value p ts b → HasSign signs.CloseBracket b rest → end_of base pointers (Some (length_of p value)) at ≤ 1048576 → (Stops 1 rest → ⊥) → Failed 0 (place text rest) (NoneBracketed base pointers at) (HasBracketed base pointers at) text ts
+pub goes_further : (text : List ℕ) (base : Base) (pointers at value p : ℕ) (ts b rest : List Token) → IsInteger value p ts b → HasPunctuator punctuators.CloseBracket b rest → end_of base pointers (Some (length_of p value)) at ≤ 1048576 → (Stops 1 rest → ⊥) → Failed 0 (place text rest) (NoneBracketed base pointers at) (HasBracketed base pointers at) text ts
 goes_further text base pointers at value p ts b rest is c w z =
     let t = token (kinds.Integer value is.0) p is.1.0 in
-    let u = token (kinds.Sign signs.CloseBracket) c.0 c.1.0 in
+    let u = token (kinds.Punctuator punctuators.CloseBracket) c.0 c.1.0 in
     missing (NoneBracketed base pointers at) (HasBracketed base pointers at) text ts (t ∷ u ∷ []) rest (is.1.1 ∙ ap (λ (x : List Token). t ∷ x) c.1.1)
     (λ text' other s l end h st low.
     let q = integer_same value l.value p l.at (t ∷ u ∷ other) (t ∷ u ∷ other) (u ∷ other) h.0 refl (is.0, (is.1.0, refl)) h.1 in
-    refusing_goes_on 1 rest other s z (subst (λ (x : List Token). Stops 1 x) (sym (has_same signs.CloseBracket (u ∷ other) h.0 other end q.2 (c.0, (c.1.0, refl)) h.2)) st))
+    refusing_goes_on 1 rest other s z (subst (λ (x : List Token). Stops 1 x) (sym (has_same punctuators.CloseBracket (u ∷ other) h.0 other end q.2 (c.0, (c.1.0, refl)) h.2)) st))
     (λ text'. record { more = []; has = record { tree = length_of p value; is = λ other. (u ∷ other, (is.0, (is.1.0, refl)), (c.0, (c.1.0, refl))); low = λ five. w } })
 
 -- ---- lengths
 
-pub bracketed : (n : Length) (ts a rest : List Token) → HasSign signs.OpenBracket ts a → IsBracketed n a rest → IsLength (Some n) ts rest
+pub bracketed : (n : Length) (ts a rest : List Token) → HasPunctuator punctuators.OpenBracket ts a → IsBracketed n a rest → IsLength (Some n) ts rest
 bracketed n ts a rest o h = (a, h.0, o, h.1, h.2)
 
-bracket_not : (ts end b : List Token) → ts ≡ end → Stops 1 end → HasSign signs.OpenBracket ts b → ⊥
-bracket_not ts end b p s o = let a = follows_sign signs.OpenBracket o.0 ts b 1 o.1 refl in let c = ap follows p in absurd (omega arith)
+bracket_not : (ts end b : List Token) → ts ≡ end → Stops 1 end → HasPunctuator punctuators.OpenBracket ts b → ⊥
+bracket_not ts end b p s o = let a = follows_punctuator punctuators.OpenBracket o.0 ts b 1 o.1 refl in let c = ap follows p in absurd (omega arith)
 
--- nothing goes on with a length
+-- nothing continues with a length
 stops : (i : Option Initialiser) (gs : List Global) (a b end : List Token) → IsInitialiser i a b → AreMoreGlobals gs b end → Stops 1 a
 stops i gs a b end h m = initialiser_stops i a b (globals_stop gs b end m) h
 
-none_bracketed : (base : Base) (pointers at n : ℕ) (text : List ℕ) (ts a : List Token) → HasSign signs.OpenBracket ts a → NoneBracketed base pointers at n text a → NoLength base pointers at n text ts
+none_bracketed : (base : Base) (pointers at n : ℕ) (text : List ℕ) (ts a : List Token) → HasPunctuator punctuators.OpenBracket ts a → NoneBracketed base pointers at n text a → NoLength base pointers at n text ts
 none_bracketed base pointers at n text ts a o none None i gs end h low = absurd (bracket_not ts h.0 a h.2 (stops i gs h.0 h.1 end h.3 h.4) o)
 none_bracketed base pointers at n text ts a o none (Some l) i gs end h low =
-    none l h.0 (h.2.1, subst (λ (x : List Token). IsInteger l.value l.at x h.2.1) (has_same signs.OpenBracket ts ts h.2.0 a refl h.2.2 o) h.2.3, h.2.4) (stops i gs h.0 h.1 end h.3 h.4) low
+    none l h.0 (h.2.1, subst (λ (x : List Token). IsInteger l.value l.at x h.2.1) (has_same punctuators.OpenBracket ts ts h.2.0 a refl h.2.2 o) h.2.3, h.2.4) (stops i gs h.0 h.1 end h.3 h.4) low
 
-pub in_bracketed : (text : List ℕ) (base : Base) (pointers at : ℕ) (ts a : List Token) → HasSign signs.OpenBracket ts a → Wraps (NoneBracketed base pointers at) (HasBracketed base pointers at) (NoLength base pointers at) (HasLength base pointers at) text a ts
+pub in_bracketed : (text : List ℕ) (base : Base) (pointers at : ℕ) (ts a : List Token) → HasPunctuator punctuators.OpenBracket ts a → Wraps (NoneBracketed base pointers at) (HasBracketed base pointers at) (NoLength base pointers at) (HasLength base pointers at) text a ts
 in_bracketed text base pointers at ts a o =
-    let t = token (kinds.Sign signs.OpenBracket) o.0 o.1.0 in record {
+    let t = token (kinds.Punctuator punctuators.OpenBracket) o.0 o.1.0 in record {
       before = t ∷ [];
       split = o.1.1;
       no = λ n text' other b s x. none_bracketed base pointers at n text' (t ∷ other) other (o.0, (o.1.0, refl)) x;
       has = λ n text' inner b s h. record {
-        more = sign signs.Semicolon ∷ [];
+        more = punctuator punctuators.Semicolon ∷ [];
         has = record {
           length = Some h.tree;
           initialiser = None;
           others = [];
           is = λ other.
-              let rest = sign signs.Semicolon ∷ other in
-              behind (λ z. IsBehindName (Some h.tree) None [] z other) (t ∷ inner) (sign signs.Semicolon ∷ []) other
-              (rest, rest, bracketed h.tree (t ∷ (inner ++ rest)) (inner ++ rest) rest (o.0, (o.1.0, refl)) (h.is rest), refl, has_it signs.Semicolon other);
+              let rest = punctuator punctuators.Semicolon ∷ other in
+              following (λ z. IsBehindName (Some h.tree) None [] z other) (t ∷ inner) (punctuator punctuators.Semicolon ∷ []) other
+              (rest, rest, bracketed h.tree (t ∷ (inner ++ rest)) (inner ++ rest) rest (o.0, (o.1.0, refl)) (h.is rest), refl, has_it punctuators.Semicolon other);
           low = h.low;
         };
       };
@@ -146,114 +146,114 @@ in_bracketed text base pointers at ts a o =
 
 -- an array with no elements, in each place
 abbrev pub array : List Token
-array = sign signs.OpenBracket ∷ digit 0 ∷ sign signs.CloseBracket ∷ sign signs.Semicolon ∷ []
+array = punctuator punctuators.OpenBracket ∷ digit 0 ∷ punctuator punctuators.CloseBracket ∷ punctuator punctuators.Semicolon ∷ []
 
-pub is_array : (other : List Token) → IsLength (Some (length_of 0 0)) (array ++ other) (sign signs.Semicolon ∷ other)
-is_array other = (digit 0 ∷ sign signs.CloseBracket ∷ sign signs.Semicolon ∷ other, sign signs.CloseBracket ∷ sign signs.Semicolon ∷ other, has_it signs.OpenBracket _, (types.Int, (0, refl)), has_it signs.CloseBracket _)
+pub is_array : (other : List Token) → IsLength (Some (length_of 0 0)) (array ++ other) (punctuator punctuators.Semicolon ∷ other)
+is_array other = (digit 0 ∷ punctuator punctuators.CloseBracket ∷ punctuator punctuators.Semicolon ∷ other, punctuator punctuators.CloseBracket ∷ punctuator punctuators.Semicolon ∷ other, has_it punctuators.OpenBracket _, (types.Int, (0, refl)), has_it punctuators.CloseBracket _)
 
 array_has : (base : Base) (pointers at n : ℕ) (text : List ℕ) → at ≤ 1048576 → HasLength base pointers at n text array
 array_has base pointers at n text w = record {
   length = Some (length_of 0 0);
   initialiser = None;
   others = [];
-  is = λ other. (sign signs.Semicolon ∷ other, sign signs.Semicolon ∷ other, is_array other, refl, has_it signs.Semicolon other);
+  is = λ other. (punctuator punctuators.Semicolon ∷ other, punctuator punctuators.Semicolon ∷ other, is_array other, refl, has_it punctuators.Semicolon other);
   low = λ five. no_elements base pointers at w;
 }
 
-no_scalar : (base : Base) (pointers at n : ℕ) (text : List ℕ) (ts : List Token) → Lacks signs.OpenBracket ts → (Stops 1 ts → ⊥) → NoLength base pointers at n text ts
+no_scalar : (base : Base) (pointers at n : ℕ) (text : List ℕ) (ts : List Token) → Lacks punctuators.OpenBracket ts → (Stops 1 ts → ⊥) → NoLength base pointers at n text ts
 no_scalar base pointers at n text ts l z None i gs end h low = z (subst (λ (x : List Token). Stops 1 x) (sym h.2) (stops i gs h.0 h.1 end h.3 h.4))
 no_scalar base pointers at n text ts l z (Some m) i gs end h low = l h.2.0 h.2.2
 
-pub not_scalar : (text : List ℕ) (base : Base) (pointers at : ℕ) (ts : List Token) → at ≤ 1048576 → Lacks signs.OpenBracket ts → (Stops 1 ts → ⊥) → Failed 0 (place text ts) (NoLength base pointers at) (HasLength base pointers at) text ts
+pub not_scalar : (text : List ℕ) (base : Base) (pointers at : ℕ) (ts : List Token) → at ≤ 1048576 → Lacks punctuators.OpenBracket ts → (Stops 1 ts → ⊥) → Failed 0 (place text ts) (NoLength base pointers at) (HasLength base pointers at) text ts
 not_scalar text base pointers at ts w l z =
     missing (NoLength base pointers at) (HasLength base pointers at) text ts [] ts refl
-    (λ text' other s. no_scalar base pointers at 0 text' other (firsts.no_sign signs.OpenBracket ts other s l) (refusing_goes_on 1 ts other s z))
+    (λ text' other s. no_scalar base pointers at 0 text' other (firsts.no_punctuator punctuators.OpenBracket ts other s l) (refusing_goes_on 1 ts other s z))
     (λ text'. record { more = array; has = array_has base pointers at 6 text' w })
 
-scalar_far : (base : Base) (pointers at n : ℕ) (text : List ℕ) (ts : List Token) → 5 ≤ n → Lacks signs.OpenBracket ts → 1048576 < end_of base pointers None at → NoLength base pointers at n text ts
+scalar_far : (base : Base) (pointers at n : ℕ) (text : List ℕ) (ts : List Token) → 5 ≤ n → Lacks punctuators.OpenBracket ts → 1048576 < end_of base pointers None at → NoLength base pointers at n text ts
 scalar_far base pointers at n text ts five l f None i gs end h low = let a = low five in absurd (omega arith)
 scalar_far base pointers at n text ts five l f (Some m) i gs end h low = l h.2.0 h.2.2
 
-sign_goes_on : (base : Base) (pointers at k : ℕ) (text : List ℕ) (ts : List Token) → 5 ≡ suc k → EndsScalar ts → Onward (HasLength base pointers at) k text [] ts
-sign_goes_on base pointers at k text ts e (rest, inl h) =
-    let t = token (kinds.Sign signs.Semicolon) h.0 h.1.0 in record {
+punctuator_goes_on : (base : Base) (pointers at k : ℕ) (text : List ℕ) (ts : List Token) → 5 ≡ suc k → EndsScalar ts → Onward (HasLength base pointers at) k text [] ts
+punctuator_goes_on base pointers at k text ts e (rest, inl h) =
+    let t = token (kinds.Punctuator punctuators.Semicolon) h.0 h.1.0 in record {
       token = t;
       rest = rest;
       more = [];
       is = h.1.1;
       has = record { length = None; initialiser = None; others = []; is = λ other. (t ∷ other, t ∷ other, refl, refl, (h.0, (h.1.0, refl))); low = λ five. absurd (omega arith) };
     }
-sign_goes_on base pointers at k text ts e (rest, inr (inl h)) =
-    let t = token (kinds.Sign signs.Comma) h.0 h.1.0 in record {
+punctuator_goes_on base pointers at k text ts e (rest, inr (inl h)) =
+    let t = token (kinds.Punctuator punctuators.Comma) h.0 h.1.0 in record {
       token = t;
       rest = rest;
-      more = name ∷ sign signs.Semicolon ∷ [];
+      more = name ∷ punctuator punctuators.Semicolon ∷ [];
       is = h.1.1;
       has = record {
         length = None;
         initialiser = None;
         others = record { pointers = 0; name = named; length = None; initialiser = None } ∷ [];
         is = λ other.
-            let s = sign signs.Semicolon ∷ other in
+            let s = punctuator punctuators.Semicolon ∷ other in
             let m = name ∷ s in
-            (t ∷ m, t ∷ m, refl, refl, (m, s, (h.0, (h.1.0, refl)), (m, s, s, refl, refl, refl, refl), has_it signs.Semicolon other));
+            (t ∷ m, t ∷ m, refl, refl, (m, s, (h.0, (h.1.0, refl)), (m, s, s, refl, refl, refl, refl), has_it punctuators.Semicolon other));
         low = λ five. absurd (omega arith);
       };
     }
-sign_goes_on base pointers at k text ts e (rest, inr (inr h)) =
-    let t = token (kinds.Sign signs.Assign) h.0 h.1.0 in record {
+punctuator_goes_on base pointers at k text ts e (rest, inr (inr h)) =
+    let t = token (kinds.Punctuator punctuators.Assign) h.0 h.1.0 in record {
       token = t;
       rest = rest;
-      more = digit 1 ∷ sign signs.Semicolon ∷ [];
+      more = digit 1 ∷ punctuator punctuators.Semicolon ∷ [];
       is = h.1.1;
       has = record {
         length = None;
         initialiser = Some (Single (record { at = 0; negative = false; literal = literals.Integer 1 types.Int }));
         others = [];
         is = λ other.
-            let s = sign signs.Semicolon ∷ other in
-            (t ∷ digit 1 ∷ s, s, refl, (digit 1 ∷ s, (h.0, (h.1.0, refl)), (0, refl)), has_it signs.Semicolon other);
+            let s = punctuator punctuators.Semicolon ∷ other in
+            (t ∷ digit 1 ∷ s, s, refl, (digit 1 ∷ s, (h.0, (h.1.0, refl)), (0, refl)), has_it punctuators.Semicolon other);
         low = λ five. absurd (omega arith);
       };
     }
 
-scalar_too_far : (text : List ℕ) (base : Base) (pointers at : ℕ) (ts : List Token) → at ≤ 1048576 → Lacks signs.OpenBracket ts → 1048576 < end_of base pointers None at → EndsScalar ts → Failed 5 (place text ts) (NoLength base pointers at) (HasLength base pointers at) text ts
+scalar_too_far : (text : List ℕ) (base : Base) (pointers at : ℕ) (ts : List Token) → at ≤ 1048576 → Lacks punctuators.OpenBracket ts → 1048576 < end_of base pointers None at → EndsScalar ts → Failed 5 (place text ts) (NoLength base pointers at) (HasLength base pointers at) text ts
 scalar_too_far text base pointers at ts w l f g = record {
   front = [];
   fault = ts;
   split = refl;
-  stands = refl;
-  against = λ text' other a s. scalar_far base pointers at 5 text' other (omega arith) (firsts.no_sign signs.OpenBracket ts other s l) f;
+  located = refl;
+  against = λ text' other a s. scalar_far base pointers at 5 text' other (omega arith) (firsts.no_punctuator punctuators.OpenBracket ts other s l) f;
   able = λ text' a k. record { more = array; has = array_has base pointers at 6 text' w };
-  further = λ text' k a s e. sign_goes_on base pointers at k text' ts e g;
+  further = λ text' k a s e. punctuator_goes_on base pointers at k text' ts e g;
 }
 
-pub no_ends : (ts : List Token) → Lacks signs.Semicolon ts → Lacks signs.Comma ts → Lacks signs.Assign ts → EndsScalar ts → ⊥
+pub no_ends : (ts : List Token) → Lacks punctuators.Semicolon ts → Lacks punctuators.Comma ts → Lacks punctuators.Assign ts → EndsScalar ts → ⊥
 no_ends ts a b c (rest, inl h) = a rest h
 no_ends ts a b c (rest, inr (inl h)) = b rest h
 no_ends ts a b c (rest, inr (inr h)) = c rest h
 
 ends_first : (ts other : List Token) → SameFirst ts other → (EndsScalar ts → ⊥) → EndsScalar other → ⊥
 ends_first ts other s n =
-    no_ends other (firsts.no_sign signs.Semicolon ts other s (λ end h. n (end, inl h))) (firsts.no_sign signs.Comma ts other s (λ end h. n (end, inr (inl h)))) (firsts.no_sign signs.Assign ts other s (λ end h. n (end, inr (inr h))))
+    no_ends other (firsts.no_punctuator punctuators.Semicolon ts other s (λ end h. n (end, inl h))) (firsts.no_punctuator punctuators.Comma ts other s (λ end h. n (end, inr (inl h)))) (firsts.no_punctuator punctuators.Assign ts other s (λ end h. n (end, inr (inr h))))
 
 at_end : (ts a : List Token) → ts ≡ a → EndsScalar a → EndsScalar ts
 at_end ts a p h = subst EndsScalar (sym p) h
 
-no_sign : (base : Base) (pointers at n : ℕ) (text : List ℕ) (ts : List Token) → Lacks signs.OpenBracket ts → (EndsScalar ts → ⊥) → NoLength base pointers at n text ts
-no_sign base pointers at n text ts l z (Some m) i gs end h low = l h.2.0 h.2.2
-no_sign base pointers at n text ts l z None None [] end h low = z (at_end ts h.1 (h.2 ∙ h.3) (end, inl h.4))
-no_sign base pointers at n text ts l z None None (g ∷ gs) end h low = z (at_end ts h.1 (h.2 ∙ h.3) (h.4.0, inr (inl h.4.2)))
-no_sign base pointers at n text ts l z None (Some (Single c)) gs end h low = z (at_end ts h.0 h.2 (h.3.0, inr (inr h.3.1)))
-no_sign base pointers at n text ts l z None (Some (Several to cs)) gs end h low = z (at_end ts h.0 h.2 (h.3.0, inr (inr h.3.2)))
+no_punctuator : (base : Base) (pointers at n : ℕ) (text : List ℕ) (ts : List Token) → Lacks punctuators.OpenBracket ts → (EndsScalar ts → ⊥) → NoLength base pointers at n text ts
+no_punctuator base pointers at n text ts l z (Some m) i gs end h low = l h.2.0 h.2.2
+no_punctuator base pointers at n text ts l z None None [] end h low = z (at_end ts h.1 (h.2 ∙ h.3) (end, inl h.4))
+no_punctuator base pointers at n text ts l z None None (g ∷ gs) end h low = z (at_end ts h.1 (h.2 ∙ h.3) (h.4.0, inr (inl h.4.2)))
+no_punctuator base pointers at n text ts l z None (Some (Single c)) gs end h low = z (at_end ts h.0 h.2 (h.3.0, inr (inr h.3.1)))
+no_punctuator base pointers at n text ts l z None (Some (Several to cs)) gs end h low = z (at_end ts h.0 h.2 (h.3.0, inr (inr h.3.2)))
 
-scalar_ends : (text : List ℕ) (base : Base) (pointers at : ℕ) (ts : List Token) → at ≤ 1048576 → Lacks signs.OpenBracket ts → (EndsScalar ts → ⊥) → Failed 0 (place text ts) (NoLength base pointers at) (HasLength base pointers at) text ts
+scalar_ends : (text : List ℕ) (base : Base) (pointers at : ℕ) (ts : List Token) → at ≤ 1048576 → Lacks punctuators.OpenBracket ts → (EndsScalar ts → ⊥) → Failed 0 (place text ts) (NoLength base pointers at) (HasLength base pointers at) text ts
 scalar_ends text base pointers at ts w l z =
     missing (NoLength base pointers at) (HasLength base pointers at) text ts [] ts refl
-    (λ text' other s. no_sign base pointers at 0 text' other (firsts.no_sign signs.OpenBracket ts other s l) (ends_first ts other s z))
+    (λ text' other s. no_punctuator base pointers at 0 text' other (firsts.no_punctuator punctuators.OpenBracket ts other s l) (ends_first ts other s z))
     (λ text'. record { more = array; has = array_has base pointers at 6 text' w })
 
-pub scalar : (e : ParseErr) (text : List ℕ) (base : Base) (pointers at : ℕ) (ts : List Token) → at ≤ 1048576 → Lacks signs.OpenBracket ts → 1048576 < end_of base pointers None at
+pub scalar : (e : ParseErr) (text : List ℕ) (base : Base) (pointers at : ℕ) (ts : List Token) → at ≤ 1048576 → Lacks punctuators.OpenBracket ts → 1048576 < end_of base pointers None at
     → ((e ≡ TooMany (place text ts) Globals) × EndsScalar ts) ⊎ ((e ≡ Unexpected (place text ts)) × (EndsScalar ts → ⊥))
     → Placed e (NoLength base pointers at) (HasLength base pointers at) text ts
 scalar e text base pointers at ts w l f (inl h) = subst (λ (x : ParseErr). Placed x (NoLength base pointers at) (HasLength base pointers at) text ts) (sym h.0) (scalar_too_far text base pointers at ts w l f h.1)
@@ -261,47 +261,47 @@ scalar e text base pointers at ts w l f (inr h) = subst (λ (x : ParseErr). Plac
 
 -- ---- one global
 
-not_named : (base : Base) (at k n : ℕ) (text : List ℕ) (ts d : List Token) → AreStars n ts d → NoStar d → NoName d → NoGlobal base at k text ts
+not_named : (base : Base) (at k n : ℕ) (text : List ℕ) (ts d : List Token) → AreStars n ts d → NoStar d → NoIdentifier d → NoGlobal base at k text ts
 not_named base at k n text ts d s z none g gs end h low =
     let p = stars_once n g.pointers ts ts d h.1.0 refl z (name_star g.name h.1.0 h.1.1 h.1.4) s h.1.3 in
-    none g.name h.1.1 (subst (λ (x : List Token). IsName g.name x h.1.1) (sym p.1) h.1.4)
+    none g.name h.1.1 (subst (λ (x : List Token). IsIdentifier g.name x h.1.1) (sym p.1) h.1.4)
 
-pub no_name : (text : List ℕ) (base : Base) (at n : ℕ) (ts d : List Token) → at ≤ 1048576 → AreStars n ts d → NoStar d → NoName d → Failed 0 (place text d) (NoGlobal base at) (HasGlobals base at) text ts
+pub no_name : (text : List ℕ) (base : Base) (at n : ℕ) (ts d : List Token) → at ≤ 1048576 → AreStars n ts d → NoStar d → NoIdentifier d → Failed 0 (place text d) (NoGlobal base at) (HasGlobals base at) text ts
 no_name text base at n ts d w s z none =
     let m = moves.stars n text ts d s in
     let again : (other : List Token) → AreStars n (m.front ++ other) other = λ other. m.again text other (alike_same text ts) in
     let g : Global = record { pointers = n; name = named; length = Some (length_of 0 0); initialiser = None } in
     missing (NoGlobal base at) (HasGlobals base at) text ts m.front d m.split
-    (λ text' other f. not_named base at 0 n text' (m.front ++ other) other (again other) (firsts.no_sign signs.Star d other f z) (firsts.no_name d other f none))
+    (λ text' other f. not_named base at 0 n text' (m.front ++ other) other (again other) (firsts.no_punctuator punctuators.Star d other f z) (firsts.no_name d other f none))
     (λ text'. record {
       more = name ∷ array;
       has = record {
         trees = g ∷ [];
         are = λ other.
-            let rest = sign signs.Semicolon ∷ other in
-            behind (λ x. AreGlobals (g ∷ []) x other) m.front (name ∷ array) other
-            (rest, (name ∷ (array ++ other), array ++ other, rest, again (name ∷ (array ++ other)), refl, is_array other, refl), has_it signs.Semicolon other);
+            let rest = punctuator punctuators.Semicolon ∷ other in
+            following (λ x. AreGlobals (g ∷ []) x other) m.front (name ∷ array) other
+            (rest, (name ∷ (array ++ other), array ++ other, rest, again (name ∷ (array ++ other)), refl, is_array other, refl), has_it punctuators.Semicolon other);
         low = λ five. no_elements base n at w;
       };
     })
 
-no_length : (base : Base) (at k n : ℕ) (text : List ℕ) (called : Name) (ts d b : List Token) → AreStars n ts d → NoStar d → IsName called d b → NoLength base n at k text b → NoGlobal base at k text ts
+no_length : (base : Base) (at k n : ℕ) (text : List ℕ) (called : Identifier) (ts d b : List Token) → AreStars n ts d → NoStar d → IsIdentifier called d b → NoLength base n at k text b → NoGlobal base at k text ts
 no_length base at k n text called ts d b s z m none g gs end h low =
     let p = stars_once n g.pointers ts ts d h.1.0 refl z (name_star g.name h.1.0 h.1.1 h.1.4) s h.1.3 in
     let q = name_same called g.name d h.1.0 b h.1.1 p.1 m h.1.4 in
     none g.length g.initialiser gs end (h.1.2, h.0, subst (λ (x : List Token). IsLength g.length x h.1.2) (sym q.1) h.1.5, h.1.6, h.2) (λ five. subst (λ (x : ℕ). end_of base x g.length at ≤ 1048576) (sym p.0) (low five))
 
-no_star : (called : Name) (other : List Token) → NoStar (token kinds.Name called.start called.end ∷ other)
-no_star called other = name_star called (token kinds.Name called.start called.end ∷ other) other refl
+no_star : (called : Identifier) (other : List Token) → NoStar (token kinds.Identifier called.start called.end ∷ other)
+no_star called other = name_star called (token kinds.Identifier called.start called.end ∷ other) other refl
 
-pub in_length : (text : List ℕ) (base : Base) (at n : ℕ) (called : Name) (ts d b : List Token) → AreStars n ts d → IsName called d b → Wraps (NoLength base n at) (HasLength base n at) (NoGlobal base at) (HasGlobals base at) text b ts
+pub in_length : (text : List ℕ) (base : Base) (at n : ℕ) (called : Identifier) (ts d b : List Token) → AreStars n ts d → IsIdentifier called d b → Wraps (NoLength base n at) (HasLength base n at) (NoGlobal base at) (HasGlobals base at) text b ts
 in_length text base at n called ts d b s e =
     let m = moves.stars n text ts d s in
     let again : (other : List Token) → AreStars n (m.front ++ other) other = λ other. m.again text other (alike_same text ts) in
-    let t = token kinds.Name called.start called.end in record {
+    let t = token kinds.Identifier called.start called.end in record {
       before = m.front ++ t ∷ [];
       split = m.split ∙ ap (λ (x : List Token). m.front ++ x) e ∙ sym (append_append m.front (t ∷ []) b);
-      no = λ k text' other a f x. behind (λ z. NoGlobal base at k text' z) m.front (t ∷ []) other (no_length base at k n text' called (m.front ++ t ∷ other) (t ∷ other) other (again (t ∷ other)) (no_star called other) refl x);
+      no = λ k text' other a f x. following (λ z. NoGlobal base at k text' z) m.front (t ∷ []) other (no_length base at k n text' called (m.front ++ t ∷ other) (t ∷ other) other (again (t ∷ other)) (no_star called other) refl x);
       has = λ k text' inner a f h.
           let g : Global = record { pointers = n; name = called; length = h.length; initialiser = h.initialiser } in record {
             more = [];
@@ -309,16 +309,16 @@ in_length text base at n called ts d b s e =
               trees = g ∷ h.others;
               are = λ other.
                   let q = h.is other in
-                  behind (λ z. AreGlobals (g ∷ h.others) z other) ((m.front ++ t ∷ []) ++ inner) [] other
-                  (behind (λ z. AreGlobals (g ∷ h.others) z other) (m.front ++ t ∷ []) inner other
-                  (behind (λ z. AreGlobals (g ∷ h.others) z other) m.front (t ∷ []) (inner ++ other)
+                  following (λ z. AreGlobals (g ∷ h.others) z other) ((m.front ++ t ∷ []) ++ inner) [] other
+                  (following (λ z. AreGlobals (g ∷ h.others) z other) (m.front ++ t ∷ []) inner other
+                  (following (λ z. AreGlobals (g ∷ h.others) z other) m.front (t ∷ []) (inner ++ other)
                   (q.1, (t ∷ (inner ++ other), inner ++ other, q.0, again (t ∷ (inner ++ other)), refl, q.2, q.3), q.4)));
               low = h.low;
             };
           };
     }
 
-no_initialiser : (base : Base) (at k n : ℕ) (text : List ℕ) (called : Name) (l : Option Length) (ts d b c : List Token) → AreStars n ts d → NoStar d → IsName called d b → IsLength l b c → Stops 1 c → NoInitialiser k text c → NoGlobal base at k text ts
+no_initialiser : (base : Base) (at k n : ℕ) (text : List ℕ) (called : Identifier) (l : Option Length) (ts d b c : List Token) → AreStars n ts d → NoStar d → IsIdentifier called d b → IsLength l b c → Stops 1 c → NoInitialiser k text c → NoGlobal base at k text ts
 no_initialiser base at k n text called l ts d b c s z m e t none g gs end h low =
     let st = globals_stop gs h.0 end h.2 in
     let p = stars_once n g.pointers ts ts d h.1.0 refl z (name_star g.name h.1.0 h.1.1 h.1.4) s h.1.3 in
@@ -326,28 +326,28 @@ no_initialiser base at k n text called l ts d b c s z m e t none g gs end h low 
     let r = length_once l g.length b h.1.1 c h.1.2 q.1 t (initialiser_stops g.initialiser h.1.2 h.0 st h.1.6) e h.1.5 in
     none g.initialiser h.0 (subst (λ (x : List Token). IsInitialiser g.initialiser x h.0) (sym r.1) h.1.6) st
 
-pub in_initialiser : (text : List ℕ) (base : Base) (at n : ℕ) (called : Name) (l : Option Length) (ts d b c : List Token) → AreStars n ts d → IsName called d b → IsLength l b c → Stops 1 c → end_of base n l at ≤ 1048576 → Wraps NoInitialiser HasInitialiser (NoGlobal base at) (HasGlobals base at) text c ts
+pub in_initialiser : (text : List ℕ) (base : Base) (at n : ℕ) (called : Identifier) (l : Option Length) (ts d b c : List Token) → AreStars n ts d → IsIdentifier called d b → IsLength l b c → Stops 1 c → end_of base n l at ≤ 1048576 → Wraps NoInitialiser HasInitialiser (NoGlobal base at) (HasGlobals base at) text c ts
 in_initialiser text base at n called l ts d b c s e i stop w =
     let m = moves.stars n text ts d s in
     let again : (other : List Token) → AreStars n (m.front ++ other) other = λ other. m.again text other (alike_same text ts) in
     let o = programs.length l text b c i in
     let length_again : (other : List Token) → IsLength l (o.front ++ other) other = λ other. o.again text other (alike_same text b) in
-    let t = token kinds.Name called.start called.end in record {
+    let t = token kinds.Identifier called.start called.end in record {
       before = m.front ++ t ∷ o.front;
       split = m.split ∙ ap (λ (x : List Token). m.front ++ x) (e ∙ ap (λ (x : List Token). t ∷ x) o.split) ∙ sym (append_append m.front (t ∷ o.front) c);
-      no = λ k text' other a f x. behind (λ z. NoGlobal base at k text' z) m.front (t ∷ o.front) other
+      no = λ k text' other a f x. following (λ z. NoGlobal base at k text' z) m.front (t ∷ o.front) other
           (no_initialiser base at k n text' called l (m.front ++ t ∷ (o.front ++ other)) (t ∷ (o.front ++ other)) (o.front ++ other) other (again (t ∷ (o.front ++ other))) (no_star called (o.front ++ other)) refl (length_again other) (firsts.stops 1 c other f stop) x);
       has = λ k text' inner a f h.
           let g : Global = record { pointers = n; name = called; length = l; initialiser = h.tree } in record {
-            more = sign signs.Semicolon ∷ [];
+            more = punctuator punctuators.Semicolon ∷ [];
             has = record {
               trees = g ∷ [];
               are = λ other.
-                  let rest = sign signs.Semicolon ∷ other in
-                  behind (λ z. AreGlobals (g ∷ []) z other) ((m.front ++ t ∷ o.front) ++ inner) (sign signs.Semicolon ∷ []) other
-                  (behind (λ z. AreGlobals (g ∷ []) z other) (m.front ++ t ∷ o.front) inner rest
-                  (behind (λ z. AreGlobals (g ∷ []) z other) m.front (t ∷ o.front) (inner ++ rest)
-                  (rest, (t ∷ (o.front ++ (inner ++ rest)), o.front ++ (inner ++ rest), inner ++ rest, again (t ∷ (o.front ++ (inner ++ rest))), refl, length_again (inner ++ rest), h.is rest), has_it signs.Semicolon other)));
+                  let rest = punctuator punctuators.Semicolon ∷ other in
+                  following (λ z. AreGlobals (g ∷ []) z other) ((m.front ++ t ∷ o.front) ++ inner) (punctuator punctuators.Semicolon ∷ []) other
+                  (following (λ z. AreGlobals (g ∷ []) z other) (m.front ++ t ∷ o.front) inner rest
+                  (following (λ z. AreGlobals (g ∷ []) z other) m.front (t ∷ o.front) (inner ++ rest)
+                  (rest, (t ∷ (o.front ++ (inner ++ rest)), o.front ++ (inner ++ rest), inner ++ rest, again (t ∷ (o.front ++ (inner ++ rest))), refl, length_again (inner ++ rest), h.is rest), has_it punctuators.Semicolon other)));
               low = λ five. w;
             };
           };

@@ -6,7 +6,7 @@ pub mod Declarators
 pub mod Declarations
 pub mod Parameters
 pub mod Bodies
-pub mod Externals
+pub mod ExternalDeclarations
 pub mod Nodes
 pub mod Beyond
 pub mod Programs

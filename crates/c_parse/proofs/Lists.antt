@@ -4,7 +4,7 @@ use Rattle.c_lex.specs.declared.token.Token.{Token}
 use Rattle.c_syntax.specs.Faults.{SameFirst}
 use Rattle.c_syntax.proofs.Failing.{append_append, first_behind}
 
--- what may stand behind elements of a list, and whole lists
+-- what may stand after elements of a list, and whole lists
 abbrev pub Listed : Type 0 → Type 1
 Listed A = List A → List Token → List Token → Type 0
 
@@ -12,11 +12,11 @@ Listed A = List A → List Token → List Token → Type 0
 abbrev pub Forward : {A : Type 0} → Listed A → Listed A → List Token → List A → List Token → Type 0
 Forward {A} Are More ts found rest = (xs : List A) (end : List Token) → More xs rest end → Are (found ++ xs) ts end
 
--- A list of all tokens begins with what was read, and goes on with elements at the rest.
+-- A list of all tokens begins with what was read, and continues with elements at the rest.
 abbrev pub Back : {A : Type 0} → Listed A → Listed A → List Token → List A → List Token → Type 0
 Back {A} Are More ts found rest = (xs : List A) (end : List Token) → Are xs ts end → (ys : List A) × (xs ≡ found ++ ys) × More ys rest end
 
--- Elements were read up to the rest: whatever stands in its place, and back where that begins with the same token.
+-- Elements were read up to the rest: whatever is in its place, and back where that begins with the same token.
 pub record Begun {A : Type 0} (Are More : Listed A) (ts : List Token) (found : List A) (rest : List Token) : Type 0 where
   pub front : List Token
   pub split : ts ≡ front ++ rest
@@ -28,11 +28,11 @@ snoc [] x ys = refl
 snoc {A} (z ∷ xs) x ys = ap (λ (l : List A). z ∷ l) (snoc xs x ys)
 
 -- one element more
-pub goes_on : {A : Type 0} (Are More : Listed A) (ts rest mid after : List Token) (found : List A) (x : A) → rest ≡ mid ++ after
+pub continues : {A : Type 0} (Are More : Listed A) (ts rest mid after : List Token) (found : List A) (x : A) → rest ≡ mid ++ after
     → ((other : List Token) (xs : List A) (end : List Token) → More xs other end → More (x ∷ xs) (mid ++ other) end)
     → ((other : List Token) → SameFirst after other → (xs : List A) (end : List Token) → More xs (mid ++ other) end → (ys : List A) × (xs ≡ x ∷ ys) × More ys other end)
     → Begun Are More ts found rest → Begun Are More ts (found ++ x ∷ []) after
-goes_on {A} Are More ts rest mid after found x p f b d = record {
+continues {A} Are More ts rest mid after found x p f b d = record {
   front = d.front ++ mid;
   split = d.split ∙ ap (λ (z : List Token). d.front ++ z) p ∙ sym (append_append d.front mid after);
   forward = λ other xs end m.

@@ -5,22 +5,22 @@ use Rattle.c_syntax.specs.declared.declaration.Constant.{Constant as Constant'}
 use Rattle.c_syntax.specs.declared.declaration.Parameter.{Parameter}
 use Rattle.c_syntax.specs.declared.expression.Base.{Base}
 use Rattle.c_syntax.specs.Expression.{Expression, Constant, Variable, Information, Call, Parentheses, Index, Postfix, Prefix, Unary, Cast, Binary, Conditional, Assign, Comma, Arguments, Done, Next}
-use Rattle.c_syntax.specs.Expressions.{Spells, SpellsArguments, SpellsMore}
-use Rattle.c_syntax.specs.Program.{Initialiser, Single, Several, Global, External, Globals, Function}
+use Rattle.c_syntax.specs.Expressions.{SpellsExpression, SpellsArguments, SpellsMoreArguments}
+use Rattle.c_syntax.specs.Program.{Initialiser, Single, Several, Global, ExternalDeclaration, Globals, Function}
 use Rattle.c_syntax.specs.Programs as programs
-use Rattle.c_syntax.specs.Programs.{AreMoreConstants, AreConstants, IsGlobal, AreMoreGlobals, AreGlobals, AreMoreParameters, AreParameters, IsExternal, IsProgram}
-use Rattle.c_syntax.specs.Statement.{Local, First, Declaring, Evaluating, Statement, Declare, Block, Evaluate, If, IfElse, While, DoWhile, For, Return, Break, Continue, Leave, TryExcept, TryFinally, Statements, Empty, Then}
-use Rattle.c_syntax.specs.Statements.{IsInitialiser, IsLocal, AreMoreLocals, AreLocals, IsDeclaration, IsOptional, IsCondition, IsFirst, IsItem, AreItems}
+use Rattle.c_syntax.specs.Programs.{AreMoreConstants, AreConstants, IsGlobal, AreMoreGlobals, AreGlobals, AreMoreParameters, AreParameters, IsExternalDeclaration, IsProgram}
+use Rattle.c_syntax.specs.Statement.{Local, ForInitialiser, Declaring, Evaluating, Statement, Declare, Block, Evaluate, If, IfElse, While, DoWhile, For, Return, Break, Continue, Leave, TryExcept, TryFinally, Statements, Empty, Then}
+use Rattle.c_syntax.specs.Statements.{IsInitialiser, IsLocal, AreMoreLocals, AreLocals, IsDeclaration, IsOptional, IsCondition, IsForInitialiser, IsBlockItem, AreBlockItems}
 use Rattle.c_syntax.proofs.Shorter as shorter
 use Rattle.c_syntax.proofs.Shorter.{by_kind, base, stars}
-use Rattle.c_parse.specs.Nodes.{nodes, nodes_of_arguments, nodes_of_optional, nodes_of_locals, nodes_of_first, nodes_of_statement, nodes_of_statements, nodes_of_initialiser, nodes_of_globals, nodes_of_external, nodes_of}
+use Rattle.c_parse.specs.Nodes.{nodes, nodes_of_arguments, nodes_of_optional, nodes_of_locals, nodes_of_for_initialiser, nodes_of_statement, nodes_of_statements, nodes_of_initialiser, nodes_of_globals, nodes_of_external_declaration, nodes_of}
 use Rattle.c_parse.proofs.Constants.{constant_shorter}
 use Rattle.c_parse.proofs.Declarators.{length_shorter}
 
 -- ---- expressions
 
 mutual
-  expression : (text : List ℕ) (e : Expression) (ts rest : List Token) → Spells text e ts rest → nodes e + length rest ≤ length ts
+  expression : (text : List ℕ) (e : Expression) (ts rest : List Token) → SpellsExpression text e ts rest → nodes e + length rest ≤ length ts
   expression text (Constant at literal) ts rest h = let a = by_kind _ at ts rest h in omega arith
   expression text (Variable name) ts rest h = let a = ap length h in omega arith
   expression text (Information at f) ts rest h = let a = shorter.expression text (Information at f) ts rest h in omega arith
@@ -43,7 +43,7 @@ mutual
   arguments text Done ts rest h = let a = ap length h.1.1 in omega arith
   arguments text (Next e es) ts rest h = let a = expression text e ts h.0 h.2 in let b = more text es h.0 rest h.3 in omega arith
 
-  more : (text : List ℕ) (es : Arguments) (ts rest : List Token) → SpellsMore text es ts rest → nodes_of_arguments es + length rest ≤ length ts
+  more : (text : List ℕ) (es : Arguments) (ts rest : List Token) → SpellsMoreArguments text es ts rest → nodes_of_arguments es + length rest ≤ length ts
   more text Done ts rest h = let a = ap length h.1.1 in omega arith
   more text (Next e es) ts rest h = let a = ap length h.2.1.1 in let b = expression text e h.0 h.1 h.4 in let c = more text es h.1 rest h.5 in omega arith
 
@@ -74,12 +74,12 @@ locals text (l ∷ ls) ts rest h = let b = local text l ts h.0 h.1 in let c = mo
 declaration : (text : List ℕ) (b : Base) (ls : List Local) (ts rest : List Token) → IsDeclaration text b ls ts rest → nodes_of_locals ls + length rest < length ts
 declaration text b ls ts rest h = let a = base b ts h.0 h.1 in let c = locals text ls h.0 rest h.2 in omega arith
 
-first : (text : List ℕ) (f : First) (ts rest : List Token) → IsFirst text f ts rest → nodes_of_first f + length rest < length ts
+first : (text : List ℕ) (f : ForInitialiser) (ts rest : List Token) → IsForInitialiser text f ts rest → nodes_of_for_initialiser f + length rest < length ts
 first text (Declaring b ls) ts rest h = declaration text b ls ts rest h
 first text (Evaluating e) ts rest h = let a = optional text e ts h.0 h.1 in let b = ap length h.2.1.1 in omega arith
 
 mutual
-  item : (text : List ℕ) (s : Statement) (ts rest : List Token) → IsItem text s ts rest → nodes_of_statement s + length rest ≤ length ts
+  item : (text : List ℕ) (s : Statement) (ts rest : List Token) → IsBlockItem text s ts rest → nodes_of_statement s + length rest ≤ length ts
   item text (Declare b ls) ts rest h = let a = declaration text b ls ts rest h in omega arith
   item text (Block ss) ts rest h = let a = ap length h.1.1.1 in let b = items text ss h.0 rest h.2 in omega arith
   item text (Evaluate e) ts rest h = let a = optional text e ts h.0 h.1 in let b = ap length h.2.1.1 in omega arith
@@ -101,7 +101,7 @@ mutual
   item text (TryFinally body at last) ts rest h =
       let a = ap length h.5.1.1 in let b = ap length h.6.1.1 in let c = items text body h.1 h.2 h.7 in let d = ap length h.8.1 in let g = ap length h.9.1.1 in let i = items text last h.4 rest h.10 in omega arith
 
-  items : (text : List ℕ) (ss : Statements) (ts rest : List Token) → AreItems text ss ts rest → nodes_of_statements ss + length rest ≤ length ts
+  items : (text : List ℕ) (ss : Statements) (ts rest : List Token) → AreBlockItems text ss ts rest → nodes_of_statements ss + length rest ≤ length ts
   items text Empty ts rest h = let a = ap length h.1.1 in omega arith
   items text (Then s ss) ts rest h = let a = item text s ts h.0 h.1 in let b = items text ss h.0 rest h.2 in omega arith
 
@@ -147,12 +147,12 @@ parameters (p ∷ ps) ts rest h =
 
 -- ---- programs
 
-external : (text : List ℕ) (x : External) (ts rest : List Token) → IsExternal text x ts rest → nodes_of_external x + length rest ≤ length ts
-external text (Globals b gs) ts rest h = let a = base b ts h.0 h.1 in let c = globals gs h.0 rest h.2 in omega arith
-external text (Function t name ps body) ts rest h =
+external_declaration : (text : List ℕ) (x : ExternalDeclaration) (ts rest : List Token) → IsExternalDeclaration text x ts rest → nodes_of_external_declaration x + length rest ≤ length ts
+external_declaration text (Globals b gs) ts rest h = let a = base b ts h.0 h.1 in let c = globals gs h.0 rest h.2 in omega arith
+external_declaration text (Function t name ps body) ts rest h =
     let a = base t.base ts h.5.0 h.5.1 in let b = stars t.pointers h.5.0 h.0 h.5.2 in let c = ap length h.6 in let d = ap length h.7.1.1 in
     let e = parameters ps h.2 h.3 h.8 in let f = ap length h.9.1.1 in let g = items text body h.4 rest h.10 in omega arith
 
-pub program : (text : List ℕ) (xs : List External) (ts : List Token) → IsProgram text xs ts → nodes_of xs ≤ length ts
+pub program : (text : List ℕ) (xs : List ExternalDeclaration) (ts : List Token) → IsProgram text xs ts → nodes_of xs ≤ length ts
 program text [] ts h = omega arith
-program text (x ∷ xs) ts h = let a = external text x ts h.0 h.1 in let b = program text xs h.0 h.2 in omega arith
+program text (x ∷ xs) ts h = let a = external_declaration text x ts h.0 h.1 in let b = program text xs h.0 h.2 in omega arith

@@ -35,7 +35,7 @@ too_far start size count p s h =
     let b : size * ((1048576 - start) / size + 1) ≤ size * count = mul-le-mul_left size (omega arith) in
     omega arith
 
--- globals end where they begin, or behind it
+-- globals end where they begin, or after it
 pub grows : (base : Base) (gs : List Global) (at : ℕ) → at ≤ end_of_globals base gs at
 grows base [] at = omega arith
 grows base (g ∷ gs) at =

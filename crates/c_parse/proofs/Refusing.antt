@@ -1,16 +1,16 @@
 -- What one refusal says of another phrase; tokens that close phrases; and what isn't at the front.
 use Rattle.std.specs.Prelude.{Result, Ok, Err, IfErr}
 use Rattle.std.proofs.Common.{◌≡◌, ℕ, List, ◌∷◌, ◌++◌, refl, sym, subst, arith}
-use Rattle.c_lex.specs.declared.sign.Sign.{Sign}
+use Rattle.c_lex.specs.declared.punctuator.Punctuator.{Punctuator}
 use Rattle.c_lex.specs.declared.token.IntegerType.TheVariants as types
 use Rattle.c_lex.specs.declared.token.Kind.TheVariants as kinds
 use Rattle.c_lex.specs.declared.token.Token.{Token}
 use Rattle.c_syntax.specs.declared.expression.Literal.{Literal}
-use Rattle.c_syntax.specs.declared.expression.Name.{Name}
+use Rattle.c_syntax.specs.declared.expression.Identifier.{Identifier}
 use Rattle.c_syntax.specs.Expressions.{literal_kind, IsInteger}
 use Rattle.c_syntax.specs.Faults.{Family, SameFirst, place, Able, Failed, Wraps}
 use Rattle.c_syntax.specs.Follow.{Stops}
-use Rattle.c_syntax.specs.Tokens.{token, IsKind, IsSign, IsName, HasSign}
+use Rattle.c_syntax.specs.Tokens.{token, IsKind, IsPunctuator, IsIdentifier, HasPunctuator}
 use Rattle.c_syntax.proofs.Failing.{append_append, wrapped}
 use Rattle.c_syntax.proofs.Firsts.{first_back, stops}
 use Rattle.c_parse_expr.specs.declared.refusal.ParseErr.{ParseErr}
@@ -37,7 +37,7 @@ pub refused_so : {A : Type 0} (r : Result A ParseErr) (No Has No' Has' : Family)
 refused_so (Ok x) No Has No' Has' text ts ts' w p = tt
 refused_so (Err e) No Has No' Has' text ts ts' w p = placed_so e No Has No' Has' text ts ts' w p
 
--- no phrase goes on with the first token of the fault
+-- no phrase continues with the first token of the fault
 pub missing : (No Has : Family) (text : List ℕ) (ts front fault : List Token) → ts ≡ front ++ fault
     → ((text' : List ℕ) (other : List Token) → SameFirst fault other → No 0 text' (front ++ other))
     → ((text' : List ℕ) → Able Has 6 text' front)
@@ -46,7 +46,7 @@ missing No Has text ts front fault p none able = record {
   front = front;
   fault = fault;
   split = p;
-  stands = refl;
+  located = refl;
   against = λ text' other a s. none text' other s;
   able = λ text' a k. able text';
   further = λ text' k a s e. absurd (omega arith);
@@ -54,32 +54,32 @@ missing No Has text ts front fault p none able = record {
 
 -- ---- tokens that close phrases
 
-abbrev pub sign : Sign → Token
-sign s = token (kinds.Sign s) 0 0
+abbrev pub punctuator : Punctuator → Token
+punctuator s = token (kinds.Punctuator s) 0 0
 
-abbrev pub named : Name
+abbrev pub named : Identifier
 named = record { start = 0; end = 0 }
 
 abbrev pub name : Token
-name = token kinds.Name 0 0
+name = token kinds.Identifier 0 0
 
 abbrev pub digit : ℕ → Token
 digit n = token (kinds.Integer n types.Int) 0 0
 
-pub has_it : (s : Sign) (other : List Token) → HasSign s (sign s ∷ other) other
+pub has_it : (s : Punctuator) (other : List Token) → HasPunctuator s (punctuator s ∷ other) other
 has_it s other = (0, (0, refl))
 
 -- two tokens, or some and others, before the rest
-pub behind : (P : List Token → Type 0) (xs ys zs : List Token) → P (xs ++ (ys ++ zs)) → P (xs ++ ys ++ zs)
-behind P xs ys zs h = subst P (sym (append_append xs ys zs)) h
+pub following : (P : List Token → Type 0) (xs ys zs : List Token) → P (xs ++ (ys ++ zs)) → P (xs ++ ys ++ zs)
+following P xs ys zs h = subst P (sym (append_append xs ys zs)) h
 
 -- ---- what isn't at the front
 
-abbrev pub Lacks : Sign → List Token → Type 0
-Lacks s ts = (rest : List Token) → HasSign s ts rest → ⊥
+abbrev pub Lacks : Punctuator → List Token → Type 0
+Lacks s ts = (rest : List Token) → HasPunctuator s ts rest → ⊥
 
-abbrev pub LacksAt : Sign → List Token → Type 0
-LacksAt s ts = (at : ℕ) (rest : List Token) → IsSign s at ts rest → ⊥
+abbrev pub LacksAt : Punctuator → List Token → Type 0
+LacksAt s ts = (at : ℕ) (rest : List Token) → IsPunctuator s at ts rest → ⊥
 
 abbrev pub NoLiteral : List Token → Type 0
 NoLiteral ts = (literal : Literal) (at : ℕ) (rest : List Token) → IsKind (literal_kind literal) at ts rest → ⊥
@@ -87,8 +87,8 @@ NoLiteral ts = (literal : Literal) (at : ℕ) (rest : List Token) → IsKind (li
 abbrev pub NoInteger : List Token → Type 0
 NoInteger ts = (value at : ℕ) (rest : List Token) → IsInteger value at ts rest → ⊥
 
-abbrev pub NoName : List Token → Type 0
-NoName ts = (n : Name) (rest : List Token) → IsName n ts rest → ⊥
+abbrev pub NoIdentifier : List Token → Type 0
+NoIdentifier ts = (n : Identifier) (rest : List Token) → IsIdentifier n ts rest → ⊥
 
-pub goes_on : (l : ℕ) (ts other : List Token) → SameFirst ts other → (Stops l ts → ⊥) → Stops l other → ⊥
-goes_on l ts other h n s = n (stops l other ts (first_back ts other h) s)
+pub continues : (l : ℕ) (ts other : List Token) → SameFirst ts other → (Stops l ts → ⊥) → Stops l other → ⊥
+continues l ts other h n s = n (stops l other ts (first_back ts other h) s)

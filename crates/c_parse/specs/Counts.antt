@@ -1,32 +1,32 @@
--- The counts of a program while it is read; that no external declaration stands at the front; and that tokens are one, whatever follows.
+-- The counts of a program while it is read; that no external declaration is at the front; and that tokens are one, whatever follows.
 use Rattle.std.specs.Prelude.{◌≡◌, ◌≤◌, ◌+◌, ℕ, List, [], ◌∷◌, ◌++◌, length}
 use Rattle.c_lex.specs.declared.token.Token.{Token}
 use Rattle.c_syntax.specs.Limits as limits
-use Rattle.c_syntax.specs.Limits.{EachWithin, bytes_from, numbered_in}
-use Rattle.c_syntax.specs.Program.{External}
-use Rattle.c_syntax.specs.Programs.{IsExternal}
+use Rattle.c_syntax.specs.Limits.{EachWithin, bytes_from, funclets_in}
+use Rattle.c_syntax.specs.Program.{ExternalDeclaration}
+use Rattle.c_syntax.specs.Programs.{IsExternalDeclaration}
 use Rattle.c_syntax.specs.Viable.{EachWithinFirst}
 use Rattle.c_parse.specs.declared.counts.Counts.{Counts}
 
--- within the first n limits behind what was counted
-pub record Fits (n : ℕ) (text : List ℕ) (counts : Counts) (xs : List External) : Type 0 where
+-- within the first n limits after what was counted
+pub record Fits (n : ℕ) (text : List ℕ) (counts : Counts) (xs : List ExternalDeclaration) : Type 0 where
   pub each : EachWithinFirst n xs
   pub functions : 4 ≤ n → limits.functions xs ≤ counts.functions
   pub bytes : 5 ≤ n → bytes_from xs counts.bytes ≤ 1048576
-  pub funclets : 6 ≤ n → length (numbered_in text xs) ≤ counts.funclets
+  pub funclets : 6 ≤ n → length (funclets_in text xs) ≤ counts.funclets
 
--- within the limits, and so the counts are behind it
-pub record Taken (text : List ℕ) (counts after : Counts) (x : External) : Type 0 where
+-- within the limits, and so the counts are after it
+pub record Taken (text : List ℕ) (counts after : Counts) (x : ExternalDeclaration) : Type 0 where
   pub each : EachWithin (x ∷ [])
   pub functions : after.functions + limits.functions (x ∷ []) ≡ counts.functions
   pub bytes : after.bytes ≡ bytes_from (x ∷ []) counts.bytes
   pub low : after.bytes ≤ 1048576
-  pub funclets : after.funclets + length (numbered_in text (x ∷ [])) ≡ counts.funclets
+  pub funclets : after.funclets + length (funclets_in text (x ∷ [])) ≡ counts.funclets
 
-abbrev pub NoExternal : Counts → ℕ → List ℕ → List Token → Type 0
-NoExternal counts n text ts = (x : External) (end : List Token) → IsExternal text x ts end → Fits n text counts (x ∷ []) → ⊥
+abbrev pub NoExternalDeclaration : Counts → ℕ → List ℕ → List Token → Type 0
+NoExternalDeclaration counts n text ts = (x : ExternalDeclaration) (end : List Token) → IsExternalDeclaration text x ts end → Fits n text counts (x ∷ []) → ⊥
 
-pub record HasExternal (counts : Counts) (n : ℕ) (text : List ℕ) (ts : List Token) : Type 0 where
-  pub tree : External
-  pub is : (other : List Token) → IsExternal text tree (ts ++ other) other
+pub record HasExternalDeclaration (counts : Counts) (n : ℕ) (text : List ℕ) (ts : List Token) : Type 0 where
+  pub tree : ExternalDeclaration
+  pub is : (other : List Token) → IsExternalDeclaration text tree (ts ++ other) other
   pub fits : Fits n text counts (tree ∷ [])

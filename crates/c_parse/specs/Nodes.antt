@@ -1,8 +1,8 @@
 -- How many nodes a program has: each expression, statement, declarator, parameter, constant of an initialiser and function is one.
 use Rattle.std.specs.Prelude.{ℕ, ◌+◌, List, [], ◌∷◌, length, Option, Some, None}
 use Rattle.c_syntax.specs.Expression.{Expression, Constant, Variable, Information, Call, Parentheses, Index, Postfix, Prefix, Unary, Cast, Binary, Conditional, Assign, Comma, Arguments, Done, Next}
-use Rattle.c_syntax.specs.Program.{Initialiser, Single, Several, Global, External, Globals, Function}
-use Rattle.c_syntax.specs.Statement.{Local, First, Declaring, Evaluating, Statement, Declare, Block, Evaluate, If, IfElse, While, DoWhile, For, Return, Break, Continue, Leave, TryExcept, TryFinally, Statements, Empty, Then}
+use Rattle.c_syntax.specs.Program.{Initialiser, Single, Several, Global, ExternalDeclaration, Globals, Function}
+use Rattle.c_syntax.specs.Statement.{Local, ForInitialiser, Declaring, Evaluating, Statement, Declare, Block, Evaluate, If, IfElse, While, DoWhile, For, Return, Break, Continue, Leave, TryExcept, TryFinally, Statements, Empty, Then}
 
 -- ---- expressions
 
@@ -37,9 +37,9 @@ abbrev pub nodes_of_locals : List Local → ℕ
 nodes_of_locals [] = 0
 nodes_of_locals (l ∷ ls) = 1 + (nodes_of_optional l.initialiser + nodes_of_locals ls)
 
-abbrev pub nodes_of_first : First → ℕ
-nodes_of_first (Declaring base ls) = nodes_of_locals ls
-nodes_of_first (Evaluating e) = nodes_of_optional e
+abbrev pub nodes_of_for_initialiser : ForInitialiser → ℕ
+nodes_of_for_initialiser (Declaring base ls) = nodes_of_locals ls
+nodes_of_for_initialiser (Evaluating e) = nodes_of_optional e
 
 abbrev mutual
   pub nodes_of_statement : Statement → ℕ
@@ -50,7 +50,7 @@ abbrev mutual
   nodes_of_statement (IfElse at c s t) = 1 + (nodes c + (nodes_of_statement s + nodes_of_statement t))
   nodes_of_statement (While at c s) = 1 + (nodes c + nodes_of_statement s)
   nodes_of_statement (DoWhile s at c) = 1 + (nodes_of_statement s + nodes c)
-  nodes_of_statement (For at f c n s) = 1 + (nodes_of_first f + (nodes_of_optional c + (nodes_of_optional n + nodes_of_statement s)))
+  nodes_of_statement (For at f c n s) = 1 + (nodes_of_for_initialiser f + (nodes_of_optional c + (nodes_of_optional n + nodes_of_statement s)))
   nodes_of_statement (Return at e) = 1 + nodes_of_optional e
   nodes_of_statement (Break at) = 1
   nodes_of_statement (Continue at) = 1
@@ -73,10 +73,10 @@ abbrev pub nodes_of_globals : List Global → ℕ
 nodes_of_globals [] = 0
 nodes_of_globals (g ∷ gs) = 1 + (nodes_of_initialiser g.initialiser + nodes_of_globals gs)
 
-abbrev pub nodes_of_external : External → ℕ
-nodes_of_external (Globals base gs) = nodes_of_globals gs
-nodes_of_external (Function returns name ps body) = 1 + (length ps + nodes_of_statements body)
+abbrev pub nodes_of_external_declaration : ExternalDeclaration → ℕ
+nodes_of_external_declaration (Globals base gs) = nodes_of_globals gs
+nodes_of_external_declaration (Function returns name ps body) = 1 + (length ps + nodes_of_statements body)
 
-abbrev pub nodes_of : List External → ℕ
+abbrev pub nodes_of : List ExternalDeclaration → ℕ
 nodes_of [] = 0
-nodes_of (x ∷ xs) = nodes_of_external x + nodes_of xs
+nodes_of (x ∷ xs) = nodes_of_external_declaration x + nodes_of xs

@@ -1,21 +1,21 @@
--- Parts of external declarations; that none stands at the front; and that tokens are such a part, whatever follows. Limits count where the first n of them hold: the third is the parameters of a function, the fifth the bytes of the globals, the sixth the numbered filters and finally blocks of the program.
+-- Parts of external declarations; that none is at the front; and that tokens are such a part, whatever follows. Limits count where the first n of them hold: the third is the parameters of a function, the fifth the bytes of the globals, the sixth the funclets of the program.
 use Rattle.std.specs.Prelude.{◌≤◌, ◌+◌, ◌*◌, ◌⊎◌, ℕ, List, length, ◌∷◌, ◌++◌, Option, Some}
-use Rattle.c_lex.specs.declared.sign.Sign.TheVariants as signs
+use Rattle.c_lex.specs.declared.punctuator.Punctuator.TheVariants as punctuators
 use Rattle.c_lex.specs.declared.keyword.Keyword.TheVariants as keywords
 use Rattle.c_lex.specs.declared.token.Token.{Token}
 use Rattle.c_syntax.specs.declared.declaration.Constant.{Constant}
 use Rattle.c_syntax.specs.declared.declaration.Length.{Length}
 use Rattle.c_syntax.specs.declared.declaration.Parameter.{Parameter}
 use Rattle.c_syntax.specs.declared.expression.Base.{Base}
-use Rattle.c_syntax.specs.declared.expression.Name.{Name}
+use Rattle.c_syntax.specs.declared.expression.Identifier.{Identifier}
 use Rattle.c_syntax.specs.Expressions.{IsInteger}
 use Rattle.c_syntax.specs.Follow.{Stops}
-use Rattle.c_syntax.specs.Limits.{size, elements, aligned, end_of_globals, all_numbered}
+use Rattle.c_syntax.specs.Limits.{size, elements, aligned, end_of_globals, funclets_of_all}
 use Rattle.c_syntax.specs.Program.{Initialiser, Single, Several, Global}
 use Rattle.c_syntax.specs.Programs.{IsConstant, AreConstants, IsInitialiser, IsLength, AreMoreGlobals, AreGlobals, IsParameter, AreParameters}
 use Rattle.c_syntax.specs.Statement.{Statements}
-use Rattle.c_syntax.specs.Statements.{AreItems}
-use Rattle.c_syntax.specs.Tokens.{IsSign, IsName, HasSign, HasKeyword}
+use Rattle.c_syntax.specs.Statements.{AreBlockItems}
+use Rattle.c_syntax.specs.Tokens.{IsPunctuator, IsIdentifier, HasPunctuator, HasKeyword}
 use Rattle.c_syntax.specs.Types.{IsBase, AreStars}
 use Rattle.c_syntax.specs.Viable.{FunctionWithinFirst}
 
@@ -35,10 +35,10 @@ pub record HasConstants (n : ℕ) (text : List ℕ) (ts : List Token) : Type 0 w
   pub trees : List Constant
   pub are : (other : List Token) → AreConstants trees (ts ++ other) other
 
--- what stands behind `=`
+-- what is after `=`
 abbrev pub IsGiven : Initialiser → List Token → List Token → Type 0
 IsGiven (Single c) ts rest = IsConstant c ts rest
-IsGiven (Several at cs) ts rest = (a : List Token) × IsSign signs.OpenBrace at ts a × AreConstants cs a rest
+IsGiven (Several at cs) ts rest = (a : List Token) × IsPunctuator punctuators.OpenBrace at ts a × AreConstants cs a rest
 
 abbrev pub NoneGiven : ℕ → List ℕ → List Token → Type 0
 NoneGiven n text ts = (i : Initialiser) (end : List Token) → IsGiven i ts end → ⊥
@@ -56,13 +56,13 @@ pub record HasInitialiser (n : ℕ) (text : List ℕ) (ts : List Token) : Type 0
 
 -- ---- globals
 
--- where a global ends that is placed behind the bytes of others
+-- where a global ends that is placed after the bytes of others
 abbrev pub end_of : Base → ℕ → Option Length → ℕ → ℕ
 end_of base pointers n at = aligned at (size base pointers) + size base pointers * elements n
 
--- behind `[`
+-- after `[`
 abbrev pub IsBracketed : Length → List Token → List Token → Type 0
-IsBracketed n ts rest = (a : List Token) × IsInteger n.value n.at ts a × HasSign signs.CloseBracket a rest
+IsBracketed n ts rest = (a : List Token) × IsInteger n.value n.at ts a × HasPunctuator punctuators.CloseBracket a rest
 
 abbrev pub NoneBracketed : Base → ℕ → ℕ → ℕ → List ℕ → List Token → Type 0
 NoneBracketed base pointers at n text ts = (l : Length) (end : List Token) → IsBracketed l ts end → Stops 1 end → (5 ≤ n → end_of base pointers (Some l) at ≤ 1048576) → ⊥
@@ -72,11 +72,11 @@ pub record HasBracketed (base : Base) (pointers at n : ℕ) (text : List ℕ) (t
   pub is : (other : List Token) → IsBracketed tree (ts ++ other) other
   pub low : 5 ≤ n → end_of base pointers (Some tree) at ≤ 1048576
 
--- what stands behind the name of a global, up to the semicolon: its length and its initialiser, and further globals
+-- what is after the name of a global, up to the semicolon: its length and its initialiser, and further globals
 abbrev pub IsBehindName : Option Length → Option Initialiser → List Global → List Token → List Token → Type 0
 IsBehindName l i gs ts rest = (a : List Token) × (b : List Token) × IsLength l ts a × IsInitialiser i a b × AreMoreGlobals gs b rest
 
--- The length counts, and what stands behind it only has to be there.
+-- The length counts, and what is after it only has to be there.
 abbrev pub NoLength : Base → ℕ → ℕ → ℕ → List ℕ → List Token → Type 0
 NoLength base pointers at n text ts =
     (l : Option Length) (i : Option Initialiser) (gs : List Global) (end : List Token) → IsBehindName l i gs ts end → (5 ≤ n → end_of base pointers l at ≤ 1048576) → ⊥
@@ -88,9 +88,9 @@ pub record HasLength (base : Base) (pointers at n : ℕ) (text : List ℕ) (ts :
   pub is : (other : List Token) → IsBehindName length initialiser others (ts ++ other) other
   pub low : 5 ≤ n → end_of_globals base others (end_of base pointers length at) ≤ 1048576
 
--- a sign that stands behind the name of a scalar
+-- a punctuator that is after the name of a scalar
 abbrev pub EndsScalar : List Token → Type 0
-EndsScalar ts = (rest : List Token) × (HasSign signs.Semicolon ts rest ⊎ (HasSign signs.Comma ts rest ⊎ HasSign signs.Assign ts rest))
+EndsScalar ts = (rest : List Token) × (HasPunctuator punctuators.Semicolon ts rest ⊎ (HasPunctuator punctuators.Comma ts rest ⊎ HasPunctuator punctuators.Assign ts rest))
 
 -- here too, the global counts
 abbrev pub NoGlobal : Base → ℕ → ℕ → List ℕ → List Token → Type 0
@@ -115,7 +115,7 @@ pub record HasParameter (n : ℕ) (text : List ℕ) (ts : List Token) : Type 0 w
 
 -- `void` before the parenthesis
 abbrev pub IsVoid : List Token → List Token → Type 0
-IsVoid ts rest = (a : List Token) × HasKeyword keywords.Void ts a × HasSign signs.CloseParenthesis a rest
+IsVoid ts rest = (a : List Token) × HasKeyword keywords.Void ts a × HasPunctuator punctuators.CloseParenthesis a rest
 
 -- none but nothing and `void`
 abbrev pub NoListed : ℕ → List ℕ → List Token → Type 0
@@ -135,31 +135,31 @@ pub record HasParameters (n : ℕ) (text : List ℕ) (ts : List Token) : Type 0 
   pub are : (other : List Token) → AreParameters trees (ts ++ other) other
   pub few : 3 ≤ n → length trees ≤ 8
 
--- what stands behind the name and the parenthesis
+-- what is after the name and the parenthesis
 abbrev pub IsTail : List ℕ → List Parameter → Statements → List Token → List Token → Type 0
-IsTail text ps body ts rest = (a : List Token) × (b : List Token) × AreParameters ps ts a × HasSign signs.OpenBrace a b × AreItems text body b rest
+IsTail text ps body ts rest = (a : List Token) × (b : List Token) × AreParameters ps ts a × HasPunctuator punctuators.OpenBrace a b × AreBlockItems text body b rest
 
 abbrev pub NoTail : ℕ → ℕ → List ℕ → List Token → Type 0
-NoTail funclets n text ts = (ps : List Parameter) (body : Statements) (end : List Token) → IsTail text ps body ts end → FunctionWithinFirst n ps body → (6 ≤ n → length (all_numbered text body) ≤ funclets) → ⊥
+NoTail funclets n text ts = (ps : List Parameter) (body : Statements) (end : List Token) → IsTail text ps body ts end → FunctionWithinFirst n ps body → (6 ≤ n → length (funclets_of_all text body) ≤ funclets) → ⊥
 
 pub record HasTail (funclets n : ℕ) (text : List ℕ) (ts : List Token) : Type 0 where
   pub parameters : List Parameter
   pub body : Statements
   pub is : (other : List Token) → IsTail text parameters body (ts ++ other) other
   pub within : FunctionWithinFirst n parameters body
-  pub numbered : 6 ≤ n → length (all_numbered text body) ≤ funclets
+  pub numbered : 6 ≤ n → length (funclets_of_all text body) ≤ funclets
 
 -- ---- external declarations
 
 -- a base, stars and a name
-abbrev pub IsHead : Base → ℕ → Name → List Token → List Token → List Token → Type 0
-IsHead base pointers name ts declarators rest = (a : List Token) × IsBase base ts declarators × AreStars pointers declarators a × IsName name a rest
+abbrev pub IsHead : Base → ℕ → Identifier → List Token → List Token → List Token → Type 0
+IsHead base pointers name ts declarators rest = (a : List Token) × IsBase base ts declarators × AreStars pointers declarators a × IsIdentifier name a rest
 
 abbrev pub NoHead : ℕ → List ℕ → List Token → Type 0
-NoHead n text ts = (base : Base) (pointers : ℕ) (name : Name) (declarators end : List Token) → IsHead base pointers name ts declarators end → ⊥
+NoHead n text ts = (base : Base) (pointers : ℕ) (name : Identifier) (declarators end : List Token) → IsHead base pointers name ts declarators end → ⊥
 
 pub record HasHead (n : ℕ) (text : List ℕ) (ts : List Token) : Type 0 where
   pub base : Base
   pub pointers : ℕ
-  pub name : Name
+  pub name : Identifier
   pub is : (other : List Token) → (declarators : List Token) × IsHead base pointers name (ts ++ other) declarators other

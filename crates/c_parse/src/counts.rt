@@ -1,6 +1,6 @@
 //! What a program may still have.
 
-/// How many functions, and how many numbered filters and `__finally` blocks, a program may still have,
+/// How many functions, and how many funclets, a program may still have,
 /// and how many bytes its globals take so far.
 #[derive(Clone, Copy, Debug, PartialEq, Eq)]
 pub struct Counts {

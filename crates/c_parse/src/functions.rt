@@ -12,7 +12,7 @@ ghost use Rattle.c_parse_expr.specs.Refusals.{Placed};
 ghost use Rattle.c_parse.specs.Parts.{NoParameter, HasParameter, IsVoid, NoListed, HasListed, NoParameters, HasParameters, IsTail, NoTail, HasTail};
 
 use c_lex::keyword::Keyword;
-use c_lex::sign::Sign;
+use c_lex::punctuator::Punctuator;
 use c_lex::token::Token;
 use c_parse_atom::operands::name;
 use c_parse_expr::refusal::{Count, ParseErr, place, unexpected};
@@ -48,9 +48,9 @@ fn parameter<'a>(text: &[u8], tokens: &'a [Token]) -> Result<(Parameter, &'a [To
     ensures refused { IfErr result (λ e. Placed e NoParameter HasParameter text.now tokens.now) }
 {
     match c_type(tokens) {
-        Some((of, behind)) => match name(behind) {
+        Some((of, following)) => match name(following) {
             Some((name, rest)) => Ok((Parameter { of, name }, rest)),
-            None => Err(unexpected(text, behind)),
+            None => Err(unexpected(text, following)),
         },
         None => Err(unexpected(text, tokens)),
     }
@@ -62,7 +62,7 @@ fn after_void(tokens: &[Token]) -> Option<&[Token]>
     ensures none { IfNone result ((rest : List Token) → IsVoid tokens.now rest → ⊥) }
 {
     match word(Keyword::Void, tokens) {
-        Some((_, behind)) => after(Sign::CloseParenthesis, behind),
+        Some((_, following)) => after(Punctuator::CloseParenthesis, following),
         None => None,
     }
 }
@@ -81,21 +81,21 @@ fn listed<'a>(
     let mut left: u64 = 7;
     let mut found = Vec::new(alloc);
     found.push(first)?;
-    while let Some(behind) = after(Sign::Comma, rest) {
+    while let Some(following) = after(Punctuator::Comma, rest) {
         if left == 0 {
             return Err(too_many_parameters(text, rest));
         }
-        let (next, after) = parameter(text, behind)?;
+        let (next, after) = parameter(text, following)?;
         found.push(next)?;
         left -= 1;
         rest = after;
     }
-    let end = expect(text, Sign::CloseParenthesis, rest)?;
+    let end = expect(text, Punctuator::CloseParenthesis, rest)?;
     Ok((found, end))
 }
 
-/// The parameters of a function behind the parenthesis (C11, 6.7.6.3), at most 8, and what follows the
-/// other parenthesis. Nothing and `void` stand for none.
+/// The parameters of a function after the parenthesis (C11, 6.7.6.3), at most 8, and what follows the
+/// other parenthesis. Nothing and `void` mean none.
 fn parameters<'a>(
     alloc: Global,
     text: &[u8],
@@ -105,7 +105,7 @@ fn parameters<'a>(
     ensures few { IfOk result (λ x. length x.0.items ≤ 8) }
     ensures refused { IfErr result (λ e. Placed e NoParameters HasParameters text.now tokens.now) }
 {
-    if let Some(rest) = after(Sign::CloseParenthesis, tokens) {
+    if let Some(rest) = after(Punctuator::CloseParenthesis, tokens) {
         return Ok((Vec::new(alloc), rest));
     }
     if let Some(rest) = after_void(tokens) {
@@ -114,8 +114,8 @@ fn parameters<'a>(
     listed(alloc, text, tokens)
 }
 
-/// The parameters and the body of a function behind its name and the parenthesis (C11, 6.9.1), how many
-/// numbered filters and `__finally` blocks the program may still have, and what follows the body.
+/// The parameters and the body of a function after its name and the parenthesis (C11, 6.9.1), how many
+/// funclets the program may still have, and what follows the body.
 pub fn tail<'a>(
     alloc: Global,
     text: &[u8],
@@ -124,11 +124,11 @@ pub fn tail<'a>(
 ) -> Result<(Vec<Parameter>, Vec<Stmt>, u64, &'a [Token]), ParseErr>
     ensures found { IfOk result (λ x. IsTail text.now x.0.items (statements (map statement x.1.items)) tokens.now x.3.now) }
     ensures within { IfOk result (λ x. limits.FunctionWithin x.0.items (statements (map statement x.1.items))) }
-    ensures taken { IfOk result (λ x. x.2 + length (limits.all_numbered text.now (statements (map statement x.1.items))) ≡ funclets) }
+    ensures taken { IfOk result (λ x. x.2 + length (limits.funclets_of_all text.now (statements (map statement x.1.items))) ≡ funclets) }
     ensures refused { IfErr result (λ e. Placed e (NoTail funclets) (HasTail funclets) text.now tokens.now) }
 {
-    let (parameters, behind) = parameters(alloc, text, tokens)?;
-    let inner = expect(text, Sign::OpenBrace, behind)?;
+    let (parameters, following) = parameters(alloc, text, tokens)?;
+    let inner = expect(text, Punctuator::OpenBrace, following)?;
     let left = Left {
         locals: MOST_LOCALS,
         funclets,

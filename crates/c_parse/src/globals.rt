@@ -1,7 +1,7 @@
 //! Globals, and where they lie.
 
 ghost use Rattle.std.specs.Prelude.{◌≡◌, ◌≤◌, ◌<◌, ◌+◌, ◌*◌, ◌⊎◌, Some, IfOk, IfErr, IfSome, IfNone, map};
-ghost use Rattle.c_lex.specs.declared.sign.Sign.TheVariants as signs;
+ghost use Rattle.c_lex.specs.declared.punctuator.Punctuator.TheVariants as punctuators;
 ghost use Rattle.c_syntax.specs.Faults as faults;
 ghost use Rattle.c_syntax.specs.Follow.{Stops};
 ghost use Rattle.c_syntax.specs.Limits as limits;
@@ -14,7 +14,7 @@ ghost use Rattle.c_parse.specs.Parts as parts;
 ghost use Rattle.c_parse.specs.Parts.{EndsScalar, NoLength, HasLength, NoGlobal, NoGlobals, HasGlobals};
 
 use crate::initialisers::{initialiser, stop};
-use c_lex::sign::Sign;
+use c_lex::punctuator::Punctuator;
 use c_lex::token::Token;
 use c_parse_atom::operands::{integer, name};
 use c_parse_expr::refusal::{Count, ParseErr, place, unexpected};
@@ -28,7 +28,7 @@ use std::alloc::Global as Allocator;
 /// The most bytes that a program's globals take.
 const MOST_BYTES: u64 = 1_048_576;
 
-/// The level of `[`: behind a length stands nothing with which a postfix expression goes on.
+/// The level of `[`: after a length is nothing with which a postfix expression continues.
 const POSTFIX: u8 = 1;
 
 /// How many bytes a type has: those of its base, or 8 of a pointer. `void` has none.
@@ -48,7 +48,7 @@ fn size_of(base: Base, pointers: u64) -> u64
     }
 }
 
-/// Where `count` elements of a size end that are placed behind `at` bytes, at a multiple of the size;
+/// Where `count` elements of a size end that are placed after `at` bytes, at a multiple of the size;
 /// none where that is too far.
 fn end_of(size: u64, count: u64, at: u64) -> Option<u64>
     requires size { size ≤ 8 }
@@ -77,24 +77,24 @@ fn too_many_bytes(at: u64) -> ParseErr
     }
 }
 
-/// The refusal of the first token behind the name of a scalar that takes too many bytes.
+/// The refusal of the first token after the name of a scalar that takes too many bytes.
 fn no_room(text: &[u8], tokens: &[Token]) -> ParseErr
     ensures { ((result ≡ TooMany (faults.place text.now tokens.now) counts.Globals) × EndsScalar tokens.now)
         ⊎ ((result ≡ Unexpected (faults.place text.now tokens.now)) × (EndsScalar tokens.now → ⊥)) }
 {
-    if let Some(_) = after(Sign::Semicolon, tokens) {
+    if let Some(_) = after(Punctuator::Semicolon, tokens) {
         return too_many_bytes(place(text, tokens));
     }
-    if let Some(_) = after(Sign::Comma, tokens) {
+    if let Some(_) = after(Punctuator::Comma, tokens) {
         return too_many_bytes(place(text, tokens));
     }
-    if let Some(_) = after(Sign::Assign, tokens) {
+    if let Some(_) = after(Punctuator::Assign, tokens) {
         return too_many_bytes(place(text, tokens));
     }
     unexpected(text, tokens)
 }
 
-/// The length of an array behind its bracket, where the array ends, and what follows the other bracket.
+/// The length of an array after its bracket, where the array ends, and what follows the other bracket.
 fn bracketed<'a>(
     text: &[u8],
     base: Base,
@@ -110,9 +110,9 @@ fn bracketed<'a>(
     ensures refused { IfErr result (λ e. Placed e (parts.NoneBracketed base pointers bytes) (parts.HasBracketed base pointers bytes) text.now tokens.now) }
 {
     match integer(tokens) {
-        Some((value, at, behind)) => match end_of(size_of(base, pointers), value, bytes) {
+        Some((value, at, following)) => match end_of(size_of(base, pointers), value, bytes) {
             Some(end) => {
-                let rest = expect(text, Sign::CloseBracket, behind)?;
+                let rest = expect(text, Punctuator::CloseBracket, following)?;
                 stop(text, POSTFIX, rest)?;
                 Ok((Length { at, value }, end, rest))
             }
@@ -122,8 +122,8 @@ fn bracketed<'a>(
     }
 }
 
-/// The length of a global behind its name, if it is an array (C11, 6.7.6.2), where the global ends that
-/// is placed behind so many bytes, and what follows the length.
+/// The length of a global after its name, if it is an array (C11, 6.7.6.2), where the global ends that
+/// is placed after so many bytes, and what follows the length.
 fn length<'a>(
     text: &[u8],
     base: Base,
@@ -138,7 +138,7 @@ fn length<'a>(
     ensures low { IfOk result (λ x. x.1 ≤ 1048576) }
     ensures refused { IfErr result (λ e. Placed e (NoLength base pointers bytes) (HasLength base pointers bytes) text.now tokens.now) }
 {
-    match after(Sign::OpenBracket, tokens) {
+    match after(Punctuator::OpenBracket, tokens) {
         Some(inner) => {
             let (length, end, rest) = bracketed(text, base, pointers, bytes, inner)?;
             Ok((Some(length), end, rest))
@@ -153,7 +153,7 @@ fn length<'a>(
     }
 }
 
-/// The global at the front, where it ends that is placed behind so many bytes, and what follows it.
+/// The global at the front, where it ends that is placed after so many bytes, and what follows it.
 fn global<'a>(
     alloc: Allocator,
     text: &[u8],
@@ -170,9 +170,9 @@ fn global<'a>(
 {
     let (pointers, declarator) = stars(tokens);
     match name(declarator) {
-        Some((name, behind)) => {
-            let (length, end, behind) = length(text, base, pointers, bytes, behind)?;
-            let (initialiser, rest) = initialiser(alloc, text, behind)?;
+        Some((name, following)) => {
+            let (length, end, following) = length(text, base, pointers, bytes, following)?;
+            let (initialiser, rest) = initialiser(alloc, text, following)?;
             let global = Global {
                 pointers,
                 name,
@@ -185,8 +185,8 @@ fn global<'a>(
     }
 }
 
-/// The globals of a declaration behind their base, up to the semicolon, where they end that are placed
-/// behind so many bytes, and what follows the semicolon.
+/// The globals of a declaration after their base, up to the semicolon, where they end that are placed
+/// after so many bytes, and what follows the semicolon.
 pub fn globals<'a>(
     alloc: Allocator,
     text: &[u8],
@@ -203,12 +203,12 @@ pub fn globals<'a>(
     let (first, mut end, mut rest) = global(alloc, text, base, bytes, tokens)?;
     let mut found = Vec::new(alloc);
     found.push(first)?;
-    while let Some(behind) = after(Sign::Comma, rest) {
-        let (next, further, after) = global(alloc, text, base, end, behind)?;
+    while let Some(following) = after(Punctuator::Comma, rest) {
+        let (next, further, after) = global(alloc, text, base, end, following)?;
         found.push(next)?;
         end = further;
         rest = after;
     }
-    let rest = expect(text, Sign::Semicolon, rest)?;
+    let rest = expect(text, Punctuator::Semicolon, rest)?;
     Ok((found, end, rest))
 }

@@ -5,33 +5,33 @@ ghost use Rattle.c_lex.specs.declared.token.Token.{Token};
 ghost use Rattle.c_syntax.specs.Follow.{Stops};
 ghost use Rattle.c_syntax.specs.Program as trees;
 ghost use Rattle.c_syntax.specs.Programs.{IsConstant, AreConstants, IsInitialiser};
-ghost use Rattle.c_syntax.specs.Tokens.{IsSign};
+ghost use Rattle.c_syntax.specs.Tokens.{IsPunctuator};
 ghost use Rattle.c_syntax.specs.Faults as faults;
 ghost use Rattle.c_parse_expr.specs.declared.refusal.ParseErr.TheVariants.{Unexpected};
 ghost use Rattle.c_parse_expr.specs.Refusals.{Placed};
 ghost use Rattle.c_parse.specs.Parts.{NoConstant, HasConstant, NoConstants, HasConstants, IsGiven, NoneGiven, HasGiven, NoInitialiser, HasInitialiser};
 
-use c_lex::sign::Sign;
+use c_lex::punctuator::Punctuator;
 use c_lex::token::Token;
 use c_parse_atom::operands::literal;
 use c_parse_atom::operators::follows;
 use c_parse_expr::refusal::{ParseErr, unexpected};
-use c_parse_expr::step::first_sign;
+use c_parse_expr::step::first_punctuator;
 use c_parse_stmt::parts::expect;
 use c_parse_type::front::after;
 use c_syntax::declaration::{Constant, Initialiser};
 use std::alloc::Global;
 
-/// The level of an assignment: behind an initialiser stands nothing with which such an expression goes
+/// The level of an assignment: after an initialiser is nothing with which such an expression goes
 /// on.
 const ASSIGNMENT: u8 = 15;
 
-/// The place of the wanted sign, and what follows it, if that is at the front.
-fn sign_at(wanted: Sign, tokens: &[Token]) -> Option<(u64, &[Token])>
-    ensures found { IfSome result (λ x. IsSign wanted x.0 tokens.now x.1.now) }
-    ensures none { IfNone result ((at : ℕ) (rest : List Token) → IsSign wanted at tokens.now rest → ⊥) }
+/// The place of the wanted punctuator, and what follows it, if that is at the front.
+fn punctuator_at(wanted: Punctuator, tokens: &[Token]) -> Option<(u64, &[Token])>
+    ensures found { IfSome result (λ x. IsPunctuator wanted x.0 tokens.now x.1.now) }
+    ensures none { IfNone result ((at : ℕ) (rest : List Token) → IsPunctuator wanted at tokens.now rest → ⊥) }
 {
-    match first_sign(tokens) {
+    match first_punctuator(tokens) {
         Some((found, at, rest)) => {
             if found == wanted {
                 Some((at, rest))
@@ -43,11 +43,11 @@ fn sign_at(wanted: Sign, tokens: &[Token]) -> Option<(u64, &[Token])>
     }
 }
 
-/// Refuses the first token where an expression of the level or a tighter one would go on with it.
+/// Refuses the first token where an expression of the level or a tighter one would continue with it.
 pub fn stop(text: &[u8], level: u8, tokens: &[Token]) -> Result<(), ParseErr>
     ensures found { IfOk result (λ x. Stops level tokens.now) }
     ensures refused { IfErr result (λ e. e ≡ Unexpected (faults.place text.now tokens.now)) }
-    ensures goes_on { IfErr result (λ _. Stops level tokens.now → ⊥) }
+    ensures continues { IfErr result (λ _. Stops level tokens.now → ⊥) }
 {
     if follows(tokens) <= level {
         return Err(unexpected(text, tokens));
@@ -60,8 +60,8 @@ fn constant<'a>(text: &[u8], tokens: &'a [Token]) -> Result<(Constant, &'a [Toke
     ensures found { IfOk result (λ x. IsConstant x.0 tokens.now x.1.now) }
     ensures refused { IfErr result (λ e. Placed e NoConstant HasConstant text.now tokens.now) }
 {
-    match sign_at(Sign::Minus, tokens) {
-        Some((at, behind)) => match literal(behind) {
+    match punctuator_at(Punctuator::Minus, tokens) {
+        Some((at, following)) => match literal(following) {
             Some((literal, _, rest)) => {
                 let constant = Constant {
                     at,
@@ -70,7 +70,7 @@ fn constant<'a>(text: &[u8], tokens: &'a [Token]) -> Result<(Constant, &'a [Toke
                 };
                 Ok((constant, rest))
             }
-            None => Err(unexpected(text, behind)),
+            None => Err(unexpected(text, following)),
         },
         None => match literal(tokens) {
             Some((literal, at, rest)) => {
@@ -98,16 +98,16 @@ fn constants<'a>(
     let (first, mut rest) = constant(text, tokens)?;
     let mut found = Vec::new(alloc);
     found.push(first)?;
-    while let Some(behind) = after(Sign::Comma, rest) {
-        let (next, after) = constant(text, behind)?;
+    while let Some(following) = after(Punctuator::Comma, rest) {
+        let (next, after) = constant(text, following)?;
         found.push(next)?;
         rest = after;
     }
-    let end = expect(text, Sign::CloseBrace, rest)?;
+    let end = expect(text, Punctuator::CloseBrace, rest)?;
     Ok((found, end))
 }
 
-/// What stands behind `=`: a constant, or constants in braces; and what follows it.
+/// What is after `=`: a constant, or constants in braces; and what follows it.
 fn given<'a>(
     alloc: Global,
     text: &[u8],
@@ -116,7 +116,7 @@ fn given<'a>(
     ensures found { IfOk result (λ x. IsGiven (trees.initialiser x.0) tokens.now x.1.now) }
     ensures refused { IfErr result (λ e. Placed e NoneGiven HasGiven text.now tokens.now) }
 {
-    match sign_at(Sign::OpenBrace, tokens) {
+    match punctuator_at(Punctuator::OpenBrace, tokens) {
         Some((at, inner)) => {
             let (constants, rest) = constants(alloc, text, inner)?;
             Ok((Initialiser::List { at, constants }, rest))
@@ -138,7 +138,7 @@ pub fn initialiser<'a>(
     ensures stops { IfOk result (λ x. Stops 15 x.1.now) }
     ensures refused { IfErr result (λ e. Placed e NoInitialiser HasInitialiser text.now tokens.now) }
 {
-    match after(Sign::Assign, tokens) {
+    match after(Punctuator::Assign, tokens) {
         Some(value) => {
             let (given, rest) = given(alloc, text, value)?;
             stop(text, ASSIGNMENT, rest)?;

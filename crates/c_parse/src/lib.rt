@@ -1,8 +1,8 @@
 //! Programs of C from tokens.
 //!
 //! All tokens are read as one program (C11, 6.9) within the limits of nesting and of counts. What is
-//! read is that program, and a refusal tells the first token with which no such program goes on, or the
-//! text's end. If no program goes on so at all, it is `Unexpected`; else, if none is within the limit of
+//! read is that program, and a refusal names the first token with which no such program continues, or the
+//! text's end. If no program continues so at all, it is `Unexpected`; else, if none is within the limit of
 //! nesting, `TooDeep`; else `TooMany`, with the first count, in the order of `Count`, of which each has
 //! too much.
 #![tactic(auto)]
@@ -12,7 +12,5 @@ pub mod functions;
 pub mod globals;
 pub mod initialisers;
 pub mod program;
-#[cfg(test)]
-mod tests;
 
 pub use c_parse_expr::refusal::{Count, ParseErr};

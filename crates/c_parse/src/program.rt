@@ -5,42 +5,42 @@ ghost use Rattle.c_lex.specs.Text.{IsTokens};
 ghost use Rattle.c_syntax.specs.Faults as faults;
 ghost use Rattle.c_syntax.specs.Limits.{Within};
 ghost use Rattle.c_syntax.specs.Program as trees;
-ghost use Rattle.c_syntax.specs.Programs.{IsExternal, IsProgram};
+ghost use Rattle.c_syntax.specs.Programs.{IsExternalDeclaration, IsProgram};
 ghost use Rattle.c_parse_expr.specs.declared.refusal.Count.TheVariants as counts;
 ghost use Rattle.c_parse_expr.specs.declared.refusal.ParseErr.TheVariants.{TooMany, Memory};
 ghost use Rattle.c_parse_expr.specs.Refusals.{Placed, Refuses};
 ghost use Rattle.c_parse.specs.Bounds.{IsBounded};
-ghost use Rattle.c_parse.specs.Counts.{Taken, NoExternal, HasExternal};
+ghost use Rattle.c_parse.specs.Counts.{Taken, NoExternalDeclaration, HasExternalDeclaration};
 ghost use Rattle.c_parse.specs.Nodes.{nodes_of};
 ghost use Rattle.c_parse.specs.Parts.{IsHead, NoHead, HasHead};
 
 use crate::counts::Counts;
 use crate::functions::tail;
 use crate::globals::globals;
-use c_lex::sign::Sign;
+use c_lex::punctuator::Punctuator;
 use c_lex::token::Token;
 use c_parse_atom::operands::name;
 use c_parse_expr::refusal::{Count, ParseErr, place, unexpected};
 use c_parse_type::front::after;
 use c_parse_type::specifiers::{base, stars};
-use c_syntax::declaration::External;
-use c_syntax::expression::{Base, CType, Name};
+use c_syntax::declaration::ExternalDeclaration;
+use c_syntax::expression::{Base, CType, Identifier};
 use std::alloc::Global;
 
 /// The most functions of a program.
 const MOST_FUNCTIONS: u64 = 4_096;
 
-/// The most numbered filters and `__finally` blocks of a program.
+/// The most funclets of a program.
 const MOST_FUNCLETS: u64 = 16_384;
 
 /// A program: its external declarations, in their order. It is within the limits, and has no more nodes
 /// than its text has bytes.
 #[derive(Drop)]
 pub struct Program {
-    pub externals: Vec<External>,
+    pub external_declarations: Vec<ExternalDeclaration>,
     /// How many bytes its text has.
     pub length: u64,
-    ghost bounded: { ∥ IsBounded length (map trees.external externals.items) ∥₁ },
+    ghost bounded: { ∥ IsBounded length (map trees.external_declaration external_declarations.items) ∥₁ },
 }
 
 /// The refusal of the first token, with which the program has one function too many.
@@ -60,7 +60,7 @@ struct Heading<'a> {
     /// What follows the base.
     declarators: &'a [Token],
     pointers: u64,
-    name: Name,
+    name: Identifier,
     /// What follows the name.
     rest: &'a [Token],
 }
@@ -91,26 +91,26 @@ fn head<'a>(text: &[u8], tokens: &'a [Token]) -> Result<Heading<'a>, ParseErr>
     }
 }
 
-/// The external declaration at the front (C11, 6.9), the counts behind it, and what follows it.
-fn external<'a>(
+/// The external declaration at the front (C11, 6.9), the counts after it, and what follows it.
+fn external_declaration<'a>(
     alloc: Global,
     text: &[u8],
     counts: Counts,
     tokens: &'a [Token],
-) -> Result<(External, Counts, &'a [Token]), ParseErr>
+) -> Result<(ExternalDeclaration, Counts, &'a [Token]), ParseErr>
     requires { counts.bytes ≤ 1048576 }
-    ensures found { IfOk result (λ x. IsExternal text.now (trees.external x.0) tokens.now x.2.now) }
-    ensures taken { IfOk result (λ x. Taken text.now counts x.1 (trees.external x.0)) }
-    ensures refused { IfErr result (λ e. Placed e (NoExternal counts) (HasExternal counts) text.now tokens.now) }
+    ensures found { IfOk result (λ x. IsExternalDeclaration text.now (trees.external_declaration x.0) tokens.now x.2.now) }
+    ensures taken { IfOk result (λ x. Taken text.now counts x.1 (trees.external_declaration x.0)) }
+    ensures refused { IfErr result (λ e. Placed e (NoExternalDeclaration counts) (HasExternalDeclaration counts) text.now tokens.now) }
 {
     let head = head(text, tokens)?;
-    match after(Sign::OpenParenthesis, head.rest) {
+    match after(Punctuator::OpenParenthesis, head.rest) {
         Some(inner) => {
             if counts.functions == 0 {
                 return Err(too_many_functions(text, head.rest));
             }
             let (parameters, body, funclets, rest) = tail(alloc, text, counts.funclets, inner)?;
-            let function = External::Function {
+            let function = ExternalDeclaration::Function {
                 returns: CType {
                     base: head.base,
                     pointers: head.pointers,
@@ -134,7 +134,7 @@ fn external<'a>(
                 counts.bytes,
                 head.declarators,
             )?;
-            let declaration = External::Globals {
+            let declaration = ExternalDeclaration::Globals {
                 base: head.base,
                 globals,
             };
@@ -153,19 +153,19 @@ pub fn parse(alloc: Global, text: &[u8], tokens: &[Token]) -> Result<Program, Pa
     // The tokens are the text's.
     requires tokens { IsTokens text.now tokens.now }
     // They are the program.
-    ensures found { IfOk result (λ p. IsProgram text.now (map trees.external p.externals.items) tokens.now) }
+    ensures found { IfOk result (λ p. IsProgram text.now (map trees.external_declaration p.external_declarations.items) tokens.now) }
     // It is within the limits.
-    ensures within { IfOk result (λ p. Within text.now (map trees.external p.externals.items)) }
+    ensures within { IfOk result (λ p. Within text.now (map trees.external_declaration p.external_declarations.items)) }
     // It has no more nodes than there are tokens, and so than the text has bytes.
-    ensures few { IfOk result (λ p. nodes_of (map trees.external p.externals.items) ≤ length tokens.now) }
+    ensures few { IfOk result (λ p. nodes_of (map trees.external_declaration p.external_declarations.items) ≤ length tokens.now) }
     // It keeps the text's length.
     ensures long { IfOk result (λ p. p.length ≡ length text.now) }
     // A program within the limits isn't refused, unless memory runs out, and is the one that is read.
-    ensures only { (xs : List trees.External) → IsProgram text.now xs tokens.now → Within text.now xs → MatchResult result (λ p. map trees.external p.externals.items ≡ xs) (λ e. e ≡ Memory) }
-    // A refusal names the first token with which no program within the limits goes on, or the text's end, and the first limit that excludes them all; or memory runs out.
+    ensures only { (xs : List trees.ExternalDeclaration) → IsProgram text.now xs tokens.now → Within text.now xs → MatchResult result (λ p. map trees.external_declaration p.external_declarations.items ≡ xs) (λ e. e ≡ Memory) }
+    // A refusal names the first token with which no program within the limits continues, or the text's end, and the first limit that excludes them all; or memory runs out.
     ensures refused { IfErr result (λ e. Refuses e text.now tokens.now) }
 {
-    let mut externals = Vec::new(alloc);
+    let mut external_declarations = Vec::new(alloc);
     let mut counts = Counts {
         functions: MOST_FUNCTIONS,
         bytes: 0,
@@ -173,13 +173,13 @@ pub fn parse(alloc: Global, text: &[u8], tokens: &[Token]) -> Result<Program, Pa
     };
     let mut rest = tokens;
     while !rest.is_empty() {
-        let (next, less, behind) = external(alloc, text, counts, rest)?;
-        externals.push(next)?;
+        let (next, less, following) = external_declaration(alloc, text, counts, rest)?;
+        external_declarations.push(next)?;
         counts = less;
-        rest = behind;
+        rest = following;
     }
     Ok(Program {
-        externals,
+        external_declarations,
         length: text.len() as u64,
     })
 }

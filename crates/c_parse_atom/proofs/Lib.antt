@@ -1,3 +1,3 @@
-pub mod Signs
+pub mod Punctuators
 pub mod Introduced
 pub mod Fields

@@ -4,20 +4,20 @@ ghost use Rattle.std.specs.Prelude.{◌≡◌, ℕ, List, IfSome, IfNone, codes,
 ghost use Rattle.c_lex.specs.declared.token.Token.{Token};
 ghost use Rattle.c_lex.specs.declared.keyword.Keyword.TheVariants as keywords;
 ghost use Rattle.c_syntax.specs.Expression.{Information};
-ghost use Rattle.c_syntax.specs.Expressions.{IsField, Spells};
+ghost use Rattle.c_syntax.specs.Expressions.{IsField, SpellsExpression};
 ghost use Rattle.c_syntax.specs.Tokens.{IsKeyword, HasWord};
 ghost use Rattle.c_syntax.specs.declared.expression.Field.{Field};
 ghost use Rattle.c_parse_atom.specs.Information.{is_word, IsIntroduced};
 
 use crate::operands::{integer, name};
 use c_lex::keyword::Keyword;
-use c_lex::sign::Sign;
+use c_lex::punctuator::Punctuator;
 use c_lex::token::{Kind, Token};
 use c_parse_type::front::{after, front};
-use c_syntax::expression::{Field, Name};
+use c_syntax::expression::{Field, Identifier};
 
 /// The bytes of a name: those of the text within its range.
-fn spelling(text: &[u8], name: Name) -> &[u8]
+fn spelling(text: &[u8], name: Identifier) -> &[u8]
     ensures { result.now ≡ slice_range text.now name.start name.end }
 {
     let start = name.start as usize;
@@ -33,7 +33,7 @@ fn spelling(text: &[u8], name: Name) -> &[u8]
 }
 
 /// Whether a name is this word.
-pub fn is_word(text: &[u8], name: Name, word: &[u8]) -> bool
+pub fn is_word(text: &[u8], name: Identifier, word: &[u8]) -> bool
     ensures { result ≡ is_word text.now name word.now }
 {
     spelling(text, name) == word
@@ -70,11 +70,11 @@ fn introduced<'a>(text: &[u8], tokens: &'a [Token]) -> Option<(u64, &'a [Token])
     ensures none { IfNone result ((at : ℕ) (rest : List Token) → IsIntroduced text.now at tokens.now rest → ⊥) }
 {
     let (at, rest) = intrinsic(tokens)?;
-    let rest = after(Sign::OpenParenthesis, rest)?;
-    let rest = after(Sign::CloseParenthesis, rest)?;
-    let rest = after(Sign::Arrow, rest)?;
+    let rest = after(Punctuator::OpenParenthesis, rest)?;
+    let rest = after(Punctuator::CloseParenthesis, rest)?;
+    let rest = after(Punctuator::Arrow, rest)?;
     let rest = after_word(text, b"ExceptionRecord", rest)?;
-    let rest = after(Sign::Arrow, rest)?;
+    let rest = after(Punctuator::Arrow, rest)?;
     Some((at, rest))
 }
 
@@ -93,18 +93,18 @@ fn field<'a>(text: &[u8], tokens: &'a [Token]) -> Option<(Field, &'a [Token])>
         return Some((Field::Count, rest));
     }
     let rest = after_word(text, b"ExceptionInformation", tokens)?;
-    let rest = after(Sign::OpenBracket, rest)?;
+    let rest = after(Punctuator::OpenBracket, rest)?;
     let (index, at, rest) = integer(rest)?;
-    let rest = after(Sign::CloseBracket, rest)?;
+    let rest = after(Punctuator::CloseBracket, rest)?;
     Some((Field::Information { index, at }, rest))
 }
 
 /// The field of the exception's record that is read at the front, in the form
 /// `GetExceptionInformation()->ExceptionRecord->field`, the place of its first token, and what follows
-/// it. Names are read from the text.
+/// it. Identifiers are read from the text.
 pub fn information<'a>(text: &[u8], tokens: &'a [Token]) -> Option<(u64, Field, &'a [Token])>
-    ensures found { IfSome result (λ x. Spells text.now (Information x.0 x.1) tokens.now x.2.now) }
-    ensures none { IfNone result ((at : ℕ) (field : Field) (rest : List Token) → Spells text.now (Information at field) tokens.now rest → ⊥) }
+    ensures found { IfSome result (λ x. SpellsExpression text.now (Information x.0 x.1) tokens.now x.2.now) }
+    ensures none { IfNone result ((at : ℕ) (field : Field) (rest : List Token) → SpellsExpression text.now (Information at field) tokens.now rest → ⊥) }
 {
     let (at, rest) = introduced(text, tokens)?;
     let (field, rest) = field(text, rest)?;

@@ -1,9 +1,9 @@
 //! What holds of every operator.
 
-ghost use Rattle.c_parse_atom.specs.Laws.{SignsAgain, NoOtherSigns};
+ghost use Rattle.c_parse_atom.specs.Laws.{PunctuatorsAgain, NoOtherPunctuators};
 
-/// Each operator is read from its sign, and from no other.
+/// Each operator is read from its punctuator, and from no other.
 pub fn laws()
-    ensures signs { SignsAgain }
-    ensures no_other { NoOtherSigns }
+    ensures punctuators { PunctuatorsAgain }
+    ensures no_other { NoOtherPunctuators }
 {}

@@ -1,6 +1,6 @@
 //! Operators and the smallest expressions of C from tokens.
 //!
-//! Operators are read from their signs, with the levels by which they bind; literals, names and
+//! Operators are read from their punctuators, with the levels by which they bind; literals, names and
 //! `GetExceptionInformation()->ExceptionRecord->..` are the expressions that hold no other (C11,
 //! 6.5.1; Microsoft C reference, "try-except statement").
 #![tactic(auto)]
@@ -9,5 +9,3 @@ pub mod information;
 pub mod laws;
 pub mod operands;
 pub mod operators;
-#[cfg(test)]
-mod tests;

@@ -3,13 +3,13 @@
 ghost use Rattle.std.specs.Prelude.{◌≡◌, ℕ, List, IfSome, IfNone};
 ghost use Rattle.c_lex.specs.declared.token.Token.{Token};
 ghost use Rattle.c_syntax.specs.declared.expression.Literal.{Literal};
-ghost use Rattle.c_syntax.specs.declared.expression.Name.{Name};
+ghost use Rattle.c_syntax.specs.declared.expression.Identifier.{Identifier};
 ghost use Rattle.c_syntax.specs.Expressions.{literal_kind, IsInteger};
-ghost use Rattle.c_syntax.specs.Tokens.{IsKind, IsName};
+ghost use Rattle.c_syntax.specs.Tokens.{IsKind, IsIdentifier};
 
 use c_lex::token::{Kind, Token};
 use c_parse_type::front::front;
-use c_syntax::expression::{Literal, Name};
+use c_syntax::expression::{Identifier, Literal};
 
 /// The literal that a token of this kind is (C11, 6.4.4).
 fn literal_of(kind: Kind) -> Option<Literal>
@@ -18,7 +18,7 @@ fn literal_of(kind: Kind) -> Option<Literal>
 {
     match kind {
         Kind::Integer { value, of } => Some(Literal::Integer { value, of }),
-        Kind::Character(value) => Some(Literal::Character(value)),
+        Kind::CharacterConstant(value) => Some(Literal::CharacterConstant(value)),
         _ => None,
     }
 }
@@ -46,14 +46,14 @@ pub fn integer(tokens: &[Token]) -> Option<(u64, u64, &[Token])>
 }
 
 /// The name at the front, and what follows it.
-pub fn name(tokens: &[Token]) -> Option<(Name, &[Token])>
-    ensures found { IfSome result (λ x. IsName x.0 tokens.now x.1.now) }
-    ensures none { IfNone result ((name : Name) (rest : List Token) → IsName name tokens.now rest → ⊥) }
+pub fn name(tokens: &[Token]) -> Option<(Identifier, &[Token])>
+    ensures found { IfSome result (λ x. IsIdentifier x.0 tokens.now x.1.now) }
+    ensures none { IfNone result ((name : Identifier) (rest : List Token) → IsIdentifier name tokens.now rest → ⊥) }
 {
     let (token, rest) = front(tokens)?;
     match token.kind {
-        Kind::Name => {
-            let name = Name {
+        Kind::Identifier => {
+            let name = Identifier {
                 start: token.start,
                 end: token.end,
             };

@@ -1,84 +1,84 @@
-//! Operators by their signs.
+//! Operators by their punctuators.
 
 ghost use Rattle.std.specs.Prelude.{◌≡◌};
 ghost use Rattle.c_syntax.specs.Follow as follow;
 ghost use Rattle.c_syntax.specs.Operators as operators;
-ghost use Rattle.c_syntax.specs.SignReaders as signs;
+ghost use Rattle.c_syntax.specs.PunctuatorReaders as punctuators;
 
-use c_lex::sign::Sign;
+use c_lex::punctuator::Punctuator;
 use c_lex::token::{Kind, Token};
 use c_parse_type::front::front;
 use c_syntax::operator::{Arithmetic, BinaryOperator, Comparison, Increment, UnaryOperator};
 
-/// The operator between two operands that a sign is.
-pub fn binary_of(sign: Sign) -> Option<BinaryOperator>
-    ensures { result ≡ signs.binary_of sign }
+/// The operator between two operands that a punctuator is.
+pub fn binary_of(punctuator: Punctuator) -> Option<BinaryOperator>
+    ensures { result ≡ punctuators.binary_of punctuator }
 {
-    match sign {
-        Sign::Star => Some(BinaryOperator::Arithmetic(Arithmetic::Multiply)),
-        Sign::Slash => Some(BinaryOperator::Arithmetic(Arithmetic::Divide)),
-        Sign::Percent => Some(BinaryOperator::Arithmetic(Arithmetic::Remainder)),
-        Sign::Plus => Some(BinaryOperator::Arithmetic(Arithmetic::Add)),
-        Sign::Minus => Some(BinaryOperator::Arithmetic(Arithmetic::Subtract)),
-        Sign::ShiftLeft => Some(BinaryOperator::Arithmetic(Arithmetic::ShiftLeft)),
-        Sign::ShiftRight => Some(BinaryOperator::Arithmetic(Arithmetic::ShiftRight)),
-        Sign::Ampersand => Some(BinaryOperator::Arithmetic(Arithmetic::And)),
-        Sign::Caret => Some(BinaryOperator::Arithmetic(Arithmetic::ExclusiveOr)),
-        Sign::Bar => Some(BinaryOperator::Arithmetic(Arithmetic::Or)),
-        Sign::Less => Some(BinaryOperator::Comparison(Comparison::Less)),
-        Sign::Greater => Some(BinaryOperator::Comparison(Comparison::Greater)),
-        Sign::LessEqual => Some(BinaryOperator::Comparison(Comparison::LessEqual)),
-        Sign::GreaterEqual => Some(BinaryOperator::Comparison(Comparison::GreaterEqual)),
-        Sign::Equal => Some(BinaryOperator::Comparison(Comparison::Equal)),
-        Sign::NotEqual => Some(BinaryOperator::Comparison(Comparison::NotEqual)),
-        Sign::AmpersandAmpersand => Some(BinaryOperator::LogicalAnd),
-        Sign::BarBar => Some(BinaryOperator::LogicalOr),
+    match punctuator {
+        Punctuator::Star => Some(BinaryOperator::Arithmetic(Arithmetic::Multiply)),
+        Punctuator::Slash => Some(BinaryOperator::Arithmetic(Arithmetic::Divide)),
+        Punctuator::Percent => Some(BinaryOperator::Arithmetic(Arithmetic::Remainder)),
+        Punctuator::Plus => Some(BinaryOperator::Arithmetic(Arithmetic::Add)),
+        Punctuator::Minus => Some(BinaryOperator::Arithmetic(Arithmetic::Subtract)),
+        Punctuator::ShiftLeft => Some(BinaryOperator::Arithmetic(Arithmetic::ShiftLeft)),
+        Punctuator::ShiftRight => Some(BinaryOperator::Arithmetic(Arithmetic::ShiftRight)),
+        Punctuator::Ampersand => Some(BinaryOperator::Arithmetic(Arithmetic::And)),
+        Punctuator::Caret => Some(BinaryOperator::Arithmetic(Arithmetic::ExclusiveOr)),
+        Punctuator::Bar => Some(BinaryOperator::Arithmetic(Arithmetic::Or)),
+        Punctuator::Less => Some(BinaryOperator::Comparison(Comparison::Less)),
+        Punctuator::Greater => Some(BinaryOperator::Comparison(Comparison::Greater)),
+        Punctuator::LessEqual => Some(BinaryOperator::Comparison(Comparison::LessEqual)),
+        Punctuator::GreaterEqual => Some(BinaryOperator::Comparison(Comparison::GreaterEqual)),
+        Punctuator::Equal => Some(BinaryOperator::Comparison(Comparison::Equal)),
+        Punctuator::NotEqual => Some(BinaryOperator::Comparison(Comparison::NotEqual)),
+        Punctuator::AmpersandAmpersand => Some(BinaryOperator::LogicalAnd),
+        Punctuator::BarBar => Some(BinaryOperator::LogicalOr),
         _ => None,
     }
 }
 
-/// The assignment that a sign is: with an operator or, for `=`, without.
-pub fn assignment_of(sign: Sign) -> Option<Option<Arithmetic>>
-    ensures { result ≡ signs.assignment_of sign }
+/// The assignment that a punctuator is: with an operator or, for `=`, without.
+pub fn assignment_of(punctuator: Punctuator) -> Option<Option<Arithmetic>>
+    ensures { result ≡ punctuators.assignment_of punctuator }
 {
-    match sign {
-        Sign::Assign => Some(None),
-        Sign::StarAssign => Some(Some(Arithmetic::Multiply)),
-        Sign::SlashAssign => Some(Some(Arithmetic::Divide)),
-        Sign::PercentAssign => Some(Some(Arithmetic::Remainder)),
-        Sign::PlusAssign => Some(Some(Arithmetic::Add)),
-        Sign::MinusAssign => Some(Some(Arithmetic::Subtract)),
-        Sign::ShiftLeftAssign => Some(Some(Arithmetic::ShiftLeft)),
-        Sign::ShiftRightAssign => Some(Some(Arithmetic::ShiftRight)),
-        Sign::AmpersandAssign => Some(Some(Arithmetic::And)),
-        Sign::CaretAssign => Some(Some(Arithmetic::ExclusiveOr)),
-        Sign::BarAssign => Some(Some(Arithmetic::Or)),
+    match punctuator {
+        Punctuator::Assign => Some(None),
+        Punctuator::StarAssign => Some(Some(Arithmetic::Multiply)),
+        Punctuator::SlashAssign => Some(Some(Arithmetic::Divide)),
+        Punctuator::PercentAssign => Some(Some(Arithmetic::Remainder)),
+        Punctuator::PlusAssign => Some(Some(Arithmetic::Add)),
+        Punctuator::MinusAssign => Some(Some(Arithmetic::Subtract)),
+        Punctuator::ShiftLeftAssign => Some(Some(Arithmetic::ShiftLeft)),
+        Punctuator::ShiftRightAssign => Some(Some(Arithmetic::ShiftRight)),
+        Punctuator::AmpersandAssign => Some(Some(Arithmetic::And)),
+        Punctuator::CaretAssign => Some(Some(Arithmetic::ExclusiveOr)),
+        Punctuator::BarAssign => Some(Some(Arithmetic::Or)),
         _ => None,
     }
 }
 
-/// The operator before an operand that a sign is, `++` and `--` aside.
-pub fn unary_of(sign: Sign) -> Option<UnaryOperator>
-    ensures { result ≡ signs.unary_of sign }
+/// The operator before an operand that a punctuator is, `++` and `--` aside.
+pub fn unary_of(punctuator: Punctuator) -> Option<UnaryOperator>
+    ensures { result ≡ punctuators.unary_of punctuator }
 {
-    match sign {
-        Sign::Plus => Some(UnaryOperator::Plus),
-        Sign::Minus => Some(UnaryOperator::Minus),
-        Sign::Exclamation => Some(UnaryOperator::LogicalNot),
-        Sign::Tilde => Some(UnaryOperator::Complement),
-        Sign::Star => Some(UnaryOperator::Indirection),
-        Sign::Ampersand => Some(UnaryOperator::AddressOf),
+    match punctuator {
+        Punctuator::Plus => Some(UnaryOperator::Plus),
+        Punctuator::Minus => Some(UnaryOperator::Minus),
+        Punctuator::Exclamation => Some(UnaryOperator::LogicalNot),
+        Punctuator::Tilde => Some(UnaryOperator::Complement),
+        Punctuator::Star => Some(UnaryOperator::Indirection),
+        Punctuator::Ampersand => Some(UnaryOperator::AddressOf),
         _ => None,
     }
 }
 
-/// Whether a sign is `++` or `--`.
-pub fn increment_of(sign: Sign) -> Option<Increment>
-    ensures { result ≡ signs.increment_of sign }
+/// Whether a punctuator is `++` or `--`.
+pub fn increment_of(punctuator: Punctuator) -> Option<Increment>
+    ensures { result ≡ punctuators.increment_of punctuator }
 {
-    match sign {
-        Sign::PlusPlus => Some(Increment::Increment),
-        Sign::MinusMinus => Some(Increment::Decrement),
+    match punctuator {
+        Punctuator::PlusPlus => Some(Increment::Increment),
+        Punctuator::MinusMinus => Some(Increment::Decrement),
         _ => None,
     }
 }
@@ -110,41 +110,42 @@ pub fn level(operator: BinaryOperator) -> u8
     }
 }
 
-/// The level of the production in which a sign stands behind an operand; 17 where it never does.
-fn sign_follows(sign: Sign) -> u8
-    ensures { result ≡ follow.sign_follows sign }
+/// The level of the production in which a punctuator is after an operand; 17 where it never does.
+fn punctuator_follows(punctuator: Punctuator) -> u8
+    ensures { result ≡ follow.punctuator_follows punctuator }
 {
-    match sign {
-        Sign::OpenParenthesis => 0,
-        Sign::OpenBracket | Sign::PlusPlus | Sign::MinusMinus => 1,
-        Sign::Star | Sign::Slash | Sign::Percent => 4,
-        Sign::Plus | Sign::Minus => 5,
-        Sign::ShiftLeft | Sign::ShiftRight => 6,
-        Sign::Less | Sign::Greater | Sign::LessEqual | Sign::GreaterEqual => 7,
-        Sign::Equal | Sign::NotEqual => 8,
-        Sign::Ampersand => 9,
-        Sign::Caret => 10,
-        Sign::Bar => 11,
-        Sign::AmpersandAmpersand => 12,
-        Sign::BarBar => 13,
-        Sign::Question => 14,
-        Sign::Assign
-        | Sign::PlusAssign
-        | Sign::MinusAssign
-        | Sign::StarAssign
-        | Sign::SlashAssign
-        | Sign::PercentAssign
-        | Sign::AmpersandAssign
-        | Sign::BarAssign
-        | Sign::CaretAssign
-        | Sign::ShiftLeftAssign
-        | Sign::ShiftRightAssign => 15,
-        Sign::Comma => 16,
+    match punctuator {
+        Punctuator::OpenParenthesis => 0,
+        Punctuator::OpenBracket | Punctuator::PlusPlus | Punctuator::MinusMinus => 1,
+        Punctuator::Star | Punctuator::Slash | Punctuator::Percent => 4,
+        Punctuator::Plus | Punctuator::Minus => 5,
+        Punctuator::ShiftLeft | Punctuator::ShiftRight => 6,
+        Punctuator::Less | Punctuator::Greater | Punctuator::LessEqual | Punctuator::GreaterEqual =>
+            7,
+        Punctuator::Equal | Punctuator::NotEqual => 8,
+        Punctuator::Ampersand => 9,
+        Punctuator::Caret => 10,
+        Punctuator::Bar => 11,
+        Punctuator::AmpersandAmpersand => 12,
+        Punctuator::BarBar => 13,
+        Punctuator::Question => 14,
+        Punctuator::Assign
+        | Punctuator::PlusAssign
+        | Punctuator::MinusAssign
+        | Punctuator::StarAssign
+        | Punctuator::SlashAssign
+        | Punctuator::PercentAssign
+        | Punctuator::AmpersandAssign
+        | Punctuator::BarAssign
+        | Punctuator::CaretAssign
+        | Punctuator::ShiftLeftAssign
+        | Punctuator::ShiftRightAssign => 15,
+        Punctuator::Comma => 16,
         _ => 17,
     }
 }
 
-/// The level of the production in which an expression goes on with these tokens: 0 for a call, 1 for
+/// The level of the production in which an expression continues with these tokens: 0 for a call, 1 for
 /// `[`, `++` and `--`, the operator's level, 14 for `?`, 15 for an assignment, 16 for a comma; 17 where
 /// none does.
 pub fn follows(tokens: &[Token]) -> u8
@@ -152,7 +153,7 @@ pub fn follows(tokens: &[Token]) -> u8
 {
     match front(tokens) {
         Some((token, _)) => match token.kind {
-            Kind::Sign(sign) => sign_follows(sign),
+            Kind::Punctuator(punctuator) => punctuator_follows(punctuator),
             _ => 17,
         },
         None => 17,

@@ -1,82 +1,82 @@
 -- Arguments of which one fails, or what follows them.
 use Rattle.std.proofs.Common.{◌≡◌, ◌≤◌, ◌-◌, ℕ, List, [], ◌∷◌, ◌++◌, refl, sym, ap, ◌∙◌, subst, arith}
-use Rattle.c_lex.specs.declared.sign.Sign.TheVariants as signs
+use Rattle.c_lex.specs.declared.punctuator.Punctuator.TheVariants as punctuators
 use Rattle.c_lex.specs.declared.token.Kind.TheVariants as kinds
 use Rattle.c_lex.specs.declared.token.Token.{Token}
 use Rattle.c_syntax.specs.Expression.{Expression, Done, Next, arguments, heights}
-use Rattle.c_syntax.specs.Expressions.{Spells, SpellsArguments}
+use Rattle.c_syntax.specs.Expressions.{SpellsExpression, SpellsArguments}
 use Rattle.c_syntax.specs.Faults.{SameFirst, place, Failed, Wraps}
 use Rattle.c_syntax.specs.Follow.{Stops}
-use Rattle.c_syntax.specs.Tokens.{token, HasSign}
+use Rattle.c_syntax.specs.Tokens.{token, HasPunctuator}
 use Rattle.c_syntax.proofs.Firsts as firsts
 use Rattle.c_syntax.proofs.Failing.{append_append}
 use Rattle.c_syntax.proofs.Moves.{Moves}
 use Rattle.c_syntax.proofs.Moves as moved
 use Rattle.c_parse_expr.specs.Readings.{NoExpression, HasExpression, NoArguments, HasArguments, AreMore, AreListed, Begins, NeverBegins}
 use Rattle.c_parse_expr.proofs.Listing.{listed_behind, heights_behind, listed_spelled, stuck, no_next, no_first, no_place}
-use Rattle.c_parse_expr.proofs.Placing.{unexpected_at, deep_at, sign_token}
+use Rattle.c_parse_expr.proofs.Placing.{unexpected_at, deep_at, punctuator_token}
 
 abbrev close : Token
-close = sign_token signs.CloseParenthesis
+close = punctuator_token punctuators.CloseParenthesis
 
 -- ---- the first
 
 one_argument : (room n : ℕ) (text : List ℕ) (inner : List Token) → (1 ≤ n → 1 ≤ room) → HasExpression 15 (room - 1) n text inner → HasArguments room n text (inner ++ (close ∷ []))
 one_argument room n text inner r h = record {
   trees = Next h.tree Done;
-  spells = λ other. let d = h.derives (close ∷ other) in (close ∷ other, d.fits, subst (λ (z : List Token). Spells text h.tree z (close ∷ other)) (sym (append_append inner (close ∷ []) other)) d.spells, (0, (0, refl)));
+  spells = λ other. let d = h.derives (close ∷ other) in (close ∷ other, d.fits, subst (λ (z : List Token). SpellsExpression text h.tree z (close ∷ other)) (sym (append_append inner (close ∷ []) other)) d.spells, (0, (0, refl)));
   low = λ k. let a = h.low k in let b = r k in omega arith;
 }
 
-pub first_wraps : (room : ℕ) (text : List ℕ) (ts : List Token) → 1 ≤ room → ((rest : List Token) → HasSign signs.CloseParenthesis ts rest → ⊥) → Wraps (NoExpression 15 (room - 1)) (HasExpression 15 (room - 1)) (NoArguments room) (HasArguments room) text ts ts
+pub first_wraps : (room : ℕ) (text : List ℕ) (ts : List Token) → 1 ≤ room → ((rest : List Token) → HasPunctuator punctuators.CloseParenthesis ts rest → ⊥) → Wraps (NoExpression 15 (room - 1)) (HasExpression 15 (room - 1)) (NoArguments room) (HasArguments room) text ts ts
 first_wraps room text ts r c = record {
   before = [];
   split = refl;
-  no = λ n text' other a s x. no_first text' n room other (firsts.no_sign signs.CloseParenthesis ts other s c) x;
+  no = λ n text' other a s x. no_first text' n room other (firsts.no_punctuator punctuators.CloseParenthesis ts other s c) x;
   has = λ n text' inner a k h. record { more = close ∷ []; has = one_argument room n text' inner (λ q. r) h };
 }
 
 has_none : (room n : ℕ) (text : List ℕ) → HasArguments room n text (close ∷ [])
 has_none room n text = record { trees = Done; spells = λ other. (0, (0, refl)); low = λ k. omega arith }
 
-pub deep_there : (text : List ℕ) (ts : List Token) → ((rest : List Token) → HasSign signs.CloseParenthesis ts rest → ⊥) → Begins ts → Failed 1 (place text ts) (NoArguments 0) (HasArguments 0) text ts
+pub deep_there : (text : List ℕ) (ts : List Token) → ((rest : List Token) → HasPunctuator punctuators.CloseParenthesis ts rest → ⊥) → Begins ts → Failed 1 (place text ts) (NoArguments 0) (HasArguments 0) text ts
 deep_there text ts c b =
     deep_at (NoArguments 0) (HasArguments 0) text ts [] ts refl
-    (λ text' other a s. no_place text' other (firsts.no_sign signs.CloseParenthesis ts other s c))
+    (λ text' other a s. no_place text' other (firsts.no_punctuator punctuators.CloseParenthesis ts other s c))
     (λ text' a k. record { more = close ∷ []; has = has_none 0 6 text' })
     (λ text' a k.
     let o = b text' k in
     record { token = o.token; rest = o.rest; more = o.more ++ (close ∷ []); is = o.is; has = one_argument 0 0 text' (o.token ∷ o.more) (λ q. omega arith) o.has })
 
-no_argument : (text : List ℕ) (n room : ℕ) (ts other : List Token) → SameFirst ts other → ((rest : List Token) → HasSign signs.CloseParenthesis ts rest → ⊥) → NeverBegins ts → NoArguments room n text other
-no_argument text n room ts other s c b Done end g low = firsts.no_sign signs.CloseParenthesis ts other s c end g
+no_argument : (text : List ℕ) (n room : ℕ) (ts other : List Token) → SameFirst ts other → ((rest : List Token) → HasPunctuator punctuators.CloseParenthesis ts rest → ⊥) → NeverBegins ts → NoArguments room n text other
+no_argument text n room ts other s c b Done end g low = firsts.no_punctuator punctuators.CloseParenthesis ts other s c end g
 no_argument text n room ts other s c b (Next x xs) end g low = b text other s x g.0 g.2
 
-pub none_there : (text : List ℕ) (ts : List Token) → ((rest : List Token) → HasSign signs.CloseParenthesis ts rest → ⊥) → NeverBegins ts → Failed 0 (place text ts) (NoArguments 0) (HasArguments 0) text ts
+pub none_there : (text : List ℕ) (ts : List Token) → ((rest : List Token) → HasPunctuator punctuators.CloseParenthesis ts rest → ⊥) → NeverBegins ts → Failed 0 (place text ts) (NoArguments 0) (HasArguments 0) text ts
 none_there text ts c b =
     unexpected_at (NoArguments 0) (HasArguments 0) text ts [] ts refl
     (λ text' other a s. no_argument text' 0 0 ts other s c b)
     (λ text' a k. record { more = close ∷ []; has = has_none 0 6 text' })
 
--- ---- behind others
+-- ---- after others
 
 more_moves : (text : List ℕ) (es : List Expression) (ts rest : List Token) → AreMore text es ts rest → Moves (λ t. AreMore t es) text ts rest
 more_moves text [] ts rest h = moved.nothing text ts rest h
 more_moves text (e ∷ es) ts rest h =
-    moved.map (moved.both (moved.has_sign signs.Comma text ts h.0 h.2) (moved.both (moved.derives 15 e text h.0 h.1 h.3) (more_moves text es h.1 rest h.4))) (λ t us vs g. (g.0, g.2.0, g.1, g.2.1, g.2.2))
+    moved.map (moved.both (moved.has_punctuator punctuators.Comma text ts h.0 h.2) (moved.both (moved.derives 15 e text h.0 h.1 h.3) (more_moves text es h.1 rest h.4))) (λ t us vs g. (g.0, g.2.0, g.1, g.2.1, g.2.2))
 
 listed_moves : (text : List ℕ) (es : List Expression) (ts rest : List Token) → AreListed text es ts rest → Moves (λ t. AreListed t es) text ts rest
 listed_moves text [] ts rest h = absurd h
 listed_moves text (e ∷ es) ts rest h = moved.map (moved.both (moved.derives 15 e text ts h.0 h.1) (more_moves text es h.0 rest h.2)) (λ t us vs g. (g.0, g.1, g.2))
 
-pub next_wraps : (room : ℕ) (es : List Expression) (text : List ℕ) (ts rest behind : List Token) → 1 ≤ room → AreListed text es ts rest → Stops 15 rest → HasSign signs.Comma rest behind → heights (arguments es) ≤ room
-    → Wraps (NoExpression 15 (room - 1)) (HasExpression 15 (room - 1)) (NoArguments room) (HasArguments room) text behind ts
-next_wraps room es text ts rest behind r h st c low =
+pub next_wraps : (room : ℕ) (es : List Expression) (text : List ℕ) (ts rest following : List Token) → 1 ≤ room → AreListed text es ts rest → Stops 15 rest → HasPunctuator punctuators.Comma rest following → heights (arguments es) ≤ room
+    → Wraps (NoExpression 15 (room - 1)) (HasExpression 15 (room - 1)) (NoArguments room) (HasArguments room) text following ts
+next_wraps room es text ts rest following r h st c low =
     let m = listed_moves text es ts rest h in
-    let comma = token (kinds.Sign signs.Comma) c.0 c.1.0 in
+    let comma = token (kinds.Punctuator punctuators.Comma) c.0 c.1.0 in
     record {
       before = m.front ++ (comma ∷ []);
-      split = m.split ∙ ap (λ z. m.front ++ z) c.1.1 ∙ sym (append_append m.front (comma ∷ []) behind);
+      split = m.split ∙ ap (λ z. m.front ++ z) c.1.1 ∙ sym (append_append m.front (comma ∷ []) following);
       no = λ n text' other a s x.
           subst (λ (z : List Token). NoArguments room n text' z) (sym (append_append m.front (comma ∷ []) other))
           (no_next text' n room es (m.front ++ comma ∷ other) (comma ∷ other) other (m.again text' (comma ∷ other) a) (omega arith) (c.0, (c.1.0, refl)) x);
@@ -97,14 +97,14 @@ next_wraps room es text ts rest behind r h st c low =
     }
 
 pub stuck_there : (room : ℕ) (es : List Expression) (text : List ℕ) (ts rest : List Token) → AreListed text es ts rest → Stops 15 rest
-    → ((b : List Token) → HasSign signs.CloseParenthesis rest b → ⊥)
-    → ((b : List Token) → HasSign signs.Comma rest b → ⊥)
+    → ((b : List Token) → HasPunctuator punctuators.CloseParenthesis rest b → ⊥)
+    → ((b : List Token) → HasPunctuator punctuators.Comma rest b → ⊥)
     → heights (arguments es) ≤ room
     → Failed 0 (place text rest) (NoArguments room) (HasArguments room) text ts
 stuck_there room es text ts rest h st n c low =
     let m = listed_moves text es ts rest h in
     unexpected_at (NoArguments room) (HasArguments room) text ts m.front rest m.split
-    (λ text' other a s. stuck text' 0 room es (m.front ++ other) other (m.again text' other a) (firsts.stops 15 rest other s st) (firsts.no_sign signs.CloseParenthesis rest other s n) (firsts.no_sign signs.Comma rest other s c))
+    (λ text' other a s. stuck text' 0 room es (m.front ++ other) other (m.again text' other a) (firsts.stops 15 rest other s st) (firsts.no_punctuator punctuators.CloseParenthesis rest other s n) (firsts.no_punctuator punctuators.Comma rest other s c))
     (λ text' a k. record {
       more = close ∷ [];
       has = record {

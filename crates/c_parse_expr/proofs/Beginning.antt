@@ -3,8 +3,8 @@ use Rattle.std.proofs.Common.{◌≡◌, ◌≤◌, ◌<◌, ◌+◌, ◌-◌, �
 use Rattle.std.proofs.lemmas.List.{append_cancel_right}
 use Rattle.c_lex.specs.declared.keyword.Keyword.{Keyword}
 use Rattle.c_lex.specs.declared.keyword.Keyword.TheVariants as keywords
-use Rattle.c_lex.specs.declared.sign.Sign.{Sign}
-use Rattle.c_lex.specs.declared.sign.Sign.TheVariants as signs
+use Rattle.c_lex.specs.declared.punctuator.Punctuator.{Punctuator}
+use Rattle.c_lex.specs.declared.punctuator.Punctuator.TheVariants as punctuators
 use Rattle.c_lex.specs.declared.token.IntegerType.{IntegerType}
 use Rattle.c_lex.specs.declared.token.Kind.{Kind}
 use Rattle.c_lex.specs.declared.token.Kind.TheVariants as kinds
@@ -12,7 +12,7 @@ use Rattle.c_lex.specs.declared.token.Token.{Token}
 use Rattle.c_syntax.specs.declared.expression.CType.{CType}
 use Rattle.c_syntax.specs.declared.expression.Literal.{Literal}
 use Rattle.c_syntax.specs.declared.expression.Literal.TheVariants as literals
-use Rattle.c_syntax.specs.declared.expression.Name.{Name}
+use Rattle.c_syntax.specs.declared.expression.Identifier.{Identifier}
 use Rattle.c_syntax.specs.declared.operator.Increment.{Increment}
 use Rattle.c_syntax.specs.declared.operator.Increment.TheVariants as increments
 use Rattle.c_syntax.specs.declared.operator.UnaryOperator.{UnaryOperator}
@@ -20,32 +20,32 @@ use Rattle.c_syntax.specs.declared.operator.UnaryOperator.TheVariants as unary_o
 use Rattle.c_syntax.specs.Expression.{Constant, Variable, Information, Call, Parentheses, Prefix, Unary, Cast}
 use Rattle.c_syntax.specs.Expressions.{literal_kind}
 use Rattle.c_syntax.specs.Faults.{SameFirst, place, Failed, Wraps}
-use Rattle.c_syntax.specs.Operators.{increment_sign, unary_sign}
-use Rattle.c_syntax.specs.SignReaders.{unary_of, increment_of}
-use Rattle.c_syntax.specs.Tokens.{token, IsKind, IsSign, IsName, HasSign}
+use Rattle.c_syntax.specs.Operators.{increment_punctuator, unary_punctuator}
+use Rattle.c_syntax.specs.PunctuatorReaders.{unary_of, increment_of}
+use Rattle.c_syntax.specs.Tokens.{token, IsKind, IsPunctuator, IsIdentifier, HasPunctuator}
 use Rattle.c_syntax.specs.Types.{IsType}
 use Rattle.c_syntax.proofs.Firsts as firsts
 use Rattle.c_syntax.proofs.Failing.{append_append, alike_inner}
 use Rattle.c_syntax.proofs.Fronts.{front, kind_class}
 use Rattle.c_syntax.proofs.Moves as moved
 use Rattle.c_syntax.proofs.Once.{expression_front}
-use Rattle.c_parse_atom.proofs.Signs.{increment_only, unary_only}
+use Rattle.c_parse_atom.proofs.Punctuators.{increment_only, unary_only}
 use Rattle.c_parse_type.specs.Bases.{NoBase, EndsType}
 use Rattle.c_parse_type.specs.Fronts.{first}
 use Rattle.c_parse_expr.specs.Readings.{NoExpression, HasExpression, NoneEnclosed, HasEnclosed, NoArguments, HasArguments, NoOperand, NoInformation, HasInformation, Begins, NeverBegins, Opens, Parenthesis, Steps, Operates}
 use Rattle.c_parse_expr.proofs.Departing.{introduction, ends, has_information}
 use Rattle.c_parse_expr.proofs.Operands.{none_begins, no_call, no_operator, no_room, no_prefixed, no_unary, no_cast, not_cast, no_group, OnlyType}
-use Rattle.c_parse_expr.proofs.Placing.{unexpected_at, deep_at, able_now, one, one_tree, sign_token, has_one, loosen}
+use Rattle.c_parse_expr.proofs.Placing.{unexpected_at, deep_at, able_now, one, one_tree, punctuator_token, has_one, loosen}
 
 abbrev Open : ℕ → List Token → List Token → Type 0
-Open at ts rest = IsSign signs.OpenParenthesis at ts rest
+Open at ts rest = IsPunctuator punctuators.OpenParenthesis at ts rest
 
 -- ---- names and the exception's record
 
-pub call_wraps : (l room : ℕ) (x : Name) (text : List ℕ) (ts rest b : List Token) → IsName x ts rest → HasSign signs.OpenParenthesis rest b → Wraps (NoArguments room) (HasArguments room) (NoOperand l room) (HasExpression l room) text b ts
+pub call_wraps : (l room : ℕ) (x : Identifier) (text : List ℕ) (ts rest b : List Token) → IsIdentifier x ts rest → HasPunctuator punctuators.OpenParenthesis rest b → Wraps (NoArguments room) (HasArguments room) (NoOperand l room) (HasExpression l room) text b ts
 call_wraps l room x text ts rest b i h =
-    let name = token kinds.Name x.start x.end in
-    let paren = token (kinds.Sign signs.OpenParenthesis) h.0 h.1.0 in
+    let name = token kinds.Identifier x.start x.end in
+    let paren = token (kinds.Punctuator punctuators.OpenParenthesis) h.0 h.1.0 in
     record {
       before = name ∷ paren ∷ [];
       split = i ∙ ap (λ (z : List Token). name ∷ z) h.1.1;
@@ -56,10 +56,10 @@ call_wraps l room x text ts rest b i h =
 
 pub information_wraps : (l room : ℕ) (text : List ℕ) (ts : List Token)
     → ((x : Literal) (at : ℕ) (rest : List Token) → IsKind (literal_kind x) at ts rest → ⊥)
-    → ((x : Name) (rest : List Token) → IsName x ts rest → ⊥)
-    → ((s : Sign) (at : ℕ) (rest : List Token) → IsSign s at ts rest → ⊥)
+    → ((x : Identifier) (rest : List Token) → IsIdentifier x ts rest → ⊥)
+    → ((s : Punctuator) (at : ℕ) (rest : List Token) → IsPunctuator s at ts rest → ⊥)
     → Wraps NoInformation HasInformation (NoOperand l room) (HasExpression l room) text ts ts
-information_wraps l room text ts no_literal no_name no_sign = record {
+information_wraps l room text ts no_literal no_name no_punctuator = record {
   before = [];
   split = refl;
   no = λ n text' other a s x.
@@ -67,54 +67,54 @@ information_wraps l room text ts no_literal no_name no_sign = record {
       (firsts.no_literal ts other s no_literal)
       (firsts.no_name ts other s no_name)
       x
-      (λ y. firsts.no_kind (kinds.Sign y) ts other s (no_sign y));
+      (λ y. firsts.no_kind (kinds.Punctuator y) ts other s (no_punctuator y));
   has = λ n text' inner a k h. able_now (HasExpression l room) n text' inner
       (record { tree = Information h.at h.field; derives = λ other. record { fits = omega arith; spells = h.spells other }; low = λ q. omega arith });
 }
 
 -- ---- operators before an operand
 
-prefixed : (l room n : ℕ) (s : Sign) (op : Increment) (at end : ℕ) (text : List ℕ) (inner : List Token) → 2 ≤ l → (1 ≤ n → 1 ≤ room) → increment_of s ≡ Some op → HasExpression 2 (room - 1) n text inner
-    → HasExpression l room n text (token (kinds.Sign s) at end ∷ inner)
+prefixed : (l room n : ℕ) (s : Punctuator) (op : Increment) (at end : ℕ) (text : List ℕ) (inner : List Token) → 2 ≤ l → (1 ≤ n → 1 ≤ room) → increment_of s ≡ Some op → HasExpression 2 (room - 1) n text inner
+    → HasExpression l room n text (token (kinds.Punctuator s) at end ∷ inner)
 prefixed l room n s op at end text inner p r e h =
-    let q : s ≡ increment_sign op = increment_only op s e in
+    let q : s ≡ increment_punctuator op = increment_only op s e in
     record {
       tree = Prefix at op h.tree;
-      derives = λ other. let d = h.derives other in record { fits = omega arith; spells = (inner ++ other, (end, ap (λ (z : Sign). token (kinds.Sign z) at end ∷ (inner ++ other)) q), d.fits, d.spells) };
+      derives = λ other. let d = h.derives other in record { fits = omega arith; spells = (inner ++ other, (end, ap (λ (z : Punctuator). token (kinds.Punctuator z) at end ∷ (inner ++ other)) q), d.fits, d.spells) };
       low = λ k. let y = h.low k in let z = r k in omega arith;
     }
 
-unaried : (l room n : ℕ) (s : Sign) (op : UnaryOperator) (at end : ℕ) (text : List ℕ) (inner : List Token) → 2 ≤ l → (1 ≤ n → 1 ≤ room) → unary_of s ≡ Some op → HasExpression 3 (room - 1) n text inner
-    → HasExpression l room n text (token (kinds.Sign s) at end ∷ inner)
+unaried : (l room n : ℕ) (s : Punctuator) (op : UnaryOperator) (at end : ℕ) (text : List ℕ) (inner : List Token) → 2 ≤ l → (1 ≤ n → 1 ≤ room) → unary_of s ≡ Some op → HasExpression 3 (room - 1) n text inner
+    → HasExpression l room n text (token (kinds.Punctuator s) at end ∷ inner)
 unaried l room n s op at end text inner p r e h =
-    let q : s ≡ unary_sign op = unary_only op s e in
+    let q : s ≡ unary_punctuator op = unary_only op s e in
     record {
       tree = Unary at op h.tree;
-      derives = λ other. let d = h.derives other in record { fits = omega arith; spells = (inner ++ other, (end, ap (λ (z : Sign). token (kinds.Sign z) at end ∷ (inner ++ other)) q), d.fits, d.spells) };
+      derives = λ other. let d = h.derives other in record { fits = omega arith; spells = (inner ++ other, (end, ap (λ (z : Punctuator). token (kinds.Punctuator z) at end ∷ (inner ++ other)) q), d.fits, d.spells) };
       low = λ k. let y = h.low k in let z = r k in omega arith;
     }
 
-pub prefix_wraps : (l room : ℕ) (s : Sign) (op : Increment) (at : ℕ) (text : List ℕ) (ts rest : List Token) → 2 ≤ l → 1 ≤ room → IsSign s at ts rest → increment_of s ≡ Some op
+pub prefix_wraps : (l room : ℕ) (s : Punctuator) (op : Increment) (at : ℕ) (text : List ℕ) (ts rest : List Token) → 2 ≤ l → 1 ≤ room → IsPunctuator s at ts rest → increment_of s ≡ Some op
     → Wraps (NoExpression 2 (room - 1)) (HasExpression 2 (room - 1)) (NoOperand l room) (HasExpression l room) text rest ts
 prefix_wraps l room s op at text ts rest p r h e = record {
-  before = token (kinds.Sign s) at h.0 ∷ [];
+  before = token (kinds.Punctuator s) at h.0 ∷ [];
   split = h.1;
-  no = λ n text' other a f x. no_prefixed text' n l room s op at (token (kinds.Sign s) at h.0 ∷ other) other (h.0, refl) e x;
-  has = λ n text' inner a k g. able_now (HasExpression l room) n text' (token (kinds.Sign s) at h.0 ∷ inner) (prefixed l room n s op at h.0 text' inner p (λ q. r) e g);
+  no = λ n text' other a f x. no_prefixed text' n l room s op at (token (kinds.Punctuator s) at h.0 ∷ other) other (h.0, refl) e x;
+  has = λ n text' inner a k g. able_now (HasExpression l room) n text' (token (kinds.Punctuator s) at h.0 ∷ inner) (prefixed l room n s op at h.0 text' inner p (λ q. r) e g);
 }
 
-pub unary_wraps : (l room : ℕ) (s : Sign) (op : UnaryOperator) (at : ℕ) (text : List ℕ) (ts rest : List Token) → 2 ≤ l → 1 ≤ room → IsSign s at ts rest → unary_of s ≡ Some op
+pub unary_wraps : (l room : ℕ) (s : Punctuator) (op : UnaryOperator) (at : ℕ) (text : List ℕ) (ts rest : List Token) → 2 ≤ l → 1 ≤ room → IsPunctuator s at ts rest → unary_of s ≡ Some op
     → Wraps (NoExpression 3 (room - 1)) (HasExpression 3 (room - 1)) (NoOperand l room) (HasExpression l room) text rest ts
 unary_wraps l room s op at text ts rest p r h e = record {
-  before = token (kinds.Sign s) at h.0 ∷ [];
+  before = token (kinds.Punctuator s) at h.0 ∷ [];
   split = h.1;
-  no = λ n text' other a f x. no_unary text' n l room s op at (token (kinds.Sign s) at h.0 ∷ other) other (h.0, refl) e x;
-  has = λ n text' inner a k g. able_now (HasExpression l room) n text' (token (kinds.Sign s) at h.0 ∷ inner) (unaried l room n s op at h.0 text' inner p (λ q. r) e g);
+  no = λ n text' other a f x. no_unary text' n l room s op at (token (kinds.Punctuator s) at h.0 ∷ other) other (h.0, refl) e x;
+  has = λ n text' inner a k g. able_now (HasExpression l room) n text' (token (kinds.Punctuator s) at h.0 ∷ inner) (unaried l room n s op at h.0 text' inner p (λ q. r) e g);
 }
 
--- ---- behind `(`
+-- ---- after `(`
 
-grouped : (l room n at end : ℕ) (text : List ℕ) (inner : List Token) → HasEnclosed signs.CloseParenthesis room n text inner → HasExpression l (room + 1) n text (token (kinds.Sign signs.OpenParenthesis) at end ∷ inner)
+grouped : (l room n at end : ℕ) (text : List ℕ) (inner : List Token) → HasEnclosed punctuators.CloseParenthesis room n text inner → HasExpression l (room + 1) n text (token (kinds.Punctuator punctuators.OpenParenthesis) at end ∷ inner)
 grouped l room n at end text inner h = record {
   tree = Parentheses at h.tree;
   derives = λ other. let x = h.encloses other in record { fits = omega arith; spells = (inner ++ other, x.mid, (end, refl), x.spells, x.closed) };
@@ -122,9 +122,9 @@ grouped l room n at end text inner h = record {
 }
 
 pub group_wraps : (l room at : ℕ) (text : List ℕ) (ts rest : List Token) → Open at ts rest → ((3 ≤ l) → NoBase rest)
-    → Wraps (NoneEnclosed signs.CloseParenthesis room) (HasEnclosed signs.CloseParenthesis room) (NoOperand l (room + 1)) (HasExpression l (room + 1)) text rest ts
+    → Wraps (NoneEnclosed punctuators.CloseParenthesis room) (HasEnclosed punctuators.CloseParenthesis room) (NoOperand l (room + 1)) (HasExpression l (room + 1)) text rest ts
 group_wraps l room at text ts rest h b =
-    let paren = token (kinds.Sign signs.OpenParenthesis) at h.0 in
+    let paren = token (kinds.Punctuator punctuators.OpenParenthesis) at h.0 in
     record {
       before = paren ∷ [];
       split = h.1;
@@ -132,18 +132,18 @@ group_wraps l room at text ts rest h b =
       has = λ n text' inner a k g. able_now (HasExpression l (room + 1)) n text' (paren ∷ inner) (grouped l room n at h.0 text' inner g);
     }
 
--- the type that is read there is read there with other tokens behind it that begin alike
+-- the type that is read there is read there with other tokens after it that begin alike
 only_there : (to : CType) (rest mid front other : List Token) → EndsType to rest mid → rest ≡ front ++ mid → SameFirst mid other → OnlyType (front ++ other) other
 only_there to rest mid front other w p s =
     let q : w.front ≡ front = append_cancel_right w.front front mid (sym w.split ∙ p) in
     λ u end t n m. (w.only other s u end (subst (λ (z : List Token). IsType u (z ++ other) end) (sym q) t) n m).1
 
-pub cast_wraps : (l room at : ℕ) (to : CType) (text : List ℕ) (ts rest mid after : List Token) → 3 ≤ l → Open at ts rest → IsType to rest mid → EndsType to rest mid → HasSign signs.CloseParenthesis mid after
+pub cast_wraps : (l room at : ℕ) (to : CType) (text : List ℕ) (ts rest mid after : List Token) → 3 ≤ l → Open at ts rest → IsType to rest mid → EndsType to rest mid → HasPunctuator punctuators.CloseParenthesis mid after
     → Wraps (NoExpression 3 room) (HasExpression 3 room) (NoOperand l (room + 1)) (HasExpression l (room + 1)) text after ts
 cast_wraps l room at to text ts rest mid after p h t w g =
     let m = moved.type to text rest mid t in
-    let paren = token (kinds.Sign signs.OpenParenthesis) at h.0 in
-    let close = token (kinds.Sign signs.CloseParenthesis) g.0 g.1.0 in
+    let paren = token (kinds.Punctuator punctuators.OpenParenthesis) at h.0 in
+    let close = token (kinds.Punctuator punctuators.CloseParenthesis) g.0 g.1.0 in
     record {
       before = paren ∷ (m.front ++ (close ∷ []));
       split = h.1 ∙ ap (λ (z : List Token). paren ∷ z) (m.split ∙ ap (λ z. m.front ++ z) g.1.1 ∙ sym (append_append m.front (close ∷ []) after));
@@ -166,16 +166,16 @@ cast_wraps l room at to text ts rest mid after p h t w g =
           });
     }
 
-pub cast_unclosed : (l room at : ℕ) (to : CType) (text : List ℕ) (ts rest mid : List Token) → 3 ≤ l → Open at ts rest → IsType to rest mid → EndsType to rest mid → ((end : List Token) → HasSign signs.CloseParenthesis mid end → ⊥)
+pub cast_unclosed : (l room at : ℕ) (to : CType) (text : List ℕ) (ts rest mid : List Token) → 3 ≤ l → Open at ts rest → IsType to rest mid → EndsType to rest mid → ((end : List Token) → HasPunctuator punctuators.CloseParenthesis mid end → ⊥)
     → Failed 0 (place text mid) (NoOperand l (room + 1)) (HasExpression l (room + 1)) text ts
 cast_unclosed l room at to text ts rest mid p h t w x =
     let m = moved.type to text rest mid t in
-    let paren = token (kinds.Sign signs.OpenParenthesis) at h.0 in
-    let close = sign_token signs.CloseParenthesis in
+    let paren = token (kinds.Punctuator punctuators.OpenParenthesis) at h.0 in
+    let close = punctuator_token punctuators.CloseParenthesis in
     unexpected_at (NoOperand l (room + 1)) (HasExpression l (room + 1)) text ts (paren ∷ m.front) mid (h.1 ∙ ap (λ (z : List Token). paren ∷ z) m.split)
     (λ text' other a s.
     no_cast text' 0 l room at to (paren ∷ (m.front ++ other)) (m.front ++ other) other (h.0, refl) (m.again text' other (alike_inner text text' (paren ∷ []) rest ts h.1 a)) (only_there to rest mid m.front other w m.split s)
-    (λ e c end z d st low. firsts.no_sign signs.CloseParenthesis mid other s x c z))
+    (λ e c end z d st low. firsts.no_punctuator punctuators.CloseParenthesis mid other s x c z))
     (λ text' a k. record {
       more = close ∷ one ∷ [];
       has = record {
@@ -188,49 +188,49 @@ cast_unclosed l room at to text ts rest mid p h t w x =
       };
     })
 
--- ---- a sign at the front
+-- ---- a punctuator at the front
 
 none_of : {A : Type 0} (o : Option A) → ((x : A) → o ≡ Some x → ⊥) → o ≡ None
 none_of None n = refl
 none_of (Some x) n = absurd (n x refl)
 
-pub no_operand_there : (l room : ℕ) (s : Sign) (at : ℕ) (text : List ℕ) (ts rest : List Token) → IsSign s at ts rest → (Opens s → ⊥) → Failed 0 (place text ts) (NoOperand l room) (HasExpression l room) text ts
+pub no_operand_there : (l room : ℕ) (s : Punctuator) (at : ℕ) (text : List ℕ) (ts rest : List Token) → IsPunctuator s at ts rest → (Opens s → ⊥) → Failed 0 (place text ts) (NoOperand l room) (HasExpression l room) text ts
 no_operand_there l room s at text ts rest h x =
     unexpected_at (NoOperand l room) (HasExpression l room) text ts [] ts refl
     (λ text' other q f. let g = subst (λ (z : List Token). SameFirst z other) h.1 f in no_operator text' 0 l room s at other g.0 (h.0, g.1) (λ e. x (Parenthesis e)) (none_of (increment_of s) (λ op e. x (Steps op e))) (none_of (unary_of s) (λ op e. x (Operates op e))))
     (λ text' q k. record { more = one ∷ []; has = has_one l room 6 text' })
 
-abbrev pub shortest : (s : Sign) → Opens s → List Token
-shortest s (Parenthesis e) = one ∷ sign_token signs.CloseParenthesis ∷ []
+abbrev pub shortest : (s : Punctuator) → Opens s → List Token
+shortest s (Parenthesis e) = one ∷ punctuator_token punctuators.CloseParenthesis ∷ []
 shortest s (Steps op e) = one ∷ []
 shortest s (Operates op e) = one ∷ []
 
-pub has_shortest : (l room : ℕ) (s : Sign) (o : Opens s) (at end : ℕ) (text : List ℕ) → 2 ≤ l → HasExpression l room 0 text (token (kinds.Sign s) at end ∷ shortest s o)
-has_shortest l room s (Parenthesis e) at end text p = subst (λ (z : Sign). HasExpression l room 0 text (token (kinds.Sign z) at end ∷ one ∷ sign_token signs.CloseParenthesis ∷ [])) (sym e)
-    (loosen l (0 + 1) room text (token (kinds.Sign signs.OpenParenthesis) at end ∷ one ∷ sign_token signs.CloseParenthesis ∷ [])
-    (grouped l 0 0 at end text (one ∷ sign_token signs.CloseParenthesis ∷ [])
-    (record { tree = one_tree; encloses = λ other. record { mid = sign_token signs.CloseParenthesis ∷ other; spells = (0, refl); closed = (0, (0, refl)) }; low = λ k. omega arith })))
+pub has_shortest : (l room : ℕ) (s : Punctuator) (o : Opens s) (at end : ℕ) (text : List ℕ) → 2 ≤ l → HasExpression l room 0 text (token (kinds.Punctuator s) at end ∷ shortest s o)
+has_shortest l room s (Parenthesis e) at end text p = subst (λ (z : Punctuator). HasExpression l room 0 text (token (kinds.Punctuator z) at end ∷ one ∷ punctuator_token punctuators.CloseParenthesis ∷ [])) (sym e)
+    (loosen l (0 + 1) room text (token (kinds.Punctuator punctuators.OpenParenthesis) at end ∷ one ∷ punctuator_token punctuators.CloseParenthesis ∷ [])
+    (grouped l 0 0 at end text (one ∷ punctuator_token punctuators.CloseParenthesis ∷ [])
+    (record { tree = one_tree; encloses = λ other. record { mid = punctuator_token punctuators.CloseParenthesis ∷ other; spells = (0, refl); closed = (0, (0, refl)) }; low = λ k. omega arith })))
 has_shortest l room s (Steps op e) at end text p = prefixed l room 0 s op at end text (one ∷ []) p (λ k. omega arith) e (has_one 2 (room - 1) 0 text)
 has_shortest l room s (Operates op e) at end text p = unaried l room 0 s op at end text (one ∷ []) p (λ k. omega arith) e (has_one 3 (room - 1) 0 text)
 
-pub no_room_there : (l : ℕ) (s : Sign) (at : ℕ) (text : List ℕ) (ts rest : List Token) → 2 ≤ l → IsSign s at ts rest → Opens s → Failed 1 (place text ts) (NoOperand l 0) (HasExpression l 0) text ts
+pub no_room_there : (l : ℕ) (s : Punctuator) (at : ℕ) (text : List ℕ) (ts rest : List Token) → 2 ≤ l → IsPunctuator s at ts rest → Opens s → Failed 1 (place text ts) (NoOperand l 0) (HasExpression l 0) text ts
 no_room_there l s at text ts rest p h o =
     deep_at (NoOperand l 0) (HasExpression l 0) text ts [] ts refl
     (λ text' other q f. let g = subst (λ (z : List Token). SameFirst z other) h.1 f in no_room text' l s at other g.0 (h.0, g.1))
     (λ text' q k. record { more = one ∷ []; has = has_one l 0 6 text' })
-    (λ text' q k. record { token = token (kinds.Sign s) at h.0; rest = rest; more = shortest s o; is = h.1; has = has_shortest l 0 s o at h.0 text' p })
+    (λ text' q k. record { token = token (kinds.Punctuator s) at h.0; rest = rest; more = shortest s o; is = h.1; has = has_shortest l 0 s o at h.0 text' p })
 
--- only what it leaves behind: `(`
-pub only_parenthesis : (s : Sign) → Opens s → increment_of s ≡ None → unary_of s ≡ None → s ≡ signs.OpenParenthesis
+-- only what it leaves after: `(`
+pub only_parenthesis : (s : Punctuator) → Opens s → increment_of s ≡ None → unary_of s ≡ None → s ≡ punctuators.OpenParenthesis
 only_parenthesis s (Parenthesis e) a b = e
 only_parenthesis s (Steps op e) a b = let q = sym a ∙ e in absurd cc
 only_parenthesis s (Operates op e) a b = let q = sym b ∙ e in absurd cc
 
 -- ---- whether an expression begins with a token
 
-pub name_begins : (start end : ℕ) (rest : List Token) → Begins (token kinds.Name start end ∷ rest)
+pub name_begins : (start end : ℕ) (rest : List Token) → Begins (token kinds.Identifier start end ∷ rest)
 name_begins start end rest = λ text k. record {
-  token = token kinds.Name start end;
+  token = token kinds.Identifier start end;
   rest = rest;
   more = [];
   is = refl;
@@ -257,8 +257,8 @@ keyword_begins start end rest = λ text k.
       has = record { tree = Information h.at h.field; derives = λ other. record { fits = omega arith; spells = h.spells other }; low = λ q. omega arith };
     }
 
-pub sign_begins : (s : Sign) (start end : ℕ) (rest : List Token) → Opens s → Begins (token (kinds.Sign s) start end ∷ rest)
-sign_begins s start end rest o = λ text k. record { token = token (kinds.Sign s) start end; rest = rest; more = shortest s o; is = refl; has = has_shortest 15 0 s o start end text (omega arith) }
+pub punctuator_begins : (s : Punctuator) (start end : ℕ) (rest : List Token) → Opens s → Begins (token (kinds.Punctuator s) start end ∷ rest)
+punctuator_begins s start end rest o = λ text k. record { token = token (kinds.Punctuator s) start end; rest = rest; more = shortest s o; is = refl; has = has_shortest 15 0 s o start end text (omega arith) }
 
 pub never_kind : (k : Kind) (start end : ℕ) (rest : List Token) → 5 < kind_class k → NeverBegins (token k start end ∷ rest)
 never_kind k start end rest p = λ text other s e after h.
@@ -294,65 +294,65 @@ other_keyword keywords.Finally n = omega arith
 other_keyword keywords.Leave n = omega arith
 other_keyword keywords.GetExceptionInformation n = absurd (n refl)
 
-pub other_sign : (s : Sign) → (Opens s → ⊥) → 5 < kind_class (kinds.Sign s)
-other_sign signs.OpenParenthesis n = absurd (n (Parenthesis refl))
-other_sign signs.CloseParenthesis n = omega arith
-other_sign signs.OpenBracket n = omega arith
-other_sign signs.CloseBracket n = omega arith
-other_sign signs.OpenBrace n = omega arith
-other_sign signs.CloseBrace n = omega arith
-other_sign signs.Semicolon n = omega arith
-other_sign signs.Comma n = omega arith
-other_sign signs.Question n = omega arith
-other_sign signs.Colon n = omega arith
-other_sign signs.Arrow n = omega arith
-other_sign signs.Assign n = omega arith
-other_sign signs.PlusAssign n = omega arith
-other_sign signs.MinusAssign n = omega arith
-other_sign signs.StarAssign n = omega arith
-other_sign signs.SlashAssign n = omega arith
-other_sign signs.PercentAssign n = omega arith
-other_sign signs.AmpersandAssign n = omega arith
-other_sign signs.BarAssign n = omega arith
-other_sign signs.CaretAssign n = omega arith
-other_sign signs.ShiftLeftAssign n = omega arith
-other_sign signs.ShiftRightAssign n = omega arith
-other_sign signs.BarBar n = omega arith
-other_sign signs.AmpersandAmpersand n = omega arith
-other_sign signs.Bar n = omega arith
-other_sign signs.Caret n = omega arith
-other_sign signs.Ampersand n = absurd (n (Operates unary_operators.AddressOf refl))
-other_sign signs.Equal n = omega arith
-other_sign signs.NotEqual n = omega arith
-other_sign signs.Less n = omega arith
-other_sign signs.Greater n = omega arith
-other_sign signs.LessEqual n = omega arith
-other_sign signs.GreaterEqual n = omega arith
-other_sign signs.ShiftLeft n = omega arith
-other_sign signs.ShiftRight n = omega arith
-other_sign signs.Plus n = absurd (n (Operates unary_operators.Plus refl))
-other_sign signs.Minus n = absurd (n (Operates unary_operators.Minus refl))
-other_sign signs.Star n = absurd (n (Operates unary_operators.Indirection refl))
-other_sign signs.Slash n = omega arith
-other_sign signs.Percent n = omega arith
-other_sign signs.Exclamation n = absurd (n (Operates unary_operators.LogicalNot refl))
-other_sign signs.Tilde n = absurd (n (Operates unary_operators.Complement refl))
-other_sign signs.PlusPlus n = absurd (n (Steps increments.Increment refl))
-other_sign signs.MinusMinus n = absurd (n (Steps increments.Decrement refl))
+pub other_punctuator : (s : Punctuator) → (Opens s → ⊥) → 5 < kind_class (kinds.Punctuator s)
+other_punctuator punctuators.OpenParenthesis n = absurd (n (Parenthesis refl))
+other_punctuator punctuators.CloseParenthesis n = omega arith
+other_punctuator punctuators.OpenBracket n = omega arith
+other_punctuator punctuators.CloseBracket n = omega arith
+other_punctuator punctuators.OpenBrace n = omega arith
+other_punctuator punctuators.CloseBrace n = omega arith
+other_punctuator punctuators.Semicolon n = omega arith
+other_punctuator punctuators.Comma n = omega arith
+other_punctuator punctuators.Question n = omega arith
+other_punctuator punctuators.Colon n = omega arith
+other_punctuator punctuators.Arrow n = omega arith
+other_punctuator punctuators.Assign n = omega arith
+other_punctuator punctuators.PlusAssign n = omega arith
+other_punctuator punctuators.MinusAssign n = omega arith
+other_punctuator punctuators.StarAssign n = omega arith
+other_punctuator punctuators.SlashAssign n = omega arith
+other_punctuator punctuators.PercentAssign n = omega arith
+other_punctuator punctuators.AmpersandAssign n = omega arith
+other_punctuator punctuators.BarAssign n = omega arith
+other_punctuator punctuators.CaretAssign n = omega arith
+other_punctuator punctuators.ShiftLeftAssign n = omega arith
+other_punctuator punctuators.ShiftRightAssign n = omega arith
+other_punctuator punctuators.BarBar n = omega arith
+other_punctuator punctuators.AmpersandAmpersand n = omega arith
+other_punctuator punctuators.Bar n = omega arith
+other_punctuator punctuators.Caret n = omega arith
+other_punctuator punctuators.Ampersand n = absurd (n (Operates unary_operators.AddressOf refl))
+other_punctuator punctuators.Equal n = omega arith
+other_punctuator punctuators.NotEqual n = omega arith
+other_punctuator punctuators.Less n = omega arith
+other_punctuator punctuators.Greater n = omega arith
+other_punctuator punctuators.LessEqual n = omega arith
+other_punctuator punctuators.GreaterEqual n = omega arith
+other_punctuator punctuators.ShiftLeft n = omega arith
+other_punctuator punctuators.ShiftRight n = omega arith
+other_punctuator punctuators.Plus n = absurd (n (Operates unary_operators.Plus refl))
+other_punctuator punctuators.Minus n = absurd (n (Operates unary_operators.Minus refl))
+other_punctuator punctuators.Star n = absurd (n (Operates unary_operators.Indirection refl))
+other_punctuator punctuators.Slash n = omega arith
+other_punctuator punctuators.Percent n = omega arith
+other_punctuator punctuators.Exclamation n = absurd (n (Operates unary_operators.LogicalNot refl))
+other_punctuator punctuators.Tilde n = absurd (n (Operates unary_operators.Complement refl))
+other_punctuator punctuators.PlusPlus n = absurd (n (Steps increments.Increment refl))
+other_punctuator punctuators.MinusMinus n = absurd (n (Steps increments.Decrement refl))
 
-pub plain_begins : (k : Kind) → (k ≡ kinds.Name) ⊎ (((value : ℕ) × (type : IntegerType) × (k ≡ kinds.Integer value type)) ⊎ ((value : ℤ) × (k ≡ kinds.Character value))) → (start end : ℕ) (rest : List Token) → Begins (token k start end ∷ rest)
+pub plain_begins : (k : Kind) → (k ≡ kinds.Identifier) ⊎ (((value : ℕ) × (type : IntegerType) × (k ≡ kinds.Integer value type)) ⊎ ((value : ℤ) × (k ≡ kinds.CharacterConstant value))) → (start end : ℕ) (rest : List Token) → Begins (token k start end ∷ rest)
 plain_begins k (inl e) start end rest = subst (λ (z : Kind). Begins (token z start end ∷ rest)) (sym e) (name_begins start end rest)
 plain_begins k (inr (inl e)) start end rest = subst (λ (z : Kind). Begins (token z start end ∷ rest)) (sym e.2) (literal_begins (literals.Integer e.0 e.1) start end rest)
-plain_begins k (inr (inr e)) start end rest = subst (λ (z : Kind). Begins (token z start end ∷ rest)) (sym e.1) (literal_begins (literals.Character e.0) start end rest)
+plain_begins k (inr (inr e)) start end rest = subst (λ (z : Kind). Begins (token z start end ∷ rest)) (sym e.1) (literal_begins (literals.CharacterConstant e.0) start end rest)
 
 some_of : {A : Type 0} (o : Option A) → is_some o ≡ true → (x : A) × (o ≡ Some x)
 some_of None e = absurd cc
 some_of (Some x) e = (x, refl)
 
-pub steps_by : (s : Sign) → is_some (increment_of s) ≡ true → Opens s
+pub steps_by : (s : Punctuator) → is_some (increment_of s) ≡ true → Opens s
 steps_by s e = let h = some_of (increment_of s) e in Steps h.0 h.1
 
-pub operates_by : (s : Sign) → is_some (unary_of s) ≡ true → Opens s
+pub operates_by : (s : Punctuator) → is_some (unary_of s) ≡ true → Opens s
 operates_by s e = let h = some_of (unary_of s) e in Operates h.0 h.1
 
 pub first_is : (ts : List Token) (t : Token) (rest : List Token) → first ts ≡ Some (t, rest) → ts ≡ t ∷ rest

@@ -1,31 +1,31 @@
 -- Where `GetExceptionInformation()->ExceptionRecord->field` isn't gone on with.
 use Rattle.std.proofs.Common.{◌≡◌, ℕ, List, [], ◌∷◌, ◌++◌, codes, slice_range, refl, sym, ap, ◌∙◌, subst}
 use Rattle.c_lex.specs.declared.keyword.Keyword.TheVariants as keywords
-use Rattle.c_lex.specs.declared.sign.Sign.{Sign}
-use Rattle.c_lex.specs.declared.sign.Sign.TheVariants as signs
+use Rattle.c_lex.specs.declared.punctuator.Punctuator.{Punctuator}
+use Rattle.c_lex.specs.declared.punctuator.Punctuator.TheVariants as punctuators
 use Rattle.c_lex.specs.declared.token.IntegerType.TheVariants as integers
 use Rattle.c_lex.specs.declared.token.Kind.TheVariants as kinds
 use Rattle.c_lex.specs.declared.token.Token.{Token}
 use Rattle.c_syntax.specs.declared.expression.Field.{Field}
 use Rattle.c_syntax.specs.declared.expression.Field.TheVariants as fields
 use Rattle.c_syntax.specs.Expression.{Information}
-use Rattle.c_syntax.specs.Expressions.{IsInteger, IsField, Spells}
+use Rattle.c_syntax.specs.Expressions.{IsInteger, IsField, SpellsExpression}
 use Rattle.c_syntax.specs.Faults.{Alike, SameFirst, place, Speaks, Failed, Wraps}
-use Rattle.c_syntax.specs.Tokens.{token, IsKeyword, HasSign, HasWord}
+use Rattle.c_syntax.specs.Tokens.{token, IsKeyword, HasPunctuator, HasWord}
 use Rattle.c_syntax.proofs.Firsts as firsts
 use Rattle.c_parse_atom.proofs.Fields.{NoElement, no_field, no_element, no_bracket, no_index, no_close}
 use Rattle.c_parse_expr.specs.Readings.{NoField, HasField, NoInformation, HasInformation}
-use Rattle.c_parse_expr.proofs.Placing.{unexpected_at, able_now, one, sign_token}
+use Rattle.c_parse_expr.proofs.Placing.{unexpected_at, able_now, one, punctuator_token}
 
--- ---- tokens and a field behind them
+-- ---- tokens and a field after them
 
 pub data Piece : Type 0 where
-  Mark : Sign → Piece
+  Mark : Punctuator → Piece
   Record : Piece
 
 abbrev pub Test : List ℕ → Piece → Token → Type 0
-Test text (Mark s) t = t.kind ≡ kinds.Sign s
-Test text Record t = (t.kind ≡ kinds.Name) × (slice_range text t.start t.end ≡ codes "ExceptionRecord")
+Test text (Mark s) t = t.kind ≡ kinds.Punctuator s
+Test text Record t = (t.kind ≡ kinds.Identifier) × (slice_range text t.start t.end ≡ codes "ExceptionRecord")
 
 abbrev pub Form : List Piece → List ℕ → Field → List Token → List Token → Type 0
 Form [] text field ts end = IsField text field ts end
@@ -46,15 +46,15 @@ test_again text text' (Mark s) t e h = h
 test_again text text' Record t e h = (h.0, sym e ∙ h.1)
 
 abbrev piece : (text : List ℕ) → Speaks text → Piece → Token
-piece text k (Mark s) = sign_token s
-piece text k Record = token kinds.Name k.of_record.start k.of_record.end
+piece text k (Mark s) = punctuator_token s
+piece text k Record = token kinds.Identifier k.of_record.start k.of_record.end
 
 piece_is : (text : List ℕ) (k : Speaks text) (p : Piece) → Test text p (piece text k p)
 piece_is text k (Mark s) = refl
 piece_is text k Record = (refl, k.spells_record)
 
 abbrev pub ends : (text : List ℕ) → Speaks text → List Piece → List Token
-ends text k [] = token kinds.Name k.of_code.start k.of_code.end ∷ []
+ends text k [] = token kinds.Identifier k.of_code.start k.of_code.end ∷ []
 ends text k (p ∷ ps) = piece text k p ∷ ends text k ps
 
 ends_are : (text : List ℕ) (k : Speaks text) (ps : List Piece) (other : List Token) → Form ps text fields.Code (ends text k ps ++ other) other
@@ -81,17 +81,17 @@ there p ps text t ts rest e h = record {
       (record { field = f.field; is = λ other. (t, inner ++ other, refl, test_again text text' p t (alike_head text text' t ts rest e a) h, f.is other) });
 }
 
-pub sign_gone : (s : Sign) (ps : List Piece) (text : List ℕ) (ts : List Token) → ((rest : List Token) → HasSign s ts rest → ⊥) → Failed 0 (place text ts) (NoForm (Mark s ∷ ps)) (HasForm (Mark s ∷ ps)) text ts
-sign_gone s ps text ts n = gone (Mark s) ps text ts (λ t rest e h. n rest (t.start, (t.end, e ∙ ap (λ z. token z t.start t.end ∷ rest) h)))
+pub punctuator_gone : (s : Punctuator) (ps : List Piece) (text : List ℕ) (ts : List Token) → ((rest : List Token) → HasPunctuator s ts rest → ⊥) → Failed 0 (place text ts) (NoForm (Mark s ∷ ps)) (HasForm (Mark s ∷ ps)) text ts
+punctuator_gone s ps text ts n = gone (Mark s) ps text ts (λ t rest e h. n rest (t.start, (t.end, e ∙ ap (λ z. token z t.start t.end ∷ rest) h)))
 
-pub sign_there : (s : Sign) (ps : List Piece) (text : List ℕ) (ts rest : List Token) → HasSign s ts rest → Wraps (NoForm ps) (HasForm ps) (NoForm (Mark s ∷ ps)) (HasForm (Mark s ∷ ps)) text rest ts
-sign_there s ps text ts rest h = there (Mark s) ps text (token (kinds.Sign s) h.0 h.1.0) ts rest h.1.1 refl
+pub punctuator_there : (s : Punctuator) (ps : List Piece) (text : List ℕ) (ts rest : List Token) → HasPunctuator s ts rest → Wraps (NoForm ps) (HasForm ps) (NoForm (Mark s ∷ ps)) (HasForm (Mark s ∷ ps)) text rest ts
+punctuator_there s ps text ts rest h = there (Mark s) ps text (token (kinds.Punctuator s) h.0 h.1.0) ts rest h.1.1 refl
 
 pub record_gone : (ps : List Piece) (text : List ℕ) (ts : List Token) → ((rest : List Token) → HasWord text (codes "ExceptionRecord") ts rest → ⊥) → Failed 0 (place text ts) (NoForm (Record ∷ ps)) (HasForm (Record ∷ ps)) text ts
 record_gone ps text ts n = gone Record ps text ts (λ t rest e h. n rest (record { start = t.start; end = t.end }, e ∙ ap (λ z. token z t.start t.end ∷ rest) h.0, h.1))
 
 pub record_there : (ps : List Piece) (text : List ℕ) (ts rest : List Token) → HasWord text (codes "ExceptionRecord") ts rest → Wraps (NoForm ps) (HasForm ps) (NoForm (Record ∷ ps)) (HasForm (Record ∷ ps)) text rest ts
-record_there ps text ts rest h = there Record ps text (token kinds.Name h.0.start h.0.end) ts rest h.1 (refl, h.2)
+record_there ps text ts rest h = there Record ps text (token kinds.Identifier h.0.start h.0.end) ts rest h.1 (refl, h.2)
 
 pub field_there : (text : List ℕ) (ts : List Token) → Wraps NoField HasField (NoForm []) (HasForm []) text ts ts
 field_there text ts = record {
@@ -104,42 +104,42 @@ field_there text ts = record {
 -- ---- the keyword before them
 
 abbrev pub introduction : List Piece
-introduction = Mark signs.OpenParenthesis ∷ Mark signs.CloseParenthesis ∷ Mark signs.Arrow ∷ Record ∷ Mark signs.Arrow ∷ []
+introduction = Mark punctuators.OpenParenthesis ∷ Mark punctuators.CloseParenthesis ∷ Mark punctuators.Arrow ∷ Record ∷ Mark punctuators.Arrow ∷ []
 
-formed : (text : List ℕ) (at : ℕ) (field : Field) (ts end : List Token) (h : Spells text (Information at field) ts end) → Form introduction text field h.0 end
+formed : (text : List ℕ) (at : ℕ) (field : Field) (ts end : List Token) (h : SpellsExpression text (Information at field) ts end) → Form introduction text field h.0 end
 formed text at field ts end h = (
-  token (kinds.Sign signs.OpenParenthesis) h.7.0 h.7.1.0,
+  token (kinds.Punctuator punctuators.OpenParenthesis) h.7.0 h.7.1.0,
   h.1,
   h.7.1.1,
   refl,
   (
-    token (kinds.Sign signs.CloseParenthesis) h.8.0 h.8.1.0,
+    token (kinds.Punctuator punctuators.CloseParenthesis) h.8.0 h.8.1.0,
     h.2,
     h.8.1.1,
     refl,
     (
-      token (kinds.Sign signs.Arrow) h.9.0 h.9.1.0,
+      token (kinds.Punctuator punctuators.Arrow) h.9.0 h.9.1.0,
       h.3,
       h.9.1.1,
       refl,
       (
-        token kinds.Name h.10.0.start h.10.0.end,
+        token kinds.Identifier h.10.0.start h.10.0.end,
         h.4,
         h.10.1,
         (refl, h.10.2),
-        (token (kinds.Sign signs.Arrow) h.11.0 h.11.1.0, h.5, h.11.1.1, refl, h.12),
+        (token (kinds.Punctuator punctuators.Arrow) h.11.0 h.11.1.0, h.5, h.11.1.1, refl, h.12),
       ),
     ),
   ),
 )
 
-marked : (s : Sign) (t : Token) (ts rest : List Token) → ts ≡ t ∷ rest → t.kind ≡ kinds.Sign s → HasSign s ts rest
+marked : (s : Punctuator) (t : Token) (ts rest : List Token) → ts ≡ t ∷ rest → t.kind ≡ kinds.Punctuator s → HasPunctuator s ts rest
 marked s t ts rest e h = (t.start, (t.end, e ∙ ap (λ z. token z t.start t.end ∷ rest) h))
 
 worded : (text : List ℕ) (t : Token) (ts rest : List Token) → ts ≡ t ∷ rest → Test text Record t → HasWord text (codes "ExceptionRecord") ts rest
 worded text t ts rest e h = (record { start = t.start; end = t.end }, e ∙ ap (λ z. token z t.start t.end ∷ rest) h.0, h.1)
 
-spelled : (text : List ℕ) (at : ℕ) (field : Field) (ts a end : List Token) → IsKeyword keywords.GetExceptionInformation at ts a → Form introduction text field a end → Spells text (Information at field) ts end
+spelled : (text : List ℕ) (at : ℕ) (field : Field) (ts a end : List Token) → IsKeyword keywords.GetExceptionInformation at ts a → Form introduction text field a end → SpellsExpression text (Information at field) ts end
 spelled text at field ts a end k f0 =
     let f1 = f0.4 in
     let f2 = f1.4 in
@@ -152,11 +152,11 @@ spelled text at field ts a end k f0 =
       f3.1,
       f4.1,
       k,
-      marked signs.OpenParenthesis f0.0 a f0.1 f0.2 f0.3,
-      marked signs.CloseParenthesis f1.0 f0.1 f1.1 f1.2 f1.3,
-      marked signs.Arrow f2.0 f1.1 f2.1 f2.2 f2.3,
+      marked punctuators.OpenParenthesis f0.0 a f0.1 f0.2 f0.3,
+      marked punctuators.CloseParenthesis f1.0 f0.1 f1.1 f1.2 f1.3,
+      marked punctuators.Arrow f2.0 f1.1 f2.1 f2.2 f2.3,
       worded text f3.0 f2.1 f3.1 f3.2 f3.3,
-      marked signs.Arrow f4.0 f3.1 f4.1 f4.2 f4.3,
+      marked punctuators.Arrow f4.0 f3.1 f4.1 f4.2 f4.3,
       f4.4,
     )
 
@@ -219,23 +219,23 @@ first_there : (t : Token) (ts rest other : List Token) → ts ≡ t ∷ rest →
 first_there t ts rest other e = subst (λ (z : List Token). SameFirst z (t ∷ other)) (sym e) (other, refl)
 
 abbrev index_end : List Token
-index_end = one ∷ sign_token signs.CloseBracket ∷ []
+index_end = one ∷ punctuator_token punctuators.CloseBracket ∷ []
 
-pub no_bracket_there : (text : List ℕ) (ts a : List Token) → NoField 0 text ts → HasWord text element ts a → ((rest : List Token) → HasSign signs.OpenBracket a rest → ⊥) → Failed 0 (place text a) NoField HasField text ts
+pub no_bracket_there : (text : List ℕ) (ts a : List Token) → NoField 0 text ts → HasWord text element ts a → ((rest : List Token) → HasPunctuator punctuators.OpenBracket a rest → ⊥) → Failed 0 (place text a) NoField HasField text ts
 no_bracket_there text ts a x w n =
-    let t = token kinds.Name w.0.start w.0.end in
+    let t = token kinds.Identifier w.0.start w.0.end in
     unexpected_at NoField HasField text ts (t ∷ []) a w.1
     (λ text' other l s.
     let v : HasWord text' element (t ∷ other) other = (w.0, refl, sym (alike_head text text' t ts a w.1 l) ∙ w.2) in
-    none_again 0 text text' ts (t ∷ other) x l (first_there t ts a other w.1) (no_bracket text' (t ∷ other) other v (firsts.no_sign signs.OpenBracket a other s n)))
+    none_again 0 text text' ts (t ∷ other) x l (first_there t ts a other w.1) (no_bracket text' (t ∷ other) other v (firsts.no_punctuator punctuators.OpenBracket a other s n)))
     (λ text' l k. record {
-      more = sign_token signs.OpenBracket ∷ index_end;
+      more = punctuator_token punctuators.OpenBracket ∷ index_end;
       has = record {
         field = fields.Information 1 0;
         is = λ other. (
-          sign_token signs.OpenBracket ∷ one ∷ sign_token signs.CloseBracket ∷ other,
-          one ∷ sign_token signs.CloseBracket ∷ other,
-          sign_token signs.CloseBracket ∷ other,
+          punctuator_token punctuators.OpenBracket ∷ one ∷ punctuator_token punctuators.CloseBracket ∷ other,
+          one ∷ punctuator_token punctuators.CloseBracket ∷ other,
+          punctuator_token punctuators.CloseBracket ∷ other,
           (w.0, refl, sym (alike_head text text' t ts a w.1 l) ∙ w.2),
           (0, (0, refl)),
           (integers.Int, (0, refl)),
@@ -244,10 +244,10 @@ no_bracket_there text ts a x w n =
       };
     })
 
-pub no_index_there : (text : List ℕ) (ts a b : List Token) → NoField 0 text ts → HasWord text element ts a → HasSign signs.OpenBracket a b → ((value at : ℕ) (rest : List Token) → IsInteger value at b rest → ⊥) → Failed 0 (place text b) NoField HasField text ts
+pub no_index_there : (text : List ℕ) (ts a b : List Token) → NoField 0 text ts → HasWord text element ts a → HasPunctuator punctuators.OpenBracket a b → ((value at : ℕ) (rest : List Token) → IsInteger value at b rest → ⊥) → Failed 0 (place text b) NoField HasField text ts
 no_index_there text ts a b x w h n =
-    let t = token kinds.Name w.0.start w.0.end in
-    let u = token (kinds.Sign signs.OpenBracket) h.0 h.1.0 in
+    let t = token kinds.Identifier w.0.start w.0.end in
+    let u = token (kinds.Punctuator punctuators.OpenBracket) h.0 h.1.0 in
     unexpected_at NoField HasField text ts (t ∷ u ∷ []) b (w.1 ∙ ap (λ (z : List Token). t ∷ z) h.1.1)
     (λ text' other l s.
     let v : HasWord text' element (t ∷ u ∷ other) (u ∷ other) = (w.0, refl, sym (alike_head text text' t ts a w.1 l) ∙ w.2) in
@@ -258,9 +258,9 @@ no_index_there text ts a b x w h n =
       has = record {
         field = fields.Information 1 0;
         is = λ other. (
-          u ∷ one ∷ sign_token signs.CloseBracket ∷ other,
-          one ∷ sign_token signs.CloseBracket ∷ other,
-          sign_token signs.CloseBracket ∷ other,
+          u ∷ one ∷ punctuator_token punctuators.CloseBracket ∷ other,
+          one ∷ punctuator_token punctuators.CloseBracket ∷ other,
+          punctuator_token punctuators.CloseBracket ∷ other,
           (w.0, refl, sym (alike_head text text' t ts a w.1 l) ∙ w.2),
           (h.0, (h.1.0, refl)),
           (integers.Int, (0, refl)),
@@ -269,25 +269,25 @@ no_index_there text ts a b x w h n =
       };
     })
 
-pub no_close_there : (text : List ℕ) (ts a b c : List Token) (value at : ℕ) → NoField 0 text ts → HasWord text element ts a → HasSign signs.OpenBracket a b → IsInteger value at b c → Failed 0 (place text c) NoField HasField text ts
+pub no_close_there : (text : List ℕ) (ts a b c : List Token) (value at : ℕ) → NoField 0 text ts → HasWord text element ts a → HasPunctuator punctuators.OpenBracket a b → IsInteger value at b c → Failed 0 (place text c) NoField HasField text ts
 no_close_there text ts a b c value at x w h i =
-    let t = token kinds.Name w.0.start w.0.end in
-    let u = token (kinds.Sign signs.OpenBracket) h.0 h.1.0 in
+    let t = token kinds.Identifier w.0.start w.0.end in
+    let u = token (kinds.Punctuator punctuators.OpenBracket) h.0 h.1.0 in
     let v = token (kinds.Integer value i.0) at i.1.0 in
     unexpected_at NoField HasField text ts (t ∷ u ∷ v ∷ []) c (w.1 ∙ ap (λ (z : List Token). t ∷ z) (h.1.1 ∙ ap (λ (z : List Token). u ∷ z) i.1.1))
     (λ text' other l s.
     let y : HasWord text' element (t ∷ u ∷ v ∷ other) (u ∷ v ∷ other) = (w.0, refl, sym (alike_head text text' t ts a w.1 l) ∙ w.2) in
     none_again 0 text text' ts (t ∷ u ∷ v ∷ other) x l (first_there t ts a (u ∷ v ∷ other) w.1)
     (no_close text' (t ∷ u ∷ v ∷ other) (u ∷ v ∷ other) (v ∷ other) other value at y (h.0, (h.1.0, refl)) (i.0, (i.1.0, refl))
-    (firsts.no_sign signs.CloseBracket c other s (λ rest g. x (fields.Information value at) rest (a, b, c, w, h, i, g)))))
+    (firsts.no_punctuator punctuators.CloseBracket c other s (λ rest g. x (fields.Information value at) rest (a, b, c, w, h, i, g)))))
     (λ text' l k. record {
-      more = sign_token signs.CloseBracket ∷ [];
+      more = punctuator_token punctuators.CloseBracket ∷ [];
       has = record {
         field = fields.Information value at;
         is = λ other. (
-          u ∷ v ∷ sign_token signs.CloseBracket ∷ other,
-          v ∷ sign_token signs.CloseBracket ∷ other,
-          sign_token signs.CloseBracket ∷ other,
+          u ∷ v ∷ punctuator_token punctuators.CloseBracket ∷ other,
+          v ∷ punctuator_token punctuators.CloseBracket ∷ other,
+          punctuator_token punctuators.CloseBracket ∷ other,
           (w.0, refl, sym (alike_head text text' t ts a w.1 l) ∙ w.2),
           (h.0, (h.1.0, refl)),
           (i.0, (i.1.0, refl)),

@@ -1,12 +1,12 @@
--- Arguments, one behind another.
+-- Arguments, one after another.
 use Rattle.std.proofs.Common.{◌≡◌, ◌≤◌, ◌<◌, ◌+◌, ◌-◌, ℕ, zero, suc, max, List, [], ◌∷◌, ◌++◌, map, refl, sym, ap, subst, arith}
-use Rattle.c_lex.specs.declared.sign.Sign.TheVariants as signs
+use Rattle.c_lex.specs.declared.punctuator.Punctuator.TheVariants as punctuators
 use Rattle.c_lex.specs.declared.token.Token.{Token}
 use Rattle.c_syntax.specs.Expression.{Expression, Arguments, Done, Next, arguments, height, heights}
-use Rattle.c_syntax.specs.Expressions.{Spells, SpellsArguments, SpellsMore, Derives}
+use Rattle.c_syntax.specs.Expressions.{SpellsExpression, SpellsArguments, SpellsMoreArguments, Derives}
 use Rattle.c_syntax.specs.Follow.{Stops}
-use Rattle.c_syntax.specs.Tokens.{HasSign}
-use Rattle.c_syntax.proofs.Fronts.{has_same, sign_same, front}
+use Rattle.c_syntax.specs.Tokens.{HasPunctuator}
+use Rattle.c_syntax.proofs.Fronts.{has_same, punctuator_same, front}
 use Rattle.c_syntax.proofs.Once.{has_stops, one_expression, expression_front}
 use Rattle.c_parse_expr.specs.Readings.{NoExpression, NoArguments, AreMore, AreListed}
 
@@ -15,11 +15,11 @@ use Rattle.c_parse_expr.specs.Readings.{NoExpression, NoArguments, AreMore, AreL
 pub one_listed : (text : List ℕ) (e : Expression) (ts rest : List Token) → Derives text 15 e ts rest → AreListed text (e ∷ []) ts rest
 one_listed text e ts rest d = (rest, d, refl)
 
-more_behind : (text : List ℕ) (es : List Expression) (e : Expression) (ts rest b end : List Token) → AreMore text es ts rest → HasSign signs.Comma rest b → Derives text 15 e b end → AreMore text (es ++ e ∷ []) ts end
-more_behind text [] e ts rest b end h c d = (b, end, subst (λ (z : List Token). HasSign signs.Comma z b) (sym h) c, d, refl)
+more_behind : (text : List ℕ) (es : List Expression) (e : Expression) (ts rest b end : List Token) → AreMore text es ts rest → HasPunctuator punctuators.Comma rest b → Derives text 15 e b end → AreMore text (es ++ e ∷ []) ts end
+more_behind text [] e ts rest b end h c d = (b, end, subst (λ (z : List Token). HasPunctuator punctuators.Comma z b) (sym h) c, d, refl)
 more_behind text (x ∷ es) e ts rest b end h c d = (h.0, h.1, h.2, h.3, more_behind text es e h.1 rest b end h.4 c d)
 
-pub listed_behind : (text : List ℕ) (es : List Expression) (e : Expression) (ts rest b end : List Token) → AreListed text es ts rest → HasSign signs.Comma rest b → Derives text 15 e b end → AreListed text (es ++ e ∷ []) ts end
+pub listed_behind : (text : List ℕ) (es : List Expression) (e : Expression) (ts rest b end : List Token) → AreListed text es ts rest → HasPunctuator punctuators.Comma rest b → Derives text 15 e b end → AreListed text (es ++ e ∷ []) ts end
 listed_behind text [] e ts rest b end h c d = absurd h
 listed_behind text (x ∷ es) e ts rest b end h c d = (h.0, h.1, more_behind text es e h.0 rest b end h.2 c d)
 
@@ -35,25 +35,25 @@ pub positive : (n : ℕ) → (n ≡ 0 → ⊥) → 1 ≤ n
 positive zero h = absurd (h refl)
 positive (suc n) h = omega arith
 
--- ---- the parenthesis behind them
+-- ---- the parenthesis after them
 
-more_spelled : (text : List ℕ) (es : List Expression) (ts rest end : List Token) → AreMore text es ts rest → HasSign signs.CloseParenthesis rest end → SpellsMore text (arguments es) ts end
-more_spelled text [] ts rest end h c = subst (λ (z : List Token). HasSign signs.CloseParenthesis z end) (sym h) c
+more_spelled : (text : List ℕ) (es : List Expression) (ts rest end : List Token) → AreMore text es ts rest → HasPunctuator punctuators.CloseParenthesis rest end → SpellsMoreArguments text (arguments es) ts end
+more_spelled text [] ts rest end h c = subst (λ (z : List Token). HasPunctuator punctuators.CloseParenthesis z end) (sym h) c
 more_spelled text (e ∷ es) ts rest end h c = (h.0, h.1, h.2, h.3.fits, h.3.spells, more_spelled text es h.1 rest end h.4 c)
 
-pub listed_spelled : (text : List ℕ) (es : List Expression) (ts rest end : List Token) → AreListed text es ts rest → HasSign signs.CloseParenthesis rest end → SpellsArguments text (arguments es) ts end
+pub listed_spelled : (text : List ℕ) (es : List Expression) (ts rest end : List Token) → AreListed text es ts rest → HasPunctuator punctuators.CloseParenthesis rest end → SpellsArguments text (arguments es) ts end
 listed_spelled text [] ts rest end h c = absurd h
 listed_spelled text (e ∷ es) ts rest end h c = (h.0, h.1.fits, h.1.spells, more_spelled text es h.0 rest end h.2 c)
 
--- ---- what can stand behind what was read
+-- ---- what can stand after what was read
 
-comma_stops : (ts rest : List Token) → HasSign signs.Comma ts rest → Stops 15 ts
-comma_stops ts rest h = has_stops signs.Comma ts rest 15 h (omega arith)
+comma_stops : (ts rest : List Token) → HasPunctuator punctuators.Comma ts rest → Stops 15 ts
+comma_stops ts rest h = has_stops punctuators.Comma ts rest 15 h (omega arith)
 
-close_stops : (ts rest : List Token) → HasSign signs.CloseParenthesis ts rest → Stops 15 ts
-close_stops ts rest h = has_stops signs.CloseParenthesis ts rest 15 h (omega arith)
+close_stops : (ts rest : List Token) → HasPunctuator punctuators.CloseParenthesis ts rest → Stops 15 ts
+close_stops ts rest h = has_stops punctuators.CloseParenthesis ts rest 15 h (omega arith)
 
-spelled_stops : (text : List ℕ) (xs : Arguments) (ts end : List Token) → SpellsMore text xs ts end → Stops 15 ts
+spelled_stops : (text : List ℕ) (xs : Arguments) (ts end : List Token) → SpellsMoreArguments text xs ts end → Stops 15 ts
 spelled_stops text Done ts end h = close_stops ts end h
 spelled_stops text (Next x xs) ts end h = comma_stops ts h.0 h.2
 
@@ -61,62 +61,62 @@ more_stops : (text : List ℕ) (es : List Expression) (ts rest : List Token) →
 more_stops text [] ts rest h s = subst (λ (z : List Token). Stops 15 z) (sym h) s
 more_stops text (e ∷ es) ts rest h s = comma_stops ts h.0 h.2
 
-pub not_both : (ts rest end : List Token) → HasSign signs.Comma ts rest → HasSign signs.CloseParenthesis ts end → ⊥
-not_both ts rest end h g = let q = (sign_same signs.Comma signs.CloseParenthesis h.0 g.0 ts ts rest end refl h.1 g.1).0 in let e : signs.Comma ≡ signs.CloseParenthesis = q in cc
+pub not_both : (ts rest end : List Token) → HasPunctuator punctuators.Comma ts rest → HasPunctuator punctuators.CloseParenthesis ts end → ⊥
+not_both ts rest end h g = let q = (punctuator_same punctuators.Comma punctuators.CloseParenthesis h.0 g.0 ts ts rest end refl h.1 g.1).0 in let e : punctuators.Comma ≡ punctuators.CloseParenthesis = q in cc
 
-not_begun : (text : List ℕ) (e : Expression) (ts rest end : List Token) → Spells text e ts rest → HasSign signs.CloseParenthesis ts end → ⊥
+not_begun : (text : List ℕ) (e : Expression) (ts rest end : List Token) → SpellsExpression text e ts rest → HasPunctuator punctuators.CloseParenthesis ts end → ⊥
 not_begun text e ts rest end h g = let a = expression_front text e ts rest h in let b : front ts ≡ 6 = ap front g.1.1 in absurd (omega arith)
 
 record Left (text : List ℕ) (w room : ℕ) (ts end : List Token) : Type 0 where
   others : Arguments
-  spells : SpellsMore text others ts end
+  spells : SpellsMoreArguments text others ts end
   low : 1 ≤ w → heights others ≤ room
 
 same_next : (text : List ℕ) (e x : Expression) (ts us rest end : List Token) → ts ≡ us → Derives text 15 e ts rest → Stops 15 rest → Derives text 15 x us end → Stops 15 end → rest ≡ end
 same_next text e x ts us rest end p d s g z =
-    (one_expression text 15 e x ts rest end d (record { fits = g.fits; spells = subst (λ (y : List Token). Spells text x y end) (sym p) g.spells }) s z).1
+    (one_expression text 15 e x ts rest end d (record { fits = g.fits; spells = subst (λ (y : List Token). SpellsExpression text x y end) (sym p) g.spells }) s z).1
 
-more_back : (text : List ℕ) (w room : ℕ) (es : List Expression) (xs : Arguments) (ts rest end : List Token) → AreMore text es ts rest → Stops 15 rest → SpellsMore text xs ts end → (1 ≤ w → heights xs ≤ room) → Left text w room rest end
-more_back text w room [] xs ts rest end h s g low = record { others = xs; spells = subst (λ (z : List Token). SpellsMore text xs z end) h g; low = low }
+more_back : (text : List ℕ) (w room : ℕ) (es : List Expression) (xs : Arguments) (ts rest end : List Token) → AreMore text es ts rest → Stops 15 rest → SpellsMoreArguments text xs ts end → (1 ≤ w → heights xs ≤ room) → Left text w room rest end
+more_back text w room [] xs ts rest end h s g low = record { others = xs; spells = subst (λ (z : List Token). SpellsMoreArguments text xs z end) h g; low = low }
 more_back text w room (e ∷ es) Done ts rest end h s g low = absurd (not_both ts h.0 end h.2 g)
 more_back text w room (e ∷ es) (Next x xs) ts rest end h s g low =
-    let p = has_same signs.Comma ts ts h.0 g.0 refl h.2 g.2 in
+    let p = has_same punctuators.Comma ts ts h.0 g.0 refl h.2 g.2 in
     let q = same_next text e x h.0 g.0 h.1 g.1 p h.3 (more_stops text es h.1 rest h.4 s) (record { fits = g.3; spells = g.4 }) (spelled_stops text xs g.1 end g.5) in
-    more_back text w room es xs h.1 rest end h.4 s (subst (λ (z : List Token). SpellsMore text xs z end) (sym q) g.5) (λ k. let a = low k in omega arith)
+    more_back text w room es xs h.1 rest end h.4 s (subst (λ (z : List Token). SpellsMoreArguments text xs z end) (sym q) g.5) (λ k. let a = low k in omega arith)
 
 listed_back : (text : List ℕ) (w room : ℕ) (es : List Expression) (xs : Arguments) (ts rest end : List Token) → AreListed text es ts rest → Stops 15 rest → SpellsArguments text xs ts end → (1 ≤ w → heights xs ≤ room) → Left text w room rest end
 listed_back text w room [] xs ts rest end h s g low = absurd h
 listed_back text w room (e ∷ es) Done ts rest end h s g low = absurd (not_begun text e ts h.0 end h.1.spells g)
 listed_back text w room (e ∷ es) (Next x xs) ts rest end h s g low =
     let q = same_next text e x ts ts h.0 g.0 refl h.1 (more_stops text es h.0 rest h.2 s) (record { fits = g.1; spells = g.2 }) (spelled_stops text xs g.0 end g.3) in
-    more_back text w room es xs h.0 rest end h.2 s (subst (λ (z : List Token). SpellsMore text xs z end) (sym q) g.3) (λ k. let a = low k in omega arith)
+    more_back text w room es xs h.0 rest end h.2 s (subst (λ (z : List Token). SpellsMoreArguments text xs z end) (sym q) g.3) (λ k. let a = low k in omega arith)
 
 -- ---- refusals
 
-none_left : (text : List ℕ) (w room : ℕ) (xs : Arguments) (rest end : List Token) → SpellsMore text xs rest end → (1 ≤ w → heights xs ≤ room)
-    → ((b : List Token) → HasSign signs.CloseParenthesis rest b → ⊥)
-    → ((x : Expression) (b c : List Token) → HasSign signs.Comma rest b → Derives text 15 x b c → Stops 15 c → (1 ≤ w → height x < room) → ⊥)
+none_left : (text : List ℕ) (w room : ℕ) (xs : Arguments) (rest end : List Token) → SpellsMoreArguments text xs rest end → (1 ≤ w → heights xs ≤ room)
+    → ((b : List Token) → HasPunctuator punctuators.CloseParenthesis rest b → ⊥)
+    → ((x : Expression) (b c : List Token) → HasPunctuator punctuators.Comma rest b → Derives text 15 x b c → Stops 15 c → (1 ≤ w → height x < room) → ⊥)
     → ⊥
 none_left text w room Done rest end h low n m = n end h
 none_left text w room (Next x xs) rest end h low n m = m x h.0 h.1 h.2 (record { fits = h.3; spells = h.4 }) (spelled_stops text xs h.1 end h.5) (λ k. let a = low k in omega arith)
 
 pub stuck : (text : List ℕ) (w room : ℕ) (es : List Expression) (ts rest : List Token) → AreListed text es ts rest → Stops 15 rest
-    → ((b : List Token) → HasSign signs.CloseParenthesis rest b → ⊥)
-    → ((b : List Token) → HasSign signs.Comma rest b → ⊥)
+    → ((b : List Token) → HasPunctuator punctuators.CloseParenthesis rest b → ⊥)
+    → ((b : List Token) → HasPunctuator punctuators.Comma rest b → ⊥)
     → NoArguments room w text ts
 stuck text w room es ts rest h s n m xs end g low =
     let l = listed_back text w room es xs ts rest end h s g low in none_left text w room l.others rest end l.spells l.low n (λ x b c k d z u. m b k)
 
-pub no_next : (text : List ℕ) (w room : ℕ) (es : List Expression) (ts rest behind : List Token) → AreListed text es ts rest → Stops 15 rest → HasSign signs.Comma rest behind → NoExpression 15 (room - 1) w text behind → NoArguments room w text ts
-no_next text w room es ts rest behind h s k n xs end g low =
+pub no_next : (text : List ℕ) (w room : ℕ) (es : List Expression) (ts rest following : List Token) → AreListed text es ts rest → Stops 15 rest → HasPunctuator punctuators.Comma rest following → NoExpression 15 (room - 1) w text following → NoArguments room w text ts
+no_next text w room es ts rest following h s k n xs end g low =
     let l = listed_back text w room es xs ts rest end h s g low in
-    none_left text w room l.others rest end l.spells l.low (λ b c. not_both rest behind b k c)
-    (λ x b c j d z u. let q = has_same signs.Comma rest rest b behind refl j k in n x c (record { fits = d.fits; spells = subst (λ (y : List Token). Spells text x y c) q d.spells }) z (λ k. let a = u k in omega arith))
+    none_left text w room l.others rest end l.spells l.low (λ b c. not_both rest following b k c)
+    (λ x b c j d z u. let q = has_same punctuators.Comma rest rest b following refl j k in n x c (record { fits = d.fits; spells = subst (λ (y : List Token). SpellsExpression text x y c) q d.spells }) z (λ k. let a = u k in omega arith))
 
-pub no_first : (text : List ℕ) (w room : ℕ) (ts : List Token) → ((b : List Token) → HasSign signs.CloseParenthesis ts b → ⊥) → NoExpression 15 (room - 1) w text ts → NoArguments room w text ts
+pub no_first : (text : List ℕ) (w room : ℕ) (ts : List Token) → ((b : List Token) → HasPunctuator punctuators.CloseParenthesis ts b → ⊥) → NoExpression 15 (room - 1) w text ts → NoArguments room w text ts
 no_first text w room ts n m Done end g low = n end g
 no_first text w room ts n m (Next x xs) end g low = m x g.0 (record { fits = g.1; spells = g.2 }) (spelled_stops text xs g.0 end g.3) (λ k. let a = low k in omega arith)
 
-pub no_place : (text : List ℕ) (ts : List Token) → ((b : List Token) → HasSign signs.CloseParenthesis ts b → ⊥) → NoArguments 0 1 text ts
+pub no_place : (text : List ℕ) (ts : List Token) → ((b : List Token) → HasPunctuator punctuators.CloseParenthesis ts b → ⊥) → NoArguments 0 1 text ts
 no_place text ts n Done end g low = n end g
 no_place text ts n (Next x xs) end g low = let a = low (omega arith) in absurd (omega arith)

@@ -1,8 +1,8 @@
--- First operands by the token at the front.
+-- ForInitialiser operands by the token at the front.
 use Rattle.std.proofs.Common.{◌≡◌, ◌≤◌, ◌<◌, ◌+◌, ◌-◌, ℕ, List, [], ◌∷◌, Some, None, refl, sym, ap, ◌∙◌, subst, arith}
 use Rattle.c_lex.specs.declared.keyword.Keyword.TheVariants as keywords
-use Rattle.c_lex.specs.declared.sign.Sign.{Sign}
-use Rattle.c_lex.specs.declared.sign.Sign.TheVariants as signs
+use Rattle.c_lex.specs.declared.punctuator.Punctuator.{Punctuator}
+use Rattle.c_lex.specs.declared.punctuator.Punctuator.TheVariants as punctuators
 use Rattle.c_lex.specs.declared.token.Kind.{Kind}
 use Rattle.c_lex.specs.declared.token.Kind.TheVariants as kinds
 use Rattle.c_lex.specs.declared.token.Token.{Token}
@@ -10,21 +10,21 @@ use Rattle.c_syntax.specs.declared.expression.CType.{CType}
 use Rattle.c_syntax.specs.declared.expression.Field.{Field}
 use Rattle.c_syntax.specs.declared.expression.Literal.{Literal}
 use Rattle.c_syntax.specs.declared.expression.Literal.TheVariants as literals
-use Rattle.c_syntax.specs.declared.expression.Name.{Name}
+use Rattle.c_syntax.specs.declared.expression.Identifier.{Identifier}
 use Rattle.c_syntax.specs.declared.operator.Increment.{Increment}
 use Rattle.c_syntax.specs.declared.operator.Increment.TheVariants as increments
 use Rattle.c_syntax.specs.declared.operator.UnaryOperator.{UnaryOperator}
 use Rattle.c_syntax.specs.declared.operator.UnaryOperator.TheVariants as unary_operators
 use Rattle.c_syntax.specs.Expression.{Expression, Constant, Variable, Information, Call, Parentheses, Index, Postfix, Prefix, Unary, Cast, Binary, Conditional, Assign, Comma, Arguments, height, heights}
-use Rattle.c_syntax.specs.Expressions.{literal_kind, Spells, SpellsArguments, Derives}
-use Rattle.c_syntax.specs.Follow.{sign_follows, kind_follows, follows, Stops}
-use Rattle.c_syntax.specs.Operators.{unary_sign, increment_sign}
-use Rattle.c_syntax.specs.SignReaders.{unary_of, increment_of}
-use Rattle.c_syntax.specs.Tokens.{token, IsKind, IsSign, IsName, HasSign}
+use Rattle.c_syntax.specs.Expressions.{literal_kind, SpellsExpression, SpellsArguments, Derives}
+use Rattle.c_syntax.specs.Follow.{punctuator_follows, kind_follows, follows, Stops}
+use Rattle.c_syntax.specs.Operators.{unary_punctuator, increment_punctuator}
+use Rattle.c_syntax.specs.PunctuatorReaders.{unary_of, increment_of}
+use Rattle.c_syntax.specs.Tokens.{token, IsKind, IsPunctuator, IsIdentifier, HasPunctuator}
 use Rattle.c_syntax.specs.Types.{IsType}
-use Rattle.c_syntax.proofs.Fronts.{kind_same, sign_same, name_same, has_same, base_front, close_star, front, NoStar}
+use Rattle.c_syntax.proofs.Fronts.{kind_same, punctuator_same, name_same, has_same, base_front, close_star, front, NoStar}
 use Rattle.c_syntax.proofs.Once.{expression_front}
-use Rattle.c_parse_atom.proofs.Signs.{unary_again, increment_again}
+use Rattle.c_parse_atom.proofs.Punctuators.{unary_again, increment_again}
 use Rattle.c_parse_type.specs.Bases.{NoBase}
 use Rattle.c_parse_expr.specs.Readings.{NoExpression, Encloses, NoneEnclosed, NoArguments, NoOperand}
 
@@ -32,188 +32,188 @@ use Rattle.c_parse_expr.specs.Readings.{NoExpression, Encloses, NoneEnclosed, No
 
 pub none_begins : (text : List ℕ) (w l room : ℕ) (ts : List Token)
     → ((x : Literal) (at : ℕ) (rest : List Token) → IsKind (literal_kind x) at ts rest → ⊥)
-    → ((x : Name) (rest : List Token) → IsName x ts rest → ⊥)
-    → ((at : ℕ) (x : Field) (rest : List Token) → Spells text (Information at x) ts rest → ⊥)
-    → ((s : Sign) (at : ℕ) (rest : List Token) → IsSign s at ts rest → ⊥)
+    → ((x : Identifier) (rest : List Token) → IsIdentifier x ts rest → ⊥)
+    → ((at : ℕ) (x : Field) (rest : List Token) → SpellsExpression text (Information at x) ts rest → ⊥)
+    → ((s : Punctuator) (at : ℕ) (rest : List Token) → IsPunctuator s at ts rest → ⊥)
     → NoOperand l room w text ts
 none_begins text w l room ts a b c d (Constant at x) end o low = a x at end o.derives.spells
 none_begins text w l room ts a b c d (Variable x) end o low = b x end o.derives.spells
 none_begins text w l room ts a b c d (Information at x) end o low = c at x end o.derives.spells
 none_begins text w l room ts a b c d (Call x es) end o low = let h = o.derives.spells in b x h.0 h.2
-none_begins text w l room ts a b c d (Parentheses at e) end o low = let h = o.derives.spells in d signs.OpenParenthesis at h.0 h.2
+none_begins text w l room ts a b c d (Parentheses at e) end o low = let h = o.derives.spells in d punctuators.OpenParenthesis at h.0 h.2
 none_begins text w l room ts a b c d (Index e at i) end o low = o.head
 none_begins text w l room ts a b c d (Postfix e op at) end o low = o.head
-none_begins text w l room ts a b c d (Prefix at op e) end o low = let h = o.derives.spells in d (increment_sign op) at h.0 h.1
-none_begins text w l room ts a b c d (Unary at op e) end o low = let h = o.derives.spells in d (unary_sign op) at h.0 h.1
-none_begins text w l room ts a b c d (Cast at to e) end o low = let h = o.derives.spells in d signs.OpenParenthesis at h.0 h.3
+none_begins text w l room ts a b c d (Prefix at op e) end o low = let h = o.derives.spells in d (increment_punctuator op) at h.0 h.1
+none_begins text w l room ts a b c d (Unary at op e) end o low = let h = o.derives.spells in d (unary_punctuator op) at h.0 h.1
+none_begins text w l room ts a b c d (Cast at to e) end o low = let h = o.derives.spells in d punctuators.OpenParenthesis at h.0 h.3
 none_begins text w l room ts a b c d (Binary e at op f) end o low = o.head
 none_begins text w l room ts a b c d (Conditional e at f g) end o low = o.head
 none_begins text w l room ts a b c d (Assign e at op f) end o low = o.head
 none_begins text w l room ts a b c d (Comma e at f) end o low = o.head
 
-literal_name : (x : Literal) → literal_kind x ≡ kinds.Name → ⊥
+literal_name : (x : Literal) → literal_kind x ≡ kinds.Identifier → ⊥
 literal_name (literals.Integer value type) e = cc
-literal_name (literals.Character value) e = cc
+literal_name (literals.CharacterConstant value) e = cc
 
-literal_sign : (x : Literal) (s : Sign) → literal_kind x ≡ kinds.Sign s → ⊥
-literal_sign (literals.Integer value type) s e = cc
-literal_sign (literals.Character value) s e = cc
+literal_punctuator : (x : Literal) (s : Punctuator) → literal_kind x ≡ kinds.Punctuator s → ⊥
+literal_punctuator (literals.Integer value type) s e = cc
+literal_punctuator (literals.CharacterConstant value) s e = cc
 
 other_kind : (k j : Kind) (at to : ℕ) (ts rest end : List Token) → IsKind k at ts rest → IsKind j to ts end → k ≡ j
 other_kind k j at to ts rest end h g = (kind_same k j at to ts ts rest end refl h g).0
 
-name_kind : (x : Name) (ts rest : List Token) → IsName x ts rest → IsKind kinds.Name x.start ts rest
-name_kind x ts rest h = (x.end, h)
+identifier_kind : (x : Identifier) (ts rest : List Token) → IsIdentifier x ts rest → IsKind kinds.Identifier x.start ts rest
+identifier_kind x ts rest h = (x.end, h)
 
-sign_not_name : (s : Sign) → kinds.Sign s ≡ kinds.Name → ⊥
-sign_not_name s e = cc
+punctuator_not_name : (s : Punctuator) → kinds.Punctuator s ≡ kinds.Identifier → ⊥
+punctuator_not_name s e = cc
 
-keyword_not_name : kinds.Keyword keywords.GetExceptionInformation ≡ kinds.Name → ⊥
+keyword_not_name : kinds.Keyword keywords.GetExceptionInformation ≡ kinds.Identifier → ⊥
 keyword_not_name e = cc
 
-keyword_not_sign : (s : Sign) → kinds.Keyword keywords.GetExceptionInformation ≡ kinds.Sign s → ⊥
-keyword_not_sign s e = cc
+keyword_not_punctuator : (s : Punctuator) → kinds.Keyword keywords.GetExceptionInformation ≡ kinds.Punctuator s → ⊥
+keyword_not_punctuator s e = cc
 
-name_not_sign : (s : Sign) → kinds.Name ≡ kinds.Sign s → ⊥
-name_not_sign s e = cc
+name_not_punctuator : (s : Punctuator) → kinds.Identifier ≡ kinds.Punctuator s → ⊥
+name_not_punctuator s e = cc
 
--- ---- behind a name
+-- ---- after a name
 
-pub none_named : (text : List ℕ) (w l room : ℕ) (x : Name) (ts rest : List Token) → IsName x ts rest
+pub none_named : (text : List ℕ) (w l room : ℕ) (x : Identifier) (ts rest : List Token) → IsIdentifier x ts rest
     → (0 < follows rest → ⊥)
-    → ((es : Arguments) (b end : List Token) → HasSign signs.OpenParenthesis rest b → SpellsArguments text es b end → (1 ≤ w → heights es ≤ room) → ⊥)
+    → ((es : Arguments) (b end : List Token) → HasPunctuator punctuators.OpenParenthesis rest b → SpellsArguments text es b end → (1 ≤ w → heights es ≤ room) → ⊥)
     → NoOperand l room w text ts
-none_named text w l room x ts rest n v c (Constant at y) end o low = literal_name y (other_kind _ _ at x.start ts end rest o.derives.spells (name_kind x ts rest n))
+none_named text w l room x ts rest n v c (Constant at y) end o low = literal_name y (other_kind _ _ at x.start ts end rest o.derives.spells (identifier_kind x ts rest n))
 none_named text w l room x ts rest n v c (Variable y) end o low =
     let q = (name_same x y ts ts rest end refl n o.derives.spells).1 in let p = ap follows q in let k = o.closes in v (omega arith)
 none_named text w l room x ts rest n v c (Information at y) end o low =
-    let h = o.derives.spells in keyword_not_name (other_kind _ _ at x.start ts h.0 rest h.6 (name_kind x ts rest n))
+    let h = o.derives.spells in keyword_not_name (other_kind _ _ at x.start ts h.0 rest h.6 (identifier_kind x ts rest n))
 none_named text w l room x ts rest n v c (Call y es) end o low =
     let h = o.derives.spells in
     let q = (name_same y x ts ts h.0 rest refl h.2 n).1 in
-    c es h.1 end (subst (λ (z : List Token). HasSign signs.OpenParenthesis z h.1) q h.3) h.4 low
-none_named text w l room x ts rest n v c (Parentheses at e) end o low = let h = o.derives.spells in sign_not_name _ (other_kind _ _ at x.start ts h.0 rest h.2 (name_kind x ts rest n))
+    c es h.1 end (subst (λ (z : List Token). HasPunctuator punctuators.OpenParenthesis z h.1) q h.3) h.4 low
+none_named text w l room x ts rest n v c (Parentheses at e) end o low = let h = o.derives.spells in punctuator_not_name _ (other_kind _ _ at x.start ts h.0 rest h.2 (identifier_kind x ts rest n))
 none_named text w l room x ts rest n v c (Index e at i) end o low = o.head
 none_named text w l room x ts rest n v c (Postfix e op at) end o low = o.head
-none_named text w l room x ts rest n v c (Prefix at op e) end o low = let h = o.derives.spells in sign_not_name _ (other_kind _ _ at x.start ts h.0 rest h.1 (name_kind x ts rest n))
-none_named text w l room x ts rest n v c (Unary at op e) end o low = let h = o.derives.spells in sign_not_name _ (other_kind _ _ at x.start ts h.0 rest h.1 (name_kind x ts rest n))
-none_named text w l room x ts rest n v c (Cast at to e) end o low = let h = o.derives.spells in sign_not_name _ (other_kind _ _ at x.start ts h.0 rest h.3 (name_kind x ts rest n))
+none_named text w l room x ts rest n v c (Prefix at op e) end o low = let h = o.derives.spells in punctuator_not_name _ (other_kind _ _ at x.start ts h.0 rest h.1 (identifier_kind x ts rest n))
+none_named text w l room x ts rest n v c (Unary at op e) end o low = let h = o.derives.spells in punctuator_not_name _ (other_kind _ _ at x.start ts h.0 rest h.1 (identifier_kind x ts rest n))
+none_named text w l room x ts rest n v c (Cast at to e) end o low = let h = o.derives.spells in punctuator_not_name _ (other_kind _ _ at x.start ts h.0 rest h.3 (identifier_kind x ts rest n))
 none_named text w l room x ts rest n v c (Binary e at op f) end o low = o.head
 none_named text w l room x ts rest n v c (Conditional e at f g) end o low = o.head
 none_named text w l room x ts rest n v c (Assign e at op f) end o low = o.head
 none_named text w l room x ts rest n v c (Comma e at f) end o low = o.head
 
-call_follows : (rest b : List Token) → HasSign signs.OpenParenthesis rest b → follows rest ≡ 0
+call_follows : (rest b : List Token) → HasPunctuator punctuators.OpenParenthesis rest b → follows rest ≡ 0
 call_follows rest b h = ap follows h.1.1
 
-pub no_call : (text : List ℕ) (w l room : ℕ) (x : Name) (ts rest b : List Token) → IsName x ts rest → HasSign signs.OpenParenthesis rest b → NoArguments room w text b → NoOperand l room w text ts
+pub no_call : (text : List ℕ) (w l room : ℕ) (x : Identifier) (ts rest b : List Token) → IsIdentifier x ts rest → HasPunctuator punctuators.OpenParenthesis rest b → NoArguments room w text b → NoOperand l room w text ts
 no_call text w l room x ts rest b n h a =
     none_named text w l room x ts rest n
     (λ p. let q = call_follows rest b h in absurd (omega arith))
-    (λ es d end g s low. a es end (subst (λ (z : List Token). SpellsArguments text es z end) (has_same signs.OpenParenthesis rest rest d b refl g h) s) low)
+    (λ es d end g s low. a es end (subst (λ (z : List Token). SpellsArguments text es z end) (has_same punctuators.OpenParenthesis rest rest d b refl g h) s) low)
 
 -- no `(` is at the front
-positive_sign : (s : Sign) → (s ≡ signs.OpenParenthesis → ⊥) → 0 < sign_follows s
-positive_sign signs.OpenParenthesis n = absurd (n refl)
-positive_sign signs.CloseParenthesis n = omega arith
-positive_sign signs.OpenBracket n = omega arith
-positive_sign signs.CloseBracket n = omega arith
-positive_sign signs.OpenBrace n = omega arith
-positive_sign signs.CloseBrace n = omega arith
-positive_sign signs.Semicolon n = omega arith
-positive_sign signs.Comma n = omega arith
-positive_sign signs.Question n = omega arith
-positive_sign signs.Colon n = omega arith
-positive_sign signs.Arrow n = omega arith
-positive_sign signs.Assign n = omega arith
-positive_sign signs.PlusAssign n = omega arith
-positive_sign signs.MinusAssign n = omega arith
-positive_sign signs.StarAssign n = omega arith
-positive_sign signs.SlashAssign n = omega arith
-positive_sign signs.PercentAssign n = omega arith
-positive_sign signs.AmpersandAssign n = omega arith
-positive_sign signs.BarAssign n = omega arith
-positive_sign signs.CaretAssign n = omega arith
-positive_sign signs.ShiftLeftAssign n = omega arith
-positive_sign signs.ShiftRightAssign n = omega arith
-positive_sign signs.BarBar n = omega arith
-positive_sign signs.AmpersandAmpersand n = omega arith
-positive_sign signs.Bar n = omega arith
-positive_sign signs.Caret n = omega arith
-positive_sign signs.Ampersand n = omega arith
-positive_sign signs.Equal n = omega arith
-positive_sign signs.NotEqual n = omega arith
-positive_sign signs.Less n = omega arith
-positive_sign signs.Greater n = omega arith
-positive_sign signs.LessEqual n = omega arith
-positive_sign signs.GreaterEqual n = omega arith
-positive_sign signs.ShiftLeft n = omega arith
-positive_sign signs.ShiftRight n = omega arith
-positive_sign signs.Plus n = omega arith
-positive_sign signs.Minus n = omega arith
-positive_sign signs.Star n = omega arith
-positive_sign signs.Slash n = omega arith
-positive_sign signs.Percent n = omega arith
-positive_sign signs.Exclamation n = omega arith
-positive_sign signs.Tilde n = omega arith
-positive_sign signs.PlusPlus n = omega arith
-positive_sign signs.MinusMinus n = omega arith
+positive_sign : (s : Punctuator) → (s ≡ punctuators.OpenParenthesis → ⊥) → 0 < punctuator_follows s
+positive_sign punctuators.OpenParenthesis n = absurd (n refl)
+positive_sign punctuators.CloseParenthesis n = omega arith
+positive_sign punctuators.OpenBracket n = omega arith
+positive_sign punctuators.CloseBracket n = omega arith
+positive_sign punctuators.OpenBrace n = omega arith
+positive_sign punctuators.CloseBrace n = omega arith
+positive_sign punctuators.Semicolon n = omega arith
+positive_sign punctuators.Comma n = omega arith
+positive_sign punctuators.Question n = omega arith
+positive_sign punctuators.Colon n = omega arith
+positive_sign punctuators.Arrow n = omega arith
+positive_sign punctuators.Assign n = omega arith
+positive_sign punctuators.PlusAssign n = omega arith
+positive_sign punctuators.MinusAssign n = omega arith
+positive_sign punctuators.StarAssign n = omega arith
+positive_sign punctuators.SlashAssign n = omega arith
+positive_sign punctuators.PercentAssign n = omega arith
+positive_sign punctuators.AmpersandAssign n = omega arith
+positive_sign punctuators.BarAssign n = omega arith
+positive_sign punctuators.CaretAssign n = omega arith
+positive_sign punctuators.ShiftLeftAssign n = omega arith
+positive_sign punctuators.ShiftRightAssign n = omega arith
+positive_sign punctuators.BarBar n = omega arith
+positive_sign punctuators.AmpersandAmpersand n = omega arith
+positive_sign punctuators.Bar n = omega arith
+positive_sign punctuators.Caret n = omega arith
+positive_sign punctuators.Ampersand n = omega arith
+positive_sign punctuators.Equal n = omega arith
+positive_sign punctuators.NotEqual n = omega arith
+positive_sign punctuators.Less n = omega arith
+positive_sign punctuators.Greater n = omega arith
+positive_sign punctuators.LessEqual n = omega arith
+positive_sign punctuators.GreaterEqual n = omega arith
+positive_sign punctuators.ShiftLeft n = omega arith
+positive_sign punctuators.ShiftRight n = omega arith
+positive_sign punctuators.Plus n = omega arith
+positive_sign punctuators.Minus n = omega arith
+positive_sign punctuators.Star n = omega arith
+positive_sign punctuators.Slash n = omega arith
+positive_sign punctuators.Percent n = omega arith
+positive_sign punctuators.Exclamation n = omega arith
+positive_sign punctuators.Tilde n = omega arith
+positive_sign punctuators.PlusPlus n = omega arith
+positive_sign punctuators.MinusMinus n = omega arith
 
-positive_kind : (k : Kind) (at end : ℕ) (ts : List Token) → ((b : List Token) → HasSign signs.OpenParenthesis (token k at end ∷ ts) b → ⊥) → 0 < kind_follows k
-positive_kind kinds.Name at end ts n = omega arith
+positive_kind : (k : Kind) (at end : ℕ) (ts : List Token) → ((b : List Token) → HasPunctuator punctuators.OpenParenthesis (token k at end ∷ ts) b → ⊥) → 0 < kind_follows k
+positive_kind kinds.Identifier at end ts n = omega arith
 positive_kind (kinds.Keyword k) at end ts n = omega arith
 positive_kind (kinds.Reserved r) at end ts n = omega arith
 positive_kind (kinds.Integer value type) at end ts n = omega arith
-positive_kind (kinds.Character value) at end ts n = omega arith
-positive_kind (kinds.Sign s) at end ts n = positive_sign s (λ e. n ts (at, (end, ap (λ (z : Sign). token (kinds.Sign z) at end ∷ ts) e)))
+positive_kind (kinds.CharacterConstant value) at end ts n = omega arith
+positive_kind (kinds.Punctuator s) at end ts n = positive_sign s (λ e. n ts (at, (end, ap (λ (z : Punctuator). token (kinds.Punctuator z) at end ∷ ts) e)))
 
-pub no_parenthesis : (ts : List Token) → ((b : List Token) → HasSign signs.OpenParenthesis ts b → ⊥) → 0 < follows ts
+pub no_parenthesis : (ts : List Token) → ((b : List Token) → HasPunctuator punctuators.OpenParenthesis ts b → ⊥) → 0 < follows ts
 no_parenthesis [] n = omega arith
 no_parenthesis (t ∷ ts) n = positive_kind t.kind t.start t.end ts n
 
--- ---- behind a sign
+-- ---- after a punctuator
 
-pub none_signed : (text : List ℕ) (w l room : ℕ) (s : Sign) (at : ℕ) (ts rest : List Token) → IsSign s at ts rest
-    → ((e : Expression) (end : List Token) → s ≡ signs.OpenParenthesis → Encloses text signs.CloseParenthesis e rest end → (1 ≤ w → height e < room) → ⊥)
-    → ((op : Increment) (e : Expression) (end : List Token) → s ≡ increment_sign op → Derives text 2 e rest end → Stops 2 end → (1 ≤ w → height e < room) → ⊥)
-    → ((op : UnaryOperator) (e : Expression) (end : List Token) → s ≡ unary_sign op → Derives text 3 e rest end → Stops 3 end → (1 ≤ w → height e < room) → ⊥)
-    → ((to : CType) (e : Expression) (b c end : List Token) → s ≡ signs.OpenParenthesis → 3 ≤ l → IsType to rest b → HasSign signs.CloseParenthesis b c → Derives text 3 e c end → Stops 3 end → (1 ≤ w → height e < room) → ⊥)
+pub none_signed : (text : List ℕ) (w l room : ℕ) (s : Punctuator) (at : ℕ) (ts rest : List Token) → IsPunctuator s at ts rest
+    → ((e : Expression) (end : List Token) → s ≡ punctuators.OpenParenthesis → Encloses text punctuators.CloseParenthesis e rest end → (1 ≤ w → height e < room) → ⊥)
+    → ((op : Increment) (e : Expression) (end : List Token) → s ≡ increment_punctuator op → Derives text 2 e rest end → Stops 2 end → (1 ≤ w → height e < room) → ⊥)
+    → ((op : UnaryOperator) (e : Expression) (end : List Token) → s ≡ unary_punctuator op → Derives text 3 e rest end → Stops 3 end → (1 ≤ w → height e < room) → ⊥)
+    → ((to : CType) (e : Expression) (b c end : List Token) → s ≡ punctuators.OpenParenthesis → 3 ≤ l → IsType to rest b → HasPunctuator punctuators.CloseParenthesis b c → Derives text 3 e c end → Stops 3 end → (1 ≤ w → height e < room) → ⊥)
     → NoOperand l room w text ts
-none_signed text w l room s at ts rest n pa pr un ca (Constant to y) end o low = literal_sign y s (other_kind _ _ to at ts end rest o.derives.spells n)
-none_signed text w l room s at ts rest n pa pr un ca (Variable y) end o low = name_not_sign s (other_kind _ _ y.start at ts end rest (name_kind y ts end o.derives.spells) n)
-none_signed text w l room s at ts rest n pa pr un ca (Information to y) end o low = let h = o.derives.spells in keyword_not_sign s (other_kind _ _ to at ts h.0 rest h.6 n)
-none_signed text w l room s at ts rest n pa pr un ca (Call y es) end o low = let h = o.derives.spells in name_not_sign s (other_kind _ _ y.start at ts h.0 rest (name_kind y ts h.0 h.2) n)
+none_signed text w l room s at ts rest n pa pr un ca (Constant to y) end o low = literal_punctuator y s (other_kind _ _ to at ts end rest o.derives.spells n)
+none_signed text w l room s at ts rest n pa pr un ca (Variable y) end o low = name_not_punctuator s (other_kind _ _ y.start at ts end rest (identifier_kind y ts end o.derives.spells) n)
+none_signed text w l room s at ts rest n pa pr un ca (Information to y) end o low = let h = o.derives.spells in keyword_not_punctuator s (other_kind _ _ to at ts h.0 rest h.6 n)
+none_signed text w l room s at ts rest n pa pr un ca (Call y es) end o low = let h = o.derives.spells in name_not_punctuator s (other_kind _ _ y.start at ts h.0 rest (identifier_kind y ts h.0 h.2) n)
 none_signed text w l room s at ts rest n pa pr un ca (Parentheses to e) end o low =
     let h = o.derives.spells in
-    let q = sign_same s signs.OpenParenthesis at to ts ts rest h.0 refl n h.2 in
-    pa e end q.0 (record { mid = h.1; spells = subst (λ (z : List Token). Spells text e z h.1) (sym q.2) h.3; closed = h.4 }) (λ k. let a = low k in omega arith)
+    let q = punctuator_same s punctuators.OpenParenthesis at to ts ts rest h.0 refl n h.2 in
+    pa e end q.0 (record { mid = h.1; spells = subst (λ (z : List Token). SpellsExpression text e z h.1) (sym q.2) h.3; closed = h.4 }) (λ k. let a = low k in omega arith)
 none_signed text w l room s at ts rest n pa pr un ca (Index e to i) end o low = o.head
 none_signed text w l room s at ts rest n pa pr un ca (Postfix e op to) end o low = o.head
 none_signed text w l room s at ts rest n pa pr un ca (Prefix to op e) end o low =
     let h = o.derives.spells in
-    let q = sign_same s (increment_sign op) at to ts ts rest h.0 refl n h.1 in
-    pr op e end q.0 (record { fits = h.2; spells = subst (λ (z : List Token). Spells text e z end) (sym q.2) h.3 }) o.closes (λ k. let a = low k in omega arith)
+    let q = punctuator_same s (increment_punctuator op) at to ts ts rest h.0 refl n h.1 in
+    pr op e end q.0 (record { fits = h.2; spells = subst (λ (z : List Token). SpellsExpression text e z end) (sym q.2) h.3 }) o.closes (λ k. let a = low k in omega arith)
 none_signed text w l room s at ts rest n pa pr un ca (Unary to op e) end o low =
     let h = o.derives.spells in
-    let q = sign_same s (unary_sign op) at to ts ts rest h.0 refl n h.1 in
-    un op e end q.0 (record { fits = h.2; spells = subst (λ (z : List Token). Spells text e z end) (sym q.2) h.3 }) o.closes (λ k. let a = low k in omega arith)
+    let q = punctuator_same s (unary_punctuator op) at to ts ts rest h.0 refl n h.1 in
+    un op e end q.0 (record { fits = h.2; spells = subst (λ (z : List Token). SpellsExpression text e z end) (sym q.2) h.3 }) o.closes (λ k. let a = low k in omega arith)
 none_signed text w l room s at ts rest n pa pr un ca (Cast to type e) end o low =
     let h = o.derives.spells in
-    let q = sign_same s signs.OpenParenthesis at to ts ts rest h.0 refl n h.3 in
+    let q = punctuator_same s punctuators.OpenParenthesis at to ts ts rest h.0 refl n h.3 in
     ca type e h.1 h.2 end q.0 o.derives.fits (subst (λ (z : List Token). IsType type z h.1) (sym q.2) h.4) h.5 (record { fits = h.6; spells = h.7 }) o.closes (λ k. let a = low k in omega arith)
 none_signed text w l room s at ts rest n pa pr un ca (Binary e to op f) end o low = o.head
 none_signed text w l room s at ts rest n pa pr un ca (Conditional e to f g) end o low = o.head
 none_signed text w l room s at ts rest n pa pr un ca (Assign e to op f) end o low = o.head
 none_signed text w l room s at ts rest n pa pr un ca (Comma e to f) end o low = o.head
 
-pub not_open : (s : Sign) → s ≡ signs.OpenParenthesis → (op : Increment) → increment_of s ≡ Some op → ⊥
-not_open s e op p = let q : increment_of signs.OpenParenthesis ≡ Some op = ap increment_of (sym e) ∙ p in cc
+pub not_open : (s : Punctuator) → s ≡ punctuators.OpenParenthesis → (op : Increment) → increment_of s ≡ Some op → ⊥
+not_open s e op p = let q : increment_of punctuators.OpenParenthesis ≡ Some op = ap increment_of (sym e) ∙ p in cc
 
-pub not_open_unary : (s : Sign) → s ≡ signs.OpenParenthesis → (op : UnaryOperator) → unary_of s ≡ Some op → ⊥
-not_open_unary s e op p = let q : unary_of signs.OpenParenthesis ≡ Some op = ap unary_of (sym e) ∙ p in cc
+pub not_open_unary : (s : Punctuator) → s ≡ punctuators.OpenParenthesis → (op : UnaryOperator) → unary_of s ≡ Some op → ⊥
+not_open_unary s e op p = let q : unary_of punctuators.OpenParenthesis ≡ Some op = ap unary_of (sym e) ∙ p in cc
 
--- a sign that is no operator before an operand and no parenthesis
-pub no_operator : (text : List ℕ) (w l room : ℕ) (s : Sign) (at : ℕ) (ts rest : List Token) → IsSign s at ts rest → (s ≡ signs.OpenParenthesis → ⊥) → increment_of s ≡ None → unary_of s ≡ None → NoOperand l room w text ts
+-- a punctuator that is no operator before an operand and no parenthesis
+pub no_operator : (text : List ℕ) (w l room : ℕ) (s : Punctuator) (at : ℕ) (ts rest : List Token) → IsPunctuator s at ts rest → (s ≡ punctuators.OpenParenthesis → ⊥) → increment_of s ≡ None → unary_of s ≡ None → NoOperand l room w text ts
 no_operator text w l room s at ts rest n a b c =
     none_signed text w l room s at ts rest n
     (λ e end p x low. a p)
@@ -221,11 +221,11 @@ no_operator text w l room s at ts rest n a b c =
     (λ op e end p d st low. let q : None ≡ Some op = sym c ∙ ap unary_of p ∙ unary_again op in cc)
     (λ to e b c end p f t z d st low. a p)
 
-pub no_room : (text : List ℕ) (l : ℕ) (s : Sign) (at : ℕ) (ts rest : List Token) → IsSign s at ts rest → NoOperand l 0 1 text ts
+pub no_room : (text : List ℕ) (l : ℕ) (s : Punctuator) (at : ℕ) (ts rest : List Token) → IsPunctuator s at ts rest → NoOperand l 0 1 text ts
 no_room text l s at ts rest n =
     none_signed text 1 l 0 s at ts rest n (λ e end p x low. let a = low (omega arith) in absurd (omega arith)) (λ op e end p d st low. let a = low (omega arith) in absurd (omega arith)) (λ op e end p d st low. let a = low (omega arith) in absurd (omega arith)) (λ to e b c end p f t z d st low. let a = low (omega arith) in absurd (omega arith))
 
-unary_no_increment : (o : UnaryOperator) (op : Increment) → increment_of (unary_sign o) ≡ Some op → ⊥
+unary_no_increment : (o : UnaryOperator) (op : Increment) → increment_of (unary_punctuator o) ≡ Some op → ⊥
 unary_no_increment unary_operators.Plus op e = cc
 unary_no_increment unary_operators.Minus op e = cc
 unary_no_increment unary_operators.LogicalNot op e = cc
@@ -233,15 +233,15 @@ unary_no_increment unary_operators.Complement op e = cc
 unary_no_increment unary_operators.Indirection op e = cc
 unary_no_increment unary_operators.AddressOf op e = cc
 
-increment_no_unary : (o : Increment) (op : UnaryOperator) → unary_of (increment_sign o) ≡ Some op → ⊥
+increment_no_unary : (o : Increment) (op : UnaryOperator) → unary_of (increment_punctuator o) ≡ Some op → ⊥
 increment_no_unary increments.Increment op e = cc
 increment_no_unary increments.Decrement op e = cc
 
-open_no_increment : (o : Increment) → signs.OpenParenthesis ≡ increment_sign o → ⊥
+open_no_increment : (o : Increment) → punctuators.OpenParenthesis ≡ increment_punctuator o → ⊥
 open_no_increment increments.Increment e = cc
 open_no_increment increments.Decrement e = cc
 
-open_no_unary : (o : UnaryOperator) → signs.OpenParenthesis ≡ unary_sign o → ⊥
+open_no_unary : (o : UnaryOperator) → punctuators.OpenParenthesis ≡ unary_punctuator o → ⊥
 open_no_unary unary_operators.Plus e = cc
 open_no_unary unary_operators.Minus e = cc
 open_no_unary unary_operators.LogicalNot e = cc
@@ -249,33 +249,33 @@ open_no_unary unary_operators.Complement e = cc
 open_no_unary unary_operators.Indirection e = cc
 open_no_unary unary_operators.AddressOf e = cc
 
-pub no_prefixed : (text : List ℕ) (w l room : ℕ) (s : Sign) (op : Increment) (at : ℕ) (ts rest : List Token) → IsSign s at ts rest → increment_of s ≡ Some op → NoExpression 2 (room - 1) w text rest → NoOperand l room w text ts
+pub no_prefixed : (text : List ℕ) (w l room : ℕ) (s : Punctuator) (op : Increment) (at : ℕ) (ts rest : List Token) → IsPunctuator s at ts rest → increment_of s ≡ Some op → NoExpression 2 (room - 1) w text rest → NoOperand l room w text ts
 no_prefixed text w l room s op at ts rest n p x =
     none_signed text w l room s at ts rest n
     (λ e end q y low. not_open s q op p)
     (λ o e end q d st low. x e end d st (λ k. let a = low k in omega arith))
-    (λ o e end q d st low. let r : increment_of (unary_sign o) ≡ Some op = ap increment_of (sym q) ∙ p in unary_no_increment o op r)
+    (λ o e end q d st low. let r : increment_of (unary_punctuator o) ≡ Some op = ap increment_of (sym q) ∙ p in unary_no_increment o op r)
     (λ to e b c end q f t z d st low. not_open s q op p)
 
-pub no_unary : (text : List ℕ) (w l room : ℕ) (s : Sign) (op : UnaryOperator) (at : ℕ) (ts rest : List Token) → IsSign s at ts rest → unary_of s ≡ Some op → NoExpression 3 (room - 1) w text rest → NoOperand l room w text ts
+pub no_unary : (text : List ℕ) (w l room : ℕ) (s : Punctuator) (op : UnaryOperator) (at : ℕ) (ts rest : List Token) → IsPunctuator s at ts rest → unary_of s ≡ Some op → NoExpression 3 (room - 1) w text rest → NoOperand l room w text ts
 no_unary text w l room s op at ts rest n p x =
     none_signed text w l room s at ts rest n
     (λ e end q y low. not_open_unary s q op p)
-    (λ o e end q d st low. let r : unary_of (increment_sign o) ≡ Some op = ap unary_of (sym q) ∙ p in increment_no_unary o op r)
+    (λ o e end q d st low. let r : unary_of (increment_punctuator o) ≡ Some op = ap unary_of (sym q) ∙ p in increment_no_unary o op r)
     (λ o e end q d st low. x e end d st (λ k. let a = low k in omega arith))
     (λ to e b c end q f t z d st low. not_open_unary s q op p)
 
--- ---- behind `(`
+-- ---- after `(`
 
 abbrev Open : ℕ → List Token → List Token → Type 0
-Open at ts rest = IsSign signs.OpenParenthesis at ts rest
+Open at ts rest = IsPunctuator punctuators.OpenParenthesis at ts rest
 
 pub none_open : (text : List ℕ) (w l room at : ℕ) (ts rest : List Token) → Open at ts rest
-    → ((e : Expression) (end : List Token) → Encloses text signs.CloseParenthesis e rest end → (1 ≤ w → height e ≤ room) → ⊥)
-    → ((to : CType) (e : Expression) (b c end : List Token) → 3 ≤ l → IsType to rest b → HasSign signs.CloseParenthesis b c → Derives text 3 e c end → Stops 3 end → (1 ≤ w → height e ≤ room) → ⊥)
+    → ((e : Expression) (end : List Token) → Encloses text punctuators.CloseParenthesis e rest end → (1 ≤ w → height e ≤ room) → ⊥)
+    → ((to : CType) (e : Expression) (b c end : List Token) → 3 ≤ l → IsType to rest b → HasPunctuator punctuators.CloseParenthesis b c → Derives text 3 e c end → Stops 3 end → (1 ≤ w → height e ≤ room) → ⊥)
     → NoOperand l (room + 1) w text ts
 none_open text w l room at ts rest n pa ca =
-    none_signed text w l (room + 1) signs.OpenParenthesis at ts rest n
+    none_signed text w l (room + 1) punctuators.OpenParenthesis at ts rest n
     (λ e end q x low. pa e end x (λ k. let a = low k in omega arith))
     (λ o e end q d st low. open_no_increment o q)
     (λ o e end q d st low. open_no_unary o q)
@@ -284,10 +284,10 @@ none_open text w l room at ts rest n pa ca =
 type_front : (to : CType) (ts rest : List Token) → IsType to ts rest → front ts ≡ 7
 type_front to ts rest t = base_front to.base ts t.0 t.1
 
-no_type_inside : (text : List ℕ) (to : CType) (e : Expression) (ts rest end : List Token) → IsType to ts rest → Encloses text signs.CloseParenthesis e ts end → ⊥
+no_type_inside : (text : List ℕ) (to : CType) (e : Expression) (ts rest end : List Token) → IsType to ts rest → Encloses text punctuators.CloseParenthesis e ts end → ⊥
 no_type_inside text to e ts rest end t x = let a = type_front to ts rest t in let b = expression_front text e ts x.mid x.spells in absurd (omega arith)
 
-close_base : (ts rest : List Token) → HasSign signs.CloseParenthesis ts rest → NoBase ts
+close_base : (ts rest : List Token) → HasPunctuator punctuators.CloseParenthesis ts rest → NoBase ts
 close_base ts rest h b end g = let a = base_front b ts end g in let q : front ts ≡ 6 = ap front h.1.1 in absurd (omega arith)
 
 -- the type at the front, where nothing of a type follows
@@ -295,18 +295,18 @@ abbrev pub OnlyType : List Token → List Token → Type 0
 OnlyType ts mid = (to : CType) (rest : List Token) → IsType to ts rest → NoBase rest → NoStar rest → mid ≡ rest
 
 pub no_cast : (text : List ℕ) (w l room at : ℕ) (to : CType) (ts rest mid : List Token) → Open at ts rest → IsType to rest mid → OnlyType rest mid
-    → ((e : Expression) (c end : List Token) → HasSign signs.CloseParenthesis mid c → Derives text 3 e c end → Stops 3 end → (1 ≤ w → height e ≤ room) → ⊥)
+    → ((e : Expression) (c end : List Token) → HasPunctuator punctuators.CloseParenthesis mid c → Derives text 3 e c end → Stops 3 end → (1 ≤ w → height e ≤ room) → ⊥)
     → NoOperand l (room + 1) w text ts
 no_cast text w l room at to ts rest mid n t only x =
     none_open text w l room at ts rest n
     (λ e end y low. no_type_inside text to e rest mid end t y)
-    (λ u e b c end f g z d st low. x e c end (subst (λ (y : List Token). HasSign signs.CloseParenthesis y c) (sym (only u b g (close_base b c z) (close_star b c z))) z) d st low)
+    (λ u e b c end f g z d st low. x e c end (subst (λ (y : List Token). HasPunctuator punctuators.CloseParenthesis y c) (sym (only u b g (close_base b c z) (close_star b c z))) z) d st low)
 
-pub not_cast : (text : List ℕ) (w l room at : ℕ) (to : CType) (ts rest mid after : List Token) → Open at ts rest → IsType to rest mid → OnlyType rest mid → HasSign signs.CloseParenthesis mid after → NoExpression 3 room w text after → NoOperand l (room + 1) w text ts
+pub not_cast : (text : List ℕ) (w l room at : ℕ) (to : CType) (ts rest mid after : List Token) → Open at ts rest → IsType to rest mid → OnlyType rest mid → HasPunctuator punctuators.CloseParenthesis mid after → NoExpression 3 room w text after → NoOperand l (room + 1) w text ts
 not_cast text w l room at to ts rest mid after n t only h x =
     no_cast text w l room at to ts rest mid n t only
-    (λ e c end z d st low. x e end (let q = has_same signs.CloseParenthesis mid mid c after refl z h in record { fits = d.fits; spells = subst (λ (y : List Token). Spells text e y end) q d.spells }) st low)
+    (λ e c end z d st low. x e end (let q = has_same punctuators.CloseParenthesis mid mid c after refl z h in record { fits = d.fits; spells = subst (λ (y : List Token). SpellsExpression text e y end) q d.spells }) st low)
 
-pub no_group : (text : List ℕ) (w l room at : ℕ) (ts rest : List Token) → Open at ts rest → ((3 ≤ l) → NoBase rest) → NoneEnclosed signs.CloseParenthesis room w text rest → NoOperand l (room + 1) w text ts
+pub no_group : (text : List ℕ) (w l room at : ℕ) (ts rest : List Token) → Open at ts rest → ((3 ≤ l) → NoBase rest) → NoneEnclosed punctuators.CloseParenthesis room w text rest → NoOperand l (room + 1) w text ts
 no_group text w l room at ts rest n b x =
     none_open text w l room at ts rest n (λ e end y low. x e end y low) (λ u e m c end f g z d st low. b f u.base g.0 g.1)

@@ -1,35 +1,35 @@
--- What signs begin, and what follows the sign of a step.
+-- What punctuators begin, and what follows the punctuator of a step.
 use Rattle.std.proofs.Common.{◌≡◌, ◌≤◌, ◌<◌, ◌+◌, ◌-◌, ℕ, max, List, Some, None, refl, sym, ap, ◌∙◌, subst, arith}
-use Rattle.c_lex.specs.declared.sign.Sign.{Sign}
-use Rattle.c_lex.specs.declared.sign.Sign.TheVariants as signs
+use Rattle.c_lex.specs.declared.punctuator.Punctuator.{Punctuator}
+use Rattle.c_lex.specs.declared.punctuator.Punctuator.TheVariants as punctuators
 use Rattle.c_lex.specs.declared.token.Token.{Token}
 use Rattle.c_syntax.specs.declared.operator.Arithmetic.TheVariants as arithmetic
 use Rattle.c_syntax.specs.declared.operator.Comparison.TheVariants as comparisons
 use Rattle.c_syntax.specs.declared.operator.BinaryOperator.TheVariants as binary
 use Rattle.c_syntax.specs.declared.operator.Increment.TheVariants as increments
 use Rattle.c_syntax.specs.Expression.{Expression, height}
-use Rattle.c_syntax.specs.Expressions.{rank, Spells, Derives}
+use Rattle.c_syntax.specs.Expressions.{rank, SpellsExpression, Derives}
 use Rattle.c_syntax.specs.Follow.{Stops}
 use Rattle.c_syntax.specs.Operators.{level}
 use Rattle.c_syntax.specs.Steps.{Step, At, After, With, Choose, Set, And, apply, bound as bound_of, Tail, Closes}
-use Rattle.c_syntax.specs.Tokens.{IsSign}
-use Rattle.c_syntax.proofs.Fronts.{sign_same}
+use Rattle.c_syntax.specs.Tokens.{IsPunctuator}
+use Rattle.c_syntax.proofs.Fronts.{punctuator_same}
 use Rattle.c_syntax.proofs.Spine.{levels}
 use Rattle.c_parse_expr.specs.declared.step.Infix.{Infix as Infix'}
 use Rattle.c_parse_expr.specs.declared.step.Infix.TheVariants as infixes
 use Rattle.c_parse_expr.specs.declared.step.Operation.{Operation}
 use Rattle.c_parse_expr.specs.declared.step.Operation.TheVariants.{Index, Postfix, Infix, Conditional}
-use Rattle.c_parse_expr.specs.Operations.{operation_of, sign, right, bound, with, operation, place}
+use Rattle.c_parse_expr.specs.Operations.{operation_of, punctuator, right, bound, with, operation, place}
 use Rattle.c_parse_expr.specs.Readings.{Reads, NoExpression, Encloses, NoneEnclosed, Behind, IsBehind, NoneBehind, IsStep, NoStep}
 use Rattle.c_parse_expr.specs.Steps.{over}
 use Rattle.c_parse_expr.proofs.Climbing.{enclosed_once}
 
--- ---- signs
+-- ---- punctuators
 
 some_same : {A : Type 0} (a b : A) → Some a ≡ Some b → a ≡ b
 some_same a b e = cc
 
-pub again : (o : Operation) → operation_of (sign o) ≡ Some o
+pub again : (o : Operation) → operation_of (punctuator o) ≡ Some o
 again Index = refl
 again (Postfix increments.Increment) = refl
 again (Postfix increments.Decrement) = refl
@@ -65,53 +65,53 @@ again (Infix (infixes.Assign (Some arithmetic.Or))) = refl
 again (Infix infixes.Comma) = refl
 again Conditional = refl
 
-pub only : (o : Operation) (s : Sign) → operation_of s ≡ Some o → s ≡ sign o
-only o signs.OpenParenthesis e = absurd cc
-only o signs.CloseParenthesis e = absurd cc
-only o signs.OpenBracket e = ap sign (some_same Index o e)
-only o signs.CloseBracket e = absurd cc
-only o signs.OpenBrace e = absurd cc
-only o signs.CloseBrace e = absurd cc
-only o signs.Semicolon e = absurd cc
-only o signs.Comma e = ap sign (some_same (Infix infixes.Comma) o e)
-only o signs.Question e = ap sign (some_same Conditional o e)
-only o signs.Colon e = absurd cc
-only o signs.Arrow e = absurd cc
-only o signs.Assign e = ap sign (some_same (Infix (infixes.Assign None)) o e)
-only o signs.PlusAssign e = ap sign (some_same (Infix (infixes.Assign (Some arithmetic.Add))) o e)
-only o signs.MinusAssign e = ap sign (some_same (Infix (infixes.Assign (Some arithmetic.Subtract))) o e)
-only o signs.StarAssign e = ap sign (some_same (Infix (infixes.Assign (Some arithmetic.Multiply))) o e)
-only o signs.SlashAssign e = ap sign (some_same (Infix (infixes.Assign (Some arithmetic.Divide))) o e)
-only o signs.PercentAssign e = ap sign (some_same (Infix (infixes.Assign (Some arithmetic.Remainder))) o e)
-only o signs.AmpersandAssign e = ap sign (some_same (Infix (infixes.Assign (Some arithmetic.And))) o e)
-only o signs.BarAssign e = ap sign (some_same (Infix (infixes.Assign (Some arithmetic.Or))) o e)
-only o signs.CaretAssign e = ap sign (some_same (Infix (infixes.Assign (Some arithmetic.ExclusiveOr))) o e)
-only o signs.ShiftLeftAssign e = ap sign (some_same (Infix (infixes.Assign (Some arithmetic.ShiftLeft))) o e)
-only o signs.ShiftRightAssign e = ap sign (some_same (Infix (infixes.Assign (Some arithmetic.ShiftRight))) o e)
-only o signs.BarBar e = ap sign (some_same (Infix (infixes.Binary binary.LogicalOr)) o e)
-only o signs.AmpersandAmpersand e = ap sign (some_same (Infix (infixes.Binary binary.LogicalAnd)) o e)
-only o signs.Bar e = ap sign (some_same (Infix (infixes.Binary (binary.Arithmetic arithmetic.Or))) o e)
-only o signs.Caret e = ap sign (some_same (Infix (infixes.Binary (binary.Arithmetic arithmetic.ExclusiveOr))) o e)
-only o signs.Ampersand e = ap sign (some_same (Infix (infixes.Binary (binary.Arithmetic arithmetic.And))) o e)
-only o signs.Equal e = ap sign (some_same (Infix (infixes.Binary (binary.Comparison comparisons.Equal))) o e)
-only o signs.NotEqual e = ap sign (some_same (Infix (infixes.Binary (binary.Comparison comparisons.NotEqual))) o e)
-only o signs.Less e = ap sign (some_same (Infix (infixes.Binary (binary.Comparison comparisons.Less))) o e)
-only o signs.Greater e = ap sign (some_same (Infix (infixes.Binary (binary.Comparison comparisons.Greater))) o e)
-only o signs.LessEqual e = ap sign (some_same (Infix (infixes.Binary (binary.Comparison comparisons.LessEqual))) o e)
-only o signs.GreaterEqual e = ap sign (some_same (Infix (infixes.Binary (binary.Comparison comparisons.GreaterEqual))) o e)
-only o signs.ShiftLeft e = ap sign (some_same (Infix (infixes.Binary (binary.Arithmetic arithmetic.ShiftLeft))) o e)
-only o signs.ShiftRight e = ap sign (some_same (Infix (infixes.Binary (binary.Arithmetic arithmetic.ShiftRight))) o e)
-only o signs.Plus e = ap sign (some_same (Infix (infixes.Binary (binary.Arithmetic arithmetic.Add))) o e)
-only o signs.Minus e = ap sign (some_same (Infix (infixes.Binary (binary.Arithmetic arithmetic.Subtract))) o e)
-only o signs.Star e = ap sign (some_same (Infix (infixes.Binary (binary.Arithmetic arithmetic.Multiply))) o e)
-only o signs.Slash e = ap sign (some_same (Infix (infixes.Binary (binary.Arithmetic arithmetic.Divide))) o e)
-only o signs.Percent e = ap sign (some_same (Infix (infixes.Binary (binary.Arithmetic arithmetic.Remainder))) o e)
-only o signs.Exclamation e = absurd cc
-only o signs.Tilde e = absurd cc
-only o signs.PlusPlus e = ap sign (some_same (Postfix increments.Increment) o e)
-only o signs.MinusMinus e = ap sign (some_same (Postfix increments.Decrement) o e)
+pub only : (o : Operation) (s : Punctuator) → operation_of s ≡ Some o → s ≡ punctuator o
+only o punctuators.OpenParenthesis e = absurd cc
+only o punctuators.CloseParenthesis e = absurd cc
+only o punctuators.OpenBracket e = ap punctuator (some_same Index o e)
+only o punctuators.CloseBracket e = absurd cc
+only o punctuators.OpenBrace e = absurd cc
+only o punctuators.CloseBrace e = absurd cc
+only o punctuators.Semicolon e = absurd cc
+only o punctuators.Comma e = ap punctuator (some_same (Infix infixes.Comma) o e)
+only o punctuators.Question e = ap punctuator (some_same Conditional o e)
+only o punctuators.Colon e = absurd cc
+only o punctuators.Arrow e = absurd cc
+only o punctuators.Assign e = ap punctuator (some_same (Infix (infixes.Assign None)) o e)
+only o punctuators.PlusAssign e = ap punctuator (some_same (Infix (infixes.Assign (Some arithmetic.Add))) o e)
+only o punctuators.MinusAssign e = ap punctuator (some_same (Infix (infixes.Assign (Some arithmetic.Subtract))) o e)
+only o punctuators.StarAssign e = ap punctuator (some_same (Infix (infixes.Assign (Some arithmetic.Multiply))) o e)
+only o punctuators.SlashAssign e = ap punctuator (some_same (Infix (infixes.Assign (Some arithmetic.Divide))) o e)
+only o punctuators.PercentAssign e = ap punctuator (some_same (Infix (infixes.Assign (Some arithmetic.Remainder))) o e)
+only o punctuators.AmpersandAssign e = ap punctuator (some_same (Infix (infixes.Assign (Some arithmetic.And))) o e)
+only o punctuators.BarAssign e = ap punctuator (some_same (Infix (infixes.Assign (Some arithmetic.Or))) o e)
+only o punctuators.CaretAssign e = ap punctuator (some_same (Infix (infixes.Assign (Some arithmetic.ExclusiveOr))) o e)
+only o punctuators.ShiftLeftAssign e = ap punctuator (some_same (Infix (infixes.Assign (Some arithmetic.ShiftLeft))) o e)
+only o punctuators.ShiftRightAssign e = ap punctuator (some_same (Infix (infixes.Assign (Some arithmetic.ShiftRight))) o e)
+only o punctuators.BarBar e = ap punctuator (some_same (Infix (infixes.Binary binary.LogicalOr)) o e)
+only o punctuators.AmpersandAmpersand e = ap punctuator (some_same (Infix (infixes.Binary binary.LogicalAnd)) o e)
+only o punctuators.Bar e = ap punctuator (some_same (Infix (infixes.Binary (binary.Arithmetic arithmetic.Or))) o e)
+only o punctuators.Caret e = ap punctuator (some_same (Infix (infixes.Binary (binary.Arithmetic arithmetic.ExclusiveOr))) o e)
+only o punctuators.Ampersand e = ap punctuator (some_same (Infix (infixes.Binary (binary.Arithmetic arithmetic.And))) o e)
+only o punctuators.Equal e = ap punctuator (some_same (Infix (infixes.Binary (binary.Comparison comparisons.Equal))) o e)
+only o punctuators.NotEqual e = ap punctuator (some_same (Infix (infixes.Binary (binary.Comparison comparisons.NotEqual))) o e)
+only o punctuators.Less e = ap punctuator (some_same (Infix (infixes.Binary (binary.Comparison comparisons.Less))) o e)
+only o punctuators.Greater e = ap punctuator (some_same (Infix (infixes.Binary (binary.Comparison comparisons.Greater))) o e)
+only o punctuators.LessEqual e = ap punctuator (some_same (Infix (infixes.Binary (binary.Comparison comparisons.LessEqual))) o e)
+only o punctuators.GreaterEqual e = ap punctuator (some_same (Infix (infixes.Binary (binary.Comparison comparisons.GreaterEqual))) o e)
+only o punctuators.ShiftLeft e = ap punctuator (some_same (Infix (infixes.Binary (binary.Arithmetic arithmetic.ShiftLeft))) o e)
+only o punctuators.ShiftRight e = ap punctuator (some_same (Infix (infixes.Binary (binary.Arithmetic arithmetic.ShiftRight))) o e)
+only o punctuators.Plus e = ap punctuator (some_same (Infix (infixes.Binary (binary.Arithmetic arithmetic.Add))) o e)
+only o punctuators.Minus e = ap punctuator (some_same (Infix (infixes.Binary (binary.Arithmetic arithmetic.Subtract))) o e)
+only o punctuators.Star e = ap punctuator (some_same (Infix (infixes.Binary (binary.Arithmetic arithmetic.Multiply))) o e)
+only o punctuators.Slash e = ap punctuator (some_same (Infix (infixes.Binary (binary.Arithmetic arithmetic.Divide))) o e)
+only o punctuators.Percent e = ap punctuator (some_same (Infix (infixes.Binary (binary.Arithmetic arithmetic.Remainder))) o e)
+only o punctuators.Exclamation e = absurd cc
+only o punctuators.Tilde e = absurd cc
+only o punctuators.PlusPlus e = ap punctuator (some_same (Postfix increments.Increment) o e)
+only o punctuators.MinusMinus e = ap punctuator (some_same (Postfix increments.Decrement) o e)
 
--- ---- steps and what follows their signs
+-- ---- steps and what follows their punctuators
 
 pub same_bound : (s : Step) → bound (operation s) ≡ bound_of s
 same_bound (At at i) = refl
@@ -129,35 +129,35 @@ applied_height e (Choose at f g) = refl
 applied_height e (Set at op f) = refl
 applied_height e (And at f) = refl
 
--- what a step is behind its sign
+-- what a step is after its punctuator
 pub record Begun (text : List ℕ) (s : Step) (ts end : List Token) : Type 0 where
   pub mid : List Token
-  pub begins : IsSign (sign (operation s)) (place s) ts mid
-  pub behind : Behind text s mid end
+  pub begins : IsPunctuator (punctuator (operation s)) (place s) ts mid
+  pub following : Behind text s mid end
 
 pub begun : (text : List ℕ) (e : Expression) (s : Step) (ts end : List Token) → Tail text s ts end → Closes (apply e s) end → Begun text s ts end
-begun text e (At at i) ts end h c = record { mid = h.0; begins = h.2; behind = record { mid = h.1; spells = h.3; closed = h.4 } }
-begun text e (After op at) ts end h c = record { mid = end; begins = h; behind = refl }
+begun text e (At at i) ts end h c = record { mid = h.0; begins = h.2; following = record { mid = h.1; spells = h.3; closed = h.4 } }
+begun text e (After op at) ts end h c = record { mid = end; begins = h; following = refl }
 begun text e (With at op f) ts end h c =
-    let x = (levels op).0 in record { mid = h.0; begins = h.1; behind = record { derives = record { fits = omega (arith, h.2); spells = h.3 }; stops = c } }
+    let x = (levels op).0 in record { mid = h.0; begins = h.1; following = record { derives = record { fits = omega (arith, h.2); spells = h.3 }; stops = c } }
 begun text e (Choose at f g) ts end h c =
-    record { mid = h.0; begins = h.3; behind = (h.2, record { mid = h.1; spells = h.4; closed = h.5 }, record { derives = record { fits = h.6; spells = h.7 }; stops = c }) }
-begun text e (Set at op f) ts end h c = record { mid = h.0; begins = h.1; behind = record { derives = record { fits = h.2; spells = h.3 }; stops = c } }
-begun text e (And at f) ts end h c = record { mid = h.0; begins = h.1; behind = record { derives = record { fits = h.2; spells = h.3 }; stops = c } }
+    record { mid = h.0; begins = h.3; following = (h.2, record { mid = h.1; spells = h.4; closed = h.5 }, record { derives = record { fits = h.6; spells = h.7 }; stops = c }) }
+begun text e (Set at op f) ts end h c = record { mid = h.0; begins = h.1; following = record { derives = record { fits = h.2; spells = h.3 }; stops = c } }
+begun text e (And at f) ts end h c = record { mid = h.0; begins = h.1; following = record { derives = record { fits = h.2; spells = h.3 }; stops = c } }
 
 pub tailed : (text : List ℕ) (e : Expression) (s : Step) (ts end : List Token) → Begun text s ts end → Tail text s ts end × Closes (apply e s) end
-tailed text e (At at i) ts end b = ((b.mid, b.behind.mid, b.begins, b.behind.spells, b.behind.closed), tt)
-tailed text e (After op at) ts end b = (subst (λ (z : List Token). IsSign (sign (Postfix op)) at ts z) b.behind b.begins, tt)
+tailed text e (At at i) ts end b = ((b.mid, b.following.mid, b.begins, b.following.spells, b.following.closed), tt)
+tailed text e (After op at) ts end b = (subst (λ (z : List Token). IsPunctuator (punctuator (Postfix op)) at ts z) b.following b.begins, tt)
 tailed text e (With at op f) ts end b =
-    let x = (levels op).0 in let y = b.behind.derives.fits in ((b.mid, b.begins, omega arith, b.behind.derives.spells), b.behind.stops)
+    let x = (levels op).0 in let y = b.following.derives.fits in ((b.mid, b.begins, omega arith, b.following.derives.spells), b.following.stops)
 tailed text e (Choose at f g) ts end b =
-    let n = b.behind.2 in ((b.mid, b.behind.1.mid, b.behind.0, b.begins, b.behind.1.spells, b.behind.1.closed, n.derives.fits, n.derives.spells), n.stops)
-tailed text e (Set at op f) ts end b = ((b.mid, b.begins, b.behind.derives.fits, b.behind.derives.spells), b.behind.stops)
-tailed text e (And at f) ts end b = ((b.mid, b.begins, b.behind.derives.fits, b.behind.derives.spells), b.behind.stops)
+    let n = b.following.2 in ((b.mid, b.following.1.mid, b.following.0, b.begins, b.following.1.spells, b.following.1.closed, n.derives.fits, n.derives.spells), n.stops)
+tailed text e (Set at op f) ts end b = ((b.mid, b.begins, b.following.derives.fits, b.following.derives.spells), b.following.stops)
+tailed text e (And at f) ts end b = ((b.mid, b.begins, b.following.derives.fits, b.following.derives.spells), b.following.stops)
 
--- ---- refusals behind a sign
+-- ---- refusals after a punctuator
 
-pub none_indexed : (text : List ℕ) (w room : ℕ) (ts : List Token) → NoneEnclosed signs.CloseBracket room w text ts → NoneBehind room Index w text ts
+pub none_indexed : (text : List ℕ) (w room : ℕ) (ts : List Token) → NoneEnclosed punctuators.CloseBracket room w text ts → NoneBehind room Index w text ts
 none_indexed text w room ts n (At at i) end e b low = n i end b low
 none_indexed text w room ts n (After op at) end e b low = absurd cc
 none_indexed text w room ts n (With at op f) end e b low = absurd cc
@@ -179,7 +179,7 @@ none_right text w room op ts n (Choose at f g) end e b low = absurd cc
 none_right text w room op ts n (Set at op' f) end e b low = at_level text w room 15 (right op) f ts end (ap right (same_infix (infixes.Assign op') op e)) n b low
 none_right text w room op ts n (And at f) end e b low = at_level text w room 15 (right op) f ts end (ap right (same_infix infixes.Comma op e)) n b low
 
-pub none_first : (text : List ℕ) (w room : ℕ) (ts : List Token) → NoneEnclosed signs.Colon room w text ts → NoneBehind room Conditional w text ts
+pub none_first : (text : List ℕ) (w room : ℕ) (ts : List Token) → NoneEnclosed punctuators.Colon room w text ts → NoneBehind room Conditional w text ts
 none_first text w room ts n (At at i) end e b low = absurd cc
 none_first text w room ts n (After op at) end e b low = absurd cc
 none_first text w room ts n (With at op f) end e b low = absurd cc
@@ -187,67 +187,67 @@ none_first text w room ts n (Choose at f g) end e b low = n f b.0 b.1 (λ k. let
 none_first text w room ts n (Set at op f) end e b low = absurd cc
 none_first text w room ts n (And at f) end e b low = absurd cc
 
-pub none_second : (text : List ℕ) (w room : ℕ) (a : Expression) (ts mid : List Token) → Encloses text signs.Colon a ts mid → NoExpression 14 room w text mid → NoneBehind room Conditional w text ts
+pub none_second : (text : List ℕ) (w room : ℕ) (a : Expression) (ts mid : List Token) → Encloses text punctuators.Colon a ts mid → NoExpression 14 room w text mid → NoneBehind room Conditional w text ts
 none_second text w room a ts mid x n (At at i) end e b low = absurd cc
 none_second text w room a ts mid x n (After op at) end e b low = absurd cc
 none_second text w room a ts mid x n (With at op f) end e b low = absurd cc
 none_second text w room a ts mid x n (Choose at f g) end e b low =
-    let q = enclosed_once text signs.Colon a f ts mid b.0 refl x b.1 in
+    let q = enclosed_once text punctuators.Colon a f ts mid b.0 refl x b.1 in
     let r = b.2 in
-    n g end (record { fits = r.derives.fits; spells = subst (λ (z : List Token). Spells text g z end) (sym q.1) r.derives.spells }) r.stops (λ k. let a = low k in omega arith)
+    n g end (record { fits = r.derives.fits; spells = subst (λ (z : List Token). SpellsExpression text g z end) (sym q.1) r.derives.spells }) r.stops (λ k. let a = low k in omega arith)
 none_second text w room a ts mid x n (Set at op f) end e b low = absurd cc
 none_second text w room a ts mid x n (And at f) end e b low = absurd cc
 
 pub right_behind : (text : List ℕ) (op : Infix') (at : ℕ) (e : Expression) (ts rest : List Token) → Derives text (right op) e ts rest → Stops (right op) rest → IsBehind text (Infix op) at (with op at e) ts rest
-right_behind text (infixes.Binary op) at e ts rest h s = record { operation = refl; place = refl; behind = record { derives = h; stops = s } }
-right_behind text (infixes.Assign op) at e ts rest h s = record { operation = refl; place = refl; behind = record { derives = h; stops = s } }
-right_behind text infixes.Comma at e ts rest h s = record { operation = refl; place = refl; behind = record { derives = h; stops = s } }
+right_behind text (infixes.Binary op) at e ts rest h s = record { operation = refl; place = refl; following = record { derives = h; stops = s } }
+right_behind text (infixes.Assign op) at e ts rest h s = record { operation = refl; place = refl; following = record { derives = h; stops = s } }
+right_behind text infixes.Comma at e ts rest h s = record { operation = refl; place = refl; following = record { derives = h; stops = s } }
 
 pub right_over : (op : Infix') (at : ℕ) (e : Expression) → over (with op at e) ≡ height e
 right_over (infixes.Binary op) at e = refl
 right_over (infixes.Assign op) at e = refl
 right_over infixes.Comma at e = refl
 
--- ---- steps by their signs
+-- ---- steps by their punctuators
 
-pub is_step : (text : List ℕ) (e : Expression) (o : Operation) (sign' : Sign) (at : ℕ) (s : Step) (ts mid end : List Token) → operation_of sign' ≡ Some o → rank e ≤ bound o → IsSign sign' at ts mid → IsBehind text o at s mid end → IsStep text e s ts end
-is_step text e o sign' at s ts mid end p f h b =
-    let q : sign' ≡ sign o = only o sign' p in
-    let g : IsSign (sign o) at ts mid = subst (λ (z : Sign). IsSign z at ts mid) q h in
-    let i : IsSign (sign (operation s)) at ts mid = subst (λ (z : Operation). IsSign (sign z) at ts mid) (sym b.operation) g in
-    let j : IsSign (sign (operation s)) (place s) ts mid = subst (λ (z : ℕ). IsSign (sign (operation s)) z ts mid) (sym b.place) i in
-    let t = tailed text e s ts end (record { mid = mid; begins = j; behind = b.behind }) in
+pub is_step : (text : List ℕ) (e : Expression) (o : Operation) (punctuator' : Punctuator) (at : ℕ) (s : Step) (ts mid end : List Token) → operation_of punctuator' ≡ Some o → rank e ≤ bound o → IsPunctuator punctuator' at ts mid → IsBehind text o at s mid end → IsStep text e s ts end
+is_step text e o punctuator' at s ts mid end p f h b =
+    let q : punctuator' ≡ punctuator o = only o punctuator' p in
+    let g : IsPunctuator (punctuator o) at ts mid = subst (λ (z : Punctuator). IsPunctuator z at ts mid) q h in
+    let i : IsPunctuator (punctuator (operation s)) at ts mid = subst (λ (z : Operation). IsPunctuator (punctuator z) at ts mid) (sym b.operation) g in
+    let j : IsPunctuator (punctuator (operation s)) (place s) ts mid = subst (λ (z : ℕ). IsPunctuator (punctuator (operation s)) z ts mid) (sym b.place) i in
+    let t = tailed text e s ts end (record { mid = mid; begins = j; following = b.following }) in
     let x : bound (operation s) ≡ bound o = ap bound b.operation in
     let y = same_bound s in
     record { fits = omega arith; tail = t.0; closes = t.1 }
 
--- a step begins with a sign that is an operation
-pub begins_so : (text : List ℕ) (e : Expression) (s : Step) (ts end : List Token) → IsStep text e s ts end → (sign' : Sign) (at : ℕ) (mid : List Token) → IsSign sign' at ts mid → (operation_of sign' ≡ Some (operation s)) × (rank e ≤ bound (operation s)) × Behind text s mid end
-begins_so text e s ts end x sign' at mid h =
+-- a step begins with a punctuator that is an operation
+pub begins_so : (text : List ℕ) (e : Expression) (s : Step) (ts end : List Token) → IsStep text e s ts end → (punctuator' : Punctuator) (at : ℕ) (mid : List Token) → IsPunctuator punctuator' at ts mid → (operation_of punctuator' ≡ Some (operation s)) × (rank e ≤ bound (operation s)) × Behind text s mid end
+begins_so text e s ts end x punctuator' at mid h =
     let b = begun text e s ts end x.tail x.closes in
-    let q = sign_same sign' (sign (operation s)) at (place s) ts ts mid b.mid refl h b.begins in
+    let q = punctuator_same punctuator' (punctuator (operation s)) at (place s) ts ts mid b.mid refl h b.begins in
     let y = same_bound s in
     let f = x.fits in
-    (ap operation_of q.0 ∙ again (operation s), omega arith, subst (λ (z : List Token). Behind text s z end) (sym q.2) b.behind)
+    (ap operation_of q.0 ∙ again (operation s), omega arith, subst (λ (z : List Token). Behind text s z end) (sym q.2) b.following)
 
-pub no_sign : (text : List ℕ) (w room : ℕ) (e : Expression) (ts : List Token) → ((s : Sign) (at : ℕ) (rest : List Token) → IsSign s at ts rest → ⊥) → NoStep room e w text ts
-no_sign text w room e ts n s end x low = let b = begun text e s ts end x.tail x.closes in n (sign (operation s)) (place s) b.mid b.begins
+pub no_punctuator : (text : List ℕ) (w room : ℕ) (e : Expression) (ts : List Token) → ((s : Punctuator) (at : ℕ) (rest : List Token) → IsPunctuator s at ts rest → ⊥) → NoStep room e w text ts
+no_punctuator text w room e ts n s end x low = let b = begun text e s ts end x.tail x.closes in n (punctuator (operation s)) (place s) b.mid b.begins
 
-pub no_operation : (text : List ℕ) (w room : ℕ) (e : Expression) (sign' : Sign) (at : ℕ) (ts mid : List Token) → IsSign sign' at ts mid → operation_of sign' ≡ None → NoStep room e w text ts
-no_operation text w room e sign' at ts mid h p s end x low = let b = begins_so text e s ts end x sign' at mid h in let q : None ≡ Some (operation s) = sym p ∙ b.0 in absurd cc
+pub no_operation : (text : List ℕ) (w room : ℕ) (e : Expression) (punctuator' : Punctuator) (at : ℕ) (ts mid : List Token) → IsPunctuator punctuator' at ts mid → operation_of punctuator' ≡ None → NoStep room e w text ts
+no_operation text w room e punctuator' at ts mid h p s end x low = let b = begins_so text e s ts end x punctuator' at mid h in let q : None ≡ Some (operation s) = sym p ∙ b.0 in absurd cc
 
-pub too_loose : (text : List ℕ) (w room : ℕ) (e : Expression) (sign' : Sign) (o : Operation) (at : ℕ) (ts mid : List Token) → IsSign sign' at ts mid → operation_of sign' ≡ Some o → bound o < rank e → NoStep room e w text ts
-too_loose text w room e sign' o at ts mid h p f s end x low =
-    let b = begins_so text e s ts end x sign' at mid h in
+pub too_loose : (text : List ℕ) (w room : ℕ) (e : Expression) (punctuator' : Punctuator) (o : Operation) (at : ℕ) (ts mid : List Token) → IsPunctuator punctuator' at ts mid → operation_of punctuator' ≡ Some o → bound o < rank e → NoStep room e w text ts
+too_loose text w room e punctuator' o at ts mid h p f s end x low =
+    let b = begins_so text e s ts end x punctuator' at mid h in
     let q : o ≡ operation s = some_same o (operation s) (sym p ∙ b.0) in
     let r = ap bound q in let g = b.1 in absurd (omega arith)
 
 pub too_high : (text : List ℕ) (room : ℕ) (e : Expression) (ts : List Token) → room ≤ height e → NoStep room e 1 text ts
 too_high text room e ts f s end x low = let a = applied_height e s in let b = low (omega arith) in absurd (omega arith)
 
-pub none_behind : (text : List ℕ) (w room : ℕ) (e : Expression) (sign' : Sign) (o : Operation) (at : ℕ) (ts mid : List Token) → IsSign sign' at ts mid → operation_of sign' ≡ Some o → NoneBehind (room - 1) o w text mid → NoStep room e w text ts
-none_behind text w room e sign' o at ts mid h p n s end x low =
-    let b = begins_so text e s ts end x sign' at mid h in
+pub none_behind : (text : List ℕ) (w room : ℕ) (e : Expression) (punctuator' : Punctuator) (o : Operation) (at : ℕ) (ts mid : List Token) → IsPunctuator punctuator' at ts mid → operation_of punctuator' ≡ Some o → NoneBehind (room - 1) o w text mid → NoStep room e w text ts
+none_behind text w room e punctuator' o at ts mid h p n s end x low =
+    let b = begins_so text e s ts end x punctuator' at mid h in
     let q : o ≡ operation s = some_same o (operation s) (sym p ∙ b.0) in
     let a = applied_height e s in
     n s end (sym q) b.2 (λ k. let l = low k in omega arith)

@@ -1,6 +1,6 @@
 -- Refusals of phrases: what they carry along, and the shortest ends of phrases.
 use Rattle.std.proofs.Common.{◌≡◌, ℕ, List, [], ◌∷◌, ◌++◌, refl, sym, subst, arith}
-use Rattle.c_lex.specs.declared.sign.Sign.{Sign}
+use Rattle.c_lex.specs.declared.punctuator.Punctuator.{Punctuator}
 use Rattle.c_lex.specs.declared.token.IntegerType.TheVariants as integers
 use Rattle.c_lex.specs.declared.token.Kind.TheVariants as kinds
 use Rattle.c_lex.specs.declared.token.Token.{Token}
@@ -33,7 +33,7 @@ unexpected_at No Has text ts front fault p f g = record {
   front = front;
   fault = fault;
   split = p;
-  stands = refl;
+  located = refl;
   against = f;
   able = g;
   further = λ text' k a s e. absurd (omega (arith, e));
@@ -48,7 +48,7 @@ deep_at No Has text ts front fault p f g h = record {
   front = front;
   fault = fault;
   split = p;
-  stands = refl;
+  located = refl;
   against = f;
   able = g;
   further = λ text' k a s e. let q : 0 ≡ k = omega (arith, e) in subst (λ (z : ℕ). Onward Has z text' front fault) q (h text' a s);
@@ -65,8 +65,8 @@ one = token (kinds.Integer 1 integers.Int) 0 0
 abbrev pub one_tree : Expression
 one_tree = Constant 0 (literals.Integer 1 integers.Int)
 
-abbrev pub sign_token : Sign → Token
-sign_token s = token (kinds.Sign s) 0 0
+abbrev pub punctuator_token : Punctuator → Token
+punctuator_token s = token (kinds.Punctuator s) 0 0
 
 pub has_one : (l room n : ℕ) (text : List ℕ) → HasExpression l room n text (one ∷ [])
 has_one l room n text = record { tree = one_tree; derives = λ other. record { fits = omega arith; spells = (0, refl) }; low = λ k. omega arith }

@@ -1,15 +1,15 @@
--- Readings whose parts fail, and steps and closing signs that fail themselves.
+-- Readings whose parts fail, and steps and closing punctuators that fail themselves.
 use Rattle.std.proofs.Common.{◌≡◌, ◌≤◌, ◌<◌, ◌-◌, ℕ, List, [], ◌∷◌, ◌++◌, Some, None, refl, sym, ap, ◌∙◌, subst, inl, inr, arith}
-use Rattle.c_lex.specs.declared.sign.Sign.{Sign}
-use Rattle.c_lex.specs.declared.sign.Sign.TheVariants as signs
+use Rattle.c_lex.specs.declared.punctuator.Punctuator.{Punctuator}
+use Rattle.c_lex.specs.declared.punctuator.Punctuator.TheVariants as punctuators
 use Rattle.c_lex.specs.declared.token.Kind.TheVariants as kinds
 use Rattle.c_lex.specs.declared.token.Token.{Token}
 use Rattle.c_syntax.specs.Expression.{Expression, height}
-use Rattle.c_syntax.specs.Expressions.{rank, Spells, Derives}
+use Rattle.c_syntax.specs.Expressions.{rank, SpellsExpression, Derives}
 use Rattle.c_syntax.specs.Faults.{SameFirst, place, Failed, Wraps}
-use Rattle.c_syntax.specs.Follow.{sign_follows, follows, Stops}
+use Rattle.c_syntax.specs.Follow.{punctuator_follows, follows, Stops}
 use Rattle.c_syntax.specs.Steps.{At, After, With, Choose, Set, And, apply, Tail, Closes}
-use Rattle.c_syntax.specs.Tokens.{token, IsSign, HasSign}
+use Rattle.c_syntax.specs.Tokens.{token, IsPunctuator, HasPunctuator}
 use Rattle.c_syntax.proofs.Firsts as firsts
 use Rattle.c_syntax.proofs.Failing.{append_append, append_nothing}
 use Rattle.c_syntax.proofs.Moves.{Moves}
@@ -19,11 +19,11 @@ use Rattle.c_parse_expr.specs.declared.step.Infix.{Infix as Infix'}
 use Rattle.c_parse_expr.specs.declared.step.Infix.TheVariants as infixes
 use Rattle.c_parse_expr.specs.declared.step.Operation.{Operation}
 use Rattle.c_parse_expr.specs.declared.step.Operation.TheVariants.{Index, Postfix, Infix, Conditional}
-use Rattle.c_parse_expr.specs.Operations.{operation_of, sign, right, bound}
+use Rattle.c_parse_expr.specs.Operations.{operation_of, punctuator, right, bound}
 use Rattle.c_parse_expr.specs.Readings.{NoExpression, HasExpression, Encloses, NoneEnclosed, HasEnclosed, NoOperand, NoStep, HasStep, NoneBehind, HasBehind}
 use Rattle.c_parse_expr.proofs.Climbing.{no_operand, no_step, joined, none_inside, not_closed}
-use Rattle.c_parse_expr.proofs.Operations.{only, same_bound, applied_height, none_indexed, none_right, none_first, none_second, no_sign, no_operation, too_loose, too_high, none_behind}
-use Rattle.c_parse_expr.proofs.Placing.{unexpected_at, deep_at, able_now, one, one_tree, sign_token, has_one}
+use Rattle.c_parse_expr.proofs.Operations.{only, same_bound, applied_height, none_indexed, none_right, none_first, none_second, no_punctuator, no_operation, too_loose, too_high, none_behind}
+use Rattle.c_parse_expr.proofs.Placing.{unexpected_at, deep_at, able_now, one, one_tree, punctuator_token, has_one}
 
 -- ---- expressions
 
@@ -59,20 +59,20 @@ step_wraps l room left text ts rest d c f low =
       has = λ n text' inner a k h. able_now (HasExpression l room) n text' (m.front ++ inner) (step_has l room (follows rest) n left text' m.front inner (λ other. m.again text' other a) f low h);
     }
 
--- ---- an expression and the sign that ends it
+-- ---- an expression and the punctuator that ends it
 
-pub enclosed_wraps : (close : Sign) (room : ℕ) (text : List ℕ) (ts : List Token) → sign_follows close ≡ 17 → Wraps (NoExpression 16 room) (HasExpression 16 room) (NoneEnclosed close room) (HasEnclosed close room) text ts ts
+pub enclosed_wraps : (close : Punctuator) (room : ℕ) (text : List ℕ) (ts : List Token) → punctuator_follows close ≡ 17 → Wraps (NoExpression 16 room) (HasExpression 16 room) (NoneEnclosed close room) (HasEnclosed close room) text ts ts
 enclosed_wraps close room text ts p = record {
   before = [];
   split = refl;
   no = λ n text' other a s x. none_inside text' n close room other p x;
   has = λ n text' inner a k h. record {
-    more = sign_token close ∷ [];
+    more = punctuator_token close ∷ [];
     has = record {
       tree = h.tree;
       encloses = λ other. record {
-        mid = sign_token close ∷ other;
-        spells = subst (λ (z : List Token). Spells text' h.tree z (sign_token close ∷ other)) (sym (append_append inner (sign_token close ∷ []) other)) (h.derives (sign_token close ∷ other)).spells;
+        mid = punctuator_token close ∷ other;
+        spells = subst (λ (z : List Token). SpellsExpression text' h.tree z (punctuator_token close ∷ other)) (sym (append_append inner (punctuator_token close ∷ []) other)) (h.derives (punctuator_token close ∷ other)).spells;
         closed = (0, (0, refl));
       };
       low = h.low;
@@ -80,31 +80,31 @@ enclosed_wraps close room text ts p = record {
   };
 }
 
-pub unclosed : (close : Sign) (room : ℕ) (e : Expression) (text : List ℕ) (ts rest : List Token) → sign_follows close ≡ 17 → Derives text 16 e ts rest → Stops 16 rest → ((end : List Token) → HasSign close rest end → ⊥) → height e ≤ room
+pub unclosed : (close : Punctuator) (room : ℕ) (e : Expression) (text : List ℕ) (ts rest : List Token) → punctuator_follows close ≡ 17 → Derives text 16 e ts rest → Stops 16 rest → ((end : List Token) → HasPunctuator close rest end → ⊥) → height e ≤ room
     → Failed 0 (place text rest) (NoneEnclosed close room) (HasEnclosed close room) text ts
 unclosed close room e text ts rest p d st n low =
     let m = moved.derives 16 e text ts rest d in
     unexpected_at (NoneEnclosed close room) (HasEnclosed close room) text ts m.front rest m.split
-    (λ text' other a s. not_closed text' 0 close room e (m.front ++ other) other p (m.again text' other a) (firsts.stops 16 rest other s st) (firsts.no_sign close rest other s n))
+    (λ text' other a s. not_closed text' 0 close room e (m.front ++ other) other p (m.again text' other a) (firsts.stops 16 rest other s st) (firsts.no_punctuator close rest other s n))
     (λ text' a k. record {
-      more = sign_token close ∷ [];
+      more = punctuator_token close ∷ [];
       has = record {
         tree = e;
         encloses = λ other. record {
-          mid = sign_token close ∷ other;
-          spells = subst (λ (z : List Token). Spells text' e z (sign_token close ∷ other)) (sym (append_append m.front (sign_token close ∷ []) other)) (m.again text' (sign_token close ∷ other) a).spells;
+          mid = punctuator_token close ∷ other;
+          spells = subst (λ (z : List Token). SpellsExpression text' e z (punctuator_token close ∷ other)) (sym (append_append m.front (punctuator_token close ∷ []) other)) (m.again text' (punctuator_token close ∷ other) a).spells;
           closed = (0, (0, refl));
         };
         low = λ q. low;
       };
     })
 
-encloses_moves : (close : Sign) (e : Expression) (text : List ℕ) (ts rest : List Token) → Encloses text close e ts rest → Moves (λ t. Encloses t close e) text ts rest
-encloses_moves close e text ts rest x = moved.map (moved.both (moved.expression e text ts x.mid x.spells) (moved.has_sign close text x.mid rest x.closed)) (λ t us vs g. record { mid = g.0; spells = g.1; closed = g.2 })
+encloses_moves : (close : Punctuator) (e : Expression) (text : List ℕ) (ts rest : List Token) → Encloses text close e ts rest → Moves (λ t. Encloses t close e) text ts rest
+encloses_moves close e text ts rest x = moved.map (moved.both (moved.expression e text ts x.mid x.spells) (moved.has_punctuator close text x.mid rest x.closed)) (λ t us vs g. record { mid = g.0; spells = g.1; closed = g.2 })
 
--- ---- what follows the sign of a step
+-- ---- what follows the punctuator of a step
 
-pub index_wraps : (room at : ℕ) (text : List ℕ) (ts : List Token) → Wraps (NoneEnclosed signs.CloseBracket room) (HasEnclosed signs.CloseBracket room) (NoneBehind room Index) (HasBehind room Index at) text ts ts
+pub index_wraps : (room at : ℕ) (text : List ℕ) (ts : List Token) → Wraps (NoneEnclosed punctuators.CloseBracket room) (HasEnclosed punctuators.CloseBracket room) (NoneBehind room Index) (HasBehind room Index at) text ts ts
 index_wraps room at text ts = record {
   before = [];
   split = refl;
@@ -133,7 +133,7 @@ right_wraps room op at text ts = record {
   has = λ n text' inner a k h. able_now (HasBehind room (Infix op) at) n text' inner (right_has room op at n text' inner h);
 }
 
-pub first_branch_wraps : (room at : ℕ) (text : List ℕ) (ts : List Token) → Wraps (NoneEnclosed signs.Colon room) (HasEnclosed signs.Colon room) (NoneBehind room Conditional) (HasBehind room Conditional at) text ts ts
+pub first_branch_wraps : (room at : ℕ) (text : List ℕ) (ts : List Token) → Wraps (NoneEnclosed punctuators.Colon room) (HasEnclosed punctuators.Colon room) (NoneBehind room Conditional) (HasBehind room Conditional at) text ts ts
 first_branch_wraps room at text ts = record {
   before = [];
   split = refl;
@@ -145,17 +145,17 @@ first_branch_wraps room at text ts = record {
       operation = refl;
       tail = λ begin other g.
           let x = h.encloses (one ∷ other) in
-          let s = subst (λ (z : List Token). Spells text' h.tree z x.mid) (sym (append_append inner (one ∷ []) other)) x.spells in
+          let s = subst (λ (z : List Token). SpellsExpression text' h.tree z x.mid) (sym (append_append inner (one ∷ []) other)) x.spells in
           ((inner ++ (one ∷ [])) ++ other, x.mid, one ∷ other, g, s, x.closed, omega arith, (0, refl));
       low = λ q. let y = h.low q in omega arith;
     };
   };
 }
 
-pub second_branch_wraps : (room at : ℕ) (e : Expression) (text : List ℕ) (ts mid : List Token) → Encloses text signs.Colon e ts mid → height e ≤ room
+pub second_branch_wraps : (room at : ℕ) (e : Expression) (text : List ℕ) (ts mid : List Token) → Encloses text punctuators.Colon e ts mid → height e ≤ room
     → Wraps (NoExpression 14 room) (HasExpression 14 room) (NoneBehind room Conditional) (HasBehind room Conditional at) text mid ts
 second_branch_wraps room at e text ts mid x low =
-    let m = encloses_moves signs.Colon e text ts mid x in
+    let m = encloses_moves punctuators.Colon e text ts mid x in
     record {
       before = m.front;
       split = m.split;
@@ -167,24 +167,24 @@ second_branch_wraps room at e text ts mid x low =
             tail = λ begin other g.
                 let y = m.again text' (inner ++ other) a in
                 let d = h.derives other in
-                let s = subst (λ (z : List Token). Spells text' e z y.mid) (sym (append_append m.front inner other)) y.spells in
+                let s = subst (λ (z : List Token). SpellsExpression text' e z y.mid) (sym (append_append m.front inner other)) y.spells in
                 ((m.front ++ inner) ++ other, y.mid, inner ++ other, g, s, y.closed, d.fits, d.spells);
             low = λ q. let y = h.low q in omega arith;
           });
     }
 
--- the shortest that goes on behind the sign
+-- the shortest that continues after the punctuator
 abbrev shortest : Operation → List Token
-shortest Index = one ∷ sign_token signs.CloseBracket ∷ []
+shortest Index = one ∷ punctuator_token punctuators.CloseBracket ∷ []
 shortest (Postfix op) = []
 shortest (Infix op) = one ∷ []
-shortest Conditional = one ∷ sign_token signs.Colon ∷ one ∷ []
+shortest Conditional = one ∷ punctuator_token punctuators.Colon ∷ one ∷ []
 
 has_shortest : (room : ℕ) (o : Operation) (at n : ℕ) (text : List ℕ) → HasBehind room o at n text (shortest o)
 has_shortest room Index at n text = record {
   step = At at one_tree;
   operation = refl;
-  tail = λ begin other h. (one ∷ sign_token signs.CloseBracket ∷ other, sign_token signs.CloseBracket ∷ other, h, (0, refl), (0, (0, refl)));
+  tail = λ begin other h. (one ∷ punctuator_token punctuators.CloseBracket ∷ other, punctuator_token punctuators.CloseBracket ∷ other, h, (0, refl), (0, (0, refl)));
   low = λ k. omega arith;
 }
 has_shortest room (Postfix op) at n text = record { step = After op at; operation = refl; tail = λ begin other h. h; low = λ k. omega arith }
@@ -192,61 +192,61 @@ has_shortest room (Infix op) at n text = right_has room op at n text (one ∷ []
 has_shortest room Conditional at n text = record {
   step = Choose at one_tree one_tree;
   operation = refl;
-  tail = λ begin other h. (one ∷ sign_token signs.Colon ∷ one ∷ other, sign_token signs.Colon ∷ one ∷ other, one ∷ other, h, (0, refl), (0, (0, refl)), omega arith, (0, refl));
+  tail = λ begin other h. (one ∷ punctuator_token punctuators.Colon ∷ one ∷ other, punctuator_token punctuators.Colon ∷ one ∷ other, one ∷ other, h, (0, refl), (0, (0, refl)), omega arith, (0, refl));
   low = λ k. omega arith;
 }
 
 -- ---- steps
 
-a_step : (room : ℕ) (e : Expression) (o : Operation) (sign' : Sign) (at end l n : ℕ) (text : List ℕ) (inner : List Token) → sign_follows sign' ≡ l → operation_of sign' ≡ Some o → rank e ≤ bound o → (1 ≤ n → height e < room) → HasBehind (room - 1) o at n text inner
-    → HasStep room e l n text (token (kinds.Sign sign') at end ∷ inner)
-a_step room e o sign' at end l n text inner f p fits low b =
-    let q : sign' ≡ sign o = only o sign' p in
-    let tail : (other : List Token) → Tail text b.step (token (kinds.Sign sign') at end ∷ (inner ++ other)) other =
-    λ other. b.tail (token (kinds.Sign sign') at end ∷ (inner ++ other)) other (end, ap (λ (z : Sign). token (kinds.Sign z) at end ∷ (inner ++ other)) q) in
+a_step : (room : ℕ) (e : Expression) (o : Operation) (punctuator' : Punctuator) (at end l n : ℕ) (text : List ℕ) (inner : List Token) → punctuator_follows punctuator' ≡ l → operation_of punctuator' ≡ Some o → rank e ≤ bound o → (1 ≤ n → height e < room) → HasBehind (room - 1) o at n text inner
+    → HasStep room e l n text (token (kinds.Punctuator punctuator') at end ∷ inner)
+a_step room e o punctuator' at end l n text inner f p fits low b =
+    let q : punctuator' ≡ punctuator o = only o punctuator' p in
+    let tail : (other : List Token) → Tail text b.step (token (kinds.Punctuator punctuator') at end ∷ (inner ++ other)) other =
+    λ other. b.tail (token (kinds.Punctuator punctuator') at end ∷ (inner ++ other)) other (end, ap (λ (z : Punctuator). token (kinds.Punctuator z) at end ∷ (inner ++ other)) q) in
     let r = same_bound b.step in
     let i = ap bound b.operation in
-    let j = step_follows text e b.step (token (kinds.Sign sign') at end ∷ (inner ++ [])) [] (tail []) in
+    let j = step_follows text e b.step (token (kinds.Punctuator punctuator') at end ∷ (inner ++ [])) [] (tail []) in
     let x = applied_height e b.step in
     inr (record { step = b.step; fits = omega arith; loose = omega arith; tail = tail; low = λ k. let h = low k in let w = b.low k in omega arith })
 
-pub behind_wraps : (room : ℕ) (e : Expression) (sign' : Sign) (o : Operation) (at : ℕ) (text : List ℕ) (ts rest : List Token) → IsSign sign' at ts rest → operation_of sign' ≡ Some o → rank e ≤ bound o → height e < room
+pub behind_wraps : (room : ℕ) (e : Expression) (punctuator' : Punctuator) (o : Operation) (at : ℕ) (text : List ℕ) (ts rest : List Token) → IsPunctuator punctuator' at ts rest → operation_of punctuator' ≡ Some o → rank e ≤ bound o → height e < room
     → Wraps (NoneBehind (room - 1) o) (HasBehind (room - 1) o at) (NoStep room e) (HasStep room e (follows ts)) text rest ts
-behind_wraps room e sign' o at text ts rest h p fits low = record {
-  before = token (kinds.Sign sign') at h.0 ∷ [];
+behind_wraps room e punctuator' o at text ts rest h p fits low = record {
+  before = token (kinds.Punctuator punctuator') at h.0 ∷ [];
   split = h.1;
-  no = λ n text' other a s x. none_behind text' n room e sign' o at (token (kinds.Sign sign') at h.0 ∷ other) other (h.0, refl) p x;
-  has = λ n text' inner a k b. able_now (HasStep room e (follows ts)) n text' (token (kinds.Sign sign') at h.0 ∷ inner) (a_step room e o sign' at h.0 (follows ts) n text' inner (sym (ap follows h.1)) p fits (λ q. low) b);
+  no = λ n text' other a s x. none_behind text' n room e punctuator' o at (token (kinds.Punctuator punctuator') at h.0 ∷ other) other (h.0, refl) p x;
+  has = λ n text' inner a k b. able_now (HasStep room e (follows ts)) n text' (token (kinds.Punctuator punctuator') at h.0 ∷ inner) (a_step room e o punctuator' at h.0 (follows ts) n text' inner (sym (ap follows h.1)) p fits (λ q. low) b);
 }
 
 stands_alone : (room : ℕ) (e : Expression) (l : ℕ) (text : List ℕ) (ts : List Token) → ((other : List Token) → SameFirst ts other → (text' : List ℕ) → NoStep room e 0 text' other) → Failed 0 (place text ts) (NoStep room e) (HasStep room e l) text ts
 stands_alone room e l text ts n =
     unexpected_at (NoStep room e) (HasStep room e l) text ts [] ts refl (λ text' other a s. n other s text') (λ text' a k. able_now (HasStep room e l) 6 text' [] (inl refl))
 
-pub signless : (room : ℕ) (e : Expression) (l : ℕ) (text : List ℕ) (ts : List Token) → ((s : Sign) (at : ℕ) (rest : List Token) → IsSign s at ts rest → ⊥) → Failed 0 (place text ts) (NoStep room e) (HasStep room e l) text ts
-signless room e l text ts n = stands_alone room e l text ts (λ other f text'. no_sign text' 0 room e other (λ s. firsts.no_kind (kinds.Sign s) ts other f (n s)))
+pub signless : (room : ℕ) (e : Expression) (l : ℕ) (text : List ℕ) (ts : List Token) → ((s : Punctuator) (at : ℕ) (rest : List Token) → IsPunctuator s at ts rest → ⊥) → Failed 0 (place text ts) (NoStep room e) (HasStep room e l) text ts
+signless room e l text ts n = stands_alone room e l text ts (λ other f text'. no_punctuator text' 0 room e other (λ s. firsts.no_kind (kinds.Punctuator s) ts other f (n s)))
 
--- the same sign is at the front of tokens that begin alike
-same_sign : (s : Sign) (at : ℕ) (ts rest other : List Token) → IsSign s at ts rest → SameFirst ts other → (more : List Token) × IsSign s at other more
-same_sign s at ts rest other h f = let g : SameFirst (token (kinds.Sign s) at h.0 ∷ rest) other = subst (λ (z : List Token). SameFirst z other) h.1 f in (g.0, (h.0, g.1))
+-- the same punctuator is at the front of tokens that begin alike
+same_punctuator : (s : Punctuator) (at : ℕ) (ts rest other : List Token) → IsPunctuator s at ts rest → SameFirst ts other → (more : List Token) × IsPunctuator s at other more
+same_punctuator s at ts rest other h f = let g : SameFirst (token (kinds.Punctuator s) at h.0 ∷ rest) other = subst (λ (z : List Token). SameFirst z other) h.1 f in (g.0, (h.0, g.1))
 
-pub no_operator_there : (room : ℕ) (e : Expression) (l : ℕ) (sign' : Sign) (at : ℕ) (text : List ℕ) (ts rest : List Token) → IsSign sign' at ts rest → operation_of sign' ≡ None → Failed 0 (place text ts) (NoStep room e) (HasStep room e l) text ts
-no_operator_there room e l sign' at text ts rest h p = stands_alone room e l text ts (λ other f text'. let g = same_sign sign' at ts rest other h f in no_operation text' 0 room e sign' at other g.0 g.1 p)
+pub no_operator_there : (room : ℕ) (e : Expression) (l : ℕ) (punctuator' : Punctuator) (at : ℕ) (text : List ℕ) (ts rest : List Token) → IsPunctuator punctuator' at ts rest → operation_of punctuator' ≡ None → Failed 0 (place text ts) (NoStep room e) (HasStep room e l) text ts
+no_operator_there room e l punctuator' at text ts rest h p = stands_alone room e l text ts (λ other f text'. let g = same_punctuator punctuator' at ts rest other h f in no_operation text' 0 room e punctuator' at other g.0 g.1 p)
 
-pub loose_there : (room : ℕ) (e : Expression) (l : ℕ) (sign' : Sign) (o : Operation) (at : ℕ) (text : List ℕ) (ts rest : List Token) → IsSign sign' at ts rest → operation_of sign' ≡ Some o → bound o < rank e
+pub loose_there : (room : ℕ) (e : Expression) (l : ℕ) (punctuator' : Punctuator) (o : Operation) (at : ℕ) (text : List ℕ) (ts rest : List Token) → IsPunctuator punctuator' at ts rest → operation_of punctuator' ≡ Some o → bound o < rank e
     → Failed 0 (place text ts) (NoStep room e) (HasStep room e l) text ts
-loose_there room e l sign' o at text ts rest h p b = stands_alone room e l text ts (λ other f text'. let g = same_sign sign' at ts rest other h f in too_loose text' 0 room e sign' o at other g.0 g.1 p b)
+loose_there room e l punctuator' o at text ts rest h p b = stands_alone room e l text ts (λ other f text'. let g = same_punctuator punctuator' at ts rest other h f in too_loose text' 0 room e punctuator' o at other g.0 g.1 p b)
 
-pub high_there : (room : ℕ) (e : Expression) (sign' : Sign) (o : Operation) (at : ℕ) (text : List ℕ) (ts rest : List Token) → IsSign sign' at ts rest → operation_of sign' ≡ Some o → rank e ≤ bound o → room ≤ height e
+pub high_there : (room : ℕ) (e : Expression) (punctuator' : Punctuator) (o : Operation) (at : ℕ) (text : List ℕ) (ts rest : List Token) → IsPunctuator punctuator' at ts rest → operation_of punctuator' ≡ Some o → rank e ≤ bound o → room ≤ height e
     → Failed 1 (place text ts) (NoStep room e) (HasStep room e (follows ts)) text ts
-high_there room e sign' o at text ts rest h p fits high =
+high_there room e punctuator' o at text ts rest h p fits high =
     deep_at (NoStep room e) (HasStep room e (follows ts)) text ts [] ts refl
     (λ text' other a s. too_high text' room e other high)
     (λ text' a k. able_now (HasStep room e (follows ts)) 6 text' [] (inl refl))
     (λ text' a k. record {
-      token = token (kinds.Sign sign') at h.0;
+      token = token (kinds.Punctuator punctuator') at h.0;
       rest = rest;
       more = shortest o;
       is = h.1;
-      has = a_step room e o sign' at h.0 (follows ts) 0 text' (shortest o) (sym (ap follows h.1)) p fits (λ q. omega arith) (has_shortest (room - 1) o at 0 text');
+      has = a_step room e o punctuator' at h.0 (follows ts) 0 text' (shortest o) (sym (ap follows h.1)) p fits (λ q. omega arith) (has_shortest (room - 1) o at 0 text');
     })

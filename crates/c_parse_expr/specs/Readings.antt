@@ -1,21 +1,21 @@
--- What stands at the front of tokens; that nothing of the kind stands there; and that tokens are such a phrase, whatever follows. The limit of nesting counts where 1 ≤ n: where the first n limits hold.
+-- What is at the front of tokens; that nothing of the kind is there; and that tokens are such a phrase, whatever follows. The limit of nesting counts where 1 ≤ n: where the first n limits hold.
 use Rattle.std.specs.Prelude.{◌≡◌, ◌≤◌, ◌-◌, ◌⊎◌, ℕ, List, [], ◌∷◌, ◌++◌, Some}
-use Rattle.c_lex.specs.declared.sign.Sign.{Sign}
-use Rattle.c_lex.specs.declared.sign.Sign.TheVariants as signs
+use Rattle.c_lex.specs.declared.punctuator.Punctuator.{Punctuator}
+use Rattle.c_lex.specs.declared.punctuator.Punctuator.TheVariants as punctuators
 use Rattle.c_lex.specs.declared.token.Token.{Token}
 use Rattle.c_syntax.specs.declared.expression.Field.{Field}
 use Rattle.c_syntax.specs.Expression.{Expression, Information, Arguments, height, heights}
-use Rattle.c_syntax.specs.Expressions.{rank, IsField, Spells, SpellsArguments, Derives}
+use Rattle.c_syntax.specs.Expressions.{rank, IsField, SpellsExpression, SpellsArguments, Derives}
 use Rattle.c_syntax.specs.Faults.{SameFirst, Speaks, Onward}
 use Rattle.c_syntax.specs.Follow.{Stops}
 use Rattle.c_syntax.specs.declared.operator.Increment.{Increment}
 use Rattle.c_syntax.specs.declared.operator.UnaryOperator.{UnaryOperator}
 use Rattle.c_syntax.specs.Operators.{level, conditional, assignment}
-use Rattle.c_syntax.specs.SignReaders.{increment_of, unary_of}
+use Rattle.c_syntax.specs.PunctuatorReaders.{increment_of, unary_of}
 use Rattle.c_syntax.specs.Steps.{Step, At, After, With, Choose, Set, And, apply, bound, Tail, IsHead, Closes}
-use Rattle.c_syntax.specs.Tokens.{IsSign, HasSign}
+use Rattle.c_syntax.specs.Tokens.{IsPunctuator, HasPunctuator}
 use Rattle.c_parse_expr.specs.declared.step.Operation.{Operation}
-use Rattle.c_parse_expr.specs.Operations.{operation, place, sign}
+use Rattle.c_parse_expr.specs.Operations.{operation, place, punctuator}
 use Rattle.c_parse_expr.specs.Steps.{over}
 
 -- an expression of a level, as far as it goes
@@ -23,7 +23,7 @@ pub record Reads (text : List ℕ) (l : ℕ) (e : Expression) (ts rest : List To
   pub derives : Derives text l e ts rest
   pub stops : Stops l rest
 
--- no expression of a level stands at the front that nothing goes on with, with at most so many expressions around each part
+-- no expression of a level is at the front that nothing continues with, with at most so many expressions around each part
 abbrev pub NoExpression : ℕ → ℕ → ℕ → List ℕ → List Token → Type 0
 NoExpression l room n text ts = (e : Expression) (end : List Token) → Derives text l e ts end → Stops l end → (1 ≤ n → height e ≤ room) → ⊥
 
@@ -32,22 +32,22 @@ pub record HasExpression (l room n : ℕ) (text : List ℕ) (ts : List Token) : 
   pub derives : (other : List Token) → Derives text l tree (ts ++ other) other
   pub low : 1 ≤ n → height tree ≤ room
 
--- ---- an expression and the sign that ends it
+-- ---- an expression and the punctuator that ends it
 
-pub record Encloses (text : List ℕ) (close : Sign) (e : Expression) (ts rest : List Token) : Type 0 where
+pub record Encloses (text : List ℕ) (close : Punctuator) (e : Expression) (ts rest : List Token) : Type 0 where
   pub mid : List Token
-  pub spells : Spells text e ts mid
-  pub closed : HasSign close mid rest
+  pub spells : SpellsExpression text e ts mid
+  pub closed : HasPunctuator close mid rest
 
-abbrev pub NoneEnclosed : Sign → ℕ → ℕ → List ℕ → List Token → Type 0
+abbrev pub NoneEnclosed : Punctuator → ℕ → ℕ → List ℕ → List Token → Type 0
 NoneEnclosed close room n text ts = (e : Expression) (end : List Token) → Encloses text close e ts end → (1 ≤ n → height e ≤ room) → ⊥
 
-pub record HasEnclosed (close : Sign) (room n : ℕ) (text : List ℕ) (ts : List Token) : Type 0 where
+pub record HasEnclosed (close : Punctuator) (room n : ℕ) (text : List ℕ) (ts : List Token) : Type 0 where
   pub tree : Expression
   pub encloses : (other : List Token) → Encloses text close tree (ts ++ other) other
   pub low : 1 ≤ n → height tree ≤ room
 
--- ---- arguments, and the parenthesis behind them
+-- ---- arguments, and the parenthesis after them
 
 abbrev pub NoArguments : ℕ → ℕ → List ℕ → List Token → Type 0
 NoArguments room n text ts = (es : Arguments) (end : List Token) → SpellsArguments text es ts end → (1 ≤ n → heights es ≤ room) → ⊥
@@ -60,7 +60,7 @@ pub record HasArguments (room n : ℕ) (text : List ℕ) (ts : List Token) : Typ
 -- expressions with commas between them
 abbrev pub AreMore : List ℕ → List Expression → List Token → List Token → Type 0
 AreMore text [] ts rest = ts ≡ rest
-AreMore text (e ∷ es) ts rest = (a : List Token) × (b : List Token) × HasSign signs.Comma ts a × Derives text assignment e a b × AreMore text es b rest
+AreMore text (e ∷ es) ts rest = (a : List Token) × (b : List Token) × HasPunctuator punctuators.Comma ts a × Derives text assignment e a b × AreMore text es b rest
 
 abbrev pub AreListed : List ℕ → List Expression → List Token → List Token → Type 0
 AreListed text [] ts rest = ⊥
@@ -76,7 +76,7 @@ pub record IsOperand (text : List ℕ) (l : ℕ) (e : Expression) (ts rest : Lis
 abbrev pub NoOperand : ℕ → ℕ → ℕ → List ℕ → List Token → Type 0
 NoOperand l room n text ts = (e : Expression) (end : List Token) → IsOperand text l e ts end → (1 ≤ n → height e ≤ room) → ⊥
 
--- ---- a step behind an operand
+-- ---- a step after an operand
 
 pub record IsStep (text : List ℕ) (operand : Expression) (s : Step) (ts rest : List Token) : Type 0 where
   pub fits : rank operand ≤ bound s
@@ -97,29 +97,29 @@ pub record AStep (room : ℕ) (operand : Expression) (l n : ℕ) (text : List �
 abbrev pub HasStep : ℕ → Expression → ℕ → ℕ → List ℕ → List Token → Type 0
 HasStep room operand l n text ts = (ts ≡ []) ⊎ AStep room operand l n text ts
 
--- ---- what follows the sign of a step
+-- ---- what follows the punctuator of a step
 
 abbrev pub Behind : List ℕ → Step → List Token → List Token → Type 0
-Behind text (At at i) ts rest = Encloses text signs.CloseBracket i ts rest
+Behind text (At at i) ts rest = Encloses text punctuators.CloseBracket i ts rest
 Behind text (After op at) ts rest = ts ≡ rest
 Behind text (With at op e) ts rest = Reads text (level op - 1) e ts rest
-Behind text (Choose at a b) ts rest = (mid : List Token) × Encloses text signs.Colon a ts mid × Reads text conditional b mid rest
+Behind text (Choose at a b) ts rest = (mid : List Token) × Encloses text punctuators.Colon a ts mid × Reads text conditional b mid rest
 Behind text (Set at op e) ts rest = Reads text assignment e ts rest
 Behind text (And at e) ts rest = Reads text assignment e ts rest
 
 pub record IsBehind (text : List ℕ) (o : Operation) (at : ℕ) (s : Step) (ts rest : List Token) : Type 0 where
   pub operation : operation s ≡ o
   pub place : place s ≡ at
-  pub behind : Behind text s ts rest
+  pub following : Behind text s ts rest
 
 abbrev pub NoneBehind : ℕ → Operation → ℕ → List ℕ → List Token → Type 0
 NoneBehind room o n text ts = (s : Step) (end : List Token) → operation s ≡ o → Behind text s ts end → (1 ≤ n → over s ≤ room) → ⊥
 
--- behind the sign at a place
+-- after the punctuator at a place
 pub record HasBehind (room : ℕ) (o : Operation) (at n : ℕ) (text : List ℕ) (ts : List Token) : Type 0 where
   pub step : Step
   pub operation : operation step ≡ o
-  pub tail : (begin other : List Token) → IsSign (sign o) at begin (ts ++ other) → Tail text step begin other
+  pub tail : (begin other : List Token) → IsPunctuator (punctuator o) at begin (ts ++ other) → Tail text step begin other
   pub low : 1 ≤ n → over step ≤ room
 
 -- ---- the field of an exception's record that is read
@@ -132,12 +132,12 @@ pub record HasField (n : ℕ) (text : List ℕ) (ts : List Token) : Type 0 where
   pub is : (other : List Token) → IsField text field (ts ++ other) other
 
 abbrev pub NoInformation : ℕ → List ℕ → List Token → Type 0
-NoInformation n text ts = (at : ℕ) (field : Field) (end : List Token) → Spells text (Information at field) ts end → ⊥
+NoInformation n text ts = (at : ℕ) (field : Field) (end : List Token) → SpellsExpression text (Information at field) ts end → ⊥
 
 pub record HasInformation (n : ℕ) (text : List ℕ) (ts : List Token) : Type 0 where
   pub at : ℕ
   pub field : Field
-  pub spells : (other : List Token) → Spells text (Information at field) (ts ++ other) other
+  pub spells : (other : List Token) → SpellsExpression text (Information at field) (ts ++ other) other
 
 -- ---- the first token
 
@@ -147,10 +147,10 @@ Begins ts = (text : List ℕ) → Speaks text → Onward (HasExpression assignme
 
 -- no expression begins with it
 abbrev pub NeverBegins : List Token → Type 0
-NeverBegins ts = (text : List ℕ) (other : List Token) → SameFirst ts other → (e : Expression) (end : List Token) → Spells text e other end → ⊥
+NeverBegins ts = (text : List ℕ) (other : List Token) → SameFirst ts other → (e : Expression) (end : List Token) → SpellsExpression text e other end → ⊥
 
--- a sign that begins an operand
-pub data Opens (s : Sign) : Type 0 where
-  Parenthesis : s ≡ signs.OpenParenthesis → Opens s
+-- a punctuator that begins an operand
+pub data Opens (s : Punctuator) : Type 0 where
+  Parenthesis : s ≡ punctuators.OpenParenthesis → Opens s
   Steps : (op : Increment) → increment_of s ≡ Some op → Opens s
   Operates : (op : UnaryOperator) → unary_of s ≡ Some op → Opens s

@@ -2,7 +2,7 @@
 use Rattle.std.specs.Prelude.{ℕ, List}
 use Rattle.c_lex.specs.declared.token.Token.{Token}
 use Rattle.c_syntax.specs.Faults.{Family, Failed}
-use Rattle.c_syntax.specs.Viable.{IsFault}
+use Rattle.c_syntax.specs.Viable.{IsSyntaxFault}
 use Rattle.c_parse_expr.specs.declared.refusal.Count.{Count}
 use Rattle.c_parse_expr.specs.declared.refusal.Count.TheVariants.{Locals, Parameters, Functions, Globals, Funclets}
 use Rattle.c_parse_expr.specs.declared.refusal.ParseErr.{ParseErr}
@@ -16,16 +16,16 @@ number Functions = 4
 number Globals = 5
 number Funclets = 6
 
--- A refusal stands where the reading of a phrase fails; want of memory says nothing.
+-- A refusal is where the reading of a phrase fails; want of memory says nothing.
 abbrev pub Placed : ParseErr → Family → Family → List ℕ → List Token → Type 0
 Placed (Unexpected at) No Has text ts = Failed 0 at No Has text ts
 Placed (TooDeep at) No Has text ts = Failed 1 at No Has text ts
 Placed (TooMany at what) No Has text ts = Failed (number what) at No Has text ts
 Placed Memory No Has text ts = Unit {0}
 
--- A refusal stands at the first fault of a text's tokens, and says which limit excludes every program that goes on there.
+-- A refusal is at the first fault of a text's tokens, and says which limit excludes every program that continues there.
 abbrev pub Refuses : ParseErr → List ℕ → List Token → Type 0
-Refuses (Unexpected at) text ts = IsFault 0 at text ts
-Refuses (TooDeep at) text ts = IsFault 1 at text ts
-Refuses (TooMany at what) text ts = IsFault (number what) at text ts
+Refuses (Unexpected at) text ts = IsSyntaxFault 0 at text ts
+Refuses (TooDeep at) text ts = IsSyntaxFault 1 at text ts
+Refuses (TooMany at what) text ts = IsSyntaxFault (number what) at text ts
 Refuses Memory text ts = Unit {0}

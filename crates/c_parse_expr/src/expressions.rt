@@ -1,13 +1,13 @@
 //! Expressions by the levels of their operators.
 
 ghost use Rattle.std.specs.Prelude.{◌≡◌, ◌≤◌, ◌<◌, ◌+◌, List, max, map, IfOk, IfErr};
-ghost use Rattle.c_lex.specs.declared.sign.Sign.TheVariants as signs;
+ghost use Rattle.c_lex.specs.declared.punctuator.Punctuator.TheVariants as punctuators;
 ghost use Rattle.c_lex.specs.declared.token.Token.{Token};
 ghost use Rattle.c_syntax.specs.Expression.{expression, arguments, height, heights};
 ghost use Rattle.c_syntax.specs.Expressions.{SpellsArguments, Derives};
-ghost use Rattle.c_syntax.specs.Follow.{Stops, sign_follows, follows};
+ghost use Rattle.c_syntax.specs.Follow.{Stops, punctuator_follows, follows};
 ghost use Rattle.c_syntax.specs.Steps as steps;
-ghost use Rattle.c_syntax.specs.Tokens.{IsSign, IsName, HasSign};
+ghost use Rattle.c_syntax.specs.Tokens.{IsPunctuator, IsIdentifier, HasPunctuator};
 ghost use Rattle.c_parse_type.specs.Bases.{NoBase};
 ghost use Rattle.c_parse_expr.specs.declared.step.Operation.TheVariants as operations;
 ghost use Rattle.c_parse_expr.specs.declared.refusal.ParseErr.TheVariants.{Memory};
@@ -18,16 +18,16 @@ ghost use Rattle.c_parse_expr.specs.Steps as code_steps;
 use crate::fault::{begins, departure, opens};
 use crate::refusal::{ParseErr, too_deep, unexpected};
 use crate::step::{
-    Operation, Step, apply, first_sign, operation_of, prefix, rank, unary, variable,
+    Operation, Step, apply, first_punctuator, operation_of, prefix, rank, unary, variable,
 };
-use c_lex::sign::Sign;
+use c_lex::punctuator::Punctuator;
 use c_lex::token::Token;
 use c_parse_atom::information::information;
 use c_parse_atom::operands::{literal, name};
 use c_parse_atom::operators::{follows, increment_of, unary_of};
 use c_parse_type::front::after;
 use c_parse_type::specifiers::c_type;
-use c_syntax::expression::{Expr, Name};
+use c_syntax::expression::{Expr, Identifier};
 use std::alloc::Global;
 
 /// An expression, the most expressions that stand around one of its parts, and what follows it.
@@ -64,21 +64,21 @@ fn higher(a: u64, b: u64) -> u64
     if a < b { b } else { a }
 }
 
-/// The expression of an operand and the step behind it.
+/// The expression of an operand and the step after it.
 fn extended<'a>(
     alloc: Global,
     operand: Parsed<'a>,
-    behind: Behind<'a>,
+    following: Behind<'a>,
 ) -> Result<Parsed<'a>, ParseErr>
     requires operand { operand.over < 64 }
-    requires behind { behind.over < 64 }
-    ensures made { IfOk result (λ x. expression x.expr ≡ steps.apply (expression operand.entry.expr) (code_steps.step behind.entry.step)) }
-    ensures rest { IfOk result (λ x. x.rest.now ≡ behind.entry.rest.now) }
+    requires following { following.over < 64 }
+    ensures made { IfOk result (λ x. expression x.expr ≡ steps.apply (expression operand.entry.expr) (code_steps.step following.entry.step)) }
+    ensures rest { IfOk result (λ x. x.rest.now ≡ following.entry.rest.now) }
     ensures err { IfErr result (λ e. e ≡ Memory) }
 {
-    let over = higher(operand.over, behind.over) + 1;
-    let rest = behind.rest;
-    let expr = apply(alloc, operand.expr, behind.step)?;
+    let over = higher(operand.over, following.over) + 1;
+    let rest = following.rest;
+    let expr = apply(alloc, operand.expr, following.step)?;
     Ok(Parsed { expr, over, rest })
 }
 
@@ -102,13 +102,13 @@ pub fn expression<'a>(
 {
     let mut left = operand(alloc, text, room, level, tokens)?;
     while follows(left.rest) <= level {
-        let behind = step(alloc, text, room, &left)?;
-        left = extended(alloc, left, behind)?;
+        let following = step(alloc, text, room, &left)?;
+        left = extended(alloc, left, following)?;
     }
     Ok(left)
 }
 
-/// The step behind an operand, if that may stand before it.
+/// The step after an operand, if that may stand before it.
 #[cycle(reader)]
 fn step<'a>(
     alloc: Global,
@@ -122,10 +122,10 @@ fn step<'a>(
     ensures low { IfOk result (λ x. x.over < room) }
     ensures refused { IfErr result (λ e. Placed e (NoStep room (expression operand.now.expr)) (HasStep room (expression operand.now.expr) (follows operand.now.rest.now)) text.now operand.now.rest.now) }
 {
-    let Some((sign, at, rest)) = first_sign(operand.rest) else {
+    let Some((punctuator, at, rest)) = first_punctuator(operand.rest) else {
         return Err(unexpected(text, operand.rest));
     };
-    let Some(operation) = operation_of(sign) else {
+    let Some(operation) = operation_of(punctuator) else {
         return Err(unexpected(text, operand.rest));
     };
     if operation.bound() < rank(&operand.expr) {
@@ -137,7 +137,7 @@ fn step<'a>(
     operated(alloc, text, room - 1, operation, at, rest)
 }
 
-/// What follows the sign of an operation, and the step that they are. `at` is the sign's place.
+/// What follows the punctuator of an operation, and the step that they are. `at` is the punctuator's place.
 #[cycle(reader)]
 fn operated<'a>(
     alloc: Global,
@@ -154,7 +154,7 @@ fn operated<'a>(
 {
     match operation {
         Operation::Index => {
-            let inner = enclosed(alloc, text, room, Sign::CloseBracket, tokens)?;
+            let inner = enclosed(alloc, text, room, Punctuator::CloseBracket, tokens)?;
             let (over, rest) = (inner.over, inner.rest);
             let index = inner.expr;
             let step = Step::Index { at, index };
@@ -180,7 +180,7 @@ fn operated<'a>(
     }
 }
 
-/// The two branches behind `?`, which stands at a place.
+/// The two branches after `?`, which is at a place.
 #[cycle(reader)]
 fn chosen<'a>(
     alloc: Global,
@@ -194,7 +194,7 @@ fn chosen<'a>(
     ensures low { IfOk result (λ x. x.over ≤ room) }
     ensures refused { IfErr result (λ e. Placed e (NoneBehind room operations.Conditional) (HasBehind room operations.Conditional at) text.now tokens.now) }
 {
-    let yes = enclosed(alloc, text, room, Sign::Colon, tokens)?;
+    let yes = enclosed(alloc, text, room, Punctuator::Colon, tokens)?;
     let no = expression(alloc, text, room, 14, yes.rest)?;
     let over = higher(yes.over, no.over);
     let rest = no.rest;
@@ -203,17 +203,17 @@ fn chosen<'a>(
     Ok(Behind { step, over, rest })
 }
 
-/// The expression at the front and the sign that ends it; what follows the sign.
+/// The expression at the front and the punctuator that ends it; what follows the punctuator.
 #[cycle(reader)]
 fn enclosed<'a>(
     alloc: Global,
     text: &[u8],
     room: u64,
-    close: Sign,
+    close: Punctuator,
     tokens: &'a [Token],
 ) -> Result<Parsed<'a>, ParseErr>
     requires room { room < 64 }
-    requires close { sign_follows close ≡ 17 }
+    requires close { punctuator_follows close ≡ 17 }
     ensures found { IfOk result (λ x. Encloses text.now close (expression x.expr) tokens.now x.rest.now) }
     ensures low { IfOk result (λ x. x.over ≤ room) }
     ensures refused { IfErr result (λ e. Placed e (NoneEnclosed close room) (HasEnclosed close room) text.now tokens.now) }
@@ -262,8 +262,10 @@ fn operand<'a>(
             rest,
         });
     }
-    match first_sign(tokens) {
-        Some((sign, at, rest)) => signed(alloc, text, room, level, sign, at, tokens, rest),
+    match first_punctuator(tokens) {
+        Some((punctuator, at, rest)) => signed(
+            alloc, text, room, level, punctuator, at, tokens, rest,
+        ),
         None => Err(unexpected(text, departure(text, tokens))),
     }
 }
@@ -275,17 +277,17 @@ fn named<'a>(
     text: &[u8],
     room: u64,
     level: u8,
-    name: Name,
+    name: Identifier,
     tokens: &'a [Token],
     rest: &'a [Token],
 ) -> Result<Parsed<'a>, ParseErr>
     requires room { room ≤ 64 }
-    requires name { IsName name tokens.now rest.now }
+    requires name { IsIdentifier name tokens.now rest.now }
     ensures found { IfOk result (λ x. IsOperand text.now level (expression x.expr) tokens.now x.rest.now) }
     ensures low { IfOk result (λ x. x.over ≤ room) }
     ensures refused { IfErr result (λ e. Placed e (NoOperand level room) (HasExpression level room) text.now tokens.now) }
 {
-    match after(Sign::OpenParenthesis, rest) {
+    match after(Punctuator::OpenParenthesis, rest) {
         Some(rest) => {
             let found = arguments(alloc, text, room, rest)?;
             let (over, rest) = (found.over, found.rest);
@@ -303,7 +305,7 @@ fn named<'a>(
 
 /// The refusal of the first token where no argument is within the limit.
 fn no_argument(text: &[u8], tokens: &[Token]) -> ParseErr
-    requires { (rest : List Token) → HasSign signs.CloseParenthesis tokens.now rest → ⊥ }
+    requires { (rest : List Token) → HasPunctuator punctuators.CloseParenthesis tokens.now rest → ⊥ }
     ensures { Placed result (NoArguments 0) (HasArguments 0) text.now tokens.now }
 {
     if begins(tokens) {
@@ -327,7 +329,7 @@ fn arguments<'a>(
     ensures refused { IfErr result (λ e. Placed e (NoArguments room) (HasArguments room) text.now tokens.now) }
 {
     let mut exprs = Vec::new(alloc);
-    if let Some(rest) = after(Sign::CloseParenthesis, tokens) {
+    if let Some(rest) = after(Punctuator::CloseParenthesis, tokens) {
         return Ok(Listed {
             exprs,
             over: 0,
@@ -340,50 +342,50 @@ fn arguments<'a>(
     let first = expression(alloc, text, room - 1, 15, tokens)?;
     let (mut over, mut rest) = (first.over + 1, first.rest);
     exprs.push(first.expr)?;
-    while let Some(behind) = after(Sign::Comma, rest) {
-        let next = expression(alloc, text, room - 1, 15, behind)?;
+    while let Some(following) = after(Punctuator::Comma, rest) {
+        let next = expression(alloc, text, room - 1, 15, following)?;
         over = higher(over, next.over + 1);
         rest = next.rest;
         exprs.push(next.expr)?;
     }
-    match after(Sign::CloseParenthesis, rest) {
+    match after(Punctuator::CloseParenthesis, rest) {
         Some(rest) => Ok(Listed { exprs, over, rest }),
         None => Err(unexpected(text, rest)),
     }
 }
 
-/// A sign at the front, and the operand that it begins.
+/// A punctuator at the front, and the operand that it begins.
 #[cycle(reader)]
 fn signed<'a>(
     alloc: Global,
     text: &[u8],
     room: u64,
     level: u8,
-    sign: Sign,
+    punctuator: Punctuator,
     at: u64,
     tokens: &'a [Token],
     rest: &'a [Token],
 ) -> Result<Parsed<'a>, ParseErr>
     requires room { room ≤ 64 }
     requires level { 2 ≤ level }
-    requires sign { IsSign sign at tokens.now rest.now }
+    requires punctuator { IsPunctuator punctuator at tokens.now rest.now }
     ensures found { IfOk result (λ x. IsOperand text.now level (expression x.expr) tokens.now x.rest.now) }
     ensures low { IfOk result (λ x. x.over ≤ room) }
     ensures refused { IfErr result (λ e. Placed e (NoOperand level room) (HasExpression level room) text.now tokens.now) }
 {
-    if !opens(sign) {
+    if !opens(punctuator) {
         return Err(unexpected(text, tokens));
     }
     if room == 0 {
         return Err(too_deep(text, tokens));
     }
-    if let Some(operator) = increment_of(sign) {
+    if let Some(operator) = increment_of(punctuator) {
         let inner = expression(alloc, text, room - 1, 2, rest)?;
         let (over, rest) = (inner.over + 1, inner.rest);
         let expr = prefix(alloc, at, operator, inner.expr)?;
         return Ok(Parsed { expr, over, rest });
     }
-    if let Some(operator) = unary_of(sign) {
+    if let Some(operator) = unary_of(punctuator) {
         let inner = expression(alloc, text, room - 1, 3, rest)?;
         let (over, rest) = (inner.over + 1, inner.rest);
         let expr = unary(alloc, at, operator, inner.expr)?;
@@ -405,7 +407,7 @@ fn parenthesised<'a>(
 ) -> Result<Parsed<'a>, ParseErr>
     requires room { room < 64 }
     requires level { 2 ≤ level }
-    requires sign { IsSign signs.OpenParenthesis at tokens.now rest.now }
+    requires punctuator { IsPunctuator punctuators.OpenParenthesis at tokens.now rest.now }
     ensures found { IfOk result (λ x. IsOperand text.now level (expression x.expr) tokens.now x.rest.now) }
     ensures low { IfOk result (λ x. x.over ≤ room + 1) }
     ensures refused { IfErr result (λ e. Placed e (NoOperand level (room + 1)) (HasExpression level (room + 1)) text.now tokens.now) }
@@ -415,7 +417,7 @@ fn parenthesised<'a>(
     }
     match c_type(rest) {
         Some((to, rest)) => {
-            let Some(rest) = after(Sign::CloseParenthesis, rest) else {
+            let Some(rest) = after(Punctuator::CloseParenthesis, rest) else {
                 return Err(unexpected(text, rest));
             };
             let inner = expression(alloc, text, room, 3, rest)?;
@@ -441,13 +443,13 @@ fn grouped<'a>(
 ) -> Result<Parsed<'a>, ParseErr>
     requires room { room < 64 }
     requires level { 2 ≤ level }
-    requires sign { IsSign signs.OpenParenthesis at tokens.now rest.now }
+    requires punctuator { IsPunctuator punctuators.OpenParenthesis at tokens.now rest.now }
     requires base { (3 ≤ level) → NoBase rest.now }
     ensures found { IfOk result (λ x. IsOperand text.now level (expression x.expr) tokens.now x.rest.now) }
     ensures low { IfOk result (λ x. x.over ≤ room + 1) }
     ensures refused { IfErr result (λ e. Placed e (NoOperand level (room + 1)) (HasExpression level (room + 1)) text.now tokens.now) }
 {
-    let inner = enclosed(alloc, text, room, Sign::CloseParenthesis, rest)?;
+    let inner = enclosed(alloc, text, room, Punctuator::CloseParenthesis, rest)?;
     let (over, rest) = (inner.over + 1, inner.rest);
     let inner = Box::new(alloc, inner.expr)?;
     let expr = Expr::Parentheses { at, inner };

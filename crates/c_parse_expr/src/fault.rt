@@ -7,19 +7,21 @@ ghost use Rattle.c_syntax.specs.Tokens.{token};
 ghost use Rattle.c_parse_expr.specs.Readings.{NoField, HasField, NoInformation, HasInformation, Begins, NeverBegins, Opens};
 
 use c_lex::keyword::Keyword;
-use c_lex::sign::Sign;
+use c_lex::punctuator::Punctuator;
 use c_lex::token::{Kind, Token};
 use c_parse_atom::information::{after_word, intrinsic};
 use c_parse_atom::operands::integer;
 use c_parse_atom::operators::{increment_of, unary_of};
 use c_parse_type::front::{after, front};
 
-/// Whether an operand can begin with a sign.
-pub fn opens(sign: Sign) -> bool
-    ensures opens { IsTrue result → Opens sign }
-    ensures never { IsFalse result → Opens sign → ⊥ }
+/// Whether an operand can begin with a punctuator.
+pub fn opens(punctuator: Punctuator) -> bool
+    ensures opens { IsTrue result → Opens punctuator }
+    ensures never { IsFalse result → Opens punctuator → ⊥ }
 {
-    sign == Sign::OpenParenthesis || unary_of(sign).is_some() || increment_of(sign).is_some()
+    punctuator == Punctuator::OpenParenthesis
+        || unary_of(punctuator).is_some()
+        || increment_of(punctuator).is_some()
 }
 
 /// Whether an expression can begin with a token of this kind.
@@ -28,10 +30,10 @@ fn begins_with(kind: Kind) -> bool
     ensures never { IsFalse result → (start end : ℕ) (rest : List Token) → NeverBegins (token kind start end ∷ rest) }
 {
     match kind {
-        Kind::Name | Kind::Integer { .. } | Kind::Character(_) => true,
+        Kind::Identifier | Kind::Integer { .. } | Kind::CharacterConstant(_) => true,
         Kind::Keyword(keyword) => keyword == Keyword::GetExceptionInformation,
         Kind::Reserved(_) => false,
-        Kind::Sign(sign) => opens(sign),
+        Kind::Punctuator(punctuator) => opens(punctuator),
     }
 }
 
@@ -46,7 +48,7 @@ pub fn begins(tokens: &[Token]) -> bool
     }
 }
 
-/// The tokens from the first with which no field of an exception's record goes on; no field is at the
+/// The tokens from the first with which no field of an exception's record continues; no field is at the
 /// front.
 fn field_departure<'a>(text: &[u8], tokens: &'a [Token]) -> &'a [Token]
     requires { NoField 0 text.now tokens.now }
@@ -55,7 +57,7 @@ fn field_departure<'a>(text: &[u8], tokens: &'a [Token]) -> &'a [Token]
     let Some(bracket) = after_word(text, b"ExceptionInformation", tokens) else {
         return tokens;
     };
-    let Some(index) = after(Sign::OpenBracket, bracket) else {
+    let Some(index) = after(Punctuator::OpenBracket, bracket) else {
         return bracket;
     };
     match integer(index) {
@@ -73,20 +75,20 @@ pub fn departure<'a>(text: &[u8], tokens: &'a [Token]) -> &'a [Token]
     let Some((_, open)) = intrinsic(tokens) else {
         return tokens;
     };
-    let Some(close) = after(Sign::OpenParenthesis, open) else {
+    let Some(close) = after(Punctuator::OpenParenthesis, open) else {
         return open;
     };
-    let Some(arrow) = after(Sign::CloseParenthesis, close) else {
+    let Some(arrow) = after(Punctuator::CloseParenthesis, close) else {
         return close;
     };
-    let Some(record) = after(Sign::Arrow, arrow) else {
+    let Some(record) = after(Punctuator::Arrow, arrow) else {
         return arrow;
     };
-    let Some(behind) = after_word(text, b"ExceptionRecord", record) else {
+    let Some(following) = after_word(text, b"ExceptionRecord", record) else {
         return record;
     };
-    match after(Sign::Arrow, behind) {
+    match after(Punctuator::Arrow, following) {
         Some(field) => field_departure(text, field),
-        None => behind,
+        None => following,
     }
 }

@@ -1,13 +1,11 @@
 //! Expressions of C from tokens.
 //!
 //! An expression at the front of tokens is read by the levels of its operators (C11, 6.5), as far as it
-//! goes on. What is read is such an expression within the limit of nesting. A refusal tells the first
-//! token with which none goes on, and whether one would without the limit.
+//! continues. What is read is such an expression within the limit of nesting. A refusal names the first
+//! token with which none continues, and whether one would without the limit.
 #![tactic(auto)]
 
 pub mod expressions;
 pub mod fault;
 pub mod refusal;
 pub mod step;
-#[cfg(test)]
-mod tests;

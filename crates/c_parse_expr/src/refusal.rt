@@ -23,15 +23,15 @@ pub enum Count {
 }
 
 /// Why tokens are no program within the limits. `at` is the place of the first token with which no
-/// such program goes on, in bytes from the text's begin; the text's length where the text ends too
+/// such program continues, in bytes from the text's begin; the text's length where the text ends too
 /// early.
 #[derive(Clone, Copy, Debug, PartialEq, Eq)]
 pub enum ParseErr {
-    /// No program goes on so.
+    /// No program continues so.
     Unexpected { at: u64 },
-    /// Programs go on so, but none with at most 64 expressions and 64 statements around each part.
+    /// Programs continue so, but none with at most 64 expressions and 64 statements around each part.
     TooDeep { at: u64 },
-    /// Programs go on so, but none with so few of these.
+    /// Programs continue so, but none with so few of these.
     TooMany { at: u64, what: Count },
     /// No memory was left.
     Memory,
@@ -63,7 +63,7 @@ pub fn place(text: &[u8], tokens: &[Token]) -> u64
     }
 }
 
-/// The refusal of the first token, with which no program goes on.
+/// The refusal of the first token, with which no program continues.
 pub fn unexpected(text: &[u8], tokens: &[Token]) -> ParseErr
     ensures { result ≡ Unexpected (faults.place text.now tokens.now) }
 {
@@ -72,7 +72,7 @@ pub fn unexpected(text: &[u8], tokens: &[Token]) -> ParseErr
     }
 }
 
-/// The refusal of the first token, behind which nothing is within the limits of nesting.
+/// The refusal of the first token, after which nothing is within the limits of nesting.
 pub fn too_deep(text: &[u8], tokens: &[Token]) -> ParseErr
     ensures { result ≡ TooDeep (faults.place text.now tokens.now) }
 {

@@ -1,22 +1,22 @@
-//! What stands behind an operand.
+//! What is after an operand.
 
 ghost use Rattle.std.specs.Prelude.{◌≡◌, ℕ, List, IfOk, IfErr, IfSome, IfNone};
-ghost use Rattle.c_lex.specs.declared.sign.Sign.{Sign};
+ghost use Rattle.c_lex.specs.declared.punctuator.Punctuator.{Punctuator};
 ghost use Rattle.c_lex.specs.declared.token.Token.{Token};
 ghost use Rattle.c_syntax.specs.Expression.{expression, Variable, Prefix, Unary};
 ghost use Rattle.c_syntax.specs.Expressions as expressions;
 ghost use Rattle.c_syntax.specs.Steps as steps;
-ghost use Rattle.c_syntax.specs.Tokens.{IsSign};
+ghost use Rattle.c_syntax.specs.Tokens.{IsPunctuator};
 ghost use Rattle.c_parse_expr.specs.declared.refusal.ParseErr.TheVariants.{Memory};
 ghost use Rattle.c_parse_expr.specs.Operations as operations;
 ghost use Rattle.c_parse_expr.specs.Steps.{step};
 
 use crate::refusal::ParseErr;
-use c_lex::sign::Sign;
+use c_lex::punctuator::Punctuator;
 use c_lex::token::Token;
 use c_parse_atom::operators::{assignment_of, binary_of, increment_of, level};
-use c_parse_type::front::sign;
-use c_syntax::expression::{Expr, Name};
+use c_parse_type::front::punctuator;
+use c_syntax::expression::{Expr, Identifier};
 use c_syntax::operator::{Arithmetic, BinaryOperator, Increment, UnaryOperator};
 use std::alloc::Global;
 
@@ -51,7 +51,7 @@ impl Infix {
     }
 }
 
-/// What a sign behind an operand begins.
+/// What a punctuator after an operand begins.
 #[derive(Clone, Copy, Debug, PartialEq, Eq)]
 pub enum Operation {
     Index,
@@ -73,38 +73,38 @@ impl Operation {
     }
 }
 
-/// The sign at the front, its place, and what follows it.
-pub fn first_sign(tokens: &[Token]) -> Option<(Sign, u64, &[Token])>
-    ensures found { IfSome result (λ x. IsSign x.0 x.1 tokens.now x.2.now) }
-    ensures none { IfNone result ((s : Sign) (at : ℕ) (rest : List Token) → IsSign s at tokens.now rest → ⊥) }
+/// The punctuator at the front, its place, and what follows it.
+pub fn first_punctuator(tokens: &[Token]) -> Option<(Punctuator, u64, &[Token])>
+    ensures found { IfSome result (λ x. IsPunctuator x.0 x.1 tokens.now x.2.now) }
+    ensures none { IfNone result ((s : Punctuator) (at : ℕ) (rest : List Token) → IsPunctuator s at tokens.now rest → ⊥) }
 {
-    sign(tokens)
+    punctuator(tokens)
 }
 
-/// The operator between two operands that a sign is.
-fn infix_of(sign: Sign) -> Option<Infix>
-    ensures { result ≡ operations.infix_of sign }
+/// The operator between two operands that a punctuator is.
+fn infix_of(punctuator: Punctuator) -> Option<Infix>
+    ensures { result ≡ operations.infix_of punctuator }
 {
-    if let Some(operator) = binary_of(sign) {
+    if let Some(operator) = binary_of(punctuator) {
         return Some(Infix::Binary(operator));
     }
-    let operator = assignment_of(sign)?;
+    let operator = assignment_of(punctuator)?;
     Some(Infix::Assign(operator))
 }
 
-/// What a sign begins behind an operand, a call aside.
-pub fn operation_of(sign: Sign) -> Option<Operation>
-    ensures { result ≡ operations.operation_of sign }
+/// What a punctuator begins after an operand, a call aside.
+pub fn operation_of(punctuator: Punctuator) -> Option<Operation>
+    ensures { result ≡ operations.operation_of punctuator }
 {
-    match sign {
-        Sign::OpenBracket => Some(Operation::Index),
-        Sign::Question => Some(Operation::Conditional),
-        Sign::Comma => Some(Operation::Infix(Infix::Comma)),
+    match punctuator {
+        Punctuator::OpenBracket => Some(Operation::Index),
+        Punctuator::Question => Some(Operation::Conditional),
+        Punctuator::Comma => Some(Operation::Infix(Infix::Comma)),
         _ => {
-            if let Some(operator) = increment_of(sign) {
+            if let Some(operator) = increment_of(punctuator) {
                 return Some(Operation::Postfix(operator));
             }
-            let operator = infix_of(sign)?;
+            let operator = infix_of(punctuator)?;
             Some(Operation::Infix(operator))
         }
     }
@@ -130,7 +130,7 @@ pub fn rank(expr: &Expr) -> u8
     }
 }
 
-/// An operation with what follows its operand; `at` is the place of its sign.
+/// An operation with what follows its operand; `at` is the place of its punctuator.
 #[derive(Drop)]
 pub enum Step {
     Index {
@@ -154,7 +154,7 @@ pub enum Step {
 }
 
 /// The expression that a name is.
-pub fn variable(name: Name) -> Expr
+pub fn variable(name: Identifier) -> Expr
     ensures { expression result ≡ Variable name }
 {
     Expr::Variable(name)
@@ -220,13 +220,13 @@ fn between(
     })
 }
 
-/// The expression of an operand and a step behind it.
-pub fn apply(alloc: Global, operand: Expr, behind: Step) -> Result<Expr, ParseErr>
-    ensures applied { IfOk result (λ e. expression e ≡ steps.apply (expression operand) (step behind)) }
+/// The expression of an operand and a step after it.
+pub fn apply(alloc: Global, operand: Expr, following: Step) -> Result<Expr, ParseErr>
+    ensures applied { IfOk result (λ e. expression e ≡ steps.apply (expression operand) (step following)) }
     ensures err { IfErr result (λ e. e ≡ Memory) }
 {
     let operand = Box::new(alloc, operand)?;
-    match behind {
+    match following {
         Step::Index { at, index } => Ok(Expr::Index {
             array: operand,
             at,

@@ -1,8 +1,8 @@
--- How a filter goes on behind a token that accepts alone.
+-- How a filter continues after a token that accepts alone.
 use Rattle.std.proofs.Common.{◌≡◌, ◌≤◌, ◌<◌, ◌+◌, ◌-◌, ℕ, zero, suc, true, List, [], ◌∷◌, ◌++◌, Option, Some, None, codes, slice_range, refl, sym, ap, ◌∙◌, subst, append_assoc, arith}
 use Rattle.std.specs.Str.{bytes_eq}
-use Rattle.c_lex.specs.declared.sign.Sign.{Sign}
-use Rattle.c_lex.specs.declared.sign.Sign.TheVariants as signs
+use Rattle.c_lex.specs.declared.punctuator.Punctuator.{Punctuator}
+use Rattle.c_lex.specs.declared.punctuator.Punctuator.TheVariants as punctuators
 use Rattle.c_lex.specs.declared.token.Kind.{Kind}
 use Rattle.c_lex.specs.declared.token.Kind.TheVariants as kinds
 use Rattle.c_lex.specs.declared.token.Token.{Token}
@@ -15,13 +15,13 @@ use Rattle.c_syntax.specs.declared.operator.Increment.{Increment}
 use Rattle.c_syntax.specs.declared.operator.Increment.TheVariants as increments
 use Rattle.c_syntax.specs.declared.expression.Literal.TheVariants as literals
 use Rattle.c_syntax.specs.Expression.{Expression, Constant, Variable, Call, Done, Index, Postfix, Binary, Conditional, Assign, Comma, height}
-use Rattle.c_syntax.specs.Expressions.{rank, Spells}
+use Rattle.c_syntax.specs.Expressions.{rank, SpellsExpression}
 use Rattle.c_syntax.specs.Faults.{SameFirst}
-use Rattle.c_syntax.specs.Follow.{sign_follows, kind_follows, follows}
+use Rattle.c_syntax.specs.Follow.{punctuator_follows, kind_follows, follows}
 use Rattle.c_syntax.specs.Limits.{accepts}
-use Rattle.c_syntax.specs.Operators.{binary_sign, increment_sign, assignment_sign}
+use Rattle.c_syntax.specs.Operators.{binary_punctuator, increment_punctuator, assignment_punctuator}
 use Rattle.c_syntax.specs.Steps.{Step, At, After, With, Choose, Set, And, apply, Closes}
-use Rattle.c_syntax.specs.Tokens.{token, HasSign}
+use Rattle.c_syntax.specs.Tokens.{token, HasPunctuator}
 use Rattle.c_syntax.proofs.Failing.{first_keeps}
 use Rattle.c_syntax.proofs.Fronts.{kind_class, has_same}
 use Rattle.c_syntax.proofs.Once.{one_expression, rank_low, has_stops}
@@ -29,7 +29,7 @@ use Rattle.c_syntax.proofs.Passing.{passes}
 use Rattle.c_syntax.proofs.Spine.{levels, step_follows, run_height}
 use Rattle.c_parse_stmt.specs.Filters.{accepts_kind, accepts_alone, AreOpening, AreClosing, Continued, GoesBehind, NoneBehind}
 use Rattle.c_parse_stmt.specs.Parts.{NoCondition, HasCondition}
-use Rattle.c_parse_stmt.proofs.Begins.{sign, name, variable}
+use Rattle.c_parse_stmt.proofs.Begins.{punctuator, name, variable}
 use Rattle.c_parse_stmt.proofs.Nesting.{Nested, nested, opening_again, opening_split, closing, closing_again, enclosed}
 use Rattle.c_parse_stmt.proofs.Peeling.{opening_untyped, least, has_condition, closing_all}
 use Rattle.c_parse_stmt.proofs.Placing.{Lacks, lacks_first}
@@ -38,183 +38,183 @@ use Rattle.c_parse_stmt.proofs.Placing.{Lacks, lacks_first}
 
 pub record Atom (text : List ℕ) (t : Token) : Type 0 where
   pub tree : Expression
-  pub spells : (ts : List Token) → Spells text tree (t ∷ ts) ts
+  pub spells : (ts : List Token) → SpellsExpression text tree (t ∷ ts) ts
   pub low : height tree ≡ 0
   pub rank : rank tree ≡ 0
   pub yes : accepts text tree ≡ true
-  pub closes : (ts : List Token) → (t.kind ≡ kinds.Name → 0 < follows ts) → Closes tree ts
+  pub closes : (ts : List Token) → (t.kind ≡ kinds.Identifier → 0 < follows ts) → Closes tree ts
   pub class : kind_class t.kind ≤ 2
 
 atom_by : (text : List ℕ) (k : Kind) (at end : ℕ) → accepts_kind text k at end ≡ true → Atom text (token k at end)
-atom_by text kinds.Name at end h = record { tree = Variable (record { start = at; end = end }); spells = λ ts. refl; low = refl; rank = refl; yes = h; closes = λ ts f. f refl; class = omega arith }
+atom_by text kinds.Identifier at end h = record { tree = Variable (record { start = at; end = end }); spells = λ ts. refl; low = refl; rank = refl; yes = h; closes = λ ts f. f refl; class = omega arith }
 atom_by text (kinds.Keyword k) at end h = absurd cc
 atom_by text (kinds.Reserved r) at end h = absurd cc
 atom_by text (kinds.Integer value type) at end h = record { tree = Constant at (literals.Integer value type); spells = λ ts. (end, refl); low = refl; rank = refl; yes = h; closes = λ ts f. tt; class = omega arith }
-atom_by text (kinds.Character value) at end h = absurd cc
-atom_by text (kinds.Sign s) at end h = absurd cc
+atom_by text (kinds.CharacterConstant value) at end h = absurd cc
+atom_by text (kinds.Punctuator s) at end h = absurd cc
 
 pub atom : (text : List ℕ) (t : Token) → accepts_alone text t ≡ true → Atom text t
 atom text t h = atom_by text t.kind t.start t.end h
 
 alike_by : (text text' : List ℕ) (k : Kind) (at end : ℕ) → slice_range text at end ≡ slice_range text' at end → accepts_kind text k at end ≡ accepts_kind text' k at end
-alike_by text text' kinds.Name at end h = ap (λ z. bytes_eq z (codes "EXCEPTION_EXECUTE_HANDLER")) h
+alike_by text text' kinds.Identifier at end h = ap (λ z. bytes_eq z (codes "EXCEPTION_EXECUTE_HANDLER")) h
 alike_by text text' (kinds.Keyword k) at end h = refl
 alike_by text text' (kinds.Reserved r) at end h = refl
 alike_by text text' (kinds.Integer value type) at end h = refl
-alike_by text text' (kinds.Character value) at end h = refl
-alike_by text text' (kinds.Sign s) at end h = refl
+alike_by text text' (kinds.CharacterConstant value) at end h = refl
+alike_by text text' (kinds.Punctuator s) at end h = refl
 
 pub accepts_alike : (text text' : List ℕ) (t : Token) → slice_range text t.start t.end ≡ slice_range text' t.start t.end → accepts_alone text t ≡ accepts_alone text' t
 accepts_alike text text' t h = alike_by text text' t.kind t.start t.end h
 
--- ---- an operator behind an operand, with the shortest other ones
+-- ---- an operator after an operand, with the shortest other ones
 
 record Stepped (t : Token) : Type 0 where
   more : List Token
   after : Expression → Expression
-  spells : (text : List ℕ) (left : Expression) (ts other : List Token) → rank left ≡ 0 → Spells text left ts ((t ∷ more) ++ other) → Spells text (after left) ts other
+  spells : (text : List ℕ) (left : Expression) (ts other : List Token) → rank left ≡ 0 → SpellsExpression text left ts ((t ∷ more) ++ other) → SpellsExpression text (after left) ts other
   high : (left : Expression) → height (after left) ≡ 1 + height left
 
-index : (at end : ℕ) → Stepped (token (kinds.Sign signs.OpenBracket) at end)
-index at end = record { more = name ∷ sign signs.CloseBracket ∷ []; after = λ e. Index e at variable; spells = λ text e ts other r s. (_, name ∷ sign signs.CloseBracket ∷ other, sign signs.CloseBracket ∷ other, omega arith, s, (end, refl), refl, (0, (0, refl))); high = λ e. omega arith }
+index : (at end : ℕ) → Stepped (token (kinds.Punctuator punctuators.OpenBracket) at end)
+index at end = record { more = name ∷ punctuator punctuators.CloseBracket ∷ []; after = λ e. Index e at variable; spells = λ text e ts other r s. (_, name ∷ punctuator punctuators.CloseBracket ∷ other, punctuator punctuators.CloseBracket ∷ other, omega arith, s, (end, refl), refl, (0, (0, refl))); high = λ e. omega arith }
 
-increment : (op : Increment) (at end : ℕ) → Stepped (token (kinds.Sign (increment_sign op)) at end)
+increment : (op : Increment) (at end : ℕ) → Stepped (token (kinds.Punctuator (increment_punctuator op)) at end)
 increment op at end = record { more = []; after = λ e. Postfix e op at; spells = λ text e ts other r s. (_, omega arith, s, (end, refl)); high = λ e. omega arith }
 
-between : (op : BinaryOperator) (at end : ℕ) → Stepped (token (kinds.Sign (binary_sign op)) at end)
+between : (op : BinaryOperator) (at end : ℕ) → Stepped (token (kinds.Punctuator (binary_punctuator op)) at end)
 between op at end = record { more = name ∷ []; after = λ e. Binary e at op variable; spells = λ text e ts other r s. let l = (levels op).0 in (_, name ∷ other, omega arith, s, (end, refl), omega arith, refl); high = λ e. omega arith }
 
-choice : (at end : ℕ) → Stepped (token (kinds.Sign signs.Question) at end)
-choice at end = record { more = name ∷ sign signs.Colon ∷ name ∷ []; after = λ e. Conditional e at variable variable; spells = λ text e ts other r s. (_, name ∷ sign signs.Colon ∷ name ∷ other, sign signs.Colon ∷ name ∷ other, name ∷ other, omega arith, s, (end, refl), refl, (0, (0, refl)), omega arith, refl); high = λ e. omega arith }
+choice : (at end : ℕ) → Stepped (token (kinds.Punctuator punctuators.Question) at end)
+choice at end = record { more = name ∷ punctuator punctuators.Colon ∷ name ∷ []; after = λ e. Conditional e at variable variable; spells = λ text e ts other r s. (_, name ∷ punctuator punctuators.Colon ∷ name ∷ other, punctuator punctuators.Colon ∷ name ∷ other, name ∷ other, omega arith, s, (end, refl), refl, (0, (0, refl)), omega arith, refl); high = λ e. omega arith }
 
-assignment : (op : Option Arithmetic) (at end : ℕ) → Stepped (token (kinds.Sign (assignment_sign op)) at end)
+assignment : (op : Option Arithmetic) (at end : ℕ) → Stepped (token (kinds.Punctuator (assignment_punctuator op)) at end)
 assignment op at end = record { more = name ∷ []; after = λ e. Assign e at op variable; spells = λ text e ts other r s. (_, name ∷ other, omega arith, s, (end, refl), omega arith, refl); high = λ e. omega arith }
 
-comma : (at end : ℕ) → Stepped (token (kinds.Sign signs.Comma) at end)
+comma : (at end : ℕ) → Stepped (token (kinds.Punctuator punctuators.Comma) at end)
 comma at end = record { more = name ∷ []; after = λ e. Comma e at variable; spells = λ text e ts other r s. (_, name ∷ other, omega arith, s, (end, refl), omega arith, refl); high = λ e. omega arith }
 
-by_sign : (s : Sign) (at end : ℕ) → 1 ≤ sign_follows s → sign_follows s ≤ 16 → Stepped (token (kinds.Sign s) at end)
-by_sign signs.OpenParenthesis at end h l = absurd (omega arith)
-by_sign signs.CloseParenthesis at end h l = absurd (omega arith)
-by_sign signs.OpenBracket at end h l = index at end
-by_sign signs.CloseBracket at end h l = absurd (omega arith)
-by_sign signs.OpenBrace at end h l = absurd (omega arith)
-by_sign signs.CloseBrace at end h l = absurd (omega arith)
-by_sign signs.Semicolon at end h l = absurd (omega arith)
-by_sign signs.Comma at end h l = comma at end
-by_sign signs.Question at end h l = choice at end
-by_sign signs.Colon at end h l = absurd (omega arith)
-by_sign signs.Arrow at end h l = absurd (omega arith)
-by_sign signs.Assign at end h l = assignment None at end
-by_sign signs.PlusAssign at end h l = assignment (Some arithmetic.Add) at end
-by_sign signs.MinusAssign at end h l = assignment (Some arithmetic.Subtract) at end
-by_sign signs.StarAssign at end h l = assignment (Some arithmetic.Multiply) at end
-by_sign signs.SlashAssign at end h l = assignment (Some arithmetic.Divide) at end
-by_sign signs.PercentAssign at end h l = assignment (Some arithmetic.Remainder) at end
-by_sign signs.AmpersandAssign at end h l = assignment (Some arithmetic.And) at end
-by_sign signs.BarAssign at end h l = assignment (Some arithmetic.Or) at end
-by_sign signs.CaretAssign at end h l = assignment (Some arithmetic.ExclusiveOr) at end
-by_sign signs.ShiftLeftAssign at end h l = assignment (Some arithmetic.ShiftLeft) at end
-by_sign signs.ShiftRightAssign at end h l = assignment (Some arithmetic.ShiftRight) at end
-by_sign signs.BarBar at end h l = between binary.LogicalOr at end
-by_sign signs.AmpersandAmpersand at end h l = between binary.LogicalAnd at end
-by_sign signs.Bar at end h l = between (binary.Arithmetic arithmetic.Or) at end
-by_sign signs.Caret at end h l = between (binary.Arithmetic arithmetic.ExclusiveOr) at end
-by_sign signs.Ampersand at end h l = between (binary.Arithmetic arithmetic.And) at end
-by_sign signs.Equal at end h l = between (binary.Comparison comparisons.Equal) at end
-by_sign signs.NotEqual at end h l = between (binary.Comparison comparisons.NotEqual) at end
-by_sign signs.Less at end h l = between (binary.Comparison comparisons.Less) at end
-by_sign signs.Greater at end h l = between (binary.Comparison comparisons.Greater) at end
-by_sign signs.LessEqual at end h l = between (binary.Comparison comparisons.LessEqual) at end
-by_sign signs.GreaterEqual at end h l = between (binary.Comparison comparisons.GreaterEqual) at end
-by_sign signs.ShiftLeft at end h l = between (binary.Arithmetic arithmetic.ShiftLeft) at end
-by_sign signs.ShiftRight at end h l = between (binary.Arithmetic arithmetic.ShiftRight) at end
-by_sign signs.Plus at end h l = between (binary.Arithmetic arithmetic.Add) at end
-by_sign signs.Minus at end h l = between (binary.Arithmetic arithmetic.Subtract) at end
-by_sign signs.Star at end h l = between (binary.Arithmetic arithmetic.Multiply) at end
-by_sign signs.Slash at end h l = between (binary.Arithmetic arithmetic.Divide) at end
-by_sign signs.Percent at end h l = between (binary.Arithmetic arithmetic.Remainder) at end
-by_sign signs.Exclamation at end h l = absurd (omega arith)
-by_sign signs.Tilde at end h l = absurd (omega arith)
-by_sign signs.PlusPlus at end h l = increment increments.Increment at end
-by_sign signs.MinusMinus at end h l = increment increments.Decrement at end
+by_punctuator : (s : Punctuator) (at end : ℕ) → 1 ≤ punctuator_follows s → punctuator_follows s ≤ 16 → Stepped (token (kinds.Punctuator s) at end)
+by_punctuator punctuators.OpenParenthesis at end h l = absurd (omega arith)
+by_punctuator punctuators.CloseParenthesis at end h l = absurd (omega arith)
+by_punctuator punctuators.OpenBracket at end h l = index at end
+by_punctuator punctuators.CloseBracket at end h l = absurd (omega arith)
+by_punctuator punctuators.OpenBrace at end h l = absurd (omega arith)
+by_punctuator punctuators.CloseBrace at end h l = absurd (omega arith)
+by_punctuator punctuators.Semicolon at end h l = absurd (omega arith)
+by_punctuator punctuators.Comma at end h l = comma at end
+by_punctuator punctuators.Question at end h l = choice at end
+by_punctuator punctuators.Colon at end h l = absurd (omega arith)
+by_punctuator punctuators.Arrow at end h l = absurd (omega arith)
+by_punctuator punctuators.Assign at end h l = assignment None at end
+by_punctuator punctuators.PlusAssign at end h l = assignment (Some arithmetic.Add) at end
+by_punctuator punctuators.MinusAssign at end h l = assignment (Some arithmetic.Subtract) at end
+by_punctuator punctuators.StarAssign at end h l = assignment (Some arithmetic.Multiply) at end
+by_punctuator punctuators.SlashAssign at end h l = assignment (Some arithmetic.Divide) at end
+by_punctuator punctuators.PercentAssign at end h l = assignment (Some arithmetic.Remainder) at end
+by_punctuator punctuators.AmpersandAssign at end h l = assignment (Some arithmetic.And) at end
+by_punctuator punctuators.BarAssign at end h l = assignment (Some arithmetic.Or) at end
+by_punctuator punctuators.CaretAssign at end h l = assignment (Some arithmetic.ExclusiveOr) at end
+by_punctuator punctuators.ShiftLeftAssign at end h l = assignment (Some arithmetic.ShiftLeft) at end
+by_punctuator punctuators.ShiftRightAssign at end h l = assignment (Some arithmetic.ShiftRight) at end
+by_punctuator punctuators.BarBar at end h l = between binary.LogicalOr at end
+by_punctuator punctuators.AmpersandAmpersand at end h l = between binary.LogicalAnd at end
+by_punctuator punctuators.Bar at end h l = between (binary.Arithmetic arithmetic.Or) at end
+by_punctuator punctuators.Caret at end h l = between (binary.Arithmetic arithmetic.ExclusiveOr) at end
+by_punctuator punctuators.Ampersand at end h l = between (binary.Arithmetic arithmetic.And) at end
+by_punctuator punctuators.Equal at end h l = between (binary.Comparison comparisons.Equal) at end
+by_punctuator punctuators.NotEqual at end h l = between (binary.Comparison comparisons.NotEqual) at end
+by_punctuator punctuators.Less at end h l = between (binary.Comparison comparisons.Less) at end
+by_punctuator punctuators.Greater at end h l = between (binary.Comparison comparisons.Greater) at end
+by_punctuator punctuators.LessEqual at end h l = between (binary.Comparison comparisons.LessEqual) at end
+by_punctuator punctuators.GreaterEqual at end h l = between (binary.Comparison comparisons.GreaterEqual) at end
+by_punctuator punctuators.ShiftLeft at end h l = between (binary.Arithmetic arithmetic.ShiftLeft) at end
+by_punctuator punctuators.ShiftRight at end h l = between (binary.Arithmetic arithmetic.ShiftRight) at end
+by_punctuator punctuators.Plus at end h l = between (binary.Arithmetic arithmetic.Add) at end
+by_punctuator punctuators.Minus at end h l = between (binary.Arithmetic arithmetic.Subtract) at end
+by_punctuator punctuators.Star at end h l = between (binary.Arithmetic arithmetic.Multiply) at end
+by_punctuator punctuators.Slash at end h l = between (binary.Arithmetic arithmetic.Divide) at end
+by_punctuator punctuators.Percent at end h l = between (binary.Arithmetic arithmetic.Remainder) at end
+by_punctuator punctuators.Exclamation at end h l = absurd (omega arith)
+by_punctuator punctuators.Tilde at end h l = absurd (omega arith)
+by_punctuator punctuators.PlusPlus at end h l = increment increments.Increment at end
+by_punctuator punctuators.MinusMinus at end h l = increment increments.Decrement at end
 
 by_kind : (k : Kind) (at end : ℕ) → 1 ≤ kind_follows k → kind_follows k ≤ 16 → Stepped (token k at end)
-by_kind kinds.Name at end h l = absurd (omega arith)
+by_kind kinds.Identifier at end h l = absurd (omega arith)
 by_kind (kinds.Keyword k) at end h l = absurd (omega arith)
 by_kind (kinds.Reserved r) at end h l = absurd (omega arith)
 by_kind (kinds.Integer value type) at end h l = absurd (omega arith)
-by_kind (kinds.Character value) at end h l = absurd (omega arith)
-by_kind (kinds.Sign s) at end h l = by_sign s at end h l
+by_kind (kinds.CharacterConstant value) at end h l = absurd (omega arith)
+by_kind (kinds.Punctuator s) at end h l = by_punctuator s at end h l
 
 stepped : (t : Token) → 1 ≤ kind_follows t.kind → kind_follows t.kind ≤ 16 → Stepped t
 stepped t h l = by_kind t.kind t.start t.end h l
 
-open_by : (s : Sign) → sign_follows s ≡ 0 → s ≡ signs.OpenParenthesis
-open_by signs.OpenParenthesis h = refl
-open_by signs.CloseParenthesis h = absurd (omega arith)
-open_by signs.OpenBracket h = absurd (omega arith)
-open_by signs.CloseBracket h = absurd (omega arith)
-open_by signs.OpenBrace h = absurd (omega arith)
-open_by signs.CloseBrace h = absurd (omega arith)
-open_by signs.Semicolon h = absurd (omega arith)
-open_by signs.Comma h = absurd (omega arith)
-open_by signs.Question h = absurd (omega arith)
-open_by signs.Colon h = absurd (omega arith)
-open_by signs.Arrow h = absurd (omega arith)
-open_by signs.Assign h = absurd (omega arith)
-open_by signs.PlusAssign h = absurd (omega arith)
-open_by signs.MinusAssign h = absurd (omega arith)
-open_by signs.StarAssign h = absurd (omega arith)
-open_by signs.SlashAssign h = absurd (omega arith)
-open_by signs.PercentAssign h = absurd (omega arith)
-open_by signs.AmpersandAssign h = absurd (omega arith)
-open_by signs.BarAssign h = absurd (omega arith)
-open_by signs.CaretAssign h = absurd (omega arith)
-open_by signs.ShiftLeftAssign h = absurd (omega arith)
-open_by signs.ShiftRightAssign h = absurd (omega arith)
-open_by signs.BarBar h = absurd (omega arith)
-open_by signs.AmpersandAmpersand h = absurd (omega arith)
-open_by signs.Bar h = absurd (omega arith)
-open_by signs.Caret h = absurd (omega arith)
-open_by signs.Ampersand h = absurd (omega arith)
-open_by signs.Equal h = absurd (omega arith)
-open_by signs.NotEqual h = absurd (omega arith)
-open_by signs.Less h = absurd (omega arith)
-open_by signs.Greater h = absurd (omega arith)
-open_by signs.LessEqual h = absurd (omega arith)
-open_by signs.GreaterEqual h = absurd (omega arith)
-open_by signs.ShiftLeft h = absurd (omega arith)
-open_by signs.ShiftRight h = absurd (omega arith)
-open_by signs.Plus h = absurd (omega arith)
-open_by signs.Minus h = absurd (omega arith)
-open_by signs.Star h = absurd (omega arith)
-open_by signs.Slash h = absurd (omega arith)
-open_by signs.Percent h = absurd (omega arith)
-open_by signs.Exclamation h = absurd (omega arith)
-open_by signs.Tilde h = absurd (omega arith)
-open_by signs.PlusPlus h = absurd (omega arith)
-open_by signs.MinusMinus h = absurd (omega arith)
+open_by : (s : Punctuator) → punctuator_follows s ≡ 0 → s ≡ punctuators.OpenParenthesis
+open_by punctuators.OpenParenthesis h = refl
+open_by punctuators.CloseParenthesis h = absurd (omega arith)
+open_by punctuators.OpenBracket h = absurd (omega arith)
+open_by punctuators.CloseBracket h = absurd (omega arith)
+open_by punctuators.OpenBrace h = absurd (omega arith)
+open_by punctuators.CloseBrace h = absurd (omega arith)
+open_by punctuators.Semicolon h = absurd (omega arith)
+open_by punctuators.Comma h = absurd (omega arith)
+open_by punctuators.Question h = absurd (omega arith)
+open_by punctuators.Colon h = absurd (omega arith)
+open_by punctuators.Arrow h = absurd (omega arith)
+open_by punctuators.Assign h = absurd (omega arith)
+open_by punctuators.PlusAssign h = absurd (omega arith)
+open_by punctuators.MinusAssign h = absurd (omega arith)
+open_by punctuators.StarAssign h = absurd (omega arith)
+open_by punctuators.SlashAssign h = absurd (omega arith)
+open_by punctuators.PercentAssign h = absurd (omega arith)
+open_by punctuators.AmpersandAssign h = absurd (omega arith)
+open_by punctuators.BarAssign h = absurd (omega arith)
+open_by punctuators.CaretAssign h = absurd (omega arith)
+open_by punctuators.ShiftLeftAssign h = absurd (omega arith)
+open_by punctuators.ShiftRightAssign h = absurd (omega arith)
+open_by punctuators.BarBar h = absurd (omega arith)
+open_by punctuators.AmpersandAmpersand h = absurd (omega arith)
+open_by punctuators.Bar h = absurd (omega arith)
+open_by punctuators.Caret h = absurd (omega arith)
+open_by punctuators.Ampersand h = absurd (omega arith)
+open_by punctuators.Equal h = absurd (omega arith)
+open_by punctuators.NotEqual h = absurd (omega arith)
+open_by punctuators.Less h = absurd (omega arith)
+open_by punctuators.Greater h = absurd (omega arith)
+open_by punctuators.LessEqual h = absurd (omega arith)
+open_by punctuators.GreaterEqual h = absurd (omega arith)
+open_by punctuators.ShiftLeft h = absurd (omega arith)
+open_by punctuators.ShiftRight h = absurd (omega arith)
+open_by punctuators.Plus h = absurd (omega arith)
+open_by punctuators.Minus h = absurd (omega arith)
+open_by punctuators.Star h = absurd (omega arith)
+open_by punctuators.Slash h = absurd (omega arith)
+open_by punctuators.Percent h = absurd (omega arith)
+open_by punctuators.Exclamation h = absurd (omega arith)
+open_by punctuators.Tilde h = absurd (omega arith)
+open_by punctuators.PlusPlus h = absurd (omega arith)
+open_by punctuators.MinusMinus h = absurd (omega arith)
 
-open_kind : (k : Kind) → kind_follows k ≡ 0 → k ≡ kinds.Sign signs.OpenParenthesis
-open_kind kinds.Name h = absurd (omega arith)
+open_kind : (k : Kind) → kind_follows k ≡ 0 → k ≡ kinds.Punctuator punctuators.OpenParenthesis
+open_kind kinds.Identifier h = absurd (omega arith)
 open_kind (kinds.Keyword k) h = absurd (omega arith)
 open_kind (kinds.Reserved r) h = absurd (omega arith)
 open_kind (kinds.Integer value type) h = absurd (omega arith)
-open_kind (kinds.Character value) h = absurd (omega arith)
-open_kind (kinds.Sign s) h = ap kinds.Sign (open_by s h)
+open_kind (kinds.CharacterConstant value) h = absurd (omega arith)
+open_kind (kinds.Punctuator s) h = ap kinds.Punctuator (open_by s h)
 
--- ---- where another condition goes on
+-- ---- where another condition continues
 
-call_by : (text : List ℕ) (k : Kind) (at end : ℕ) (u : Token) → k ≡ kinds.Name → u.kind ≡ kinds.Sign signs.OpenParenthesis → (e : Expression) × (height e ≡ 0) × ((ts : List Token) → Spells text e (token k at end ∷ u ∷ sign signs.CloseParenthesis ∷ ts) ts)
-call_by text kinds.Name at end u n o = (Call (record { start = at; end = end }) Done, refl, λ ts. (u ∷ sign signs.CloseParenthesis ∷ ts, sign signs.CloseParenthesis ∷ ts, refl, (u.start, (u.end, ap (λ (k : Kind). token k u.start u.end ∷ sign signs.CloseParenthesis ∷ ts) o)), (0, (0, refl))))
+call_by : (text : List ℕ) (k : Kind) (at end : ℕ) (u : Token) → k ≡ kinds.Identifier → u.kind ≡ kinds.Punctuator punctuators.OpenParenthesis → (e : Expression) × (height e ≡ 0) × ((ts : List Token) → SpellsExpression text e (token k at end ∷ u ∷ punctuator punctuators.CloseParenthesis ∷ ts) ts)
+call_by text kinds.Identifier at end u n o = (Call (record { start = at; end = end }) Done, refl, λ ts. (u ∷ punctuator punctuators.CloseParenthesis ∷ ts, punctuator punctuators.CloseParenthesis ∷ ts, refl, (u.start, (u.end, ap (λ (k : Kind). token k u.start u.end ∷ punctuator punctuators.CloseParenthesis ∷ ts) o)), (0, (0, refl))))
 call_by text (kinds.Keyword k) at end u n o = absurd cc
 call_by text (kinds.Reserved r) at end u n o = absurd cc
 call_by text (kinds.Integer value type) at end u n o = absurd cc
-call_by text (kinds.Character value) at end u n o = absurd cc
-call_by text (kinds.Sign s) at end u n o = absurd cc
+call_by text (kinds.CharacterConstant value) at end u n o = absurd cc
+call_by text (kinds.Punctuator s) at end u n o = absurd cc
 
-pub goes_call : (opened closed : ℕ) (a : Token) (ts : List Token) → closed < opened → opened ≤ 65 → closed ≡ 0 → a.kind ≡ kinds.Name → follows ts ≡ 0 → GoesBehind opened closed a ts
+pub goes_call : (opened closed : ℕ) (a : Token) (ts : List Token) → closed < opened → opened ≤ 65 → closed ≡ 0 → a.kind ≡ kinds.Identifier → follows ts ≡ 0 → GoesBehind opened closed a ts
 goes_call opened closed a [] l k z n f = absurd (omega arith)
 goes_call zero closed a (t ∷ ts) l k z n f = absurd (omega arith)
 goes_call (suc m) (suc c) a (t ∷ ts) l k z n f = absurd (omega arith)
@@ -222,7 +222,7 @@ goes_call (suc m) zero a (t ∷ ts) l k z n f = (t, ts, refl, λ text before mid
   where
     called : (text : List ℕ) (before middle : List Token) → AreOpening (suc m) before [] → middle ≡ [] → Continued text (before ++ a ∷ middle) t
     called text before middle o c =
-        let more = sign signs.CloseParenthesis ∷ closing (suc m) in
+        let more = punctuator punctuators.CloseParenthesis ∷ closing (suc m) in
         let e = call_by text a.kind a.start a.end t n (open_kind t.kind f) in
         let x = enclosed m text e.0 (before ++ a ∷ t ∷ more) (a ∷ t ∷ more) (closing (suc m)) [] (opening_again (suc m) before (a ∷ t ∷ more) o) (e.2 (closing (suc m))) (closing_all (suc m)) in
         let h = x.high in
@@ -235,7 +235,7 @@ nested_rank : (text : List ℕ) (n : ℕ) (a : Token) (ts rest : List Token) (e 
 nested_rank text zero a ts rest e x = ap rank (x.plain refl) ∙ e.rank
 nested_rank text (suc n) a ts rest e x = x.rank (omega arith)
 
-nested_closes : (text : List ℕ) (n : ℕ) (a : Token) (ts rest us : List Token) (e : Atom text a) (x : Nested text n e.tree ts rest) → (n ≡ 0 → a.kind ≡ kinds.Name → 0 < follows us) → Closes x.tree us
+nested_closes : (text : List ℕ) (n : ℕ) (a : Token) (ts rest us : List Token) (e : Atom text a) (x : Nested text n e.tree ts rest) → (n ≡ 0 → a.kind ≡ kinds.Identifier → 0 < follows us) → Closes x.tree us
 nested_closes text zero a ts rest us e x f = subst (λ (z : Expression). Closes z us) (sym (x.plain refl)) (e.closes us (f refl))
 nested_closes text (suc n) a ts rest us e x f = x.closes (omega arith) us
 
@@ -264,15 +264,15 @@ goes_step (suc m) closed a (t ∷ ts) l k g f = (t, ts, refl, λ text before mid
 
 -- ---- where none does
 
-none_behind : (m closed n : ℕ) (a : Token) (text : List ℕ) (before middle other : List Token) → closed ≤ m → AreOpening (suc m) before [] → (e : Atom text a) → AreClosing closed middle [] → ((ts : List Token) → Nested text closed e.tree ts other → (f : Expression) (end r : List Token) → Spells text f ts end → HasSign signs.CloseParenthesis end r → n ≤ height f) → 64 < (m - closed) + n → NoCondition 1 text ((before ++ a ∷ middle) ++ other)
+none_behind : (m closed n : ℕ) (a : Token) (text : List ℕ) (before middle other : List Token) → closed ≤ m → AreOpening (suc m) before [] → (e : Atom text a) → AreClosing closed middle [] → ((ts : List Token) → Nested text closed e.tree ts other → (f : Expression) (end r : List Token) → SpellsExpression text f ts end → HasPunctuator punctuators.CloseParenthesis end r → n ≤ height f) → 64 < (m - closed) + n → NoCondition 1 text ((before ++ a ∷ middle) ++ other)
 none_behind m closed n a text before middle other l o e c bound high f end h low =
     let v = a ∷ (middle ++ other) in
     let p : (before ++ a ∷ middle) ++ other ≡ before ++ v = append_assoc before (a ∷ middle) other in
     let x = opening_again (suc m) before v o in
-    let q = has_same signs.OpenParenthesis ((before ++ a ∷ middle) ++ other) (before ++ v) h.0 x.0 p h.2 x.1 in
+    let q = has_same punctuators.OpenParenthesis ((before ++ a ∷ middle) ++ other) (before ++ v) h.0 x.0 p h.2 x.1 in
     let y = opening_split (m - closed) closed m x.0 v (omega arith) x.2 in
     let z = nested closed text e.tree y.0 v (middle ++ other) other y.2 (e.spells (middle ++ other)) (closing_again closed middle other c) in
-    let w = least (m - closed) n text x.0 y.0 y.1 (bound y.0 z) (λ k. opening_untyped closed y.0 v y.2 (λ i. let j = e.class in absurd (omega arith))) f h.1 end (subst (λ (u : List Token). Spells text f u h.1) q h.3.spells) h.4 in
+    let w = least (m - closed) n text x.0 y.0 y.1 (bound y.0 z) (λ k. opening_untyped closed y.0 v y.2 (λ i. let j = e.class in absurd (omega arith))) f h.1 end (subst (λ (u : List Token). SpellsExpression text f u h.1) q h.3.spells) h.4 in
     let r = low (omega arith) in
     absurd (omega arith)
 
@@ -280,21 +280,21 @@ follows_first : (ts other : List Token) → SameFirst ts other → follows ts �
 follows_first ts other same = first_keeps (λ z. follows ts ≡ follows z) (λ t xs ys n. n) ts other same refl
 
 -- the operand stops
-pub stops_behind : (opened closed : ℕ) (a : Token) (ts : List Token) → closed < opened → Lacks signs.CloseParenthesis ts → 16 < follows ts → NoneBehind opened closed a ts
+pub stops_behind : (opened closed : ℕ) (a : Token) (ts : List Token) → closed < opened → Lacks punctuators.CloseParenthesis ts → 16 < follows ts → NoneBehind opened closed a ts
 stops_behind zero closed a ts l lacks f text before middle other o y c same = absurd (omega arith)
 stops_behind (suc m) closed a ts l lacks f text before middle other o y c same =
     let e = atom text a y in
     let p = follows_first ts other same in
     none_behind m closed 65 a text before middle other (omega arith) o e c
     (λ us n g end r s k.
-    let u = one_expression text 16 n.tree g us other end (record { fits = rank_low n.tree; spells = n.spells }) (record { fits = rank_low g; spells = s }) (omega arith) (has_stops signs.CloseParenthesis end r 16 k (omega arith)) in
-    absurd (lacks_first signs.CloseParenthesis ts other same lacks r (subst (λ (z : List Token). HasSign signs.CloseParenthesis z r) (sym u.1) k)))
+    let u = one_expression text 16 n.tree g us other end (record { fits = rank_low n.tree; spells = n.spells }) (record { fits = rank_low g; spells = s }) (omega arith) (has_stops punctuators.CloseParenthesis end r 16 k (omega arith)) in
+    absurd (lacks_first punctuators.CloseParenthesis ts other same lacks r (subst (λ (z : List Token). HasPunctuator punctuators.CloseParenthesis z r) (sym u.1) k)))
     (omega arith)
 
 -- it goes through the operand
-through : (text : List ℕ) (closed : ℕ) (a : Token) (us other : List Token) (e : Atom text a) (n : Nested text closed e.tree us other) → (closed ≡ 0 → a.kind ≡ kinds.Name → 0 < follows other) → follows other ≤ 16 → (g : Expression) (end r : List Token) → Spells text g us end → HasSign signs.CloseParenthesis end r → (1 + height n.tree ≤ height g) × (1 ≤ follows other)
+through : (text : List ℕ) (closed : ℕ) (a : Token) (us other : List Token) (e : Atom text a) (n : Nested text closed e.tree us other) → (closed ≡ 0 → a.kind ≡ kinds.Identifier → 0 < follows other) → follows other ≤ 16 → (g : Expression) (end r : List Token) → SpellsExpression text g us end → HasPunctuator punctuators.CloseParenthesis end r → (1 + height n.tree ≤ height g) × (1 ≤ follows other)
 through text closed a us other e n f l g end r s k =
-    let w = passes text 16 n.tree us other g end n.spells (rank_low n.tree) (nested_closes text closed a us other other e n f) l (record { fits = rank_low g; spells = s }) (has_stops signs.CloseParenthesis end r 16 k (omega arith)) in
+    let w = passes text 16 n.tree us other g end n.spells (rank_low n.tree) (nested_closes text closed a us other other e n f) l (record { fits = rank_low g; spells = s }) (has_stops punctuators.CloseParenthesis end r 16 k (omega arith)) in
     let p = step_follows text n.tree w.step other w.mid w.tail in
     let q = run_height text (apply n.tree w.step) w.steps w.mid g end w.run in
     let i = taller n.tree w.step in
@@ -317,7 +317,7 @@ through text closed a us other e n f l g end r s k =
     looser e (Set at op f) = omega arith
     looser e (And at f) = omega arith
 
-pub no_call : (opened closed : ℕ) (a : Token) (ts : List Token) → closed < opened → follows ts ≡ 0 → (closed ≡ 0 → a.kind ≡ kinds.Name → ⊥) → NoneBehind opened closed a ts
+pub no_call : (opened closed : ℕ) (a : Token) (ts : List Token) → closed < opened → follows ts ≡ 0 → (closed ≡ 0 → a.kind ≡ kinds.Identifier → ⊥) → NoneBehind opened closed a ts
 no_call zero closed a ts l f bare text before middle other o y c same = absurd (omega arith)
 no_call (suc m) closed a ts l f bare text before middle other o y c same =
     let e = atom text a y in

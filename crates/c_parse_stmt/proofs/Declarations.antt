@@ -1,8 +1,8 @@
 -- Locals of a declaration are read as far as they go.
 use Rattle.std.proofs.Common.{◌≡◌, ◌≤◌, ◌+◌, ℕ, List, [], ◌∷◌, ◌++◌, length, map, refl, sym, ap, ◌∙◌, subst, append_assoc, arith}
 use Rattle.std.proofs.lemmas.List.{append-nil}
-use Rattle.c_lex.specs.declared.sign.Sign.{Sign}
-use Rattle.c_lex.specs.declared.sign.Sign.TheVariants as signs
+use Rattle.c_lex.specs.declared.punctuator.Punctuator.{Punctuator}
+use Rattle.c_lex.specs.declared.punctuator.Punctuator.TheVariants as punctuators
 use Rattle.c_lex.specs.declared.token.Kind.TheVariants as kinds
 use Rattle.c_lex.specs.declared.token.Token.{Token}
 use Rattle.c_syntax.specs.declared.statement.Local.{Local as Local'}
@@ -11,20 +11,20 @@ use Rattle.c_syntax.specs.Follow.{Stops}
 use Rattle.c_syntax.specs.Limits.{height_of, one_over, height_of_locals, one_over_locals}
 use Rattle.c_syntax.specs.Statement.{Local, local}
 use Rattle.c_syntax.specs.Statements.{IsLocal, AreMoreLocals, AreLocals}
-use Rattle.c_syntax.specs.Tokens.{token, HasSign}
+use Rattle.c_syntax.specs.Tokens.{token, HasPunctuator}
 use Rattle.c_syntax.proofs.Blocks.{local as one_local, locals_stop}
 use Rattle.c_syntax.proofs.Failing.{alike_inner, alike_same}
-use Rattle.c_syntax.proofs.Fronts.{sign_same, has_same}
-use Rattle.c_syntax.proofs.Moves.{both, has_sign}
-use Rattle.c_parse_stmt.specs.Parts.{NoSign, ASign, NoLocal, HasLocal, LocalsWithin, NoMoreLocals, NoLocals, HasLocals}
-use Rattle.c_parse_stmt.proofs.Begins.{sign, name}
+use Rattle.c_syntax.proofs.Fronts.{punctuator_same, has_same}
+use Rattle.c_syntax.proofs.Moves.{both, has_punctuator}
+use Rattle.c_parse_stmt.specs.Parts.{NoPunctuator, APunctuator, NoLocal, HasLocal, LocalsWithin, NoMoreLocals, NoLocals, HasLocals}
+use Rattle.c_parse_stmt.proofs.Begins.{punctuator, name}
 use Rattle.c_parse_stmt.proofs.Declarators.{plain, local_moves, has_first}
 use Rattle.c_parse_stmt.proofs.Ends.{flat, stops_first, same_behind}
 use Rattle.c_parse_stmt.proofs.Placing.{Lacks, lacks_first}
 
 -- ---- lists of locals
 
--- What was read of the locals, and what is left: they go on with what stands at the rest, and there are none if none stand there.
+-- What was read of the locals, and what is left: they continue with what is at the rest, and there are none if none stand there.
 pub record Begun (text : List ℕ) (room whole : ℕ) (ts : List Token) (found : List Local') (rest : List Token) (left : ℕ) : Type 0 where
   pub before : List Token
   pub split : ts ≡ before ++ rest
@@ -34,7 +34,7 @@ pub record Begun (text : List ℕ) (room whole : ℕ) (ts : List Token) (found :
   pub count : left + length (map local found) ≡ whole
   pub back : (n : ℕ) (text' : List ℕ) (other : List Token) → Alike text text' ts → SameFirst rest other → NoMoreLocals room left n text' other → NoLocals room whole n text' (before ++ other)
 
--- those behind the first
+-- those after the first
 less : (n room whole left : ℕ) (l : Local) (ls : List Local) → left + 1 ≡ whole → LocalsWithin n room whole (l ∷ ls) → LocalsWithin n room left ls
 less n room whole left l ls c w = record {
   expressions = λ k. let e = w.expressions k in omega arith;
@@ -80,19 +80,19 @@ length_more (y ∷ xs) x = let r = length_more xs x in omega arith
 map_more : (xs : List Local') (x : Local') → map local (xs ++ x ∷ []) ≡ map local xs ++ local x ∷ []
 map_more xs x = sym (append-nil (map local (xs ++ x ∷ []))) ∙ map_snoc xs x []
 
-other_sign : (s z : Sign) (ts rest end : List Token) → HasSign s ts rest → HasSign z ts end → s ≡ z
-other_sign s z ts rest end h g = (sign_same s z h.0 g.0 ts ts rest end refl h.1 g.1).0
+other_punctuator : (s z : Punctuator) (ts rest end : List Token) → HasPunctuator s ts rest → HasPunctuator z ts end → s ≡ z
+other_punctuator s z ts rest end h g = (punctuator_same s z h.0 g.0 ts ts rest end refl h.1 g.1).0
 
-next_back : (text : List ℕ) (room left more n : ℕ) (rest b after : List Token) (x : Local) → HasSign signs.Comma rest b → IsLocal text x b after → Stops 15 after → more + 1 ≡ left → NoMoreLocals room more n text after → NoMoreLocals room left n text rest
-next_back text room left more n rest b after x c is st e none [] end h w = let e : signs.Comma ≡ signs.Semicolon = other_sign signs.Comma signs.Semicolon rest b end c h in cc
+next_back : (text : List ℕ) (room left more n : ℕ) (rest b after : List Token) (x : Local) → HasPunctuator punctuators.Comma rest b → IsLocal text x b after → Stops 15 after → more + 1 ≡ left → NoMoreLocals room more n text after → NoMoreLocals room left n text rest
+next_back text room left more n rest b after x c is st e none [] end h w = let e : punctuators.Comma ≡ punctuators.Semicolon = other_punctuator punctuators.Comma punctuators.Semicolon rest b end c h in cc
 next_back text room left more n rest b after x c is st e none (l ∷ ls) end h w =
-    let p = has_same signs.Comma rest rest b h.0 refl c h.2 in
+    let p = has_same punctuators.Comma rest rest b h.0 refl c h.2 in
     let u = one_local text x l b h.0 after h.1 p st (locals_stop text ls h.1 end h.4) is h.3 in
     none ls end (subst (λ (z : List Token). AreMoreLocals text ls z end) (sym u.1) h.4) (less n room left more l ls e w)
 
-pub goes_on : (text : List ℕ) (room whole left more : ℕ) (ts rest b after : List Token) (found : List Local') (x : Local') → Begun text room whole ts found rest left → HasSign signs.Comma rest b → IsLocal text (local x) b after → Stops 15 after → height_of (local x).initialiser ≤ 64 → one_over (local x).initialiser ≤ room → more + 1 ≡ left → Begun text room whole ts (found ++ x ∷ []) after more
-goes_on text room whole left more ts rest b after found x d c is st low over e =
-    let m = both (has_sign signs.Comma text rest b c) (local_moves (local x) text b after is) in
+pub continues : (text : List ℕ) (room whole left more : ℕ) (ts rest b after : List Token) (found : List Local') (x : Local') → Begun text room whole ts found rest left → HasPunctuator punctuators.Comma rest b → IsLocal text (local x) b after → Stops 15 after → height_of (local x).initialiser ≤ 64 → one_over (local x).initialiser ≤ room → more + 1 ≡ left → Begun text room whole ts (found ++ x ∷ []) after more
+continues text room whole left more ts rest b after found x d c is st low over e =
+    let m = both (has_punctuator punctuators.Comma text rest b c) (local_moves (local x) text b after is) in
     record {
       before = d.before ++ m.front;
       split = d.split ∙ ap (λ z. d.before ++ z) m.split ∙ sym (append_assoc d.before m.front after);
@@ -109,7 +109,7 @@ goes_on text room whole left more ts rest b after found x d c is st low over e =
           (d.back n text' (m.front ++ other) a (same_behind m.front after rest other m.split same) (next_back text' room left more n (m.front ++ other) g.0 other (local x) g.1 g.2 (stops_first 15 after other same st) e none));
     }
 
-pub ends : (text : List ℕ) (room whole left : ℕ) (ts rest end : List Token) (found : List Local') → Begun text room whole ts found rest left → HasSign signs.Semicolon rest end → AreLocals text (map local found) ts end
+pub ends : (text : List ℕ) (room whole left : ℕ) (ts rest end : List Token) (found : List Local') → Begun text room whole ts found rest left → HasPunctuator punctuators.Semicolon rest end → AreLocals text (map local found) ts end
 ends text room whole left ts rest end found d h =
     subst (λ (z : List Token). AreLocals text (map local found) z end) (sym d.split)
     (subst (λ (z : List Local). AreLocals text z (d.before ++ rest) end) (append-nil (map local found)) (d.forward text rest (alike_same text ts) [] end h))
@@ -117,32 +117,32 @@ ends text room whole left ts rest end found d h =
 -- ---- where they fail
 
 -- the locals found so far and further ones, up to the semicolon
-closed : (text : List ℕ) (room whole left : ℕ) (ts rest : List Token) (found : List Local') (d : Begun text room whole ts found rest left) (text' : List ℕ) (other end : List Token) → Alike text text' ts → HasSign signs.Semicolon other end → AreLocals text' (map local found) (d.before ++ other) end
+closed : (text : List ℕ) (room whole left : ℕ) (ts rest : List Token) (found : List Local') (d : Begun text room whole ts found rest left) (text' : List ℕ) (other end : List Token) → Alike text text' ts → HasPunctuator punctuators.Semicolon other end → AreLocals text' (map local found) (d.before ++ other) end
 closed text room whole left ts rest found d text' other end a h = subst (λ (z : List Local). AreLocals text' z (d.before ++ other) end) (append-nil (map local found)) (d.forward text' other a [] end h)
 
-pub full : (text : List ℕ) (room whole : ℕ) (ts rest b : List Token) (found : List Local') → Begun text room whole ts found rest 0 → HasSign signs.Comma rest b → Failed 2 (place text rest) (NoLocals room whole) (HasLocals room whole) text ts
+pub full : (text : List ℕ) (room whole : ℕ) (ts rest b : List Token) (found : List Local') → Begun text room whole ts found rest 0 → HasPunctuator punctuators.Comma rest b → Failed 2 (place text rest) (NoLocals room whole) (HasLocals room whole) text ts
 full text room whole ts rest b found d c = record {
   front = d.before;
   fault = rest;
   split = d.split;
-  stands = refl;
+  located = refl;
   against = λ text' other a same. d.back 2 text' other a same (against text' other same);
   able = λ text' a k. record {
-    more = sign signs.Semicolon ∷ [];
+    more = punctuator punctuators.Semicolon ∷ [];
     has = record {
       trees = map local found;
-      are = λ other. subst (λ (z : List Token). AreLocals text' (map local found) z other) (sym (append_assoc d.before (sign signs.Semicolon ∷ []) other)) (closed text room whole 0 ts rest found d text' (sign signs.Semicolon ∷ other) other a (0, (0, refl)));
+      are = λ other. subst (λ (z : List Token). AreLocals text' (map local found) z other) (sym (append_assoc d.before (punctuator punctuators.Semicolon ∷ []) other)) (closed text room whole 0 ts rest found d text' (punctuator punctuators.Semicolon ∷ other) other a (0, (0, refl)));
       within = record { expressions = λ k. d.expressions; statements = λ k. d.statements; count = λ k. let e = d.count in omega arith };
     };
   };
   further = λ text' k a speaks e. let z : 1 ≡ k = omega arith in subst (λ n. Onward (HasLocals room whole) n text' d.before rest) z (record {
-    token = token (kinds.Sign signs.Comma) c.0 c.1.0;
+    token = token (kinds.Punctuator punctuators.Comma) c.0 c.1.0;
     rest = b;
-    more = name ∷ sign signs.Semicolon ∷ [];
+    more = name ∷ punctuator punctuators.Semicolon ∷ [];
     is = c.1.1;
     has = record {
       trees = map local found ++ plain ∷ [];
-      are = λ other. subst (λ (z : List Token). AreLocals text' (map local found ++ plain ∷ []) z other) (sym (append_assoc d.before (token (kinds.Sign signs.Comma) c.0 c.1.0 ∷ name ∷ sign signs.Semicolon ∷ []) other)) (d.forward text' (token (kinds.Sign signs.Comma) c.0 c.1.0 ∷ name ∷ sign signs.Semicolon ∷ other) a (plain ∷ []) other (_, sign signs.Semicolon ∷ other, (c.0, (c.1.0, refl)), (_, _, refl, refl, refl), (0, (0, refl))));
+      are = λ other. subst (λ (z : List Token). AreLocals text' (map local found ++ plain ∷ []) z other) (sym (append_assoc d.before (token (kinds.Punctuator punctuators.Comma) c.0 c.1.0 ∷ name ∷ punctuator punctuators.Semicolon ∷ []) other)) (d.forward text' (token (kinds.Punctuator punctuators.Comma) c.0 c.1.0 ∷ name ∷ punctuator punctuators.Semicolon ∷ other) a (plain ∷ []) other (_, punctuator punctuators.Semicolon ∷ other, (c.0, (c.1.0, refl)), (_, _, refl, refl, refl), (0, (0, refl))));
       within = record {
         expressions = λ k. height_more 64 (map local found) plain d.expressions (omega arith);
         statements = λ k. over_more room (map local found) plain d.statements (omega arith);
@@ -153,18 +153,18 @@ full text room whole ts rest b found d c = record {
 }
   where
     against : (text' : List ℕ) (other : List Token) → SameFirst rest other → NoMoreLocals room 0 2 text' other
-    against text' other same [] end h w = let x = has_first signs.Comma rest b other c same in let e : signs.Comma ≡ signs.Semicolon = other_sign signs.Comma signs.Semicolon other x.0 end x.1 h in cc
+    against text' other same [] end h w = let x = has_first punctuators.Comma rest b other c same in let e : punctuators.Comma ≡ punctuators.Semicolon = other_punctuator punctuators.Comma punctuators.Semicolon other x.0 end x.1 h in cc
     against text' other same (l ∷ ls) end h w = let n = w.count (omega arith) in absurd (omega arith)
 
-next_none : (text : List ℕ) (room left n : ℕ) (rest b : List Token) → HasSign signs.Comma rest b → NoLocal room n text b → NoMoreLocals room left n text rest
-next_none text room left n rest b c none [] end h w = let e : signs.Comma ≡ signs.Semicolon = other_sign signs.Comma signs.Semicolon rest b end c h in cc
+next_none : (text : List ℕ) (room left n : ℕ) (rest b : List Token) → HasPunctuator punctuators.Comma rest b → NoLocal room n text b → NoMoreLocals room left n text rest
+next_none text room left n rest b c none [] end h w = let e : punctuators.Comma ≡ punctuators.Semicolon = other_punctuator punctuators.Comma punctuators.Semicolon rest b end c h in cc
 next_none text room left n rest b c none (l ∷ ls) end h w =
-    let p = has_same signs.Comma rest rest h.0 b refl h.2 c in
+    let p = has_same punctuators.Comma rest rest h.0 b refl h.2 c in
     none l h.1 (subst (λ (z : List Token). IsLocal text l z h.1) p h.3) (locals_stop text ls h.1 end h.4) (λ k. let e = w.expressions k in omega arith) (λ k. let e = w.statements k in omega arith)
 
-pub no_next : (text : List ℕ) (room whole left : ℕ) (ts rest b : List Token) (found : List Local') → Begun text room whole ts found rest left → HasSign signs.Comma rest b → 1 ≤ left → Wraps (NoLocal room) (HasLocal room) (NoLocals room whole) (HasLocals room whole) text b ts
+pub no_next : (text : List ℕ) (room whole left : ℕ) (ts rest b : List Token) (found : List Local') → Begun text room whole ts found rest left → HasPunctuator punctuators.Comma rest b → 1 ≤ left → Wraps (NoLocal room) (HasLocal room) (NoLocals room whole) (HasLocals room whole) text b ts
 no_next text room whole left ts rest b found d c some =
-    let m = has_sign signs.Comma text rest b c in
+    let m = has_punctuator punctuators.Comma text rest b c in
     record {
       before = d.before ++ m.front;
       split = d.split ∙ ap (λ z. d.before ++ z) m.split ∙ sym (append_assoc d.before m.front b);
@@ -172,14 +172,14 @@ no_next text room whole left ts rest b found d c some =
           subst (λ (z : List Token). NoLocals room whole n text' z) (sym (append_assoc d.before m.front other))
           (d.back n text' (m.front ++ other) a (same_behind m.front b rest other m.split same) (next_none text' room left n (m.front ++ other) other (m.again text' other (alike_inner text text' d.before rest ts d.split a)) none));
       has = λ n text' inner a speaks h. record {
-        more = sign signs.Semicolon ∷ [];
+        more = punctuator punctuators.Semicolon ∷ [];
         has = record {
           trees = map local found ++ h.tree ∷ [];
           are = λ other.
-              let g = m.again text' (inner ++ sign signs.Semicolon ∷ other) (alike_inner text text' d.before rest ts d.split a) in
-              let p = flat (d.before ++ m.front) inner (sign signs.Semicolon ∷ []) other ∙ append_assoc d.before m.front (inner ++ sign signs.Semicolon ∷ other) in
+              let g = m.again text' (inner ++ punctuator punctuators.Semicolon ∷ other) (alike_inner text text' d.before rest ts d.split a) in
+              let p = flat (d.before ++ m.front) inner (punctuator punctuators.Semicolon ∷ []) other ∙ append_assoc d.before m.front (inner ++ punctuator punctuators.Semicolon ∷ other) in
               subst (λ (z : List Token). AreLocals text' (map local found ++ h.tree ∷ []) z other) (sym p)
-              (d.forward text' (m.front ++ (inner ++ sign signs.Semicolon ∷ other)) a (h.tree ∷ []) other (inner ++ sign signs.Semicolon ∷ other, sign signs.Semicolon ∷ other, g, h.is (sign signs.Semicolon ∷ other), (0, (0, refl))));
+              (d.forward text' (m.front ++ (inner ++ punctuator punctuators.Semicolon ∷ other)) a (h.tree ∷ []) other (inner ++ punctuator punctuators.Semicolon ∷ other, punctuator punctuators.Semicolon ∷ other, g, h.is (punctuator punctuators.Semicolon ∷ other), (0, (0, refl))));
           within = record {
             expressions = λ k. height_more 64 (map local found) h.tree d.expressions (h.low k);
             statements = λ k. over_more room (map local found) h.tree d.statements (h.over k);
@@ -189,15 +189,15 @@ no_next text room whole left ts rest b found d c some =
       };
     }
 
-unended_at : (text : List ℕ) (room left n : ℕ) (rest : List Token) → Lacks signs.Comma rest → Lacks signs.Semicolon rest → NoMoreLocals room left n text rest
+unended_at : (text : List ℕ) (room left n : ℕ) (rest : List Token) → Lacks punctuators.Comma rest → Lacks punctuators.Semicolon rest → NoMoreLocals room left n text rest
 unended_at text room left n rest c s [] end h w = s end h
 unended_at text room left n rest c s (l ∷ ls) end h w = c h.0 h.2
 
-pub unended : (text : List ℕ) (room whole left : ℕ) (ts rest : List Token) (found : List Local') → Begun text room whole ts found rest left → Lacks signs.Comma rest → Wraps (NoSign signs.Semicolon) (ASign signs.Semicolon) (NoLocals room whole) (HasLocals room whole) text rest ts
+pub unended : (text : List ℕ) (room whole left : ℕ) (ts rest : List Token) (found : List Local') → Begun text room whole ts found rest left → Lacks punctuators.Comma rest → Wraps (NoPunctuator punctuators.Semicolon) (APunctuator punctuators.Semicolon) (NoLocals room whole) (HasLocals room whole) text rest ts
 unended text room whole left ts rest found d lacks = record {
   before = d.before;
   split = d.split;
-  no = λ n text' other a same none. d.back n text' other a same (unended_at text' room left n other (lacks_first signs.Comma rest other same lacks) none);
+  no = λ n text' other a same none. d.back n text' other a same (unended_at text' room left n other (lacks_first punctuators.Comma rest other same lacks) none);
   has = λ n text' inner a speaks h. record {
     more = [];
     has = record {
@@ -214,10 +214,10 @@ no_first text room left ts some = record {
   split = refl;
   no = against;
   has = λ n text' inner a speaks h. record {
-    more = sign signs.Semicolon ∷ [];
+    more = punctuator punctuators.Semicolon ∷ [];
     has = record {
       trees = h.tree ∷ [];
-      are = λ other. (sign signs.Semicolon ∷ other, subst (λ (z : List Token). IsLocal text' h.tree z (sign signs.Semicolon ∷ other)) (sym (append_assoc inner (sign signs.Semicolon ∷ []) other)) (h.is (sign signs.Semicolon ∷ other)), (0, (0, refl)));
+      are = λ other. (punctuator punctuators.Semicolon ∷ other, subst (λ (z : List Token). IsLocal text' h.tree z (punctuator punctuators.Semicolon ∷ other)) (sym (append_assoc inner (punctuator punctuators.Semicolon ∷ []) other)) (h.is (punctuator punctuators.Semicolon ∷ other)), (0, (0, refl)));
       within = record {
         expressions = λ k. let e = h.low k in omega arith;
         statements = λ k. let e = h.over k in omega arith;

@@ -1,27 +1,27 @@
 -- A local of a declaration is read as far as it goes.
 use Rattle.std.proofs.Common.{◌≡◌, ◌≤◌, ℕ, List, [], ◌∷◌, ◌++◌, Option, Some, None, refl, sym, ap, subst, append_assoc, arith}
-use Rattle.c_lex.specs.declared.sign.Sign.{Sign}
-use Rattle.c_lex.specs.declared.sign.Sign.TheVariants as signs
+use Rattle.c_lex.specs.declared.punctuator.Punctuator.{Punctuator}
+use Rattle.c_lex.specs.declared.punctuator.Punctuator.TheVariants as punctuators
 use Rattle.c_lex.specs.declared.token.Kind.TheVariants as kinds
 use Rattle.c_lex.specs.declared.token.Token.{Token}
-use Rattle.c_syntax.specs.declared.expression.Name.{Name}
+use Rattle.c_syntax.specs.declared.expression.Identifier.{Identifier}
 use Rattle.c_syntax.specs.Expression.{Expression}
 use Rattle.c_syntax.specs.Expressions.{Derives}
 use Rattle.c_syntax.specs.Faults.{Alike, SameFirst, place, Able, Onward, Failed, Wraps}
 use Rattle.c_syntax.specs.Follow.{follows, Stops}
 use Rattle.c_syntax.specs.Statement.{Local}
 use Rattle.c_syntax.specs.Statements.{IsInitialiser, IsLocal}
-use Rattle.c_syntax.specs.Tokens.{token, IsName, HasSign}
+use Rattle.c_syntax.specs.Tokens.{token, IsIdentifier, HasPunctuator}
 use Rattle.c_syntax.specs.Types.{AreStars}
 use Rattle.c_syntax.proofs.Blocks.{name_star}
 use Rattle.c_syntax.proofs.Failing.{first_keeps}
 use Rattle.c_syntax.proofs.Fronts.{has_same, name_same, stars_once}
-use Rattle.c_syntax.proofs.Moves.{Moves, map, both, nothing, has_sign, derives, stars, name}
-use Rattle.c_syntax.proofs.Spine.{follows_sign}
+use Rattle.c_syntax.proofs.Moves.{Moves, map, both, nothing, has_punctuator, derives, stars, name}
+use Rattle.c_syntax.proofs.Spine.{follows_punctuator}
 use Rattle.c_parse_type.specs.Bases.{NoStar}
 use Rattle.c_parse_expr.specs.Readings.{NoExpression, HasExpression}
 use Rattle.c_parse_stmt.specs.Parts.{NoInitialiser, HasInitialiser, NoLocal, HasLocal}
-use Rattle.c_parse_stmt.proofs.Begins.{sign, a_name, variable}
+use Rattle.c_parse_stmt.proofs.Begins.{punctuator, a_name, variable}
 use Rattle.c_parse_stmt.proofs.Begins as begins
 use Rattle.c_parse_stmt.proofs.Ends.{flat}
 use Rattle.c_parse_stmt.proofs.Placing.{Lacks, lacks_first, has_elsewhere, missing}
@@ -30,33 +30,33 @@ use Rattle.c_parse_stmt.proofs.Placing.{Lacks, lacks_first, has_elsewhere, missi
 
 initialiser_moves : (e : Option Expression) (text : List ℕ) (ts rest : List Token) → IsInitialiser text e ts rest → Moves (λ t. IsInitialiser t e) text ts rest
 initialiser_moves None text ts rest h = nothing text ts rest h
-initialiser_moves (Some e) text ts rest h = map (both (has_sign signs.Assign text ts h.0 h.1) (derives 15 e text h.0 rest h.2)) (λ t us vs g. (g.0, g.1, g.2))
+initialiser_moves (Some e) text ts rest h = map (both (has_punctuator punctuators.Assign text ts h.0 h.1) (derives 15 e text h.0 rest h.2)) (λ t us vs g. (g.0, g.1, g.2))
 
 pub local_moves : (l : Local) (text : List ℕ) (ts rest : List Token) → IsLocal text l ts rest → Moves (λ t. IsLocal t l) text ts rest
 local_moves l text ts rest h = map (both (stars l.pointers text ts h.0 h.2) (both (name l.name text h.0 h.1 h.3) (initialiser_moves l.initialiser text h.1 rest h.4))) (λ t us vs g. (g.0, g.2.0, g.1, g.2.1, g.2.2))
 
-assigned : (ts value rest : List Token) → HasSign signs.Assign ts value → ts ≡ rest → Stops 15 rest → ⊥
+assigned : (ts value rest : List Token) → HasPunctuator punctuators.Assign ts value → ts ≡ rest → Stops 15 rest → ⊥
 assigned ts value rest h e s =
-    let f = follows_sign signs.Assign h.0 ts value 15 h.1 refl in
+    let f = follows_punctuator punctuators.Assign h.0 ts value 15 h.1 refl in
     let g = ap follows e in absurd (omega arith)
 
-pub has_first : (s : Sign) (ts rest other : List Token) → HasSign s ts rest → SameFirst ts other → (end : List Token) × HasSign s other end
+pub has_first : (s : Punctuator) (ts rest other : List Token) → HasPunctuator s ts rest → SameFirst ts other → (end : List Token) × HasPunctuator s other end
 has_first s [] rest other h same = absurd cc
-has_first s (t ∷ ts) rest other h same = (same.0, subst (λ (z : List Token). HasSign s z same.0) (sym same.1) (has_elsewhere s t ts same.0 rest h))
+has_first s (t ∷ ts) rest other h same = (same.0, subst (λ (z : List Token). HasPunctuator s z same.0) (sym same.1) (has_elsewhere s t ts same.0 rest h))
 
 unassigned : (room n : ℕ) (text : List ℕ) → Able (HasInitialiser room) n text []
 unassigned room n text = record { more = []; has = record { tree = None; is = λ other. refl; low = λ k. omega arith; over = λ k. omega arith } }
 
-pub no_room : (text : List ℕ) (ts value : List Token) → HasSign signs.Assign ts value → Failed 1 (place text ts) (NoInitialiser 0) (HasInitialiser 0) text ts
+pub no_room : (text : List ℕ) (ts value : List Token) → HasPunctuator punctuators.Assign ts value → Failed 1 (place text ts) (NoInitialiser 0) (HasInitialiser 0) text ts
 no_room text ts value h = record {
   front = [];
   fault = ts;
   split = refl;
-  stands = refl;
+  located = refl;
   against = against;
   able = λ text' a k. unassigned 0 6 text';
   further = λ text' k a speaks e. let z : 0 ≡ k = omega arith in subst (λ n. Onward (HasInitialiser 0) n text' [] ts) z (record {
-    token = token (kinds.Sign signs.Assign) h.0 h.1.0;
+    token = token (kinds.Punctuator punctuators.Assign) h.0 h.1.0;
     rest = value;
     more = begins.name ∷ [];
     is = h.1.1;
@@ -65,10 +65,10 @@ no_room text ts value h = record {
 }
   where
     against : (text' : List ℕ) (other : List Token) → Alike text text' ts → SameFirst ts other → NoInitialiser 0 1 text' other
-    against text' other a same None end g st low over = let x = has_first signs.Assign ts value other h same in assigned other x.0 end x.1 g st
+    against text' other a same None end g st low over = let x = has_first punctuators.Assign ts value other h same in assigned other x.0 end x.1 g st
     against text' other a same (Some e) end g st low over = let x = over (omega arith) in absurd (omega arith)
 
-pub in_initialiser : (text : List ℕ) (room : ℕ) (ts value : List Token) → HasSign signs.Assign ts value → 1 ≤ room → Wraps (NoExpression 15 64) (HasExpression 15 64) (NoInitialiser room) (HasInitialiser room) text value ts
+pub in_initialiser : (text : List ℕ) (room : ℕ) (ts value : List Token) → HasPunctuator punctuators.Assign ts value → 1 ≤ room → Wraps (NoExpression 15 64) (HasExpression 15 64) (NoInitialiser room) (HasInitialiser room) text value ts
 in_initialiser text room ts value h some = record {
   before = m.front;
   split = m.split;
@@ -84,23 +84,23 @@ in_initialiser text room ts value h some = record {
   };
 }
   where
-    m : Moves (λ t. HasSign signs.Assign) text ts value
-    m = has_sign signs.Assign text ts value h
+    m : Moves (λ t. HasPunctuator punctuators.Assign) text ts value
+    m = has_punctuator punctuators.Assign text ts value h
 
     against : (n : ℕ) (text' : List ℕ) (other : List Token) → Alike text text' ts → SameFirst value other → NoExpression 15 64 n text' other → NoInitialiser room n text' (m.front ++ other)
     against n text' other a same none None end g st low over = assigned (m.front ++ other) other end (m.again text' other a) g st
     against n text' other a same none (Some e) end g st low over =
-        let p = has_same signs.Assign (m.front ++ other) (m.front ++ other) g.0 other refl g.1 (m.again text' other a) in
+        let p = has_same punctuators.Assign (m.front ++ other) (m.front ++ other) g.0 other refl g.1 (m.again text' other a) in
         none e end (subst (λ (x : List Token). Derives text' 15 e x end) p g.2) st low
 
-pub operator_behind : (text : List ℕ) (room : ℕ) (ts : List Token) → follows ts ≤ 15 → Lacks signs.Assign ts → Failed 0 (place text ts) (NoInitialiser room) (HasInitialiser room) text ts
+pub operator_behind : (text : List ℕ) (room : ℕ) (ts : List Token) → follows ts ≤ 15 → Lacks punctuators.Assign ts → Failed 0 (place text ts) (NoInitialiser room) (HasInitialiser room) text ts
 operator_behind text room ts l none = missing (NoInitialiser room) (HasInitialiser room) text ts [] ts refl against (λ text' a k. unassigned room 6 text')
   where
     against : (text' : List ℕ) (other : List Token) → Alike text text' ts → SameFirst ts other → NoInitialiser room 0 text' other
     against text' other a same None end h st low over =
         let p = first_keeps (λ z. follows ts ≡ follows z) (λ t xs ys n. n) ts other same refl in
         let q = ap follows h in absurd (omega arith)
-    against text' other a same (Some e) end h st low over = lacks_first signs.Assign ts other same none h.0 h.1
+    against text' other a same (Some e) end h st low over = lacks_first punctuators.Assign ts other same none h.0 h.1
 
 -- ---- one local
 
@@ -108,7 +108,7 @@ operator_behind text room ts l none = missing (NoInitialiser room) (HasInitialis
 abbrev pub plain : Local
 plain = record { pointers = 0; name = a_name; initialiser = None }
 
-pub in_local : (text : List ℕ) (room n : ℕ) (named : Name) (ts d b : List Token) → AreStars n ts d → IsName named d b → Wraps (NoInitialiser room) (HasInitialiser room) (NoLocal room) (HasLocal room) text b ts
+pub in_local : (text : List ℕ) (room n : ℕ) (named : Identifier) (ts d b : List Token) → AreStars n ts d → IsIdentifier named d b → Wraps (NoInitialiser room) (HasInitialiser room) (NoLocal room) (HasLocal room) text b ts
 in_local text room n named ts d b s m =
     let w = both (stars n text ts d s) (name named text d b m) in
     record {
@@ -130,21 +130,21 @@ in_local text room n named ts d b s m =
       };
     }
 
-abbrev NoName : List Token → Type 0
-NoName ts = (named : Name) (rest : List Token) → IsName named ts rest → ⊥
+abbrev NoIdentifier : List Token → Type 0
+NoIdentifier ts = (named : Identifier) (rest : List Token) → IsIdentifier named ts rest → ⊥
 
-named_elsewhere : (t : Token) (xs ys : List Token) → NoName (t ∷ xs) → NoName (t ∷ ys)
+named_elsewhere : (t : Token) (xs ys : List Token) → NoIdentifier (t ∷ xs) → NoIdentifier (t ∷ ys)
 named_elsewhere t xs ys none named rest h =
-    let p : t ≡ token kinds.Name named.start named.end = cc in
+    let p : t ≡ token kinds.Identifier named.start named.end = cc in
     none named xs (ap (λ (z : Token). z ∷ xs) p)
 
-pub no_name : (text : List ℕ) (room n : ℕ) (ts d : List Token) → AreStars n ts d → NoStar d → NoName d → Failed 0 (place text d) (NoLocal room) (HasLocal room) text ts
+pub no_name : (text : List ℕ) (room n : ℕ) (ts d : List Token) → AreStars n ts d → NoStar d → NoIdentifier d → Failed 0 (place text d) (NoLocal room) (HasLocal room) text ts
 no_name text room n ts d s z none =
     let w = stars n text ts d s in
     missing (NoLocal room) (HasLocal room) text ts w.front d w.split
     (λ text' other a same l end h st low over.
-    let p = stars_once n l.pointers (w.front ++ other) (w.front ++ other) other h.0 refl (lacks_first signs.Star d other same z) (name_star l.name h.0 h.1 h.3) (w.again text' other a) h.2 in
-    first_keeps NoName named_elsewhere d other same none l.name h.1 (subst (λ (x : List Token). IsName l.name x h.1) (sym p.1) h.3))
+    let p = stars_once n l.pointers (w.front ++ other) (w.front ++ other) other h.0 refl (lacks_first punctuators.Star d other same z) (name_star l.name h.0 h.1 h.3) (w.again text' other a) h.2 in
+    first_keeps NoIdentifier named_elsewhere d other same none l.name h.1 (subst (λ (x : List Token). IsIdentifier l.name x h.1) (sym p.1) h.3))
     (λ text' a k. record {
       more = begins.name ∷ [];
       has = record {

@@ -1,13 +1,13 @@
 -- Where tokens depart from the filters that accept whatever was raised.
 use Rattle.std.proofs.Common.{◌≡◌, ◌≤◌, ◌<◌, ◌-◌, ℕ, zero, suc, Bool, true, false, List, [], ◌∷◌, ◌++◌, refl, sym, ap, ◌∙◌, subst, append_assoc, arith}
 use Rattle.std.proofs.lemmas.List.{append-nil}
-use Rattle.c_lex.specs.declared.sign.Sign.TheVariants as signs
+use Rattle.c_lex.specs.declared.punctuator.Punctuator.TheVariants as punctuators
 use Rattle.c_lex.specs.declared.token.IntegerType.TheVariants as integers
 use Rattle.c_lex.specs.declared.token.Kind.TheVariants as kinds
 use Rattle.c_lex.specs.declared.token.Token.{Token}
 use Rattle.c_syntax.specs.declared.expression.Literal.TheVariants as literals
 use Rattle.c_syntax.specs.Expression.{Expression, Constant, Variable, Information, Call, Parentheses, Index, Postfix, Prefix, Unary, Cast, Binary, Conditional, Assign, Comma, height}
-use Rattle.c_syntax.specs.Expressions.{Spells}
+use Rattle.c_syntax.specs.Expressions.{SpellsExpression}
 use Rattle.c_syntax.specs.Faults.{Alike, SameFirst, place, Able, Onward, Failed}
 use Rattle.c_syntax.specs.Limits.{accepts}
 use Rattle.c_syntax.specs.Statements.{IsCondition}
@@ -19,7 +19,7 @@ use Rattle.c_syntax.proofs.MovesStatements.{condition}
 use Rattle.c_syntax.proofs.Once.{has_front}
 use Rattle.c_parse_stmt.specs.Filters.{numbers_of, accepts_alone, AreOpening, AreClosing, Continued, GoesInside, NoneInside, GoesBehind, NoneBehind, NoFilter, HasFilter, Departs}
 use Rattle.c_parse_stmt.specs.Parts.{HasCondition}
-use Rattle.c_parse_stmt.proofs.Begins.{sign}
+use Rattle.c_parse_stmt.proofs.Begins.{punctuator}
 use Rattle.c_parse_stmt.proofs.Continuing.{atom, accepts_alike}
 use Rattle.c_parse_stmt.proofs.Nesting.{opening_moves, opening_again, opening_once, closing, closing_moves, closing_again, closing_both, closing_next, enclosed}
 use Rattle.c_parse_stmt.proofs.Peeling.{closing_all}
@@ -37,21 +37,21 @@ record Shape (text : List ℕ) (e : Expression) (ts rest : List Token) : Type 0 
   mid : List Token
   opening : AreOpening n ts mid
   atom : Token
-  behind : List Token
-  is : mid ≡ atom ∷ behind
+  following : List Token
+  is : mid ≡ atom ∷ following
   yes : accepts_alone text atom ≡ true
-  closing : AreClosing n behind rest
+  closing : AreClosing n following rest
 
-shape : (text : List ℕ) (e : Expression) (ts rest : List Token) → accepts text e ≡ true → Spells text e ts rest → Shape text e ts rest
-shape text (Constant at (literals.Integer value type)) ts rest y s = record { n = 0; high = refl; mid = ts; opening = refl; atom = token (kinds.Integer value type) at s.0; behind = rest; is = s.1; yes = y; closing = refl }
-shape text (Constant at (literals.Character value)) ts rest y s = absurd cc
-shape text (Variable named) ts rest y s = record { n = 0; high = refl; mid = ts; opening = refl; atom = token kinds.Name named.start named.end; behind = rest; is = s; yes = y; closing = refl }
+shape : (text : List ℕ) (e : Expression) (ts rest : List Token) → accepts text e ≡ true → SpellsExpression text e ts rest → Shape text e ts rest
+shape text (Constant at (literals.Integer value type)) ts rest y s = record { n = 0; high = refl; mid = ts; opening = refl; atom = token (kinds.Integer value type) at s.0; following = rest; is = s.1; yes = y; closing = refl }
+shape text (Constant at (literals.CharacterConstant value)) ts rest y s = absurd cc
+shape text (Variable named) ts rest y s = record { n = 0; high = refl; mid = ts; opening = refl; atom = token kinds.Identifier named.start named.end; following = rest; is = s; yes = y; closing = refl }
 shape text (Information at field) ts rest y s = absurd cc
 shape text (Call named es) ts rest y s = absurd cc
 shape text (Parentheses at e) ts rest y s =
     let x = shape text e s.0 s.1 y s.3 in
     let h = x.high in
-    record { n = suc x.n; high = omega arith; mid = x.mid; opening = (s.0, (at, s.2), x.opening); atom = x.atom; behind = x.behind; is = x.is; yes = x.yes; closing = (s.1, x.closing, s.4) }
+    record { n = suc x.n; high = omega arith; mid = x.mid; opening = (s.0, (at, s.2), x.opening); atom = x.atom; following = x.following; is = x.is; yes = x.yes; closing = (s.1, x.closing, s.4) }
 shape text (Index a at i) ts rest y s = absurd cc
 shape text (Postfix e op at) ts rest y s = absurd cc
 shape text (Prefix at op e) ts rest y s = absurd cc
@@ -63,11 +63,11 @@ shape text (Assign a at op b) ts rest y s = absurd cc
 shape text (Comma a at b) ts rest y s = absurd cc
 
 -- no parenthesis opens there
-atom_lacks : (text : List ℕ) (t : Token) (mid ts : List Token) → accepts_alone text t ≡ true → mid ≡ t ∷ ts → Lacks signs.OpenParenthesis mid
+atom_lacks : (text : List ℕ) (t : Token) (mid ts : List Token) → accepts_alone text t ≡ true → mid ≡ t ∷ ts → Lacks punctuators.OpenParenthesis mid
 atom_lacks text t mid ts y e rest h =
     let x = atom text t y in
     let c = x.class in
-    let p = has_front signs.OpenParenthesis mid rest h in
+    let p = has_front punctuators.OpenParenthesis mid rest h in
     let q = ap front e in
     absurd (omega arith)
 
@@ -88,19 +88,19 @@ onward text before fault rest t k e is c = let z : 5 ≡ k = omega arith in subs
 abbrev one : Token
 one = token (kinds.Integer 1 integers.Int) 0 0
 
-unopened_at : (text : List ℕ) (ts : List Token) → Lacks signs.OpenParenthesis ts → Departs text ts ts
+unopened_at : (text : List ℕ) (ts : List Token) → Lacks punctuators.OpenParenthesis ts → Departs text ts ts
 unopened_at text ts lacks = record {
   front = [];
   split = refl;
-  able = λ text' a k. record { more = sign signs.OpenParenthesis ∷ one ∷ sign signs.CloseParenthesis ∷ []; has = has_filter text' (sign signs.OpenParenthesis ∷ one ∷ sign signs.CloseParenthesis ∷ []) (Constant 0 (literals.Integer 1 integers.Int)) (_, _, (0, (0, refl)), record { fits = omega arith; spells = (0, refl) }, (0, (0, refl))) (omega arith) refl };
-  none = λ text' other a same e end h low. lacks_first signs.OpenParenthesis ts other same lacks h.0 h.2;
+  able = λ text' a k. record { more = punctuator punctuators.OpenParenthesis ∷ one ∷ punctuator punctuators.CloseParenthesis ∷ []; has = has_filter text' (punctuator punctuators.OpenParenthesis ∷ one ∷ punctuator punctuators.CloseParenthesis ∷ []) (Constant 0 (literals.Integer 1 integers.Int)) (_, _, (0, (0, refl)), record { fits = omega arith; spells = (0, refl) }, (0, (0, refl))) (omega arith) refl };
+  none = λ text' other a same e end h low. lacks_first punctuators.OpenParenthesis ts other same lacks h.0 h.2;
 }
 
-pub unopened : (n : ℕ) (text : List ℕ) (ts rest : List Token) → n ≡ 0 → AreOpening n ts rest → (n < 65 → Lacks signs.OpenParenthesis rest) → Departs text ts rest
+pub unopened : (n : ℕ) (text : List ℕ) (ts rest : List Token) → n ≡ 0 → AreOpening n ts rest → (n < 65 → Lacks punctuators.OpenParenthesis rest) → Departs text ts rest
 unopened zero text ts rest z h lacks = subst (λ (x : List Token). Departs text x rest) (sym h) (unopened_at text rest (lacks (omega arith)))
 unopened (suc n) text ts rest z h lacks = absurd (omega arith)
 
--- ---- behind opening parentheses
+-- ---- after opening parentheses
 
 opening_alone : (n : ℕ) (text : List ℕ) (ts rest : List Token) (h : AreOpening n ts rest) → AreOpening n (opening_moves n text ts rest h).front []
 opening_alone n text ts rest h =
@@ -130,16 +130,16 @@ refuses_first text text' (u ∷ us) other a same no_one t rest e y =
     let p : t ≡ u = cc in
     no_one u us refl (accepts_alike text text' u a.0 ∙ ap (λ (z : Token). accepts_alone text' z) (sym p) ∙ y)
 
-none_accepts : (n : ℕ) (text : List ℕ) (ts rest : List Token) → n ≤ 65 → AreOpening n ts rest → (n < 65 → Lacks signs.OpenParenthesis rest) → Refuses text rest → NoFilter 0 6 text ts
+none_accepts : (n : ℕ) (text : List ℕ) (ts rest : List Token) → n ≤ 65 → AreOpening n ts rest → (n < 65 → Lacks punctuators.OpenParenthesis rest) → Refuses text rest → NoFilter 0 6 text ts
 none_accepts n text ts rest k h lacks no_one f end c low count =
     let y = accepted (accepts text f) (count (omega arith)) in
     let x = shape text f c.0 c.1 y c.3.spells in
     let l = low (omega arith) in
     let w = x.high in
-    let q = opening_once 65 (suc x.n) n ts ts x.mid rest refl (c.0, c.2, x.opening) h (atom_lacks text x.atom x.mid x.behind x.yes x.is) lacks (omega arith) k in
-    no_one x.atom x.behind (sym q.1 ∙ x.is) x.yes
+    let q = opening_once 65 (suc x.n) n ts ts x.mid rest refl (c.0, c.2, x.opening) h (atom_lacks text x.atom x.mid x.following x.yes x.is) lacks (omega arith) k in
+    no_one x.atom x.following (sym q.1 ∙ x.is) x.yes
 
-pub goes_on_inside : (n : ℕ) (text : List ℕ) (ts rest : List Token) → 1 ≤ n → n ≤ 65 → AreOpening n ts rest → (n < 65 → Lacks signs.OpenParenthesis rest) → Refuses text rest → GoesInside n rest → Failed 6 (place text rest) (NoFilter 0) (HasFilter 0) text ts
+pub goes_on_inside : (n : ℕ) (text : List ℕ) (ts rest : List Token) → 1 ≤ n → n ≤ 65 → AreOpening n ts rest → (n < 65 → Lacks punctuators.OpenParenthesis rest) → Refuses text rest → GoesInside n rest → Failed 6 (place text rest) (NoFilter 0) (HasFilter 0) text ts
 goes_on_inside n text ts rest l k h lacks no_one g =
     let m = opening_moves n text ts rest h in
     let o = opening_alone n text ts rest h in
@@ -147,8 +147,8 @@ goes_on_inside n text ts rest l k h lacks no_one g =
       front = m.front;
       fault = rest;
       split = m.split;
-      stands = refl;
-      against = λ text' other a same. none_accepts n text' (m.front ++ other) other k (m.again text' other a) (λ d. lacks_first signs.OpenParenthesis rest other same (lacks d)) (refuses_first text text' rest other (alike_behind text' m a) same no_one);
+      located = refl;
+      against = λ text' other a same. none_accepts n text' (m.front ++ other) other k (m.again text' other a) (λ d. lacks_first punctuators.OpenParenthesis rest other same (lacks d)) (refuses_first text text' rest other (alike_behind text' m a) same no_one);
       able = λ text' a s. able_inside n text' m.front l k o;
       further = λ text' j a s e. onward text' m.front rest g.1 g.0 j e g.2 (g.3 text' m.front s o);
     }
@@ -164,7 +164,7 @@ departs_inside n text ts rest l k h g =
       none = λ text' other a same. g text' m.front other o same;
     }
 
--- ---- behind a token that accepts
+-- ---- after a token that accepts
 
 able_behind : (n c : ℕ) (text : List ℕ) (t : Token) (before middle : List Token) → c < n → n ≤ 65 → AreOpening n before [] → accepts_alone text t ≡ true → AreClosing c middle [] → Able (HasFilter 0) 6 text (before ++ t ∷ middle)
 able_behind zero c text t before middle l k h y g = absurd (omega arith)
@@ -178,16 +178,16 @@ able_behind (suc n) c text t before middle l k h y g =
     let w = e.low in
     record { more = more; has = subst (λ (u : List Token). HasFilter 0 6 text u) (sym (append_assoc before (t ∷ middle) more)) (has_filter text (before ++ t ∷ v) x.tree x.is (omega arith) (x.same text ∙ e.yes)) }
 
-none_closes : (n c : ℕ) (text : List ℕ) (t : Token) (ts mid behind rest : List Token) → c < n → n ≤ 65 → AreOpening n ts mid → mid ≡ t ∷ behind → accepts_alone text t ≡ true → AreClosing c behind rest → Lacks signs.CloseParenthesis rest → NoFilter 0 6 text ts
-none_closes n c text t ts mid behind rest l k h is good g lacks f end d low count =
+none_closes : (n c : ℕ) (text : List ℕ) (t : Token) (ts mid following rest : List Token) → c < n → n ≤ 65 → AreOpening n ts mid → mid ≡ t ∷ following → accepts_alone text t ≡ true → AreClosing c following rest → Lacks punctuators.CloseParenthesis rest → NoFilter 0 6 text ts
+none_closes n c text t ts mid following rest l k h is good g lacks f end d low count =
     let y = accepted (accepts text f) (count (omega arith)) in
     let x = shape text f d.0 d.1 y d.3.spells in
     let i = low (omega arith) in
     let w = x.high in
-    let q = opening_once 65 (suc x.n) n ts ts x.mid mid refl (d.0, d.2, x.opening) h (atom_lacks text x.atom x.mid x.behind x.yes x.is) (λ j. atom_lacks text t mid behind good is) (omega arith) k in
-    let p : t ∷ behind ≡ x.atom ∷ x.behind = sym is ∙ sym q.1 ∙ x.is in
-    let r : behind ≡ x.behind = cc in
-    closing_next c (suc x.n) behind x.behind rest end r g (d.1, x.closing, d.4) (let s = q.0 in omega arith) lacks
+    let q = opening_once 65 (suc x.n) n ts ts x.mid mid refl (d.0, d.2, x.opening) h (atom_lacks text x.atom x.mid x.following x.yes x.is) (λ j. atom_lacks text t mid following good is) (omega arith) k in
+    let p : t ∷ following ≡ x.atom ∷ x.following = sym is ∙ sym q.1 ∙ x.is in
+    let r : following ≡ x.following = cc in
+    closing_next c (suc x.n) following x.following rest end r g (d.1, x.closing, d.4) (let s = q.0 in omega arith) lacks
 
 -- the parts of what was read
 record Parts (n c : ℕ) (t : Token) (text : List ℕ) (ts rest : List Token) : Type 0 where
@@ -198,40 +198,40 @@ record Parts (n c : ℕ) (t : Token) (text : List ℕ) (ts rest : List Token) : 
   closing : AreClosing c middle []
   accepts : (text' : List ℕ) → Alike text text' ts → accepts_alone text' t ≡ true
 
-parts : (n c : ℕ) (text : List ℕ) (t : Token) (ts mid behind rest : List Token) → AreOpening n ts mid → mid ≡ t ∷ behind → accepts_alone text t ≡ true → AreClosing c behind rest → Parts n c t text ts rest
-parts n c text t ts mid behind rest h is good g =
+parts : (n c : ℕ) (text : List ℕ) (t : Token) (ts mid following rest : List Token) → AreOpening n ts mid → mid ≡ t ∷ following → accepts_alone text t ≡ true → AreClosing c following rest → Parts n c t text ts rest
+parts n c text t ts mid following rest h is good g =
     let i = opening_moves n text ts mid h in
-    let u = closing_moves c text behind rest g in
+    let u = closing_moves c text following rest g in
     record {
       before = i.front;
       middle = u.front;
       split = i.split ∙ ap (λ (z : List Token). i.front ++ z) (is ∙ ap (λ (z : List Token). t ∷ z) u.split) ∙ sym (append_assoc i.front (t ∷ u.front) rest);
       opening = opening_alone n text ts mid h;
-      closing = closing_alone c text behind rest g;
+      closing = closing_alone c text following rest g;
       accepts = λ text' a. sym (accepts_alike text text' t (subst (λ (z : List Token). Alike text text' z) is (alike_behind text' i a)).0) ∙ good;
     }
 
-against_behind : (n c : ℕ) (text : List ℕ) (t : Token) (before middle other : List Token) → c < n → n ≤ 65 → AreOpening n before [] → accepts_alone text t ≡ true → AreClosing c middle [] → Lacks signs.CloseParenthesis other → NoFilter 0 6 text ((before ++ t ∷ middle) ++ other)
+against_behind : (n c : ℕ) (text : List ℕ) (t : Token) (before middle other : List Token) → c < n → n ≤ 65 → AreOpening n before [] → accepts_alone text t ≡ true → AreClosing c middle [] → Lacks punctuators.CloseParenthesis other → NoFilter 0 6 text ((before ++ t ∷ middle) ++ other)
 against_behind n c text t before middle other l k o good u lacks =
     let v = t ∷ (middle ++ other) in
     subst (λ (z : List Token). NoFilter 0 6 text z) (sym (append_assoc before (t ∷ middle) other)) (none_closes n c text t (before ++ v) v (middle ++ other) other l k (opening_again n before v o) refl good (closing_again c middle other u) lacks)
 
-pub goes_on_behind : (n c : ℕ) (text : List ℕ) (t : Token) (ts mid behind rest : List Token) → c < n → n ≤ 65 → AreOpening n ts mid → mid ≡ t ∷ behind → accepts_alone text t ≡ true → AreClosing c behind rest → Lacks signs.CloseParenthesis rest → GoesBehind n c t rest → Failed 6 (place text rest) (NoFilter 0) (HasFilter 0) text ts
-goes_on_behind n c text t ts mid behind rest l k h is good g lacks f =
-    let x = parts n c text t ts mid behind rest h is good g in
+pub goes_on_behind : (n c : ℕ) (text : List ℕ) (t : Token) (ts mid following rest : List Token) → c < n → n ≤ 65 → AreOpening n ts mid → mid ≡ t ∷ following → accepts_alone text t ≡ true → AreClosing c following rest → Lacks punctuators.CloseParenthesis rest → GoesBehind n c t rest → Failed 6 (place text rest) (NoFilter 0) (HasFilter 0) text ts
+goes_on_behind n c text t ts mid following rest l k h is good g lacks f =
+    let x = parts n c text t ts mid following rest h is good g in
     record {
       front = x.before ++ t ∷ x.middle;
       fault = rest;
       split = x.split;
-      stands = refl;
-      against = λ text' other a same. against_behind n c text' t x.before x.middle other l k x.opening (x.accepts text' a) x.closing (lacks_first signs.CloseParenthesis rest other same lacks);
+      located = refl;
+      against = λ text' other a same. against_behind n c text' t x.before x.middle other l k x.opening (x.accepts text' a) x.closing (lacks_first punctuators.CloseParenthesis rest other same lacks);
       able = λ text' a s. able_behind n c text' t x.before x.middle l k x.opening (x.accepts text' a) x.closing;
       further = λ text' j a s e. onward text' (x.before ++ t ∷ x.middle) rest f.1 f.0 j e f.2 (f.3 text' x.before x.middle x.opening (x.accepts text' a) x.closing);
     }
 
-pub departs_behind : (n c : ℕ) (text : List ℕ) (t : Token) (ts mid behind rest : List Token) → c < n → n ≤ 65 → AreOpening n ts mid → mid ≡ t ∷ behind → accepts_alone text t ≡ true → AreClosing c behind rest → NoneBehind n c t rest → Departs text ts rest
-departs_behind n c text t ts mid behind rest l k h is good g f =
-    let x = parts n c text t ts mid behind rest h is good g in
+pub departs_behind : (n c : ℕ) (text : List ℕ) (t : Token) (ts mid following rest : List Token) → c < n → n ≤ 65 → AreOpening n ts mid → mid ≡ t ∷ following → accepts_alone text t ≡ true → AreClosing c following rest → NoneBehind n c t rest → Departs text ts rest
+departs_behind n c text t ts mid following rest l k h is good g f =
+    let x = parts n c text t ts mid following rest h is good g in
     record {
       front = x.before ++ t ∷ x.middle;
       split = x.split;
@@ -239,12 +239,12 @@ departs_behind n c text t ts mid behind rest l k h is good g f =
       none = λ text' other a same. f text' x.before x.middle other x.opening (x.accepts text' a) x.closing same;
     }
 
--- as many closing ones: such a filter stands there
-pub whole : (n : ℕ) (text : List ℕ) (t : Token) (ts mid behind rest : List Token) → 1 ≤ n → n ≤ 65 → AreOpening n ts mid → mid ≡ t ∷ behind → accepts_alone text t ≡ true → AreClosing n behind rest → NoFilter 0 6 text ts → ⊥
-whole zero text t ts mid behind rest l k h is good g none = absurd (omega arith)
-whole (suc n) text t ts mid behind rest l k h is good g none =
+-- as many closing ones: such a filter is there
+pub whole : (n : ℕ) (text : List ℕ) (t : Token) (ts mid following rest : List Token) → 1 ≤ n → n ≤ 65 → AreOpening n ts mid → mid ≡ t ∷ following → accepts_alone text t ≡ true → AreClosing n following rest → NoFilter 0 6 text ts → ⊥
+whole zero text t ts mid following rest l k h is good g none = absurd (omega arith)
+whole (suc n) text t ts mid following rest l k h is good g none =
     let e = atom text t good in
-    let x = enclosed n text e.tree ts mid behind rest h (subst (λ (z : List Token). Spells text e.tree z behind) (sym is) (e.spells behind)) g in
+    let x = enclosed n text e.tree ts mid following rest h (subst (λ (z : List Token). SpellsExpression text e.tree z following) (sym is) (e.spells following)) g in
     let q = x.high in
     let w = e.low in
     let y = ap numbers_of (x.same text ∙ e.yes) in

@@ -1,24 +1,24 @@
 -- Conditions and optional expressions are read as far as they go.
 use Rattle.std.proofs.Common.{◌≡◌, ◌≤◌, ◌<◌, ℕ, List, [], ◌∷◌, ◌++◌, Some, None, refl, sym, ◌∙◌, subst, append_assoc, arith}
-use Rattle.c_lex.specs.declared.sign.Sign.{Sign}
-use Rattle.c_lex.specs.declared.sign.Sign.TheVariants as signs
+use Rattle.c_lex.specs.declared.punctuator.Punctuator.{Punctuator}
+use Rattle.c_lex.specs.declared.punctuator.Punctuator.TheVariants as punctuators
 use Rattle.c_lex.specs.declared.token.Token.{Token}
 use Rattle.c_syntax.specs.Expression.{Expression, height}
 use Rattle.c_syntax.specs.Expressions.{Derives}
 use Rattle.c_syntax.specs.Faults.{Alike, SameFirst, Wraps}
-use Rattle.c_syntax.specs.Follow.{sign_follows, Stops}
+use Rattle.c_syntax.specs.Follow.{punctuator_follows, Stops}
 use Rattle.c_syntax.specs.Statements.{IsCondition}
-use Rattle.c_syntax.specs.Tokens.{HasSign}
+use Rattle.c_syntax.specs.Tokens.{HasPunctuator}
 use Rattle.c_syntax.proofs.Failing.{first_keeps, first_behind}
 use Rattle.c_syntax.proofs.Fronts.{has_same}
-use Rattle.c_syntax.proofs.Moves.{both, has_sign, derives}
+use Rattle.c_syntax.proofs.Moves.{both, has_punctuator, derives}
 use Rattle.c_syntax.proofs.Once.{one_expression, has_stops}
 use Rattle.c_parse_expr.specs.Readings.{NoExpression, HasExpression}
-use Rattle.c_parse_stmt.specs.Parts.{NoSign, ASign, NoCondition, HasCondition, NoneUpTo, HasUpTo}
-use Rattle.c_parse_stmt.proofs.Begins.{sign, name, variable}
+use Rattle.c_parse_stmt.specs.Parts.{NoPunctuator, APunctuator, NoCondition, HasCondition, NoneUpTo, HasUpTo}
+use Rattle.c_parse_stmt.proofs.Begins.{punctuator, name, variable}
 use Rattle.c_parse_stmt.proofs.Placing.{Lacks, lacks_first}
 
--- ---- lists, and what is told by the first token
+-- ---- lists, and what is reported by the first token
 
 pub flat : (before inner more other : List Token) → before ++ inner ++ more ++ other ≡ before ++ (inner ++ (more ++ other))
 flat before inner more other = append_assoc (before ++ inner) more other ∙ append_assoc before inner (more ++ other)
@@ -31,50 +31,50 @@ same_behind before ts ts' other e same = subst (λ (z : List Token). SameFirst z
 
 -- ---- conditions
 
-pub unopened : (text : List ℕ) (ts : List Token) → Wraps (NoSign signs.OpenParenthesis) (ASign signs.OpenParenthesis) NoCondition HasCondition text ts ts
+pub unopened : (text : List ℕ) (ts : List Token) → Wraps (NoPunctuator punctuators.OpenParenthesis) (APunctuator punctuators.OpenParenthesis) NoCondition HasCondition text ts ts
 unopened text ts = record {
   before = [];
   split = refl;
   no = λ n text' other a same none e end h low. none h.0 h.2;
   has = λ n text' inner a speaks h. record {
-    more = name ∷ sign signs.CloseParenthesis ∷ [];
+    more = name ∷ punctuator punctuators.CloseParenthesis ∷ [];
     has = record {
       tree = variable;
-      is = λ other. (name ∷ sign signs.CloseParenthesis ∷ other, sign signs.CloseParenthesis ∷ other, subst (λ (z : List Token). HasSign signs.OpenParenthesis z (name ∷ sign signs.CloseParenthesis ∷ other)) (sym (append_assoc inner (name ∷ sign signs.CloseParenthesis ∷ []) other)) (h (name ∷ sign signs.CloseParenthesis ∷ other)), record { fits = omega arith; spells = refl }, (0, (0, refl)));
+      is = λ other. (name ∷ punctuator punctuators.CloseParenthesis ∷ other, punctuator punctuators.CloseParenthesis ∷ other, subst (λ (z : List Token). HasPunctuator punctuators.OpenParenthesis z (name ∷ punctuator punctuators.CloseParenthesis ∷ other)) (sym (append_assoc inner (name ∷ punctuator punctuators.CloseParenthesis ∷ []) other)) (h (name ∷ punctuator punctuators.CloseParenthesis ∷ other)), record { fits = omega arith; spells = refl }, (0, (0, refl)));
       low = λ k. omega arith;
     };
   };
 }
 
-pub in_condition : (text : List ℕ) (ts a : List Token) → HasSign signs.OpenParenthesis ts a → Wraps (NoExpression 16 64) (HasExpression 16 64) NoCondition HasCondition text a ts
+pub in_condition : (text : List ℕ) (ts a : List Token) → HasPunctuator punctuators.OpenParenthesis ts a → Wraps (NoExpression 16 64) (HasExpression 16 64) NoCondition HasCondition text a ts
 in_condition text ts a o =
-    let m = has_sign signs.OpenParenthesis text ts a o in
+    let m = has_punctuator punctuators.OpenParenthesis text ts a o in
     record {
       before = m.front;
       split = m.split;
       no = λ n text' other k same none e end h low.
-          let p = has_same signs.OpenParenthesis (m.front ++ other) (m.front ++ other) h.0 other refl h.2 (m.again text' other k) in
-          none e h.1 (subst (λ (x : List Token). Derives text' 16 e x h.1) p h.3) (has_stops signs.CloseParenthesis h.1 end 16 h.4 (omega arith)) low;
+          let p = has_same punctuators.OpenParenthesis (m.front ++ other) (m.front ++ other) h.0 other refl h.2 (m.again text' other k) in
+          none e h.1 (subst (λ (x : List Token). Derives text' 16 e x h.1) p h.3) (has_stops punctuators.CloseParenthesis h.1 end 16 h.4 (omega arith)) low;
       has = λ n text' inner k speaks h. record {
-        more = sign signs.CloseParenthesis ∷ [];
+        more = punctuator punctuators.CloseParenthesis ∷ [];
         has = record {
           tree = h.tree;
-          is = λ other. subst (λ (z : List Token). IsCondition text' h.tree z other) (sym (flat m.front inner (sign signs.CloseParenthesis ∷ []) other)) (inner ++ sign signs.CloseParenthesis ∷ other, sign signs.CloseParenthesis ∷ other, m.again text' (inner ++ sign signs.CloseParenthesis ∷ other) k, h.derives (sign signs.CloseParenthesis ∷ other), (0, (0, refl)));
+          is = λ other. subst (λ (z : List Token). IsCondition text' h.tree z other) (sym (flat m.front inner (punctuator punctuators.CloseParenthesis ∷ []) other)) (inner ++ punctuator punctuators.CloseParenthesis ∷ other, punctuator punctuators.CloseParenthesis ∷ other, m.again text' (inner ++ punctuator punctuators.CloseParenthesis ∷ other) k, h.derives (punctuator punctuators.CloseParenthesis ∷ other), (0, (0, refl)));
           low = h.low;
         };
       };
     }
 
-unclosed_at : (text : List ℕ) (e : Expression) (ts a b : List Token) (n : ℕ) → HasSign signs.OpenParenthesis ts a → Derives text 16 e a b → Stops 16 b → Lacks signs.CloseParenthesis b → NoCondition n text ts
+unclosed_at : (text : List ℕ) (e : Expression) (ts a b : List Token) (n : ℕ) → HasPunctuator punctuators.OpenParenthesis ts a → Derives text 16 e a b → Stops 16 b → Lacks punctuators.CloseParenthesis b → NoCondition n text ts
 unclosed_at text e ts a b n o d s none f end h low =
-    let p = has_same signs.OpenParenthesis ts ts h.0 a refl h.2 o in
+    let p = has_same punctuators.OpenParenthesis ts ts h.0 a refl h.2 o in
     let k : Derives text 16 f a h.1 = subst (λ (x : List Token). Derives text 16 f x h.1) p h.3 in
-    let u = one_expression text 16 e f a b h.1 d k s (has_stops signs.CloseParenthesis h.1 end 16 h.4 (omega arith)) in
-    none end (subst (λ (x : List Token). HasSign signs.CloseParenthesis x end) (sym u.1) h.4)
+    let u = one_expression text 16 e f a b h.1 d k s (has_stops punctuators.CloseParenthesis h.1 end 16 h.4 (omega arith)) in
+    none end (subst (λ (x : List Token). HasPunctuator punctuators.CloseParenthesis x end) (sym u.1) h.4)
 
-pub unclosed : (text : List ℕ) (e : Expression) (ts a b : List Token) → HasSign signs.OpenParenthesis ts a → Derives text 16 e a b → Stops 16 b → height e ≤ 64 → Wraps (NoSign signs.CloseParenthesis) (ASign signs.CloseParenthesis) NoCondition HasCondition text b ts
+pub unclosed : (text : List ℕ) (e : Expression) (ts a b : List Token) → HasPunctuator punctuators.OpenParenthesis ts a → Derives text 16 e a b → Stops 16 b → height e ≤ 64 → Wraps (NoPunctuator punctuators.CloseParenthesis) (APunctuator punctuators.CloseParenthesis) NoCondition HasCondition text b ts
 unclosed text e ts a b o d s low =
-    let m = both (has_sign signs.OpenParenthesis text ts a o) (derives 16 e text a b d) in
+    let m = both (has_punctuator punctuators.OpenParenthesis text ts a o) (derives 16 e text a b d) in
     record {
       before = m.front;
       split = m.split;
@@ -91,16 +91,16 @@ unclosed text e ts a b o d s low =
 
 -- ---- expressions or nothing
 
-pub no_expression : (text : List ℕ) (s : Sign) (room : ℕ) (ts : List Token) → 16 < sign_follows s → Lacks s ts → 1 ≤ room → Wraps (NoExpression 16 64) (HasExpression 16 64) (NoneUpTo s room) (HasUpTo s room) text ts ts
+pub no_expression : (text : List ℕ) (s : Punctuator) (room : ℕ) (ts : List Token) → 16 < punctuator_follows s → Lacks s ts → 1 ≤ room → Wraps (NoExpression 16 64) (HasExpression 16 64) (NoneUpTo s room) (HasUpTo s room) text ts ts
 no_expression text s room ts l lacks some = record {
   before = [];
   split = refl;
   no = against;
   has = λ n text' inner a speaks h. record {
-    more = sign s ∷ [];
+    more = punctuator s ∷ [];
     has = record {
       tree = Some h.tree;
-      is = λ other. (sign s ∷ other, subst (λ (z : List Token). Derives text' 16 h.tree z (sign s ∷ other)) (sym (append_assoc inner (sign s ∷ []) other)) (h.derives (sign s ∷ other)), (0, (0, refl)));
+      is = λ other. (punctuator s ∷ other, subst (λ (z : List Token). Derives text' 16 h.tree z (punctuator s ∷ other)) (sym (append_assoc inner (punctuator s ∷ []) other)) (h.derives (punctuator s ∷ other)), (0, (0, refl)));
       low = h.low;
       over = λ k. some;
     };
@@ -108,16 +108,16 @@ no_expression text s room ts l lacks some = record {
 }
   where
     against : (n : ℕ) (text' : List ℕ) (other : List Token) → Alike text text' ts → SameFirst ts other → NoExpression 16 64 n text' other → NoneUpTo s room n text' other
-    against n text' other a same nothing None end h low over = lacks_first s ts other same lacks end (subst (λ (x : List Token). HasSign s x end) (sym h.1) h.2)
+    against n text' other a same nothing None end h low over = lacks_first s ts other same lacks end (subst (λ (x : List Token). HasPunctuator s x end) (sym h.1) h.2)
     against n text' other a same nothing (Some e) end h low over = nothing e h.0 h.1 (has_stops s h.0 end 16 h.2 l) low
 
-unended_at : (text : List ℕ) (s : Sign) (room : ℕ) (e : Expression) (ts b : List Token) (n : ℕ) → 16 < sign_follows s → Lacks s ts → Derives text 16 e ts b → Stops 16 b → Lacks s b → NoneUpTo s room n text ts
-unended_at text s room e ts b n l none d st lacks None end h low over = none end (subst (λ (x : List Token). HasSign s x end) (sym h.1) h.2)
+unended_at : (text : List ℕ) (s : Punctuator) (room : ℕ) (e : Expression) (ts b : List Token) (n : ℕ) → 16 < punctuator_follows s → Lacks s ts → Derives text 16 e ts b → Stops 16 b → Lacks s b → NoneUpTo s room n text ts
+unended_at text s room e ts b n l none d st lacks None end h low over = none end (subst (λ (x : List Token). HasPunctuator s x end) (sym h.1) h.2)
 unended_at text s room e ts b n l none d st lacks (Some f) end h low over =
     let u = one_expression text 16 e f ts b h.0 d h.1 st (has_stops s h.0 end 16 h.2 l) in
-    lacks end (subst (λ (x : List Token). HasSign s x end) (sym u.1) h.2)
+    lacks end (subst (λ (x : List Token). HasPunctuator s x end) (sym u.1) h.2)
 
-pub unended : (text : List ℕ) (s : Sign) (room : ℕ) (e : Expression) (ts b : List Token) → 16 < sign_follows s → Lacks s ts → Derives text 16 e ts b → Stops 16 b → height e ≤ 64 → 1 ≤ room → Wraps (NoSign s) (ASign s) (NoneUpTo s room) (HasUpTo s room) text b ts
+pub unended : (text : List ℕ) (s : Punctuator) (room : ℕ) (e : Expression) (ts b : List Token) → 16 < punctuator_follows s → Lacks s ts → Derives text 16 e ts b → Stops 16 b → height e ≤ 64 → 1 ≤ room → Wraps (NoPunctuator s) (APunctuator s) (NoneUpTo s room) (HasUpTo s room) text b ts
 unended text s room e ts b l lacks d st low some =
     let m = derives 16 e text ts b d in
     record {

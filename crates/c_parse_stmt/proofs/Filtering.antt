@@ -39,7 +39,7 @@ in_filter text funclets ts some = record {
 
 -- ---- where none is left
 
--- the filter that stands there has one
+-- the filter that is there has one
 pub no_other : (text : List ℕ) (e : Expression) (ts rest : List Token) → IsCondition text e ts rest → accepts text e ≡ false → NoFilter 0 6 text ts
 no_other text e ts rest is no_one f end h low n =
     let u = condition text e f ts ts rest end refl is h in
@@ -58,7 +58,7 @@ placed_none (TooDeep at) text ts m d = failed_none 1 at text ts d
 placed_none (TooMany at what) text ts m d = failed_none (number what) at text ts d
 placed_none Memory text ts m d = absurd (m refl)
 
--- another filter stands there, and each goes on where those depart that accept
+-- another filter is there, and each continues where those depart that accept
 pub departs_not : (text : List ℕ) (e : Expression) (ts rest fault : List Token) → IsCondition text e ts rest → height e ≤ 64 → Departs text ts fault → ⊥
 departs_not text e ts rest fault is low d = d.none text fault (alike_same text ts) (first_same fault) e rest (subst (λ (z : List Token). IsCondition text e z rest) d.split is) (λ k. low)
 
@@ -68,10 +68,10 @@ data Cut (xs ys us vs : List Token) : Type 0 where
   later : (z : Token) (zs : List Token) → ys ≡ xs ++ z ∷ zs → us ≡ z ∷ (zs ++ vs) → Cut xs ys us vs
   sooner : (z : Token) (zs : List Token) → xs ≡ ys ++ z ∷ zs → vs ≡ z ∷ (zs ++ us) → Cut xs ys us vs
 
-behind : (t u : Token) (xs ys us vs : List Token) → t ≡ u → Cut xs ys us vs → Cut (t ∷ xs) (u ∷ ys) us vs
-behind t u xs ys us vs e (same p) = same (ap (λ (z : List Token). t ∷ z) p ∙ ap (λ (z : Token). z ∷ ys) e)
-behind t u xs ys us vs e (later z zs p q) = later z zs (ap (λ (z : Token). z ∷ ys) (sym e) ∙ ap (λ (z : List Token). t ∷ z) p) q
-behind t u xs ys us vs e (sooner z zs p q) = sooner z zs (ap (λ (z : Token). z ∷ xs) e ∙ ap (λ (z : List Token). u ∷ z) p) q
+following : (t u : Token) (xs ys us vs : List Token) → t ≡ u → Cut xs ys us vs → Cut (t ∷ xs) (u ∷ ys) us vs
+following t u xs ys us vs e (same p) = same (ap (λ (z : List Token). t ∷ z) p ∙ ap (λ (z : Token). z ∷ ys) e)
+following t u xs ys us vs e (later z zs p q) = later z zs (ap (λ (z : Token). z ∷ ys) (sym e) ∙ ap (λ (z : List Token). t ∷ z) p) q
+following t u xs ys us vs e (sooner z zs p q) = sooner z zs (ap (λ (z : Token). z ∷ xs) e ∙ ap (λ (z : List Token). u ∷ z) p) q
 
 cut : (xs ys us vs : List Token) → xs ++ us ≡ ys ++ vs → Cut xs ys us vs
 cut [] [] us vs e = same refl
@@ -80,7 +80,7 @@ cut (x ∷ xs) [] us vs e = sooner x xs refl (sym e)
 cut (x ∷ xs) (y ∷ ys) us vs e =
     let p : x ≡ y = cc in
     let q : xs ++ us ≡ ys ++ vs = cc in
-    behind x y xs ys us vs p (cut xs ys us vs q)
+    following x y xs ys us vs p (cut xs ys us vs q)
 
 -- A condition fails no sooner than the filters that accept depart; where it goes no further there than they do, it fails there.
 stay_able : (kind at : ℕ) (text : List ℕ) (ts rest : List Token) (f : Failed kind at NoCondition HasCondition text ts) (d : Departs text ts rest) (text' : List ℕ) → Alike text text' ts → Speaks text' → Cut f.front d.front f.fault rest → Able (HasFilter 0) 6 text' f.front
@@ -101,7 +101,7 @@ stays kind at text ts rest l d f = record {
   front = f.front;
   fault = f.fault;
   split = f.split;
-  stands = f.stands;
+  located = f.located;
   against = λ text' other a same e end h low count. f.against text' other a same e end h low;
   able = λ text' a s. stay_able kind at text ts rest f d text' a s (cut f.front d.front f.fault rest (sym f.split ∙ d.split));
   further = λ text' k a s e.
@@ -122,7 +122,7 @@ placed_stays (TooDeep at) text ts rest d f = stays 1 at text ts rest (omega arit
 placed_stays (TooMany at what) text ts rest d f = stays (number what) at text ts rest (number_low what) d f
 placed_stays Memory text ts rest d f = tt
 
--- by whether another filter goes on
+-- by whether another filter continues
 pub decided : {A : Type 0} (b : Bool) → (b ≡ true → A) → (b ≡ false → A) → A
 decided true f g = f refl
 decided false f g = g refl

@@ -1,29 +1,29 @@
 -- Failures in a `__try` statement, from the brace of its block on.
 use Rattle.std.proofs.Common.{◌≡◌, ◌≤◌, ◌+◌, ◌++◌, ℕ, Bool, zero, suc, List, [], ◌∷◌, length, length-append, refl, sym, ap, subst, arith}
 use Rattle.c_lex.specs.declared.keyword.Keyword.TheVariants as keywords
-use Rattle.c_lex.specs.declared.sign.Sign.TheVariants as signs
+use Rattle.c_lex.specs.declared.punctuator.Punctuator.TheVariants as punctuators
 use Rattle.c_lex.specs.declared.token.Kind.TheVariants as kinds
 use Rattle.c_lex.specs.declared.token.Token.{Token}
 use Rattle.c_syntax.specs.Expression.{Expression, expression, height}
 use Rattle.c_syntax.specs.Faults.{Alike, place, Able, Failed, Wraps}
-use Rattle.c_syntax.specs.Limits.{statements_over_all, accepts, numbered, all_numbered}
+use Rattle.c_syntax.specs.Limits.{statements_over_all, accepts, numbered, funclets_of_all}
 use Rattle.c_syntax.specs.Statement.{Statement, Declare, Block, Evaluate, If, IfElse, While, DoWhile, For, Return, Break, Continue, Leave, TryExcept, TryFinally, Statements, Empty, Then}
-use Rattle.c_syntax.specs.Statements.{IsCondition, IsItem, AreItems}
-use Rattle.c_syntax.specs.Tokens.{token, IsKeyword, HasSign, HasKeyword}
+use Rattle.c_syntax.specs.Statements.{IsCondition, IsBlockItem, AreBlockItems}
+use Rattle.c_syntax.specs.Tokens.{token, IsKeyword, HasPunctuator, HasKeyword}
 use Rattle.c_syntax.proofs.Failing.{alike_inner}
 use Rattle.c_syntax.proofs.Firsts.{no_keyword}
-use Rattle.c_syntax.proofs.Moves.{Moves, has_sign, has_keyword}
-use Rattle.c_syntax.proofs.MovesStatements.{condition, items, filter, all_numbered as same_numbered}
+use Rattle.c_syntax.proofs.Moves.{Moves, has_punctuator, has_keyword}
+use Rattle.c_syntax.proofs.MovesStatements.{condition, items, filter, funclets_of_all as same_funclets}
 use Rattle.c_parse_stmt.specs.declared.endings.Clause.{Clause}
 use Rattle.c_parse_stmt.specs.declared.endings.Clause.TheVariants as clauses
 use Rattle.c_parse_stmt.specs.declared.left.Left.{Left}
 use Rattle.c_parse_stmt.specs.Endings.{IsClause, Continues, with_clause}
 use Rattle.c_parse_stmt.specs.Filters.{numbers_of, NoFilter, HasFilter}
 use Rattle.c_parse_stmt.specs.Openings.{IsTry, Guards}
-use Rattle.c_parse_stmt.specs.Parts.{NoSign, ASign}
-use Rattle.c_parse_stmt.specs.Within.{AllWithin, AllTaken, NoItems, HasItems, Reads, NoStatement, HasStatement}
+use Rattle.c_parse_stmt.specs.Parts.{NoPunctuator, APunctuator}
+use Rattle.c_parse_stmt.specs.Within.{AllWithin, AllTaken, NoBlockItems, HasBlockItems, Reads, NoStatement, HasStatement}
 use Rattle.c_parse_stmt.proofs.Heading.{Key, Sig, Condition, key_moves, key_wraps, unit, in_parentheses, is_unit, braces, finally}
-use Rattle.c_parse_stmt.proofs.Sequences.{able_more, Both, Fixed, both_fixed, both_moves, moves_so, able_now, wraps, failed, sign, word, a_sign, first_kind, kind_place}
+use Rattle.c_parse_stmt.proofs.Sequences.{able_more, Both, Fixed, both_fixed, both_moves, moves_so, able_now, wraps, failed, punctuator, word, a_punctuator, first_kind, kind_place}
 use Rattle.c_parse_stmt.proofs.Tails.{IsBraced}
 use Rattle.c_parse_stmt.proofs.Wholes.{NoneBraced, number_length, no_braced, no_try_body, no_except_room, no_filter, no_handler, except_found, unguarded, no_finally_left, no_last, finally_found}
 
@@ -33,27 +33,27 @@ abbrev pub Tries : List ℕ → List Token → List Token → Type 0
 Tries text = IsTry
 
 abbrev pub Items : Statements → List ℕ → List Token → List Token → Type 0
-Items ss text = AreItems text ss
+Items ss text = AreBlockItems text ss
 
 abbrev pub Guard : Statements → List ℕ → List Token → List Token → Type 0
 Guard body = Both Tries (Items body)
 
 abbrev pub Except : ℕ → Expression → Statements → List ℕ → List Token → List Token → Type 0
-Except at f last text ts rest = (a : List Token) × (b : List Token) × (c : List Token) × IsKeyword keywords.Except at ts a × IsCondition text f a b × HasSign signs.OpenBrace b c × AreItems text last c rest
+Except at f last text ts rest = (a : List Token) × (b : List Token) × (c : List Token) × IsKeyword keywords.Except at ts a × IsCondition text f a b × HasPunctuator punctuators.OpenBrace b c × AreBlockItems text last c rest
 
 abbrev pub Finally : ℕ → Statements → List ℕ → List Token → List Token → Type 0
-Finally at last text ts rest = (a : List Token) × (b : List Token) × IsKeyword keywords.Finally at ts a × HasSign signs.OpenBrace a b × AreItems text last b rest
+Finally at last text ts rest = (a : List Token) × (b : List Token) × IsKeyword keywords.Finally at ts a × HasPunctuator punctuators.OpenBrace a b × AreBlockItems text last b rest
 
-pub excepted : (body last : Statements) (at : ℕ) (f : Expression) (text : List ℕ) (ts rest : List Token) → Both (Guard body) (Except at f last) text ts rest → IsItem text (TryExcept body at f last) ts rest
+pub excepted : (body last : Statements) (at : ℕ) (f : Expression) (text : List ℕ) (ts rest : List Token) → Both (Guard body) (Except at f last) text ts rest → IsBlockItem text (TryExcept body at f last) ts rest
 excepted body last at f text ts rest x = let t = x.first.first in let y = x.second in (t.0, x.first.mid, x.mid, y.0, y.1, y.2, t.1, t.2, x.first.second, y.3, y.4, y.5, y.6)
 
-pub finished : (body last : Statements) (at : ℕ) (text : List ℕ) (ts rest : List Token) → Both (Guard body) (Finally at last) text ts rest → IsItem text (TryFinally body at last) ts rest
+pub finished : (body last : Statements) (at : ℕ) (text : List ℕ) (ts rest : List Token) → Both (Guard body) (Finally at last) text ts rest → IsBlockItem text (TryFinally body at last) ts rest
 finished body last at text ts rest x = let t = x.first.first in let y = x.second in (t.0, x.first.mid, x.mid, y.0, y.1, t.1, t.2, x.first.second, y.2, y.3, y.4)
 
 pub try_moves : (text : List ℕ) (ts rest : List Token) → IsTry ts rest → Moves Tries text ts rest
 try_moves text ts rest t =
-    moves_so (Both (λ s. HasKeyword keywords.Try) (Sig signs.OpenBrace)) Tries text ts rest (λ t us end x. (x.mid, x.first, x.second))
-    (both_moves (λ s. HasKeyword keywords.Try) (Sig signs.OpenBrace) text ts t.0 rest (has_keyword keywords.Try text ts t.0 t.1) (has_sign signs.OpenBrace text t.0 rest t.2))
+    moves_so (Both (λ s. HasKeyword keywords.Try) (Sig punctuators.OpenBrace)) Tries text ts rest (λ t us end x. (x.mid, x.first, x.second))
+    (both_moves (λ s. HasKeyword keywords.Try) (Sig punctuators.OpenBrace) text ts t.0 rest (has_keyword keywords.Try text ts t.0 t.1) (has_punctuator punctuators.OpenBrace text t.0 rest t.2))
 
 -- ---- where no statement may stand there is no number
 
@@ -73,14 +73,14 @@ bare_item text (Leave at) h = absurd (omega arith)
 bare_item text (TryExcept b at f l) h = absurd (omega arith)
 bare_item text (TryFinally b at l) h = absurd (omega arith)
 
-pub bare : (text : List ℕ) (ss : Statements) → statements_over_all ss ≤ 0 → length (all_numbered text ss) ≡ 0
+pub bare : (text : List ℕ) (ss : Statements) → statements_over_all ss ≤ 0 → length (funclets_of_all text ss) ≡ 0
 bare text Empty h = refl
 bare text (Then s ss) h =
     let a = bare_item text s (omega arith) in
     let b = bare text ss (omega arith) in
     omega (arith, length-append {A = ℕ})
 
--- behind the block of a `__try` that can go on, a statement may stand or a number is left
+-- after the block of a `__try` that can continue, a statement may stand or a number is left
 pub still : (text : List ℕ) (room : ℕ) (left after : Left) (body : Statements) → 1 ≤ room + left.funclets → AllTaken text room left after body → 1 ≤ room + after.funclets
 still text zero left after body h t = let b = bare text body t.statements in let f = t.funclets in omega arith
 still text (suc room) left after body h t = omega arith
@@ -95,24 +95,24 @@ abbrev pub except : List Token
 except = word keywords.Except ∷ unit_braces
 
 pub is_except : (text : List ℕ) (at end : ℕ) → Fixed (Except at unit Empty) text (token (kinds.Keyword keywords.Except) at end ∷ unit_braces)
-is_except text at end other = (in_parentheses ++ braces ++ other, braces ++ other, sign signs.CloseBrace ∷ other, (end, refl), is_unit text (braces ++ other), a_sign signs.OpenBrace (sign signs.CloseBrace ∷ other), a_sign signs.CloseBrace other)
+is_except text at end other = (in_parentheses ++ braces ++ other, braces ++ other, punctuator punctuators.CloseBrace ∷ other, (end, refl), is_unit text (braces ++ other), a_punctuator punctuators.OpenBrace (punctuator punctuators.CloseBrace ∷ other), a_punctuator punctuators.CloseBrace other)
 
 pub is_finally : (text : List ℕ) (at end : ℕ) → Fixed (Finally at Empty) text (token (kinds.Keyword keywords.Finally) at end ∷ braces)
-is_finally text at end other = (braces ++ other, sign signs.CloseBrace ∷ other, (end, refl), a_sign signs.OpenBrace (sign signs.CloseBrace ∷ other), a_sign signs.CloseBrace other)
+is_finally text at end other = (braces ++ other, punctuator punctuators.CloseBrace ∷ other, (end, refl), a_punctuator punctuators.OpenBrace (punctuator punctuators.CloseBrace ∷ other), a_punctuator punctuators.CloseBrace other)
 
 -- `{}`
 abbrev pub Braces : List ℕ → List Token → List Token → Type 0
-Braces text ts rest = (a : List Token) × HasSign signs.OpenBrace ts a × AreItems text Empty a rest
+Braces text ts rest = (a : List Token) × HasPunctuator punctuators.OpenBrace ts a × AreBlockItems text Empty a rest
 
 is_braces : (text : List ℕ) → Fixed Braces text braces
-is_braces text other = (sign signs.CloseBrace ∷ other, a_sign signs.OpenBrace (sign signs.CloseBrace ∷ other), a_sign signs.CloseBrace other)
+is_braces text other = (punctuator punctuators.CloseBrace ∷ other, a_punctuator punctuators.OpenBrace (punctuator punctuators.CloseBrace ∷ other), a_punctuator punctuators.CloseBrace other)
 
 -- `}`
 abbrev pub brace : List Token
-brace = sign signs.CloseBrace ∷ []
+brace = punctuator punctuators.CloseBrace ∷ []
 
 pub is_brace : (text : List ℕ) → Fixed (Items Empty) text brace
-is_brace text other = a_sign signs.CloseBrace other
+is_brace text other = a_punctuator punctuators.CloseBrace other
 
 pub guard_able : (room : ℕ) (left : Left) (n : ℕ) (text : List ℕ) (body : Statements) (front : List Token) → 1 ≤ room + left.funclets → AllWithin n text room left body → Fixed (Guard body) text front → Able (HasStatement room left) n text front
 guard_able zero left n text body front h w r = record {
@@ -146,25 +146,25 @@ guard_able (suc room) left n text body front h w r = record {
 
 -- ---- the first block
 
-no_open : (room : ℕ) (left : Left) (n : ℕ) (text : List ℕ) (ts : List Token) → NoSign signs.OpenBrace n text ts → NoneBraced room left n text ts
+no_open : (room : ℕ) (left : Left) (n : ℕ) (text : List ℕ) (ts : List Token) → NoPunctuator punctuators.OpenBrace n text ts → NoneBraced room left n text ts
 no_open room left n text ts none ss end h w = none h.0 h.1
 
-pub try_open : (room at : ℕ) (left : Left) (text : List ℕ) (ts a : List Token) → 1 ≤ room + left.funclets → IsKeyword keywords.Try at ts a → Wraps (NoSign signs.OpenBrace) (ASign signs.OpenBrace) (NoStatement room left) (HasStatement room left) text a ts
+pub try_open : (room at : ℕ) (left : Left) (text : List ℕ) (ts a : List Token) → 1 ≤ room + left.funclets → IsKeyword keywords.Try at ts a → Wraps (NoPunctuator punctuators.OpenBrace) (APunctuator punctuators.OpenBrace) (NoStatement room left) (HasStatement room left) text a ts
 try_open room at left text ts a o k =
-    key_wraps keywords.Try at room left (NoSign signs.OpenBrace) (ASign signs.OpenBrace) text ts a k (λ n text' other none. no_try_body n text' room at left other (no_open room left n text' other none))
+    key_wraps keywords.Try at room left (NoPunctuator punctuators.OpenBrace) (APunctuator punctuators.OpenBrace) text ts a k (λ n text' other none. no_try_body n text' room at left other (no_open room left n text' other none))
     (λ n text' inner end has.
     let front = token (kinds.Keyword keywords.Try) at end ∷ inner in
     able_more (HasStatement room left) n text' front brace
     (guard_able room left n text' Empty (front ++ brace) o (record { statements = λ i. omega arith; expressions = λ i. omega arith; locals = λ i. omega arith; funclets = λ i. omega arith })
     (both_fixed Tries (Items Empty) text' front brace (λ other. (inner ++ other, (at, (end, refl)), has other)) (is_brace text'))))
 
-pub try_body : (room : ℕ) (left : Left) (text : List ℕ) (ts rest : List Token) → 1 ≤ room + left.funclets → IsTry ts rest → Wraps (NoItems room left) (HasItems room left) (NoStatement room left) (HasStatement room left) text rest ts
+pub try_body : (room : ℕ) (left : Left) (text : List ℕ) (ts rest : List Token) → 1 ≤ room + left.funclets → IsTry ts rest → Wraps (NoBlockItems room left) (HasBlockItems room left) (NoStatement room left) (HasStatement room left) text rest ts
 try_body room left text ts rest o t =
-    wraps Tries (NoItems room left) (HasItems room left) (NoStatement room left) (HasStatement room left) text ts rest (try_moves text ts rest t)
+    wraps Tries (NoBlockItems room left) (HasBlockItems room left) (NoStatement room left) (HasStatement room left) text ts rest (try_moves text ts rest t)
     (λ n text' all other h e r none. no_try_body n text' room r.1.0 left r.0 (no_braced n text' room left r.0 other r.2 none) all r.1.1)
     (λ n text' front inner h r has. guard_able room left n text' has.trees (front ++ inner) o has.within (both_fixed Tries (Items has.trees) text' front inner r has.are))
 
--- ---- behind the first block
+-- ---- after the first block
 
 guard_moves : (room : ℕ) (whole left : Left) (body : Statements) (text : List ℕ) (ts rest : List Token) → Guards text room whole left body ts rest → Moves (Guard body) text ts rest
 guard_moves room whole left body text ts rest g = both_moves Tries (Items body) text ts g.mid rest (try_moves text ts g.mid g.is) (items body text g.mid rest g.are)
@@ -173,7 +173,7 @@ guard_moves room whole left body text ts rest g = both_moves Tries (Items body) 
 taken_moved : (room : ℕ) (whole left : Left) (body : Statements) (text text' : List ℕ) (ts rest : List Token) → Alike text text' ts → Guards text room whole left body ts rest → AllTaken text' room whole left body
 taken_moved room whole left body text text' ts rest h g =
     let m = try_moves text ts g.mid g.is in
-    let e = ap (λ (x : List ℕ). length x) (same_numbered body text text' g.mid rest g.are (alike_inner text text' m.front g.mid ts m.split h)) in
+    let e = ap (λ (x : List ℕ). length x) (same_funclets body text text' g.mid rest g.are (alike_inner text text' m.front g.mid ts m.split h)) in
     let t = g.taken in let f = t.funclets in
     record { statements = t.statements; expressions = t.expressions; locals = t.locals; funclets = omega arith }
 
@@ -256,7 +256,7 @@ filter_moved room at whole left next body f text text' ts rest j c h g k is fu =
     let e = filter f text text' j c is a in
     subst (λ (x : Bool). next.funclets + numbers_of x ≡ left.funclets) (sym e) fu
 
-filtered : (body : Statements) (at : ℕ) (f : Expression) (last : Statements) (text : List ℕ) (ts rest c : List Token) (w : Filtering body at f text ts rest) (end : List Token) → HasSign signs.OpenBrace rest c → AreItems text last c end → IsItem text (TryExcept body at f last) ts end
+filtered : (body : Statements) (at : ℕ) (f : Expression) (last : Statements) (text : List ℕ) (ts rest c : List Token) (w : Filtering body at f text ts rest) (end : List Token) → HasPunctuator punctuators.OpenBrace rest c → AreBlockItems text last c end → IsBlockItem text (TryExcept body at f last) ts end
 filtered body at f last text ts rest c w end o i = excepted body last at f text ts end (record { mid = w.first.mid; first = w.first.first; second = (w.mid, rest, c, w.first.second, w.second, o, i) })
 
 pub filter_fails : (room at : ℕ) (whole left : Left) (body : Statements) (text : List ℕ) (ts rest j : List Token) → 1 ≤ room → Guards text room whole left body ts rest → IsKeyword keywords.Except at rest j → Wraps (NoFilter left.funclets) (HasFilter left.funclets) (NoStatement room whole) (HasStatement room whole) text j ts
@@ -284,9 +284,9 @@ filter_fails room at whole left body text ts rest j o g k =
     })
 
 pub except_open : (room at : ℕ) (whole left next : Left) (body : Statements) (f : Expression) (text : List ℕ) (ts rest j c : List Token) → 1 ≤ room → Guards text room whole left body ts rest → IsKeyword keywords.Except at rest j → IsCondition text f j c → height f ≤ 64 → next.funclets + numbers_of (accepts text f) ≡ left.funclets → next.locals ≡ left.locals →
-    Wraps (NoSign signs.OpenBrace) (ASign signs.OpenBrace) (NoStatement room whole) (HasStatement room whole) text c ts
+    Wraps (NoPunctuator punctuators.OpenBrace) (APunctuator punctuators.OpenBrace) (NoStatement room whole) (HasStatement room whole) text c ts
 except_open room at whole left next body f text ts rest j c o g k is low fu lo =
-    wraps (Filtering body at f) (NoSign signs.OpenBrace) (ASign signs.OpenBrace) (NoStatement room whole) (HasStatement room whole) text ts c (filtering_moves room at whole left body f text ts rest j c g k is)
+    wraps (Filtering body at f) (NoPunctuator punctuators.OpenBrace) (APunctuator punctuators.OpenBrace) (NoStatement room whole) (HasStatement room whole) text ts c (filtering_moves room at whole left body f text ts rest j c g k is)
     (λ n text' all other h e r none.
     let x = r.first.first in
     no_handler n text' room x.first.1.0 at whole left next body f x.first.0 r.first.mid r.mid other (braced body text' all r.first.mid x) (taken_moved room whole left body text text' ts rest h g) r.first.second r.second
@@ -300,7 +300,7 @@ except_open room at whole left next body f text ts rest j c o g k is low fu lo =
           record {
             tree = TryExcept body at f Empty;
             is = λ other.
-                let x = both_fixed (Both (Filtering body at f) (Sig signs.OpenBrace)) (Items Empty) text' (front ++ inner) brace (both_fixed (Filtering body at f) (Sig signs.OpenBrace) text' front inner r has) (is_brace text') other in
+                let x = both_fixed (Both (Filtering body at f) (Sig punctuators.OpenBrace)) (Items Empty) text' (front ++ inner) brace (both_fixed (Filtering body at f) (Sig punctuators.OpenBrace) text' front inner r has) (is_brace text') other in
                 filtered body at f Empty text' (((front ++ inner) ++ brace) ++ other) x.first.mid x.mid x.first.first other x.first.second x.second;
             statement = refl;
             within = record {
@@ -317,13 +317,13 @@ except_open room at whole left next body f text ts rest j c o g k is low fu lo =
 abbrev pub Finishing : Statements → ℕ → List ℕ → List Token → List Token → Type 0
 Finishing body at = Both (Guard body) (Key keywords.Finally at)
 
-finished_so : (body : Statements) (at : ℕ) (last : Statements) (text : List ℕ) (ts rest c : List Token) (w : Finishing body at text ts rest) (end : List Token) → HasSign signs.OpenBrace rest c → AreItems text last c end → IsItem text (TryFinally body at last) ts end
+finished_so : (body : Statements) (at : ℕ) (last : Statements) (text : List ℕ) (ts rest c : List Token) (w : Finishing body at text ts rest) (end : List Token) → HasPunctuator punctuators.OpenBrace rest c → AreBlockItems text last c end → IsBlockItem text (TryFinally body at last) ts end
 finished_so body at last text ts rest c w end o i = finished body last at text ts end (record { mid = w.mid; first = w.first; second = (rest, c, w.second, o, i) })
 
 pub finally_open : (room at : ℕ) (whole left next : Left) (body : Statements) (text : List ℕ) (ts rest j : List Token) → Guards text room whole left body ts rest → IsKeyword keywords.Finally at rest j → next.funclets + 1 ≡ left.funclets → next.locals ≡ left.locals →
-    Wraps (NoSign signs.OpenBrace) (ASign signs.OpenBrace) (NoStatement room whole) (HasStatement room whole) text j ts
+    Wraps (NoPunctuator punctuators.OpenBrace) (APunctuator punctuators.OpenBrace) (NoStatement room whole) (HasStatement room whole) text j ts
 finally_open room at whole left next body text ts rest j g k fu lo =
-    wraps (Finishing body at) (NoSign signs.OpenBrace) (ASign signs.OpenBrace) (NoStatement room whole) (HasStatement room whole) text ts j (both_moves (Guard body) (Key keywords.Finally at) text ts rest j (guard_moves room whole left body text ts rest g) (key_moves keywords.Finally at text rest j k))
+    wraps (Finishing body at) (NoPunctuator punctuators.OpenBrace) (APunctuator punctuators.OpenBrace) (NoStatement room whole) (HasStatement room whole) text ts j (both_moves (Guard body) (Key keywords.Finally at) text ts rest j (guard_moves room whole left body text ts rest g) (key_moves keywords.Finally at text rest j k))
     (λ n text' all other h e r none. no_last n text' room r.first.first.1.0 at whole left next body r.first.first.0 r.mid other (braced body text' all r.mid r.first) (taken_moved room whole left body text text' ts rest h g) r.second fu lo (no_open room next n text' other none) all r.first.first.1.1)
     (λ n text' front inner h r has. record {
       more = brace;
@@ -333,7 +333,7 @@ finally_open room at whole left next body text ts rest j g k fu lo =
           record {
             tree = TryFinally body at Empty;
             is = λ other.
-                let x = both_fixed (Both (Finishing body at) (Sig signs.OpenBrace)) (Items Empty) text' (front ++ inner) brace (both_fixed (Finishing body at) (Sig signs.OpenBrace) text' front inner r has) (is_brace text') other in
+                let x = both_fixed (Both (Finishing body at) (Sig punctuators.OpenBrace)) (Items Empty) text' (front ++ inner) brace (both_fixed (Finishing body at) (Sig punctuators.OpenBrace) text' front inner r has) (is_brace text') other in
                 finished_so body at Empty text' (((front ++ inner) ++ brace) ++ other) x.first.mid x.mid x.first.first other x.first.second x.second;
             statement = refl;
             within = record {
@@ -349,12 +349,12 @@ finally_open room at whole left next body text ts rest j g k fu lo =
 
 clause_moves : (c : Clause) (text : List ℕ) (ts rest : List Token) → IsClause text c ts rest → Moves (λ t. IsClause t c) text ts rest
 clause_moves (clauses.Except at f) text ts rest h =
-    moves_so (Both (Both (Key keywords.Except at) (Condition (expression f))) (Sig signs.OpenBrace)) (λ t. IsClause t (clauses.Except at f)) text ts rest (λ t us end x. (x.first.mid, x.mid, x.first.first, x.first.second, x.second))
-    (both_moves (Both (Key keywords.Except at) (Condition (expression f))) (Sig signs.OpenBrace) text ts h.1 rest
-    (both_moves (Key keywords.Except at) (Condition (expression f)) text ts h.0 h.1 (key_moves keywords.Except at text ts h.0 h.2) (condition (expression f) text h.0 h.1 h.3)) (has_sign signs.OpenBrace text h.1 rest h.4))
+    moves_so (Both (Both (Key keywords.Except at) (Condition (expression f))) (Sig punctuators.OpenBrace)) (λ t. IsClause t (clauses.Except at f)) text ts rest (λ t us end x. (x.first.mid, x.mid, x.first.first, x.first.second, x.second))
+    (both_moves (Both (Key keywords.Except at) (Condition (expression f))) (Sig punctuators.OpenBrace) text ts h.1 rest
+    (both_moves (Key keywords.Except at) (Condition (expression f)) text ts h.0 h.1 (key_moves keywords.Except at text ts h.0 h.2) (condition (expression f) text h.0 h.1 h.3)) (has_punctuator punctuators.OpenBrace text h.1 rest h.4))
 clause_moves (clauses.Finally at) text ts rest h =
-    moves_so (Both (Key keywords.Finally at) (Sig signs.OpenBrace)) (λ t. IsClause t (clauses.Finally at)) text ts rest (λ t us end x. (x.mid, x.first, x.second))
-    (both_moves (Key keywords.Finally at) (Sig signs.OpenBrace) text ts h.0 rest (key_moves keywords.Finally at text ts h.0 h.1) (has_sign signs.OpenBrace text h.0 rest h.2))
+    moves_so (Both (Key keywords.Finally at) (Sig punctuators.OpenBrace)) (λ t. IsClause t (clauses.Finally at)) text ts rest (λ t us end x. (x.mid, x.first, x.second))
+    (both_moves (Key keywords.Finally at) (Sig punctuators.OpenBrace) text ts h.0 rest (key_moves keywords.Finally at text ts h.0 h.1) (has_punctuator punctuators.OpenBrace text h.0 rest h.2))
 
 abbrev pub Clausing : Statements → Clause → List ℕ → List Token → List Token → Type 0
 Clausing body c = Both (Guard body) (λ t. IsClause t c)
@@ -362,9 +362,9 @@ Clausing body c = Both (Guard body) (λ t. IsClause t c)
 clausing_moves : (room : ℕ) (whole left : Left) (body : Statements) (c : Clause) (text : List ℕ) (ts rest j : List Token) → Guards text room whole left body ts rest → IsClause text c rest j → Moves (Clausing body c) text ts j
 clausing_moves room whole left body c text ts rest j g is = both_moves (Guard body) (λ t. IsClause t c) text ts rest j (guard_moves room whole left body text ts rest g) (clause_moves c text rest j is)
 
-pub last_block : (room : ℕ) (whole left next : Left) (body : Statements) (c : Clause) (text : List ℕ) (ts rest j : List Token) → Guards text room whole left body ts rest → Continues text room left next c rest j → Wraps (NoItems room next) (HasItems room next) (NoStatement room whole) (HasStatement room whole) text j ts
+pub last_block : (room : ℕ) (whole left next : Left) (body : Statements) (c : Clause) (text : List ℕ) (ts rest j : List Token) → Guards text room whole left body ts rest → Continues text room left next c rest j → Wraps (NoBlockItems room next) (HasBlockItems room next) (NoStatement room whole) (HasStatement room whole) text j ts
 last_block room whole left next body (clauses.Except at f) text ts rest j g c =
-    wraps (Clausing body (clauses.Except at f)) (NoItems room next) (HasItems room next) (NoStatement room whole) (HasStatement room whole) text ts j (clausing_moves room whole left body (clauses.Except at f) text ts rest j g c.is)
+    wraps (Clausing body (clauses.Except at f)) (NoBlockItems room next) (HasBlockItems room next) (NoStatement room whole) (HasStatement room whole) text ts j (clausing_moves room whole left body (clauses.Except at f) text ts rest j g c.is)
     (λ n text' all other h e r none.
     let x = r.first in
     no_handler n text' room x.first.1.0 at whole left next body (expression f) x.first.0 r.mid r.second.0 r.second.1 (braced body text' all r.mid x) (taken_moved room whole left body text text' ts rest h g) r.second.2 r.second.3
@@ -387,7 +387,7 @@ last_block room whole left next body (clauses.Except at f) text ts rest j g c =
       };
     }))
 last_block room whole left next body (clauses.Finally at) text ts rest j g c =
-    wraps (Clausing body (clauses.Finally at)) (NoItems room next) (HasItems room next) (NoStatement room whole) (HasStatement room whole) text ts j (clausing_moves room whole left body (clauses.Finally at) text ts rest j g c.is)
+    wraps (Clausing body (clauses.Finally at)) (NoBlockItems room next) (HasBlockItems room next) (NoStatement room whole) (HasStatement room whole) text ts j (clausing_moves room whole left body (clauses.Finally at) text ts rest j g c.is)
     (λ n text' all other h e r none.
     let x = r.first in
     no_last n text' room x.first.1.0 at whole left next body x.first.0 r.mid r.second.0 (braced body text' all r.mid x) (taken_moved room whole left body text text' ts rest h g) r.second.1 c.funclets c.locals (no_braced n text' room next r.second.0 other r.second.2 none) all x.first.1.1)
@@ -408,11 +408,11 @@ last_block room whole left next body (clauses.Finally at) text ts rest j g c =
       };
     }))
 
-pub guarded_found : (room : ℕ) (whole left next after : Left) (body last : Statements) (c : Clause) (text : List ℕ) (ts rest j end : List Token) → Guards text room whole left body ts rest → Continues text room left next c rest j → AreItems text last j end → AllTaken text room next after last → Reads text room whole after (with_clause body c last) ts end
+pub guarded_found : (room : ℕ) (whole left next after : Left) (body last : Statements) (c : Clause) (text : List ℕ) (ts rest j end : List Token) → Guards text room whole left body ts rest → Continues text room left next c rest j → AreBlockItems text last j end → AllTaken text room next after last → Reads text room whole after (with_clause body c last) ts end
 guarded_found room whole left next after body last (clauses.Except at f) text ts rest j end g c are t =
     except_found text room g.is.1.0 at whole left next after body last (expression f) g.is.0 rest c.is.0 c.is.1 end c.statements (g.mid, g.is.2, g.are) g.taken c.is.2 c.is.3 c.low c.funclets c.locals (j, c.is.4, are) t ts g.is.1.1
 guarded_found room whole left next after body last (clauses.Finally at) text ts rest j end g c are t =
     finally_found text room g.is.1.0 at whole left next after body last g.is.0 rest c.is.0 end (g.mid, g.is.2, g.are) g.taken c.is.1 c.funclets c.locals (j, c.is.2, are) t ts g.is.1.1
 
-abbrev pub guards : (text : List ℕ) (room : ℕ) (left after : Left) (body : Statements) (ts mid rest : List Token) → 1 ≤ room + left.funclets → IsTry ts mid → AreItems text body mid rest → AllTaken text room left after body → Guards text room left after body ts rest
+abbrev pub guards : (text : List ℕ) (room : ℕ) (left after : Left) (body : Statements) (ts mid rest : List Token) → 1 ≤ room + left.funclets → IsTry ts mid → AreBlockItems text body mid rest → AllTaken text room left after body → Guards text room left after body ts rest
 guards text room left after body ts mid rest o t i k = record { some = o; mid = mid; is = t; are = i; taken = k }

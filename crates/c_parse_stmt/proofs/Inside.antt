@@ -1,23 +1,23 @@
--- Statements behind a head, and failures in them.
+-- Statements after a head, and failures in them.
 use Rattle.std.proofs.Common.{◌≡◌, ◌≤◌, ◌+◌, ◌++◌, ◌∙◌, ℕ, IsFalse, List, length, length-append, Option, option_map, refl, sym, ap, subst, arith}
 use Rattle.c_lex.specs.declared.keyword.Keyword.TheVariants as keywords
-use Rattle.c_lex.specs.declared.sign.Sign.TheVariants as signs
+use Rattle.c_lex.specs.declared.punctuator.Punctuator.TheVariants as punctuators
 use Rattle.c_lex.specs.declared.token.Token.{Token}
 use Rattle.c_syntax.specs.declared.expression.Expr.{Expr}
-use Rattle.c_syntax.specs.declared.statement.ForFirst.{ForFirst}
+use Rattle.c_syntax.specs.declared.statement.ForInitialiser.{ForInitialiser}
 use Rattle.c_syntax.specs.declared.statement.Stmt.{Stmt}
 use Rattle.c_syntax.specs.Expression.{Expression, expression, height}
 use Rattle.c_syntax.specs.Faults.{Alike, place, Able, Failed, Wraps}
 use Rattle.c_syntax.specs.Follow.{NoElse, Closed}
 use Rattle.c_syntax.specs.Limits.{statements_over}
 use Rattle.c_syntax.specs.Statement.{Statement, If, IfElse, While, DoWhile, For, first, statement}
-use Rattle.c_syntax.specs.Statements.{IsCondition, is_declaration, dangles, IsItem}
-use Rattle.c_syntax.specs.Tokens.{IsKeyword, HasSign, HasKeyword}
+use Rattle.c_syntax.specs.Statements.{IsCondition, is_declaration, dangles, IsBlockItem}
+use Rattle.c_syntax.specs.Tokens.{IsKeyword, HasPunctuator, HasKeyword}
 use Rattle.c_syntax.proofs.Blocks.{absent, while_else}
 use Rattle.c_syntax.proofs.Failing.{alike_inner}
 use Rattle.c_syntax.proofs.Firsts.{closed, no_keyword}
 use Rattle.c_syntax.proofs.Moves.{Moves, has_keyword}
-use Rattle.c_syntax.proofs.MovesStatements.{condition, item, numbered as same_numbered}
+use Rattle.c_syntax.proofs.MovesStatements.{condition, item, numbered as same_funclets}
 use Rattle.c_parse_stmt.specs.declared.endings.Ending.{Ending}
 use Rattle.c_parse_stmt.specs.declared.endings.Ending.TheVariants as endings
 use Rattle.c_parse_stmt.specs.declared.left.Left.{Left}
@@ -27,10 +27,10 @@ use Rattle.c_parse_stmt.specs.declared.openings.Opening.{Opening}
 use Rattle.c_parse_stmt.specs.declared.openings.Opening.TheVariants as openings
 use Rattle.c_parse_stmt.specs.Endings.{Ends}
 use Rattle.c_parse_stmt.specs.Openings.{IsHead, expressions_over, locals, Heads, Opens, Holds}
-use Rattle.c_parse_stmt.specs.Parts.{NoSign, ASign, NoCondition, HasCondition}
+use Rattle.c_parse_stmt.specs.Parts.{NoPunctuator, APunctuator, NoCondition, HasCondition}
 use Rattle.c_parse_stmt.specs.Within.{Within, Reads, NoStatement, HasStatement}
 use Rattle.c_parse_stmt.proofs.Heading.{Key, Sig, Condition, key_moves, ForHead, for_head_moves, for_item, semicolon, in_parentheses, is_unit, unit, while_end}
-use Rattle.c_parse_stmt.proofs.Sequences.{Both, Fixed, both_fixed, both_moves, moves_so, able_now, wraps, failed, a_sign, a_word}
+use Rattle.c_parse_stmt.proofs.Sequences.{Both, Fixed, both_fixed, both_moves, moves_so, able_now, wraps, failed, a_punctuator, a_word}
 use Rattle.c_parse_stmt.proofs.Wholes.{left_of, no_then, no_otherwise, if_found, if_else_found, not_dangling, no_while_body, while_found, no_do_body, no_do_while, no_do_condition, no_do_end, do_found, no_for_body, for_found}
 
 -- ---- relations
@@ -39,7 +39,7 @@ abbrev pub Headed : Head → List ℕ → List Token → List Token → Type 0
 Headed h text = IsHead text h
 
 abbrev pub Item : Statement → List ℕ → List Token → List Token → Type 0
-Item s text = IsItem text s
+Item s text = IsBlockItem text s
 
 pub head_moves : (h : Head) (text : List ℕ) (ts rest : List Token) → IsHead text h ts rest → Moves (Headed h) text ts rest
 head_moves (heads.If at c) text ts rest h =
@@ -66,19 +66,19 @@ none_from : (n : ℕ) (text : List ℕ) (room : ℕ) (left mid : Left) (ts : Lis
 none_from n text room left mid ts e none = subst (λ (x : Left). NoStatement room x n text ts) e none
 
 -- a statement that was read, in a text that spells it alike and before what begins alike
-pub reads_moved : (text text' : List ℕ) (room : ℕ) (left after : Left) (s : Statement) (ts rest all other : List Token) → Alike text text' ts → Reads text room left after s ts rest → IsItem text' s all other → Closed s other → Reads text' room left after s all other
+pub reads_moved : (text text' : List ℕ) (room : ℕ) (left after : Left) (s : Statement) (ts rest all other : List Token) → Alike text text' ts → Reads text room left after s ts rest → IsBlockItem text' s all other → Closed s other → Reads text' room left after s all other
 reads_moved text text' room left after s ts rest all other h r i c =
-    let e = ap (λ (x : List ℕ). length x) (same_numbered s text text' ts rest r.is h) in
+    let e = ap (λ (x : List ℕ). length x) (same_funclets s text text' ts rest r.is h) in
     let t = r.taken in let f = t.funclets in
     record { is = i; statement = r.statement; closed = c; taken = record { statements = t.statements; expressions = t.expressions; locals = t.locals; funclets = omega arith } }
 
 -- ---- what ends a `do`
 
 abbrev pub WhileEnd : List ℕ → List Token → List Token → Type 0
-WhileEnd text ts rest = (a : List Token) × (b : List Token) × IsKeyword keywords.While 0 ts a × IsCondition text unit a b × HasSign signs.Semicolon b rest
+WhileEnd text ts rest = (a : List Token) × (b : List Token) × IsKeyword keywords.While 0 ts a × IsCondition text unit a b × HasPunctuator punctuators.Semicolon b rest
 
 is_while_end : (text : List ℕ) → Fixed WhileEnd text while_end
-is_while_end text other = (in_parentheses ++ semicolon ++ other, semicolon ++ other, a_word keywords.While (in_parentheses ++ semicolon ++ other), is_unit text (semicolon ++ other), a_sign signs.Semicolon other)
+is_while_end text other = (in_parentheses ++ semicolon ++ other, semicolon ++ other, a_word keywords.While (in_parentheses ++ semicolon ++ other), is_unit text (semicolon ++ other), a_punctuator punctuators.Semicolon other)
 
 -- ---- the first statement
 
@@ -131,16 +131,16 @@ inner_fails h room less whole left text ts rest m g =
     (λ n text' all other k e r none. no_inner h n text' room less whole left all other m r g.low g.locals g.funclets none)
     (λ n text' front inner k r has. has_inner h n text' room less whole left front inner m g.low g.locals g.funclets r has)
 
--- ---- behind the first statement
+-- ---- after the first statement
 
 abbrev pub Inner : Head → Statement → List ℕ → List Token → List Token → Type 0
 Inner h s = Both (Headed h) (Item s)
 
-inner_moves : (h : Head) (s : Statement) (text : List ℕ) (ts mid rest : List Token) → IsHead text h ts mid → IsItem text s mid rest → Moves (Inner h s) text ts rest
+inner_moves : (h : Head) (s : Statement) (text : List ℕ) (ts mid rest : List Token) → IsHead text h ts mid → IsBlockItem text s mid rest → Moves (Inner h s) text ts rest
 inner_moves h s text ts mid rest i j = both_moves (Headed h) (Item s) text ts mid rest (head_moves h text ts mid i) (item s text mid rest j)
 
--- the statement behind the head, wherever both stand, before what begins alike
-inner_reads : (room : ℕ) (whole left : Left) (h : Head) (s : Statement) (text text' : List ℕ) (ts rest all mid other : List Token) (g : Holds text room whole left h s ts rest) → Alike text text' ts → IsItem text' s mid other → Closed s other → Reads text' g.less g.between left s mid other
+-- the statement after the head, wherever both stand, before what begins alike
+inner_reads : (room : ℕ) (whole left : Left) (h : Head) (s : Statement) (text text' : List ℕ) (ts rest all mid other : List Token) (g : Holds text room whole left h s ts rest) → Alike text text' ts → IsBlockItem text' s mid other → Closed s other → Reads text' g.less g.between left s mid other
 inner_reads room whole left h s text text' ts rest all mid other g k i c =
     let m = head_moves h text ts g.mid g.head.is in
     reads_moved text text' g.less g.between left s g.mid rest mid other (alike_inner text text' m.front g.mid ts m.split k) g.inner i c
@@ -162,7 +162,7 @@ else_fails at room whole left c s text ts rest j g els =
     no_otherwise n text' room g.less at whole left (expression c) s x.0 r.first.mid r.mid other g.more x.2 d r.second none all x.1)
     (λ n text' front inner k r has. able_now (HasStatement room whole) n text' (front ++ inner) (
     let m = head_moves (heads.If at c) text ts g.mid g.head.is in
-    let d = ap (λ (x : List ℕ). length x) (same_numbered s text text' g.mid rest g.inner.is (alike_inner text text' m.front g.mid ts m.split k)) in
+    let d = ap (λ (x : List ℕ). length x) (same_funclets s text text' g.mid rest g.inner.is (alike_inner text text' m.front g.mid ts m.split k)) in
     let t = g.inner.taken in let t0 = t.statements in let t1 = t.expressions in let t2 = t.locals in let t3 = t.funclets in
     let h0 = g.head.low in let h1 = g.head.funclets in let h2 = g.more in
     record {
@@ -202,14 +202,14 @@ while_ends at room whole left c s text ts rest g =
     let i = g.head.is in
     while_found text room g.less at whole left (expression c) s i.0 g.mid rest g.more i.2 g.head.low (reads_from text g.less g.between whole left s g.mid rest p g.inner) ts i.1
 
-pub for_ends : (at room : ℕ) (whole left : Left) (f : ForFirst) (c n : Option Expr) (s : Statement) (text : List ℕ) (ts rest : List Token) → Holds text room whole left (heads.For at f c n) s ts rest → Reads text room whole left (For at (first f) (option_map expression c) (option_map expression n) s) ts rest
+pub for_ends : (at room : ℕ) (whole left : Left) (f : ForInitialiser) (c n : Option Expr) (s : Statement) (text : List ℕ) (ts rest : List Token) → Holds text room whole left (heads.For at f c n) s ts rest → Reads text room whole left (For at (first f) (option_map expression c) (option_map expression n) s) ts rest
 for_ends at room whole left f c n s text ts rest g =
     let i = g.head.is in let low = g.head.low in
     for_found text room g.less at whole g.between left (first f) (option_map expression c) (option_map expression n) s i.0 i.1 i.2 i.3 g.mid rest g.more (record { opens = i.5; is = i.6; low = omega arith; locals = g.head.locals; funclets = g.head.funclets }) i.7 (omega arith) i.8 (omega arith) g.inner ts i.4
 
 -- ---- `do`
 
-pub do_ends : (room p : ℕ) (whole left : Left) (s : Statement) (c : Expression) (text : List ℕ) (ts rest d e end : List Token) → Holds text room whole left heads.Do s ts rest → IsKeyword keywords.While p rest d → IsCondition text c d e → height c ≤ 64 → HasSign signs.Semicolon e end → Reads text room whole left (DoWhile s p c) ts end
+pub do_ends : (room p : ℕ) (whole left : Left) (s : Statement) (c : Expression) (text : List ℕ) (ts rest d e end : List Token) → Holds text room whole left heads.Do s ts rest → IsKeyword keywords.While p rest d → IsCondition text c d e → height c ≤ 64 → HasPunctuator punctuators.Semicolon e end → Reads text room whole left (DoWhile s p c) ts end
 do_ends room p whole left s c text ts rest d e end g k is low semi =
     let l = g.head.locals in
     let q = same_left g.between whole (omega arith) g.head.funclets in
@@ -225,7 +225,7 @@ do_reads room whole left s text text' ts rest all other g k r c =
 do_within : (n room : ℕ) (whole left : Left) (s : Statement) (c : Expression) (at : ℕ) (text text' : List ℕ) (ts rest : List Token) → Holds text room whole left heads.Do s ts rest → Alike text text' ts → (1 ≤ n → height c ≤ 64) → Within n text' (statements_over (DoWhile s at c)) room whole (DoWhile s at c)
 do_within n room whole left s c at text text' ts rest g k low =
     let m = head_moves heads.Do text ts g.mid g.head.is in
-    let d = ap (λ (x : List ℕ). length x) (same_numbered s text text' g.mid rest g.inner.is (alike_inner text text' m.front g.mid ts m.split k)) in
+    let d = ap (λ (x : List ℕ). length x) (same_funclets s text text' g.mid rest g.inner.is (alike_inner text text' m.front g.mid ts m.split k)) in
     let t = g.inner.taken in let t0 = t.statements in let t1 = t.expressions in let t2 = t.locals in let t3 = t.funclets in
     let h0 = g.head.locals in let h1 = g.head.funclets in let h2 = g.more in
     record { statements = λ i. omega arith; expressions = λ i. let a = low i in omega arith; locals = λ i. omega arith; funclets = λ i. omega arith }
@@ -257,9 +257,9 @@ abbrev pub DoCondition : Statement → ℕ → Expression → List ℕ → List 
 DoCondition s p c = Both (DoWhiles s p) (Condition c)
 
 abbrev pub DoAll : Statement → ℕ → Expression → List ℕ → List Token → List Token → Type 0
-DoAll s p c = Both (DoCondition s p c) (Sig signs.Semicolon)
+DoAll s p c = Both (DoCondition s p c) (Sig punctuators.Semicolon)
 
-do_item : (s : Statement) (p : ℕ) (c : Expression) (text : List ℕ) (ts rest : List Token) → IsFalse (is_declaration s) → DoAll s p c text ts rest → IsItem text (DoWhile s p c) ts rest
+do_item : (s : Statement) (p : ℕ) (c : Expression) (text : List ℕ) (ts rest : List Token) → IsFalse (is_declaration s) → DoAll s p c text ts rest → IsBlockItem text (DoWhile s p c) ts rest
 do_item s p c text ts rest f x = let y = x.first.first in (y.first.mid, y.mid, x.first.mid, x.mid, y.first.first, f, y.first.second, y.second, x.first.second, x.second)
 
 before_while : (s : Statement) (p : ℕ) (ts rest : List Token) → IsKeyword keywords.While p ts rest → Closed s ts
@@ -278,22 +278,22 @@ do_condition room p whole left s text ts rest d g key =
       more = semicolon;
       has = record {
         tree = DoWhile s p has.tree;
-        is = λ other. do_item s p has.tree text' (((front ++ inner) ++ semicolon) ++ other) other g.inner.statement (both_fixed (DoCondition s p has.tree) (Sig signs.Semicolon) text' (front ++ inner) semicolon (both_fixed (DoWhiles s p) (Condition has.tree) text' front inner r has.is) (λ o. a_sign signs.Semicolon o) other);
+        is = λ other. do_item s p has.tree text' (((front ++ inner) ++ semicolon) ++ other) other g.inner.statement (both_fixed (DoCondition s p has.tree) (Sig punctuators.Semicolon) text' (front ++ inner) semicolon (both_fixed (DoWhiles s p) (Condition has.tree) text' front inner r has.is) (λ o. a_punctuator punctuators.Semicolon o) other);
         statement = refl;
         within = do_within n room whole left s has.tree p text text' ts rest g k has.low;
       };
     })
 
-pub do_semicolon : (room p : ℕ) (whole left : Left) (s : Statement) (c : Expression) (text : List ℕ) (ts rest d e : List Token) → Holds text room whole left heads.Do s ts rest → IsKeyword keywords.While p rest d → IsCondition text c d e → height c ≤ 64 → Wraps (NoSign signs.Semicolon) (ASign signs.Semicolon) (NoStatement room whole) (HasStatement room whole) text e ts
+pub do_semicolon : (room p : ℕ) (whole left : Left) (s : Statement) (c : Expression) (text : List ℕ) (ts rest d e : List Token) → Holds text room whole left heads.Do s ts rest → IsKeyword keywords.While p rest d → IsCondition text c d e → height c ≤ 64 → Wraps (NoPunctuator punctuators.Semicolon) (APunctuator punctuators.Semicolon) (NoStatement room whole) (HasStatement room whole) text e ts
 do_semicolon room p whole left s c text ts rest d f g key is low =
-    wraps (DoCondition s p c) (NoSign signs.Semicolon) (ASign signs.Semicolon) (NoStatement room whole) (HasStatement room whole) text ts f
+    wraps (DoCondition s p c) (NoPunctuator punctuators.Semicolon) (APunctuator punctuators.Semicolon) (NoStatement room whole) (HasStatement room whole) text ts f
     (both_moves (DoWhiles s p) (Condition c) text ts d f (whiles_moves room p whole left s text ts rest d g key) (condition c text d f is))
     (λ n text' all other k e r none.
     let x = r.first.first in
     no_do_end n text' room g.less x.first.0 p whole left s c x.mid r.first.mid r.mid other (do_reads room whole left s text text' ts rest all r.first.mid g k x (before_while s p r.first.mid r.mid r.first.second)) r.first.second r.second none all x.first.1)
     (λ n text' front inner k r has. able_now (HasStatement room whole) n text' (front ++ inner) (record {
       tree = DoWhile s p c;
-      is = λ other. do_item s p c text' ((front ++ inner) ++ other) other g.inner.statement (both_fixed (DoCondition s p c) (Sig signs.Semicolon) text' front inner r has other);
+      is = λ other. do_item s p c text' ((front ++ inner) ++ other) other g.inner.statement (both_fixed (DoCondition s p c) (Sig punctuators.Semicolon) text' front inner r has other);
       statement = refl;
       within = do_within n room whole left s c p text text' ts rest g k (λ i. low);
     }))

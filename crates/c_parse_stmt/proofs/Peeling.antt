@@ -1,17 +1,17 @@
--- What stands around the parts of an expression that begins with opening parentheses.
+-- What is around the parts of an expression that begins with opening parentheses.
 use Rattle.std.proofs.Common.{◌≡◌, ◌≤◌, ◌<◌, ◌+◌, ℕ, zero, suc, List, [], ◌∷◌, ◌++◌, refl, sym, ap, ◌∙◌, subst, arith}
 use Rattle.std.proofs.lemmas.List.{append-nil}
-use Rattle.c_lex.specs.declared.sign.Sign.TheVariants as signs
+use Rattle.c_lex.specs.declared.punctuator.Punctuator.TheVariants as punctuators
 use Rattle.c_lex.specs.declared.token.Kind.{Kind}
 use Rattle.c_lex.specs.declared.token.Kind.TheVariants as kinds
 use Rattle.c_lex.specs.declared.token.Token.{Token}
 use Rattle.c_syntax.specs.declared.expression.Literal.TheVariants as literals
 use Rattle.c_syntax.specs.Expression.{Expression, Constant, Variable, Information, Call, Parentheses, Index, Postfix, Prefix, Unary, Cast, Binary, Conditional, Assign, Comma, height}
-use Rattle.c_syntax.specs.Expressions.{Spells}
+use Rattle.c_syntax.specs.Expressions.{SpellsExpression}
 use Rattle.c_syntax.specs.Faults.{SameFirst}
 use Rattle.c_syntax.specs.Statements.{IsCondition}
 use Rattle.c_syntax.specs.Steps.{IsHead}
-use Rattle.c_syntax.specs.Tokens.{HasSign}
+use Rattle.c_syntax.specs.Tokens.{HasPunctuator}
 use Rattle.c_syntax.specs.Types.{IsBase}
 use Rattle.c_syntax.proofs.Failing.{alike_same, first_keeps}
 use Rattle.c_syntax.proofs.Fronts.{kind_class, front, has_same, base_front, increment_class, unary_class}
@@ -22,7 +22,7 @@ use Rattle.c_parse_type.specs.Bases.{NoBase}
 use Rattle.c_parse_stmt.specs.Begins.{over_first, first_over, Expressed, BeginsExpression, BeginsNoExpression}
 use Rattle.c_parse_stmt.specs.Filters.{AreOpening, AreClosing, Continued, GoesInside, NoneInside}
 use Rattle.c_parse_stmt.specs.Parts.{NoCondition, HasCondition}
-use Rattle.c_parse_stmt.proofs.Begins.{sign, name, variable, base_at, untyped, sign_untyped}
+use Rattle.c_parse_stmt.proofs.Begins.{punctuator, name, variable, base_at, untyped, punctuator_untyped}
 use Rattle.c_parse_stmt.proofs.Nesting.{opening_again, opening_split, closing, closing_is, enclosed}
 use Rattle.c_parse_stmt.proofs.Placing.{front_first}
 
@@ -30,37 +30,37 @@ use Rattle.c_parse_stmt.proofs.Placing.{front_first}
 
 pub opening_untyped : (n : ℕ) (ts rest : List Token) → AreOpening n ts rest → (front rest ≡ 7 → ⊥) → front ts ≡ 7 → ⊥
 opening_untyped zero ts rest h other e = other (ap front (sym h) ∙ e)
-opening_untyped (suc n) ts rest h other e = let p = has_front signs.OpenParenthesis ts h.0 h.1 in absurd (omega arith)
+opening_untyped (suc n) ts rest h other e = let p = has_front punctuators.OpenParenthesis ts h.0 h.1 in absurd (omega arith)
 
--- where an expression begins with a parenthesis, and no type stands in it
-inner_head : (text : List ℕ) (n : ℕ) (ts y : List Token) → HasSign signs.OpenParenthesis ts y → (front y ≡ 7 → ⊥) → ((e : Expression) (rest r : List Token) → Spells text e y rest → HasSign signs.CloseParenthesis rest r → n ≤ height e) → (h : Expression) (after : List Token) → IsHead h → Spells text h ts after → suc n ≤ height h
-inner_head text n ts y o bare f (Constant at (literals.Integer value type)) after i s = let p = has_front signs.OpenParenthesis ts y o in let q = ap front s.1 in absurd (omega arith)
-inner_head text n ts y o bare f (Constant at (literals.Character value)) after i s = let p = has_front signs.OpenParenthesis ts y o in let q = ap front s.1 in absurd (omega arith)
-inner_head text n ts y o bare f (Variable named) after i s = let p = has_front signs.OpenParenthesis ts y o in let q = ap front s in absurd (omega arith)
-inner_head text n ts y o bare f (Information at field) after i s = let p = has_front signs.OpenParenthesis ts y o in let q = ap front s.6.1 in absurd (omega arith)
-inner_head text n ts y o bare f (Call named es) after i s = let p = has_front signs.OpenParenthesis ts y o in let q = ap front s.2 in absurd (omega arith)
+-- where an expression begins with a parenthesis, and no type is in it
+inner_head : (text : List ℕ) (n : ℕ) (ts y : List Token) → HasPunctuator punctuators.OpenParenthesis ts y → (front y ≡ 7 → ⊥) → ((e : Expression) (rest r : List Token) → SpellsExpression text e y rest → HasPunctuator punctuators.CloseParenthesis rest r → n ≤ height e) → (h : Expression) (after : List Token) → IsHead h → SpellsExpression text h ts after → suc n ≤ height h
+inner_head text n ts y o bare f (Constant at (literals.Integer value type)) after i s = let p = has_front punctuators.OpenParenthesis ts y o in let q = ap front s.1 in absurd (omega arith)
+inner_head text n ts y o bare f (Constant at (literals.CharacterConstant value)) after i s = let p = has_front punctuators.OpenParenthesis ts y o in let q = ap front s.1 in absurd (omega arith)
+inner_head text n ts y o bare f (Variable named) after i s = let p = has_front punctuators.OpenParenthesis ts y o in let q = ap front s in absurd (omega arith)
+inner_head text n ts y o bare f (Information at field) after i s = let p = has_front punctuators.OpenParenthesis ts y o in let q = ap front s.6.1 in absurd (omega arith)
+inner_head text n ts y o bare f (Call named es) after i s = let p = has_front punctuators.OpenParenthesis ts y o in let q = ap front s.2 in absurd (omega arith)
 inner_head text n ts y o bare f (Parentheses at e) after i s =
-    let p = has_same signs.OpenParenthesis ts ts s.0 y refl (at, s.2) o in
-    let q = f e s.1 after (subst (λ (z : List Token). Spells text e z s.1) p s.3) s.4 in
+    let p = has_same punctuators.OpenParenthesis ts ts s.0 y refl (at, s.2) o in
+    let q = f e s.1 after (subst (λ (z : List Token). SpellsExpression text e z s.1) p s.3) s.4 in
     omega arith
 inner_head text n ts y o bare f (Index a at j) after i s = absurd i
 inner_head text n ts y o bare f (Postfix e op at) after i s = absurd i
 inner_head text n ts y o bare f (Prefix at op e) after i s =
-    let p = has_front signs.OpenParenthesis ts y o in
+    let p = has_front punctuators.OpenParenthesis ts y o in
     let q : front ts ≡ 4 = ap front s.1.1 ∙ increment_class op in absurd (omega arith)
 inner_head text n ts y o bare f (Unary at op e) after i s =
-    let p = has_front signs.OpenParenthesis ts y o in
+    let p = has_front punctuators.OpenParenthesis ts y o in
     let q : front ts ≡ 5 = ap front s.1.1 ∙ unary_class op in absurd (omega arith)
 inner_head text n ts y o bare f (Cast at to e) after i s =
-    let p = has_same signs.OpenParenthesis ts ts s.0 y refl (at, s.3) o in
+    let p = has_same punctuators.OpenParenthesis ts ts s.0 y refl (at, s.3) o in
     absurd (bare (ap front (sym p) ∙ base_front to.base s.0 s.4.0 s.4.1))
 inner_head text n ts y o bare f (Binary a at op b) after i s = absurd i
 inner_head text n ts y o bare f (Conditional c at a b) after i s = absurd i
 inner_head text n ts y o bare f (Assign a at op b) after i s = absurd i
 inner_head text n ts y o bare f (Comma a at b) after i s = absurd i
 
-pub least : (m n : ℕ) (text : List ℕ) (ts v : List Token) → AreOpening m ts v → ((e : Expression) (rest r : List Token) → Spells text e v rest → HasSign signs.CloseParenthesis rest r → n ≤ height e) → (1 ≤ m → front v ≡ 7 → ⊥) → (e : Expression) (rest r : List Token) → Spells text e ts rest → HasSign signs.CloseParenthesis rest r → m + n ≤ height e
-least zero n text ts v h f bare e rest r s c = let q = f e rest r (subst (λ (z : List Token). Spells text e z rest) h s) c in omega arith
+pub least : (m n : ℕ) (text : List ℕ) (ts v : List Token) → AreOpening m ts v → ((e : Expression) (rest r : List Token) → SpellsExpression text e v rest → HasPunctuator punctuators.CloseParenthesis rest r → n ≤ height e) → (1 ≤ m → front v ≡ 7 → ⊥) → (e : Expression) (rest r : List Token) → SpellsExpression text e ts rest → HasPunctuator punctuators.CloseParenthesis rest r → m + n ≤ height e
+least zero n text ts v h f bare e rest r s c = let q = f e rest r (subst (λ (z : List Token). SpellsExpression text e z rest) h s) c in omega arith
 least (suc m) n text ts v h f bare e rest r s c =
     let x = spine text e ts rest s in
     let k = run_height text x.head x.steps x.after e rest x.run in
@@ -70,9 +70,9 @@ least (suc m) n text ts v h f bare e rest r s c =
 
 -- ---- by the first token
 
-head_over : (text : List ℕ) (h : Expression) (ts after : List Token) → IsHead h → Spells text h ts after → first_over ts ≤ height h
+head_over : (text : List ℕ) (h : Expression) (ts after : List Token) → IsHead h → SpellsExpression text h ts after → first_over ts ≤ height h
 head_over text (Constant at (literals.Integer value type)) ts after i s = let p = ap first_over s.1 in omega arith
-head_over text (Constant at (literals.Character value)) ts after i s = let p = ap first_over s.1 in omega arith
+head_over text (Constant at (literals.CharacterConstant value)) ts after i s = let p = ap first_over s.1 in omega arith
 head_over text (Variable named) ts after i s = let p = ap first_over s in omega arith
 head_over text (Information at field) ts after i s = let p = ap first_over s.6.1 in omega arith
 head_over text (Call named es) ts after i s = let p = ap first_over s.2 in omega arith
@@ -87,7 +87,7 @@ head_over text (Conditional c at a b) ts after i s = absurd i
 head_over text (Assign a at op b) ts after i s = absurd i
 head_over text (Comma a at b) ts after i s = absurd i
 
-over_least : (text : List ℕ) (e : Expression) (ts rest : List Token) → Spells text e ts rest → first_over ts ≤ height e
+over_least : (text : List ℕ) (e : Expression) (ts rest : List Token) → SpellsExpression text e ts rest → first_over ts ≤ height e
 over_least text e ts rest s =
     let x = spine text e ts rest s in
     let k = run_height text x.head x.steps x.after e rest x.run in
@@ -98,18 +98,18 @@ over_same : (ts other : List Token) → SameFirst ts other → first_over ts ≡
 over_same ts other same = first_keeps (λ z. first_over ts ≡ first_over z) (λ t xs ys n. n) ts other same refl
 
 kind_untyped : (k : Kind) → over_first k ≡ 1 → kind_class k ≡ 7 → ⊥
-kind_untyped kinds.Name h e = absurd (omega arith)
+kind_untyped kinds.Identifier h e = absurd (omega arith)
 kind_untyped (kinds.Keyword k) h e = absurd (omega arith)
 kind_untyped (kinds.Reserved r) h e = absurd (omega arith)
 kind_untyped (kinds.Integer value type) h e = absurd (omega arith)
-kind_untyped (kinds.Character value) h e = absurd (omega arith)
-kind_untyped (kinds.Sign s) h e = sign_untyped s e
+kind_untyped (kinds.CharacterConstant value) h e = absurd (omega arith)
+kind_untyped (kinds.Punctuator s) h e = punctuator_untyped s e
 
 over_untyped : (ts : List Token) → first_over ts ≡ 1 → front ts ≡ 7 → ⊥
 over_untyped [] h e = absurd (omega arith)
 over_untyped (t ∷ ts) h e = kind_untyped t.kind h e
 
--- ---- conditions behind opening parentheses
+-- ---- conditions after opening parentheses
 
 pub has_condition : (n : ℕ) (text : List ℕ) (ts : List Token) (e : Expression) → IsCondition text e ts [] → height e ≤ 64 → HasCondition n text ts
 has_condition n text ts e h low =
@@ -117,12 +117,12 @@ has_condition n text ts e h low =
     let p : ts ≡ m.front = m.split ∙ append-nil m.front in
     record { tree = e; is = λ other. subst (λ (z : List Token). IsCondition text e (z ++ other) other) (sym p) (m.again text other (alike_same text ts)); low = λ k. low }
 
--- behind the condition's own parenthesis
-pub none_inside : (m n : ℕ) (text : List ℕ) (before other : List Token) → AreOpening (suc m) before [] → ((e : Expression) (rest r : List Token) → Spells text e other rest → HasSign signs.CloseParenthesis rest r → n ≤ height e) → (1 ≤ m → front other ≡ 7 → ⊥) → 64 < m + n → NoCondition 1 text (before ++ other)
+-- after the condition's own parenthesis
+pub none_inside : (m n : ℕ) (text : List ℕ) (before other : List Token) → AreOpening (suc m) before [] → ((e : Expression) (rest r : List Token) → SpellsExpression text e other rest → HasPunctuator punctuators.CloseParenthesis rest r → n ≤ height e) → (1 ≤ m → front other ≡ 7 → ⊥) → 64 < m + n → NoCondition 1 text (before ++ other)
 none_inside m n text before other o f bare l e end h low =
     let x = opening_again (suc m) before other o in
-    let p = has_same signs.OpenParenthesis (before ++ other) (before ++ other) h.0 x.0 refl h.2 x.1 in
-    let q = least m n text x.0 other x.2 f bare e h.1 end (subst (λ (z : List Token). Spells text e z h.1) p h.3.spells) h.4 in
+    let p = has_same punctuators.OpenParenthesis (before ++ other) (before ++ other) h.0 x.0 refl h.2 x.1 in
+    let q = least m n text x.0 other x.2 f bare e h.1 end (subst (λ (z : List Token). SpellsExpression text e z h.1) p h.3.spells) h.4 in
     let r = low (omega arith) in
     absurd (omega arith)
 
@@ -166,7 +166,7 @@ goes_type (suc (suc n)) (t ∷ ts) l k h = (t, ts, refl, λ text before speaks o
   where
     continued : (text : List ℕ) (before : List Token) → AreOpening (suc (suc n)) before [] → Continued text before t
     continued text before o =
-        let more = sign signs.CloseParenthesis ∷ name ∷ closing (suc n) in
+        let more = punctuator punctuators.CloseParenthesis ∷ name ∷ closing (suc n) in
         let b = base_at t more h in
         let x = opening_split (suc n) 1 (suc (suc n)) (before ++ t ∷ more) (t ∷ more) (omega arith) (opening_again (suc (suc n)) before (t ∷ more) o) in
         let c = enclosed n text (Cast x.2.1.0 (record { base = b.0; pointers = 0 }) variable) (before ++ t ∷ more) x.0 (closing (suc n)) [] x.1
@@ -176,12 +176,12 @@ goes_type (suc (suc n)) (t ∷ ts) l k h = (t, ts, refl, λ text before speaks o
         record { more = more; has = has_condition 1 text (before ++ t ∷ more) c.tree c.is (omega arith) }
 
 kind_low : (k : Kind) → over_first k ≤ 1
-kind_low kinds.Name = omega arith
+kind_low kinds.Identifier = omega arith
 kind_low (kinds.Keyword k) = omega arith
 kind_low (kinds.Reserved r) = omega arith
 kind_low (kinds.Integer value type) = omega arith
-kind_low (kinds.Character value) = omega arith
-kind_low (kinds.Sign s) = omega arith
+kind_low (kinds.CharacterConstant value) = omega arith
+kind_low (kinds.Punctuator s) = omega arith
 
 pub over_low : (ts : List Token) → first_over ts ≤ 1
 over_low [] = omega arith

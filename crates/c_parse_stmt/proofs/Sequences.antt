@@ -1,13 +1,13 @@
--- Phrases one behind another: they move together, a failure of the second is one of both, and what completes the second completes both.
+-- Phrases one after another: they move together, a failure of the second is one of both, and what completes the second completes both.
 use Rattle.std.proofs.Common.{◌≡◌, ℕ, suc, List, [], ◌∷◌, ◌++◌, refl, sym, ap, ◌∙◌, subst}
 use Rattle.std.specs.Prelude.{Result, Ok, Err, IfOk, IfErr}
 use Rattle.c_lex.specs.declared.keyword.Keyword.{Keyword}
-use Rattle.c_lex.specs.declared.sign.Sign.{Sign}
+use Rattle.c_lex.specs.declared.punctuator.Punctuator.{Punctuator}
 use Rattle.c_lex.specs.declared.token.Kind.{Kind}
 use Rattle.c_lex.specs.declared.token.Kind.TheVariants as kinds
 use Rattle.c_lex.specs.declared.token.Token.{Token}
 use Rattle.c_syntax.specs.Faults.{Family, Alike, SameFirst, place, Able, Onward, Failed, Wraps}
-use Rattle.c_syntax.specs.Tokens.{token, IsKind, IsKeyword, HasSign}
+use Rattle.c_syntax.specs.Tokens.{token, IsKind, IsKeyword, HasPunctuator}
 use Rattle.c_syntax.proofs.Failing.{append_append, append_nothing, alike_inner, first_behind, wrapped}
 use Rattle.c_syntax.proofs.Moves.{Moves}
 use Rattle.c_parse_expr.specs.declared.refusal.ParseErr.{ParseErr}
@@ -61,14 +61,14 @@ both_moves R S text ts a rest m n = record {
 pub moves_so : (R S : Relation) (text : List ℕ) (ts rest : List Token) → ((text' : List ℕ) (us end : List Token) → R text' us end → S text' us end) → Moves R text ts rest → Moves S text ts rest
 moves_so R S text ts rest f m = record { front = m.front; split = m.split; again = λ text' other h. f text' (m.front ++ other) other (m.again text' other h) }
 
--- nothing stands before
+-- nothing is before
 abbrev pub Same : Relation
 Same text ts rest = ts ≡ rest
 
 pub same_moves : (text : List ℕ) (ts : List Token) → Moves Same text ts ts
 same_moves text ts = record { front = []; split = refl; again = λ text' other h. refl }
 
--- ---- a phrase behind another
+-- ---- a phrase after another
 
 pub able_now : (Has : Family) (n : ℕ) (text : List ℕ) (ts : List Token) → Has n text ts → Able Has n text ts
 able_now Has n text ts h = record { more = []; has = subst (λ (z : List Token). Has n text z) (sym (append_nothing ts)) h }
@@ -106,9 +106,9 @@ wraps_wraps A B A' B' A'' B'' text ts ts' ts'' v w = record {
 pub wraps_same : (A B : Family) (text : List ℕ) (ts : List Token) → Wraps A B A B text ts ts
 wraps_same A B text ts = record { before = []; split = refl; no = λ n text' other h s none. none; has = λ n text' inner h k has. able_now B n text' inner has }
 
--- ---- a failure behind a phrase
+-- ---- a failure after a phrase
 
--- at the first token behind it
+-- at the first token after it
 pub failed : (R : Relation) (kind : ℕ) (No Has : Family) (text : List ℕ) (ts rest : List Token) → Moves R text ts rest →
     ((text' : List ℕ) (all other : List Token) → Alike text text' ts → SameFirst rest other → R text' all other → No kind text' all) →
     ((text' : List ℕ) (front : List Token) → Alike text text' ts → Fixed R text' front → Able Has 6 text' front) →
@@ -118,7 +118,7 @@ failed R kind No Has text ts rest m f g o = record {
   front = m.front;
   fault = rest;
   split = m.split;
-  stands = refl;
+  located = refl;
   against = λ text' other h s. f text' (m.front ++ other) other h s (m.again text' other h);
   able = λ text' h k. g text' m.front h (λ other. m.again text' other h);
   further = λ text' k h s e. o text' k m.front h (λ other. m.again text' other h) e;
@@ -126,14 +126,14 @@ failed R kind No Has text ts rest m f g o = record {
 
 -- ---- closing tokens, wherever they stand
 
-abbrev pub sign : Sign → Token
-sign s = token (kinds.Sign s) 0 0
+abbrev pub punctuator : Punctuator → Token
+punctuator s = token (kinds.Punctuator s) 0 0
 
 abbrev pub word : Keyword → Token
 word k = token (kinds.Keyword k) 0 0
 
-pub a_sign : (s : Sign) (other : List Token) → HasSign s (sign s ∷ other) other
-a_sign s other = (0, (0, refl))
+pub a_punctuator : (s : Punctuator) (other : List Token) → HasPunctuator s (punctuator s ∷ other) other
+a_punctuator s other = (0, (0, refl))
 
 pub a_word : (k : Keyword) (other : List Token) → IsKeyword k 0 (word k ∷ other) other
 a_word k other = (0, refl)

@@ -1,21 +1,21 @@
 -- A declaration is its base and its locals; what a `for` does first is a declaration or an expression.
 use Rattle.std.proofs.Common.{◌≡◌, ◌≤◌, ℕ, List, [], ◌∷◌, ◌++◌, Option, Some, None, refl, sym, ap, ◌∙◌, subst, append_assoc, arith, inl, inr}
 use Rattle.std.proofs.lemmas.List.{append_cancel_right}
-use Rattle.c_lex.specs.declared.sign.Sign.TheVariants as signs
+use Rattle.c_lex.specs.declared.punctuator.Punctuator.TheVariants as punctuators
 use Rattle.c_lex.specs.declared.token.Token.{Token}
 use Rattle.c_syntax.specs.declared.expression.Base.{Base}
 use Rattle.c_syntax.specs.Expression.{Expression}
 use Rattle.c_syntax.specs.Faults.{Alike, SameFirst, place, Able, Onward, Failed, Wraps}
 use Rattle.c_syntax.specs.Limits.{one_over, one_over_locals}
 use Rattle.c_syntax.specs.Statement.{Local, Declaring, Evaluating}
-use Rattle.c_syntax.specs.Statements.{AreLocals, IsDeclaration, IsFirst}
+use Rattle.c_syntax.specs.Statements.{AreLocals, IsDeclaration, IsForInitialiser}
 use Rattle.c_syntax.specs.Types.{IsBase}
 use Rattle.c_syntax.proofs.Blocks.{locals_type, optional_front}
 use Rattle.c_syntax.proofs.Fronts.{base_front}
 use Rattle.c_syntax.proofs.Moves.{Moves, base}
 use Rattle.c_parse_type.specs.Bases.{NoBase, EndsBase}
-use Rattle.c_parse_stmt.specs.Parts.{NoneUpTo, HasUpTo, NoLocals, HasLocals, NoDeclaration, HasDeclaration, NoFirst, HasFirst}
-use Rattle.c_parse_stmt.proofs.Begins.{sign, name, base_first}
+use Rattle.c_parse_stmt.specs.Parts.{NoneUpTo, HasUpTo, NoLocals, HasLocals, NoDeclaration, HasDeclaration, NoForInitialiser, HasForInitialiser}
+use Rattle.c_parse_stmt.proofs.Begins.{punctuator, name, base_first}
 use Rattle.c_parse_stmt.proofs.Declarators.{plain}
 use Rattle.c_parse_stmt.proofs.Ends.{flat}
 use Rattle.c_parse_stmt.proofs.Placing.{front_first, missing}
@@ -28,42 +28,42 @@ no_base text ls ts rest h b end g = locals_type text ls ts rest h (base_front b 
 pub undeclared : (text : List ℕ) (room left : ℕ) (ts : List Token) → NoBase ts → Failed 0 (place text ts) (NoDeclaration room left) (HasDeclaration room left) text ts
 undeclared text room left ts none = missing (NoDeclaration room left) (HasDeclaration room left) text ts [] ts refl (λ text' other a same b ls end h w. base_first ts other same none b h.0 h.1) (λ text' a k. record { more = []; has = inl refl })
 
-pub full : (text : List ℕ) (room : ℕ) (ts behind : List Token) (b : Base) → IsBase b ts behind → Failed 2 (place text ts) (NoDeclaration room 0) (HasDeclaration room 0) text ts
-full text room ts behind b is = record {
+pub full : (text : List ℕ) (room : ℕ) (ts following : List Token) (b : Base) → IsBase b ts following → Failed 2 (place text ts) (NoDeclaration room 0) (HasDeclaration room 0) text ts
+full text room ts following b is = record {
   front = [];
   fault = ts;
   split = refl;
-  stands = refl;
+  located = refl;
   against = against;
   able = λ text' a k. record { more = []; has = inl refl };
   further = λ text' k a speaks e. let z : 1 ≡ k = omega arith in subst (λ n. Onward (HasDeclaration room 0) n text' [] ts) z (onward text' m.front m.split (λ other. m.again text' other a));
 }
   where
-    m : Moves (λ t. IsBase b) text ts behind
-    m = base b text ts behind is
+    m : Moves (λ t. IsBase b) text ts following
+    m = base b text ts following is
 
     against : (text' : List ℕ) (other : List Token) → Alike text text' ts → SameFirst ts other → NoDeclaration room 0 2 text' other
     against text' other a same c [] end h w = absurd h.2
     against text' other a same c (l ∷ ls) end h w = let n = w.count (omega arith) in absurd (omega arith)
 
-    onward : (text' : List ℕ) (before : List Token) → ts ≡ before ++ behind → ((other : List Token) → IsBase b (before ++ other) other) → Onward (HasDeclaration room 0) 1 text' [] ts
+    onward : (text' : List ℕ) (before : List Token) → ts ≡ before ++ following → ((other : List Token) → IsBase b (before ++ other) other) → Onward (HasDeclaration room 0) 1 text' [] ts
     onward text' [] e f = let p = base_front b [] [] (f []) in absurd (omega arith)
     onward text' (t ∷ before) e f = record {
       token = t;
-      rest = before ++ behind;
-      more = before ++ name ∷ sign signs.Semicolon ∷ [];
+      rest = before ++ following;
+      more = before ++ name ∷ punctuator punctuators.Semicolon ∷ [];
       is = e;
       has = inr (record {
         base = b;
         trees = plain ∷ [];
-        is = λ other. subst (λ (z : List Token). IsDeclaration text' b (plain ∷ []) (t ∷ z) other) (sym (append_assoc before (name ∷ sign signs.Semicolon ∷ []) other)) (name ∷ sign signs.Semicolon ∷ other, f (name ∷ sign signs.Semicolon ∷ other), (sign signs.Semicolon ∷ other, (_, _, refl, refl, refl), (0, (0, refl))));
+        is = λ other. subst (λ (z : List Token). IsDeclaration text' b (plain ∷ []) (t ∷ z) other) (sym (append_assoc before (name ∷ punctuator punctuators.Semicolon ∷ []) other)) (name ∷ punctuator punctuators.Semicolon ∷ other, f (name ∷ punctuator punctuators.Semicolon ∷ other), (punctuator punctuators.Semicolon ∷ other, (_, _, refl, refl, refl), (0, (0, refl))));
         within = record { expressions = λ k. omega arith; statements = λ k. omega arith; count = λ k. absurd (omega arith) };
       });
     }
 
-pub no_locals : (text : List ℕ) (room left : ℕ) (ts behind : List Token) (b : Base) → IsBase b ts behind → EndsBase b ts behind → Wraps (NoLocals room left) (HasLocals room left) (NoDeclaration room left) (HasDeclaration room left) text behind ts
-no_locals text room left ts behind b is ends =
-    let m = base b text ts behind is in
+pub no_locals : (text : List ℕ) (room left : ℕ) (ts following : List Token) (b : Base) → IsBase b ts following → EndsBase b ts following → Wraps (NoLocals room left) (HasLocals room left) (NoDeclaration room left) (HasDeclaration room left) text following ts
+no_locals text room left ts following b is ends =
+    let m = base b text ts following is in
     record {
       before = ends.front;
       split = ends.split;
@@ -76,7 +76,7 @@ no_locals text room left ts behind b is ends =
           base = b;
           trees = h.trees;
           is = λ other.
-              let p = append_cancel_right ends.front m.front behind (sym ends.split ∙ m.split) in
+              let p = append_cancel_right ends.front m.front following (sym ends.split ∙ m.split) in
               subst (λ (z : List Token). IsDeclaration text' b h.trees z other) (sym (flat ends.front inner [] other ∙ ap (λ z. z ++ (inner ++ other)) p)) (inner ++ other, m.again text' (inner ++ other) a, h.are other);
           within = h.within;
         });
@@ -97,34 +97,34 @@ some_at_most : (e : Option Expression) → one_over e ≤ 1
 some_at_most None = omega arith
 some_at_most (Some e) = omega arith
 
--- nothing, if no declaration stands there
-first_has : (left n : ℕ) (text : List ℕ) (ts : List Token) → HasDeclaration 1 left n text ts → Able (HasFirst left) n text ts
-first_has left n text ts (inl e) = subst (λ z. Able (HasFirst left) n text z) (sym e) (record {
-  more = sign signs.Semicolon ∷ [];
-  has = record { tree = Evaluating None; is = λ other. (sign signs.Semicolon ∷ other, refl, (0, (0, refl))); low = λ k. omega arith; count = λ k. omega arith };
+-- nothing, if no declaration is there
+first_has : (left n : ℕ) (text : List ℕ) (ts : List Token) → HasDeclaration 1 left n text ts → Able (HasForInitialiser left) n text ts
+first_has left n text ts (inl e) = subst (λ z. Able (HasForInitialiser left) n text z) (sym e) (record {
+  more = punctuator punctuators.Semicolon ∷ [];
+  has = record { tree = Evaluating None; is = λ other. (punctuator punctuators.Semicolon ∷ other, refl, (0, (0, refl))); low = λ k. omega arith; count = λ k. omega arith };
 })
 first_has left n text ts (inr d) = record {
   more = [];
   has = record {
     tree = Declaring d.base d.trees;
-    is = λ other. subst (λ (z : List Token). IsFirst text (Declaring d.base d.trees) z other) (sym (append_assoc ts [] other)) (d.is other);
+    is = λ other. subst (λ (z : List Token). IsForInitialiser text (Declaring d.base d.trees) z other) (sym (append_assoc ts [] other)) (d.is other);
     low = d.within.expressions;
     count = d.within.count;
   };
 }
 
-pub no_declaration : (text : List ℕ) (left : ℕ) (ts behind : List Token) (b : Base) → IsBase b ts behind → Wraps (NoDeclaration 1 left) (HasDeclaration 1 left) (NoFirst left) (HasFirst left) text ts ts
-no_declaration text left ts behind b is = record { before = []; split = refl; no = against; has = λ n text' inner a speaks h. first_has left n text' inner h }
+pub no_declaration : (text : List ℕ) (left : ℕ) (ts following : List Token) (b : Base) → IsBase b ts following → Wraps (NoDeclaration 1 left) (HasDeclaration 1 left) (NoForInitialiser left) (HasForInitialiser left) text ts ts
+no_declaration text left ts following b is = record { before = []; split = refl; no = against; has = λ n text' inner a speaks h. first_has left n text' inner h }
   where
-    against : (n : ℕ) (text' : List ℕ) (other : List Token) → Alike text text' ts → SameFirst ts other → NoDeclaration 1 left n text' other → NoFirst left n text' other
+    against : (n : ℕ) (text' : List ℕ) (other : List Token) → Alike text text' ts → SameFirst ts other → NoDeclaration 1 left n text' other → NoForInitialiser left n text' other
     against n text' other a same none (Declaring d ls) end h low count = none d ls end h (record { expressions = low; statements = λ k. one_at_most ls; count = count })
     against n text' other a same none (Evaluating e) end h low count =
-        let p = base_front b ts behind is in
+        let p = base_front b ts following is in
         let q = front_first ts other same in
-        let c = optional_front text' signs.Semicolon e other h.0 end refl h.1 h.2 in
+        let c = optional_front text' punctuators.Semicolon e other h.0 end refl h.1 h.2 in
         absurd (omega arith)
 
-pub no_optional : (text : List ℕ) (left : ℕ) (ts : List Token) → NoBase ts → Wraps (NoneUpTo signs.Semicolon 1) (HasUpTo signs.Semicolon 1) (NoFirst left) (HasFirst left) text ts ts
+pub no_optional : (text : List ℕ) (left : ℕ) (ts : List Token) → NoBase ts → Wraps (NoneUpTo punctuators.Semicolon 1) (HasUpTo punctuators.Semicolon 1) (NoForInitialiser left) (HasForInitialiser left) text ts ts
 no_optional text left ts none = record {
   before = [];
   split = refl;
@@ -133,13 +133,13 @@ no_optional text left ts none = record {
     more = [];
     has = record {
       tree = Evaluating h.tree;
-      is = λ other. subst (λ (z : List Token). IsFirst text' (Evaluating h.tree) z other) (sym (append_assoc inner [] other)) (h.is other);
+      is = λ other. subst (λ (z : List Token). IsForInitialiser text' (Evaluating h.tree) z other) (sym (append_assoc inner [] other)) (h.is other);
       low = h.low;
       count = λ k. omega arith;
     };
   };
 }
   where
-    against : (n : ℕ) (text' : List ℕ) (other : List Token) → Alike text text' ts → SameFirst ts other → NoneUpTo signs.Semicolon 1 n text' other → NoFirst left n text' other
+    against : (n : ℕ) (text' : List ℕ) (other : List Token) → Alike text text' ts → SameFirst ts other → NoneUpTo punctuators.Semicolon 1 n text' other → NoForInitialiser left n text' other
     against n text' other a same nothing (Declaring d ls) end h low count = absurd (base_first ts other same none d h.0 h.1)
     against n text' other a same nothing (Evaluating e) end h low count = nothing e end h low (λ k. some_at_most e)

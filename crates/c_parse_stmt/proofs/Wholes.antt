@@ -1,23 +1,23 @@
--- Statements from their parts: what is read, and that nothing stands at the front where a part is missing.
+-- Statements from their parts: what is read, and that nothing is at the front where a part is missing.
 use Rattle.std.proofs.Common.{◌≡◌, ◌≤◌, ◌<◌, ◌+◌, ℕ, Bool, true, false, IsTrue, IsFalse, cond, List, [], ◌∷◌, length, length-append, Option, Some, None, refl, sym, ap, subst, arith, inl, inr}
 use Rattle.std.specs.Prelude.{◌⊎◌}
 use Rattle.c_lex.specs.declared.keyword.Keyword.{Keyword}
 use Rattle.c_lex.specs.declared.keyword.Keyword.TheVariants as keywords
-use Rattle.c_lex.specs.declared.sign.Sign.{Sign}
-use Rattle.c_lex.specs.declared.sign.Sign.TheVariants as signs
+use Rattle.c_lex.specs.declared.punctuator.Punctuator.{Punctuator}
+use Rattle.c_lex.specs.declared.punctuator.Punctuator.TheVariants as punctuators
 use Rattle.c_lex.specs.declared.token.Token.{Token}
 use Rattle.c_syntax.specs.Expression.{Expression, height}
-use Rattle.c_syntax.specs.Follow.{sign_follows, NoElse, Closed}
-use Rattle.c_syntax.specs.Limits.{height_of, one_over, height_of_first, statements_over, locals, locals_of_all, locals_of_first, accepts, numbered, all_numbered}
-use Rattle.c_syntax.specs.Statement.{First, Statement, Declare, Block, Evaluate, If, IfElse, While, DoWhile, For, Return, Break, Continue, Leave, TryExcept, TryFinally, Statements}
-use Rattle.c_syntax.specs.Statements.{IsCondition, IsFirst, dangles, IsItem, AreItems}
-use Rattle.c_syntax.specs.Tokens.{IsKeyword, HasSign, HasKeyword}
-use Rattle.c_syntax.proofs.Fronts.{keyword_same, has_same, sign_class}
+use Rattle.c_syntax.specs.Follow.{punctuator_follows, NoElse, Closed}
+use Rattle.c_syntax.specs.Limits.{height_of, one_over, height_of_for_initialiser, statements_over, locals, locals_of_all, locals_of_for_initialiser, accepts, numbered, funclets_of_all}
+use Rattle.c_syntax.specs.Statement.{ForInitialiser, Statement, Declare, Block, Evaluate, If, IfElse, While, DoWhile, For, Return, Break, Continue, Leave, TryExcept, TryFinally, Statements}
+use Rattle.c_syntax.specs.Statements.{IsCondition, IsForInitialiser, dangles, IsBlockItem, AreBlockItems}
+use Rattle.c_syntax.specs.Tokens.{IsKeyword, HasPunctuator, HasKeyword}
+use Rattle.c_syntax.proofs.Fronts.{keyword_same, has_same, punctuator_class}
 use Rattle.c_syntax.proofs.Blocks.{condition, optional, first, place, word, absent, while_else, same_items, one_statement}
 use Rattle.c_parse_stmt.specs.declared.left.Left.{Left}
 use Rattle.c_parse_stmt.specs.Filters.{numbers_of, NoFilter}
-use Rattle.c_parse_stmt.specs.Parts.{IsUpTo, NoCondition, NoneUpTo, NoFirst}
-use Rattle.c_parse_stmt.specs.Within.{AllWithin, AllTaken, NoItems, Within, Reads, NoStatement, NoEvaluation, Behind}
+use Rattle.c_parse_stmt.specs.Parts.{IsUpTo, NoCondition, NoneUpTo, NoForInitialiser}
+use Rattle.c_parse_stmt.specs.Within.{AllWithin, AllTaken, NoBlockItems, Within, Reads, NoStatement, NoEvaluation, Behind}
 use Rattle.c_parse_stmt.proofs.Tails.{IsBraced, AfterIf, AfterIfElse, AfterExcept, AfterFinally, after_if, after_while, after_do, after_for, after_return, after_break, after_continue, after_leave, after_try, after_brace}
 
 abbrev Fits : ℕ → List ℕ → ℕ → Left → Statement → Type 0
@@ -26,9 +26,9 @@ Fits limits text room left s = Within limits text (statements_over s) room left 
 abbrev pub NoneBraced : ℕ → Left → ℕ → List ℕ → List Token → Type 0
 NoneBraced room left n text ts = (ss : Statements) (end : List Token) → IsBraced text ss ts end → AllWithin n text room left ss → ⊥
 
--- the sign isn't at the front
-abbrev pub Lacks : Sign → List Token → Type 0
-Lacks s ts = (rest : List Token) → HasSign s ts rest → ⊥
+-- the punctuator isn't at the front
+abbrev pub Lacks : Punctuator → List Token → Type 0
+Lacks s ts = (rest : List Token) → HasPunctuator s ts rest → ⊥
 
 fits : (limits : ℕ) (text : List ℕ) (room : ℕ) (left : Left) (s z : Statement) → s ≡ z → Fits limits text room left s → Fits limits text room left z
 fits limits text room left s z e w = subst (λ (x : Statement). Fits limits text room left x) e w
@@ -63,7 +63,7 @@ no_while_body limits text room less at left e a b n is none ts k s end h d c w =
     let t = after_while text at s ts a end k h in
     let v = fits limits text room left s (While at t.0 t.1) t.3 w in
     let p = after_condition text e t.0 a b t.2 is t.4 in
-    none t.1 end (subst (λ (y : List Token). IsItem text t.1 y end) (sym p) t.6) t.5 (closed_as s (While at t.0 t.1) end t.3 c) (record { statements = λ lim. let o = v.statements lim in omega arith; expressions = λ lim. let o = v.expressions lim in omega arith; locals = v.locals; funclets = v.funclets })
+    none t.1 end (subst (λ (y : List Token). IsBlockItem text t.1 y end) (sym p) t.6) t.5 (closed_as s (While at t.0 t.1) end t.3 c) (record { statements = λ lim. let o = v.statements lim in omega arith; expressions = λ lim. let o = v.expressions lim in omega arith; locals = v.locals; funclets = v.funclets })
 
 -- ---- `if`
 
@@ -89,11 +89,11 @@ no_then limits text room less at left e a b n is none ts k s end h d c w = by (a
         let v = fits limits text room left s (If at t.0 t.1) t.3 w in
         let p = after_condition text e t.0 a b t.2 is t.4 in
         let f : NoElse end = closed_as s (If at t.0 t.1) end t.3 c refl in
-        none t.1 end (subst (λ (y : List Token). IsItem text t.1 y end) (sym p) t.6) t.5 (λ i. f) (record { statements = λ lim. let o = v.statements lim in omega arith; expressions = λ lim. let o = v.expressions lim in omega arith; locals = v.locals; funclets = v.funclets })
+        none t.1 end (subst (λ (y : List Token). IsBlockItem text t.1 y end) (sym p) t.6) t.5 (λ i. f) (record { statements = λ lim. let o = v.statements lim in omega arith; expressions = λ lim. let o = v.expressions lim in omega arith; locals = v.locals; funclets = v.funclets })
     by (inr t) =
         let v = fits limits text room left s (IfElse at t.0 t.1 t.2) t.6 w in
         let p = after_condition text e t.0 a b t.3 is t.7 in
-        none t.1 t.4 (subst (λ (y : List Token). IsItem text t.1 y t.4) (sym p) t.10) t.8 (absent t.1 t.4 t.9) (record { statements = λ lim. let o = v.statements lim in omega arith; expressions = λ lim. let o = v.expressions lim in omega arith; locals = λ lim. let o = v.locals lim in omega arith; funclets = λ lim. let o = v.funclets lim in omega (arith, length-append {A = ℕ}) })
+        none t.1 t.4 (subst (λ (y : List Token). IsBlockItem text t.1 y t.4) (sym p) t.10) t.8 (absent t.1 t.4 t.9) (record { statements = λ lim. let o = v.statements lim in omega arith; expressions = λ lim. let o = v.expressions lim in omega arith; locals = λ lim. let o = v.locals lim in omega arith; funclets = λ lim. let o = v.funclets lim in omega (arith, length-append {A = ℕ}) })
 
 pub no_otherwise : (limits : ℕ) (text : List ℕ) (room less at : ℕ) (left mid : Left) (e : Expression) (z : Statement) (a b j g : List Token) → less + 1 ≡ room → IsCondition text e a b → Reads text less left mid z b j → HasKeyword keywords.Else j g → NoStatement less mid limits text g → Behind keywords.If at a (NoStatement room left limits text)
 no_otherwise limits text room less at left mid e z a b j g n is r els none ts k s end h d c w = by (after_if text at s ts a end k h)
@@ -102,17 +102,17 @@ no_otherwise limits text room less at left mid e z a b j g n is r els none ts k 
     by (inl t) =
         let p = after_condition text e t.0 a b t.2 is t.4 in
         let f : NoElse end = closed_as s (If at t.0 t.1) end t.3 c refl in
-        let u = one_statement text z t.1 b j end r.is (subst (λ (y : List Token). IsItem text t.1 y end) (sym p) t.6) r.closed (λ i. f) in
+        let u = one_statement text z t.1 b j end r.is (subst (λ (y : List Token). IsBlockItem text t.1 y end) (sym p) t.6) r.closed (λ i. f) in
         f g (subst (λ (y : List Token). HasKeyword keywords.Else y g) u.1 els)
     by (inr t) =
         let v = fits limits text room left s (IfElse at t.0 t.1 t.2) t.6 w in
         let p = after_condition text e t.0 a b t.3 is t.7 in
-        let u = one_statement text z t.1 b j t.4 r.is (subst (λ (y : List Token). IsItem text t.1 y t.4) (sym p) t.10) r.closed (absent t.1 t.4 t.9) in
+        let u = one_statement text z t.1 b j t.4 r.is (subst (λ (y : List Token). IsBlockItem text t.1 y t.4) (sym p) t.10) r.closed (absent t.1 t.4 t.9) in
         let q = word keywords.Else j t.4 g t.5 u.1 els t.11 in
         let i = r.taken in let i0 = i.locals in let i1 = i.funclets in
         let m0 = ap locals u.0 in
         let m1 = ap (λ (y : Statement). length (numbered text y)) u.0 in
-        none t.2 end (subst (λ (y : List Token). IsItem text t.2 y end) (sym q) t.13) t.12 (closed_as s (IfElse at t.0 t.1 t.2) end t.6 c) (record { statements = λ lim. let o = v.statements lim in omega arith; expressions = λ lim. let o = v.expressions lim in omega arith; locals = λ lim. let o = v.locals lim in omega arith; funclets = λ lim. let o = v.funclets lim in omega (arith, length-append {A = ℕ}) })
+        none t.2 end (subst (λ (y : List Token). IsBlockItem text t.2 y end) (sym q) t.13) t.12 (closed_as s (IfElse at t.0 t.1 t.2) end t.6 c) (record { statements = λ lim. let o = v.statements lim in omega arith; expressions = λ lim. let o = v.expressions lim in omega arith; locals = λ lim. let o = v.locals lim in omega arith; funclets = λ lim. let o = v.funclets lim in omega (arith, length-append {A = ℕ}) })
 
 pub if_found : (text : List ℕ) (room less at : ℕ) (left after : Left) (c : Expression) (z : Statement) (a b rest : List Token) → less + 1 ≡ room → IsCondition text c a b → height c ≤ 64 → Reads text less left after z b rest → NoElse rest → Behind keywords.If at a (λ ts. Reads text room left after (If at c z) ts rest)
 if_found text room less at left after c z a b rest n is low r f ts k =
@@ -161,55 +161,55 @@ no_do_condition limits text room less at p left mid z a b j r kw none ts k s end
     let u = place keywords.While p t.1 b t.3 j t.4 q kw t.9 in
     none t.2 t.5 (subst (λ (y : List Token). IsCondition text t.2 y t.5) (sym u.1) t.10) (λ lim. let o = v.expressions lim in omega arith)
 
-pub no_do_end : (limits : ℕ) (text : List ℕ) (room less at p : ℕ) (left mid : Left) (z : Statement) (e : Expression) (a b j g : List Token) → Reads text less left mid z a b → IsKeyword keywords.While p b j → IsCondition text e j g → Lacks signs.Semicolon g → Behind keywords.Do at a (NoStatement room left limits text)
+pub no_do_end : (limits : ℕ) (text : List ℕ) (room less at p : ℕ) (left mid : Left) (z : Statement) (e : Expression) (a b j g : List Token) → Reads text less left mid z a b → IsKeyword keywords.While p b j → IsCondition text e j g → Lacks punctuators.Semicolon g → Behind keywords.Do at a (NoStatement room left limits text)
 no_do_end limits text room less at p left mid z e a b j g r kw is none ts k s end h d c w =
     let t = after_do text at s ts a end k h in
     let q = (one_statement text z t.0 a b t.3 r.is t.8 r.closed (λ i. while_else t.1 t.3 t.4 t.9)).1 in
     let u = place keywords.While p t.1 b t.3 j t.4 q kw t.9 in
     let v = condition text e t.2 j t.4 g t.5 u.1 is t.10 in
-    none end (subst (λ (y : List Token). HasSign signs.Semicolon y end) (sym v.1) t.11)
+    none end (subst (λ (y : List Token). HasPunctuator punctuators.Semicolon y end) (sym v.1) t.11)
 
-pub do_found : (text : List ℕ) (room less at p : ℕ) (left after : Left) (z : Statement) (c : Expression) (a b d e rest : List Token) → less + 1 ≡ room → Reads text less left after z a b → IsKeyword keywords.While p b d → IsCondition text c d e → height c ≤ 64 → HasSign signs.Semicolon e rest → Behind keywords.Do at a (λ ts. Reads text room left after (DoWhile z p c) ts rest)
+pub do_found : (text : List ℕ) (room less at p : ℕ) (left after : Left) (z : Statement) (c : Expression) (a b d e rest : List Token) → less + 1 ≡ room → Reads text less left after z a b → IsKeyword keywords.While p b d → IsCondition text c d e → height c ≤ 64 → HasPunctuator punctuators.Semicolon e rest → Behind keywords.Do at a (λ ts. Reads text room left after (DoWhile z p c) ts rest)
 do_found text room less at p left after z c a b d e rest n r kw is low semi ts k =
     let t = r.taken in let o = t.statements in let x = t.expressions in
     record { is = (a, b, d, e, (at, k), r.statement, r.is, kw, is, semi); statement = refl; closed = λ i. absurd cc; taken = record { statements = omega arith; expressions = omega arith; locals = t.locals; funclets = t.funclets } }
 
 -- ---- expressions, `return` and jumps
 
-up_to : (text : List ℕ) (s : Sign) (e f : Option Expression) (ts us r q : List Token) → ts ≡ us → 16 < sign_follows s → sign_class s ≡ 6 → IsUpTo text s e ts r → IsUpTo text s f us q → r ≡ q
+up_to : (text : List ℕ) (s : Punctuator) (e f : Option Expression) (ts us r q : List Token) → ts ≡ us → 16 < punctuator_follows s → punctuator_class s ≡ 6 → IsUpTo text s e ts r → IsUpTo text s f us q → r ≡ q
 up_to text s e f ts us r q p l c h g = (optional text s e f ts us h.0 g.0 r q p l c h.1 g.1 h.2 g.2).1
 
-pub evaluated : (text : List ℕ) (room : ℕ) (left : Left) (e : Option Expression) (ts rest : List Token) → IsUpTo text signs.Semicolon e ts rest → height_of e ≤ 64 → one_over e ≤ room → Reads text room left left (Evaluate e) ts rest
+pub evaluated : (text : List ℕ) (room : ℕ) (left : Left) (e : Option Expression) (ts rest : List Token) → IsUpTo text punctuators.Semicolon e ts rest → height_of e ≤ 64 → one_over e ≤ room → Reads text room left left (Evaluate e) ts rest
 evaluated text room left e ts rest is low over = record { is = is; statement = refl; closed = λ i. absurd cc; taken = record { statements = over; expressions = low; locals = omega arith; funclets = omega arith } }
 
-pub no_evaluation : (limits : ℕ) (text : List ℕ) (room : ℕ) (left : Left) (ts : List Token) → NoneUpTo signs.Semicolon room limits text ts → NoEvaluation room left limits text ts
+pub no_evaluation : (limits : ℕ) (text : List ℕ) (room : ℕ) (left : Left) (ts : List Token) → NoneUpTo punctuators.Semicolon room limits text ts → NoEvaluation room left limits text ts
 no_evaluation limits text room left ts none e end h w = none e end h w.expressions w.statements
 
-pub returned : (text : List ℕ) (room at : ℕ) (left : Left) (e : Option Expression) (a rest : List Token) → IsUpTo text signs.Semicolon e a rest → height_of e ≤ 64 → one_over e ≤ room → Behind keywords.Return at a (λ ts. Reads text room left left (Return at e) ts rest)
+pub returned : (text : List ℕ) (room at : ℕ) (left : Left) (e : Option Expression) (a rest : List Token) → IsUpTo text punctuators.Semicolon e a rest → height_of e ≤ 64 → one_over e ≤ room → Behind keywords.Return at a (λ ts. Reads text room left left (Return at e) ts rest)
 returned text room at left e a rest is low over ts k = record { is = (a, is.0, k, is.1, is.2); statement = refl; closed = λ i. absurd cc; taken = record { statements = over; expressions = low; locals = omega arith; funclets = omega arith } }
 
-pub no_return : (limits : ℕ) (text : List ℕ) (room at : ℕ) (left : Left) (a : List Token) → NoneUpTo signs.Semicolon room limits text a → Behind keywords.Return at a (NoStatement room left limits text)
+pub no_return : (limits : ℕ) (text : List ℕ) (room at : ℕ) (left : Left) (a : List Token) → NoneUpTo punctuators.Semicolon room limits text a → Behind keywords.Return at a (NoStatement room left limits text)
 no_return limits text room at left a none ts k s end h d c w =
     let t = after_return text at s ts a end k h in
     let v = fits limits text room left s (Return at t.0) t.1 w in
     none t.0 end t.2 v.expressions v.statements
 
-pub broken : (text : List ℕ) (room at : ℕ) (left : Left) (ts a rest : List Token) → IsKeyword keywords.Break at ts a → HasSign signs.Semicolon a rest → Reads text room left left (Break at) ts rest
+pub broken : (text : List ℕ) (room at : ℕ) (left : Left) (ts a rest : List Token) → IsKeyword keywords.Break at ts a → HasPunctuator punctuators.Semicolon a rest → Reads text room left left (Break at) ts rest
 broken text room at left ts a rest k h = record { is = (a, k, h); statement = refl; closed = λ i. absurd cc; taken = record { statements = omega arith; expressions = omega arith; locals = omega arith; funclets = omega arith } }
 
-pub continued : (text : List ℕ) (room at : ℕ) (left : Left) (ts a rest : List Token) → IsKeyword keywords.Continue at ts a → HasSign signs.Semicolon a rest → Reads text room left left (Continue at) ts rest
+pub continued : (text : List ℕ) (room at : ℕ) (left : Left) (ts a rest : List Token) → IsKeyword keywords.Continue at ts a → HasPunctuator punctuators.Semicolon a rest → Reads text room left left (Continue at) ts rest
 continued text room at left ts a rest k h = record { is = (a, k, h); statement = refl; closed = λ i. absurd cc; taken = record { statements = omega arith; expressions = omega arith; locals = omega arith; funclets = omega arith } }
 
-pub left_by : (text : List ℕ) (room at : ℕ) (left : Left) (ts a rest : List Token) → IsKeyword keywords.Leave at ts a → HasSign signs.Semicolon a rest → Reads text room left left (Leave at) ts rest
+pub left_by : (text : List ℕ) (room at : ℕ) (left : Left) (ts a rest : List Token) → IsKeyword keywords.Leave at ts a → HasPunctuator punctuators.Semicolon a rest → Reads text room left left (Leave at) ts rest
 left_by text room at left ts a rest k h = record { is = (a, k, h); statement = refl; closed = λ i. absurd cc; taken = record { statements = omega arith; expressions = omega arith; locals = omega arith; funclets = omega arith } }
 
-pub no_break : (limits : ℕ) (text : List ℕ) (room at : ℕ) (left : Left) (ts a : List Token) → IsKeyword keywords.Break at ts a → Lacks signs.Semicolon a → NoStatement room left limits text ts
+pub no_break : (limits : ℕ) (text : List ℕ) (room at : ℕ) (left : Left) (ts a : List Token) → IsKeyword keywords.Break at ts a → Lacks punctuators.Semicolon a → NoStatement room left limits text ts
 no_break limits text room at left ts a k none s end h d c w = none end (after_break text at s ts a end k h)
 
-pub no_continue : (limits : ℕ) (text : List ℕ) (room at : ℕ) (left : Left) (ts a : List Token) → IsKeyword keywords.Continue at ts a → Lacks signs.Semicolon a → NoStatement room left limits text ts
+pub no_continue : (limits : ℕ) (text : List ℕ) (room at : ℕ) (left : Left) (ts a : List Token) → IsKeyword keywords.Continue at ts a → Lacks punctuators.Semicolon a → NoStatement room left limits text ts
 no_continue limits text room at left ts a k none s end h d c w = none end (after_continue text at s ts a end k h)
 
-pub no_leave : (limits : ℕ) (text : List ℕ) (room at : ℕ) (left : Left) (ts a : List Token) → IsKeyword keywords.Leave at ts a → Lacks signs.Semicolon a → NoStatement room left limits text ts
+pub no_leave : (limits : ℕ) (text : List ℕ) (room at : ℕ) (left : Left) (ts a : List Token) → IsKeyword keywords.Leave at ts a → Lacks punctuators.Semicolon a → NoStatement room left limits text ts
 no_leave limits text room at left ts a k none s end h d c w = none end (after_leave text at s ts a end k h)
 
 -- ---- `for`
@@ -219,58 +219,58 @@ no_for_room limits text room at left a i n ts k s end h d c w =
     let t = after_for text at s ts a end k h in
     let v = fits limits text room left s (For at t.0 t.1 t.2 t.3) t.8 w in let o = v.statements (omega arith) in absurd (omega arith)
 
-pub no_for_open : (limits : ℕ) (text : List ℕ) (room at : ℕ) (left : Left) (a : List Token) → Lacks signs.OpenParenthesis a → Behind keywords.For at a (NoStatement room left limits text)
+pub no_for_open : (limits : ℕ) (text : List ℕ) (room at : ℕ) (left : Left) (a : List Token) → Lacks punctuators.OpenParenthesis a → Behind keywords.For at a (NoStatement room left limits text)
 no_for_open limits text room at left a none ts k s end h d c w = let t = after_for text at s ts a end k h in none t.4 t.9
 
-pub no_for_first : (limits : ℕ) (text : List ℕ) (room at : ℕ) (left : Left) (a b : List Token) → HasSign signs.OpenParenthesis a b → NoFirst left.locals limits text b → Behind keywords.For at a (NoStatement room left limits text)
-no_for_first limits text room at left a b o none ts k s end h d c w =
+pub no_for_initialiser : (limits : ℕ) (text : List ℕ) (room at : ℕ) (left : Left) (a b : List Token) → HasPunctuator punctuators.OpenParenthesis a b → NoForInitialiser left.locals limits text b → Behind keywords.For at a (NoStatement room left limits text)
+no_for_initialiser limits text room at left a b o none ts k s end h d c w =
     let t = after_for text at s ts a end k h in
     let v = fits limits text room left s (For at t.0 t.1 t.2 t.3) t.8 w in
-    let p = has_same signs.OpenParenthesis a a b t.4 refl o t.9 in
-    none t.0 t.5 (subst (λ (y : List Token). IsFirst text t.0 y t.5) (sym p) t.10) (λ lim. let o = v.expressions lim in omega arith) (λ lim. let o = v.locals lim in omega arith)
+    let p = has_same punctuators.OpenParenthesis a a b t.4 refl o t.9 in
+    none t.0 t.5 (subst (λ (y : List Token). IsForInitialiser text t.0 y t.5) (sym p) t.10) (λ lim. let o = v.expressions lim in omega arith) (λ lim. let o = v.locals lim in omega arith)
 
--- what was read behind `for`
-pub record Started (text : List ℕ) (left mid : Left) (f : First) (a b e : List Token) : Type 0 where
-  pub opens : HasSign signs.OpenParenthesis a b
-  pub is : IsFirst text f b e
-  pub low : height_of_first f ≤ 64
-  pub locals : mid.locals + locals_of_first f ≡ left.locals
+-- what was read after `for`
+pub record Started (text : List ℕ) (left mid : Left) (f : ForInitialiser) (a b e : List Token) : Type 0 where
+  pub opens : HasPunctuator punctuators.OpenParenthesis a b
+  pub is : IsForInitialiser text f b e
+  pub low : height_of_for_initialiser f ≤ 64
+  pub locals : mid.locals + locals_of_for_initialiser f ≡ left.locals
   pub funclets : mid.funclets ≡ left.funclets
 
-after_first : (text : List ℕ) (left mid : Left) (f g : First) (a b e d r : List Token) → Started text left mid f a b e → HasSign signs.OpenParenthesis a d → IsFirst text g d r → (f ≡ g) × (e ≡ r)
-after_first text left mid f g a b e d r st o i = first text f g b d e r (has_same signs.OpenParenthesis a a b d refl st.opens o) st.is i
+after_first : (text : List ℕ) (left mid : Left) (f g : ForInitialiser) (a b e d r : List Token) → Started text left mid f a b e → HasPunctuator punctuators.OpenParenthesis a d → IsForInitialiser text g d r → (f ≡ g) × (e ≡ r)
+after_first text left mid f g a b e d r st o i = first text f g b d e r (has_same punctuators.OpenParenthesis a a b d refl st.opens o) st.is i
 
 some_over : (e : Option Expression) → one_over e ≤ 1
 some_over None = omega arith
 some_over (Some e) = omega arith
 
-pub no_for_condition : (limits : ℕ) (text : List ℕ) (room at : ℕ) (left mid : Left) (f : First) (a b e : List Token) → Started text left mid f a b e → NoneUpTo signs.Semicolon 1 limits text e → Behind keywords.For at a (NoStatement room left limits text)
+pub no_for_condition : (limits : ℕ) (text : List ℕ) (room at : ℕ) (left mid : Left) (f : ForInitialiser) (a b e : List Token) → Started text left mid f a b e → NoneUpTo punctuators.Semicolon 1 limits text e → Behind keywords.For at a (NoStatement room left limits text)
 no_for_condition limits text room at left mid f a b e st none ts k s end h d c w =
     let t = after_for text at s ts a end k h in
     let v = fits limits text room left s (For at t.0 t.1 t.2 t.3) t.8 w in
     let p = after_first text left mid f t.0 a b e t.4 t.5 st t.9 t.10 in
-    none t.1 t.6 (subst (λ (y : List Token). IsUpTo text signs.Semicolon t.1 y t.6) (sym p.1) t.11) (λ lim. let o = v.expressions lim in omega arith) (λ i. some_over t.1)
+    none t.1 t.6 (subst (λ (y : List Token). IsUpTo text punctuators.Semicolon t.1 y t.6) (sym p.1) t.11) (λ lim. let o = v.expressions lim in omega arith) (λ i. some_over t.1)
 
-pub no_for_next : (limits : ℕ) (text : List ℕ) (room at : ℕ) (left mid : Left) (f : First) (m : Option Expression) (a b e g : List Token) → Started text left mid f a b e → IsUpTo text signs.Semicolon m e g → NoneUpTo signs.CloseParenthesis 1 limits text g → Behind keywords.For at a (NoStatement room left limits text)
+pub no_for_next : (limits : ℕ) (text : List ℕ) (room at : ℕ) (left mid : Left) (f : ForInitialiser) (m : Option Expression) (a b e g : List Token) → Started text left mid f a b e → IsUpTo text punctuators.Semicolon m e g → NoneUpTo punctuators.CloseParenthesis 1 limits text g → Behind keywords.For at a (NoStatement room left limits text)
 no_for_next limits text room at left mid f m a b e g st is none ts k s end h d c w =
     let t = after_for text at s ts a end k h in
     let v = fits limits text room left s (For at t.0 t.1 t.2 t.3) t.8 w in
     let p = after_first text left mid f t.0 a b e t.4 t.5 st t.9 t.10 in
-    let q = up_to text signs.Semicolon m t.1 e t.5 g t.6 p.1 (omega arith) refl is t.11 in
-    none t.2 t.7 (subst (λ (y : List Token). IsUpTo text signs.CloseParenthesis t.2 y t.7) (sym q) t.12) (λ lim. let o = v.expressions lim in omega arith) (λ i. some_over t.2)
+    let q = up_to text punctuators.Semicolon m t.1 e t.5 g t.6 p.1 (omega arith) refl is t.11 in
+    none t.2 t.7 (subst (λ (y : List Token). IsUpTo text punctuators.CloseParenthesis t.2 y t.7) (sym q) t.12) (λ lim. let o = v.expressions lim in omega arith) (λ i. some_over t.2)
 
-pub no_for_body : (limits : ℕ) (text : List ℕ) (room less at : ℕ) (left mid : Left) (f : First) (m n : Option Expression) (a b e g j : List Token) → less + 1 ≡ room → Started text left mid f a b e → IsUpTo text signs.Semicolon m e g → IsUpTo text signs.CloseParenthesis n g j → NoStatement less mid limits text j → Behind keywords.For at a (NoStatement room left limits text)
+pub no_for_body : (limits : ℕ) (text : List ℕ) (room less at : ℕ) (left mid : Left) (f : ForInitialiser) (m n : Option Expression) (a b e g j : List Token) → less + 1 ≡ room → Started text left mid f a b e → IsUpTo text punctuators.Semicolon m e g → IsUpTo text punctuators.CloseParenthesis n g j → NoStatement less mid limits text j → Behind keywords.For at a (NoStatement room left limits text)
 no_for_body limits text room less at left mid f m n a b e g j i st is is' none ts k s end h d c w =
     let t = after_for text at s ts a end k h in
     let v = fits limits text room left s (For at t.0 t.1 t.2 t.3) t.8 w in
     let p = after_first text left mid f t.0 a b e t.4 t.5 st t.9 t.10 in
-    let q = up_to text signs.Semicolon m t.1 e t.5 g t.6 p.1 (omega arith) refl is t.11 in
-    let r = up_to text signs.CloseParenthesis n t.2 g t.6 j t.7 q (omega arith) refl is' t.12 in
-    let y = ap locals_of_first p.0 in
+    let q = up_to text punctuators.Semicolon m t.1 e t.5 g t.6 p.1 (omega arith) refl is t.11 in
+    let r = up_to text punctuators.CloseParenthesis n t.2 g t.6 j t.7 q (omega arith) refl is' t.12 in
+    let y = ap locals_of_for_initialiser p.0 in
     let z = st.locals in let z' = st.funclets in
-    none t.3 end (subst (λ (y : List Token). IsItem text t.3 y end) (sym r) t.14) t.13 (closed_as s (For at t.0 t.1 t.2 t.3) end t.8 c) (record { statements = λ lim. let o = v.statements lim in omega arith; expressions = λ lim. let o = v.expressions lim in omega arith; locals = λ lim. let o = v.locals lim in omega arith; funclets = λ lim. let o = v.funclets lim in omega (arith, length-append {A = ℕ}) })
+    none t.3 end (subst (λ (y : List Token). IsBlockItem text t.3 y end) (sym r) t.14) t.13 (closed_as s (For at t.0 t.1 t.2 t.3) end t.8 c) (record { statements = λ lim. let o = v.statements lim in omega arith; expressions = λ lim. let o = v.expressions lim in omega arith; locals = λ lim. let o = v.locals lim in omega arith; funclets = λ lim. let o = v.funclets lim in omega (arith, length-append {A = ℕ}) })
 
-pub for_found : (text : List ℕ) (room less at : ℕ) (left mid after : Left) (f : First) (m n : Option Expression) (z : Statement) (a b e g j rest : List Token) → less + 1 ≡ room → Started text left mid f a b e → IsUpTo text signs.Semicolon m e g → height_of m ≤ 64 → IsUpTo text signs.CloseParenthesis n g j → height_of n ≤ 64 → Reads text less mid after z j rest → Behind keywords.For at a (λ ts. Reads text room left after (For at f m n z) ts rest)
+pub for_found : (text : List ℕ) (room less at : ℕ) (left mid after : Left) (f : ForInitialiser) (m n : Option Expression) (z : Statement) (a b e g j rest : List Token) → less + 1 ≡ room → Started text left mid f a b e → IsUpTo text punctuators.Semicolon m e g → height_of m ≤ 64 → IsUpTo text punctuators.CloseParenthesis n g j → height_of n ≤ 64 → Reads text less mid after z j rest → Behind keywords.For at a (λ ts. Reads text room left after (For at f m n z) ts rest)
 for_found text room less at left mid after f m n z a b e g j rest i st is low is' low' r ts k =
     let t = r.taken in let o = t.statements in let x = t.expressions in let l = t.locals in let u = t.funclets in
     let y = st.low in let v = st.locals in let v' = st.funclets in
@@ -283,17 +283,17 @@ for_found text room less at left mid after f m n z a b e g j rest i st is low is
 
 -- ---- blocks and `__try`
 
-pub block_found : (text : List ℕ) (room : ℕ) (left after : Left) (ss : Statements) (ts a rest : List Token) → HasSign signs.OpenBrace ts a → AreItems text ss a rest → AllTaken text room left after ss → Reads text room left after (Block ss) ts rest
+pub block_found : (text : List ℕ) (room : ℕ) (left after : Left) (ss : Statements) (ts a rest : List Token) → HasPunctuator punctuators.OpenBrace ts a → AreBlockItems text ss a rest → AllTaken text room left after ss → Reads text room left after (Block ss) ts rest
 block_found text room left after ss ts a rest o is t = record { is = (a, o, is); statement = refl; closed = λ i. absurd cc; taken = record { statements = t.statements; expressions = t.expressions; locals = t.locals; funclets = t.funclets } }
 
-pub no_block : (limits : ℕ) (text : List ℕ) (room : ℕ) (left : Left) (ts a : List Token) → HasSign signs.OpenBrace ts a → NoItems room left limits text a → NoStatement room left limits text ts
+pub no_block : (limits : ℕ) (text : List ℕ) (room : ℕ) (left : Left) (ts a : List Token) → HasPunctuator punctuators.OpenBrace ts a → NoBlockItems room left limits text a → NoStatement room left limits text ts
 no_block limits text room left ts a o none s end h d c w =
     let t = after_brace text s ts a end o h in
     let v = fits limits text room left s (Block t.0) t.1 w in
     none t.0 end t.2 (record { statements = v.statements; expressions = v.expressions; locals = v.locals; funclets = v.funclets })
 
 after_braces : (text : List ℕ) (ss zs : Statements) (ts rest end : List Token) → IsBraced text ss ts rest → IsBraced text zs ts end → (ss ≡ zs) × (rest ≡ end)
-after_braces text ss zs ts rest end h g = same_items text ss zs h.0 g.0 rest end (has_same signs.OpenBrace ts ts h.0 g.0 refl h.1 g.1) h.2 g.2
+after_braces text ss zs ts rest end h g = same_items text ss zs h.0 g.0 rest end (has_same punctuators.OpenBrace ts ts h.0 g.0 refl h.1 g.1) h.2 g.2
 
 pub number_length : (b : Bool) (at : ℕ) → length (cond b [] (at ∷ [])) ≡ numbers_of b
 number_length true at = refl
@@ -344,7 +344,7 @@ no_filter limits text room at p left mid body a b j is tk kw none ts k s end h d
         let q = place keywords.Except p t.1 b t.4 j t.5 u.1 kw t.9 in
         let y = number_length (accepts text t.2) t.1 in
         let z = tk.funclets in
-        let e = ap (λ (i : Statements). length (all_numbered text i)) u.0 in
+        let e = ap (λ (i : Statements). length (funclets_of_all text i)) u.0 in
         none t.2 t.6 (subst (λ (i : List Token). IsCondition text t.2 i t.6) (sym q.1) t.10) (λ lim. let o = v.expressions lim in omega arith) (λ lim. let o = v.funclets lim in omega (arith, length-append {A = ℕ}))
     by (inr t) = not_finally text body p s a b j end is kw t
 
@@ -359,7 +359,7 @@ no_handler limits text room at p left mid next body f a b j g is tk kw cn nx ny 
         let r = condition text f t.2 j t.5 g t.6 q.1 cn t.10 in
         let y = number_length (accepts text t.2) t.1 in
         let z = tk.funclets in let z' = tk.locals in
-        let e = ap (λ (i : Statements). length (all_numbered text i)) u.0 in
+        let e = ap (λ (i : Statements). length (funclets_of_all text i)) u.0 in
         let e' = ap locals_of_all u.0 in
         let i = ap (λ (i : Expression). numbers_of (accepts text i)) r.0 in
         none t.3 end (subst (λ (i : List Token). IsBraced text t.3 i end) (sym r.1) t.11) (record { statements = λ lim. let o = v.statements lim in omega arith; expressions = λ lim. let o = v.expressions lim in omega arith; locals = λ lim. let o = v.locals lim in omega arith; funclets = λ lim. let o = v.funclets lim in omega (arith, length-append {A = ℕ}) })
@@ -392,7 +392,7 @@ no_finally_left limits text room at p left mid body a b j is tk kw i n ts k s en
     by (inr t) =
         let v = fits limits text room left s (TryFinally t.0 t.1 t.2) t.5 w in
         let u = after_braces text body t.0 a b t.3 is t.6 in
-        let e = ap (λ (i : Statements). length (all_numbered text i)) u.0 in
+        let e = ap (λ (i : Statements). length (funclets_of_all text i)) u.0 in
         let z = tk.funclets in
         let o = v.funclets i in absurd (omega (arith, length-append {A = ℕ}))
 
@@ -406,7 +406,7 @@ no_last limits text room at p left mid next body a b j is tk kw nx ny none ts k 
         let u = after_braces text body t.0 a b t.3 is t.6 in
         let q = place keywords.Finally p t.1 b t.3 j t.4 u.1 kw t.7 in
         let z = tk.funclets in let z' = tk.locals in
-        let e = ap (λ (i : Statements). length (all_numbered text i)) u.0 in
+        let e = ap (λ (i : Statements). length (funclets_of_all text i)) u.0 in
         let e' = ap locals_of_all u.0 in
         none t.2 end (subst (λ (i : List Token). IsBraced text t.2 i end) (sym q.1) t.8) (record { statements = λ lim. let o = v.statements lim in omega arith; expressions = λ lim. let o = v.expressions lim in omega arith; locals = λ lim. let o = v.locals lim in omega arith; funclets = λ lim. let o = v.funclets lim in omega (arith, length-append {A = ℕ}) })
 
@@ -446,7 +446,7 @@ Plain keywords.Finally = Unit {0}
 Plain keywords.Leave = ⊥
 Plain keywords.GetExceptionInformation = Unit {0}
 
-pub only_evaluations : (limits : ℕ) (text : List ℕ) (room : ℕ) (left : Left) (ts : List Token) → Lacks signs.OpenBrace ts → ((k : Keyword) (rest : List Token) → HasKeyword k ts rest → Plain k) → NoEvaluation room left limits text ts → NoStatement room left limits text ts
+pub only_evaluations : (limits : ℕ) (text : List ℕ) (room : ℕ) (left : Left) (ts : List Token) → Lacks punctuators.OpenBrace ts → ((k : Keyword) (rest : List Token) → HasKeyword k ts rest → Plain k) → NoEvaluation room left limits text ts → NoStatement room left limits text ts
 only_evaluations limits text room left ts o p none (Declare b ls) end h d c w = cc
 only_evaluations limits text room left ts o p none (Block ss) end h d c w = o h.0 h.1
 only_evaluations limits text room left ts o p none (Evaluate e) end h d c w = none e end h w
@@ -490,5 +490,5 @@ front_of k j at ts rest e h = subst (λ (x : Keyword). IsKeyword x at ts rest) e
 abbrev pub left_of : ℕ → ℕ → Left
 left_of locals funclets = record { locals = locals; funclets = funclets }
 
-pub no_braced : (limits : ℕ) (text : List ℕ) (room : ℕ) (left : Left) (ts a : List Token) → HasSign signs.OpenBrace ts a → NoItems room left limits text a → NoneBraced room left limits text ts
-no_braced limits text room left ts a o none ss end h w = none ss end (subst (λ (y : List Token). AreItems text ss y end) (has_same signs.OpenBrace ts ts h.0 a refl h.1 o) h.2) w
+pub no_braced : (limits : ℕ) (text : List ℕ) (room : ℕ) (left : Left) (ts a : List Token) → HasPunctuator punctuators.OpenBrace ts a → NoBlockItems room left limits text a → NoneBraced room left limits text ts
+no_braced limits text room left ts a o none ss end h w = none ss end (subst (λ (y : List Token). AreBlockItems text ss y end) (has_same punctuators.OpenBrace ts ts h.0 a refl h.1 o) h.2) w

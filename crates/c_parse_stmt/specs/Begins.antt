@@ -7,16 +7,16 @@ use Rattle.c_syntax.specs.Expression.{Expression, height}
 use Rattle.c_syntax.specs.Expressions.{Derives}
 use Rattle.c_syntax.specs.Faults.{SameFirst, Speaks}
 use Rattle.c_syntax.specs.Statement.{Statement}
-use Rattle.c_syntax.specs.Statements.{is_declaration, IsItem}
+use Rattle.c_syntax.specs.Statements.{is_declaration, IsBlockItem}
 
 -- how many expressions at least stand around a part of one that begins with a token of this kind
 abbrev pub over_first : Kind → ℕ
-over_first kinds.Name = 0
+over_first kinds.Identifier = 0
 over_first (kinds.Keyword k) = 0
 over_first (kinds.Reserved r) = 0
 over_first (kinds.Integer value type) = 0
-over_first (kinds.Character value) = 0
-over_first (kinds.Sign s) = 1
+over_first (kinds.CharacterConstant value) = 0
+over_first (kinds.Punctuator s) = 1
 
 abbrev pub first_over : List Token → ℕ
 first_over [] = 0
@@ -39,11 +39,11 @@ BeginsNoExpression ts = (text : List ℕ) (other : List Token) → SameFirst ts 
 pub record Stated (text : List ℕ) (t : Token) : Type 0 where
   pub more : List Token
   pub tree : Statement
-  pub is : (other : List Token) → IsItem text tree (t ∷ more ++ other) other
+  pub is : (other : List Token) → IsBlockItem text tree (t ∷ more ++ other) other
   pub statement : IsFalse (is_declaration tree)
 
 abbrev pub BeginsStatement : List Token → Type 0
 BeginsStatement ts = (t : Token) × (rest : List Token) × (ts ≡ t ∷ rest) × ((text : List ℕ) → Speaks text → Stated text t)
 
 abbrev pub BeginsNoStatement : List Token → Type 0
-BeginsNoStatement ts = (text : List ℕ) (other : List Token) → SameFirst ts other → (s : Statement) (rest : List Token) → IsItem text s other rest → IsFalse (is_declaration s) → ⊥
+BeginsNoStatement ts = (text : List ℕ) (other : List Token) → SameFirst ts other → (s : Statement) (rest : List Token) → IsBlockItem text s other rest → IsFalse (is_declaration s) → ⊥

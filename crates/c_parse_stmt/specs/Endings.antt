@@ -1,14 +1,14 @@
--- How statements go on behind the first statement or block in them.
+-- How statements continue after the first statement or block in them.
 use Rattle.std.specs.Prelude.{◌≡◌, ◌≤◌, ℕ, ◌+◌, List}
 use Rattle.c_lex.specs.declared.keyword.Keyword.TheVariants as keywords
-use Rattle.c_lex.specs.declared.sign.Sign.TheVariants as signs
+use Rattle.c_lex.specs.declared.punctuator.Punctuator.TheVariants as punctuators
 use Rattle.c_lex.specs.declared.token.Token.{Token}
 use Rattle.c_syntax.specs.Expression as trees
 use Rattle.c_syntax.specs.Expression.{expression}
 use Rattle.c_syntax.specs.Limits.{accepts}
 use Rattle.c_syntax.specs.Statement.{Statement, TryExcept, TryFinally, Statements, statement}
 use Rattle.c_syntax.specs.Statements.{IsCondition}
-use Rattle.c_syntax.specs.Tokens.{IsKeyword, HasSign, HasKeyword}
+use Rattle.c_syntax.specs.Tokens.{IsKeyword, HasPunctuator, HasKeyword}
 use Rattle.c_parse_stmt.specs.declared.endings.Clause.{Clause}
 use Rattle.c_parse_stmt.specs.declared.endings.Clause.TheVariants as clauses
 use Rattle.c_parse_stmt.specs.declared.endings.Ending.{Ending}
@@ -25,11 +25,11 @@ abbrev pub Ends : List ℕ → Head → Statement → Ending → List Token → 
 Ends text h s (endings.Whole z) ts rest = (room : ℕ) (left after : Left) (start : List Token) → Holds text room left after h s start ts → Reads text room left after (statement z) start rest
 Ends text h s (endings.Else at c t) ts rest = (h ≡ heads.If at c) × (statement t ≡ s) × HasKeyword keywords.Else ts rest
 
--- ---- behind the block of a `__try`, up to the brace of the second one
+-- ---- after the block of a `__try`, up to the brace of the second one
 
 abbrev pub IsClause : List ℕ → Clause → List Token → List Token → Type 0
-IsClause text (clauses.Except at f) ts rest = (a : List Token) × (b : List Token) × IsKeyword keywords.Except at ts a × IsCondition text (expression f) a b × HasSign signs.OpenBrace b rest
-IsClause text (clauses.Finally at) ts rest = (a : List Token) × IsKeyword keywords.Finally at ts a × HasSign signs.OpenBrace a rest
+IsClause text (clauses.Except at f) ts rest = (a : List Token) × (b : List Token) × IsKeyword keywords.Except at ts a × IsCondition text (expression f) a b × HasPunctuator punctuators.OpenBrace b rest
+IsClause text (clauses.Finally at) ts rest = (a : List Token) × IsKeyword keywords.Finally at ts a × HasPunctuator punctuators.OpenBrace a rest
 
 -- how many statements stand around its filter
 abbrev pub statements_over : Clause → ℕ
@@ -44,7 +44,7 @@ abbrev pub numbers : List ℕ → Clause → ℕ
 numbers text (clauses.Except at f) = numbers_of (accepts text (expression f))
 numbers text (clauses.Finally at) = 1
 
--- within the limits, and of the counts so much is left behind it
+-- within the limits, and of the counts so much is left after it
 pub record Continues (text : List ℕ) (room : ℕ) (left after : Left) (c : Clause) (ts rest : List Token) : Type 0 where
   pub is : IsClause text c ts rest
   pub statements : statements_over c ≤ room

@@ -1,7 +1,7 @@
--- Filters that have a number; and that no filter stands at the front.
+-- Filters that have a number; and that no filter is at the front.
 use Rattle.std.specs.Prelude.{◌≡◌, ◌≤◌, ℕ, zero, suc, Bool, true, false, nat_eq, List, [], ◌∷◌, ◌++◌, codes, slice_range}
 use Rattle.std.specs.Str.{bytes_eq}
-use Rattle.c_lex.specs.declared.sign.Sign.TheVariants as signs
+use Rattle.c_lex.specs.declared.punctuator.Punctuator.TheVariants as punctuators
 use Rattle.c_lex.specs.declared.token.Kind.{Kind}
 use Rattle.c_lex.specs.declared.token.Kind.TheVariants as kinds
 use Rattle.c_lex.specs.declared.token.Token.{Token}
@@ -11,12 +11,12 @@ use Rattle.c_syntax.specs.Expression.{Expression, height}
 use Rattle.c_syntax.specs.Faults.{Alike, SameFirst, Speaks, Able}
 use Rattle.c_syntax.specs.Limits.{accepts}
 use Rattle.c_syntax.specs.Statements.{IsCondition}
-use Rattle.c_syntax.specs.Tokens.{HasSign}
+use Rattle.c_syntax.specs.Tokens.{HasPunctuator}
 use Rattle.c_parse_stmt.specs.Parts.{NoCondition, HasCondition}
 
 abbrev pub is_one : Literal → Bool
 is_one (literals.Integer value type) = nat_eq value 1
-is_one (literals.Character value) = false
+is_one (literals.CharacterConstant value) = false
 
 -- how many numbers a filter takes, by whether it accepts whatever was raised
 abbrev pub numbers_of : Bool → ℕ
@@ -26,12 +26,12 @@ numbers_of false = 1
 -- ---- a filter that accepts whatever was raised: a token alone, in parentheses
 
 abbrev pub accepts_kind : List ℕ → Kind → ℕ → ℕ → Bool
-accepts_kind text kinds.Name start end = bytes_eq (slice_range text start end) (codes "EXCEPTION_EXECUTE_HANDLER")
+accepts_kind text kinds.Identifier start end = bytes_eq (slice_range text start end) (codes "EXCEPTION_EXECUTE_HANDLER")
 accepts_kind text (kinds.Keyword k) start end = false
 accepts_kind text (kinds.Reserved r) start end = false
 accepts_kind text (kinds.Integer value type) start end = nat_eq value 1
-accepts_kind text (kinds.Character value) start end = false
-accepts_kind text (kinds.Sign s) start end = false
+accepts_kind text (kinds.CharacterConstant value) start end = false
+accepts_kind text (kinds.Punctuator s) start end = false
 
 -- the token is such a filter's expression
 abbrev pub accepts_alone : List ℕ → Token → Bool
@@ -40,26 +40,26 @@ accepts_alone text t = accepts_kind text t.kind t.start t.end
 -- opening parentheses
 abbrev pub AreOpening : ℕ → List Token → List Token → Type 0
 AreOpening zero ts rest = ts ≡ rest
-AreOpening (suc n) ts rest = (mid : List Token) × HasSign signs.OpenParenthesis ts mid × AreOpening n mid rest
+AreOpening (suc n) ts rest = (mid : List Token) × HasPunctuator punctuators.OpenParenthesis ts mid × AreOpening n mid rest
 
 -- closing ones, the outermost last
 abbrev pub AreClosing : ℕ → List Token → List Token → Type 0
 AreClosing zero ts rest = ts ≡ rest
-AreClosing (suc n) ts rest = (mid : List Token) × AreClosing n ts mid × HasSign signs.CloseParenthesis mid rest
+AreClosing (suc n) ts rest = (mid : List Token) × AreClosing n ts mid × HasPunctuator punctuators.CloseParenthesis mid rest
 
--- With a token some condition goes on.
+-- With a token some condition continues.
 pub record Continued (text : List ℕ) (front : List Token) (t : Token) : Type 0 where
   pub more : List Token
   pub has : HasCondition 1 text (front ++ t ∷ more)
 
--- behind so many opening parentheses one does with the first of these tokens
+-- after so many opening parentheses one does with the first of these tokens
 abbrev pub GoesInside : ℕ → List Token → Type 0
 GoesInside opened ts = (t : Token) × (rest : List Token) × (ts ≡ t ∷ rest) × ((text : List ℕ) (before : List Token) → Speaks text → AreOpening opened before [] → Continued text before t)
 
 abbrev pub NoneInside : ℕ → List Token → Type 0
 NoneInside opened ts = (text : List ℕ) (before other : List Token) → AreOpening opened before [] → SameFirst ts other → NoCondition 1 text (before ++ other)
 
--- or behind opening ones, a token that accepts alone, and closing ones
+-- or after opening ones, a token that accepts alone, and closing ones
 abbrev pub GoesBehind : ℕ → ℕ → Token → List Token → Type 0
 GoesBehind opened closed atom ts = (t : Token) × (rest : List Token) × (ts ≡ t ∷ rest) × ((text : List ℕ) (before between : List Token) → AreOpening opened before [] → accepts_alone text atom ≡ true → AreClosing closed between [] → Continued text (before ++ atom ∷ between) t)
 
@@ -78,7 +78,7 @@ pub record HasFilter (funclets n : ℕ) (text : List ℕ) (ts : List Token) : Ty
   pub low : 1 ≤ n → height tree ≤ 64
   pub count : 6 ≤ n → numbers_of (accepts text tree) ≤ funclets
 
--- Up to the rest, tokens can be completed to a filter that has no number; and no condition within the limit of nesting goes on with the first token there.
+-- Up to the rest, tokens can be completed to a filter that has no number; and no condition within the limit of nesting continues with the first token there.
 pub record Departs (text : List ℕ) (ts rest : List Token) : Type 0 where
   pub front : List Token
   pub split : ts ≡ front ++ rest

@@ -1,13 +1,13 @@
--- What statements begin with, up to the first statement or block that stands in them; and that, with what stands in them.
+-- What statements begin with, up to the first statement or block that is in them; and that, with what is in them.
 use Rattle.std.specs.Prelude.{◌≡◌, ◌≤◌, ℕ, ◌+◌, max, List, option_map}
 use Rattle.c_lex.specs.declared.keyword.Keyword.TheVariants as keywords
-use Rattle.c_lex.specs.declared.sign.Sign.TheVariants as signs
+use Rattle.c_lex.specs.declared.punctuator.Punctuator.TheVariants as punctuators
 use Rattle.c_lex.specs.declared.token.Token.{Token}
 use Rattle.c_syntax.specs.Expression.{expression, height}
-use Rattle.c_syntax.specs.Limits.{height_of, height_of_first, locals_of_first}
+use Rattle.c_syntax.specs.Limits.{height_of, height_of_for_initialiser, locals_of_for_initialiser}
 use Rattle.c_syntax.specs.Statement.{Statement, Statements, first, statement}
-use Rattle.c_syntax.specs.Statements.{IsCondition, IsFirst, AreItems}
-use Rattle.c_syntax.specs.Tokens.{IsKeyword, HasSign, HasKeyword}
+use Rattle.c_syntax.specs.Statements.{IsCondition, IsForInitialiser, AreBlockItems}
+use Rattle.c_syntax.specs.Tokens.{IsKeyword, HasPunctuator, HasKeyword}
 use Rattle.c_parse_stmt.specs.declared.left.Left.{Left}
 use Rattle.c_parse_stmt.specs.declared.openings.Head.{Head}
 use Rattle.c_parse_stmt.specs.declared.openings.Head.TheVariants as heads
@@ -16,7 +16,7 @@ use Rattle.c_parse_stmt.specs.declared.openings.Opening.TheVariants as openings
 use Rattle.c_parse_stmt.specs.Parts.{IsUpTo}
 use Rattle.c_parse_stmt.specs.Within.{AllTaken, Reads}
 
--- ---- what stands before the first statement
+-- ---- what is before the first statement
 
 abbrev pub IsHead : List ℕ → Head → List Token → List Token → Type 0
 IsHead text (heads.If at c) ts rest = (a : List Token) × IsKeyword keywords.If at ts a × IsCondition text (expression c) a rest
@@ -24,21 +24,21 @@ IsHead text (heads.While at c) ts rest = (a : List Token) × IsKeyword keywords.
 IsHead text heads.Do ts rest = HasKeyword keywords.Do ts rest
 IsHead text (heads.For at f c n) ts rest =
     (a : List Token) × (b : List Token) × (d : List Token) × (g : List Token)
-    × IsKeyword keywords.For at ts a × HasSign signs.OpenParenthesis a b × IsFirst text (first f) b d × IsUpTo text signs.Semicolon (option_map expression c) d g × IsUpTo text signs.CloseParenthesis (option_map expression n) g rest
+    × IsKeyword keywords.For at ts a × HasPunctuator punctuators.OpenParenthesis a b × IsForInitialiser text (first f) b d × IsUpTo text punctuators.Semicolon (option_map expression c) d g × IsUpTo text punctuators.CloseParenthesis (option_map expression n) g rest
 
 abbrev pub expressions_over : Head → ℕ
 expressions_over (heads.If at c) = height (expression c)
 expressions_over (heads.While at c) = height (expression c)
 expressions_over heads.Do = 0
-expressions_over (heads.For at f c n) = max (height_of_first (first f)) (max (height_of (option_map expression c)) (height_of (option_map expression n)))
+expressions_over (heads.For at f c n) = max (height_of_for_initialiser (first f)) (max (height_of (option_map expression c)) (height_of (option_map expression n)))
 
 abbrev pub locals : Head → ℕ
 locals (heads.If at c) = 0
 locals (heads.While at c) = 0
 locals heads.Do = 0
-locals (heads.For at f c n) = locals_of_first (first f)
+locals (heads.For at f c n) = locals_of_for_initialiser (first f)
 
--- within the limits, with room for the statement, and of the counts so much is left behind it
+-- within the limits, with room for the statement, and of the counts so much is left after it
 pub record Heads (text : List ℕ) (room : ℕ) (left after : Left) (h : Head) (ts rest : List Token) : Type 0 where
   pub is : IsHead text h ts rest
   pub some : 1 ≤ room
@@ -47,17 +47,17 @@ pub record Heads (text : List ℕ) (room : ℕ) (left after : Left) (h : Head) (
   pub funclets : after.funclets ≡ left.funclets
 
 abbrev pub IsTry : List Token → List Token → Type 0
-IsTry ts rest = (a : List Token) × HasKeyword keywords.Try ts a × HasSign signs.OpenBrace a rest
+IsTry ts rest = (a : List Token) × HasKeyword keywords.Try ts a × HasPunctuator punctuators.OpenBrace a rest
 
 abbrev pub Opens : List ℕ → ℕ → Left → Left → Opening → List Token → List Token → Type 0
 Opens text room left after (openings.Whole s) ts rest = Reads text room left after (statement s) ts rest
-Opens text room left after openings.Block ts rest = (after ≡ left) × HasSign signs.OpenBrace ts rest
+Opens text room left after openings.Block ts rest = (after ≡ left) × HasPunctuator punctuators.OpenBrace ts rest
 Opens text room left after openings.Try ts rest = (after ≡ left) × (1 ≤ room + left.funclets) × IsTry ts rest
 Opens text room left after (openings.Head h) ts rest = Heads text room left after h ts rest
 
--- ---- with what stands behind it
+-- ---- with what is after it
 
--- a head and the statement behind it
+-- a head and the statement after it
 pub record Holds (text : List ℕ) (room : ℕ) (left after : Left) (h : Head) (s : Statement) (ts rest : List Token) : Type 0 where
   pub less : ℕ
   pub more : less + 1 ≡ room
@@ -66,10 +66,10 @@ pub record Holds (text : List ℕ) (room : ℕ) (left after : Left) (h : Head) (
   pub head : Heads text room left between h ts mid
   pub inner : Reads text less between after s mid rest
 
--- `__try` and its block, behind which it can go on
+-- `__try` and its block, after which it can continue
 pub record Guards (text : List ℕ) (room : ℕ) (left after : Left) (body : Statements) (ts rest : List Token) : Type 0 where
   pub some : 1 ≤ room + left.funclets
   pub mid : List Token
   pub is : IsTry ts mid
-  pub are : AreItems text body mid rest
+  pub are : AreBlockItems text body mid rest
   pub taken : AllTaken text room left after body

@@ -1,26 +1,26 @@
--- Parts of statements with what ends them; that none stands at the front; and that tokens are such a part, whatever follows. Limits count where the first n of them hold: the first is nesting, the second the locals of a function.
+-- Parts of statements with what ends them; that none is at the front; and that tokens are such a part, whatever follows. Limits count where the first n of them hold: the first is nesting, the second the locals of a function.
 use Rattle.std.specs.Prelude.{◌≡◌, ◌≤◌, ◌⊎◌, ℕ, List, [], ◌++◌, length, Option}
-use Rattle.c_lex.specs.declared.sign.Sign.{Sign}
+use Rattle.c_lex.specs.declared.punctuator.Punctuator.{Punctuator}
 use Rattle.c_lex.specs.declared.token.Token.{Token}
 use Rattle.c_syntax.specs.declared.expression.Base.{Base}
 use Rattle.c_syntax.specs.Expression.{Expression, height}
 use Rattle.c_syntax.specs.Follow.{Stops}
-use Rattle.c_syntax.specs.Limits.{height_of, one_over, height_of_locals, one_over_locals, height_of_first, locals_of_first}
-use Rattle.c_syntax.specs.Statement.{Local, First}
-use Rattle.c_syntax.specs.Statements.{IsInitialiser, IsLocal, AreMoreLocals, AreLocals, IsDeclaration, IsOptional, IsCondition, IsFirst}
-use Rattle.c_syntax.specs.Tokens.{HasSign}
+use Rattle.c_syntax.specs.Limits.{height_of, one_over, height_of_locals, one_over_locals, height_of_for_initialiser, locals_of_for_initialiser}
+use Rattle.c_syntax.specs.Statement.{Local, ForInitialiser}
+use Rattle.c_syntax.specs.Statements.{IsInitialiser, IsLocal, AreMoreLocals, AreLocals, IsDeclaration, IsOptional, IsCondition, IsForInitialiser}
+use Rattle.c_syntax.specs.Tokens.{HasPunctuator}
 
--- an expression or nothing, and the sign behind it
-abbrev pub IsUpTo : List ℕ → Sign → Option Expression → List Token → List Token → Type 0
-IsUpTo text sign e ts rest = (a : List Token) × IsOptional text e ts a × HasSign sign a rest
+-- an expression or nothing, and the punctuator after it
+abbrev pub IsUpTo : List ℕ → Punctuator → Option Expression → List Token → List Token → Type 0
+IsUpTo text punctuator e ts rest = (a : List Token) × IsOptional text e ts a × HasPunctuator punctuator a rest
 
--- ---- a sign
+-- ---- a punctuator
 
-abbrev pub NoSign : Sign → ℕ → List ℕ → List Token → Type 0
-NoSign sign n text ts = (end : List Token) → HasSign sign ts end → ⊥
+abbrev pub NoPunctuator : Punctuator → ℕ → List ℕ → List Token → Type 0
+NoPunctuator punctuator n text ts = (end : List Token) → HasPunctuator punctuator ts end → ⊥
 
-abbrev pub ASign : Sign → ℕ → List ℕ → List Token → Type 0
-ASign sign n text ts = (other : List Token) → HasSign sign (ts ++ other) other
+abbrev pub APunctuator : Punctuator → ℕ → List ℕ → List Token → Type 0
+APunctuator punctuator n text ts = (other : List Token) → HasPunctuator punctuator (ts ++ other) other
 
 -- ---- expressions
 
@@ -32,12 +32,12 @@ pub record HasCondition (n : ℕ) (text : List ℕ) (ts : List Token) : Type 0 w
   pub is : (other : List Token) → IsCondition text tree (ts ++ other) other
   pub low : 1 ≤ n → height tree ≤ 64
 
-abbrev pub NoneUpTo : Sign → ℕ → ℕ → List ℕ → List Token → Type 0
-NoneUpTo sign room n text ts = (e : Option Expression) (end : List Token) → IsUpTo text sign e ts end → (1 ≤ n → height_of e ≤ 64) → (1 ≤ n → one_over e ≤ room) → ⊥
+abbrev pub NoneUpTo : Punctuator → ℕ → ℕ → List ℕ → List Token → Type 0
+NoneUpTo punctuator room n text ts = (e : Option Expression) (end : List Token) → IsUpTo text punctuator e ts end → (1 ≤ n → height_of e ≤ 64) → (1 ≤ n → one_over e ≤ room) → ⊥
 
-pub record HasUpTo (sign : Sign) (room n : ℕ) (text : List ℕ) (ts : List Token) : Type 0 where
+pub record HasUpTo (punctuator : Punctuator) (room n : ℕ) (text : List ℕ) (ts : List Token) : Type 0 where
   pub tree : Option Expression
-  pub is : (other : List Token) → IsUpTo text sign tree (ts ++ other) other
+  pub is : (other : List Token) → IsUpTo text punctuator tree (ts ++ other) other
   pub low : 1 ≤ n → height_of tree ≤ 64
   pub over : 1 ≤ n → one_over tree ≤ room
 
@@ -91,11 +91,11 @@ pub record ADeclaration (room left n : ℕ) (text : List ℕ) (ts : List Token) 
 abbrev pub HasDeclaration : ℕ → ℕ → ℕ → List ℕ → List Token → Type 0
 HasDeclaration room left n text ts = (ts ≡ []) ⊎ ADeclaration room left n text ts
 
-abbrev pub NoFirst : ℕ → ℕ → List ℕ → List Token → Type 0
-NoFirst left n text ts = (f : First) (end : List Token) → IsFirst text f ts end → (1 ≤ n → height_of_first f ≤ 64) → (2 ≤ n → locals_of_first f ≤ left) → ⊥
+abbrev pub NoForInitialiser : ℕ → ℕ → List ℕ → List Token → Type 0
+NoForInitialiser left n text ts = (f : ForInitialiser) (end : List Token) → IsForInitialiser text f ts end → (1 ≤ n → height_of_for_initialiser f ≤ 64) → (2 ≤ n → locals_of_for_initialiser f ≤ left) → ⊥
 
-pub record HasFirst (left n : ℕ) (text : List ℕ) (ts : List Token) : Type 0 where
-  pub tree : First
-  pub is : (other : List Token) → IsFirst text tree (ts ++ other) other
-  pub low : 1 ≤ n → height_of_first tree ≤ 64
-  pub count : 2 ≤ n → locals_of_first tree ≤ left
+pub record HasForInitialiser (left n : ℕ) (text : List ℕ) (ts : List Token) : Type 0 where
+  pub tree : ForInitialiser
+  pub is : (other : List Token) → IsForInitialiser text tree (ts ++ other) other
+  pub low : 1 ≤ n → height_of_for_initialiser tree ≤ 64
+  pub count : 2 ≤ n → locals_of_for_initialiser tree ≤ left

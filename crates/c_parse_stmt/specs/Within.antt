@@ -1,12 +1,12 @@
--- Limits of statements, with what is left of the counts; and what is read, and what refusals say. Where the first n limits hold, the first is nesting, the second the locals of a function, the sixth the numbered filters and finally blocks of the program.
+-- Limits of statements, with what is left of the counts; and what is read, and what refusals say. Where the first n limits hold, the first is nesting, the second the locals of a function, the sixth the funclets of the program.
 use Rattle.std.specs.Prelude.{◌≡◌, ◌≤◌, ◌⊎◌, ℕ, ◌+◌, List, [], ◌++◌, length, Option, IsFalse}
 use Rattle.c_lex.specs.declared.keyword.Keyword.{Keyword}
 use Rattle.c_lex.specs.declared.token.Token.{Token}
 use Rattle.c_syntax.specs.Expression.{Expression}
 use Rattle.c_syntax.specs.Follow.{Closed}
-use Rattle.c_syntax.specs.Limits.{one_over, expressions_over, expressions_over_all, statements_over, statements_over_all, over_item, locals, locals_of_all, numbered, all_numbered}
+use Rattle.c_syntax.specs.Limits.{one_over, expressions_over, expressions_over_all, statements_over, statements_over_all, over_block_item, locals, locals_of_all, numbered, funclets_of_all}
 use Rattle.c_syntax.specs.Statement.{Statement, Statements, Evaluate}
-use Rattle.c_syntax.specs.Statements.{is_declaration, IsItem, AreItems}
+use Rattle.c_syntax.specs.Statements.{is_declaration, IsBlockItem, AreBlockItems}
 use Rattle.c_syntax.specs.Tokens.{IsKeyword}
 use Rattle.c_parse_stmt.specs.declared.left.Left.{Left}
 
@@ -17,22 +17,22 @@ pub record AllWithin (n : ℕ) (text : List ℕ) (room : ℕ) (left : Left) (ss 
   pub statements : 1 ≤ n → statements_over_all ss ≤ room
   pub expressions : 1 ≤ n → expressions_over_all ss ≤ 64
   pub locals : 2 ≤ n → locals_of_all ss ≤ left.locals
-  pub funclets : 6 ≤ n → length (all_numbered text ss) ≤ left.funclets
+  pub funclets : 6 ≤ n → length (funclets_of_all text ss) ≤ left.funclets
 
--- within the limits, and of the counts so much is left behind it
+-- within the limits, and of the counts so much is left after it
 pub record AllTaken (text : List ℕ) (room : ℕ) (left after : Left) (ss : Statements) : Type 0 where
   pub statements : statements_over_all ss ≤ room
   pub expressions : expressions_over_all ss ≤ 64
   pub locals : after.locals + locals_of_all ss ≡ left.locals
-  pub funclets : after.funclets + length (all_numbered text ss) ≡ left.funclets
+  pub funclets : after.funclets + length (funclets_of_all text ss) ≡ left.funclets
 
--- nothing that a block holds stands at the front with the brace that ends it, within the limits
-abbrev pub NoItems : ℕ → Left → ℕ → List ℕ → List Token → Type 0
-NoItems room left n text ts = (ss : Statements) (end : List Token) → AreItems text ss ts end → AllWithin n text room left ss → ⊥
+-- nothing that a block holds is at the front with the brace that ends it, within the limits
+abbrev pub NoBlockItems : ℕ → Left → ℕ → List ℕ → List Token → Type 0
+NoBlockItems room left n text ts = (ss : Statements) (end : List Token) → AreBlockItems text ss ts end → AllWithin n text room left ss → ⊥
 
-pub record HasItems (room : ℕ) (left : Left) (n : ℕ) (text : List ℕ) (ts : List Token) : Type 0 where
+pub record HasBlockItems (room : ℕ) (left : Left) (n : ℕ) (text : List ℕ) (ts : List Token) : Type 0 where
   pub trees : Statements
-  pub are : (other : List Token) → AreItems text trees (ts ++ other) other
+  pub are : (other : List Token) → AreBlockItems text trees (ts ++ other) other
   pub within : AllWithin n text room left trees
 
 -- ---- one statement, with so many statements over its parts
@@ -49,49 +49,49 @@ pub record Taken (text : List ℕ) (over room : ℕ) (left after : Left) (s : St
   pub locals : after.locals + locals s ≡ left.locals
   pub funclets : after.funclets + length (numbered text s) ≡ left.funclets
 
--- a statement that isn't a declaration, as far as it goes on
+-- a statement that isn't a declaration, as far as it continues
 pub record Reads (text : List ℕ) (room : ℕ) (left after : Left) (s : Statement) (ts rest : List Token) : Type 0 where
-  pub is : IsItem text s ts rest
+  pub is : IsBlockItem text s ts rest
   pub statement : IsFalse (is_declaration s)
   pub closed : Closed s rest
   pub taken : Taken text (statements_over s) room left after s
 
 abbrev pub NoStatement : ℕ → Left → ℕ → List ℕ → List Token → Type 0
-NoStatement room left n text ts = (s : Statement) (end : List Token) → IsItem text s ts end → IsFalse (is_declaration s) → Closed s end → Within n text (statements_over s) room left s → ⊥
+NoStatement room left n text ts = (s : Statement) (end : List Token) → IsBlockItem text s ts end → IsFalse (is_declaration s) → Closed s end → Within n text (statements_over s) room left s → ⊥
 
 pub record HasStatement (room : ℕ) (left : Left) (n : ℕ) (text : List ℕ) (ts : List Token) : Type 0 where
   pub tree : Statement
-  pub is : (other : List Token) → IsItem text tree (ts ++ other) other
+  pub is : (other : List Token) → IsBlockItem text tree (ts ++ other) other
   pub statement : IsFalse (is_declaration tree)
   pub within : Within n text (statements_over tree) room left tree
 
 -- a statement or a declaration in a block
-pub record ReadsItem (text : List ℕ) (room : ℕ) (left after : Left) (s : Statement) (ts rest : List Token) : Type 0 where
-  pub is : IsItem text s ts rest
+pub record ReadsBlockItem (text : List ℕ) (room : ℕ) (left after : Left) (s : Statement) (ts rest : List Token) : Type 0 where
+  pub is : IsBlockItem text s ts rest
   pub closed : Closed s rest
-  pub taken : Taken text (over_item s (statements_over s)) room left after s
+  pub taken : Taken text (over_block_item s (statements_over s)) room left after s
 
-abbrev pub NoItem : ℕ → Left → ℕ → List ℕ → List Token → Type 0
-NoItem room left n text ts = (s : Statement) (end : List Token) → IsItem text s ts end → Closed s end → Within n text (over_item s (statements_over s)) room left s → ⊥
+abbrev pub NoBlockItem : ℕ → Left → ℕ → List ℕ → List Token → Type 0
+NoBlockItem room left n text ts = (s : Statement) (end : List Token) → IsBlockItem text s ts end → Closed s end → Within n text (over_block_item s (statements_over s)) room left s → ⊥
 
 pub record AnItem (room : ℕ) (left : Left) (n : ℕ) (text : List ℕ) (ts : List Token) : Type 0 where
   pub tree : Statement
-  pub is : (other : List Token) → IsItem text tree (ts ++ other) other
-  pub within : Within n text (over_item tree (statements_over tree)) room left tree
+  pub is : (other : List Token) → IsBlockItem text tree (ts ++ other) other
+  pub within : Within n text (over_block_item tree (statements_over tree)) room left tree
 
 -- the block may end before it: with no room for a statement and no local left there is no other way
-abbrev pub HasItem : ℕ → Left → ℕ → List ℕ → List Token → Type 0
-HasItem room left n text ts = (ts ≡ []) ⊎ AnItem room left n text ts
+abbrev pub HasBlockItem : ℕ → Left → ℕ → List ℕ → List Token → Type 0
+HasBlockItem room left n text ts = (ts ≡ []) ⊎ AnItem room left n text ts
 
--- whatever the tokens are that begin with this keyword and go on with those behind it
+-- whatever the tokens are that begin with this keyword and continue with those after it
 abbrev pub Behind : Keyword → ℕ → List Token → (List Token → Type 0) → Type 0
-Behind keyword at behind P = (ts : List Token) → IsKeyword keyword at ts behind → P ts
+Behind keyword at following P = (ts : List Token) → IsKeyword keyword at ts following → P ts
 
--- no expression statement stands at the front
+-- no expression statement is at the front
 abbrev pub NoEvaluation : ℕ → Left → ℕ → List ℕ → List Token → Type 0
-NoEvaluation room left n text ts = (e : Option Expression) (end : List Token) → IsItem text (Evaluate e) ts end → Within n text (one_over e) room left (Evaluate e) → ⊥
+NoEvaluation room left n text ts = (e : Option Expression) (end : List Token) → IsBlockItem text (Evaluate e) ts end → Within n text (one_over e) room left (Evaluate e) → ⊥
 
 pub record HasEvaluation (room : ℕ) (left : Left) (n : ℕ) (text : List ℕ) (ts : List Token) : Type 0 where
   pub tree : Option Expression
-  pub is : (other : List Token) → IsItem text (Evaluate tree) (ts ++ other) other
+  pub is : (other : List Token) → IsBlockItem text (Evaluate tree) (ts ++ other) other
   pub within : Within n text (one_over tree) room left (Evaluate tree)

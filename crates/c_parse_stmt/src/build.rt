@@ -8,7 +8,7 @@ ghost use Rattle.c_parse_expr.specs.declared.refusal.ParseErr.TheVariants.{Memor
 
 use c_parse_expr::refusal::ParseErr;
 use c_syntax::expression::Expr;
-use c_syntax::statement::{Declaration, ForFirst, Stmt};
+use c_syntax::statement::{Declaration, ForInitialiser, Stmt};
 use std::alloc::Global;
 
 /// A declaration in a block.
@@ -125,7 +125,7 @@ pub fn do_of(alloc: Global, body: Stmt, at: u64, condition: Expr) -> Result<Stmt
 pub fn for_of(
     alloc: Global,
     at: u64,
-    first: ForFirst,
+    first: ForInitialiser,
     condition: Option<Expr>,
     next: Option<Expr>,
     body: Stmt,

@@ -1,4 +1,4 @@
-//! How statements go on behind the first statement or block that stands in them.
+//! How statements continue after the first statement or block that is in them.
 
 ghost use Rattle.std.specs.Prelude.{◌≡◌, ◌≤◌, ◌+◌, ℕ, List, IfOk, IfErr, map};
 ghost use Rattle.c_lex.specs.declared.keyword.Keyword.TheVariants as keywords;
@@ -17,14 +17,14 @@ use crate::left::Left;
 use crate::openings::Head;
 use crate::parts::{condition, expect, word};
 use c_lex::keyword::Keyword;
-use c_lex::sign::Sign;
+use c_lex::punctuator::Punctuator;
 use c_lex::token::Token;
 use c_parse_expr::refusal::{ParseErr, unexpected};
 use c_syntax::expression::Expr;
 use c_syntax::statement::Stmt;
 use std::alloc::Global;
 
-/// How a statement goes on behind the first statement in it.
+/// How a statement continues after the first statement in it.
 #[derive(Drop)]
 pub enum Ending {
     /// This is all of it.
@@ -37,7 +37,7 @@ pub enum Ending {
     },
 }
 
-/// How a `__try` statement goes on behind its first block, up to the brace of the second.
+/// How a `__try` statement continues after its first block, up to the brace of the second.
 #[derive(Drop)]
 pub enum Clause {
     Except { at: u64, filter: Expr },
@@ -55,9 +55,9 @@ fn do_end<'a>(
     ensures refused { IfErr result (λ e. (room : ℕ) (left after : Left) (ts : List Token) → Holds text.now room left after Do (statement body) ts tokens.now → Placed e (NoStatement room left) (HasStatement room left) text.now ts) }
 {
     match word(Keyword::While, tokens) {
-        Some((at, behind)) => {
-            let (condition, behind) = condition(alloc, text, behind)?;
-            let rest = expect(text, Sign::Semicolon, behind)?;
+        Some((at, following)) => {
+            let (condition, following) = condition(alloc, text, following)?;
+            let rest = expect(text, Punctuator::Semicolon, following)?;
             let made = do_of(alloc, body, at, condition)?;
             Ok((Ending::Whole(made), rest))
         }
@@ -65,7 +65,7 @@ fn do_end<'a>(
     }
 }
 
-/// How the statement with this head and this first statement goes on, and what follows that. An `else`
+/// How the statement with this head and this first statement continues, and what follows that. An `else`
 /// belongs to the nearest `if` (C11, 6.8.4.1).
 pub fn read_ending<'a>(
     alloc: Global,
@@ -123,13 +123,13 @@ fn except_clause<'a>(
 ) -> Result<(Clause, Left, &'a [Token]), ParseErr>
     requires { 1 ≤ room + left.funclets }
     ensures found { IfOk result (λ x. Behind keywords.Except at tokens.now (λ ts. Continues text.now room left x.1 x.0 ts x.2.now)) }
-    ensures refused { IfErr result (λ e. Behind keywords.Except at tokens.now (λ behind. (whole : Left) (body : Statements) (ts : List Token) → Guards text.now room whole left body ts behind → Placed e (NoStatement room whole) (HasStatement room whole) text.now ts)) }
+    ensures refused { IfErr result (λ e. Behind keywords.Except at tokens.now (λ following. (whole : Left) (body : Statements) (ts : List Token) → Guards text.now room whole left body ts following → Placed e (NoStatement room whole) (HasStatement room whole) text.now ts)) }
 {
     if room == 0 {
         return Err(ParseErr::TooDeep { at });
     }
-    let (filter, funclets, behind) = filter(alloc, text, left.funclets, tokens)?;
-    let rest = expect(text, Sign::OpenBrace, behind)?;
+    let (filter, funclets, following) = filter(alloc, text, left.funclets, tokens)?;
+    let rest = expect(text, Punctuator::OpenBrace, following)?;
     let locals = left.locals;
     Ok((
         Clause::Except { at, filter },
@@ -148,12 +148,12 @@ fn finally_clause<'a>(
 ) -> Result<(Clause, Left, &'a [Token]), ParseErr>
     requires { 1 ≤ room + left.funclets }
     ensures found { IfOk result (λ x. Behind keywords.Finally at tokens.now (λ ts. Continues text.now room left x.1 x.0 ts x.2.now)) }
-    ensures refused { IfErr result (λ e. Behind keywords.Finally at tokens.now (λ behind. (whole : Left) (body : Statements) (ts : List Token) → Guards text.now room whole left body ts behind → Placed e (NoStatement room whole) (HasStatement room whole) text.now ts)) }
+    ensures refused { IfErr result (λ e. Behind keywords.Finally at tokens.now (λ following. (whole : Left) (body : Statements) (ts : List Token) → Guards text.now room whole left body ts following → Placed e (NoStatement room whole) (HasStatement room whole) text.now ts)) }
 {
     if left.funclets == 0 {
         return Err(too_many_funclets(at));
     }
-    let rest = expect(text, Sign::OpenBrace, tokens)?;
+    let rest = expect(text, Punctuator::OpenBrace, tokens)?;
     let after = Left {
         locals: left.locals,
         funclets: left.funclets - 1,
@@ -175,11 +175,11 @@ pub fn read_clause<'a>(
     ensures found { IfOk result (λ x. Continues text.now room left x.1 x.0 tokens.now x.2.now) }
     ensures refused { IfErr result (λ e. (whole : Left) (body : Statements) (ts : List Token) → Guards text.now room whole left body ts tokens.now → Placed e (NoStatement room whole) (HasStatement room whole) text.now ts) }
 {
-    if let Some((at, behind)) = word(Keyword::Except, tokens) {
-        return except_clause(alloc, text, room, left, at, behind);
+    if let Some((at, following)) = word(Keyword::Except, tokens) {
+        return except_clause(alloc, text, room, left, at, following);
     }
     match word(Keyword::Finally, tokens) {
-        Some((at, behind)) => finally_clause(text, room, left, at, behind),
+        Some((at, following)) => finally_clause(text, room, left, at, following),
         None => Err(unexpected(text, tokens)),
     }
 }

@@ -1,14 +1,14 @@
 //! Filters, and which of them have a number.
 
 ghost use Rattle.std.specs.Prelude.{◌≡◌, ◌≤◌, ◌<◌, ◌+◌, true, List, ◌∷◌, IsTrue, IsFalse, IfSome, IfNone, IfOk, IfErr};
-ghost use Rattle.c_lex.specs.declared.sign.Sign.TheVariants as signs;
+ghost use Rattle.c_lex.specs.declared.punctuator.Punctuator.TheVariants as punctuators;
 ghost use Rattle.c_lex.specs.declared.token.Token.{Token};
 ghost use Rattle.c_syntax.specs.Expression.{expression, height};
 ghost use Rattle.c_syntax.specs.Faults as faults;
 ghost use Rattle.c_syntax.specs.Faults.{Failed};
 ghost use Rattle.c_syntax.specs.Limits as limits;
 ghost use Rattle.c_syntax.specs.Statements.{IsCondition};
-ghost use Rattle.c_syntax.specs.Tokens.{HasSign};
+ghost use Rattle.c_syntax.specs.Tokens.{HasPunctuator};
 ghost use Rattle.c_parse_expr.specs.declared.refusal.Count.TheVariants.{Funclets};
 ghost use Rattle.c_parse_expr.specs.declared.refusal.ParseErr.TheVariants.{TooMany};
 ghost use Rattle.c_parse_expr.specs.Refusals.{Placed};
@@ -17,14 +17,14 @@ ghost use Rattle.c_parse_stmt.specs.Filters.{is_one, numbers_of, accepts_alone, 
 ghost use Rattle.c_parse_stmt.specs.Parts.{NoCondition, HasCondition};
 
 use crate::parts::{begins_expression, condition};
-use c_lex::sign::Sign;
+use c_lex::punctuator::Punctuator;
 use c_lex::token::{Kind, Token};
 use c_parse_atom::information::is_word;
 use c_parse_atom::operators::follows;
 use c_parse_expr::refusal::{Count, ParseErr, place};
 use c_parse_type::front::{after, front};
 use c_parse_type::specifiers::base;
-use c_syntax::expression::{Expr, Literal, Name};
+use c_syntax::expression::{Expr, Identifier, Literal};
 use std::alloc::Global;
 
 /// The most opening parentheses that a filter may have: its own, and those of the expressions around a
@@ -40,7 +40,7 @@ fn is_one(literal: Literal) -> bool
 {
     match literal {
         Literal::Integer { value, .. } => value == 1,
-        Literal::Character(_) => false,
+        Literal::CharacterConstant(_) => false,
     }
 }
 
@@ -62,15 +62,15 @@ fn accepts(text: &[u8], filter: &Expr) -> bool
 fn past_opening(tokens: &[Token]) -> (u64, &[Token])
     ensures opened { AreOpening result.0 tokens.now result.1.now }
     ensures most { result.0 ≤ 65 }
-    ensures all { result.0 < 65 → (rest : List Token) → HasSign signs.OpenParenthesis result.1.now rest → ⊥ }
+    ensures all { result.0 < 65 → (rest : List Token) → HasPunctuator punctuators.OpenParenthesis result.1.now rest → ⊥ }
 {
     let mut count = 0;
     let mut rest = tokens;
     while count < OPENING {
-        match after(Sign::OpenParenthesis, rest) {
-            Some(behind) => {
+        match after(Punctuator::OpenParenthesis, rest) {
+            Some(following) => {
                 count += 1;
-                rest = behind;
+                rest = following;
             }
             None => return (count, rest),
         }
@@ -82,15 +82,15 @@ fn past_opening(tokens: &[Token]) -> (u64, &[Token])
 fn past_closing(most: u64, tokens: &[Token]) -> (u64, &[Token])
     ensures closed { AreClosing result.0 tokens.now result.1.now }
     ensures most { result.0 ≤ most }
-    ensures all { result.0 < most → (rest : List Token) → HasSign signs.CloseParenthesis result.1.now rest → ⊥ }
+    ensures all { result.0 < most → (rest : List Token) → HasPunctuator punctuators.CloseParenthesis result.1.now rest → ⊥ }
 {
     let mut count = 0;
     let mut rest = tokens;
     while count < most {
-        match after(Sign::CloseParenthesis, rest) {
-            Some(behind) => {
+        match after(Punctuator::CloseParenthesis, rest) {
+            Some(following) => {
                 count += 1;
-                rest = behind;
+                rest = following;
             }
             None => return (count, rest),
         }
@@ -104,8 +104,8 @@ fn accepts_alone(text: &[u8], token: Token) -> bool
 {
     match token.kind {
         Kind::Integer { value, .. } => value == 1,
-        Kind::Name => {
-            let name = Name {
+        Kind::Identifier => {
+            let name = Identifier {
                 start: token.start,
                 end: token.end,
             };
@@ -129,21 +129,21 @@ fn accepting<'a>(text: &[u8], tokens: &'a [Token]) -> Option<(Token, &'a [Token]
     }
 }
 
-/// How many expressions at least stand around a part of one that begins with the first token: a sign
+/// How many expressions at least stand around a part of one that begins with the first token: a punctuator
 /// there is an operator's or a parenthesis.
 fn first_over(tokens: &[Token]) -> u64
     ensures { result ≡ first_over tokens.now }
 {
     match front(tokens) {
         Some((token, _)) => match token.kind {
-            Kind::Sign(_) => 1,
+            Kind::Punctuator(_) => 1,
             _ => 0,
         },
         None => 0,
     }
 }
 
-/// Whether some filter goes on with the first token behind so many opening parentheses: an expression
+/// Whether some filter continues with the first token after so many opening parentheses: an expression
 /// begins with it, or a type in the last of them, within the limit of nesting.
 fn goes_inside(opened: u64, tokens: &[Token]) -> bool
     requires some { 1 ≤ opened }
@@ -160,24 +160,24 @@ fn goes_inside(opened: u64, tokens: &[Token]) -> bool
     }
 }
 
-/// Whether some filter goes on with the first token behind opening parentheses, a token that accepts
+/// Whether some filter continues with the first token after opening parentheses, a token that accepts
 /// alone, and fewer closing ones: it is an operator within the limit of nesting, or makes a call.
 fn goes_behind(opened: u64, closed: u64, atom: Token, tokens: &[Token]) -> bool
     requires fewer { closed < opened }
     requires most { opened ≤ 65 }
-    requires unclosed { (rest : List Token) → HasSign signs.CloseParenthesis tokens.now rest → ⊥ }
+    requires unclosed { (rest : List Token) → HasPunctuator punctuators.CloseParenthesis tokens.now rest → ⊥ }
     ensures some { IsTrue result → GoesBehind opened closed atom tokens.now }
     ensures none { IsFalse result → NoneBehind opened closed atom tokens.now }
 {
     let level = follows(tokens);
     if level == 0 {
-        return closed == 0 && matches!(atom.kind, Kind::Name);
+        return closed == 0 && matches!(atom.kind, Kind::Identifier);
     }
     level <= COMMA && opened < OPENING
 }
 
-/// The tokens from the first with which no filter goes on that accepts whatever was raised, and whether
-/// another one goes on there: such a filter is opening parentheses, a token that accepts alone, and as
+/// The tokens from the first with which no filter continues that accepts whatever was raised, and whether
+/// another one continues there: such a filter is opening parentheses, a token that accepts alone, and as
 /// many closing ones.
 fn departure<'a>(text: &[u8], tokens: &'a [Token]) -> (&'a [Token], bool)
     ensures many { IsTrue result.1 → NoFilter 0 6 text.now tokens.now → Failed 6 (faults.place text.now result.0.now) (NoFilter 0) (HasFilter 0) text.now tokens.now }
@@ -188,8 +188,8 @@ fn departure<'a>(text: &[u8], tokens: &'a [Token]) -> (&'a [Token], bool)
         return (inner, false);
     }
     match accepting(text, inner) {
-        Some((token, behind)) => {
-            let (closed, rest) = past_closing(opened, behind);
+        Some((token, following)) => {
+            let (closed, rest) = past_closing(opened, following);
             if closed == opened {
                 return (rest, false);
             }
@@ -210,15 +210,15 @@ pub fn too_many_funclets(at: u64) -> ParseErr
 }
 
 /// The refusal that comes first where no filter may have a number: this one of a condition, or that of
-/// the token from which no other filter goes on.
+/// the token from which no other filter continues.
 fn earlier(text: &[u8], refusal: ParseErr, tokens: &[Token]) -> ParseErr
     ensures { Placed refusal NoCondition HasCondition text.now tokens.now → Placed result (NoFilter 0) (HasFilter 0) text.now tokens.now }
 {
     match refusal {
         ParseErr::Memory => refusal,
         _ => {
-            let (rest, goes_on) = departure(text, tokens);
-            if goes_on {
+            let (rest, continues) = departure(text, tokens);
+            if continues {
                 too_many_funclets(place(text, rest))
             } else {
                 refusal
@@ -229,7 +229,7 @@ fn earlier(text: &[u8], refusal: ParseErr, tokens: &[Token]) -> ParseErr
 
 /// The filter in parentheses at the front, how many filters and `__finally` blocks the program may
 /// still have, and what follows it. Where there may be no more, only a filter that accepts whatever was
-/// raised goes on: the first token that departs from each of these is one too many.
+/// raised continues: the first token that departs from each of these is one too many.
 pub fn filter<'a>(
     alloc: Global,
     text: &[u8],

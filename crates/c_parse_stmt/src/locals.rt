@@ -4,16 +4,16 @@ ghost use Rattle.std.specs.Prelude.{◌≡◌, ◌≤◌, ◌+◌, List, IfOk, I
 ghost use Rattle.c_syntax.specs.Expression.{expression};
 ghost use Rattle.c_syntax.specs.Faults as faults;
 ghost use Rattle.c_syntax.specs.Follow.{Stops};
-ghost use Rattle.c_syntax.specs.Limits.{height_of, one_over, height_of_locals, one_over_locals, height_of_first, locals_of_first};
+ghost use Rattle.c_syntax.specs.Limits.{height_of, one_over, height_of_locals, one_over_locals, height_of_for_initialiser, locals_of_for_initialiser};
 ghost use Rattle.c_syntax.specs.Statement as trees;
-ghost use Rattle.c_syntax.specs.Statements.{IsInitialiser, IsLocal, AreLocals, IsDeclaration, IsFirst};
+ghost use Rattle.c_syntax.specs.Statements.{IsInitialiser, IsLocal, AreLocals, IsDeclaration, IsForInitialiser};
 ghost use Rattle.c_parse_expr.specs.declared.refusal.Count.TheVariants.{Locals};
 ghost use Rattle.c_parse_expr.specs.declared.refusal.ParseErr.TheVariants.{TooMany};
 ghost use Rattle.c_parse_expr.specs.Refusals.{Placed};
-ghost use Rattle.c_parse_stmt.specs.Parts.{NoInitialiser, HasInitialiser, NoLocal, HasLocal, NoLocals, HasLocals, NoDeclaration, HasDeclaration, NoFirst, HasFirst};
+ghost use Rattle.c_parse_stmt.specs.Parts.{NoInitialiser, HasInitialiser, NoLocal, HasLocal, NoLocals, HasLocals, NoDeclaration, HasDeclaration, NoForInitialiser, HasForInitialiser};
 
 use crate::parts::{expect, optional};
-use c_lex::sign::Sign;
+use c_lex::punctuator::Punctuator;
 use c_lex::token::Token;
 use c_parse_atom::operands::name;
 use c_parse_atom::operators::follows;
@@ -22,7 +22,7 @@ use c_parse_expr::refusal::{Count, ParseErr, place, too_deep, unexpected};
 use c_parse_type::front::after;
 use c_parse_type::specifiers::{base, stars};
 use c_syntax::expression::Expr;
-use c_syntax::statement::{Declaration, ForFirst, Local};
+use c_syntax::statement::{Declaration, ForInitialiser, Local};
 use std::alloc::Global;
 
 /// The most expressions that stand around an expression.
@@ -41,7 +41,7 @@ fn too_many_locals(text: &[u8], tokens: &[Token]) -> ParseErr
     }
 }
 
-/// The initialiser of a local, if there is one, and what follows it: nothing else goes on behind a
+/// The initialiser of a local, if there is one, and what follows it: nothing else continues after a
 /// local's name but `,` and `;`. At most `room` statements stand around it.
 fn initialiser<'a>(
     alloc: Global,
@@ -55,7 +55,7 @@ fn initialiser<'a>(
     ensures over { IfOk result (λ x. one_over (option_map expression x.0) ≤ room) }
     ensures refused { IfErr result (λ e. Placed e (NoInitialiser room) (HasInitialiser room) text.now tokens.now) }
 {
-    match after(Sign::Assign, tokens) {
+    match after(Punctuator::Assign, tokens) {
         Some(value) => {
             if room == 0 {
                 return Err(too_deep(text, tokens));
@@ -87,8 +87,8 @@ fn local<'a>(
 {
     let (pointers, declarator) = stars(tokens);
     match name(declarator) {
-        Some((name, behind)) => {
-            let (initialiser, rest) = initialiser(alloc, text, room, behind)?;
+        Some((name, following)) => {
+            let (initialiser, rest) = initialiser(alloc, text, room, following)?;
             let local = Local {
                 pointers,
                 name,
@@ -100,7 +100,7 @@ fn local<'a>(
     }
 }
 
-/// The locals of a declaration behind their base, up to the semicolon, how many the function may still
+/// The locals of a declaration after their base, up to the semicolon, how many the function may still
 /// declare, and what follows the semicolon. The function may declare at least one.
 fn locals<'a>(
     alloc: Global,
@@ -120,16 +120,16 @@ fn locals<'a>(
     let mut left = left - 1;
     let mut found = Vec::new(alloc);
     found.push(first)?;
-    while let Some(behind) = after(Sign::Comma, rest) {
+    while let Some(following) = after(Punctuator::Comma, rest) {
         if left == 0 {
             return Err(too_many_locals(text, rest));
         }
-        let (next, after) = local(alloc, text, room, behind)?;
+        let (next, after) = local(alloc, text, room, following)?;
         found.push(next)?;
         left -= 1;
         rest = after;
     }
-    let end = expect(text, Sign::Semicolon, rest)?;
+    let end = expect(text, Punctuator::Semicolon, rest)?;
     Ok((found, left, end))
 }
 
@@ -149,11 +149,11 @@ pub fn declaration<'a>(
     ensures refused { IfErr result (λ e. Placed e (NoDeclaration room left) (HasDeclaration room left) text.now tokens.now) }
 {
     match base(tokens) {
-        Some((base, behind)) => {
+        Some((base, following)) => {
             if left == 0 {
                 return Err(too_many_locals(text, tokens));
             }
-            let (locals, left, rest) = locals(alloc, text, room, left, behind)?;
+            let (locals, left, rest) = locals(alloc, text, room, left, following)?;
             Ok((Declaration { base, locals }, left, rest))
         }
         None => Err(unexpected(text, tokens)),
@@ -162,25 +162,25 @@ pub fn declaration<'a>(
 
 /// What a `for` does first, up to its semicolon (C11, 6.8.5.3), how many locals the function may still
 /// declare, and what follows the semicolon.
-pub fn for_first<'a>(
+pub fn for_initialiser<'a>(
     alloc: Global,
     text: &[u8],
     left: u64,
     tokens: &'a [Token],
-) -> Result<(ForFirst, u64, &'a [Token]), ParseErr>
-    ensures found { IfOk result (λ x. IsFirst text.now (trees.first x.0) tokens.now x.2.now) }
-    ensures low { IfOk result (λ x. height_of_first (trees.first x.0) ≤ 64) }
-    ensures taken { IfOk result (λ x. x.1 + locals_of_first (trees.first x.0) ≡ left) }
-    ensures refused { IfErr result (λ e. Placed e (NoFirst left) (HasFirst left) text.now tokens.now) }
+) -> Result<(ForInitialiser, u64, &'a [Token]), ParseErr>
+    ensures found { IfOk result (λ x. IsForInitialiser text.now (trees.first x.0) tokens.now x.2.now) }
+    ensures low { IfOk result (λ x. height_of_for_initialiser (trees.first x.0) ≤ 64) }
+    ensures taken { IfOk result (λ x. x.1 + locals_of_for_initialiser (trees.first x.0) ≡ left) }
+    ensures refused { IfErr result (λ e. Placed e (NoForInitialiser left) (HasForInitialiser left) text.now tokens.now) }
 {
     match base(tokens) {
         Some(_) => {
             let (declaration, left, rest) = declaration(alloc, text, 1, left, tokens)?;
-            Ok((ForFirst::Declaration(declaration), left, rest))
+            Ok((ForInitialiser::Declaration(declaration), left, rest))
         }
         None => {
-            let (expr, rest) = optional(alloc, text, 1, Sign::Semicolon, tokens)?;
-            Ok((ForFirst::Expression(expr), left, rest))
+            let (expr, rest) = optional(alloc, text, 1, Punctuator::Semicolon, tokens)?;
+            Ok((ForInitialiser::Expression(expr), left, rest))
         }
     }
 }

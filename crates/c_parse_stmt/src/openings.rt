@@ -1,4 +1,4 @@
-//! What statements begin with, up to the first statement that stands in them.
+//! What statements begin with, up to the first statement that is in them.
 
 ghost use Rattle.std.specs.Prelude.{IfOk, IfErr};
 ghost use Rattle.c_lex.specs.declared.keyword.Keyword.TheVariants as keywords;
@@ -10,18 +10,18 @@ ghost use Rattle.c_parse_stmt.specs.Within.{NoStatement, HasStatement, NoEvaluat
 use crate::build::{break_of, continue_of, evaluate_of, leave_of, return_of};
 use crate::filters::too_many_funclets;
 use crate::left::Left;
-use crate::locals::for_first;
+use crate::locals::for_initialiser;
 use crate::parts::{condition, expect, keyword_at, optional};
 use c_lex::keyword::Keyword;
-use c_lex::sign::Sign;
+use c_lex::punctuator::Punctuator;
 use c_lex::token::Token;
 use c_parse_expr::refusal::ParseErr;
 use c_parse_type::front::after;
 use c_syntax::expression::Expr;
-use c_syntax::statement::{ForFirst, Stmt};
+use c_syntax::statement::{ForInitialiser, Stmt};
 use std::alloc::Global;
 
-/// What stands before the first of the statements in a statement, which is no block.
+/// What is before the first of the statements in a statement, which is no block.
 #[derive(Drop)]
 pub enum Head {
     If {
@@ -35,7 +35,7 @@ pub enum Head {
     Do,
     For {
         at: u64,
-        first: ForFirst,
+        first: ForInitialiser,
         condition: Option<Expr>,
         next: Option<Expr>,
     },
@@ -44,7 +44,7 @@ pub enum Head {
 /// How a statement begins.
 #[derive(Drop)]
 pub enum Opening {
-    /// No other stands in it: this is all of it.
+    /// No other is in it: this is all of it.
     Whole(Stmt),
     /// A block, with its brace.
     Block,
@@ -65,7 +65,7 @@ fn evaluate<'a>(
     ensures found { IfOk result (λ x. Opens text.now room left x.1 x.0 tokens.now x.2.now) }
     ensures refused { IfErr result (λ e. Placed e (NoEvaluation room left) (HasEvaluation room left) text.now tokens.now) }
 {
-    let (expr, rest) = optional(alloc, text, room, Sign::Semicolon, tokens)?;
+    let (expr, rest) = optional(alloc, text, room, Punctuator::Semicolon, tokens)?;
     Ok((Opening::Whole(evaluate_of(expr)), left, rest))
 }
 
@@ -81,7 +81,7 @@ fn returning<'a>(
     ensures found { IfOk result (λ x. Behind keywords.Return at tokens.now (λ ts. Opens text.now room left x.1 x.0 ts x.2.now)) }
     ensures refused { IfErr result (λ e. Behind keywords.Return at tokens.now (λ ts. Placed e (NoStatement room left) (HasStatement room left) text.now ts)) }
 {
-    let (value, rest) = optional(alloc, text, room, Sign::Semicolon, tokens)?;
+    let (value, rest) = optional(alloc, text, room, Punctuator::Semicolon, tokens)?;
     Ok((Opening::Whole(return_of(at, value)), left, rest))
 }
 
@@ -96,7 +96,7 @@ fn breaking<'a>(
     ensures found { IfOk result (λ x. Behind keywords.Break at tokens.now (λ ts. Opens text.now room left x.1 x.0 ts x.2.now)) }
     ensures refused { IfErr result (λ e. Behind keywords.Break at tokens.now (λ ts. Placed e (NoStatement room left) (HasStatement room left) text.now ts)) }
 {
-    let rest = expect(text, Sign::Semicolon, tokens)?;
+    let rest = expect(text, Punctuator::Semicolon, tokens)?;
     Ok((Opening::Whole(break_of(at)), left, rest))
 }
 
@@ -111,7 +111,7 @@ fn continuing<'a>(
     ensures found { IfOk result (λ x. Behind keywords.Continue at tokens.now (λ ts. Opens text.now room left x.1 x.0 ts x.2.now)) }
     ensures refused { IfErr result (λ e. Behind keywords.Continue at tokens.now (λ ts. Placed e (NoStatement room left) (HasStatement room left) text.now ts)) }
 {
-    let rest = expect(text, Sign::Semicolon, tokens)?;
+    let rest = expect(text, Punctuator::Semicolon, tokens)?;
     Ok((Opening::Whole(continue_of(at)), left, rest))
 }
 
@@ -126,7 +126,7 @@ fn leaving<'a>(
     ensures found { IfOk result (λ x. Behind keywords.Leave at tokens.now (λ ts. Opens text.now room left x.1 x.0 ts x.2.now)) }
     ensures refused { IfErr result (λ e. Behind keywords.Leave at tokens.now (λ ts. Placed e (NoStatement room left) (HasStatement room left) text.now ts)) }
 {
-    let rest = expect(text, Sign::Semicolon, tokens)?;
+    let rest = expect(text, Punctuator::Semicolon, tokens)?;
     Ok((Opening::Whole(leave_of(at)), left, rest))
 }
 
@@ -201,10 +201,10 @@ fn for_head<'a>(
     if room == 0 {
         return Err(ParseErr::TooDeep { at });
     }
-    let behind = expect(text, Sign::OpenParenthesis, tokens)?;
-    let (first, locals, behind) = for_first(alloc, text, left.locals, behind)?;
-    let (condition, behind) = optional(alloc, text, 1, Sign::Semicolon, behind)?;
-    let (next, rest) = optional(alloc, text, 1, Sign::CloseParenthesis, behind)?;
+    let following = expect(text, Punctuator::OpenParenthesis, tokens)?;
+    let (first, locals, following) = for_initialiser(alloc, text, left.locals, following)?;
+    let (condition, following) = optional(alloc, text, 1, Punctuator::Semicolon, following)?;
+    let (next, rest) = optional(alloc, text, 1, Punctuator::CloseParenthesis, following)?;
     let funclets = left.funclets;
     let head = Head::For {
         at,
@@ -217,7 +217,7 @@ fn for_head<'a>(
 
 /// What follows `__try`: the brace of its block (Microsoft C reference, "try-except statement" and
 /// "try-finally statement"). Where no statement may stand inside and no block may have a number, neither
-/// goes on.
+/// continues.
 fn try_head<'a>(
     text: &[u8],
     room: u64,
@@ -231,7 +231,7 @@ fn try_head<'a>(
     if room == 0 && left.funclets == 0 {
         return Err(too_many_funclets(at));
     }
-    let rest = expect(text, Sign::OpenBrace, tokens)?;
+    let rest = expect(text, Punctuator::OpenBrace, tokens)?;
     Ok((Opening::Try, left, rest))
 }
 
@@ -243,28 +243,28 @@ fn by_keyword<'a>(
     left: Left,
     keyword: Keyword,
     at: u64,
-    behind: &'a [Token],
+    following: &'a [Token],
     tokens: &'a [Token],
 ) -> Result<(Opening, Left, &'a [Token]), ParseErr>
-    requires { IsKeyword keyword at tokens.now behind.now }
+    requires { IsKeyword keyword at tokens.now following.now }
     ensures found { IfOk result (λ x. Opens text.now room left x.1 x.0 tokens.now x.2.now) }
     ensures refused { IfErr result (λ e. Placed e (NoStatement room left) (HasStatement room left) text.now tokens.now) }
 {
     match keyword {
-        Keyword::If => if_head(alloc, text, room, left, at, behind),
-        Keyword::While => while_head(alloc, text, room, left, at, behind),
-        Keyword::Do => do_head(text, room, left, at, behind),
-        Keyword::For => for_head(alloc, text, room, left, at, behind),
-        Keyword::Try => try_head(text, room, left, at, behind),
-        Keyword::Return => returning(alloc, text, room, left, at, behind),
-        Keyword::Break => breaking(text, room, left, at, behind),
-        Keyword::Continue => continuing(text, room, left, at, behind),
-        Keyword::Leave => leaving(text, room, left, at, behind),
+        Keyword::If => if_head(alloc, text, room, left, at, following),
+        Keyword::While => while_head(alloc, text, room, left, at, following),
+        Keyword::Do => do_head(text, room, left, at, following),
+        Keyword::For => for_head(alloc, text, room, left, at, following),
+        Keyword::Try => try_head(text, room, left, at, following),
+        Keyword::Return => returning(alloc, text, room, left, at, following),
+        Keyword::Break => breaking(text, room, left, at, following),
+        Keyword::Continue => continuing(text, room, left, at, following),
+        Keyword::Leave => leaving(text, room, left, at, following),
         _ => evaluate(alloc, text, room, left, tokens),
     }
 }
 
-/// How the statement at the front begins, what is left of the counts behind that, and what follows it.
+/// How the statement at the front begins, what is left of the counts after that, and what follows it.
 /// At most `room` statements stand around each of the statement's parts.
 pub fn read_opening<'a>(
     alloc: Global,
@@ -276,12 +276,12 @@ pub fn read_opening<'a>(
     ensures found { IfOk result (λ x. Opens text.now room left x.1 x.0 tokens.now x.2.now) }
     ensures refused { IfErr result (λ e. Placed e (NoStatement room left) (HasStatement room left) text.now tokens.now) }
 {
-    if let Some(inner) = after(Sign::OpenBrace, tokens) {
+    if let Some(inner) = after(Punctuator::OpenBrace, tokens) {
         return Ok((Opening::Block, left, inner));
     }
     match keyword_at(tokens) {
-        Some((keyword, at, behind)) => {
-            by_keyword(alloc, text, room, left, keyword, at, behind, tokens)
+        Some((keyword, at, following)) => {
+            by_keyword(alloc, text, room, left, keyword, at, following, tokens)
         }
         None => evaluate(alloc, text, room, left, tokens),
     }

@@ -1,23 +1,23 @@
-//! Parts of statements: keywords and signs that have to stand, expressions and what ends them.
+//! Parts of statements: keywords and punctuators that have to stand, expressions and what ends them.
 
 ghost use Rattle.std.specs.Prelude.{◌≤◌, ◌<◌, ℕ, List, IsTrue, IsFalse, IfOk, IfErr, IfSome, IfNone, option_map};
 ghost use Rattle.c_lex.specs.declared.keyword.Keyword.{Keyword};
-ghost use Rattle.c_lex.specs.declared.sign.Sign.{Sign};
+ghost use Rattle.c_lex.specs.declared.punctuator.Punctuator.{Punctuator};
 ghost use Rattle.c_lex.specs.declared.token.Token.{Token};
 ghost use Rattle.c_syntax.specs.Expression.{expression, height};
-ghost use Rattle.c_syntax.specs.Follow.{sign_follows};
+ghost use Rattle.c_syntax.specs.Follow.{punctuator_follows};
 ghost use Rattle.c_syntax.specs.Limits.{height_of, one_over};
 ghost use Rattle.c_syntax.specs.Statements.{IsCondition};
-ghost use Rattle.c_syntax.specs.Tokens.{IsKeyword, HasKeyword, HasSign};
+ghost use Rattle.c_syntax.specs.Tokens.{IsKeyword, HasKeyword, HasPunctuator};
 ghost use Rattle.c_parse_expr.specs.Refusals.{Placed};
 ghost use Rattle.c_parse_type.specs.Bases.{NoBase};
 ghost use Rattle.c_parse_stmt.specs.declared.left.Left.{Left};
 ghost use Rattle.c_parse_stmt.specs.Begins.{BeginsExpression, BeginsNoExpression, BeginsStatement, BeginsNoStatement};
-ghost use Rattle.c_parse_stmt.specs.Parts.{NoSign, ASign, IsUpTo, NoCondition, HasCondition, NoneUpTo, HasUpTo};
-ghost use Rattle.c_parse_stmt.specs.Within.{NoItem, HasItem};
+ghost use Rattle.c_parse_stmt.specs.Parts.{NoPunctuator, APunctuator, IsUpTo, NoCondition, HasCondition, NoneUpTo, HasUpTo};
+ghost use Rattle.c_parse_stmt.specs.Within.{NoBlockItem, HasBlockItem};
 
 use c_lex::keyword::Keyword;
-use c_lex::sign::Sign;
+use c_lex::punctuator::Punctuator;
 use c_lex::token::{Kind, Token};
 use c_parse_expr::expressions::expression;
 use c_parse_expr::refusal::{ParseErr, too_deep, unexpected};
@@ -60,10 +60,14 @@ pub fn word(wanted: Keyword, tokens: &[Token]) -> Option<(u64, &[Token])>
     }
 }
 
-/// What follows the wanted sign, which has to be at the front.
-pub fn expect<'a>(text: &[u8], wanted: Sign, tokens: &'a [Token]) -> Result<&'a [Token], ParseErr>
-    ensures found { IfOk result (λ rest. HasSign wanted tokens.now rest.now) }
-    ensures refused { IfErr result (λ e. Placed e (NoSign wanted) (ASign wanted) text.now tokens.now) }
+/// What follows the wanted punctuator, which has to be at the front.
+pub fn expect<'a>(
+    text: &[u8],
+    wanted: Punctuator,
+    tokens: &'a [Token],
+) -> Result<&'a [Token], ParseErr>
+    ensures found { IfOk result (λ rest. HasPunctuator wanted tokens.now rest.now) }
+    ensures refused { IfErr result (λ e. Placed e (NoPunctuator wanted) (APunctuator wanted) text.now tokens.now) }
 {
     match after(wanted, tokens) {
         Some(rest) => Ok(rest),
@@ -78,19 +82,19 @@ pub fn begins_expression(tokens: &[Token]) -> bool
 {
     match front(tokens) {
         Some((token, _)) => match token.kind {
-            Kind::Name | Kind::Integer { .. } | Kind::Character(_) => true,
+            Kind::Identifier | Kind::Integer { .. } | Kind::CharacterConstant(_) => true,
             Kind::Keyword(keyword) => matches!(keyword, Keyword::GetExceptionInformation),
-            Kind::Sign(sign) => matches!(
-                sign,
-                Sign::OpenParenthesis
-                    | Sign::PlusPlus
-                    | Sign::MinusMinus
-                    | Sign::Plus
-                    | Sign::Minus
-                    | Sign::Exclamation
-                    | Sign::Tilde
-                    | Sign::Star
-                    | Sign::Ampersand
+            Kind::Punctuator(punctuator) => matches!(
+                punctuator,
+                Punctuator::OpenParenthesis
+                    | Punctuator::PlusPlus
+                    | Punctuator::MinusMinus
+                    | Punctuator::Plus
+                    | Punctuator::Minus
+                    | Punctuator::Exclamation
+                    | Punctuator::Tilde
+                    | Punctuator::Star
+                    | Punctuator::Ampersand
             ),
             Kind::Reserved(_) => false,
         },
@@ -120,7 +124,10 @@ fn begins_statement(tokens: &[Token]) -> bool
                     | Keyword::Leave
                     | Keyword::Try
             ),
-            Kind::Sign(sign) => matches!(sign, Sign::OpenBrace | Sign::Semicolon),
+            Kind::Punctuator(punctuator) => matches!(
+                punctuator,
+                Punctuator::OpenBrace | Punctuator::Semicolon
+            ),
             _ => false,
         },
         None => false,
@@ -128,9 +135,9 @@ fn begins_statement(tokens: &[Token]) -> bool
 }
 
 /// The refusal of the first token where an expression is one statement too deep: if none begins with
-/// it, no program goes on so at all.
+/// it, no program continues so at all.
 fn no_room_for_expression(text: &[u8], tokens: &[Token]) -> ParseErr
-    ensures { (end : Sign) → ((rest : List Token) → HasSign end tokens.now rest → ⊥) → Placed result (NoneUpTo end 0) (HasUpTo end 0) text.now tokens.now }
+    ensures { (end : Punctuator) → ((rest : List Token) → HasPunctuator end tokens.now rest → ⊥) → Placed result (NoneUpTo end 0) (HasUpTo end 0) text.now tokens.now }
 {
     if begins_expression(tokens) {
         too_deep(text, tokens)
@@ -140,9 +147,9 @@ fn no_room_for_expression(text: &[u8], tokens: &[Token]) -> ParseErr
 }
 
 /// The refusal of the first token where no declaration begins with it, and each statement is one too
-/// deep: if none begins with it, no program goes on so at all.
+/// deep: if none begins with it, no program continues so at all.
 pub fn no_room_for_statement(text: &[u8], tokens: &[Token]) -> ParseErr
-    ensures { (left : Left) → NoBase tokens.now → Placed result (NoItem 0 left) (HasItem 0 left) text.now tokens.now }
+    ensures { (left : Left) → NoBase tokens.now → Placed result (NoBlockItem 0 left) (HasBlockItem 0 left) text.now tokens.now }
 {
     if begins_statement(tokens) {
         too_deep(text, tokens)
@@ -161,22 +168,22 @@ pub fn condition<'a>(
     ensures low { IfOk result (λ x. height (expression x.0) ≤ 64) }
     ensures refused { IfErr result (λ e. Placed e NoCondition HasCondition text.now tokens.now) }
 {
-    let inner = expect(text, Sign::OpenParenthesis, tokens)?;
+    let inner = expect(text, Punctuator::OpenParenthesis, tokens)?;
     let parsed = expression(alloc, text, DEEPEST, COMMA, inner)?;
-    let rest = expect(text, Sign::CloseParenthesis, parsed.rest)?;
+    let rest = expect(text, Punctuator::CloseParenthesis, parsed.rest)?;
     Ok((parsed.expr, rest))
 }
 
-/// The expression, or nothing, up to a sign that ends it, and what follows the sign. At most `room`
+/// The expression, or nothing, up to a punctuator that ends it, and what follows the punctuator. At most `room`
 /// statements stand around the expression.
 pub fn optional<'a>(
     alloc: Global,
     text: &[u8],
     room: u64,
-    end: Sign,
+    end: Punctuator,
     tokens: &'a [Token],
 ) -> Result<(Option<Expr>, &'a [Token]), ParseErr>
-    requires { 16 < sign_follows end }
+    requires { 16 < punctuator_follows end }
     ensures found { IfOk result (λ x. IsUpTo text.now end (option_map expression x.0) tokens.now x.1.now) }
     ensures low { IfOk result (λ x. height_of (option_map expression x.0) ≤ 64) }
     ensures over { IfOk result (λ x. one_over (option_map expression x.0) ≤ room) }

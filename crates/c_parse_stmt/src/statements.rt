@@ -1,14 +1,14 @@
-//! Statements, and what stands in blocks.
+//! Statements, and what is in blocks.
 
 ghost use Rattle.std.specs.Prelude.{◌≤◌, ◌+◌, List, IfOk, IfErr, IfSome, IfNone, map};
 ghost use Rattle.c_lex.specs.declared.token.Token.{Token};
 ghost use Rattle.c_syntax.specs.Statement.{statement, statements};
-ghost use Rattle.c_syntax.specs.Statements.{AreItems};
+ghost use Rattle.c_syntax.specs.Statements.{AreBlockItems};
 ghost use Rattle.c_parse_type.specs.Bases.{NoBase};
 ghost use Rattle.c_parse_expr.specs.Refusals.{Placed};
 ghost use Rattle.c_parse_stmt.specs.declared.left.Left.{Left};
 ghost use Rattle.c_parse_stmt.specs.Openings.{Heads, IsTry};
-ghost use Rattle.c_parse_stmt.specs.Within.{AllTaken, NoItems, HasItems, Reads, NoStatement, HasStatement, ReadsItem, NoItem, HasItem};
+ghost use Rattle.c_parse_stmt.specs.Within.{AllTaken, NoBlockItems, HasBlockItems, Reads, NoStatement, HasStatement, ReadsBlockItem, NoBlockItem, HasBlockItem};
 
 use crate::build::{block_of, declare, if_else_of};
 use crate::endings::{Ending, read_clause, read_ending, try_of};
@@ -16,7 +16,7 @@ use crate::left::Left;
 use crate::locals::declaration;
 use crate::openings::{Head, Opening, read_opening};
 use crate::parts::no_room_for_statement;
-use c_lex::sign::Sign;
+use c_lex::punctuator::Punctuator;
 use c_lex::token::Token;
 use c_parse_expr::refusal::ParseErr;
 use c_parse_type::front::after;
@@ -24,8 +24,8 @@ use c_parse_type::specifiers::base;
 use c_syntax::statement::Stmt;
 use std::alloc::Global;
 
-/// The declaration at the front, what is left of the counts behind it, and what follows it; nothing
-/// where none stands there, and a statement may.
+/// The declaration at the front, what is left of the counts after it, and what follows it; nothing
+/// where none is there, and a statement may.
 fn declared<'a>(
     alloc: Global,
     text: &[u8],
@@ -33,10 +33,10 @@ fn declared<'a>(
     left: Left,
     tokens: &'a [Token],
 ) -> Result<Option<(Stmt, Left, &'a [Token])>, ParseErr>
-    ensures found { IfOk result (λ o. IfSome o (λ x. ReadsItem text.now room left x.1 (statement x.0) tokens.now x.2.now)) }
+    ensures found { IfOk result (λ o. IfSome o (λ x. ReadsBlockItem text.now room left x.1 (statement x.0) tokens.now x.2.now)) }
     ensures room { IfOk result (λ o. IfNone o (1 ≤ room)) }
     ensures none { IfOk result (λ o. IfNone o (NoBase tokens.now)) }
-    ensures refused { IfErr result (λ e. Placed e (NoItem room left) (HasItem room left) text.now tokens.now) }
+    ensures refused { IfErr result (λ e. Placed e (NoBlockItem room left) (HasBlockItem room left) text.now tokens.now) }
 {
     match base(tokens) {
         Some(_) => {
@@ -53,8 +53,8 @@ fn declared<'a>(
     }
 }
 
-/// What follows the head of a statement: the statement in it, and what goes on behind that, up to a
-/// second one behind an `else`.
+/// What follows the head of a statement: the statement in it, and what continues after that, up to a
+/// second one after an `else`.
 #[cycle(nested)]
 fn inside<'a>(
     alloc: Global,
@@ -69,16 +69,16 @@ fn inside<'a>(
     ensures found { IfOk result (λ x. (whole : Left) (ts : List Token) → Heads text.now room whole left head ts tokens.now → Reads text.now room whole x.1 (statement x.0) ts x.2.now) }
     ensures refused { IfErr result (λ e. (whole : Left) (ts : List Token) → Heads text.now room whole left head ts tokens.now → Placed e (NoStatement room whole) (HasStatement room whole) text.now ts) }
 {
-    let (inner, left, behind) = statement(alloc, text, room - 1, left, tokens)?;
-    let (ending, behind) = read_ending(alloc, text, head, inner, behind)?;
+    let (inner, left, following) = statement(alloc, text, room - 1, left, tokens)?;
+    let (ending, following) = read_ending(alloc, text, head, inner, following)?;
     match ending {
-        Ending::Whole(made) => Ok((made, left, behind)),
+        Ending::Whole(made) => Ok((made, left, following)),
         Ending::Else {
             at,
             condition,
             then,
         } => {
-            let (otherwise, left, rest) = statement(alloc, text, room - 1, left, behind)?;
+            let (otherwise, left, rest) = statement(alloc, text, room - 1, left, following)?;
             let made = if_else_of(alloc, at, condition, then, otherwise)?;
             Ok((made, left, rest))
         }
@@ -101,13 +101,13 @@ fn guarded<'a>(
     ensures found { IfOk result (λ x. (ts : List Token) → IsTry ts tokens.now → Reads text.now room left x.1 (statement x.0) ts x.2.now) }
     ensures refused { IfErr result (λ e. (ts : List Token) → IsTry ts tokens.now → Placed e (NoStatement room left) (HasStatement room left) text.now ts) }
 {
-    let (body, left, behind) = items(alloc, text, room, left, tokens)?;
-    let (clause, left, behind) = read_clause(alloc, text, room, left, behind)?;
-    let (last, left, rest) = items(alloc, text, room, left, behind)?;
+    let (body, left, following) = items(alloc, text, room, left, tokens)?;
+    let (clause, left, following) = read_clause(alloc, text, room, left, following)?;
+    let (last, left, rest) = items(alloc, text, room, left, following)?;
     Ok((try_of(body, clause, last), left, rest))
 }
 
-/// The statement at the front as far as it goes (C11, 6.8), what is left of the counts behind it, and
+/// The statement at the front as far as it goes (C11, 6.8), what is left of the counts after it, and
 /// what follows it. At most `room` statements stand around each of its parts.
 #[cycle(nested)]
 fn statement<'a>(
@@ -121,19 +121,19 @@ fn statement<'a>(
     ensures found { IfOk result (λ x. Reads text.now room left x.1 (statement x.0) tokens.now x.2.now) }
     ensures refused { IfErr result (λ e. Placed e (NoStatement room left) (HasStatement room left) text.now tokens.now) }
 {
-    let (opening, left, behind) = read_opening(alloc, text, room, left, tokens)?;
+    let (opening, left, following) = read_opening(alloc, text, room, left, tokens)?;
     match opening {
-        Opening::Whole(found) => Ok((found, left, behind)),
+        Opening::Whole(found) => Ok((found, left, following)),
         Opening::Block => {
-            let (found, left, rest) = items(alloc, text, room, left, behind)?;
+            let (found, left, rest) = items(alloc, text, room, left, following)?;
             Ok((block_of(found), left, rest))
         }
-        Opening::Try => guarded(alloc, text, room, left, behind),
-        Opening::Head(head) => inside(alloc, text, room, left, head, behind),
+        Opening::Try => guarded(alloc, text, room, left, following),
+        Opening::Head(head) => inside(alloc, text, room, left, head, following),
     }
 }
 
-/// The statement or declaration of a block at the front, what is left of the counts behind it, and what
+/// The statement or declaration of a block at the front, what is left of the counts after it, and what
 /// follows it. At most `room` statements stand around it and each expression in it.
 #[cycle(nested)]
 fn item<'a>(
@@ -144,8 +144,8 @@ fn item<'a>(
     tokens: &'a [Token],
 ) -> Result<(Stmt, Left, &'a [Token]), ParseErr>
     requires { room ≤ 65 }
-    ensures found { IfOk result (λ x. ReadsItem text.now room left x.1 (statement x.0) tokens.now x.2.now) }
-    ensures refused { IfErr result (λ e. Placed e (NoItem room left) (HasItem room left) text.now tokens.now) }
+    ensures found { IfOk result (λ x. ReadsBlockItem text.now room left x.1 (statement x.0) tokens.now x.2.now) }
+    ensures refused { IfErr result (λ e. Placed e (NoBlockItem room left) (HasBlockItem room left) text.now tokens.now) }
 {
     match declared(alloc, text, room, left, tokens)? {
         Some(found) => Ok(found),
@@ -153,7 +153,7 @@ fn item<'a>(
     }
 }
 
-/// The statements and declarations of a block up to its brace, what is left of the counts behind them,
+/// The statements and declarations of a block up to its brace, what is left of the counts after them,
 /// and what follows the brace. At most `room` statements stand around each statement and each
 /// expression in the block, and at most 64 expressions around each expression.
 #[cycle(nested)]
@@ -165,21 +165,21 @@ pub fn items<'a>(
     tokens: &'a [Token],
 ) -> Result<(Vec<Stmt>, Left, &'a [Token]), ParseErr>
     requires { room ≤ 65 }
-    ensures found { IfOk result (λ x. AreItems text.now (statements (map statement x.0.items)) tokens.now x.2.now) }
+    ensures found { IfOk result (λ x. AreBlockItems text.now (statements (map statement x.0.items)) tokens.now x.2.now) }
     ensures taken { IfOk result (λ x. AllTaken text.now room left x.1 (statements (map statement x.0.items))) }
-    ensures refused { IfErr result (λ e. Placed e (NoItems room left) (HasItems room left) text.now tokens.now) }
+    ensures refused { IfErr result (λ e. Placed e (NoBlockItems room left) (HasBlockItems room left) text.now tokens.now) }
 {
     let mut found = Vec::new(alloc);
     let mut left = left;
     let mut rest = tokens;
     loop {
-        match after(Sign::CloseBrace, rest) {
+        match after(Punctuator::CloseBrace, rest) {
             Some(end) => return Ok((found, left, end)),
             None => {
-                let (next, less, behind) = item(alloc, text, room, left, rest)?;
+                let (next, less, following) = item(alloc, text, room, left, rest)?;
                 found.push(next)?;
                 left = less;
-                rest = behind;
+                rest = following;
             }
         }
     }

@@ -1,8 +1,8 @@
--- The readers of specifiers and of types look at one token behind what they read.
+-- The readers of specifiers and of types look at one token after what they read.
 use Rattle.std.specs.Prelude.{option_map, IfSome}
 use Rattle.std.proofs.Common.{◌≡◌, ℕ, List, [], ◌∷◌, ◌++◌, Option, Some, None, refl, sym, ap, ◌∙◌, subst}
 use Rattle.c_lex.specs.declared.keyword.Keyword.TheVariants as keywords
-use Rattle.c_lex.specs.declared.sign.Sign.TheVariants as signs
+use Rattle.c_lex.specs.declared.punctuator.Punctuator.TheVariants as punctuators
 use Rattle.c_lex.specs.declared.token.Kind.{Kind}
 use Rattle.c_lex.specs.declared.token.Kind.TheVariants as kinds
 use Rattle.c_lex.specs.declared.token.Token.{Token}
@@ -13,7 +13,7 @@ use Rattle.c_syntax.specs.Faults.{SameFirst}
 use Rattle.c_syntax.specs.Tokens.{token}
 use Rattle.c_syntax.specs.Types.{IsBase, AreStars}
 use Rattle.c_syntax.proofs.Failing.{append_append, alike_same, first_behind}
-use Rattle.c_syntax.proofs.Firsts.{no_sign}
+use Rattle.c_syntax.proofs.Firsts.{no_punctuator}
 use Rattle.c_syntax.proofs.Fronts.{stars_once}
 use Rattle.c_syntax.proofs.Moves as moves
 use Rattle.c_parse_type.specs.Bases.{past_int, long, signed, unsigned, base, NoStar, EndsBase, EndsType}
@@ -129,6 +129,6 @@ ends_type b n ts mid rest e h x =
       split = e.split ∙ ap (λ (z : List Token). e.front ++ z) s.split ∙ sym (append_append e.front s.front rest);
       only = λ other f d end g p q.
           let k = e.only (s.front ++ other) (subst (λ (z : List Token). SameFirst z (s.front ++ other)) (sym s.split) (first_behind s.front rest other f)) d.base g.0 (subst (λ (z : List Token). IsBase d.base z g.0) (append_append e.front s.front other) g.1) (stars_no_base d.pointers g.0 end g.2 p) in
-          let r = stars_once n d.pointers (s.front ++ other) g.0 other end k.1 (no_sign signs.Star rest other f x) q (s.again [] other (alike_same [] mid)) g.2 in
+          let r = stars_once n d.pointers (s.front ++ other) g.0 other end k.1 (no_punctuator punctuators.Star rest other f x) q (s.again [] other (alike_same [] mid)) g.2 in
           (ap (λ (z : Base). made z n) k.0 ∙ ap (λ (z : ℕ). made d.base z) r.0, r.1);
     }

@@ -3,18 +3,18 @@ use Rattle.std.specs.Prelude.{option_map, IfSome}
 use Rattle.std.proofs.Common.{◌≡◌, ◌⊎◌, ℕ, zero, suc, ◌+◌, List, [], ◌∷◌, Option, Some, None, refl, sym, ap, ◌∙◌, subst, inl, inr, arith, length}
 use Rattle.c_lex.specs.declared.keyword.Keyword.{Keyword}
 use Rattle.c_lex.specs.declared.keyword.Keyword.TheVariants as keywords
-use Rattle.c_lex.specs.declared.sign.Sign.{Sign}
-use Rattle.c_lex.specs.declared.sign.Sign.TheVariants as signs
+use Rattle.c_lex.specs.declared.punctuator.Punctuator.{Punctuator}
+use Rattle.c_lex.specs.declared.punctuator.Punctuator.TheVariants as punctuators
 use Rattle.c_lex.specs.declared.token.Kind.{Kind}
 use Rattle.c_lex.specs.declared.token.Kind.TheVariants as kinds
 use Rattle.c_lex.specs.declared.token.Token.{Token}
 use Rattle.c_syntax.specs.declared.expression.Base.{Base}
 use Rattle.c_syntax.specs.declared.expression.Base.TheVariants as bases
 use Rattle.c_syntax.specs.declared.expression.CType.{CType}
-use Rattle.c_syntax.specs.Tokens.{token, IsSign, HasSign, HasKeyword}
+use Rattle.c_syntax.specs.Tokens.{token, IsPunctuator, HasPunctuator, HasKeyword}
 use Rattle.c_syntax.specs.Types.{IsOneOf, IsBase, AreStars}
 use Rattle.c_syntax.proofs.Fronts.{stars_once}
-use Rattle.c_parse_type.specs.Fronts.{after_keyword, keyword_of, after_sign, sign_of}
+use Rattle.c_parse_type.specs.Fronts.{after_keyword, keyword_of, after_punctuator, punctuator_of}
 use Rattle.c_parse_type.specs.Bases.{int_or, past_int, long_or, long, signed_or, unsigned_or, base_or, base, NoBase, NoStar}
 
 -- ---- fronts
@@ -26,38 +26,38 @@ pub keyword_at : (k : Keyword) (ts rest : List Token) → HasKeyword k ts rest �
 keyword_at k ts rest h = ap after_keyword h.1.1
 
 of_kind : (kind : Kind) (start end : ℕ) (ts rest : List Token) (k : Keyword) → keyword_of kind ts ≡ Some (k, rest) → HasKeyword k (token kind start end ∷ ts) rest
-of_kind kinds.Name start end ts rest k e = absurd cc
+of_kind kinds.Identifier start end ts rest k e = absurd cc
 of_kind (kinds.Keyword j) start end ts rest k e =
     let p : ◌≡◌ {A = Keyword × List Token} (j, ts) (k, rest) = cc in
     subst (λ (x : Keyword × List Token). HasKeyword x.0 (token (kinds.Keyword j) start end ∷ ts) x.1) p (start, (end, refl))
 of_kind (kinds.Reserved r) start end ts rest k e = absurd cc
 of_kind (kinds.Integer value type) start end ts rest k e = absurd cc
-of_kind (kinds.Character value) start end ts rest k e = absurd cc
-of_kind (kinds.Sign s) start end ts rest k e = absurd cc
+of_kind (kinds.CharacterConstant value) start end ts rest k e = absurd cc
+of_kind (kinds.Punctuator s) start end ts rest k e = absurd cc
 
 pub keyword_is : (ts rest : List Token) (k : Keyword) → after_keyword ts ≡ Some (k, rest) → HasKeyword k ts rest
 keyword_is [] rest k e = absurd cc
 keyword_is (t ∷ ts) rest k e = of_kind t.kind t.start t.end ts rest k e
 
-abbrev read_sign : Sign → ℕ → List Token → Option (Sign × ℕ × List Token)
-read_sign s at ts = Some (s, at, ts)
+abbrev read_punctuator : Punctuator → ℕ → List Token → Option (Punctuator × ℕ × List Token)
+read_punctuator s at ts = Some (s, at, ts)
 
-pub sign_at : (s : Sign) (at : ℕ) (ts rest : List Token) → IsSign s at ts rest → after_sign ts ≡ Some (s, at, rest)
-sign_at s at ts rest h = ap after_sign h.1
+pub punctuator_at : (s : Punctuator) (at : ℕ) (ts rest : List Token) → IsPunctuator s at ts rest → after_punctuator ts ≡ Some (s, at, rest)
+punctuator_at s at ts rest h = ap after_punctuator h.1
 
-of_sign : (kind : Kind) (start end : ℕ) (ts rest : List Token) (s : Sign) (at : ℕ) → sign_of kind start ts ≡ Some (s, at, rest) → IsSign s at (token kind start end ∷ ts) rest
-of_sign kinds.Name start end ts rest s at e = absurd cc
-of_sign (kinds.Keyword j) start end ts rest s at e = absurd cc
-of_sign (kinds.Reserved r) start end ts rest s at e = absurd cc
-of_sign (kinds.Integer value type) start end ts rest s at e = absurd cc
-of_sign (kinds.Character value) start end ts rest s at e = absurd cc
-of_sign (kinds.Sign z) start end ts rest s at e =
-    let p : ◌≡◌ {A = Sign × ℕ × List Token} (z, start, ts) (s, at, rest) = cc in
-    subst (λ (x : Sign × ℕ × List Token). IsSign x.0 x.1 (token (kinds.Sign z) start end ∷ ts) x.2) p (end, refl)
+of_punctuator : (kind : Kind) (start end : ℕ) (ts rest : List Token) (s : Punctuator) (at : ℕ) → punctuator_of kind start ts ≡ Some (s, at, rest) → IsPunctuator s at (token kind start end ∷ ts) rest
+of_punctuator kinds.Identifier start end ts rest s at e = absurd cc
+of_punctuator (kinds.Keyword j) start end ts rest s at e = absurd cc
+of_punctuator (kinds.Reserved r) start end ts rest s at e = absurd cc
+of_punctuator (kinds.Integer value type) start end ts rest s at e = absurd cc
+of_punctuator (kinds.CharacterConstant value) start end ts rest s at e = absurd cc
+of_punctuator (kinds.Punctuator z) start end ts rest s at e =
+    let p : ◌≡◌ {A = Punctuator × ℕ × List Token} (z, start, ts) (s, at, rest) = cc in
+    subst (λ (x : Punctuator × ℕ × List Token). IsPunctuator x.0 x.1 (token (kinds.Punctuator z) start end ∷ ts) x.2) p (end, refl)
 
-pub sign_is : (ts rest : List Token) (s : Sign) (at : ℕ) → after_sign ts ≡ Some (s, at, rest) → IsSign s at ts rest
-sign_is [] rest s at e = absurd cc
-sign_is (t ∷ ts) rest s at e = of_sign t.kind t.start t.end ts rest s at e
+pub punctuator_is : (ts rest : List Token) (s : Punctuator) (at : ℕ) → after_punctuator ts ≡ Some (s, at, rest) → IsPunctuator s at ts rest
+punctuator_is [] rest s at e = absurd cc
+punctuator_is (t ∷ ts) rest s at e = of_punctuator t.kind t.start t.end ts rest s at e
 
 -- ---- nothing of a type is at the front
 
@@ -204,18 +204,18 @@ base_complete bases.UnsignedLongLong ts rest (inr (inr h)) n = absurd h
 
 -- ---- stars
 
-more_stars : (n : ℕ) (ts rest after : List Token) → AreStars n ts rest → HasSign signs.Star rest after → AreStars (suc n) ts after
-more_stars zero ts rest after h g = (after, subst (λ (x : List Token). HasSign signs.Star x after) (sym h) g, refl)
+more_stars : (n : ℕ) (ts rest after : List Token) → AreStars n ts rest → HasPunctuator punctuators.Star rest after → AreStars (suc n) ts after
+more_stars zero ts rest after h g = (after, subst (λ (x : List Token). HasPunctuator punctuators.Star x after) (sym h) g, refl)
 more_stars (suc n) ts rest after h g = (h.0, h.1, more_stars n h.0 rest after h.2 g)
 
-pub one_star : (n : ℕ) (ts rest after : List Token) → AreStars n ts rest → HasSign signs.Star rest after → AreStars (n + 1) ts after
+pub one_star : (n : ℕ) (ts rest after : List Token) → AreStars n ts rest → HasPunctuator punctuators.Star rest after → AreStars (n + 1) ts after
 one_star n ts rest after h g = let p : suc n ≡ n + 1 = omega arith in subst (λ (m : ℕ). AreStars m ts after) p (more_stars n ts rest after h g)
 
-pub star_shorter : (ts rest : List Token) → HasSign signs.Star ts rest → length ts ≡ suc (length rest)
+pub star_shorter : (ts rest : List Token) → HasPunctuator punctuators.Star ts rest → length ts ≡ suc (length rest)
 star_shorter ts rest h = ap length h.1.1
 
-pub sign_shorter : (s : Sign) (at : ℕ) (ts rest : List Token) → IsSign s at ts rest → length ts ≡ suc (length rest)
-sign_shorter s at ts rest h = ap length h.1
+pub punctuator_shorter : (s : Punctuator) (at : ℕ) (ts rest : List Token) → IsPunctuator s at ts rest → length ts ≡ suc (length rest)
+punctuator_shorter s at ts rest h = ap length h.1
 
 -- ---- what is read is a type
 
@@ -223,11 +223,11 @@ abbrev prefixed : Keyword → List (List Keyword) → List (List Keyword)
 prefixed k [] = []
 prefixed k (ks ∷ more) = (k ∷ ks) ∷ prefixed k more
 
--- the keywords of one of these lists, behind one keyword
-behind : (k : Keyword) (kss : List (List Keyword)) (ts mid rest : List Token) → HasKeyword k ts mid → IsOneOf kss mid rest → IsOneOf (prefixed k kss) ts rest
-behind k [] ts mid rest h g = absurd g
-behind k (ks ∷ more) ts mid rest h (inl g) = inl (mid, h, g)
-behind k (ks ∷ more) ts mid rest h (inr g) = inr (behind k more ts mid rest h g)
+-- the keywords of one of these lists, after one keyword
+following : (k : Keyword) (kss : List (List Keyword)) (ts mid rest : List Token) → HasKeyword k ts mid → IsOneOf kss mid rest → IsOneOf (prefixed k kss) ts rest
+following k [] ts mid rest h g = absurd g
+following k (ks ∷ more) ts mid rest h (inl g) = inl (mid, h, g)
+following k (ks ∷ more) ts mid rest h (inr g) = inr (following k more ts mid rest h g)
 
 abbrev maybe_int : List (List Keyword)
 maybe_int = [] ∷ (keywords.Int ∷ []) ∷ []
@@ -272,7 +272,7 @@ long_read p w (Some (keywords.Else, rest)) ts e = record { read = inl (refl, int
 long_read p w (Some (keywords.For, rest)) ts e = record { read = inl (refl, int_read (after_keyword ts) ts refl) }
 long_read p w (Some (keywords.If, rest)) ts e = record { read = inl (refl, int_read (after_keyword ts) ts refl) }
 long_read p w (Some (keywords.Int, rest)) ts e = record { read = inl (refl, int_read (after_keyword ts) ts refl) }
-long_read p w (Some (keywords.Long, rest)) ts e = record { read = inr (refl, behind keywords.Long maybe_int ts rest (past_int rest) (keyword_is ts rest keywords.Long e) (int_read (after_keyword rest) rest refl)) }
+long_read p w (Some (keywords.Long, rest)) ts e = record { read = inr (refl, following keywords.Long maybe_int ts rest (past_int rest) (keyword_is ts rest keywords.Long e) (int_read (after_keyword rest) rest refl)) }
 long_read p w (Some (keywords.Return, rest)) ts e = record { read = inl (refl, int_read (after_keyword ts) ts refl) }
 long_read p w (Some (keywords.Short, rest)) ts e = record { read = inl (refl, int_read (after_keyword ts) ts refl) }
 long_read p w (Some (keywords.Signed, rest)) ts e = record { read = inl (refl, int_read (after_keyword ts) ts refl) }
@@ -285,7 +285,7 @@ long_read p w (Some (keywords.Finally, rest)) ts e = record { read = inl (refl, 
 long_read p w (Some (keywords.Leave, rest)) ts e = record { read = inl (refl, int_read (after_keyword ts) ts refl) }
 long_read p w (Some (keywords.GetExceptionInformation, rest)) ts e = record { read = inl (refl, int_read (after_keyword ts) ts refl) }
 
--- Lists behind keywords that were read, as spellings of a base.
+-- Lists after keywords that were read, as spellings of a base.
 abbrev Puts : List (List Keyword) → Base → Type 0
 Puts kss b = (ts rest : List Token) → IsOneOf kss ts rest → IsBase b ts rest
 
@@ -351,11 +351,11 @@ signed_read (Some (keywords.Long, rest)) ts mid h e =
     let r = long_read bases.Int bases.LongLong (after_keyword rest) rest refl in
     let k = keyword_is mid rest keywords.Long e in
     elim (r.read) [
-      | inl x ↦ as_base bases.Int (long bases.Int bases.LongLong rest).0 ts ((long bases.Int bases.LongLong rest).1) x.0 (signed_long_puts ts ((long bases.Int bases.LongLong rest).1) (behind keywords.Signed (prefixed keywords.Long maybe_int) ts mid ((long bases.Int bases.LongLong rest).1) h (behind keywords.Long maybe_int mid rest ((long bases.Int bases.LongLong rest).1) k x.1)))
-      | inr x ↦ as_base bases.LongLong (long bases.Int bases.LongLong rest).0 ts ((long bases.Int bases.LongLong rest).1) x.0 (signed_long_long_puts ts ((long bases.Int bases.LongLong rest).1) (behind keywords.Signed (prefixed keywords.Long (prefixed keywords.Long maybe_int)) ts mid ((long bases.Int bases.LongLong rest).1) h (behind keywords.Long (prefixed keywords.Long maybe_int) mid rest ((long bases.Int bases.LongLong rest).1) k x.1)))
+      | inl x ↦ as_base bases.Int (long bases.Int bases.LongLong rest).0 ts ((long bases.Int bases.LongLong rest).1) x.0 (signed_long_puts ts ((long bases.Int bases.LongLong rest).1) (following keywords.Signed (prefixed keywords.Long maybe_int) ts mid ((long bases.Int bases.LongLong rest).1) h (following keywords.Long maybe_int mid rest ((long bases.Int bases.LongLong rest).1) k x.1)))
+      | inr x ↦ as_base bases.LongLong (long bases.Int bases.LongLong rest).0 ts ((long bases.Int bases.LongLong rest).1) x.0 (signed_long_long_puts ts ((long bases.Int bases.LongLong rest).1) (following keywords.Signed (prefixed keywords.Long (prefixed keywords.Long maybe_int)) ts mid ((long bases.Int bases.LongLong rest).1) h (following keywords.Long (prefixed keywords.Long maybe_int) mid rest ((long bases.Int bases.LongLong rest).1) k x.1)))
     ]
 signed_read (Some (keywords.Return, rest)) ts mid h e = inr (inl (mid, h, refl))
-signed_read (Some (keywords.Short, rest)) ts mid h e = signed_short_puts ts (past_int rest) (behind keywords.Signed (prefixed keywords.Short maybe_int) ts mid (past_int rest) h (behind keywords.Short maybe_int mid rest (past_int rest) (keyword_is mid rest keywords.Short e) (int_read (after_keyword rest) rest refl)))
+signed_read (Some (keywords.Short, rest)) ts mid h e = signed_short_puts ts (past_int rest) (following keywords.Signed (prefixed keywords.Short maybe_int) ts mid (past_int rest) h (following keywords.Short maybe_int mid rest (past_int rest) (keyword_is mid rest keywords.Short e) (int_read (after_keyword rest) rest refl)))
 signed_read (Some (keywords.Signed, rest)) ts mid h e = inr (inl (mid, h, refl))
 signed_read (Some (keywords.Unsigned, rest)) ts mid h e = inr (inl (mid, h, refl))
 signed_read (Some (keywords.Void, rest)) ts mid h e = inr (inl (mid, h, refl))
@@ -380,11 +380,11 @@ unsigned_read (Some (keywords.Long, rest)) ts mid h e =
     let r = long_read bases.Unsigned bases.UnsignedLongLong (after_keyword rest) rest refl in
     let k = keyword_is mid rest keywords.Long e in
     elim (r.read) [
-      | inl x ↦ as_base bases.Unsigned (long bases.Unsigned bases.UnsignedLongLong rest).0 ts ((long bases.Unsigned bases.UnsignedLongLong rest).1) x.0 (unsigned_long_puts ts ((long bases.Unsigned bases.UnsignedLongLong rest).1) (behind keywords.Unsigned (prefixed keywords.Long maybe_int) ts mid ((long bases.Unsigned bases.UnsignedLongLong rest).1) h (behind keywords.Long maybe_int mid rest ((long bases.Unsigned bases.UnsignedLongLong rest).1) k x.1)))
-      | inr x ↦ as_base bases.UnsignedLongLong (long bases.Unsigned bases.UnsignedLongLong rest).0 ts ((long bases.Unsigned bases.UnsignedLongLong rest).1) x.0 (unsigned_long_long_puts ts ((long bases.Unsigned bases.UnsignedLongLong rest).1) (behind keywords.Unsigned (prefixed keywords.Long (prefixed keywords.Long maybe_int)) ts mid ((long bases.Unsigned bases.UnsignedLongLong rest).1) h (behind keywords.Long (prefixed keywords.Long maybe_int) mid rest ((long bases.Unsigned bases.UnsignedLongLong rest).1) k x.1)))
+      | inl x ↦ as_base bases.Unsigned (long bases.Unsigned bases.UnsignedLongLong rest).0 ts ((long bases.Unsigned bases.UnsignedLongLong rest).1) x.0 (unsigned_long_puts ts ((long bases.Unsigned bases.UnsignedLongLong rest).1) (following keywords.Unsigned (prefixed keywords.Long maybe_int) ts mid ((long bases.Unsigned bases.UnsignedLongLong rest).1) h (following keywords.Long maybe_int mid rest ((long bases.Unsigned bases.UnsignedLongLong rest).1) k x.1)))
+      | inr x ↦ as_base bases.UnsignedLongLong (long bases.Unsigned bases.UnsignedLongLong rest).0 ts ((long bases.Unsigned bases.UnsignedLongLong rest).1) x.0 (unsigned_long_long_puts ts ((long bases.Unsigned bases.UnsignedLongLong rest).1) (following keywords.Unsigned (prefixed keywords.Long (prefixed keywords.Long maybe_int)) ts mid ((long bases.Unsigned bases.UnsignedLongLong rest).1) h (following keywords.Long (prefixed keywords.Long maybe_int) mid rest ((long bases.Unsigned bases.UnsignedLongLong rest).1) k x.1)))
     ]
 unsigned_read (Some (keywords.Return, rest)) ts mid h e = inl (mid, h, refl)
-unsigned_read (Some (keywords.Short, rest)) ts mid h e = unsigned_short_puts ts (past_int rest) (behind keywords.Unsigned (prefixed keywords.Short maybe_int) ts mid (past_int rest) h (behind keywords.Short maybe_int mid rest (past_int rest) (keyword_is mid rest keywords.Short e) (int_read (after_keyword rest) rest refl)))
+unsigned_read (Some (keywords.Short, rest)) ts mid h e = unsigned_short_puts ts (past_int rest) (following keywords.Unsigned (prefixed keywords.Short maybe_int) ts mid (past_int rest) h (following keywords.Short maybe_int mid rest (past_int rest) (keyword_is mid rest keywords.Short e) (int_read (after_keyword rest) rest refl)))
 unsigned_read (Some (keywords.Signed, rest)) ts mid h e = inl (mid, h, refl)
 unsigned_read (Some (keywords.Unsigned, rest)) ts mid h e = inl (mid, h, refl)
 unsigned_read (Some (keywords.Void, rest)) ts mid h e = inl (mid, h, refl)
@@ -413,11 +413,11 @@ base_read (Some (keywords.Long, rest)) ts e =
     let r = long_read bases.Int bases.LongLong (after_keyword rest) rest refl in
     let k = keyword_is ts rest keywords.Long e in
     elim (r.read) [
-      | inl x ↦ as_base bases.Int (long bases.Int bases.LongLong rest).0 ts ((long bases.Int bases.LongLong rest).1) x.0 (long_puts ts ((long bases.Int bases.LongLong rest).1) (behind keywords.Long maybe_int ts rest ((long bases.Int bases.LongLong rest).1) k x.1))
-      | inr x ↦ as_base bases.LongLong (long bases.Int bases.LongLong rest).0 ts ((long bases.Int bases.LongLong rest).1) x.0 (long_long_puts ts ((long bases.Int bases.LongLong rest).1) (behind keywords.Long (prefixed keywords.Long maybe_int) ts rest ((long bases.Int bases.LongLong rest).1) k x.1))
+      | inl x ↦ as_base bases.Int (long bases.Int bases.LongLong rest).0 ts ((long bases.Int bases.LongLong rest).1) x.0 (long_puts ts ((long bases.Int bases.LongLong rest).1) (following keywords.Long maybe_int ts rest ((long bases.Int bases.LongLong rest).1) k x.1))
+      | inr x ↦ as_base bases.LongLong (long bases.Int bases.LongLong rest).0 ts ((long bases.Int bases.LongLong rest).1) x.0 (long_long_puts ts ((long bases.Int bases.LongLong rest).1) (following keywords.Long (prefixed keywords.Long maybe_int) ts rest ((long bases.Int bases.LongLong rest).1) k x.1))
     ]
 base_read (Some (keywords.Return, rest)) ts e = tt
-base_read (Some (keywords.Short, rest)) ts e = short_puts ts (past_int rest) (behind keywords.Short maybe_int ts rest (past_int rest) (keyword_is ts rest keywords.Short e) (int_read (after_keyword rest) rest refl))
+base_read (Some (keywords.Short, rest)) ts e = short_puts ts (past_int rest) (following keywords.Short maybe_int ts rest (past_int rest) (keyword_is ts rest keywords.Short e) (int_read (after_keyword rest) rest refl))
 base_read (Some (keywords.Signed, rest)) ts e = signed_read (after_keyword rest) ts rest (keyword_is ts rest keywords.Signed e) refl
 base_read (Some (keywords.Unsigned, rest)) ts e = unsigned_read (after_keyword rest) ts rest (keyword_is ts rest keywords.Unsigned e) refl
 base_read (Some (keywords.Void, rest)) ts e = inl (rest, keyword_is ts rest keywords.Void e, refl)

@@ -2,13 +2,13 @@
 use Rattle.std.specs.Prelude.{◌≡◌, List, ◌++◌, Option, Some, None}
 use Rattle.c_lex.specs.declared.keyword.Keyword.{Keyword}
 use Rattle.c_lex.specs.declared.keyword.Keyword.TheVariants as keywords
-use Rattle.c_lex.specs.declared.sign.Sign.TheVariants as signs
+use Rattle.c_lex.specs.declared.punctuator.Punctuator.TheVariants as punctuators
 use Rattle.c_lex.specs.declared.token.Token.{Token}
 use Rattle.c_syntax.specs.declared.expression.Base.{Base}
 use Rattle.c_syntax.specs.declared.expression.Base.TheVariants as bases
 use Rattle.c_syntax.specs.declared.expression.CType.{CType}
 use Rattle.c_syntax.specs.Faults.{SameFirst}
-use Rattle.c_syntax.specs.Tokens.{HasSign}
+use Rattle.c_syntax.specs.Tokens.{HasPunctuator}
 use Rattle.c_syntax.specs.Types.{IsBase, IsType}
 use Rattle.c_parse_type.specs.Fronts.{after_keyword}
 
@@ -65,7 +65,7 @@ NoBase ts = (b : Base) (rest : List Token) → IsBase b ts rest → ⊥
 
 -- no star is at the front
 abbrev pub NoStar : List Token → Type 0
-NoStar ts = (rest : List Token) → HasSign signs.Star ts rest → ⊥
+NoStar ts = (rest : List Token) → HasPunctuator punctuators.Star ts rest → ⊥
 
 -- Specifiers go no further: with the next token, whatever follows it, no others stand there that nothing of a base follows.
 pub record EndsBase (b : Base) (ts rest : List Token) : Type 0 where

@@ -6,5 +6,3 @@
 
 pub mod front;
 pub mod specifiers;
-#[cfg(test)]
-mod tests;

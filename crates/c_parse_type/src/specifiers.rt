@@ -10,7 +10,7 @@ ghost use Rattle.c_parse_type.specs.Bases.{NoBase, NoStar, EndsBase, EndsType};
 
 use crate::front::{after, keyword};
 use c_lex::keyword::Keyword;
-use c_lex::sign::Sign;
+use c_lex::punctuator::Punctuator;
 use c_lex::token::Token;
 use c_syntax::expression::{Base, CType};
 
@@ -24,7 +24,7 @@ fn past_int(tokens: &[Token]) -> &[Token]
     }
 }
 
-/// What `long` and the specifiers behind it name.
+/// What `long` and the specifiers after it name.
 fn long(plain: Base, long_long: Base, tokens: &[Token]) -> (Base, &[Token])
     ensures base { result.0 ≡ (bases.long plain long_long tokens.now).0 }
     ensures rest { result.1.now ≡ (bases.long plain long_long tokens.now).1 }
@@ -35,7 +35,7 @@ fn long(plain: Base, long_long: Base, tokens: &[Token]) -> (Base, &[Token])
     }
 }
 
-/// What the specifiers behind `signed` name.
+/// What the specifiers after `signed` name.
 fn signed(tokens: &[Token]) -> (Base, &[Token])
     ensures base { result.0 ≡ (bases.signed tokens.now).0 }
     ensures rest { result.1.now ≡ (bases.signed tokens.now).1 }
@@ -49,7 +49,7 @@ fn signed(tokens: &[Token]) -> (Base, &[Token])
     }
 }
 
-/// What the specifiers behind `unsigned` name.
+/// What the specifiers after `unsigned` name.
 fn unsigned(tokens: &[Token]) -> (Base, &[Token])
     ensures base { result.0 ≡ (bases.unsigned tokens.now).0 }
     ensures rest { result.1.now ≡ (bases.unsigned tokens.now).1 }
@@ -98,9 +98,9 @@ pub fn stars(tokens: &[Token]) -> (u64, &[Token])
 {
     let mut count = 0;
     let mut rest = tokens;
-    while let Some(behind) = after(Sign::Star, rest) {
+    while let Some(following) = after(Punctuator::Star, rest) {
         count += 1;
-        rest = behind;
+        rest = following;
     }
     (count, rest)
 }

@@ -2,21 +2,21 @@
 use Rattle.std.proofs.Common.{◌≡◌, ◌≤◌, ◌<◌, ℕ, Bool, true, false, IsTrue, IsFalse, List, [], ◌∷◌, Option, Some, None, refl, sym, ap, ◌∙◌, subst, arith}
 use Rattle.c_lex.specs.declared.keyword.Keyword.{Keyword}
 use Rattle.c_lex.specs.declared.keyword.Keyword.TheVariants as keywords
-use Rattle.c_lex.specs.declared.sign.Sign.{Sign}
-use Rattle.c_lex.specs.declared.sign.Sign.TheVariants as signs
+use Rattle.c_lex.specs.declared.punctuator.Punctuator.{Punctuator}
+use Rattle.c_lex.specs.declared.punctuator.Punctuator.TheVariants as punctuators
 use Rattle.c_lex.specs.declared.token.Kind.{Kind}
 use Rattle.c_lex.specs.declared.token.Kind.TheVariants as kinds
 use Rattle.c_lex.specs.declared.token.Token.{Token}
 use Rattle.c_syntax.specs.declared.expression.Base.{Base}
-use Rattle.c_syntax.specs.declared.expression.Name.{Name}
+use Rattle.c_syntax.specs.declared.expression.Identifier.{Identifier}
 use Rattle.c_syntax.specs.Expression.{Expression}
 use Rattle.c_syntax.specs.Expressions.{Derives}
-use Rattle.c_syntax.specs.Follow.{sign_follows, follows, Stops, NoElse, Closed, OneStatement}
-use Rattle.c_syntax.specs.Statement.{Local, First, Declaring, Evaluating, Statement, Declare, Block, Evaluate, If, IfElse, While, DoWhile, For, Return, Break, Continue, Leave, TryExcept, TryFinally, Statements, Empty, Then}
-use Rattle.c_syntax.specs.Statements.{IsInitialiser, IsLocal, AreMoreLocals, AreLocals, IsDeclaration, IsOptional, IsCondition, IsFirst, dangles, IsItem, AreItems}
-use Rattle.c_syntax.specs.Tokens.{IsKeyword, IsName, HasSign, HasKeyword}
-use Rattle.c_syntax.proofs.Fronts.{kind_same, sign_same, has_same, keyword_same, name_same, sign_class, kind_class, front, base_front, base_once, NoType, NoStar, stars_once, stars_front}
-use Rattle.c_syntax.proofs.Spine.{follows_sign}
+use Rattle.c_syntax.specs.Follow.{punctuator_follows, follows, Stops, NoElse, Closed, OneStatement}
+use Rattle.c_syntax.specs.Statement.{Local, ForInitialiser, Declaring, Evaluating, Statement, Declare, Block, Evaluate, If, IfElse, While, DoWhile, For, Return, Break, Continue, Leave, TryExcept, TryFinally, Statements, Empty, Then}
+use Rattle.c_syntax.specs.Statements.{IsInitialiser, IsLocal, AreMoreLocals, AreLocals, IsDeclaration, IsOptional, IsCondition, IsForInitialiser, dangles, IsBlockItem, AreBlockItems}
+use Rattle.c_syntax.specs.Tokens.{IsKeyword, IsIdentifier, HasPunctuator, HasKeyword}
+use Rattle.c_syntax.proofs.Fronts.{kind_same, punctuator_same, has_same, keyword_same, name_same, punctuator_class, kind_class, front, base_front, base_once, NoType, NoStar, stars_once, stars_front}
+use Rattle.c_syntax.proofs.Spine.{follows_punctuator}
 use Rattle.c_syntax.proofs.Once.{one_expression, has_stops, expression_front, has_front}
 
 -- ---- what the first token begins: 0 an expression statement, 1 a declaration, 2 to 11 another statement
@@ -43,59 +43,59 @@ keyword_begins keywords.Finally = 20
 keyword_begins keywords.Leave = 10
 keyword_begins keywords.GetExceptionInformation = 0
 
-abbrev pub sign_begins : Sign → ℕ
-sign_begins signs.OpenParenthesis = 0
-sign_begins signs.CloseParenthesis = 20
-sign_begins signs.OpenBracket = 20
-sign_begins signs.CloseBracket = 20
-sign_begins signs.OpenBrace = 2
-sign_begins signs.CloseBrace = 20
-sign_begins signs.Semicolon = 0
-sign_begins signs.Comma = 20
-sign_begins signs.Question = 20
-sign_begins signs.Colon = 20
-sign_begins signs.Arrow = 20
-sign_begins signs.Assign = 20
-sign_begins signs.PlusAssign = 20
-sign_begins signs.MinusAssign = 20
-sign_begins signs.StarAssign = 20
-sign_begins signs.SlashAssign = 20
-sign_begins signs.PercentAssign = 20
-sign_begins signs.AmpersandAssign = 20
-sign_begins signs.BarAssign = 20
-sign_begins signs.CaretAssign = 20
-sign_begins signs.ShiftLeftAssign = 20
-sign_begins signs.ShiftRightAssign = 20
-sign_begins signs.BarBar = 20
-sign_begins signs.AmpersandAmpersand = 20
-sign_begins signs.Bar = 20
-sign_begins signs.Caret = 20
-sign_begins signs.Ampersand = 0
-sign_begins signs.Equal = 20
-sign_begins signs.NotEqual = 20
-sign_begins signs.Less = 20
-sign_begins signs.Greater = 20
-sign_begins signs.LessEqual = 20
-sign_begins signs.GreaterEqual = 20
-sign_begins signs.ShiftLeft = 20
-sign_begins signs.ShiftRight = 20
-sign_begins signs.Plus = 0
-sign_begins signs.Minus = 0
-sign_begins signs.Star = 0
-sign_begins signs.Slash = 20
-sign_begins signs.Percent = 20
-sign_begins signs.Exclamation = 0
-sign_begins signs.Tilde = 0
-sign_begins signs.PlusPlus = 0
-sign_begins signs.MinusMinus = 0
+abbrev pub punctuator_begins : Punctuator → ℕ
+punctuator_begins punctuators.OpenParenthesis = 0
+punctuator_begins punctuators.CloseParenthesis = 20
+punctuator_begins punctuators.OpenBracket = 20
+punctuator_begins punctuators.CloseBracket = 20
+punctuator_begins punctuators.OpenBrace = 2
+punctuator_begins punctuators.CloseBrace = 20
+punctuator_begins punctuators.Semicolon = 0
+punctuator_begins punctuators.Comma = 20
+punctuator_begins punctuators.Question = 20
+punctuator_begins punctuators.Colon = 20
+punctuator_begins punctuators.Arrow = 20
+punctuator_begins punctuators.Assign = 20
+punctuator_begins punctuators.PlusAssign = 20
+punctuator_begins punctuators.MinusAssign = 20
+punctuator_begins punctuators.StarAssign = 20
+punctuator_begins punctuators.SlashAssign = 20
+punctuator_begins punctuators.PercentAssign = 20
+punctuator_begins punctuators.AmpersandAssign = 20
+punctuator_begins punctuators.BarAssign = 20
+punctuator_begins punctuators.CaretAssign = 20
+punctuator_begins punctuators.ShiftLeftAssign = 20
+punctuator_begins punctuators.ShiftRightAssign = 20
+punctuator_begins punctuators.BarBar = 20
+punctuator_begins punctuators.AmpersandAmpersand = 20
+punctuator_begins punctuators.Bar = 20
+punctuator_begins punctuators.Caret = 20
+punctuator_begins punctuators.Ampersand = 0
+punctuator_begins punctuators.Equal = 20
+punctuator_begins punctuators.NotEqual = 20
+punctuator_begins punctuators.Less = 20
+punctuator_begins punctuators.Greater = 20
+punctuator_begins punctuators.LessEqual = 20
+punctuator_begins punctuators.GreaterEqual = 20
+punctuator_begins punctuators.ShiftLeft = 20
+punctuator_begins punctuators.ShiftRight = 20
+punctuator_begins punctuators.Plus = 0
+punctuator_begins punctuators.Minus = 0
+punctuator_begins punctuators.Star = 0
+punctuator_begins punctuators.Slash = 20
+punctuator_begins punctuators.Percent = 20
+punctuator_begins punctuators.Exclamation = 0
+punctuator_begins punctuators.Tilde = 0
+punctuator_begins punctuators.PlusPlus = 0
+punctuator_begins punctuators.MinusMinus = 0
 
 abbrev pub kind_begins : Kind → ℕ
-kind_begins kinds.Name = 0
+kind_begins kinds.Identifier = 0
 kind_begins (kinds.Keyword k) = keyword_begins k
 kind_begins (kinds.Reserved r) = 20
 kind_begins (kinds.Integer value type) = 0
-kind_begins (kinds.Character value) = 0
-kind_begins (kinds.Sign s) = sign_begins s
+kind_begins (kinds.CharacterConstant value) = 0
+kind_begins (kinds.Punctuator s) = punctuator_begins s
 
 abbrev pub begins : List Token → ℕ
 begins [] = 20
@@ -145,113 +145,113 @@ keyword_typed keywords.Finally h = absurd (omega arith)
 keyword_typed keywords.Leave h = absurd (omega arith)
 keyword_typed keywords.GetExceptionInformation h = absurd (omega arith)
 
-sign_low : (s : Sign) → sign_class s ≤ 5 → sign_begins s ≡ 0
-sign_low signs.OpenParenthesis h = refl
-sign_low signs.CloseParenthesis h = absurd (omega arith)
-sign_low signs.OpenBracket h = absurd (omega arith)
-sign_low signs.CloseBracket h = absurd (omega arith)
-sign_low signs.OpenBrace h = absurd (omega arith)
-sign_low signs.CloseBrace h = absurd (omega arith)
-sign_low signs.Semicolon h = absurd (omega arith)
-sign_low signs.Comma h = absurd (omega arith)
-sign_low signs.Question h = absurd (omega arith)
-sign_low signs.Colon h = absurd (omega arith)
-sign_low signs.Arrow h = absurd (omega arith)
-sign_low signs.Assign h = absurd (omega arith)
-sign_low signs.PlusAssign h = absurd (omega arith)
-sign_low signs.MinusAssign h = absurd (omega arith)
-sign_low signs.StarAssign h = absurd (omega arith)
-sign_low signs.SlashAssign h = absurd (omega arith)
-sign_low signs.PercentAssign h = absurd (omega arith)
-sign_low signs.AmpersandAssign h = absurd (omega arith)
-sign_low signs.BarAssign h = absurd (omega arith)
-sign_low signs.CaretAssign h = absurd (omega arith)
-sign_low signs.ShiftLeftAssign h = absurd (omega arith)
-sign_low signs.ShiftRightAssign h = absurd (omega arith)
-sign_low signs.BarBar h = absurd (omega arith)
-sign_low signs.AmpersandAmpersand h = absurd (omega arith)
-sign_low signs.Bar h = absurd (omega arith)
-sign_low signs.Caret h = absurd (omega arith)
-sign_low signs.Ampersand h = refl
-sign_low signs.Equal h = absurd (omega arith)
-sign_low signs.NotEqual h = absurd (omega arith)
-sign_low signs.Less h = absurd (omega arith)
-sign_low signs.Greater h = absurd (omega arith)
-sign_low signs.LessEqual h = absurd (omega arith)
-sign_low signs.GreaterEqual h = absurd (omega arith)
-sign_low signs.ShiftLeft h = absurd (omega arith)
-sign_low signs.ShiftRight h = absurd (omega arith)
-sign_low signs.Plus h = refl
-sign_low signs.Minus h = refl
-sign_low signs.Star h = refl
-sign_low signs.Slash h = absurd (omega arith)
-sign_low signs.Percent h = absurd (omega arith)
-sign_low signs.Exclamation h = refl
-sign_low signs.Tilde h = refl
-sign_low signs.PlusPlus h = refl
-sign_low signs.MinusMinus h = refl
+punctuator_low : (s : Punctuator) → punctuator_class s ≤ 5 → punctuator_begins s ≡ 0
+punctuator_low punctuators.OpenParenthesis h = refl
+punctuator_low punctuators.CloseParenthesis h = absurd (omega arith)
+punctuator_low punctuators.OpenBracket h = absurd (omega arith)
+punctuator_low punctuators.CloseBracket h = absurd (omega arith)
+punctuator_low punctuators.OpenBrace h = absurd (omega arith)
+punctuator_low punctuators.CloseBrace h = absurd (omega arith)
+punctuator_low punctuators.Semicolon h = absurd (omega arith)
+punctuator_low punctuators.Comma h = absurd (omega arith)
+punctuator_low punctuators.Question h = absurd (omega arith)
+punctuator_low punctuators.Colon h = absurd (omega arith)
+punctuator_low punctuators.Arrow h = absurd (omega arith)
+punctuator_low punctuators.Assign h = absurd (omega arith)
+punctuator_low punctuators.PlusAssign h = absurd (omega arith)
+punctuator_low punctuators.MinusAssign h = absurd (omega arith)
+punctuator_low punctuators.StarAssign h = absurd (omega arith)
+punctuator_low punctuators.SlashAssign h = absurd (omega arith)
+punctuator_low punctuators.PercentAssign h = absurd (omega arith)
+punctuator_low punctuators.AmpersandAssign h = absurd (omega arith)
+punctuator_low punctuators.BarAssign h = absurd (omega arith)
+punctuator_low punctuators.CaretAssign h = absurd (omega arith)
+punctuator_low punctuators.ShiftLeftAssign h = absurd (omega arith)
+punctuator_low punctuators.ShiftRightAssign h = absurd (omega arith)
+punctuator_low punctuators.BarBar h = absurd (omega arith)
+punctuator_low punctuators.AmpersandAmpersand h = absurd (omega arith)
+punctuator_low punctuators.Bar h = absurd (omega arith)
+punctuator_low punctuators.Caret h = absurd (omega arith)
+punctuator_low punctuators.Ampersand h = refl
+punctuator_low punctuators.Equal h = absurd (omega arith)
+punctuator_low punctuators.NotEqual h = absurd (omega arith)
+punctuator_low punctuators.Less h = absurd (omega arith)
+punctuator_low punctuators.Greater h = absurd (omega arith)
+punctuator_low punctuators.LessEqual h = absurd (omega arith)
+punctuator_low punctuators.GreaterEqual h = absurd (omega arith)
+punctuator_low punctuators.ShiftLeft h = absurd (omega arith)
+punctuator_low punctuators.ShiftRight h = absurd (omega arith)
+punctuator_low punctuators.Plus h = refl
+punctuator_low punctuators.Minus h = refl
+punctuator_low punctuators.Star h = refl
+punctuator_low punctuators.Slash h = absurd (omega arith)
+punctuator_low punctuators.Percent h = absurd (omega arith)
+punctuator_low punctuators.Exclamation h = refl
+punctuator_low punctuators.Tilde h = refl
+punctuator_low punctuators.PlusPlus h = refl
+punctuator_low punctuators.MinusMinus h = refl
 
-sign_typed : (s : Sign) → sign_class s ≡ 7 → sign_begins s ≡ 1
-sign_typed signs.OpenParenthesis h = absurd (omega arith)
-sign_typed signs.CloseParenthesis h = absurd (omega arith)
-sign_typed signs.OpenBracket h = absurd (omega arith)
-sign_typed signs.CloseBracket h = absurd (omega arith)
-sign_typed signs.OpenBrace h = absurd (omega arith)
-sign_typed signs.CloseBrace h = absurd (omega arith)
-sign_typed signs.Semicolon h = absurd (omega arith)
-sign_typed signs.Comma h = absurd (omega arith)
-sign_typed signs.Question h = absurd (omega arith)
-sign_typed signs.Colon h = absurd (omega arith)
-sign_typed signs.Arrow h = absurd (omega arith)
-sign_typed signs.Assign h = absurd (omega arith)
-sign_typed signs.PlusAssign h = absurd (omega arith)
-sign_typed signs.MinusAssign h = absurd (omega arith)
-sign_typed signs.StarAssign h = absurd (omega arith)
-sign_typed signs.SlashAssign h = absurd (omega arith)
-sign_typed signs.PercentAssign h = absurd (omega arith)
-sign_typed signs.AmpersandAssign h = absurd (omega arith)
-sign_typed signs.BarAssign h = absurd (omega arith)
-sign_typed signs.CaretAssign h = absurd (omega arith)
-sign_typed signs.ShiftLeftAssign h = absurd (omega arith)
-sign_typed signs.ShiftRightAssign h = absurd (omega arith)
-sign_typed signs.BarBar h = absurd (omega arith)
-sign_typed signs.AmpersandAmpersand h = absurd (omega arith)
-sign_typed signs.Bar h = absurd (omega arith)
-sign_typed signs.Caret h = absurd (omega arith)
-sign_typed signs.Ampersand h = absurd (omega arith)
-sign_typed signs.Equal h = absurd (omega arith)
-sign_typed signs.NotEqual h = absurd (omega arith)
-sign_typed signs.Less h = absurd (omega arith)
-sign_typed signs.Greater h = absurd (omega arith)
-sign_typed signs.LessEqual h = absurd (omega arith)
-sign_typed signs.GreaterEqual h = absurd (omega arith)
-sign_typed signs.ShiftLeft h = absurd (omega arith)
-sign_typed signs.ShiftRight h = absurd (omega arith)
-sign_typed signs.Plus h = absurd (omega arith)
-sign_typed signs.Minus h = absurd (omega arith)
-sign_typed signs.Star h = absurd (omega arith)
-sign_typed signs.Slash h = absurd (omega arith)
-sign_typed signs.Percent h = absurd (omega arith)
-sign_typed signs.Exclamation h = absurd (omega arith)
-sign_typed signs.Tilde h = absurd (omega arith)
-sign_typed signs.PlusPlus h = absurd (omega arith)
-sign_typed signs.MinusMinus h = absurd (omega arith)
+punctuator_typed : (s : Punctuator) → punctuator_class s ≡ 7 → punctuator_begins s ≡ 1
+punctuator_typed punctuators.OpenParenthesis h = absurd (omega arith)
+punctuator_typed punctuators.CloseParenthesis h = absurd (omega arith)
+punctuator_typed punctuators.OpenBracket h = absurd (omega arith)
+punctuator_typed punctuators.CloseBracket h = absurd (omega arith)
+punctuator_typed punctuators.OpenBrace h = absurd (omega arith)
+punctuator_typed punctuators.CloseBrace h = absurd (omega arith)
+punctuator_typed punctuators.Semicolon h = absurd (omega arith)
+punctuator_typed punctuators.Comma h = absurd (omega arith)
+punctuator_typed punctuators.Question h = absurd (omega arith)
+punctuator_typed punctuators.Colon h = absurd (omega arith)
+punctuator_typed punctuators.Arrow h = absurd (omega arith)
+punctuator_typed punctuators.Assign h = absurd (omega arith)
+punctuator_typed punctuators.PlusAssign h = absurd (omega arith)
+punctuator_typed punctuators.MinusAssign h = absurd (omega arith)
+punctuator_typed punctuators.StarAssign h = absurd (omega arith)
+punctuator_typed punctuators.SlashAssign h = absurd (omega arith)
+punctuator_typed punctuators.PercentAssign h = absurd (omega arith)
+punctuator_typed punctuators.AmpersandAssign h = absurd (omega arith)
+punctuator_typed punctuators.BarAssign h = absurd (omega arith)
+punctuator_typed punctuators.CaretAssign h = absurd (omega arith)
+punctuator_typed punctuators.ShiftLeftAssign h = absurd (omega arith)
+punctuator_typed punctuators.ShiftRightAssign h = absurd (omega arith)
+punctuator_typed punctuators.BarBar h = absurd (omega arith)
+punctuator_typed punctuators.AmpersandAmpersand h = absurd (omega arith)
+punctuator_typed punctuators.Bar h = absurd (omega arith)
+punctuator_typed punctuators.Caret h = absurd (omega arith)
+punctuator_typed punctuators.Ampersand h = absurd (omega arith)
+punctuator_typed punctuators.Equal h = absurd (omega arith)
+punctuator_typed punctuators.NotEqual h = absurd (omega arith)
+punctuator_typed punctuators.Less h = absurd (omega arith)
+punctuator_typed punctuators.Greater h = absurd (omega arith)
+punctuator_typed punctuators.LessEqual h = absurd (omega arith)
+punctuator_typed punctuators.GreaterEqual h = absurd (omega arith)
+punctuator_typed punctuators.ShiftLeft h = absurd (omega arith)
+punctuator_typed punctuators.ShiftRight h = absurd (omega arith)
+punctuator_typed punctuators.Plus h = absurd (omega arith)
+punctuator_typed punctuators.Minus h = absurd (omega arith)
+punctuator_typed punctuators.Star h = absurd (omega arith)
+punctuator_typed punctuators.Slash h = absurd (omega arith)
+punctuator_typed punctuators.Percent h = absurd (omega arith)
+punctuator_typed punctuators.Exclamation h = absurd (omega arith)
+punctuator_typed punctuators.Tilde h = absurd (omega arith)
+punctuator_typed punctuators.PlusPlus h = absurd (omega arith)
+punctuator_typed punctuators.MinusMinus h = absurd (omega arith)
 
 kind_low : (k : Kind) → kind_class k ≤ 5 → kind_begins k ≡ 0
-kind_low kinds.Name h = refl
+kind_low kinds.Identifier h = refl
 kind_low (kinds.Keyword k) h = keyword_low k h
 kind_low (kinds.Reserved r) h = absurd (omega arith)
 kind_low (kinds.Integer value type) h = refl
-kind_low (kinds.Character value) h = refl
-kind_low (kinds.Sign s) h = sign_low s h
+kind_low (kinds.CharacterConstant value) h = refl
+kind_low (kinds.Punctuator s) h = punctuator_low s h
 
 kind_typed : (k : Kind) → kind_class k ≡ 7 → kind_begins k ≡ 1
-kind_typed kinds.Name h = absurd (omega arith)
+kind_typed kinds.Identifier h = absurd (omega arith)
 kind_typed (kinds.Keyword k) h = keyword_typed k h
 kind_typed (kinds.Reserved r) h = absurd (omega arith)
 kind_typed (kinds.Integer value type) h = absurd (omega arith)
-kind_typed (kinds.Character value) h = absurd (omega arith)
-kind_typed (kinds.Sign s) h = sign_typed s h
+kind_typed (kinds.CharacterConstant value) h = absurd (omega arith)
+kind_typed (kinds.Punctuator s) h = punctuator_typed s h
 
 pub low_begins : (ts : List Token) → front ts ≤ 5 → begins ts ≡ 0
 low_begins [] h = absurd (omega arith)
@@ -261,16 +261,16 @@ pub typed_begins : (ts : List Token) → front ts ≡ 7 → begins ts ≡ 1
 typed_begins [] h = absurd (omega arith)
 typed_begins (t ∷ ts) h = kind_typed t.kind h
 
--- ---- expressions between signs
+-- ---- expressions between punctuators
 
--- an expression up to a sign that ends it
-pub up_to : (text : List ℕ) (s : Sign) (e f : Expression) (ts us rest end r q : List Token) → ts ≡ us → 16 < sign_follows s → Derives text 16 e ts rest → Derives text 16 f us end → HasSign s rest r → HasSign s end q → (e ≡ f) × (r ≡ q)
+-- an expression up to a punctuator that ends it
+pub up_to : (text : List ℕ) (s : Punctuator) (e f : Expression) (ts us rest end r q : List Token) → ts ≡ us → 16 < punctuator_follows s → Derives text 16 e ts rest → Derives text 16 f us end → HasPunctuator s rest r → HasPunctuator s end q → (e ≡ f) × (r ≡ q)
 up_to text s e f ts us rest end r q p l h g x y =
     let k : Derives text 16 f ts end = subst (λ (z : List Token). Derives text 16 f z end) (sym p) g in
     let a = one_expression text 16 e f ts rest end h k (has_stops s rest r 16 x l) (has_stops s end q 16 y l) in
     (a.0, has_same s rest end r q a.1 x y)
 
-pub optional : (text : List ℕ) (s : Sign) (e f : Option Expression) (ts us rest end r q : List Token) → ts ≡ us → 16 < sign_follows s → sign_class s ≡ 6 → IsOptional text e ts rest → IsOptional text f us end → HasSign s rest r → HasSign s end q → (e ≡ f) × (r ≡ q)
+pub optional : (text : List ℕ) (s : Punctuator) (e f : Option Expression) (ts us rest end r q : List Token) → ts ≡ us → 16 < punctuator_follows s → punctuator_class s ≡ 6 → IsOptional text e ts rest → IsOptional text f us end → HasPunctuator s rest r → HasPunctuator s end q → (e ≡ f) × (r ≡ q)
 optional text s None None ts us rest end r q p l c h g x y = (refl, has_same s rest end r q (sym h ∙ p ∙ g) x y)
 optional text s None (Some f) ts us rest end r q p l c h g x y =
     let a = has_front s rest r x in let b = expression_front text f us end g.spells in let d = ap front h in let m = ap front p in absurd (omega arith)
@@ -283,8 +283,8 @@ optional text s (Some e) (Some f) ts us rest end r q p l c h g x y = let a = up_
 
 pub condition : (text : List ℕ) (e f : Expression) (ts us rest end : List Token) → ts ≡ us → IsCondition text e ts rest → IsCondition text f us end → (e ≡ f) × (rest ≡ end)
 condition text e f ts us rest end p h g =
-    let a = has_same signs.OpenParenthesis ts us h.0 g.0 p h.2 g.2 in
-    up_to text signs.CloseParenthesis e f h.0 g.0 h.1 g.1 rest end a (omega arith) h.3 g.3 h.4 g.4
+    let a = has_same punctuators.OpenParenthesis ts us h.0 g.0 p h.2 g.2 in
+    up_to text punctuators.CloseParenthesis e f h.0 g.0 h.1 g.1 rest end a (omega arith) h.3 g.3 h.4 g.4
 
 -- ---- declarations
 
@@ -293,23 +293,23 @@ present e = Some e
 
 pub initialiser : (text : List ℕ) (e f : Option Expression) (ts us rest end : List Token) → ts ≡ us → Stops 15 rest → Stops 15 end → IsInitialiser text e ts rest → IsInitialiser text f us end → (e ≡ f) × (rest ≡ end)
 initialiser text None None ts us rest end p s z h g = (refl, sym h ∙ p ∙ g)
-initialiser text None (Some f) ts us rest end p s z h g = let a = follows_sign signs.Assign g.1.0 us g.0 15 g.1.1 refl in let b = ap follows h in let c = ap follows p in absurd (omega arith)
-initialiser text (Some e) None ts us rest end p s z h g = let a = follows_sign signs.Assign h.1.0 ts h.0 15 h.1.1 refl in let b = ap follows g in let c = ap follows p in absurd (omega arith)
+initialiser text None (Some f) ts us rest end p s z h g = let a = follows_punctuator punctuators.Assign g.1.0 us g.0 15 g.1.1 refl in let b = ap follows h in let c = ap follows p in absurd (omega arith)
+initialiser text (Some e) None ts us rest end p s z h g = let a = follows_punctuator punctuators.Assign h.1.0 ts h.0 15 h.1.1 refl in let b = ap follows g in let c = ap follows p in absurd (omega arith)
 initialiser text (Some e) (Some f) ts us rest end p s z h g =
-    let a = has_same signs.Assign ts us h.0 g.0 p h.1 g.1 in
+    let a = has_same punctuators.Assign ts us h.0 g.0 p h.1 g.1 in
     let k : Derives text 15 f h.0 end = subst (λ (x : List Token). Derives text 15 f x end) (sym a) g.2 in
     let b = one_expression text 15 e f h.0 rest end h.2 k s z in
     (ap present b.0, b.1)
 
-pub name_star : (name : Name) (ts rest : List Token) → IsName name ts rest → NoStar ts
+pub name_star : (name : Identifier) (ts rest : List Token) → IsIdentifier name ts rest → NoStar ts
 name_star name ts rest h = λ end g.
-    let q = kind_same kinds.Name (kinds.Sign signs.Star) name.start g.0 ts ts rest end refl (name.end, h) g.1 in
-    let e : kinds.Name ≡ kinds.Sign signs.Star = q.0 in cc
+    let q = kind_same kinds.Identifier (kinds.Punctuator punctuators.Star) name.start g.0 ts ts rest end refl (name.end, h) g.1 in
+    let e : kinds.Identifier ≡ kinds.Punctuator punctuators.Star = q.0 in cc
 
-pub name_type : (name : Name) (ts rest : List Token) → IsName name ts rest → NoType ts
+pub name_type : (name : Identifier) (ts rest : List Token) → IsIdentifier name ts rest → NoType ts
 name_type name ts rest h = λ e. let q : front ts ≡ 0 = ap front h in absurd (omega (arith, e))
 
-abbrev make : ℕ → Name → Option Expression → Local
+abbrev make : ℕ → Identifier → Option Expression → Local
 make n name e = record { pointers = n; name = name; initialiser = e }
 
 pub local : (text : List ℕ) (l m : Local) (ts us rest end : List Token) → ts ≡ us → Stops 15 rest → Stops 15 end → IsLocal text l ts rest → IsLocal text m us end → (l ≡ m) × (rest ≡ end)
@@ -317,21 +317,21 @@ local text l m ts us rest end p s z h g =
     let a = stars_once l.pointers m.pointers ts us h.0 g.0 p (name_star l.name h.0 h.1 h.3) (name_star m.name g.0 g.1 g.3) h.2 g.2 in
     let b = name_same l.name m.name h.0 g.0 h.1 g.1 a.1 h.3 g.3 in
     let c = initialiser text l.initialiser m.initialiser h.1 g.1 rest end b.1 s z h.4 g.4 in
-    (ap (λ (n : ℕ). make n l.name l.initialiser) a.0 ∙ ap (λ (n : Name). make m.pointers n l.initialiser) b.0 ∙ ap (λ (e : Option Expression). make m.pointers m.name e) c.0, c.1)
+    (ap (λ (n : ℕ). make n l.name l.initialiser) a.0 ∙ ap (λ (n : Identifier). make m.pointers n l.initialiser) b.0 ∙ ap (λ (e : Option Expression). make m.pointers m.name e) c.0, c.1)
 
 pub locals_stop : (text : List ℕ) (ls : List Local) (ts rest : List Token) → AreMoreLocals text ls ts rest → Stops 15 ts
-locals_stop text [] ts rest h = has_stops signs.Semicolon ts rest 15 h (omega arith)
-locals_stop text (l ∷ ls) ts rest h = has_stops signs.Comma ts h.0 15 h.2 (omega arith)
+locals_stop text [] ts rest h = has_stops punctuators.Semicolon ts rest 15 h (omega arith)
+locals_stop text (l ∷ ls) ts rest h = has_stops punctuators.Comma ts h.0 15 h.2 (omega arith)
 
-other_sign : (s z : Sign) (ts us rest end : List Token) → ts ≡ us → HasSign s ts rest → HasSign z us end → s ≡ z
-other_sign s z ts us rest end p h g = (sign_same s z h.0 g.0 ts us rest end p h.1 g.1).0
+other_punctuator : (s z : Punctuator) (ts us rest end : List Token) → ts ≡ us → HasPunctuator s ts rest → HasPunctuator z us end → s ≡ z
+other_punctuator s z ts us rest end p h g = (punctuator_same s z h.0 g.0 ts us rest end p h.1 g.1).0
 
 pub more_locals : (text : List ℕ) (ls ms : List Local) (ts us rest end : List Token) → ts ≡ us → AreMoreLocals text ls ts rest → AreMoreLocals text ms us end → (ls ≡ ms) × (rest ≡ end)
-more_locals text [] [] ts us rest end p h g = (refl, has_same signs.Semicolon ts us rest end p h g)
-more_locals text [] (m ∷ ms) ts us rest end p h g = let e : signs.Semicolon ≡ signs.Comma = other_sign signs.Semicolon signs.Comma ts us rest g.0 p h g.2 in absurd cc
-more_locals text (l ∷ ls) [] ts us rest end p h g = let e : signs.Comma ≡ signs.Semicolon = other_sign signs.Comma signs.Semicolon ts us h.0 end p h.2 g in absurd cc
+more_locals text [] [] ts us rest end p h g = (refl, has_same punctuators.Semicolon ts us rest end p h g)
+more_locals text [] (m ∷ ms) ts us rest end p h g = let e : punctuators.Semicolon ≡ punctuators.Comma = other_punctuator punctuators.Semicolon punctuators.Comma ts us rest g.0 p h g.2 in absurd cc
+more_locals text (l ∷ ls) [] ts us rest end p h g = let e : punctuators.Comma ≡ punctuators.Semicolon = other_punctuator punctuators.Comma punctuators.Semicolon ts us h.0 end p h.2 g in absurd cc
 more_locals text (l ∷ ls) (m ∷ ms) ts us rest end p h g =
-    let a = has_same signs.Comma ts us h.0 g.0 p h.2 g.2 in
+    let a = has_same punctuators.Comma ts us h.0 g.0 p h.2 g.2 in
     let b = local text l m h.0 g.0 h.1 g.1 a (locals_stop text ls h.1 rest h.4) (locals_stop text ms g.1 end g.4) h.3 g.3 in
     let c = more_locals text ls ms h.1 g.1 rest end b.1 h.4 g.4 in
     (ap (λ (x : Local). x ∷ ls) b.0 ∙ ap (λ (x : List Local). m ∷ x) c.0, c.1)
@@ -357,20 +357,20 @@ declaration text b d ls ms ts us rest end p h g =
     let y = locals text ls ms h.0 g.0 rest end x.1 h.2 g.2 in
     (x.0, y.0, y.1)
 
-pub optional_front : (text : List ℕ) (s : Sign) (e : Option Expression) (ts rest r : List Token) → sign_class s ≡ 6 → IsOptional text e ts rest → HasSign s rest r → front ts ≤ 6
+pub optional_front : (text : List ℕ) (s : Punctuator) (e : Option Expression) (ts rest r : List Token) → punctuator_class s ≡ 6 → IsOptional text e ts rest → HasPunctuator s rest r → front ts ≤ 6
 optional_front text s None ts rest r c h x = let a = has_front s rest r x in let b = ap front h in omega arith
 optional_front text s (Some e) ts rest r c h x = let a = expression_front text e ts rest h.spells in omega arith
 
-pub first : (text : List ℕ) (f g : First) (ts us rest end : List Token) → ts ≡ us → IsFirst text f ts rest → IsFirst text g us end → (f ≡ g) × (rest ≡ end)
+pub first : (text : List ℕ) (f g : ForInitialiser) (ts us rest end : List Token) → ts ≡ us → IsForInitialiser text f ts rest → IsForInitialiser text g us end → (f ≡ g) × (rest ≡ end)
 first text (Declaring b ls) (Declaring d ms) ts us rest end p h g =
     let a = declaration text b d ls ms ts us rest end p h g in
     (ap (λ (x : Base). Declaring x ls) a.0 ∙ ap (λ (x : List Local). Declaring d x) a.1, a.2)
 first text (Declaring b ls) (Evaluating f) ts us rest end p h g =
-    let a = base_front b ts h.0 h.1 in let c = optional_front text signs.Semicolon f us g.0 end refl g.1 g.2 in let d = ap front p in absurd (omega arith)
+    let a = base_front b ts h.0 h.1 in let c = optional_front text punctuators.Semicolon f us g.0 end refl g.1 g.2 in let d = ap front p in absurd (omega arith)
 first text (Evaluating e) (Declaring d ms) ts us rest end p h g =
-    let a = base_front d us g.0 g.1 in let c = optional_front text signs.Semicolon e ts h.0 rest refl h.1 h.2 in let b = ap front p in absurd (omega arith)
+    let a = base_front d us g.0 g.1 in let c = optional_front text punctuators.Semicolon e ts h.0 rest refl h.1 h.2 in let b = ap front p in absurd (omega arith)
 first text (Evaluating e) (Evaluating f) ts us rest end p h g =
-    let a = optional text signs.Semicolon e f ts us h.0 g.0 rest end p (omega arith) refl h.1 g.1 h.2 g.2 in
+    let a = optional text punctuators.Semicolon e f ts us h.0 g.0 rest end p (omega arith) refl h.1 g.1 h.2 g.2 in
     (ap (λ (x : Option Expression). Evaluating x) a.0, a.1)
 
 -- ---- first tokens of statements
@@ -391,11 +391,11 @@ item_class (Leave at) = 10
 item_class (TryExcept body at f handler) = 11
 item_class (TryFinally body at last) = 11
 
-optional_begins : (text : List ℕ) (e : Option Expression) (ts rest r : List Token) → IsOptional text e ts rest → HasSign signs.Semicolon rest r → begins ts ≡ 0
+optional_begins : (text : List ℕ) (e : Option Expression) (ts rest r : List Token) → IsOptional text e ts rest → HasPunctuator punctuators.Semicolon rest r → begins ts ≡ 0
 optional_begins text None ts rest r h x = ap begins (h ∙ x.1.1)
 optional_begins text (Some e) ts rest r h x = low_begins ts (expression_front text e ts rest h.spells)
 
-pub item_begins : (text : List ℕ) (s : Statement) (ts rest : List Token) → IsItem text s ts rest → begins ts ≡ item_class s
+pub item_begins : (text : List ℕ) (s : Statement) (ts rest : List Token) → IsBlockItem text s ts rest → begins ts ≡ item_class s
 item_begins text (Declare base ls) ts rest h = typed_begins ts (base_front base ts h.0 h.1)
 item_begins text (Block ss) ts rest h = ap begins h.1.1.1
 item_begins text (Evaluate e) ts rest h = optional_begins text e ts h.0 rest h.1 h.2
@@ -430,14 +430,14 @@ class_low (TryFinally body at last) = omega arith
 pub no_else : (ts : List Token) → begins ts ≤ 11 → NoElse ts
 no_else ts h = λ end g. let e : begins ts ≡ 20 = ap begins g.1.1 in absurd (omega arith)
 
--- no `else` stands behind what is in a block
-pub items_else : (text : List ℕ) (ss : Statements) (ts rest : List Token) → AreItems text ss ts rest → NoElse ts
+-- no `else` is after what is in a block
+pub items_else : (text : List ℕ) (ss : Statements) (ts rest : List Token) → AreBlockItems text ss ts rest → NoElse ts
 items_else text Empty ts rest h = λ end g.
-    let q = kind_same (kinds.Sign signs.CloseBrace) (kinds.Keyword keywords.Else) h.0 g.0 ts ts rest end refl h.1 g.1 in
-    let e : kinds.Sign signs.CloseBrace ≡ kinds.Keyword keywords.Else = q.0 in cc
+    let q = kind_same (kinds.Punctuator punctuators.CloseBrace) (kinds.Keyword keywords.Else) h.0 g.0 ts ts rest end refl h.1 g.1 in
+    let e : kinds.Punctuator punctuators.CloseBrace ≡ kinds.Keyword keywords.Else = q.0 in cc
 items_else text (Then s ss) ts rest h = no_else ts (let a = item_begins text s ts h.0 h.1 in let b = class_low s in omega arith)
 
-pub brace_begins : (ts rest : List Token) → HasSign signs.CloseBrace ts rest → begins ts ≡ 20
+pub brace_begins : (ts rest : List Token) → HasPunctuator punctuators.CloseBrace ts rest → begins ts ≡ 20
 brace_begins ts rest h = ap begins h.1.1
 
 pub place : (k : Keyword) (at to : ℕ) (ts us rest end : List Token) → ts ≡ us → IsKeyword k at ts rest → IsKeyword k to us end → (at ≡ to) × (rest ≡ end)
@@ -460,13 +460,13 @@ pub else_at : (ts us rest : List Token) → ts ≡ us → HasKeyword keywords.El
 else_at ts us rest p h = subst (λ (x : List Token). HasKeyword keywords.Else x rest) (sym p) h
 
 -- statements that begin otherwise
-pub apart : (text : List ℕ) (s z : Statement) (ts us rest end : List Token) → ts ≡ us → IsItem text s ts rest → IsItem text z us end → (item_class s ≡ item_class z → ⊥) → ⊥
+pub apart : (text : List ℕ) (s z : Statement) (ts us rest end : List Token) → ts ≡ us → IsBlockItem text s ts rest → IsBlockItem text z us end → (item_class s ≡ item_class z → ⊥) → ⊥
 apart text s z ts us rest end p h g n = n (sym (item_begins text s ts rest h) ∙ ap begins p ∙ item_begins text z us end g)
 
 -- ---- statements
 
 mutual
-  pub same_item : (text : List ℕ) (s z : Statement) (ts us rest end : List Token) → ts ≡ us → IsItem text s ts rest → IsItem text z us end → Closed s rest → Closed z end → (s ≡ z) × (rest ≡ end)
+  pub same_item : (text : List ℕ) (s z : Statement) (ts us rest end : List Token) → ts ≡ us → IsBlockItem text s ts rest → IsBlockItem text z us end → Closed s rest → Closed z end → (s ≡ z) × (rest ≡ end)
   same_item text (Declare base ls) (Declare base' ls') ts us rest end p h g x y =
       let a = declaration text base base' ls ls' ts us rest end p h g in
       (ap (λ (x : Base). Declare x ls) a.0 ∙ ap (λ (x : List Local). Declare base' x) a.1, a.2)
@@ -485,7 +485,7 @@ mutual
   same_item text (Declare base ls) (TryFinally body' at' last') ts us rest end p h g x y = absurd (apart text (Declare base ls) (TryFinally body' at' last') ts us rest end p h g (λ e. absurd (omega arith)))
   same_item text (Block ss) (Declare base' ls') ts us rest end p h g x y = absurd (apart text (Block ss) (Declare base' ls') ts us rest end p h g (λ e. absurd (omega arith)))
   same_item text (Block ss) (Block ss') ts us rest end p h g x y =
-      let a = has_same signs.OpenBrace ts us h.0 g.0 p h.1 g.1 in
+      let a = has_same punctuators.OpenBrace ts us h.0 g.0 p h.1 g.1 in
       let b = same_items text ss ss' h.0 g.0 rest end a h.2 g.2 in
       (ap (λ (x : Statements). Block x) b.0, b.1)
   same_item text (Block ss) (Evaluate e') ts us rest end p h g x y = absurd (apart text (Block ss) (Evaluate e') ts us rest end p h g (λ e. absurd (omega arith)))
@@ -503,7 +503,7 @@ mutual
   same_item text (Evaluate e) (Declare base' ls') ts us rest end p h g x y = absurd (apart text (Evaluate e) (Declare base' ls') ts us rest end p h g (λ e. absurd (omega arith)))
   same_item text (Evaluate e) (Block ss') ts us rest end p h g x y = absurd (apart text (Evaluate e) (Block ss') ts us rest end p h g (λ e. absurd (omega arith)))
   same_item text (Evaluate e) (Evaluate e') ts us rest end p h g x y =
-      let a = optional text signs.Semicolon e e' ts us h.0 g.0 rest end p (omega arith) refl h.1 g.1 h.2 g.2 in
+      let a = optional text punctuators.Semicolon e e' ts us h.0 g.0 rest end p (omega arith) refl h.1 g.1 h.2 g.2 in
       (ap (λ (x : Option Expression). Evaluate x) a.0, a.1)
   same_item text (Evaluate e) (If at' c' s') ts us rest end p h g x y = absurd (apart text (Evaluate e) (If at' c' s') ts us rest end p h g (λ e. absurd (omega arith)))
   same_item text (Evaluate e) (IfElse at' c' s' t') ts us rest end p h g x y = absurd (apart text (Evaluate e) (IfElse at' c' s' t') ts us rest end p h g (λ e. absurd (omega arith)))
@@ -591,7 +591,7 @@ mutual
       let d = same_item text s s' h.0 g.0 h.1 g.1 a h.6 g.6 (λ t. while_else at h.1 h.2 h.7) (λ t. while_else at' g.1 g.2 g.7) in
       let b = place keywords.While at at' h.1 g.1 h.2 g.2 d.1 h.7 g.7 in
       let e = condition text c c' h.2 g.2 h.3 g.3 b.1 h.8 g.8 in
-      (ap (λ (v : Statement). DoWhile v at c) d.0 ∙ ap (λ (v : ℕ). DoWhile s' v c) b.0 ∙ ap (λ (v : Expression). DoWhile s' at' v) e.0, has_same signs.Semicolon h.3 g.3 rest end e.1 h.9 g.9)
+      (ap (λ (v : Statement). DoWhile v at c) d.0 ∙ ap (λ (v : ℕ). DoWhile s' v c) b.0 ∙ ap (λ (v : Expression). DoWhile s' at' v) e.0, has_same punctuators.Semicolon h.3 g.3 rest end e.1 h.9 g.9)
   same_item text (DoWhile s at c) (For at' f' c' n' s') ts us rest end p h g x y = absurd (apart text (DoWhile s at c) (For at' f' c' n' s') ts us rest end p h g (λ e. absurd (omega arith)))
   same_item text (DoWhile s at c) (Return at' e') ts us rest end p h g x y = absurd (apart text (DoWhile s at c) (Return at' e') ts us rest end p h g (λ e. absurd (omega arith)))
   same_item text (DoWhile s at c) (Break at') ts us rest end p h g x y = absurd (apart text (DoWhile s at c) (Break at') ts us rest end p h g (λ e. absurd (omega arith)))
@@ -608,12 +608,12 @@ mutual
   same_item text (For at f c n s) (DoWhile s' at' c') ts us rest end p h g x y = absurd (apart text (For at f c n s) (DoWhile s' at' c') ts us rest end p h g (λ e. absurd (omega arith)))
   same_item text (For at f c n s) (For at' f' c' n' s') ts us rest end p h g x y =
       let a = place keywords.For at at' ts us h.0 g.0 p h.7 g.7 in
-      let b = has_same signs.OpenParenthesis h.0 g.0 h.1 g.1 a.1 h.8 g.8 in
+      let b = has_same punctuators.OpenParenthesis h.0 g.0 h.1 g.1 a.1 h.8 g.8 in
       let d = first text f f' h.1 g.1 h.2 g.2 b h.9 g.9 in
-      let e = optional text signs.Semicolon c c' h.2 g.2 h.3 g.3 h.4 g.4 d.1 (omega arith) refl h.10 g.10 h.11 g.11 in
-      let i = optional text signs.CloseParenthesis n n' h.4 g.4 h.5 g.5 h.6 g.6 e.1 (omega arith) refl h.12 g.12 h.13 g.13 in
+      let e = optional text punctuators.Semicolon c c' h.2 g.2 h.3 g.3 h.4 g.4 d.1 (omega arith) refl h.10 g.10 h.11 g.11 in
+      let i = optional text punctuators.CloseParenthesis n n' h.4 g.4 h.5 g.5 h.6 g.6 e.1 (omega arith) refl h.12 g.12 h.13 g.13 in
       let j = same_item text s s' h.6 g.6 rest end i.1 h.15 g.15 x y in
-      (ap (λ (v : ℕ). For v f c n s) a.0 ∙ ap (λ (v : First). For at' v c n s) d.0 ∙ ap (λ (v : Option Expression). For at' f' v n s) e.0 ∙ ap (λ (v : Option Expression). For at' f' c' v s) i.0 ∙ ap (λ (v : Statement). For at' f' c' n' v) j.0, j.1)
+      (ap (λ (v : ℕ). For v f c n s) a.0 ∙ ap (λ (v : ForInitialiser). For at' v c n s) d.0 ∙ ap (λ (v : Option Expression). For at' f' v n s) e.0 ∙ ap (λ (v : Option Expression). For at' f' c' v s) i.0 ∙ ap (λ (v : Statement). For at' f' c' n' v) j.0, j.1)
   same_item text (For at f c n s) (Return at' e') ts us rest end p h g x y = absurd (apart text (For at f c n s) (Return at' e') ts us rest end p h g (λ e. absurd (omega arith)))
   same_item text (For at f c n s) (Break at') ts us rest end p h g x y = absurd (apart text (For at f c n s) (Break at') ts us rest end p h g (λ e. absurd (omega arith)))
   same_item text (For at f c n s) (Continue at') ts us rest end p h g x y = absurd (apart text (For at f c n s) (Continue at') ts us rest end p h g (λ e. absurd (omega arith)))
@@ -630,7 +630,7 @@ mutual
   same_item text (Return at e) (For at' f' c' n' s') ts us rest end p h g x y = absurd (apart text (Return at e) (For at' f' c' n' s') ts us rest end p h g (λ e. absurd (omega arith)))
   same_item text (Return at e) (Return at' e') ts us rest end p h g x y =
       let a = place keywords.Return at at' ts us h.0 g.0 p h.2 g.2 in
-      let b = optional text signs.Semicolon e e' h.0 g.0 h.1 g.1 rest end a.1 (omega arith) refl h.3 g.3 h.4 g.4 in
+      let b = optional text punctuators.Semicolon e e' h.0 g.0 h.1 g.1 rest end a.1 (omega arith) refl h.3 g.3 h.4 g.4 in
       (ap (λ (v : ℕ). Return v e) a.0 ∙ ap (λ (v : Option Expression). Return at' v) b.0, b.1)
   same_item text (Return at e) (Break at') ts us rest end p h g x y = absurd (apart text (Return at e) (Break at') ts us rest end p h g (λ e. absurd (omega arith)))
   same_item text (Return at e) (Continue at') ts us rest end p h g x y = absurd (apart text (Return at e) (Continue at') ts us rest end p h g (λ e. absurd (omega arith)))
@@ -648,7 +648,7 @@ mutual
   same_item text (Break at) (Return at' e') ts us rest end p h g x y = absurd (apart text (Break at) (Return at' e') ts us rest end p h g (λ e. absurd (omega arith)))
   same_item text (Break at) (Break at') ts us rest end p h g x y =
       let a = place keywords.Break at at' ts us h.0 g.0 p h.1 g.1 in
-      (ap (λ (v : ℕ). Break v) a.0, has_same signs.Semicolon h.0 g.0 rest end a.1 h.2 g.2)
+      (ap (λ (v : ℕ). Break v) a.0, has_same punctuators.Semicolon h.0 g.0 rest end a.1 h.2 g.2)
   same_item text (Break at) (Continue at') ts us rest end p h g x y = absurd (apart text (Break at) (Continue at') ts us rest end p h g (λ e. absurd (omega arith)))
   same_item text (Break at) (Leave at') ts us rest end p h g x y = absurd (apart text (Break at) (Leave at') ts us rest end p h g (λ e. absurd (omega arith)))
   same_item text (Break at) (TryExcept body' at' f' handler') ts us rest end p h g x y = absurd (apart text (Break at) (TryExcept body' at' f' handler') ts us rest end p h g (λ e. absurd (omega arith)))
@@ -665,7 +665,7 @@ mutual
   same_item text (Continue at) (Break at') ts us rest end p h g x y = absurd (apart text (Continue at) (Break at') ts us rest end p h g (λ e. absurd (omega arith)))
   same_item text (Continue at) (Continue at') ts us rest end p h g x y =
       let a = place keywords.Continue at at' ts us h.0 g.0 p h.1 g.1 in
-      (ap (λ (v : ℕ). Continue v) a.0, has_same signs.Semicolon h.0 g.0 rest end a.1 h.2 g.2)
+      (ap (λ (v : ℕ). Continue v) a.0, has_same punctuators.Semicolon h.0 g.0 rest end a.1 h.2 g.2)
   same_item text (Continue at) (Leave at') ts us rest end p h g x y = absurd (apart text (Continue at) (Leave at') ts us rest end p h g (λ e. absurd (omega arith)))
   same_item text (Continue at) (TryExcept body' at' f' handler') ts us rest end p h g x y = absurd (apart text (Continue at) (TryExcept body' at' f' handler') ts us rest end p h g (λ e. absurd (omega arith)))
   same_item text (Continue at) (TryFinally body' at' last') ts us rest end p h g x y = absurd (apart text (Continue at) (TryFinally body' at' last') ts us rest end p h g (λ e. absurd (omega arith)))
@@ -682,7 +682,7 @@ mutual
   same_item text (Leave at) (Continue at') ts us rest end p h g x y = absurd (apart text (Leave at) (Continue at') ts us rest end p h g (λ e. absurd (omega arith)))
   same_item text (Leave at) (Leave at') ts us rest end p h g x y =
       let a = place keywords.Leave at at' ts us h.0 g.0 p h.1 g.1 in
-      (ap (λ (v : ℕ). Leave v) a.0, has_same signs.Semicolon h.0 g.0 rest end a.1 h.2 g.2)
+      (ap (λ (v : ℕ). Leave v) a.0, has_same punctuators.Semicolon h.0 g.0 rest end a.1 h.2 g.2)
   same_item text (Leave at) (TryExcept body' at' f' handler') ts us rest end p h g x y = absurd (apart text (Leave at) (TryExcept body' at' f' handler') ts us rest end p h g (λ e. absurd (omega arith)))
   same_item text (Leave at) (TryFinally body' at' last') ts us rest end p h g x y = absurd (apart text (Leave at) (TryFinally body' at' last') ts us rest end p h g (λ e. absurd (omega arith)))
   same_item text (TryExcept body at f handler) (Declare base' ls') ts us rest end p h g x y = absurd (apart text (TryExcept body at f handler) (Declare base' ls') ts us rest end p h g (λ e. absurd (omega arith)))
@@ -699,16 +699,16 @@ mutual
   same_item text (TryExcept body at f handler) (Leave at') ts us rest end p h g x y = absurd (apart text (TryExcept body at f handler) (Leave at') ts us rest end p h g (λ e. absurd (omega arith)))
   same_item text (TryExcept body at f handler) (TryExcept body' at' f' handler') ts us rest end p h g x y =
       let a = word keywords.Try ts us h.0 g.0 p h.6 g.6 in
-      let b = has_same signs.OpenBrace h.0 g.0 h.1 g.1 a h.7 g.7 in
+      let b = has_same punctuators.OpenBrace h.0 g.0 h.1 g.1 a h.7 g.7 in
       let c = same_items text body body' h.1 g.1 h.2 g.2 b h.8 g.8 in
       let d = place keywords.Except at at' h.2 g.2 h.3 g.3 c.1 h.9 g.9 in
       let e = condition text f f' h.3 g.3 h.4 g.4 d.1 h.10 g.10 in
-      let i = has_same signs.OpenBrace h.4 g.4 h.5 g.5 e.1 h.11 g.11 in
+      let i = has_same punctuators.OpenBrace h.4 g.4 h.5 g.5 e.1 h.11 g.11 in
       let j = same_items text handler handler' h.5 g.5 rest end i h.12 g.12 in
       (ap (λ (v : Statements). TryExcept v at f handler) c.0 ∙ ap (λ (v : ℕ). TryExcept body' v f handler) d.0 ∙ ap (λ (v : Expression). TryExcept body' at' v handler) e.0 ∙ ap (λ (v : Statements). TryExcept body' at' f' v) j.0, j.1)
   same_item text (TryExcept body at f handler) (TryFinally body' at' last') ts us rest end p h g x y =
       let a = word keywords.Try ts us h.0 g.0 p h.6 g.5 in
-      let b = has_same signs.OpenBrace h.0 g.0 h.1 g.1 a h.7 g.6 in
+      let b = has_same punctuators.OpenBrace h.0 g.0 h.1 g.1 a h.7 g.6 in
       let c = same_items text body body' h.1 g.1 h.2 g.2 b h.8 g.7 in
       let e : keywords.Except ≡ keywords.Finally = (keyword_same keywords.Except keywords.Finally h.2 g.2 h.3 g.3 c.1 (at, h.9) (at', g.8)).0 in absurd cc
   same_item text (TryFinally body at last) (Declare base' ls') ts us rest end p h g x y = absurd (apart text (TryFinally body at last) (Declare base' ls') ts us rest end p h g (λ e. absurd (omega arith)))
@@ -725,20 +725,20 @@ mutual
   same_item text (TryFinally body at last) (Leave at') ts us rest end p h g x y = absurd (apart text (TryFinally body at last) (Leave at') ts us rest end p h g (λ e. absurd (omega arith)))
   same_item text (TryFinally body at last) (TryExcept body' at' f' handler') ts us rest end p h g x y =
       let a = word keywords.Try ts us h.0 g.0 p h.5 g.6 in
-      let b = has_same signs.OpenBrace h.0 g.0 h.1 g.1 a h.6 g.7 in
+      let b = has_same punctuators.OpenBrace h.0 g.0 h.1 g.1 a h.6 g.7 in
       let c = same_items text body body' h.1 g.1 h.2 g.2 b h.7 g.8 in
       let e : keywords.Finally ≡ keywords.Except = (keyword_same keywords.Finally keywords.Except h.2 g.2 h.3 g.3 c.1 (at, h.8) (at', g.9)).0 in absurd cc
   same_item text (TryFinally body at last) (TryFinally body' at' last') ts us rest end p h g x y =
       let a = word keywords.Try ts us h.0 g.0 p h.5 g.5 in
-      let b = has_same signs.OpenBrace h.0 g.0 h.1 g.1 a h.6 g.6 in
+      let b = has_same punctuators.OpenBrace h.0 g.0 h.1 g.1 a h.6 g.6 in
       let c = same_items text body body' h.1 g.1 h.2 g.2 b h.7 g.7 in
       let d = place keywords.Finally at at' h.2 g.2 h.3 g.3 c.1 h.8 g.8 in
-      let i = has_same signs.OpenBrace h.3 g.3 h.4 g.4 d.1 h.9 g.9 in
+      let i = has_same punctuators.OpenBrace h.3 g.3 h.4 g.4 d.1 h.9 g.9 in
       let j = same_items text last last' h.4 g.4 rest end i h.10 g.10 in
       (ap (λ (v : Statements). TryFinally v at last) c.0 ∙ ap (λ (v : ℕ). TryFinally body' v last) d.0 ∙ ap (λ (v : Statements). TryFinally body' at' v) j.0, j.1)
 
-  pub same_items : (text : List ℕ) (ss zs : Statements) (ts us rest end : List Token) → ts ≡ us → AreItems text ss ts rest → AreItems text zs us end → (ss ≡ zs) × (rest ≡ end)
-  same_items text Empty Empty ts us rest end p h g = (refl, has_same signs.CloseBrace ts us rest end p h g)
+  pub same_items : (text : List ℕ) (ss zs : Statements) (ts us rest end : List Token) → ts ≡ us → AreBlockItems text ss ts rest → AreBlockItems text zs us end → (ss ≡ zs) × (rest ≡ end)
+  same_items text Empty Empty ts us rest end p h g = (refl, has_same punctuators.CloseBrace ts us rest end p h g)
   same_items text Empty (Then z zs) ts us rest end p h g =
       let a = brace_begins ts rest h in let b = item_begins text z us g.0 g.1 in let c = class_low z in let d = ap begins p in absurd (omega arith)
   same_items text (Then s ss) Empty ts us rest end p h g =

@@ -55,7 +55,7 @@ wrapped No Has No' Has' kind at text ts ts' w f = record {
   front = w.before ++ f.front;
   fault = f.fault;
   split = w.split ∙ ap (λ z. w.before ++ z) f.split ∙ sym (append_assoc w.before f.front f.fault);
-  stands = f.stands;
+  located = f.located;
   against = λ text' other a s.
       subst (λ z. No' kind text' z) (sym (append_assoc w.before f.front other))
       (w.no kind text' (f.front ++ other) a (subst (λ z. SameFirst z (f.front ++ other)) (sym f.split) (first_behind f.front f.fault other s))

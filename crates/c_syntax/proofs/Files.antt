@@ -1,8 +1,8 @@
 -- There is one tree at most for a program.
 use Rattle.std.proofs.Common.{◌≡◌, ◌≤◌, ℕ, Bool, true, false, List, [], ◌∷◌, Option, Some, None, refl, sym, ap, ◌∙◌, arith, inl, inr}
 use Rattle.c_lex.specs.declared.keyword.Keyword.TheVariants as keywords
-use Rattle.c_lex.specs.declared.sign.Sign.{Sign}
-use Rattle.c_lex.specs.declared.sign.Sign.TheVariants as signs
+use Rattle.c_lex.specs.declared.punctuator.Punctuator.{Punctuator}
+use Rattle.c_lex.specs.declared.punctuator.Punctuator.TheVariants as punctuators
 use Rattle.c_lex.specs.declared.token.Kind.TheVariants as kinds
 use Rattle.c_lex.specs.declared.token.Token.{Token}
 use Rattle.c_lex.proofs.Texts.{tokens_once}
@@ -14,16 +14,16 @@ use Rattle.c_syntax.specs.declared.expression.Base.TheVariants as bases
 use Rattle.c_syntax.specs.declared.expression.CType.{CType}
 use Rattle.c_syntax.specs.declared.expression.Literal.{Literal}
 use Rattle.c_syntax.specs.declared.expression.Literal.TheVariants as literals
-use Rattle.c_syntax.specs.declared.expression.Name.{Name}
+use Rattle.c_syntax.specs.declared.expression.Identifier.{Identifier}
 use Rattle.c_syntax.specs.Expressions.{literal_kind}
 use Rattle.c_syntax.specs.Follow.{follows, Stops}
-use Rattle.c_syntax.specs.Program.{Initialiser, Single, Several, Global, External, Globals, Function}
-use Rattle.c_syntax.specs.Programs.{IsLiteral, IsConstant, AreMoreConstants, AreConstants, IsInitialiser, IsLength, IsGlobal, AreMoreGlobals, AreGlobals, IsParameter, AreMoreParameters, AreParameters, IsExternal, IsProgram, OneProgram}
+use Rattle.c_syntax.specs.Program.{Initialiser, Single, Several, Global, ExternalDeclaration, Globals, Function}
+use Rattle.c_syntax.specs.Programs.{IsLiteral, IsConstant, AreMoreConstants, AreConstants, IsInitialiser, IsLength, IsGlobal, AreMoreGlobals, AreGlobals, IsParameter, AreMoreParameters, AreParameters, IsExternalDeclaration, IsProgram, OneProgram}
 use Rattle.c_syntax.specs.Statement.{Statements}
-use Rattle.c_syntax.specs.Tokens.{IsSign, IsName, HasSign, HasKeyword}
+use Rattle.c_syntax.specs.Tokens.{IsPunctuator, IsIdentifier, HasPunctuator, HasKeyword}
 use Rattle.c_syntax.specs.Types.{IsBase, AreStars, IsType}
-use Rattle.c_syntax.proofs.Fronts.{kind_same, sign_same, has_same, name_same, kind_class, front, base_front, base_once, NoType, stars_once, stars_front, type_once, close_type, close_star}
-use Rattle.c_syntax.proofs.Spine.{follows_sign}
+use Rattle.c_syntax.proofs.Fronts.{kind_same, punctuator_same, has_same, name_same, kind_class, front, base_front, base_once, NoType, stars_once, stars_front, type_once, close_type, close_star}
+use Rattle.c_syntax.proofs.Spine.{follows_punctuator}
 use Rattle.c_syntax.proofs.Once.{has_stops, has_front, literal_same, integer_same}
 use Rattle.c_syntax.proofs.Blocks.{name_star, name_type, same_items}
 
@@ -31,7 +31,7 @@ use Rattle.c_syntax.proofs.Blocks.{name_star, name_type, same_items}
 
 pub literal_class : (literal : Literal) → kind_class (literal_kind literal) ≡ 2
 literal_class (literals.Integer value type) = refl
-literal_class (literals.Character value) = refl
+literal_class (literals.CharacterConstant value) = refl
 
 pub literal_front : (negative : Bool) (at : ℕ) (literal : Literal) (ts rest : List Token) → IsLiteral negative at literal ts rest → front ts ≤ 5
 literal_front false at literal ts rest h = let a = ap front h.1 in let b = literal_class literal in omega arith
@@ -44,7 +44,7 @@ literal_once false false at to a b ts us rest end p h g =
 literal_once false true at to a b ts us rest end p h g = let x = ap front h.1 in let y = literal_class a in let z = ap front g.2.1 in let w = ap front p in absurd (omega arith)
 literal_once true false at to a b ts us rest end p h g = let x = ap front g.1 in let y = literal_class b in let z = ap front h.2.1 in let w = ap front p in absurd (omega arith)
 literal_once true true at to a b ts us rest end p h g =
-    let q = sign_same signs.Minus signs.Minus at to ts us h.0 g.0 p h.2 g.2 in
+    let q = punctuator_same punctuators.Minus punctuators.Minus at to ts us h.0 g.0 p h.2 g.2 in
     let r = kind_same (literal_kind a) (literal_kind b) h.1 g.1 h.0 g.0 rest end q.2 h.3 g.3 in
     (refl, q.1, literal_same a b r.0, r.2)
 
@@ -56,15 +56,15 @@ constant_once c d ts us rest end p h g =
     let q = literal_once c.negative d.negative c.at d.at c.literal d.literal ts us rest end p h g in
     (ap (λ (x : ℕ). made x c.negative c.literal) q.1 ∙ ap (λ (x : Bool). made d.at x c.literal) q.0 ∙ ap (λ (x : Literal). made d.at d.negative x) q.2, q.3)
 
-pub other_sign : (s z : Sign) (ts us rest end : List Token) → ts ≡ us → HasSign s ts rest → HasSign z us end → s ≡ z
-other_sign s z ts us rest end p h g = (sign_same s z h.0 g.0 ts us rest end p h.1 g.1).0
+pub other_punctuator : (s z : Punctuator) (ts us rest end : List Token) → ts ≡ us → HasPunctuator s ts rest → HasPunctuator z us end → s ≡ z
+other_punctuator s z ts us rest end p h g = (punctuator_same s z h.0 g.0 ts us rest end p h.1 g.1).0
 
 more_constants : (cs ds : List Constant) (ts us rest end : List Token) → ts ≡ us → AreMoreConstants cs ts rest → AreMoreConstants ds us end → (cs ≡ ds) × (rest ≡ end)
-more_constants [] [] ts us rest end p h g = (refl, has_same signs.CloseBrace ts us rest end p h g)
-more_constants [] (d ∷ ds) ts us rest end p h g = let e : signs.CloseBrace ≡ signs.Comma = other_sign signs.CloseBrace signs.Comma ts us rest g.0 p h g.2 in absurd cc
-more_constants (c ∷ cs) [] ts us rest end p h g = let e : signs.Comma ≡ signs.CloseBrace = other_sign signs.Comma signs.CloseBrace ts us h.0 end p h.2 g in absurd cc
+more_constants [] [] ts us rest end p h g = (refl, has_same punctuators.CloseBrace ts us rest end p h g)
+more_constants [] (d ∷ ds) ts us rest end p h g = let e : punctuators.CloseBrace ≡ punctuators.Comma = other_punctuator punctuators.CloseBrace punctuators.Comma ts us rest g.0 p h g.2 in absurd cc
+more_constants (c ∷ cs) [] ts us rest end p h g = let e : punctuators.Comma ≡ punctuators.CloseBrace = other_punctuator punctuators.Comma punctuators.CloseBrace ts us h.0 end p h.2 g in absurd cc
 more_constants (c ∷ cs) (d ∷ ds) ts us rest end p h g =
-    let a = has_same signs.Comma ts us h.0 g.0 p h.2 g.2 in
+    let a = has_same punctuators.Comma ts us h.0 g.0 p h.2 g.2 in
     let b = constant_once c d h.0 g.0 h.1 g.1 a h.3 g.3 in
     let e = more_constants cs ds h.1 g.1 rest end b.1 h.4 g.4 in
     (ap (λ (x : Constant). x ∷ cs) b.0 ∙ ap (λ (x : List Constant). d ∷ x) e.0, e.1)
@@ -79,10 +79,10 @@ constants (c ∷ cs) (d ∷ ds) ts us rest end p h g =
 
 -- ---- globals
 
-pub assign_not : (ts us rest end : List Token) → ts ≡ us → ts ≡ rest → Stops 15 rest → HasSign signs.Assign us end → ⊥
-assign_not ts us rest end p q s h = let a = follows_sign signs.Assign h.0 us end 15 h.1 refl in let b = ap follows q in let c = ap follows p in absurd (omega arith)
+pub assign_not : (ts us rest end : List Token) → ts ≡ us → ts ≡ rest → Stops 15 rest → HasPunctuator punctuators.Assign us end → ⊥
+assign_not ts us rest end p q s h = let a = follows_punctuator punctuators.Assign h.0 us end 15 h.1 refl in let b = ap follows q in let c = ap follows p in absurd (omega arith)
 
-pub brace_not : (c : Constant) (at : ℕ) (ts us rest end : List Token) → ts ≡ us → IsConstant c ts rest → IsSign signs.OpenBrace at us end → ⊥
+pub brace_not : (c : Constant) (at : ℕ) (ts us rest end : List Token) → ts ≡ us → IsConstant c ts rest → IsPunctuator punctuators.OpenBrace at us end → ⊥
 brace_not c at ts us rest end p h g = let a = literal_front c.negative c.at c.literal ts rest h in let b = ap front g.1 in let d = ap front p in absurd (omega arith)
 
 abbrev begun : Initialiser → Option Initialiser
@@ -94,43 +94,43 @@ initialiser_once None (Some (Single d)) ts us rest end p s z h g = absurd (assig
 initialiser_once None (Some (Several to ds)) ts us rest end p s z h g = absurd (assign_not ts us rest g.0 p h s g.2)
 initialiser_once (Some (Single c)) None ts us rest end p s z h g = absurd (assign_not us ts end h.0 (sym p) g z h.1)
 initialiser_once (Some (Single c)) (Some (Single d)) ts us rest end p s z h g =
-    let a = has_same signs.Assign ts us h.0 g.0 p h.1 g.1 in
+    let a = has_same punctuators.Assign ts us h.0 g.0 p h.1 g.1 in
     let b = constant_once c d h.0 g.0 rest end a h.2 g.2 in
     (ap (λ (x : Constant). begun (Single x)) b.0, b.1)
-initialiser_once (Some (Single c)) (Some (Several to ds)) ts us rest end p s z h g = let a = has_same signs.Assign ts us h.0 g.0 p h.1 g.2 in absurd (brace_not c to h.0 g.0 rest g.1 a h.2 g.3)
+initialiser_once (Some (Single c)) (Some (Several to ds)) ts us rest end p s z h g = let a = has_same punctuators.Assign ts us h.0 g.0 p h.1 g.2 in absurd (brace_not c to h.0 g.0 rest g.1 a h.2 g.3)
 initialiser_once (Some (Several at cs)) None ts us rest end p s z h g = absurd (assign_not us ts end h.0 (sym p) g z h.2)
-initialiser_once (Some (Several at cs)) (Some (Single d)) ts us rest end p s z h g = let a = has_same signs.Assign ts us h.0 g.0 p h.2 g.1 in absurd (brace_not d at g.0 h.0 end h.1 (sym a) g.2 h.3)
+initialiser_once (Some (Several at cs)) (Some (Single d)) ts us rest end p s z h g = let a = has_same punctuators.Assign ts us h.0 g.0 p h.2 g.1 in absurd (brace_not d at g.0 h.0 end h.1 (sym a) g.2 h.3)
 initialiser_once (Some (Several at cs)) (Some (Several to ds)) ts us rest end p s z h g =
-    let a = has_same signs.Assign ts us h.0 g.0 p h.2 g.2 in
-    let b = sign_same signs.OpenBrace signs.OpenBrace at to h.0 g.0 h.1 g.1 a h.3 g.3 in
+    let a = has_same punctuators.Assign ts us h.0 g.0 p h.2 g.2 in
+    let b = punctuator_same punctuators.OpenBrace punctuators.OpenBrace at to h.0 g.0 h.1 g.1 a h.3 g.3 in
     let c = constants cs ds h.1 g.1 rest end b.2 h.4 g.4 in
     (ap (λ (x : ℕ). begun (Several x cs)) b.1 ∙ ap (λ (x : List Constant). begun (Several to x)) c.0, c.1)
 
 pub initialiser_stops : (i : Option Initialiser) (ts rest : List Token) → Stops 15 rest → IsInitialiser i ts rest → Stops 1 ts
 initialiser_stops None ts rest s h = let a = ap follows h in omega arith
-initialiser_stops (Some (Single c)) ts rest s h = has_stops signs.Assign ts h.0 1 h.1 (omega arith)
-initialiser_stops (Some (Several at cs)) ts rest s h = has_stops signs.Assign ts h.0 1 h.2 (omega arith)
+initialiser_stops (Some (Single c)) ts rest s h = has_stops punctuators.Assign ts h.0 1 h.1 (omega arith)
+initialiser_stops (Some (Several at cs)) ts rest s h = has_stops punctuators.Assign ts h.0 1 h.2 (omega arith)
 
 abbrev sized : ℕ → ℕ → Option Length
 sized at value = Some (record { at = at; value = value })
 
-bracket_not : (ts us rest end : List Token) → ts ≡ us → ts ≡ rest → Stops 1 rest → HasSign signs.OpenBracket us end → ⊥
-bracket_not ts us rest end p q s h = let a = follows_sign signs.OpenBracket h.0 us end 1 h.1 refl in let b = ap follows q in let c = ap follows p in absurd (omega arith)
+bracket_not : (ts us rest end : List Token) → ts ≡ us → ts ≡ rest → Stops 1 rest → HasPunctuator punctuators.OpenBracket us end → ⊥
+bracket_not ts us rest end p q s h = let a = follows_punctuator punctuators.OpenBracket h.0 us end 1 h.1 refl in let b = ap follows q in let c = ap follows p in absurd (omega arith)
 
 pub length_once : (i j : Option Length) (ts us rest end : List Token) → ts ≡ us → Stops 1 rest → Stops 1 end → IsLength i ts rest → IsLength j us end → (i ≡ j) × (rest ≡ end)
 length_once None None ts us rest end p s z h g = (refl, sym h ∙ p ∙ g)
 length_once None (Some m) ts us rest end p s z h g = absurd (bracket_not ts us rest g.0 p h s g.2)
 length_once (Some n) None ts us rest end p s z h g = absurd (bracket_not us ts end h.0 (sym p) g z h.2)
 length_once (Some n) (Some m) ts us rest end p s z h g =
-    let a = has_same signs.OpenBracket ts us h.0 g.0 p h.2 g.2 in
+    let a = has_same punctuators.OpenBracket ts us h.0 g.0 p h.2 g.2 in
     let b = integer_same n.value m.value n.at m.at h.0 g.0 h.1 g.1 a h.3 g.3 in
-    (ap (λ (x : ℕ). sized n.at x) b.0 ∙ ap (λ (x : ℕ). sized x m.value) b.1, has_same signs.CloseBracket h.1 g.1 rest end b.2 h.4 g.4)
+    (ap (λ (x : ℕ). sized n.at x) b.0 ∙ ap (λ (x : ℕ). sized x m.value) b.1, has_same punctuators.CloseBracket h.1 g.1 rest end b.2 h.4 g.4)
 
 pub length_stops : (i : Option Length) (ts rest : List Token) → Stops 1 rest → IsLength i ts rest → Stops 0 ts
 length_stops None ts rest s h = let a = ap follows h in omega arith
-length_stops (Some n) ts rest s h = has_stops signs.OpenBracket ts h.0 0 h.2 (omega arith)
+length_stops (Some n) ts rest s h = has_stops punctuators.OpenBracket ts h.0 0 h.2 (omega arith)
 
-abbrev make : ℕ → Name → Option Length → Option Initialiser → Global
+abbrev make : ℕ → Identifier → Option Length → Option Initialiser → Global
 make n name l i = record { pointers = n; name = name; length = l; initialiser = i }
 
 pub global_once : (k m : Global) (ts us rest end : List Token) → ts ≡ us → Stops 15 rest → Stops 15 end → IsGlobal k ts rest → IsGlobal m us end → (k ≡ m) × (rest ≡ end)
@@ -139,18 +139,18 @@ global_once k m ts us rest end p s z h g =
     let b = name_same k.name m.name h.0 g.0 h.1 g.1 a.1 h.4 g.4 in
     let c = length_once k.length m.length h.1 g.1 h.2 g.2 b.1 (initialiser_stops k.initialiser h.2 rest s h.6) (initialiser_stops m.initialiser g.2 end z g.6) h.5 g.5 in
     let d = initialiser_once k.initialiser m.initialiser h.2 g.2 rest end c.1 s z h.6 g.6 in
-    (ap (λ (x : ℕ). make x k.name k.length k.initialiser) a.0 ∙ ap (λ (x : Name). make m.pointers x k.length k.initialiser) b.0 ∙ ap (λ (x : Option Length). make m.pointers m.name x k.initialiser) c.0 ∙ ap (λ (x : Option Initialiser). make m.pointers m.name m.length x) d.0, d.1)
+    (ap (λ (x : ℕ). make x k.name k.length k.initialiser) a.0 ∙ ap (λ (x : Identifier). make m.pointers x k.length k.initialiser) b.0 ∙ ap (λ (x : Option Length). make m.pointers m.name x k.initialiser) c.0 ∙ ap (λ (x : Option Initialiser). make m.pointers m.name m.length x) d.0, d.1)
 
 pub globals_stop : (gs : List Global) (ts rest : List Token) → AreMoreGlobals gs ts rest → Stops 15 ts
-globals_stop [] ts rest h = has_stops signs.Semicolon ts rest 15 h (omega arith)
-globals_stop (k ∷ gs) ts rest h = has_stops signs.Comma ts h.0 15 h.2 (omega arith)
+globals_stop [] ts rest h = has_stops punctuators.Semicolon ts rest 15 h (omega arith)
+globals_stop (k ∷ gs) ts rest h = has_stops punctuators.Comma ts h.0 15 h.2 (omega arith)
 
 more_globals : (ks ms : List Global) (ts us rest end : List Token) → ts ≡ us → AreMoreGlobals ks ts rest → AreMoreGlobals ms us end → (ks ≡ ms) × (rest ≡ end)
-more_globals [] [] ts us rest end p h g = (refl, has_same signs.Semicolon ts us rest end p h g)
-more_globals [] (m ∷ ms) ts us rest end p h g = let e : signs.Semicolon ≡ signs.Comma = other_sign signs.Semicolon signs.Comma ts us rest g.0 p h g.2 in absurd cc
-more_globals (k ∷ ks) [] ts us rest end p h g = let e : signs.Comma ≡ signs.Semicolon = other_sign signs.Comma signs.Semicolon ts us h.0 end p h.2 g in absurd cc
+more_globals [] [] ts us rest end p h g = (refl, has_same punctuators.Semicolon ts us rest end p h g)
+more_globals [] (m ∷ ms) ts us rest end p h g = let e : punctuators.Semicolon ≡ punctuators.Comma = other_punctuator punctuators.Semicolon punctuators.Comma ts us rest g.0 p h g.2 in absurd cc
+more_globals (k ∷ ks) [] ts us rest end p h g = let e : punctuators.Comma ≡ punctuators.Semicolon = other_punctuator punctuators.Comma punctuators.Semicolon ts us h.0 end p h.2 g in absurd cc
 more_globals (k ∷ ks) (m ∷ ms) ts us rest end p h g =
-    let a = has_same signs.Comma ts us h.0 g.0 p h.2 g.2 in
+    let a = has_same punctuators.Comma ts us h.0 g.0 p h.2 g.2 in
     let b = global_once k m h.0 g.0 h.1 g.1 a (globals_stop ks h.1 rest h.4) (globals_stop ms g.1 end g.4) h.3 g.3 in
     let c = more_globals ks ms h.1 g.1 rest end b.1 h.4 g.4 in
     (ap (λ (x : Global). x ∷ ks) b.0 ∙ ap (λ (x : List Global). m ∷ x) c.0, c.1)
@@ -169,21 +169,21 @@ globals_type (k ∷ gs) ts rest h = stars_front k.pointers ts h.1.0 (name_type k
 
 -- ---- parameters
 
-abbrev parameter : CType → Name → Parameter
+abbrev parameter : CType → Identifier → Parameter
 parameter t name = record { «of» = t; name = name }
 
 pub parameter_once : (a b : Parameter) (ts us rest end : List Token) → ts ≡ us → IsParameter a ts rest → IsParameter b us end → (a ≡ b) × (rest ≡ end)
 parameter_once a b ts us rest end p h g =
     let t = type_once a.«of» b.«of» ts us h.0 g.0 p (name_type a.name h.0 rest h.2) (name_type b.name g.0 end g.2) (name_star a.name h.0 rest h.2) (name_star b.name g.0 end g.2) h.1 g.1 in
     let n = name_same a.name b.name h.0 g.0 rest end t.1 h.2 g.2 in
-    (ap (λ (x : CType). parameter x a.name) t.0 ∙ ap (λ (x : Name). parameter b.«of» x) n.0, n.1)
+    (ap (λ (x : CType). parameter x a.name) t.0 ∙ ap (λ (x : Identifier). parameter b.«of» x) n.0, n.1)
 
 more_parameters : (ks ms : List Parameter) (ts us rest end : List Token) → ts ≡ us → AreMoreParameters ks ts rest → AreMoreParameters ms us end → (ks ≡ ms) × (rest ≡ end)
-more_parameters [] [] ts us rest end p h g = (refl, has_same signs.CloseParenthesis ts us rest end p h g)
-more_parameters [] (m ∷ ms) ts us rest end p h g = let e : signs.CloseParenthesis ≡ signs.Comma = other_sign signs.CloseParenthesis signs.Comma ts us rest g.0 p h g.2 in absurd cc
-more_parameters (k ∷ ks) [] ts us rest end p h g = let e : signs.Comma ≡ signs.CloseParenthesis = other_sign signs.Comma signs.CloseParenthesis ts us h.0 end p h.2 g in absurd cc
+more_parameters [] [] ts us rest end p h g = (refl, has_same punctuators.CloseParenthesis ts us rest end p h g)
+more_parameters [] (m ∷ ms) ts us rest end p h g = let e : punctuators.CloseParenthesis ≡ punctuators.Comma = other_punctuator punctuators.CloseParenthesis punctuators.Comma ts us rest g.0 p h g.2 in absurd cc
+more_parameters (k ∷ ks) [] ts us rest end p h g = let e : punctuators.Comma ≡ punctuators.CloseParenthesis = other_punctuator punctuators.Comma punctuators.CloseParenthesis ts us h.0 end p h.2 g in absurd cc
 more_parameters (k ∷ ks) (m ∷ ms) ts us rest end p h g =
-    let a = has_same signs.Comma ts us h.0 g.0 p h.2 g.2 in
+    let a = has_same punctuators.Comma ts us h.0 g.0 p h.2 g.2 in
     let b = parameter_once k m h.0 g.0 h.1 g.1 a h.3 g.3 in
     let c = more_parameters ks ms h.1 g.1 rest end b.1 h.4 g.4 in
     (ap (λ (x : Parameter). x ∷ ks) b.0 ∙ ap (λ (x : List Parameter). m ∷ x) c.0, c.1)
@@ -195,80 +195,80 @@ abbrev void : CType
 void = record { base = bases.Void; pointers = 0 }
 
 -- `void` before the parenthesis is no type of a parameter
-pub void_not : (k : Parameter) (ts us a rest end : List Token) → ts ≡ us → HasKeyword keywords.Void ts a → HasSign signs.CloseParenthesis a rest → IsParameter k us end → ⊥
+pub void_not : (k : Parameter) (ts us a rest end : List Token) → ts ≡ us → HasKeyword keywords.Void ts a → HasPunctuator punctuators.CloseParenthesis a rest → IsParameter k us end → ⊥
 void_not k ts us a rest end p h s g =
     let t = type_once void k.«of» ts us a g.0 p (close_type a rest s) (name_type k.name g.0 end g.2) (close_star a rest s) (name_star k.name g.0 end g.2) (a, inl (a, h, refl), refl) g.1 in
-    let x = has_front signs.CloseParenthesis a rest s in
+    let x = has_front punctuators.CloseParenthesis a rest s in
     let y = ap front g.2 in
     let z = ap front t.1 in absurd (omega arith)
 
-pub void_close : (ts us a end : List Token) → ts ≡ us → HasKeyword keywords.Void ts a → HasSign signs.CloseParenthesis us end → ⊥
-void_close ts us a end p h g = let x = has_front signs.CloseParenthesis us end g in let y = ap front h.1.1 in let z = ap front p in absurd (omega arith)
+pub void_close : (ts us a end : List Token) → ts ≡ us → HasKeyword keywords.Void ts a → HasPunctuator punctuators.CloseParenthesis us end → ⊥
+void_close ts us a end p h g = let x = has_front punctuators.CloseParenthesis us end g in let y = ap front h.1.1 in let z = ap front p in absurd (omega arith)
 
 pub parameters : (ks ms : List Parameter) (ts us rest end : List Token) → ts ≡ us → AreParameters ks ts rest → AreParameters ms us end → (ks ≡ ms) × (rest ≡ end)
-parameters [] [] ts us rest end p (inl h) (inl g) = (refl, has_same signs.CloseParenthesis ts us rest end p h g)
+parameters [] [] ts us rest end p (inl h) (inl g) = (refl, has_same punctuators.CloseParenthesis ts us rest end p h g)
 parameters [] [] ts us rest end p (inl h) (inr g) = absurd (void_close us ts g.0 rest (sym p) g.1 h)
 parameters [] [] ts us rest end p (inr h) (inl g) = absurd (void_close ts us h.0 end p h.1 g)
 parameters [] [] ts us rest end p (inr h) (inr g) =
     let a = kind_same (kinds.Keyword keywords.Void) (kinds.Keyword keywords.Void) h.1.0 g.1.0 ts us h.0 g.0 p h.1.1 g.1.1 in
-    (refl, has_same signs.CloseParenthesis h.0 g.0 rest end a.2 h.2 g.2)
+    (refl, has_same punctuators.CloseParenthesis h.0 g.0 rest end a.2 h.2 g.2)
 parameters [] (m ∷ ms) ts us rest end p (inl h) g =
-    let a = has_front signs.CloseParenthesis ts rest h in let b = parameter_front m us g.0 g.1 in let c = ap front p in absurd (omega arith)
+    let a = has_front punctuators.CloseParenthesis ts rest h in let b = parameter_front m us g.0 g.1 in let c = ap front p in absurd (omega arith)
 parameters [] (m ∷ ms) ts us rest end p (inr h) g = absurd (void_not m ts us h.0 rest g.0 p h.1 h.2 g.1)
 parameters (k ∷ ks) [] ts us rest end p h (inl g) =
-    let a = has_front signs.CloseParenthesis us end g in let b = parameter_front k ts h.0 h.1 in let c = ap front p in absurd (omega arith)
+    let a = has_front punctuators.CloseParenthesis us end g in let b = parameter_front k ts h.0 h.1 in let c = ap front p in absurd (omega arith)
 parameters (k ∷ ks) [] ts us rest end p h (inr g) = absurd (void_not k us ts g.0 end h.0 (sym p) g.1 g.2 h.1)
 parameters (k ∷ ks) (m ∷ ms) ts us rest end p h g =
     let b = parameter_once k m ts us h.0 g.0 p h.1 g.1 in
     let c = more_parameters ks ms h.0 g.0 rest end b.1 h.2 g.2 in
     (ap (λ (x : Parameter). x ∷ ks) b.0 ∙ ap (λ (x : List Parameter). m ∷ x) c.0, c.1)
 
--- ---- externals
+-- ---- external_declarations
 
--- behind the name of a global stands no parenthesis
-pub open_not : (gs : List Global) (t : CType) (name : Name) (ts us a b c rest : List Token) → ts ≡ us → AreGlobals gs ts rest → AreStars t.pointers us a → IsName name a b → HasSign signs.OpenParenthesis b c → ⊥
+-- after the name of a global is no parenthesis
+pub open_not : (gs : List Global) (t : CType) (name : Identifier) (ts us a b c rest : List Token) → ts ≡ us → AreGlobals gs ts rest → AreStars t.pointers us a → IsIdentifier name a b → HasPunctuator punctuators.OpenParenthesis b c → ⊥
 open_not [] t name ts us a b c rest p h x n s = absurd h
 open_not (k ∷ gs) t name ts us a b c rest p h x n s =
     let g = h.1 in
     let d = stars_once k.pointers t.pointers ts us g.0 a p (name_star k.name g.0 g.1 g.4) (name_star name a b n) g.3 x in
     let e = name_same k.name name g.0 a g.1 b d.1 g.4 n in
     let f = length_stops k.length g.1 g.2 (initialiser_stops k.initialiser g.2 h.0 (globals_stop gs h.0 rest h.2) g.6) g.5 in
-    let o = follows_sign signs.OpenParenthesis s.0 b c 0 s.1 refl in
+    let o = follows_punctuator punctuators.OpenParenthesis s.0 b c 0 s.1 refl in
     let q = ap follows e.1 in absurd (omega arith)
 
-pub apart : (base : Base) (gs : List Global) (t : CType) (name : Name) (ts us a b c rest : List Token) → ts ≡ us → (m : List Token) × IsBase base ts m × AreGlobals gs m rest → IsType t us a → IsName name a b → HasSign signs.OpenParenthesis b c → ⊥
+pub apart : (base : Base) (gs : List Global) (t : CType) (name : Identifier) (ts us a b c rest : List Token) → ts ≡ us → (m : List Token) × IsBase base ts m × AreGlobals gs m rest → IsType t us a → IsIdentifier name a b → HasPunctuator punctuators.OpenParenthesis b c → ⊥
 apart base gs t name ts us a b c rest p h x n s =
     let d = base_once base t.base ts us h.0 x.0 p (globals_type gs h.0 rest h.2) (stars_front t.pointers x.0 a (name_type name a b n) x.2) h.1 x.1 in
     open_not gs t name h.0 x.0 a b c rest d.1 h.2 x.2 n s
 
-pub external_once : (text : List ℕ) (x y : External) (ts us rest end : List Token) → ts ≡ us → IsExternal text x ts rest → IsExternal text y us end → (x ≡ y) × (rest ≡ end)
-external_once text (Globals b ks) (Globals d ms) ts us rest end p h g =
+pub external_declaration_once : (text : List ℕ) (x y : ExternalDeclaration) (ts us rest end : List Token) → ts ≡ us → IsExternalDeclaration text x ts rest → IsExternalDeclaration text y us end → (x ≡ y) × (rest ≡ end)
+external_declaration_once text (Globals b ks) (Globals d ms) ts us rest end p h g =
     let a = base_once b d ts us h.0 g.0 p (globals_type ks h.0 rest h.2) (globals_type ms g.0 end g.2) h.1 g.1 in
     let c = globals ks ms h.0 g.0 rest end a.1 h.2 g.2 in
     (ap (λ (v : Base). Globals v ks) a.0 ∙ ap (λ (v : List Global). Globals d v) c.0, c.1)
-external_once text (Globals b ks) (Function t name ps body) ts us rest end p h g = absurd (apart b ks t name ts us g.0 g.1 g.2 rest p h g.5 g.6 g.7)
-external_once text (Function t name ps body) (Globals d ms) ts us rest end p h g = absurd (apart d ms t name us ts h.0 h.1 h.2 end (sym p) g h.5 h.6 h.7)
-external_once text (Function t name ps body) (Function t' name' ps' body') ts us rest end p h g =
+external_declaration_once text (Globals b ks) (Function t name ps body) ts us rest end p h g = absurd (apart b ks t name ts us g.0 g.1 g.2 rest p h g.5 g.6 g.7)
+external_declaration_once text (Function t name ps body) (Globals d ms) ts us rest end p h g = absurd (apart d ms t name us ts h.0 h.1 h.2 end (sym p) g h.5 h.6 h.7)
+external_declaration_once text (Function t name ps body) (Function t' name' ps' body') ts us rest end p h g =
     let a = type_once t t' ts us h.0 g.0 p (name_type name h.0 h.1 h.6) (name_type name' g.0 g.1 g.6) (name_star name h.0 h.1 h.6) (name_star name' g.0 g.1 g.6) h.5 g.5 in
     let b = name_same name name' h.0 g.0 h.1 g.1 a.1 h.6 g.6 in
-    let c = has_same signs.OpenParenthesis h.1 g.1 h.2 g.2 b.1 h.7 g.7 in
+    let c = has_same punctuators.OpenParenthesis h.1 g.1 h.2 g.2 b.1 h.7 g.7 in
     let d = parameters ps ps' h.2 g.2 h.3 g.3 c h.8 g.8 in
-    let e = has_same signs.OpenBrace h.3 g.3 h.4 g.4 d.1 h.9 g.9 in
+    let e = has_same punctuators.OpenBrace h.3 g.3 h.4 g.4 d.1 h.9 g.9 in
     let f = same_items text body body' h.4 g.4 rest end e h.10 g.10 in
-    (ap (λ (v : CType). Function v name ps body) a.0 ∙ ap (λ (v : Name). Function t' v ps body) b.0 ∙ ap (λ (v : List Parameter). Function t' name' v body) d.0 ∙ ap (λ (v : Statements). Function t' name' ps' v) f.0, f.1)
+    (ap (λ (v : CType). Function v name ps body) a.0 ∙ ap (λ (v : Identifier). Function t' v ps body) b.0 ∙ ap (λ (v : List Parameter). Function t' name' v body) d.0 ∙ ap (λ (v : Statements). Function t' name' ps' v) f.0, f.1)
 
-pub external_front : (text : List ℕ) (x : External) (ts rest : List Token) → IsExternal text x ts rest → front ts ≡ 7
-external_front text (Globals b ks) ts rest h = base_front b ts h.0 h.1
-external_front text (Function t name ps body) ts rest h = base_front t.base ts h.5.0 h.5.1
+pub external_declaration_front : (text : List ℕ) (x : ExternalDeclaration) (ts rest : List Token) → IsExternalDeclaration text x ts rest → front ts ≡ 7
+external_declaration_front text (Globals b ks) ts rest h = base_front b ts h.0 h.1
+external_declaration_front text (Function t name ps body) ts rest h = base_front t.base ts h.5.0 h.5.1
 
-pub program_once : (text : List ℕ) (xs ys : List External) (ts us : List Token) → ts ≡ us → IsProgram text xs ts → IsProgram text ys us → xs ≡ ys
+pub program_once : (text : List ℕ) (xs ys : List ExternalDeclaration) (ts us : List Token) → ts ≡ us → IsProgram text xs ts → IsProgram text ys us → xs ≡ ys
 program_once text [] [] ts us p h g = refl
-program_once text [] (y ∷ ys) ts us p h g = let a = external_front text y us g.0 g.1 in let b = ap front p in let c = ap front h in absurd (omega arith)
-program_once text (x ∷ xs) [] ts us p h g = let a = external_front text x ts h.0 h.1 in let b = ap front p in let c = ap front g in absurd (omega arith)
+program_once text [] (y ∷ ys) ts us p h g = let a = external_declaration_front text y us g.0 g.1 in let b = ap front p in let c = ap front h in absurd (omega arith)
+program_once text (x ∷ xs) [] ts us p h g = let a = external_declaration_front text x ts h.0 h.1 in let b = ap front p in let c = ap front g in absurd (omega arith)
 program_once text (x ∷ xs) (y ∷ ys) ts us p h g =
-    let a = external_once text x y ts us h.0 g.0 p h.1 g.1 in
+    let a = external_declaration_once text x y ts us h.0 g.0 p h.1 g.1 in
     let b = program_once text xs ys h.0 g.0 a.1 h.2 g.2 in
-    ap (λ (v : External). v ∷ xs) a.0 ∙ ap (λ (v : List External). y ∷ v) b
+    ap (λ (v : ExternalDeclaration). v ∷ xs) a.0 ∙ ap (λ (v : List ExternalDeclaration). y ∷ v) b
 
 pub one_program : OneProgram
 one_program text xs ys h g = program_once text xs ys h.0 g.0 (tokens_once text h.0 g.0 h.1 g.1) h.2 g.2

@@ -3,13 +3,13 @@ use Rattle.std.proofs.Common.{◌≡◌, ◌≤◌, ◌<◌, ℕ, zero, suc, Lis
 use Rattle.c_lex.specs.declared.token.Token.{Token}
 use Rattle.c_syntax.specs.Faults.{place}
 use Rattle.c_syntax.specs.Limits.{Within, EachWithin}
-use Rattle.c_syntax.specs.Program.{External, Globals, Function}
+use Rattle.c_syntax.specs.Program.{ExternalDeclaration, Globals, Function}
 use Rattle.c_syntax.specs.Programs.{IsProgram}
-use Rattle.c_syntax.specs.Viable.{EachWithinFirst, WithinFirst, Viable, GoesOn, IsFault, OneFirstFault, NoFaultInProgram}
+use Rattle.c_syntax.specs.Viable.{EachWithinFirst, WithinFirst, Viable, Continues, IsSyntaxFault, OneFirstFault, NoFaultInProgram}
 
 -- ---- fewer limits
 
-each_fewer : (n m : ℕ) (xs : List External) → ((k : ℕ) → k ≤ 6 → k ≤ m → k ≤ n) → EachWithinFirst n xs → EachWithinFirst m xs
+each_fewer : (n m : ℕ) (xs : List ExternalDeclaration) → ((k : ℕ) → k ≤ 6 → k ≤ m → k ≤ n) → EachWithinFirst n xs → EachWithinFirst m xs
 each_fewer n m [] f h = tt
 each_fewer n m (Globals base gs ∷ xs) f h = each_fewer n m xs f h
 each_fewer n m (Function returns name ps body ∷ xs) f h = (
@@ -17,7 +17,7 @@ each_fewer n m (Function returns name ps body ∷ xs) f h = (
   each_fewer n m xs f h.1,
 )
 
-fewer : (n m : ℕ) (text : List ℕ) (xs : List External) → ((k : ℕ) → k ≤ 6 → k ≤ m → k ≤ n) → WithinFirst n text xs → WithinFirst m text xs
+fewer : (n m : ℕ) (text : List ℕ) (xs : List ExternalDeclaration) → ((k : ℕ) → k ≤ 6 → k ≤ m → k ≤ n) → WithinFirst n text xs → WithinFirst m text xs
 fewer n m text xs f h = record {
   each = each_fewer n m xs f h.each;
   functions = λ k. h.functions (f 4 (omega arith) k);
@@ -25,33 +25,33 @@ fewer n m text xs f h = record {
   numbered = λ k. h.numbered (f 6 (omega arith) k);
 }
 
-goes_on_fewer : (n m : ℕ) (text : List ℕ) (front fault : List Token) → ((k : ℕ) → k ≤ 6 → k ≤ m → k ≤ n) → GoesOn n text front fault → GoesOn m text front fault
+goes_on_fewer : (n m : ℕ) (text : List ℕ) (front fault : List Token) → ((k : ℕ) → k ≤ 6 → k ≤ m → k ≤ n) → Continues n text front fault → Continues m text front fault
 goes_on_fewer n m text front [] f h = (h.0, h.1, fewer n m text h.0 f h.2)
 goes_on_fewer n m text front (t ∷ fault) f h = (h.0, h.1, h.2, h.3, fewer n m (text ++ h.0) h.2 f h.4)
 
 -- ---- all limits
 
-each_within : (xs : List External) → EachWithin xs → EachWithinFirst 6 xs
+each_within : (xs : List ExternalDeclaration) → EachWithin xs → EachWithinFirst 6 xs
 each_within [] h = tt
 each_within (Globals base gs ∷ xs) h = each_within xs h
 each_within (Function returns name ps body ∷ xs) h =
     (record { statements = λ k. h.0.statements; expressions = λ k. h.0.expressions; locals = λ k. h.0.locals; parameters = λ k. h.0.parameters }, each_within xs h.1)
 
-pub within_first : (text : List ℕ) (xs : List External) → Within text xs → WithinFirst 6 text xs
+pub within_first : (text : List ℕ) (xs : List ExternalDeclaration) → Within text xs → WithinFirst 6 text xs
 within_first text xs h = record { each = each_within xs h.each; functions = λ k. h.functions; bytes = λ k. h.bytes; numbered = λ k. h.numbered }
 
-each_whole : (xs : List External) → EachWithinFirst 6 xs → EachWithin xs
+each_whole : (xs : List ExternalDeclaration) → EachWithinFirst 6 xs → EachWithin xs
 each_whole [] h = tt
 each_whole (Globals base gs ∷ xs) h = each_whole xs h
 each_whole (Function returns name ps body ∷ xs) h =
     (record { parameters = h.0.parameters (omega arith); locals = h.0.locals (omega arith); statements = h.0.statements (omega arith); expressions = h.0.expressions (omega arith) }, each_whole xs h.1)
 
-pub within_whole : (text : List ℕ) (xs : List External) → WithinFirst 6 text xs → Within text xs
+pub within_whole : (text : List ℕ) (xs : List ExternalDeclaration) → WithinFirst 6 text xs → Within text xs
 within_whole text xs h = record { each = each_whole xs h.each; functions = h.functions (omega arith); bytes = h.bytes (omega arith); numbered = h.numbered (omega arith) }
 
 -- ---- one first fault
 
--- of two cuts of a list the first part of one goes on to that of the other
+-- of two cuts of a list the first part of one continues to that of the other
 record Longer (front fault front' : List Token) : Type 0 where
   token : Token
   rest : List Token
@@ -62,31 +62,31 @@ record Longer (front fault front' : List Token) : Type 0 where
 data Cuts (front fault front' fault' : List Token) : Type 0 where
   same : front ≡ front' → fault ≡ fault' → Cuts front fault front' fault'
   before : Longer front fault front' → Cuts front fault front' fault'
-  behind : Longer front' fault' front → Cuts front fault front' fault'
+  following : Longer front' fault' front → Cuts front fault front' fault'
 
 further : (t : Token) (front fault front' fault' : List Token) → Cuts front fault front' fault' → Cuts (t ∷ front) fault (t ∷ front') fault'
 further t front fault front' fault' (same p q) = same (ap (λ z. t ∷ z) p) q
 further t front fault front' fault' (before l) = before (record { token = l.token; rest = l.rest; more = l.more; is = l.is; longer = ap (λ z. t ∷ z) l.longer })
-further t front fault front' fault' (behind l) = behind (record { token = l.token; rest = l.rest; more = l.more; is = l.is; longer = ap (λ z. t ∷ z) l.longer })
+further t front fault front' fault' (following l) = following (record { token = l.token; rest = l.rest; more = l.more; is = l.is; longer = ap (λ z. t ∷ z) l.longer })
 
 cuts : (front fault front' fault' : List Token) → front ++ fault ≡ front' ++ fault' → Cuts front fault front' fault'
 cuts [] fault [] fault' e = same refl e
 cuts [] fault (t ∷ front') fault' e = before (record { token = t; rest = front' ++ fault'; more = front'; is = e; longer = refl })
-cuts (t ∷ front) fault [] fault' e = behind (record { token = t; rest = front ++ fault; more = front; is = sym e; longer = refl })
+cuts (t ∷ front) fault [] fault' e = following (record { token = t; rest = front ++ fault; more = front; is = sym e; longer = refl })
 cuts (t ∷ front) fault (t' ∷ front') fault' e =
     let p : t ≡ t' = cc in
     let q : front ++ fault ≡ front' ++ fault' = cc in
     subst (λ z. Cuts (t ∷ front) fault (z ∷ front') fault') p (further t front fault front' fault' (cuts front fault front' fault' q))
 
-goes_to : (n : ℕ) (text : List ℕ) (front fault front' : List Token) → Longer front fault front' → Viable 6 text front' → GoesOn n text front fault
+goes_to : (n : ℕ) (text : List ℕ) (front fault front' : List Token) → Longer front fault front' → Viable 6 text front' → Continues n text front fault
 goes_to n text front fault front' l v =
     let e : front' ++ v.1 ≡ (front ++ l.token ∷ []) ++ (l.more ++ v.1) =
     ap (λ z. z ++ v.1) l.longer ∙ append_assoc front (l.token ∷ l.more) v.1 ∙ sym (append_assoc front (l.token ∷ []) (l.more ++ v.1)) in
-    subst (λ z. GoesOn n text front z) (sym l.is)
+    subst (λ z. Continues n text front z) (sym l.is)
     (v.0, l.more ++ v.1, v.2, subst (λ z. IsProgram (text ++ v.0) v.2 z) e v.3, fewer 6 n (text ++ v.0) v.2 (λ k a b. a) v.4)
 
 -- the limits before one are fewer
-order : (n m : ℕ) (text : List ℕ) (front fault : List Token) → n < m → (GoesOn n text front fault → ⊥) → ((k : ℕ) → m ≡ suc k → GoesOn k text front fault) → ⊥
+order : (n m : ℕ) (text : List ℕ) (front fault : List Token) → n < m → (Continues n text front fault → ⊥) → ((k : ℕ) → m ≡ suc k → Continues k text front fault) → ⊥
 order n zero text front fault l s f = absurd (omega arith)
 order n (suc m) text front fault l s f = s (goes_on_fewer m n text front fault (λ k a b. omega arith) (f m refl))
 
@@ -96,20 +96,20 @@ neither zero (suc m) g h = absurd (g (omega arith))
 neither (suc n) zero g h = absurd (h (omega arith))
 neither (suc n) (suc m) g h = ap suc (neither n m (λ l. g (omega arith)) (λ l. h (omega arith)))
 
-at_same : (text : List ℕ) (ts : List Token) (n m at to : ℕ) (x : IsFault n at text ts) (y : IsFault m to text ts) → Cuts x.front x.fault y.front y.fault → (n ≡ m) × (at ≡ to)
+at_same : (text : List ℕ) (ts : List Token) (n m at to : ℕ) (x : IsSyntaxFault n at text ts) (y : IsSyntaxFault m to text ts) → Cuts x.front x.fault y.front y.fault → (n ≡ m) × (at ≡ to)
 at_same text ts n m at to x y (same p q) =
-    let g : (n < m → ⊥) = λ l. order n m text x.front x.fault l x.stops (λ k e. subst (λ z. GoesOn k text z x.fault) (sym p) (subst (λ z. GoesOn k text y.front z) (sym q) (y.fewer k e))) in
-    let h : (m < n → ⊥) = λ l. order m n text y.front y.fault l y.stops (λ k e. subst (λ z. GoesOn k text z y.fault) p (subst (λ z. GoesOn k text x.front z) q (x.fewer k e))) in
-    (neither n m g h, x.stands ∙ ap (place text) q ∙ sym y.stands)
+    let g : (n < m → ⊥) = λ l. order n m text x.front x.fault l x.stops (λ k e. subst (λ z. Continues k text z x.fault) (sym p) (subst (λ z. Continues k text y.front z) (sym q) (y.fewer k e))) in
+    let h : (m < n → ⊥) = λ l. order m n text y.front y.fault l y.stops (λ k e. subst (λ z. Continues k text z y.fault) p (subst (λ z. Continues k text x.front z) q (x.fewer k e))) in
+    (neither n m g h, x.located ∙ ap (place text) q ∙ sym y.located)
 at_same text ts n m at to x y (before l) = absurd (x.stops (goes_to n text x.front x.fault y.front l y.viable))
-at_same text ts n m at to x y (behind l) = absurd (y.stops (goes_to m text y.front y.fault x.front l x.viable))
+at_same text ts n m at to x y (following l) = absurd (y.stops (goes_to m text y.front y.fault x.front l x.viable))
 
 pub one_first_fault : OneFirstFault
 one_first_fault text ts n m at to x y = at_same text ts n m at to x y (cuts x.front x.fault y.front y.fault (sym x.split ∙ y.split))
 
 -- ---- no fault in a program
 
-whole_goes : (n : ℕ) (text : List ℕ) (front fault : List Token) (xs : List External) → IsProgram text xs (front ++ fault) → WithinFirst n text xs → GoesOn n text front fault
+whole_goes : (n : ℕ) (text : List ℕ) (front fault : List Token) (xs : List ExternalDeclaration) → IsProgram text xs (front ++ fault) → WithinFirst n text xs → Continues n text front fault
 whole_goes n text front [] xs h w = (xs, subst (λ z. IsProgram text xs z) (append-nil front) h, w)
 whole_goes n text front (t ∷ fault) xs h w =
     let e : text ≡ text ++ [] = sym (append-nil text) in

@@ -1,22 +1,22 @@
--- What the first token of tokens tells holds of all tokens that begin with it.
+-- What the first token of tokens names holds of all tokens that begin with it.
 use Rattle.std.proofs.Common.{◌≡◌, ◌<◌, ℕ, List, [], ◌∷◌, refl, sym, ap, ◌∙◌, subst, arith, inl, inr}
 use Rattle.c_lex.specs.declared.keyword.Keyword.{Keyword}
 use Rattle.c_lex.specs.declared.keyword.Keyword.TheVariants as keywords
-use Rattle.c_lex.specs.declared.sign.Sign.{Sign}
+use Rattle.c_lex.specs.declared.punctuator.Punctuator.{Punctuator}
 use Rattle.c_lex.specs.declared.token.Kind.{Kind}
 use Rattle.c_lex.specs.declared.token.Kind.TheVariants as kinds
 use Rattle.c_lex.specs.declared.token.Token.{Token}
 use Rattle.c_syntax.specs.declared.expression.Base.{Base}
 use Rattle.c_syntax.specs.declared.expression.Base.TheVariants as bases
 use Rattle.c_syntax.specs.declared.expression.Literal.{Literal}
-use Rattle.c_syntax.specs.declared.expression.Name.{Name}
+use Rattle.c_syntax.specs.declared.expression.Identifier.{Identifier}
 use Rattle.c_syntax.specs.Expression.{Expression, Constant, Variable, Information, Call, Parentheses, Index, Postfix, Prefix, Unary, Cast, Binary, Conditional, Assign, Comma}
 use Rattle.c_syntax.specs.Expressions.{literal_kind, IsInteger}
 use Rattle.c_syntax.specs.Faults.{Alike, SameFirst}
 use Rattle.c_syntax.specs.Follow.{follows, Stops, NoElse, Closed}
 use Rattle.c_syntax.specs.Statement.{Statement}
 use Rattle.c_syntax.specs.Steps.{Closes}
-use Rattle.c_syntax.specs.Tokens.{token, IsKind, IsName, HasSign, HasKeyword, HasWord}
+use Rattle.c_syntax.specs.Tokens.{token, IsKind, IsIdentifier, HasPunctuator, HasKeyword, HasWord}
 use Rattle.c_syntax.specs.Types.{spellings, AreKeywords, IsBase}
 use Rattle.c_syntax.proofs.Blocks.{begins}
 use Rattle.c_syntax.proofs.Failing.{first_keeps}
@@ -78,18 +78,18 @@ closes e ts other s h = first_keeps (λ z. Closes e z) (closes_too e) ts other s
 pub no_kind : (k : Kind) (ts other : List Token) → SameFirst ts other → ((at : ℕ) (end : List Token) → IsKind k at ts end → ⊥) → (at : ℕ) (end : List Token) → IsKind k at other end → ⊥
 no_kind k ts other s none at end h = let q = first_token (token k at h.0) end ts other s h.1 in none at q.0 (h.0, q.1)
 
--- a token of a kind, wherever it stands
+-- a token of a kind, wherever it is
 pub no_kind_anywhere : (k : Kind) (ts other : List Token) → SameFirst ts other → ((end : List Token) → (at : ℕ) × IsKind k at ts end → ⊥) → (end : List Token) → (at : ℕ) × IsKind k at other end → ⊥
 no_kind_anywhere k ts other s none end h = no_kind k ts other s (λ at to g. none to (at, g)) h.0 end h.1
 
-pub no_sign : (s : Sign) (ts other : List Token) → SameFirst ts other → ((end : List Token) → HasSign s ts end → ⊥) → (end : List Token) → HasSign s other end → ⊥
-no_sign s ts other f none end h = no_kind_anywhere (kinds.Sign s) ts other f none end h
+pub no_punctuator : (s : Punctuator) (ts other : List Token) → SameFirst ts other → ((end : List Token) → HasPunctuator s ts end → ⊥) → (end : List Token) → HasPunctuator s other end → ⊥
+no_punctuator s ts other f none end h = no_kind_anywhere (kinds.Punctuator s) ts other f none end h
 
 pub no_keyword : (k : Keyword) (ts other : List Token) → SameFirst ts other → ((end : List Token) → HasKeyword k ts end → ⊥) → (end : List Token) → HasKeyword k other end → ⊥
 no_keyword k ts other s none end h = no_kind_anywhere (kinds.Keyword k) ts other s none end h
 
-pub no_name : (ts other : List Token) → SameFirst ts other → ((n : Name) (end : List Token) → IsName n ts end → ⊥) → (n : Name) (end : List Token) → IsName n other end → ⊥
-no_name ts other s none n end h = let q = first_token (token kinds.Name n.start n.end) end ts other s h in none n q.0 q.1
+pub no_name : (ts other : List Token) → SameFirst ts other → ((n : Identifier) (end : List Token) → IsIdentifier n ts end → ⊥) → (n : Identifier) (end : List Token) → IsIdentifier n other end → ⊥
+no_name ts other s none n end h = let q = first_token (token kinds.Identifier n.start n.end) end ts other s h in none n q.0 q.1
 
 pub no_integer : (ts other : List Token) → SameFirst ts other → ((value at : ℕ) (end : List Token) → IsInteger value at ts end → ⊥) → (value at : ℕ) (end : List Token) → IsInteger value at other end → ⊥
 no_integer ts other s none value at end h = no_kind (kinds.Integer value h.0) ts other s (λ to mid g. none value to mid (h.0, g)) at end h.1
@@ -100,7 +100,7 @@ no_literal ts other s none l at end h = no_kind (literal_kind l) ts other s (non
 -- in a text that spells the tokens alike
 pub no_word : (word text text' : List ℕ) (ts other : List Token) → Alike text text' ts → SameFirst ts other → ((end : List Token) → HasWord text word ts end → ⊥) → (end : List Token) → HasWord text' word other end → ⊥
 no_word word text text' ts other a s none end h =
-    let q = first_token (token kinds.Name h.0.start h.0.end) end ts other s h.1 in
+    let q = first_token (token kinds.Identifier h.0.start h.0.end) end ts other s h.1 in
     none q.0 (h.0, q.1, (subst (λ z. Alike text text' z) q.1 a).0 ∙ h.2)
 
 pub no_else : (ts other : List Token) → SameFirst ts other → NoElse ts → NoElse other

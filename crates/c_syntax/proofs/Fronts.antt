@@ -2,8 +2,8 @@
 use Rattle.std.proofs.Common.{◌≡◌, ◌+◌, ℕ, zero, suc, cond, nat_eq, List, [], ◌∷◌, Option, Some, None, refl, sym, ap, ◌∙◌, arith, inl, inr}
 use Rattle.c_lex.specs.declared.keyword.Keyword.{Keyword}
 use Rattle.c_lex.specs.declared.keyword.Keyword.TheVariants as keywords
-use Rattle.c_lex.specs.declared.sign.Sign.{Sign}
-use Rattle.c_lex.specs.declared.sign.Sign.TheVariants as signs
+use Rattle.c_lex.specs.declared.punctuator.Punctuator.{Punctuator}
+use Rattle.c_lex.specs.declared.punctuator.Punctuator.TheVariants as punctuators
 use Rattle.c_lex.specs.declared.token.Kind.{Kind}
 use Rattle.c_lex.specs.declared.token.Kind.TheVariants as kinds
 use Rattle.c_lex.specs.declared.token.Token.{Token}
@@ -19,10 +19,10 @@ use Rattle.c_syntax.specs.declared.operator.Increment.TheVariants as increments
 use Rattle.c_syntax.specs.declared.expression.Base.{Base}
 use Rattle.c_syntax.specs.declared.expression.Base.TheVariants as bases
 use Rattle.c_syntax.specs.declared.expression.CType.{CType}
-use Rattle.c_syntax.specs.declared.expression.Name.{Name}
-use Rattle.c_syntax.specs.Operators.{binary_sign, unary_sign, increment_sign, assignment_sign}
-use Rattle.c_syntax.specs.SignReaders.{binary_of, assignment_of, unary_of, increment_of}
-use Rattle.c_syntax.specs.Tokens.{token, IsKind, IsSign, IsName, HasSign, HasKeyword}
+use Rattle.c_syntax.specs.declared.expression.Identifier.{Identifier}
+use Rattle.c_syntax.specs.Operators.{binary_punctuator, unary_punctuator, increment_punctuator, assignment_punctuator}
+use Rattle.c_syntax.specs.PunctuatorReaders.{binary_of, assignment_of, unary_of, increment_of}
+use Rattle.c_syntax.specs.Tokens.{token, IsKind, IsPunctuator, IsIdentifier, HasPunctuator, HasKeyword}
 use Rattle.c_syntax.specs.Types.{spellings, AreKeywords, IsOneOf, IsBase, AreStars, IsType}
 
 -- ---- one token
@@ -34,15 +34,15 @@ kind_same k j at to ts us rest end p h g =
     let r : rest ≡ end = cc in
     (ap (λ (x : Token). x.kind) t, ap (λ (x : Token). x.start) t, r)
 
-pub sign_same : (s z : Sign) (at to : ℕ) (ts us rest end : List Token) → ts ≡ us → IsSign s at ts rest → IsSign z to us end → (s ≡ z) × (at ≡ to) × (rest ≡ end)
-sign_same s z at to ts us rest end p h g =
-    let x = kind_same (kinds.Sign s) (kinds.Sign z) at to ts us rest end p h g in
-    let e : kinds.Sign s ≡ kinds.Sign z = x.0 in
+pub punctuator_same : (s z : Punctuator) (at to : ℕ) (ts us rest end : List Token) → ts ≡ us → IsPunctuator s at ts rest → IsPunctuator z to us end → (s ≡ z) × (at ≡ to) × (rest ≡ end)
+punctuator_same s z at to ts us rest end p h g =
+    let x = kind_same (kinds.Punctuator s) (kinds.Punctuator z) at to ts us rest end p h g in
+    let e : kinds.Punctuator s ≡ kinds.Punctuator z = x.0 in
     let f : s ≡ z = cc in
     (f, x.1, x.2)
 
-pub has_same : (s : Sign) (ts us rest end : List Token) → ts ≡ us → HasSign s ts rest → HasSign s us end → rest ≡ end
-has_same s ts us rest end p h g = (kind_same (kinds.Sign s) (kinds.Sign s) h.0 g.0 ts us rest end p h.1 g.1).2
+pub has_same : (s : Punctuator) (ts us rest end : List Token) → ts ≡ us → HasPunctuator s ts rest → HasPunctuator s us end → rest ≡ end
+has_same s ts us rest end p h g = (kind_same (kinds.Punctuator s) (kinds.Punctuator s) h.0 g.0 ts us rest end p h.1 g.1).2
 
 pub keyword_same : (k j : Keyword) (ts us rest end : List Token) → ts ≡ us → HasKeyword k ts rest → HasKeyword j us end → (k ≡ j) × (rest ≡ end)
 keyword_same k j ts us rest end p h g =
@@ -51,24 +51,24 @@ keyword_same k j ts us rest end p h g =
     let f : k ≡ j = cc in
     (f, x.2)
 
-abbrev named : ℕ → ℕ → Name
+abbrev named : ℕ → ℕ → Identifier
 named start end = record { start = start; end = end }
 
-pub name_same : (a b : Name) (ts us rest end : List Token) → ts ≡ us → IsName a ts rest → IsName b us end → (a ≡ b) × (rest ≡ end)
+pub name_same : (a b : Identifier) (ts us rest end : List Token) → ts ≡ us → IsIdentifier a ts rest → IsIdentifier b us end → (a ≡ b) × (rest ≡ end)
 name_same a b ts us rest end p h g =
-    let e : token kinds.Name a.start a.end ∷ rest ≡ token kinds.Name b.start b.end ∷ end = sym h ∙ p ∙ g in
-    let t : token kinds.Name a.start a.end ≡ token kinds.Name b.start b.end = cc in
+    let e : token kinds.Identifier a.start a.end ∷ rest ≡ token kinds.Identifier b.start b.end ∷ end = sym h ∙ p ∙ g in
+    let t : token kinds.Identifier a.start a.end ≡ token kinds.Identifier b.start b.end = cc in
     let r : rest ≡ end = cc in
     let q : a.start ≡ b.start = ap (λ (x : Token). x.start) t in
     let v : a.end ≡ b.end = ap (λ (x : Token). x.end) t in
     (ap (λ (n : ℕ). named n a.end) q ∙ ap (λ (n : ℕ). named b.start n) v, r)
 
--- ---- operators by their signs
+-- ---- operators by their punctuators
 
 some_same : {A : Type 0} (a b : A) (o : Option A) → o ≡ Some a → o ≡ Some b → a ≡ b
 some_same a b o p q = let e = sym p ∙ q in cc
 
-binary_again : (op : BinaryOperator) → binary_of (binary_sign op) ≡ Some op
+binary_again : (op : BinaryOperator) → binary_of (binary_punctuator op) ≡ Some op
 binary_again (binary.Arithmetic arithmetic.Multiply) = refl
 binary_again (binary.Arithmetic arithmetic.Divide) = refl
 binary_again (binary.Arithmetic arithmetic.Remainder) = refl
@@ -88,7 +88,7 @@ binary_again (binary.Comparison comparisons.NotEqual) = refl
 binary_again binary.LogicalAnd = refl
 binary_again binary.LogicalOr = refl
 
-assignment_again : (op : Option Arithmetic) → assignment_of (assignment_sign op) ≡ Some op
+assignment_again : (op : Option Arithmetic) → assignment_of (assignment_punctuator op) ≡ Some op
 assignment_again None = refl
 assignment_again (Some arithmetic.Multiply) = refl
 assignment_again (Some arithmetic.Divide) = refl
@@ -101,7 +101,7 @@ assignment_again (Some arithmetic.And) = refl
 assignment_again (Some arithmetic.ExclusiveOr) = refl
 assignment_again (Some arithmetic.Or) = refl
 
-unary_again : (op : UnaryOperator) → unary_of (unary_sign op) ≡ Some op
+unary_again : (op : UnaryOperator) → unary_of (unary_punctuator op) ≡ Some op
 unary_again unary_operators.Plus = refl
 unary_again unary_operators.Minus = refl
 unary_again unary_operators.LogicalNot = refl
@@ -109,21 +109,21 @@ unary_again unary_operators.Complement = refl
 unary_again unary_operators.Indirection = refl
 unary_again unary_operators.AddressOf = refl
 
-increment_again : (op : Increment) → increment_of (increment_sign op) ≡ Some op
+increment_again : (op : Increment) → increment_of (increment_punctuator op) ≡ Some op
 increment_again increments.Increment = refl
 increment_again increments.Decrement = refl
 
-pub same_binary : (a b : BinaryOperator) → binary_sign a ≡ binary_sign b → a ≡ b
-same_binary a b e = some_same a b (binary_of (binary_sign a)) (binary_again a) (ap binary_of e ∙ binary_again b)
+pub same_binary : (a b : BinaryOperator) → binary_punctuator a ≡ binary_punctuator b → a ≡ b
+same_binary a b e = some_same a b (binary_of (binary_punctuator a)) (binary_again a) (ap binary_of e ∙ binary_again b)
 
-pub same_assignment : (a b : Option Arithmetic) → assignment_sign a ≡ assignment_sign b → a ≡ b
-same_assignment a b e = some_same a b (assignment_of (assignment_sign a)) (assignment_again a) (ap assignment_of e ∙ assignment_again b)
+pub same_assignment : (a b : Option Arithmetic) → assignment_punctuator a ≡ assignment_punctuator b → a ≡ b
+same_assignment a b e = some_same a b (assignment_of (assignment_punctuator a)) (assignment_again a) (ap assignment_of e ∙ assignment_again b)
 
-pub same_unary : (a b : UnaryOperator) → unary_sign a ≡ unary_sign b → a ≡ b
-same_unary a b e = some_same a b (unary_of (unary_sign a)) (unary_again a) (ap unary_of e ∙ unary_again b)
+pub same_unary : (a b : UnaryOperator) → unary_punctuator a ≡ unary_punctuator b → a ≡ b
+same_unary a b e = some_same a b (unary_of (unary_punctuator a)) (unary_again a) (ap unary_of e ∙ unary_again b)
 
-pub same_increment : (a b : Increment) → increment_sign a ≡ increment_sign b → a ≡ b
-same_increment a b e = some_same a b (increment_of (increment_sign a)) (increment_again a) (ap increment_of e ∙ increment_again b)
+pub same_increment : (a b : Increment) → increment_punctuator a ≡ increment_punctuator b → a ≡ b
+same_increment a b e = some_same a b (increment_of (increment_punctuator a)) (increment_again a) (ap increment_of e ∙ increment_again b)
 
 -- ---- what the first token begins: 0 to 5 an expression, 7 a type, 6 neither
 
@@ -149,69 +149,69 @@ keyword_class keywords.Finally = 6
 keyword_class keywords.Leave = 6
 keyword_class keywords.GetExceptionInformation = 1
 
-abbrev pub sign_class : Sign → ℕ
-sign_class signs.OpenParenthesis = 3
-sign_class signs.CloseParenthesis = 6
-sign_class signs.OpenBracket = 6
-sign_class signs.CloseBracket = 6
-sign_class signs.OpenBrace = 6
-sign_class signs.CloseBrace = 6
-sign_class signs.Semicolon = 6
-sign_class signs.Comma = 6
-sign_class signs.Question = 6
-sign_class signs.Colon = 6
-sign_class signs.Arrow = 6
-sign_class signs.Assign = 6
-sign_class signs.PlusAssign = 6
-sign_class signs.MinusAssign = 6
-sign_class signs.StarAssign = 6
-sign_class signs.SlashAssign = 6
-sign_class signs.PercentAssign = 6
-sign_class signs.AmpersandAssign = 6
-sign_class signs.BarAssign = 6
-sign_class signs.CaretAssign = 6
-sign_class signs.ShiftLeftAssign = 6
-sign_class signs.ShiftRightAssign = 6
-sign_class signs.BarBar = 6
-sign_class signs.AmpersandAmpersand = 6
-sign_class signs.Bar = 6
-sign_class signs.Caret = 6
-sign_class signs.Ampersand = 5
-sign_class signs.Equal = 6
-sign_class signs.NotEqual = 6
-sign_class signs.Less = 6
-sign_class signs.Greater = 6
-sign_class signs.LessEqual = 6
-sign_class signs.GreaterEqual = 6
-sign_class signs.ShiftLeft = 6
-sign_class signs.ShiftRight = 6
-sign_class signs.Plus = 5
-sign_class signs.Minus = 5
-sign_class signs.Star = 5
-sign_class signs.Slash = 6
-sign_class signs.Percent = 6
-sign_class signs.Exclamation = 5
-sign_class signs.Tilde = 5
-sign_class signs.PlusPlus = 4
-sign_class signs.MinusMinus = 4
+abbrev pub punctuator_class : Punctuator → ℕ
+punctuator_class punctuators.OpenParenthesis = 3
+punctuator_class punctuators.CloseParenthesis = 6
+punctuator_class punctuators.OpenBracket = 6
+punctuator_class punctuators.CloseBracket = 6
+punctuator_class punctuators.OpenBrace = 6
+punctuator_class punctuators.CloseBrace = 6
+punctuator_class punctuators.Semicolon = 6
+punctuator_class punctuators.Comma = 6
+punctuator_class punctuators.Question = 6
+punctuator_class punctuators.Colon = 6
+punctuator_class punctuators.Arrow = 6
+punctuator_class punctuators.Assign = 6
+punctuator_class punctuators.PlusAssign = 6
+punctuator_class punctuators.MinusAssign = 6
+punctuator_class punctuators.StarAssign = 6
+punctuator_class punctuators.SlashAssign = 6
+punctuator_class punctuators.PercentAssign = 6
+punctuator_class punctuators.AmpersandAssign = 6
+punctuator_class punctuators.BarAssign = 6
+punctuator_class punctuators.CaretAssign = 6
+punctuator_class punctuators.ShiftLeftAssign = 6
+punctuator_class punctuators.ShiftRightAssign = 6
+punctuator_class punctuators.BarBar = 6
+punctuator_class punctuators.AmpersandAmpersand = 6
+punctuator_class punctuators.Bar = 6
+punctuator_class punctuators.Caret = 6
+punctuator_class punctuators.Ampersand = 5
+punctuator_class punctuators.Equal = 6
+punctuator_class punctuators.NotEqual = 6
+punctuator_class punctuators.Less = 6
+punctuator_class punctuators.Greater = 6
+punctuator_class punctuators.LessEqual = 6
+punctuator_class punctuators.GreaterEqual = 6
+punctuator_class punctuators.ShiftLeft = 6
+punctuator_class punctuators.ShiftRight = 6
+punctuator_class punctuators.Plus = 5
+punctuator_class punctuators.Minus = 5
+punctuator_class punctuators.Star = 5
+punctuator_class punctuators.Slash = 6
+punctuator_class punctuators.Percent = 6
+punctuator_class punctuators.Exclamation = 5
+punctuator_class punctuators.Tilde = 5
+punctuator_class punctuators.PlusPlus = 4
+punctuator_class punctuators.MinusMinus = 4
 
 abbrev pub kind_class : Kind → ℕ
-kind_class kinds.Name = 0
+kind_class kinds.Identifier = 0
 kind_class (kinds.Keyword k) = keyword_class k
 kind_class (kinds.Reserved r) = 6
 kind_class (kinds.Integer value type) = 2
-kind_class (kinds.Character value) = 2
-kind_class (kinds.Sign s) = sign_class s
+kind_class (kinds.CharacterConstant value) = 2
+kind_class (kinds.Punctuator s) = punctuator_class s
 
 abbrev pub front : List Token → ℕ
 front [] = 6
 front (t ∷ ts) = kind_class t.kind
 
-pub increment_class : (op : Increment) → sign_class (increment_sign op) ≡ 4
+pub increment_class : (op : Increment) → punctuator_class (increment_punctuator op) ≡ 4
 increment_class increments.Increment = refl
 increment_class increments.Decrement = refl
 
-pub unary_class : (op : UnaryOperator) → sign_class (unary_sign op) ≡ 5
+pub unary_class : (op : UnaryOperator) → punctuator_class (unary_punctuator op) ≡ 5
 unary_class unary_operators.Plus = refl
 unary_class unary_operators.Minus = refl
 unary_class unary_operators.LogicalNot = refl
@@ -221,7 +221,7 @@ unary_class unary_operators.AddressOf = refl
 
 -- ---- types
 
--- the base that keywords write is told by how many there are of each
+-- the base that keywords write is reported by how many there are of each
 abbrev weight_of : Keyword → ℕ
 weight_of keywords.Break = 0
 weight_of keywords.Char = 10
@@ -315,14 +315,14 @@ pub base_front : (b : Base) (ts rest : List Token) → IsBase b ts rest → fron
 base_front b ts rest h = let x = pick b (spellings b) ts rest (sound b) h in begun_front x.words ts rest x.typed x.begun x.are
 
 abbrev pub NoStar : List Token → Type 0
-NoStar ts = (rest : List Token) → HasSign signs.Star ts rest → ⊥
+NoStar ts = (rest : List Token) → HasPunctuator punctuators.Star ts rest → ⊥
 
 pub stars_once : (n m : ℕ) (ts us rest end : List Token) → ts ≡ us → NoStar rest → NoStar end → AreStars n ts rest → AreStars m us end → (n ≡ m) × (rest ≡ end)
 stars_once zero zero ts us rest end p x y h g = (refl, sym h ∙ p ∙ g)
 stars_once zero (suc m) ts us rest end p x y h g = absurd (x g.0 (g.1.0, (g.1.1.0, sym h ∙ p ∙ g.1.1.1)))
 stars_once (suc n) zero ts us rest end p x y h g = absurd (y h.0 (h.1.0, (h.1.1.0, sym g ∙ sym p ∙ h.1.1.1)))
 stars_once (suc n) (suc m) ts us rest end p x y h g =
-    let q = has_same signs.Star ts us h.0 g.0 p h.1 g.1 in
+    let q = has_same punctuators.Star ts us h.0 g.0 p h.1 g.1 in
     let r = stars_once n m h.0 g.0 rest end q x y h.2 g.2 in
     (ap (λ (z : ℕ). suc z) r.0, r.1)
 
@@ -339,8 +339,8 @@ type_once t u ts us rest end p a b x y h g =
     let r = stars_once t.pointers u.pointers h.0 g.0 rest end q.1 x y h.2 g.2 in
     (ap (λ (z : Base). typed z t.pointers) q.0 ∙ ap (λ (z : ℕ). typed u.base z) r.0, r.1)
 
-pub close_type : (ts rest : List Token) → HasSign signs.CloseParenthesis ts rest → NoType ts
+pub close_type : (ts rest : List Token) → HasPunctuator punctuators.CloseParenthesis ts rest → NoType ts
 close_type ts rest h = λ e. let q : front ts ≡ 6 = ap front h.1.1 in absurd (omega (arith, e))
 
-pub close_star : (ts rest : List Token) → HasSign signs.CloseParenthesis ts rest → NoStar ts
-close_star ts rest h = λ end g. let q = sign_same signs.CloseParenthesis signs.Star h.0 g.0 ts ts rest end refl h.1 g.1 in let e : signs.CloseParenthesis ≡ signs.Star = q.0 in cc
+pub close_star : (ts rest : List Token) → HasPunctuator punctuators.CloseParenthesis ts rest → NoStar ts
+close_star ts rest h = λ end g. let q = punctuator_same punctuators.CloseParenthesis punctuators.Star h.0 g.0 ts ts rest end refl h.1 g.1 in let e : punctuators.CloseParenthesis ≡ punctuators.Star = q.0 in cc

@@ -1,8 +1,8 @@
 -- There is one tree at most for an expression that stops.
 use Rattle.std.proofs.Common.{◌≡◌, ◌≤◌, ◌<◌, ◌-◌, ℕ, zero, suc, List, [], ◌∷◌, Option, codes, slice_range, length, refl, sym, ap, ◌∙◌, subst, arith}
 use Rattle.c_lex.specs.declared.keyword.Keyword.TheVariants as keywords
-use Rattle.c_lex.specs.declared.sign.Sign.{Sign}
-use Rattle.c_lex.specs.declared.sign.Sign.TheVariants as signs
+use Rattle.c_lex.specs.declared.punctuator.Punctuator.{Punctuator}
+use Rattle.c_lex.specs.declared.punctuator.Punctuator.TheVariants as punctuators
 use Rattle.c_lex.specs.declared.token.Kind.TheVariants as kinds
 use Rattle.c_lex.specs.declared.token.Token.{Token}
 use Rattle.c_syntax.specs.declared.operator.Arithmetic.{Arithmetic}
@@ -15,15 +15,15 @@ use Rattle.c_syntax.specs.declared.expression.Field.{Field}
 use Rattle.c_syntax.specs.declared.expression.Field.TheVariants as fields
 use Rattle.c_syntax.specs.declared.expression.Literal.{Literal}
 use Rattle.c_syntax.specs.declared.expression.Literal.TheVariants as literals
-use Rattle.c_syntax.specs.declared.expression.Name.{Name}
+use Rattle.c_syntax.specs.declared.expression.Identifier.{Identifier}
 use Rattle.c_syntax.specs.Expression.{Expression, Constant, Variable, Information, Call, Parentheses, Index, Postfix, Prefix, Unary, Cast, Binary, Conditional, Assign, Comma, Arguments, Done, Next, height, heights}
-use Rattle.c_syntax.specs.Expressions.{rank, literal_kind, IsInteger, IsField, Spells, SpellsArguments, SpellsMore, Derives}
-use Rattle.c_syntax.specs.Follow.{sign_follows, follows, Stops, OneExpression}
-use Rattle.c_syntax.specs.Operators.{level, binary_sign, unary_sign, increment_sign, assignment_sign}
-use Rattle.c_syntax.specs.Tokens.{HasSign, HasWord}
+use Rattle.c_syntax.specs.Expressions.{rank, literal_kind, IsInteger, IsField, SpellsExpression, SpellsArguments, SpellsMoreArguments, Derives}
+use Rattle.c_syntax.specs.Follow.{punctuator_follows, follows, Stops, OneExpression}
+use Rattle.c_syntax.specs.Operators.{level, binary_punctuator, unary_punctuator, increment_punctuator, assignment_punctuator}
+use Rattle.c_syntax.specs.Tokens.{HasPunctuator, HasWord}
 use Rattle.c_syntax.specs.Steps.{Step, At, After, With, Choose, Set, And, apply, Tail, Run, IsHead, Closes}
-use Rattle.c_syntax.proofs.Spine.{spine, levels, follows_sign, step_follows, closes, run_reach, run_rank, run_height}
-use Rattle.c_syntax.proofs.Fronts.{kind_same, sign_same, has_same, name_same, same_binary, same_unary, same_increment, same_assignment, sign_class, kind_class, front, increment_class, unary_class, base_front, type_once, close_type, close_star}
+use Rattle.c_syntax.proofs.Spine.{spine, levels, follows_punctuator, step_follows, closes, run_reach, run_rank, run_height}
+use Rattle.c_syntax.proofs.Fronts.{kind_same, punctuator_same, has_same, name_same, same_binary, same_unary, same_increment, same_assignment, punctuator_class, kind_class, front, increment_class, unary_class, base_front, type_once, close_type, close_star}
 
 -- ---- of lower expressions
 
@@ -46,37 +46,37 @@ rank_low (Conditional c at a b) = omega arith
 rank_low (Assign a at op b) = omega arith
 rank_low (Comma a at b) = omega arith
 
-part : (text : List ℕ) (n l : ℕ) (e f : Expression) (ts us rest end : List Token) → Below text n → ts ≡ us → height e < n → rank e ≤ l → rank f ≤ l → Spells text e ts rest → Spells text f us end → Stops l rest → Stops l end → (e ≡ f) × (rest ≡ end)
+part : (text : List ℕ) (n l : ℕ) (e f : Expression) (ts us rest end : List Token) → Below text n → ts ≡ us → height e < n → rank e ≤ l → rank f ≤ l → SpellsExpression text e ts rest → SpellsExpression text f us end → Stops l rest → Stops l end → (e ≡ f) × (rest ≡ end)
 part text n l e f ts us rest end u p low a b h g s z =
-    let k : Spells text f ts end = subst (λ (x : List Token). Spells text f x end) (sym p) g in
+    let k : SpellsExpression text f ts end = subst (λ (x : List Token). SpellsExpression text f x end) (sym p) g in
     u l e f ts rest end low (record { fits = a; spells = h }) (record { fits = b; spells = k }) s z
 
-whole : (text : List ℕ) (n : ℕ) (e f : Expression) (ts us rest end : List Token) → Below text n → ts ≡ us → height e < n → Spells text e ts rest → Spells text f us end → Stops 16 rest → Stops 16 end → (e ≡ f) × (rest ≡ end)
+whole : (text : List ℕ) (n : ℕ) (e f : Expression) (ts us rest end : List Token) → Below text n → ts ≡ us → height e < n → SpellsExpression text e ts rest → SpellsExpression text f us end → Stops 16 rest → Stops 16 end → (e ≡ f) × (rest ≡ end)
 whole text n e f ts us rest end u p low h g s z = part text n 16 e f ts us rest end u p low (rank_low e) (rank_low f) h g s z
 
-pub has_stops : (s : Sign) (ts rest : List Token) (l : ℕ) → HasSign s ts rest → l < sign_follows s → Stops l ts
-has_stops s ts rest l h q = let p = follows_sign s h.0 ts rest (sign_follows s) h.1 refl in omega arith
+pub has_stops : (s : Punctuator) (ts rest : List Token) (l : ℕ) → HasPunctuator s ts rest → l < punctuator_follows s → Stops l ts
+has_stops s ts rest l h q = let p = follows_punctuator s h.0 ts rest (punctuator_follows s) h.1 refl in omega arith
 
 -- ---- steps
 
-bracket_not : (op : Increment) → increment_sign op ≡ signs.OpenBracket → ⊥
+bracket_not : (op : Increment) → increment_punctuator op ≡ punctuators.OpenBracket → ⊥
 bracket_not increments.Increment e = cc
 bracket_not increments.Decrement e = cc
 
 -- a step and what follows it are found by where it begins
 pub same_tail : (text : List ℕ) (n : ℕ) (left left' : Expression) (s s' : Step) (ts rest end : List Token) → Below text n → height (apply left s) ≤ n → Closes (apply left s) rest → Closes (apply left s') end → Tail text s ts rest → Tail text s' ts end → (s ≡ s') × (rest ≡ end)
 same_tail text n left left' (At at i) (At to j) ts rest end u low r z h g =
-    let a = sign_same signs.OpenBracket signs.OpenBracket at to ts ts h.0 g.0 refl h.2 g.2 in
-    let b = whole text n i j h.0 g.0 h.1 g.1 u a.2 (omega arith) h.3 g.3 (has_stops signs.CloseBracket h.1 rest 16 h.4 (omega arith)) (has_stops signs.CloseBracket g.1 end 16 g.4 (omega arith)) in
-    (ap (λ (x : ℕ). At x i) a.1 ∙ ap (λ (x : Expression). At to x) b.0, has_same signs.CloseBracket h.1 g.1 rest end b.1 h.4 g.4)
-same_tail text n left left' (At at i) (After op' to) ts rest end u low r z h g = absurd (bracket_not op' (sign_same (increment_sign op') signs.OpenBracket to at ts ts end h.0 refl g h.2).0)
+    let a = punctuator_same punctuators.OpenBracket punctuators.OpenBracket at to ts ts h.0 g.0 refl h.2 g.2 in
+    let b = whole text n i j h.0 g.0 h.1 g.1 u a.2 (omega arith) h.3 g.3 (has_stops punctuators.CloseBracket h.1 rest 16 h.4 (omega arith)) (has_stops punctuators.CloseBracket g.1 end 16 g.4 (omega arith)) in
+    (ap (λ (x : ℕ). At x i) a.1 ∙ ap (λ (x : Expression). At to x) b.0, has_same punctuators.CloseBracket h.1 g.1 rest end b.1 h.4 g.4)
+same_tail text n left left' (At at i) (After op' to) ts rest end u low r z h g = absurd (bracket_not op' (punctuator_same (increment_punctuator op') punctuators.OpenBracket to at ts ts end h.0 refl g h.2).0)
 same_tail text n left left' (At at i) (With to op' f') ts rest end u low r z h g = let p = step_follows text left (At at i) ts rest h in let q = step_follows text left' (With to op' f') ts end g in let x' = (levels op').0 in let y' = (levels op').1 in absurd (omega arith)
 same_tail text n left left' (At at i) (Choose to f' g'') ts rest end u low r z h g = let p = step_follows text left (At at i) ts rest h in let q = step_follows text left' (Choose to f' g'') ts end g in absurd (omega arith)
 same_tail text n left left' (At at i) (Set to op' f') ts rest end u low r z h g = let p = step_follows text left (At at i) ts rest h in let q = step_follows text left' (Set to op' f') ts end g in absurd (omega arith)
 same_tail text n left left' (At at i) (And to f') ts rest end u low r z h g = let p = step_follows text left (At at i) ts rest h in let q = step_follows text left' (And to f') ts end g in absurd (omega arith)
-same_tail text n left left' (After op at) (At to j) ts rest end u low r z h g = absurd (bracket_not op (sign_same (increment_sign op) signs.OpenBracket at to ts ts rest g.0 refl h g.2).0)
+same_tail text n left left' (After op at) (At to j) ts rest end u low r z h g = absurd (bracket_not op (punctuator_same (increment_punctuator op) punctuators.OpenBracket at to ts ts rest g.0 refl h g.2).0)
 same_tail text n left left' (After op at) (After op' to) ts rest end u low r z h g =
-    let a = sign_same (increment_sign op) (increment_sign op') at to ts ts rest end refl h g in
+    let a = punctuator_same (increment_punctuator op) (increment_punctuator op') at to ts ts rest end refl h g in
     (ap (λ (x : Increment). After x at) (same_increment op op' a.0) ∙ ap (λ (x : ℕ). After op' x) a.1, a.2)
 same_tail text n left left' (After op at) (With to op' f') ts rest end u low r z h g = let p = step_follows text left (After op at) ts rest h in let q = step_follows text left' (With to op' f') ts end g in let x' = (levels op').0 in let y' = (levels op').1 in absurd (omega arith)
 same_tail text n left left' (After op at) (Choose to f' g'') ts rest end u low r z h g = let p = step_follows text left (After op at) ts rest h in let q = step_follows text left' (Choose to f' g'') ts end g in absurd (omega arith)
@@ -85,7 +85,7 @@ same_tail text n left left' (After op at) (And to f') ts rest end u low r z h g 
 same_tail text n left left' (With at op f) (At to j) ts rest end u low r z h g = let p = step_follows text left (With at op f) ts rest h in let q = step_follows text left' (At to j) ts end g in let x = (levels op).0 in let y = (levels op).1 in absurd (omega arith)
 same_tail text n left left' (With at op f) (After op' to) ts rest end u low r z h g = let p = step_follows text left (With at op f) ts rest h in let q = step_follows text left' (After op' to) ts end g in let x = (levels op).0 in let y = (levels op).1 in absurd (omega arith)
 same_tail text n left left' (With at op f) (With to op' f') ts rest end u low r z h g =
-    let a = sign_same (binary_sign op) (binary_sign op') at to ts ts h.0 g.0 refl h.1 g.1 in
+    let a = punctuator_same (binary_punctuator op) (binary_punctuator op') at to ts ts h.0 g.0 refl h.1 g.1 in
     let q = same_binary op op' a.0 in
     let v : level op ≡ level op' = ap level q in
     let x = (levels op).0 in
@@ -98,9 +98,9 @@ same_tail text n left left' (Choose at f g') (At to j) ts rest end u low r z h g
 same_tail text n left left' (Choose at f g') (After op' to) ts rest end u low r z h g = let p = step_follows text left (Choose at f g') ts rest h in let q = step_follows text left' (After op' to) ts end g in absurd (omega arith)
 same_tail text n left left' (Choose at f g') (With to op' f') ts rest end u low r z h g = let p = step_follows text left (Choose at f g') ts rest h in let q = step_follows text left' (With to op' f') ts end g in let x' = (levels op').0 in let y' = (levels op').1 in absurd (omega arith)
 same_tail text n left left' (Choose at f g') (Choose to f' g'') ts rest end u low r z h g =
-    let a = sign_same signs.Question signs.Question at to ts ts h.0 g.0 refl h.3 g.3 in
-    let b = whole text n f f' h.0 g.0 h.1 g.1 u a.2 (omega arith) h.4 g.4 (has_stops signs.Colon h.1 h.2 16 h.5 (omega arith)) (has_stops signs.Colon g.1 g.2 16 g.5 (omega arith)) in
-    let c = has_same signs.Colon h.1 g.1 h.2 g.2 b.1 h.5 g.5 in
+    let a = punctuator_same punctuators.Question punctuators.Question at to ts ts h.0 g.0 refl h.3 g.3 in
+    let b = whole text n f f' h.0 g.0 h.1 g.1 u a.2 (omega arith) h.4 g.4 (has_stops punctuators.Colon h.1 h.2 16 h.5 (omega arith)) (has_stops punctuators.Colon g.1 g.2 16 g.5 (omega arith)) in
+    let c = has_same punctuators.Colon h.1 g.1 h.2 g.2 b.1 h.5 g.5 in
     let d = part text n 14 g' g'' h.2 g.2 rest end u c (omega arith) h.6 g.6 h.7 g.7 r z in
     (ap (λ (x : ℕ). Choose x f g') a.1 ∙ ap (λ (x : Expression). Choose to x g') b.0 ∙ ap (λ (x : Expression). Choose to f' x) d.0, d.1)
 same_tail text n left left' (Choose at f g') (Set to op' f') ts rest end u low r z h g = let p = step_follows text left (Choose at f g') ts rest h in let q = step_follows text left' (Set to op' f') ts end g in absurd (omega arith)
@@ -110,7 +110,7 @@ same_tail text n left left' (Set at op f) (After op' to) ts rest end u low r z h
 same_tail text n left left' (Set at op f) (With to op' f') ts rest end u low r z h g = let p = step_follows text left (Set at op f) ts rest h in let q = step_follows text left' (With to op' f') ts end g in let x' = (levels op').0 in let y' = (levels op').1 in absurd (omega arith)
 same_tail text n left left' (Set at op f) (Choose to f' g'') ts rest end u low r z h g = let p = step_follows text left (Set at op f) ts rest h in let q = step_follows text left' (Choose to f' g'') ts end g in absurd (omega arith)
 same_tail text n left left' (Set at op f) (Set to op' f') ts rest end u low r z h g =
-    let a = sign_same (assignment_sign op) (assignment_sign op') at to ts ts h.0 g.0 refl h.1 g.1 in
+    let a = punctuator_same (assignment_punctuator op) (assignment_punctuator op') at to ts ts h.0 g.0 refl h.1 g.1 in
     let q = same_assignment op op' a.0 in
     let b = part text n 15 f f' h.0 g.0 rest end u a.2 (omega arith) h.2 g.2 h.3 g.3 r z in
     (ap (λ (y : ℕ). Set y op f) a.1 ∙ ap (λ (y : Option Arithmetic). Set to y f) q ∙ ap (λ (y : Expression). Set to op' y) b.0, b.1)
@@ -121,7 +121,7 @@ same_tail text n left left' (And at f) (With to op' f') ts rest end u low r z h 
 same_tail text n left left' (And at f) (Choose to f' g'') ts rest end u low r z h g = let p = step_follows text left (And at f) ts rest h in let q = step_follows text left' (Choose to f' g'') ts end g in absurd (omega arith)
 same_tail text n left left' (And at f) (Set to op' f') ts rest end u low r z h g = let p = step_follows text left (And at f) ts rest h in let q = step_follows text left' (Set to op' f') ts end g in absurd (omega arith)
 same_tail text n left left' (And at f) (And to f') ts rest end u low r z h g =
-    let a = sign_same signs.Comma signs.Comma at to ts ts h.0 g.0 refl h.1 g.1 in
+    let a = punctuator_same punctuators.Comma punctuators.Comma at to ts ts h.0 g.0 refl h.1 g.1 in
     let b = part text n 15 f f' h.0 g.0 rest end u a.2 (omega arith) h.2 g.2 h.3 g.3 r z in
     (ap (λ (y : ℕ). And y f) a.1 ∙ ap (λ (y : Expression). And to y) b.0, b.1)
 
@@ -164,9 +164,9 @@ head_class (Comma a at b) = 0
 
 literal_class : (literal : Literal) → kind_class (literal_kind literal) ≡ 2
 literal_class (literals.Integer value type) = refl
-literal_class (literals.Character value) = refl
+literal_class (literals.CharacterConstant value) = refl
 
-pub head_front : (text : List ℕ) (e : Expression) (ts rest : List Token) → IsHead e → Spells text e ts rest → front ts ≡ head_class e
+pub head_front : (text : List ℕ) (e : Expression) (ts rest : List Token) → IsHead e → SpellsExpression text e ts rest → front ts ≡ head_class e
 head_front text (Constant at literal) ts rest i h = ap front h.1 ∙ literal_class literal
 head_front text (Variable name) ts rest i h = ap front h
 head_front text (Information at field) ts rest i h = ap front h.6.1
@@ -198,42 +198,42 @@ class_low (Conditional c at a b) = omega arith
 class_low (Assign a at op b) = omega arith
 class_low (Comma a at b) = omega arith
 
-pub expression_front : (text : List ℕ) (e : Expression) (ts rest : List Token) → Spells text e ts rest → front ts ≤ 5
+pub expression_front : (text : List ℕ) (e : Expression) (ts rest : List Token) → SpellsExpression text e ts rest → front ts ≤ 5
 expression_front text e ts rest h =
     let c = spine text e ts rest h in
     let p = head_front text c.head ts c.after c.is_head c.spells in
     let q = class_low c.head in omega arith
 
-pub has_front : (s : Sign) (ts rest : List Token) → HasSign s ts rest → front ts ≡ sign_class s
+pub has_front : (s : Punctuator) (ts rest : List Token) → HasPunctuator s ts rest → front ts ≡ punctuator_class s
 has_front s ts rest h = ap front h.1.1
 
 -- ---- arguments
 
-more_stops : (text : List ℕ) (es : Arguments) (ts rest : List Token) → SpellsMore text es ts rest → Stops 15 ts
-more_stops text Done ts rest h = has_stops signs.CloseParenthesis ts rest 15 h (omega arith)
-more_stops text (Next e es) ts rest h = has_stops signs.Comma ts h.0 15 h.2 (omega arith)
+more_stops : (text : List ℕ) (es : Arguments) (ts rest : List Token) → SpellsMoreArguments text es ts rest → Stops 15 ts
+more_stops text Done ts rest h = has_stops punctuators.CloseParenthesis ts rest 15 h (omega arith)
+more_stops text (Next e es) ts rest h = has_stops punctuators.Comma ts h.0 15 h.2 (omega arith)
 
-other_sign : (s z : Sign) (ts us rest end : List Token) → ts ≡ us → HasSign s ts rest → HasSign z us end → s ≡ z
-other_sign s z ts us rest end p h g = (sign_same s z h.0 g.0 ts us rest end p h.1 g.1).0
+other_punctuator : (s z : Punctuator) (ts us rest end : List Token) → ts ≡ us → HasPunctuator s ts rest → HasPunctuator z us end → s ≡ z
+other_punctuator s z ts us rest end p h g = (punctuator_same s z h.0 g.0 ts us rest end p h.1 g.1).0
 
-more_once : (text : List ℕ) (n : ℕ) (es fs : Arguments) (ts us rest end : List Token) → Below text n → ts ≡ us → heights es ≤ n → SpellsMore text es ts rest → SpellsMore text fs us end → (es ≡ fs) × (rest ≡ end)
-more_once text n Done Done ts us rest end u p low h g = (refl, has_same signs.CloseParenthesis ts us rest end p h g)
-more_once text n Done (Next f fs) ts us rest end u p low h g = let e : signs.CloseParenthesis ≡ signs.Comma = other_sign signs.CloseParenthesis signs.Comma ts us rest g.0 p h g.2 in absurd cc
-more_once text n (Next e es) Done ts us rest end u p low h g = let e : signs.Comma ≡ signs.CloseParenthesis = other_sign signs.Comma signs.CloseParenthesis ts us h.0 end p h.2 g in absurd cc
+more_once : (text : List ℕ) (n : ℕ) (es fs : Arguments) (ts us rest end : List Token) → Below text n → ts ≡ us → heights es ≤ n → SpellsMoreArguments text es ts rest → SpellsMoreArguments text fs us end → (es ≡ fs) × (rest ≡ end)
+more_once text n Done Done ts us rest end u p low h g = (refl, has_same punctuators.CloseParenthesis ts us rest end p h g)
+more_once text n Done (Next f fs) ts us rest end u p low h g = let e : punctuators.CloseParenthesis ≡ punctuators.Comma = other_punctuator punctuators.CloseParenthesis punctuators.Comma ts us rest g.0 p h g.2 in absurd cc
+more_once text n (Next e es) Done ts us rest end u p low h g = let e : punctuators.Comma ≡ punctuators.CloseParenthesis = other_punctuator punctuators.Comma punctuators.CloseParenthesis ts us h.0 end p h.2 g in absurd cc
 more_once text n (Next e es) (Next f fs) ts us rest end u p low h g =
-    let a = has_same signs.Comma ts us h.0 g.0 p h.2 g.2 in
+    let a = has_same punctuators.Comma ts us h.0 g.0 p h.2 g.2 in
     let b = part text n 15 e f h.0 g.0 h.1 g.1 u a (omega arith) h.3 g.3 h.4 g.4 (more_stops text es h.1 rest h.5) (more_stops text fs g.1 end g.5) in
     let c = more_once text n es fs h.1 g.1 rest end u b.1 (omega arith) h.5 g.5 in
     (ap (λ (x : Expression). Next x es) b.0 ∙ ap (λ (x : Arguments). Next f x) c.0, c.1)
 
 arguments_once : (text : List ℕ) (n : ℕ) (es fs : Arguments) (ts us rest end : List Token) → Below text n → ts ≡ us → heights es ≤ n → SpellsArguments text es ts rest → SpellsArguments text fs us end → (es ≡ fs) × (rest ≡ end)
-arguments_once text n Done Done ts us rest end u p low h g = (refl, has_same signs.CloseParenthesis ts us rest end p h g)
+arguments_once text n Done Done ts us rest end u p low h g = (refl, has_same punctuators.CloseParenthesis ts us rest end p h g)
 arguments_once text n Done (Next f fs) ts us rest end u p low h g =
-    let a = has_front signs.CloseParenthesis ts rest h in
+    let a = has_front punctuators.CloseParenthesis ts rest h in
     let b = expression_front text f us g.0 g.2 in
     let c = ap front p in absurd (omega arith)
 arguments_once text n (Next e es) Done ts us rest end u p low h g =
-    let a = has_front signs.CloseParenthesis us end g in
+    let a = has_front punctuators.CloseParenthesis us end g in
     let b = expression_front text e ts h.0 h.2 in
     let c = ap front p in absurd (omega arith)
 arguments_once text n (Next e es) (Next f fs) ts us rest end u p low h g =
@@ -245,14 +245,14 @@ arguments_once text n (Next e es) (Next f fs) ts us rest end u p low h g =
 
 pub literal_same : (a b : Literal) → literal_kind a ≡ literal_kind b → a ≡ b
 literal_same (literals.Integer v t) (literals.Integer w u) e = cc
-literal_same (literals.Integer v t) (literals.Character w) e = absurd cc
-literal_same (literals.Character v) (literals.Integer w u) e = absurd cc
-literal_same (literals.Character v) (literals.Character w) e = cc
+literal_same (literals.Integer v t) (literals.CharacterConstant w) e = absurd cc
+literal_same (literals.CharacterConstant v) (literals.Integer w u) e = absurd cc
+literal_same (literals.CharacterConstant v) (literals.CharacterConstant w) e = cc
 
 word_same : (text a b : List ℕ) (ts us rest end : List Token) → ts ≡ us → HasWord text a ts rest → HasWord text b us end → (a ≡ b) × (rest ≡ end)
 word_same text a b ts us rest end p h g =
     let q = name_same h.0 g.0 ts us rest end p h.1 g.1 in
-    (sym h.2 ∙ ap (λ (x : Name). slice_range text x.start x.end) q.0 ∙ g.2, q.1)
+    (sym h.2 ∙ ap (λ (x : Identifier). slice_range text x.start x.end) q.0 ∙ g.2, q.1)
 
 pub integer_same : (v w at to : ℕ) (ts us rest end : List Token) → ts ≡ us → IsInteger v at ts rest → IsInteger w to us end → (v ≡ w) × (at ≡ to) × (rest ≡ end)
 integer_same v w at to ts us rest end p h g =
@@ -279,13 +279,13 @@ field_once text (fields.Information index at) fields.Flags ts us rest end p h g 
 field_once text (fields.Information index at) fields.Count ts us rest end p h g = let e : codes "ExceptionInformation" ≡ codes "NumberParameters" = (word_same text (codes "ExceptionInformation") (codes "NumberParameters") ts us h.0 end p h.3 g).0 in let q = ap length e in absurd (omega arith)
 field_once text (fields.Information index at) (fields.Information number to) ts us rest end p h g =
     let a = word_same text (codes "ExceptionInformation") (codes "ExceptionInformation") ts us h.0 g.0 p h.3 g.3 in
-    let b = has_same signs.OpenBracket h.0 g.0 h.1 g.1 a.1 h.4 g.4 in
+    let b = has_same punctuators.OpenBracket h.0 g.0 h.1 g.1 a.1 h.4 g.4 in
     let c = integer_same index number at to h.1 g.1 h.2 g.2 b h.5 g.5 in
-    (ap (λ (x : ℕ). fields.Information x at) c.0 ∙ ap (λ (x : ℕ). fields.Information number x) c.1, has_same signs.CloseBracket h.2 g.2 rest end c.2 h.6 g.6)
+    (ap (λ (x : ℕ). fields.Information x at) c.0 ∙ ap (λ (x : ℕ). fields.Information number x) c.1, has_same punctuators.CloseBracket h.2 g.2 rest end c.2 h.6 g.6)
 
 -- ---- first operands
 
-pub same_head : (text : List ℕ) (n : ℕ) (e f : Expression) (ts rest end : List Token) → Below text n → height e ≤ n → IsHead e → IsHead f → Closes e rest → Closes f end → Spells text e ts rest → Spells text f ts end → (e ≡ f) × (rest ≡ end)
+pub same_head : (text : List ℕ) (n : ℕ) (e f : Expression) (ts rest end : List Token) → Below text n → height e ≤ n → IsHead e → IsHead f → Closes e rest → Closes f end → SpellsExpression text e ts rest → SpellsExpression text f ts end → (e ≡ f) × (rest ≡ end)
 same_head text n (Constant at literal) (Constant at' literal') ts rest end u low k m r z h g =
     let a = kind_same (literal_kind literal) (literal_kind literal') at at' ts ts rest end refl h g in
     (ap (λ (x : ℕ). Constant x literal) a.1 ∙ ap (λ (x : Literal). Constant at' x) (literal_same literal literal' a.0), a.2)
@@ -305,9 +305,9 @@ same_head text n (Constant at literal) (Comma v vt w) ts rest end u low k m r z 
 same_head text n (Variable name) (Constant at' literal') ts rest end u low k m r z h g = let a = head_front text (Variable name) ts rest k h in let b = head_front text (Constant at' literal') ts end m g in absurd (omega arith)
 same_head text n (Variable name) (Variable name') ts rest end u low k m r z h g =
     let a = name_same name name' ts ts rest end refl h g in
-    (ap (λ (x : Name). Variable x) a.0, a.1)
+    (ap (λ (x : Identifier). Variable x) a.0, a.1)
 same_head text n (Variable name) (Information at' field') ts rest end u low k m r z h g = let a = head_front text (Variable name) ts rest k h in let b = head_front text (Information at' field') ts end m g in absurd (omega arith)
-same_head text n (Variable name) (Call name' es') ts rest end u low k m r z h g = let a = name_same name name' ts ts rest g.0 refl h g.2 in let b = follows_sign signs.OpenParenthesis g.3.0 g.0 g.1 0 g.3.1 refl in let c = ap follows a.1 in absurd (omega arith)
+same_head text n (Variable name) (Call name' es') ts rest end u low k m r z h g = let a = name_same name name' ts ts rest g.0 refl h g.2 in let b = follows_punctuator punctuators.OpenParenthesis g.3.0 g.0 g.1 0 g.3.1 refl in let c = ap follows a.1 in absurd (omega arith)
 same_head text n (Variable name) (Parentheses at' e') ts rest end u low k m r z h g = let a = head_front text (Variable name) ts rest k h in let b = head_front text (Parentheses at' e') ts end m g in absurd (omega arith)
 same_head text n (Variable name) (Prefix at' op' e') ts rest end u low k m r z h g = let a = head_front text (Variable name) ts rest k h in let b = head_front text (Prefix at' op' e') ts end m g in absurd (omega arith)
 same_head text n (Variable name) (Unary at' op' e') ts rest end u low k m r z h g = let a = head_front text (Variable name) ts rest k h in let b = head_front text (Unary at' op' e') ts end m g in absurd (omega arith)
@@ -322,11 +322,11 @@ same_head text n (Information at field) (Constant at' literal') ts rest end u lo
 same_head text n (Information at field) (Variable name') ts rest end u low k m r z h g = let a = head_front text (Information at field) ts rest k h in let b = head_front text (Variable name') ts end m g in absurd (omega arith)
 same_head text n (Information at field) (Information at' field') ts rest end u low k m r z h g =
     let k = kind_same (kinds.Keyword keywords.GetExceptionInformation) (kinds.Keyword keywords.GetExceptionInformation) at at' ts ts h.0 g.0 refl h.6 g.6 in
-    let b = has_same signs.OpenParenthesis h.0 g.0 h.1 g.1 k.2 h.7 g.7 in
-    let c = has_same signs.CloseParenthesis h.1 g.1 h.2 g.2 b h.8 g.8 in
-    let d = has_same signs.Arrow h.2 g.2 h.3 g.3 c h.9 g.9 in
+    let b = has_same punctuators.OpenParenthesis h.0 g.0 h.1 g.1 k.2 h.7 g.7 in
+    let c = has_same punctuators.CloseParenthesis h.1 g.1 h.2 g.2 b h.8 g.8 in
+    let d = has_same punctuators.Arrow h.2 g.2 h.3 g.3 c h.9 g.9 in
     let w = word_same text (codes "ExceptionRecord") (codes "ExceptionRecord") h.3 g.3 h.4 g.4 d h.10 g.10 in
-    let v = has_same signs.Arrow h.4 g.4 h.5 g.5 w.1 h.11 g.11 in
+    let v = has_same punctuators.Arrow h.4 g.4 h.5 g.5 w.1 h.11 g.11 in
     let q = field_once text field field' h.5 g.5 rest end v h.12 g.12 in
     (ap (λ (x : ℕ). Information x field) k.1 ∙ ap (λ (x : Field). Information at' x) q.0, q.1)
 same_head text n (Information at field) (Call name' es') ts rest end u low k m r z h g = let a = head_front text (Information at field) ts rest k h in let b = head_front text (Call name' es') ts end m g in absurd (omega arith)
@@ -341,13 +341,13 @@ same_head text n (Information at field) (Conditional y vt v w) ts rest end u low
 same_head text n (Information at field) (Assign v vt op2 w) ts rest end u low k m r z h g = absurd m
 same_head text n (Information at field) (Comma v vt w) ts rest end u low k m r z h g = absurd m
 same_head text n (Call name es) (Constant at' literal') ts rest end u low k m r z h g = let a = head_front text (Call name es) ts rest k h in let b = head_front text (Constant at' literal') ts end m g in absurd (omega arith)
-same_head text n (Call name es) (Variable name') ts rest end u low k m r z h g = let a = name_same name name' ts ts h.0 end refl h.2 g in let b = follows_sign signs.OpenParenthesis h.3.0 h.0 h.1 0 h.3.1 refl in let c = ap follows a.1 in absurd (omega arith)
+same_head text n (Call name es) (Variable name') ts rest end u low k m r z h g = let a = name_same name name' ts ts h.0 end refl h.2 g in let b = follows_punctuator punctuators.OpenParenthesis h.3.0 h.0 h.1 0 h.3.1 refl in let c = ap follows a.1 in absurd (omega arith)
 same_head text n (Call name es) (Information at' field') ts rest end u low k m r z h g = let a = head_front text (Call name es) ts rest k h in let b = head_front text (Information at' field') ts end m g in absurd (omega arith)
 same_head text n (Call name es) (Call name' es') ts rest end u low k m r z h g =
     let a = name_same name name' ts ts h.0 g.0 refl h.2 g.2 in
-    let b = has_same signs.OpenParenthesis h.0 g.0 h.1 g.1 a.1 h.3 g.3 in
+    let b = has_same punctuators.OpenParenthesis h.0 g.0 h.1 g.1 a.1 h.3 g.3 in
     let c = arguments_once text n es es' h.1 g.1 rest end u b low h.4 g.4 in
-    (ap (λ (x : Name). Call x es) a.0 ∙ ap (λ (x : Arguments). Call name' x) c.0, c.1)
+    (ap (λ (x : Identifier). Call x es) a.0 ∙ ap (λ (x : Arguments). Call name' x) c.0, c.1)
 same_head text n (Call name es) (Parentheses at' e') ts rest end u low k m r z h g = let a = head_front text (Call name es) ts rest k h in let b = head_front text (Parentheses at' e') ts end m g in absurd (omega arith)
 same_head text n (Call name es) (Prefix at' op' e') ts rest end u low k m r z h g = let a = head_front text (Call name es) ts rest k h in let b = head_front text (Prefix at' op' e') ts end m g in absurd (omega arith)
 same_head text n (Call name es) (Unary at' op' e') ts rest end u low k m r z h g = let a = head_front text (Call name es) ts rest k h in let b = head_front text (Unary at' op' e') ts end m g in absurd (omega arith)
@@ -363,12 +363,12 @@ same_head text n (Parentheses at e) (Variable name') ts rest end u low k m r z h
 same_head text n (Parentheses at e) (Information at' field') ts rest end u low k m r z h g = let a = head_front text (Parentheses at e) ts rest k h in let b = head_front text (Information at' field') ts end m g in absurd (omega arith)
 same_head text n (Parentheses at e) (Call name' es') ts rest end u low k m r z h g = let a = head_front text (Parentheses at e) ts rest k h in let b = head_front text (Call name' es') ts end m g in absurd (omega arith)
 same_head text n (Parentheses at e) (Parentheses at' e') ts rest end u low k m r z h g =
-    let a = sign_same signs.OpenParenthesis signs.OpenParenthesis at at' ts ts h.0 g.0 refl h.2 g.2 in
-    let b = whole text n e e' h.0 g.0 h.1 g.1 u a.2 (omega arith) h.3 g.3 (has_stops signs.CloseParenthesis h.1 rest 16 h.4 (omega arith)) (has_stops signs.CloseParenthesis g.1 end 16 g.4 (omega arith)) in
-    (ap (λ (x : ℕ). Parentheses x e) a.1 ∙ ap (λ (x : Expression). Parentheses at' x) b.0, has_same signs.CloseParenthesis h.1 g.1 rest end b.1 h.4 g.4)
+    let a = punctuator_same punctuators.OpenParenthesis punctuators.OpenParenthesis at at' ts ts h.0 g.0 refl h.2 g.2 in
+    let b = whole text n e e' h.0 g.0 h.1 g.1 u a.2 (omega arith) h.3 g.3 (has_stops punctuators.CloseParenthesis h.1 rest 16 h.4 (omega arith)) (has_stops punctuators.CloseParenthesis g.1 end 16 g.4 (omega arith)) in
+    (ap (λ (x : ℕ). Parentheses x e) a.1 ∙ ap (λ (x : Expression). Parentheses at' x) b.0, has_same punctuators.CloseParenthesis h.1 g.1 rest end b.1 h.4 g.4)
 same_head text n (Parentheses at e) (Prefix at' op' e') ts rest end u low k m r z h g = let a = head_front text (Parentheses at e) ts rest k h in let b = head_front text (Prefix at' op' e') ts end m g in absurd (omega arith)
 same_head text n (Parentheses at e) (Unary at' op' e') ts rest end u low k m r z h g = let a = head_front text (Parentheses at e) ts rest k h in let b = head_front text (Unary at' op' e') ts end m g in absurd (omega arith)
-same_head text n (Parentheses at e) (Cast at' to' e') ts rest end u low k m r z h g = let a = sign_same signs.OpenParenthesis signs.OpenParenthesis at at' ts ts h.0 g.0 refl h.2 g.3 in let b = expression_front text e h.0 h.1 h.3 in let c = base_front to'.base g.0 g.4.0 g.4.1 in let d = ap front a.2 in absurd (omega arith)
+same_head text n (Parentheses at e) (Cast at' to' e') ts rest end u low k m r z h g = let a = punctuator_same punctuators.OpenParenthesis punctuators.OpenParenthesis at at' ts ts h.0 g.0 refl h.2 g.3 in let b = expression_front text e h.0 h.1 h.3 in let c = base_front to'.base g.0 g.4.0 g.4.1 in let d = ap front a.2 in absurd (omega arith)
 same_head text n (Parentheses at e) (Index v vt w) ts rest end u low k m r z h g = absurd m
 same_head text n (Parentheses at e) (Postfix v op2 vt) ts rest end u low k m r z h g = absurd m
 same_head text n (Parentheses at e) (Binary v vt op2 w) ts rest end u low k m r z h g = absurd m
@@ -381,7 +381,7 @@ same_head text n (Prefix at op e) (Information at' field') ts rest end u low k m
 same_head text n (Prefix at op e) (Call name' es') ts rest end u low k m r z h g = let a = head_front text (Prefix at op e) ts rest k h in let b = head_front text (Call name' es') ts end m g in absurd (omega arith)
 same_head text n (Prefix at op e) (Parentheses at' e') ts rest end u low k m r z h g = let a = head_front text (Prefix at op e) ts rest k h in let b = head_front text (Parentheses at' e') ts end m g in absurd (omega arith)
 same_head text n (Prefix at op e) (Prefix at' op' e') ts rest end u low k m r z h g =
-    let a = sign_same (increment_sign op) (increment_sign op') at at' ts ts h.0 g.0 refl h.1 g.1 in
+    let a = punctuator_same (increment_punctuator op) (increment_punctuator op') at at' ts ts h.0 g.0 refl h.1 g.1 in
     let b = part text n 2 e e' h.0 g.0 rest end u a.2 (omega arith) h.2 g.2 h.3 g.3 r z in
     (ap (λ (x : ℕ). Prefix x op e) a.1 ∙ ap (λ (x : Increment). Prefix at' x e) (same_increment op op' a.0) ∙ ap (λ (x : Expression). Prefix at' op' x) b.0, b.1)
 same_head text n (Prefix at op e) (Unary at' op' e') ts rest end u low k m r z h g = let a = head_front text (Prefix at op e) ts rest k h in let b = head_front text (Unary at' op' e') ts end m g in absurd (omega arith)
@@ -399,7 +399,7 @@ same_head text n (Unary at op e) (Call name' es') ts rest end u low k m r z h g 
 same_head text n (Unary at op e) (Parentheses at' e') ts rest end u low k m r z h g = let a = head_front text (Unary at op e) ts rest k h in let b = head_front text (Parentheses at' e') ts end m g in absurd (omega arith)
 same_head text n (Unary at op e) (Prefix at' op' e') ts rest end u low k m r z h g = let a = head_front text (Unary at op e) ts rest k h in let b = head_front text (Prefix at' op' e') ts end m g in absurd (omega arith)
 same_head text n (Unary at op e) (Unary at' op' e') ts rest end u low k m r z h g =
-    let a = sign_same (unary_sign op) (unary_sign op') at at' ts ts h.0 g.0 refl h.1 g.1 in
+    let a = punctuator_same (unary_punctuator op) (unary_punctuator op') at at' ts ts h.0 g.0 refl h.1 g.1 in
     let b = part text n 3 e e' h.0 g.0 rest end u a.2 (omega arith) h.2 g.2 h.3 g.3 r z in
     (ap (λ (x : ℕ). Unary x op e) a.1 ∙ ap (λ (x : UnaryOperator). Unary at' x e) (same_unary op op' a.0) ∙ ap (λ (x : Expression). Unary at' op' x) b.0, b.1)
 same_head text n (Unary at op e) (Cast at' to' e') ts rest end u low k m r z h g = let a = head_front text (Unary at op e) ts rest k h in let b = head_front text (Cast at' to' e') ts end m g in absurd (omega arith)
@@ -413,13 +413,13 @@ same_head text n (Cast at to e) (Constant at' literal') ts rest end u low k m r 
 same_head text n (Cast at to e) (Variable name') ts rest end u low k m r z h g = let a = head_front text (Cast at to e) ts rest k h in let b = head_front text (Variable name') ts end m g in absurd (omega arith)
 same_head text n (Cast at to e) (Information at' field') ts rest end u low k m r z h g = let a = head_front text (Cast at to e) ts rest k h in let b = head_front text (Information at' field') ts end m g in absurd (omega arith)
 same_head text n (Cast at to e) (Call name' es') ts rest end u low k m r z h g = let a = head_front text (Cast at to e) ts rest k h in let b = head_front text (Call name' es') ts end m g in absurd (omega arith)
-same_head text n (Cast at to e) (Parentheses at' e') ts rest end u low k m r z h g = let a = sign_same signs.OpenParenthesis signs.OpenParenthesis at at' ts ts h.0 g.0 refl h.3 g.2 in let b = expression_front text e' g.0 g.1 g.3 in let c = base_front to.base h.0 h.4.0 h.4.1 in let d = ap front a.2 in absurd (omega arith)
+same_head text n (Cast at to e) (Parentheses at' e') ts rest end u low k m r z h g = let a = punctuator_same punctuators.OpenParenthesis punctuators.OpenParenthesis at at' ts ts h.0 g.0 refl h.3 g.2 in let b = expression_front text e' g.0 g.1 g.3 in let c = base_front to.base h.0 h.4.0 h.4.1 in let d = ap front a.2 in absurd (omega arith)
 same_head text n (Cast at to e) (Prefix at' op' e') ts rest end u low k m r z h g = let a = head_front text (Cast at to e) ts rest k h in let b = head_front text (Prefix at' op' e') ts end m g in absurd (omega arith)
 same_head text n (Cast at to e) (Unary at' op' e') ts rest end u low k m r z h g = let a = head_front text (Cast at to e) ts rest k h in let b = head_front text (Unary at' op' e') ts end m g in absurd (omega arith)
 same_head text n (Cast at to e) (Cast at' to' e') ts rest end u low k m r z h g =
-    let a = sign_same signs.OpenParenthesis signs.OpenParenthesis at at' ts ts h.0 g.0 refl h.3 g.3 in
+    let a = punctuator_same punctuators.OpenParenthesis punctuators.OpenParenthesis at at' ts ts h.0 g.0 refl h.3 g.3 in
     let t = type_once to to' h.0 g.0 h.1 g.1 a.2 (close_type h.1 h.2 h.5) (close_type g.1 g.2 g.5) (close_star h.1 h.2 h.5) (close_star g.1 g.2 g.5) h.4 g.4 in
-    let c = has_same signs.CloseParenthesis h.1 g.1 h.2 g.2 t.1 h.5 g.5 in
+    let c = has_same punctuators.CloseParenthesis h.1 g.1 h.2 g.2 t.1 h.5 g.5 in
     let b = part text n 3 e e' h.2 g.2 rest end u c (omega arith) h.6 g.6 h.7 g.7 r z in
     (ap (λ (x : ℕ). Cast x to e) a.1 ∙ ap (λ (x : CType). Cast at' x e) t.0 ∙ ap (λ (x : Expression). Cast at' to' x) b.0, b.1)
 same_head text n (Cast at to e) (Index v vt w) ts rest end u low k m r z h g = absurd m

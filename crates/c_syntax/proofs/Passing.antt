@@ -2,13 +2,13 @@
 use Rattle.std.proofs.Common.{◌≡◌, ◌≤◌, ◌<◌, ℕ, List, [], ◌∷◌, sym, ap, subst, arith}
 use Rattle.c_lex.specs.declared.token.Token.{Token}
 use Rattle.c_syntax.specs.Expression.{Expression, height}
-use Rattle.c_syntax.specs.Expressions.{rank, Spells, Derives}
+use Rattle.c_syntax.specs.Expressions.{rank, SpellsExpression, Derives}
 use Rattle.c_syntax.specs.Follow.{follows, Stops}
 use Rattle.c_syntax.specs.Steps.{Step, apply, bound, Tail, Run, Closes}
 use Rattle.c_syntax.proofs.Spine.{spine, step_follows, reach, reaches, wide_step, closes, run_reach, run_rank, run_height}
 use Rattle.c_syntax.proofs.Once.{Below, below, same_tail, same_head}
 
--- Behind the left part stands a step, and the expression goes on behind that.
+-- After the left part is a step, and the expression continues after that.
 pub record Goes (text : List ℕ) (left : Expression) (rest : List Token) (e : Expression) (end : List Token) : Type 0 where
   pub step : Step
   pub mid : List Token
@@ -43,8 +43,8 @@ along text n l p (x ∷ steps) (y ∷ steps') ts left rest e end u low a b s c d
     let w : Run text (apply p x) steps' r.0 e end = subst (λ (z : List Token). Run text (apply p x) steps' z e end) q.1 v in
     along text n l (apply p x) steps steps' r.0 left rest e end u low a b s c d r.3 w
 
--- A left part was read, and the next token goes on: whatever stands at the front at all goes through it.
-pub passes : (text : List ℕ) (l : ℕ) (left : Expression) (ts rest : List Token) (e : Expression) (end : List Token) → Spells text left ts rest → rank left ≤ l → Closes left rest → follows rest ≤ l → Derives text l e ts end → Stops l end → Goes text left rest e end
+-- A left part was read, and the next token continues: whatever is at the front at all goes through it.
+pub passes : (text : List ℕ) (l : ℕ) (left : Expression) (ts rest : List Token) (e : Expression) (end : List Token) → SpellsExpression text left ts rest → rank left ≤ l → Closes left rest → follows rest ≤ l → Derives text l e ts end → Stops l end → Goes text left rest e end
 passes text l left ts rest e end h a c d g s =
     let x = spine text left ts rest h in
     let y = spine text e ts end g.spells in

@@ -7,9 +7,9 @@ use Rattle.c_syntax.specs.declared.expression.Base.{Base}
 use Rattle.c_syntax.specs.declared.expression.Field.{Field}
 use Rattle.c_syntax.specs.declared.expression.Field.TheVariants as fields
 use Rattle.c_syntax.specs.Expression.{Expression, Constant, Variable, Information, Call, Parentheses, Index, Postfix, Prefix, Unary, Cast, Binary, Conditional, Assign, Comma, Arguments, Done, Next}
-use Rattle.c_syntax.specs.Expressions.{IsField, Spells, SpellsArguments, SpellsMore}
-use Rattle.c_syntax.specs.Statement.{Local, First, Declaring, Evaluating, Statement, Declare, Block, Evaluate, If, IfElse, While, DoWhile, For, Return, Break, Continue, Leave, TryExcept, TryFinally, Statements, Empty, Then}
-use Rattle.c_syntax.specs.Statements.{IsInitialiser, IsLocal, AreMoreLocals, AreLocals, IsDeclaration, IsOptional, IsCondition, IsFirst, IsItem, AreItems}
+use Rattle.c_syntax.specs.Expressions.{IsField, SpellsExpression, SpellsArguments, SpellsMoreArguments}
+use Rattle.c_syntax.specs.Statement.{Local, ForInitialiser, Declaring, Evaluating, Statement, Declare, Block, Evaluate, If, IfElse, While, DoWhile, For, Return, Break, Continue, Leave, TryExcept, TryFinally, Statements, Empty, Then}
+use Rattle.c_syntax.specs.Statements.{IsInitialiser, IsLocal, AreMoreLocals, AreLocals, IsDeclaration, IsOptional, IsCondition, IsForInitialiser, IsBlockItem, AreBlockItems}
 use Rattle.c_syntax.specs.Tokens.{IsKind}
 use Rattle.c_syntax.specs.Types.{spellings, AreKeywords, IsOneOf, IsBase, AreStars}
 
@@ -40,7 +40,7 @@ field text (fields.Information index at) ts rest h =
     let a = ap length h.3.1 in let b = ap length h.4.1.1 in let c = ap length h.5.1.1 in let d = ap length h.6.1.1 in omega arith
 
 mutual
-  pub expression : (text : List ℕ) (e : Expression) (ts rest : List Token) → Spells text e ts rest → length rest < length ts
+  pub expression : (text : List ℕ) (e : Expression) (ts rest : List Token) → SpellsExpression text e ts rest → length rest < length ts
   expression text (Constant at literal) ts rest h = by_kind _ at ts rest h
   expression text (Variable name) ts rest h = let a = ap length h in omega arith
   expression text (Information at f) ts rest h =
@@ -64,7 +64,7 @@ mutual
   arguments text Done ts rest h = let a = ap length h.1.1 in omega arith
   arguments text (Next e es) ts rest h = let a = expression text e ts h.0 h.2 in let b = more text es h.0 rest h.3 in omega arith
 
-  more : (text : List ℕ) (es : Arguments) (ts rest : List Token) → SpellsMore text es ts rest → length rest < length ts
+  more : (text : List ℕ) (es : Arguments) (ts rest : List Token) → SpellsMoreArguments text es ts rest → length rest < length ts
   more text Done ts rest h = let a = ap length h.1.1 in omega arith
   more text (Next e es) ts rest h = let a = ap length h.2.1.1 in let b = expression text e h.0 h.1 h.4 in let c = more text es h.1 rest h.5 in omega arith
 
@@ -93,12 +93,12 @@ locals text (l ∷ ls) ts rest h = let b = local text l ts h.0 h.1 in let c = mo
 pub declaration : (text : List ℕ) (b : Base) (ls : List Local) (ts rest : List Token) → IsDeclaration text b ls ts rest → length rest < length ts
 declaration text b ls ts rest h = let a = base b ts h.0 h.1 in let c = locals text ls h.0 rest h.2 in omega arith
 
-first : (text : List ℕ) (f : First) (ts rest : List Token) → IsFirst text f ts rest → length rest < length ts
+first : (text : List ℕ) (f : ForInitialiser) (ts rest : List Token) → IsForInitialiser text f ts rest → length rest < length ts
 first text (Declaring b ls) ts rest h = declaration text b ls ts rest h
 first text (Evaluating e) ts rest h = let a = optional text e ts h.0 h.1 in let b = ap length h.2.1.1 in omega arith
 
 mutual
-  pub item : (text : List ℕ) (s : Statement) (ts rest : List Token) → IsItem text s ts rest → length rest < length ts
+  pub item : (text : List ℕ) (s : Statement) (ts rest : List Token) → IsBlockItem text s ts rest → length rest < length ts
   item text (Declare b ls) ts rest h = declaration text b ls ts rest h
   item text (Block ss) ts rest h = let a = ap length h.1.1.1 in let b = items text ss h.0 rest h.2 in omega arith
   item text (Evaluate e) ts rest h = let a = optional text e ts h.0 h.1 in let b = ap length h.2.1.1 in omega arith
@@ -120,6 +120,6 @@ mutual
   item text (TryFinally body at last) ts rest h =
       let a = ap length h.5.1.1 in let b = ap length h.6.1.1 in let c = items text body h.1 h.2 h.7 in let d = ap length h.8.1 in let g = ap length h.9.1.1 in let i = items text last h.4 rest h.10 in omega arith
 
-  pub items : (text : List ℕ) (ss : Statements) (ts rest : List Token) → AreItems text ss ts rest → length rest < length ts
+  pub items : (text : List ℕ) (ss : Statements) (ts rest : List Token) → AreBlockItems text ss ts rest → length rest < length ts
   items text Empty ts rest h = let a = ap length h.1.1 in omega arith
   items text (Then s ss) ts rest h = let a = item text s ts h.0 h.1 in let b = items text ss h.0 rest h.2 in omega arith

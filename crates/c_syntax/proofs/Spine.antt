@@ -1,7 +1,7 @@
--- An expression is its first operand and the steps behind it, from left to right.
+-- An expression is its first operand and the steps after it, from left to right.
 use Rattle.std.proofs.Common.{◌≡◌, ◌≤◌, ◌<◌, ◌-◌, ℕ, List, [], ◌∷◌, ◌++◌, Option, Some, None, refl, sym, ap, ◌∙◌, subst, arith}
-use Rattle.c_lex.specs.declared.sign.Sign.{Sign}
-use Rattle.c_lex.specs.declared.sign.Sign.TheVariants as signs
+use Rattle.c_lex.specs.declared.punctuator.Punctuator.{Punctuator}
+use Rattle.c_lex.specs.declared.punctuator.Punctuator.TheVariants as punctuators
 use Rattle.c_lex.specs.declared.token.Kind.{Kind}
 use Rattle.c_lex.specs.declared.token.Kind.TheVariants as kinds
 use Rattle.c_lex.specs.declared.token.Token.{Token}
@@ -14,18 +14,18 @@ use Rattle.c_syntax.specs.declared.operator.BinaryOperator.TheVariants as binary
 use Rattle.c_syntax.specs.declared.operator.Increment.{Increment}
 use Rattle.c_syntax.specs.declared.operator.Increment.TheVariants as increments
 use Rattle.c_syntax.specs.Expression.{Expression, Constant, Variable, Information, Call, Parentheses, Index, Postfix, Prefix, Unary, Cast, Binary, Conditional, Assign, Comma, height}
-use Rattle.c_syntax.specs.Expressions.{rank, Spells}
-use Rattle.c_syntax.specs.Follow.{sign_follows, kind_follows, follows, Stops}
-use Rattle.c_syntax.specs.Operators.{level, level_of_arithmetic, level_of_comparison, binary_sign, sign_of_arithmetic, sign_of_comparison, increment_sign, assignment_sign}
+use Rattle.c_syntax.specs.Expressions.{rank, SpellsExpression}
+use Rattle.c_syntax.specs.Follow.{punctuator_follows, kind_follows, follows, Stops}
+use Rattle.c_syntax.specs.Operators.{level, level_of_arithmetic, level_of_comparison, binary_punctuator, punctuator_of_arithmetic, punctuator_of_comparison, increment_punctuator, assignment_punctuator}
 use Rattle.c_syntax.specs.Steps.{Step, At, After, With, Choose, Set, And, apply, bound, Tail, Run, IsHead, Closes}
-use Rattle.c_syntax.specs.Tokens.{IsSign}
+use Rattle.c_syntax.specs.Tokens.{IsPunctuator}
 
 pub record Spine (text : List ℕ) (e : Expression) (ts end : List Token) : Type 0 where
   pub head : Expression
   pub steps : List Step
   pub after : List Token
   pub is_head : IsHead head
-  pub spells : Spells text head ts after
+  pub spells : SpellsExpression text head ts after
   pub run : Run text head steps after e end
 
 along : (text : List ℕ) (e f : Expression) (s : Step) (ts mid end : List Token) → f ≡ e → ts ≡ mid → rank e ≤ bound s → Tail text s mid end → Run text f (s ∷ []) ts (apply e s) end
@@ -36,13 +36,13 @@ snoc : (text : List ℕ) (left : Expression) (steps : List Step) (ts : List Toke
 snoc text left [] ts e mid s end r h t = along text e left s ts mid end r.0 r.1 h t
 snoc text left (x ∷ steps) ts e mid s end r h t = (r.0, r.1, r.2, snoc text (apply left x) steps r.0 e mid s end r.3 h t)
 
-alone : (text : List ℕ) (e : Expression) (ts end : List Token) → IsHead e → Spells text e ts end → Spine text e ts end
+alone : (text : List ℕ) (e : Expression) (ts end : List Token) → IsHead e → SpellsExpression text e ts end → Spine text e ts end
 alone text e ts end i h = record { head = e; steps = []; after = end; is_head = i; spells = h; run = (refl, refl) }
 
 one_more : (text : List ℕ) (e : Expression) (s : Step) (ts mid end : List Token) → Spine text e ts mid → rank e ≤ bound s → Tail text s mid end → Spine text (apply e s) ts end
 one_more text e s ts mid end c h t = record { head = c.head; steps = c.steps ++ s ∷ []; after = c.after; is_head = c.is_head; spells = c.spells; run = snoc text c.head c.steps c.after e mid s end c.run h t }
 
-pub spine : (text : List ℕ) (e : Expression) (ts end : List Token) → Spells text e ts end → Spine text e ts end
+pub spine : (text : List ℕ) (e : Expression) (ts end : List Token) → SpellsExpression text e ts end → Spine text e ts end
 spine text (Constant at literal) ts end h = alone text (Constant at literal) ts end tt h
 spine text (Variable name) ts end h = alone text (Variable name) ts end tt h
 spine text (Information at field) ts end h = alone text (Information at field) ts end tt h
@@ -60,7 +60,7 @@ spine text (Comma e at f) ts end h = one_more text e (And at f) ts h.0 end (spin
 
 -- ---- levels
 
-arithmetic_levels : (op : Arithmetic) → (4 ≤ level_of_arithmetic op) × (level_of_arithmetic op ≤ 13) × (sign_follows (sign_of_arithmetic op) ≡ level_of_arithmetic op)
+arithmetic_levels : (op : Arithmetic) → (4 ≤ level_of_arithmetic op) × (level_of_arithmetic op ≤ 13) × (punctuator_follows (punctuator_of_arithmetic op) ≡ level_of_arithmetic op)
 arithmetic_levels arithmetic.Multiply = (omega arith, omega arith, refl)
 arithmetic_levels arithmetic.Divide = (omega arith, omega arith, refl)
 arithmetic_levels arithmetic.Remainder = (omega arith, omega arith, refl)
@@ -72,7 +72,7 @@ arithmetic_levels arithmetic.And = (omega arith, omega arith, refl)
 arithmetic_levels arithmetic.ExclusiveOr = (omega arith, omega arith, refl)
 arithmetic_levels arithmetic.Or = (omega arith, omega arith, refl)
 
-comparison_levels : (op : Comparison) → (4 ≤ level_of_comparison op) × (level_of_comparison op ≤ 13) × (sign_follows (sign_of_comparison op) ≡ level_of_comparison op)
+comparison_levels : (op : Comparison) → (4 ≤ level_of_comparison op) × (level_of_comparison op ≤ 13) × (punctuator_follows (punctuator_of_comparison op) ≡ level_of_comparison op)
 comparison_levels comparisons.Less = (omega arith, omega arith, refl)
 comparison_levels comparisons.Greater = (omega arith, omega arith, refl)
 comparison_levels comparisons.LessEqual = (omega arith, omega arith, refl)
@@ -80,17 +80,17 @@ comparison_levels comparisons.GreaterEqual = (omega arith, omega arith, refl)
 comparison_levels comparisons.Equal = (omega arith, omega arith, refl)
 comparison_levels comparisons.NotEqual = (omega arith, omega arith, refl)
 
-pub levels : (op : BinaryOperator) → (4 ≤ level op) × (level op ≤ 13) × (sign_follows (binary_sign op) ≡ level op)
+pub levels : (op : BinaryOperator) → (4 ≤ level op) × (level op ≤ 13) × (punctuator_follows (binary_punctuator op) ≡ level op)
 levels (binary.Arithmetic op) = arithmetic_levels op
 levels (binary.Comparison op) = comparison_levels op
 levels binary.LogicalAnd = (omega arith, omega arith, refl)
 levels binary.LogicalOr = (omega arith, omega arith, refl)
 
-increment_follows : (op : Increment) → sign_follows (increment_sign op) ≡ 1
+increment_follows : (op : Increment) → punctuator_follows (increment_punctuator op) ≡ 1
 increment_follows increments.Increment = refl
 increment_follows increments.Decrement = refl
 
-assignment_follows : (op : Option Arithmetic) → sign_follows (assignment_sign op) ≡ 15
+assignment_follows : (op : Option Arithmetic) → punctuator_follows (assignment_punctuator op) ≡ 15
 assignment_follows None = refl
 assignment_follows (Some arithmetic.Multiply) = refl
 assignment_follows (Some arithmetic.Divide) = refl
@@ -103,78 +103,78 @@ assignment_follows (Some arithmetic.And) = refl
 assignment_follows (Some arithmetic.ExclusiveOr) = refl
 assignment_follows (Some arithmetic.Or) = refl
 
--- the level of a step is that of the sign with which it begins
-pub follows_sign : (s : Sign) (at : ℕ) (ts rest : List Token) (l : ℕ) → IsSign s at ts rest → sign_follows s ≡ l → follows ts ≡ l
-follows_sign s at ts rest l h p = ap follows h.1 ∙ p
+-- the level of a step is that of the punctuator with which it begins
+pub follows_punctuator : (s : Punctuator) (at : ℕ) (ts rest : List Token) (l : ℕ) → IsPunctuator s at ts rest → punctuator_follows s ≡ l → follows ts ≡ l
+follows_punctuator s at ts rest l h p = ap follows h.1 ∙ p
 
 pub step_follows : (text : List ℕ) (e : Expression) (s : Step) (ts rest : List Token) → Tail text s ts rest → follows ts ≡ rank (apply e s)
-step_follows text e (At at i) ts rest h = follows_sign signs.OpenBracket at ts h.0 1 h.2 refl
-step_follows text e (After op at) ts rest h = follows_sign (increment_sign op) at ts rest 1 h (increment_follows op)
-step_follows text e (With at op f) ts rest h = follows_sign (binary_sign op) at ts h.0 (level op) h.1 (levels op).2
-step_follows text e (Choose at f g) ts rest h = follows_sign signs.Question at ts h.0 14 h.3 refl
-step_follows text e (Set at op f) ts rest h = follows_sign (assignment_sign op) at ts h.0 15 h.1 (assignment_follows op)
-step_follows text e (And at f) ts rest h = follows_sign signs.Comma at ts h.0 16 h.1 refl
+step_follows text e (At at i) ts rest h = follows_punctuator punctuators.OpenBracket at ts h.0 1 h.2 refl
+step_follows text e (After op at) ts rest h = follows_punctuator (increment_punctuator op) at ts rest 1 h (increment_follows op)
+step_follows text e (With at op f) ts rest h = follows_punctuator (binary_punctuator op) at ts h.0 (level op) h.1 (levels op).2
+step_follows text e (Choose at f g) ts rest h = follows_punctuator punctuators.Question at ts h.0 14 h.3 refl
+step_follows text e (Set at op f) ts rest h = follows_punctuator (assignment_punctuator op) at ts h.0 15 h.1 (assignment_follows op)
+step_follows text e (And at f) ts rest h = follows_punctuator punctuators.Comma at ts h.0 16 h.1 refl
 
--- no sign stands behind an operand at the levels 2 and 3
-sign_gap : (s : Sign) → 2 < sign_follows s → 4 ≤ sign_follows s
-sign_gap signs.OpenParenthesis h = omega arith
-sign_gap signs.CloseParenthesis h = omega arith
-sign_gap signs.OpenBracket h = omega arith
-sign_gap signs.CloseBracket h = omega arith
-sign_gap signs.OpenBrace h = omega arith
-sign_gap signs.CloseBrace h = omega arith
-sign_gap signs.Semicolon h = omega arith
-sign_gap signs.Comma h = omega arith
-sign_gap signs.Question h = omega arith
-sign_gap signs.Colon h = omega arith
-sign_gap signs.Arrow h = omega arith
-sign_gap signs.Assign h = omega arith
-sign_gap signs.PlusAssign h = omega arith
-sign_gap signs.MinusAssign h = omega arith
-sign_gap signs.StarAssign h = omega arith
-sign_gap signs.SlashAssign h = omega arith
-sign_gap signs.PercentAssign h = omega arith
-sign_gap signs.AmpersandAssign h = omega arith
-sign_gap signs.BarAssign h = omega arith
-sign_gap signs.CaretAssign h = omega arith
-sign_gap signs.ShiftLeftAssign h = omega arith
-sign_gap signs.ShiftRightAssign h = omega arith
-sign_gap signs.BarBar h = omega arith
-sign_gap signs.AmpersandAmpersand h = omega arith
-sign_gap signs.Bar h = omega arith
-sign_gap signs.Caret h = omega arith
-sign_gap signs.Ampersand h = omega arith
-sign_gap signs.Equal h = omega arith
-sign_gap signs.NotEqual h = omega arith
-sign_gap signs.Less h = omega arith
-sign_gap signs.Greater h = omega arith
-sign_gap signs.LessEqual h = omega arith
-sign_gap signs.GreaterEqual h = omega arith
-sign_gap signs.ShiftLeft h = omega arith
-sign_gap signs.ShiftRight h = omega arith
-sign_gap signs.Plus h = omega arith
-sign_gap signs.Minus h = omega arith
-sign_gap signs.Star h = omega arith
-sign_gap signs.Slash h = omega arith
-sign_gap signs.Percent h = omega arith
-sign_gap signs.Exclamation h = omega arith
-sign_gap signs.Tilde h = omega arith
-sign_gap signs.PlusPlus h = omega arith
-sign_gap signs.MinusMinus h = omega arith
+-- no punctuator is after an operand at the levels 2 and 3
+punctuator_gap : (s : Punctuator) → 2 < punctuator_follows s → 4 ≤ punctuator_follows s
+punctuator_gap punctuators.OpenParenthesis h = omega arith
+punctuator_gap punctuators.CloseParenthesis h = omega arith
+punctuator_gap punctuators.OpenBracket h = omega arith
+punctuator_gap punctuators.CloseBracket h = omega arith
+punctuator_gap punctuators.OpenBrace h = omega arith
+punctuator_gap punctuators.CloseBrace h = omega arith
+punctuator_gap punctuators.Semicolon h = omega arith
+punctuator_gap punctuators.Comma h = omega arith
+punctuator_gap punctuators.Question h = omega arith
+punctuator_gap punctuators.Colon h = omega arith
+punctuator_gap punctuators.Arrow h = omega arith
+punctuator_gap punctuators.Assign h = omega arith
+punctuator_gap punctuators.PlusAssign h = omega arith
+punctuator_gap punctuators.MinusAssign h = omega arith
+punctuator_gap punctuators.StarAssign h = omega arith
+punctuator_gap punctuators.SlashAssign h = omega arith
+punctuator_gap punctuators.PercentAssign h = omega arith
+punctuator_gap punctuators.AmpersandAssign h = omega arith
+punctuator_gap punctuators.BarAssign h = omega arith
+punctuator_gap punctuators.CaretAssign h = omega arith
+punctuator_gap punctuators.ShiftLeftAssign h = omega arith
+punctuator_gap punctuators.ShiftRightAssign h = omega arith
+punctuator_gap punctuators.BarBar h = omega arith
+punctuator_gap punctuators.AmpersandAmpersand h = omega arith
+punctuator_gap punctuators.Bar h = omega arith
+punctuator_gap punctuators.Caret h = omega arith
+punctuator_gap punctuators.Ampersand h = omega arith
+punctuator_gap punctuators.Equal h = omega arith
+punctuator_gap punctuators.NotEqual h = omega arith
+punctuator_gap punctuators.Less h = omega arith
+punctuator_gap punctuators.Greater h = omega arith
+punctuator_gap punctuators.LessEqual h = omega arith
+punctuator_gap punctuators.GreaterEqual h = omega arith
+punctuator_gap punctuators.ShiftLeft h = omega arith
+punctuator_gap punctuators.ShiftRight h = omega arith
+punctuator_gap punctuators.Plus h = omega arith
+punctuator_gap punctuators.Minus h = omega arith
+punctuator_gap punctuators.Star h = omega arith
+punctuator_gap punctuators.Slash h = omega arith
+punctuator_gap punctuators.Percent h = omega arith
+punctuator_gap punctuators.Exclamation h = omega arith
+punctuator_gap punctuators.Tilde h = omega arith
+punctuator_gap punctuators.PlusPlus h = omega arith
+punctuator_gap punctuators.MinusMinus h = omega arith
 
 kind_gap : (k : Kind) → 2 < kind_follows k → 4 ≤ kind_follows k
-kind_gap kinds.Name h = omega arith
+kind_gap kinds.Identifier h = omega arith
 kind_gap (kinds.Keyword k) h = omega arith
 kind_gap (kinds.Reserved r) h = omega arith
 kind_gap (kinds.Integer value type) h = omega arith
-kind_gap (kinds.Character value) h = omega arith
-kind_gap (kinds.Sign s) h = sign_gap s h
+kind_gap (kinds.CharacterConstant value) h = omega arith
+kind_gap (kinds.Punctuator s) h = punctuator_gap s h
 
 gap : (ts : List Token) → 2 < follows ts → 4 ≤ follows ts
 gap [] h = omega arith
 gap (t ∷ ts) h = kind_gap t.kind h
 
--- the level down to which the last operand goes on
+-- the level down to which the last operand continues
 abbrev pub reach : Expression → ℕ
 reach (Constant at literal) = 0
 reach (Variable name) = 0

@@ -3,7 +3,7 @@ use Rattle.std.proofs.Common.{◌≡◌, ℕ, List, ◌∷◌, refl}
 use Rattle.c_lex.specs.declared.token.Kind.{Kind}
 use Rattle.c_lex.specs.declared.token.Token.{Token}
 use Rattle.c_syntax.specs.Expression.{Expression, Constant, Variable, Information, Call, Parentheses, Index, Postfix, Prefix, Unary, Cast, Binary, Conditional, Assign, Comma, start}
-use Rattle.c_syntax.specs.Expressions.{Spells}
+use Rattle.c_syntax.specs.Expressions.{SpellsExpression}
 use Rattle.c_syntax.specs.Follow.{Begins}
 use Rattle.c_syntax.specs.Tokens.{IsKind, token}
 
@@ -13,7 +13,7 @@ Starts at ts = (t : Token) × (more : List Token) × (ts ≡ t ∷ more) × (t.s
 by_kind : (k : Kind) (at : ℕ) (ts rest : List Token) → IsKind k at ts rest → Starts at ts
 by_kind k at ts rest h = (token k at h.0, rest, h.1, refl)
 
-starts : (text : List ℕ) (e : Expression) (ts rest : List Token) → Spells text e ts rest → Starts (start e) ts
+starts : (text : List ℕ) (e : Expression) (ts rest : List Token) → SpellsExpression text e ts rest → Starts (start e) ts
 starts text (Constant at literal) ts rest h = by_kind _ at ts rest h
 starts text (Variable name) ts rest h = (_, rest, h, refl)
 starts text (Information at field) ts rest h = by_kind _ at ts h.0 h.6

@@ -10,14 +10,14 @@ use Rattle.c_syntax.specs.declared.expression.Expr.TheOpen as opened
 use Rattle.c_syntax.specs.declared.expression.Expr.TheFolds.{fold-Expr}
 use Rattle.c_syntax.specs.declared.expression.Field.{Field}
 use Rattle.c_syntax.specs.declared.expression.Literal.{Literal}
-use Rattle.c_syntax.specs.declared.expression.Name.{Name}
+use Rattle.c_syntax.specs.declared.expression.Identifier.{Identifier}
 
 mutual
   pub data Expression : Type 0 where
     Constant : ℕ → Literal → Expression
-    Variable : Name → Expression
+    Variable : Identifier → Expression
     Information : ℕ → Field → Expression
-    Call : Name → Arguments → Expression
+    Call : Identifier → Arguments → Expression
     Parentheses : ℕ → Expression → Expression
     Index : Expression → ℕ → Expression → Expression
     Postfix : Expression → Increment → ℕ → Expression

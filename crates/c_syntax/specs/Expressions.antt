@@ -1,15 +1,15 @@
--- The grammar of expressions, one case for each production (C11, 6.5 and annex A.2.1). An expression takes the tokens up to a rest. Names are read from the text.
+-- The grammar of expressions, one case for each production (C11, 6.5 and annex A.2.1). An expression takes the tokens up to a rest. Identifiers are read from the text.
 --     primary := literal | NAME | NAME '(' [assignment {',' assignment}] ')' | '(' comma ')' | information
 --     postfix := primary | postfix '[' comma ']' | postfix '++' | postfix '--'
 --     unary := postfix | '++' unary | '--' unary | operator cast
 --     cast := unary | '(' type ')' cast
 --     each binary level, the tightest first := the level below it | it operator (the level below it)
 --     conditional := logical-or | logical-or '?' comma ':' conditional
---     assignment := conditional | unary sign assignment
+--     assignment := conditional | unary punctuator assignment
 --     comma := assignment | comma ',' assignment
 use Rattle.std.specs.Prelude.{◌≤◌, ◌<◌, ℕ, List, codes}
 use Rattle.c_lex.specs.declared.keyword.Keyword.TheVariants as keywords
-use Rattle.c_lex.specs.declared.sign.Sign.TheVariants as signs
+use Rattle.c_lex.specs.declared.punctuator.Punctuator.TheVariants as punctuators
 use Rattle.c_lex.specs.declared.token.IntegerType.{IntegerType}
 use Rattle.c_lex.specs.declared.token.Kind.{Kind}
 use Rattle.c_lex.specs.declared.token.Kind.TheVariants as kinds
@@ -19,8 +19,8 @@ use Rattle.c_syntax.specs.declared.expression.Field.TheVariants as fields
 use Rattle.c_syntax.specs.declared.expression.Literal.{Literal}
 use Rattle.c_syntax.specs.declared.expression.Literal.TheVariants as literals
 use Rattle.c_syntax.specs.Expression.{Expression, Constant, Variable, Information, Call, Parentheses, Index, Postfix, Prefix, Unary, Cast, Binary, Conditional, Assign, Comma, Arguments, Done, Next}
-use Rattle.c_syntax.specs.Operators.{primary, postfix, unary, cast, logical_or, conditional, assignment, comma, level, binary_sign, unary_sign, increment_sign, assignment_sign}
-use Rattle.c_syntax.specs.Tokens.{IsKind, IsSign, IsKeyword, IsName, HasSign, HasWord}
+use Rattle.c_syntax.specs.Operators.{primary, postfix, unary, cast, logical_or, conditional, assignment, comma, level, binary_punctuator, unary_punctuator, increment_punctuator, assignment_punctuator}
+use Rattle.c_syntax.specs.Tokens.{IsKind, IsPunctuator, IsKeyword, IsIdentifier, HasPunctuator, HasWord}
 use Rattle.c_syntax.specs.Types.{IsType}
 
 -- the level of the production at the top
@@ -42,7 +42,7 @@ rank (Comma a at b) = comma
 
 abbrev pub literal_kind : Literal → Kind
 literal_kind (literals.Integer value type) = kinds.Integer value type
-literal_kind (literals.Character value) = kinds.Character value
+literal_kind (literals.CharacterConstant value) = kinds.CharacterConstant value
 
 -- an integer literal of any type
 abbrev pub IsInteger : ℕ → ℕ → List Token → List Token → Type 0
@@ -53,45 +53,45 @@ IsField text fields.Code ts rest = HasWord text (codes "ExceptionCode") ts rest
 IsField text fields.Flags ts rest = HasWord text (codes "ExceptionFlags") ts rest
 IsField text fields.Count ts rest = HasWord text (codes "NumberParameters") ts rest
 IsField text (fields.Information index at) ts rest =
-    (a : List Token) × (b : List Token) × (c : List Token) × HasWord text (codes "ExceptionInformation") ts a × HasSign signs.OpenBracket a b × IsInteger index at b c × HasSign signs.CloseBracket c rest
+    (a : List Token) × (b : List Token) × (c : List Token) × HasWord text (codes "ExceptionInformation") ts a × HasPunctuator punctuators.OpenBracket a b × IsInteger index at b c × HasPunctuator punctuators.CloseBracket c rest
 
 -- The tokens before the rest spell the expression; each operand is of the level that the production asks.
 abbrev mutual
-  pub Spells : List ℕ → Expression → List Token → List Token → Type 0
-  Spells text (Constant at literal) ts rest = IsKind (literal_kind literal) at ts rest
-  Spells text (Variable name) ts rest = IsName name ts rest
-  Spells text (Information at field) ts rest =
+  pub SpellsExpression : List ℕ → Expression → List Token → List Token → Type 0
+  SpellsExpression text (Constant at literal) ts rest = IsKind (literal_kind literal) at ts rest
+  SpellsExpression text (Variable name) ts rest = IsIdentifier name ts rest
+  SpellsExpression text (Information at field) ts rest =
       (a : List Token) × (b : List Token) × (c : List Token) × (d : List Token) × (f : List Token) × (g : List Token)
-      × IsKeyword keywords.GetExceptionInformation at ts a × HasSign signs.OpenParenthesis a b × HasSign signs.CloseParenthesis b c × HasSign signs.Arrow c d
-      × HasWord text (codes "ExceptionRecord") d f × HasSign signs.Arrow f g × IsField text field g rest
-  Spells text (Call name es) ts rest = (a : List Token) × (b : List Token) × IsName name ts a × HasSign signs.OpenParenthesis a b × SpellsArguments text es b rest
-  Spells text (Parentheses at e) ts rest = (a : List Token) × (b : List Token) × IsSign signs.OpenParenthesis at ts a × Spells text e a b × HasSign signs.CloseParenthesis b rest
-  Spells text (Index e at i) ts rest =
-      (a : List Token) × (b : List Token) × (c : List Token) × (rank e ≤ postfix) × Spells text e ts a × IsSign signs.OpenBracket at a b × Spells text i b c × HasSign signs.CloseBracket c rest
-  Spells text (Postfix e op at) ts rest = (a : List Token) × (rank e ≤ postfix) × Spells text e ts a × IsSign (increment_sign op) at a rest
-  Spells text (Prefix at op e) ts rest = (a : List Token) × IsSign (increment_sign op) at ts a × (rank e ≤ unary) × Spells text e a rest
-  Spells text (Unary at op e) ts rest = (a : List Token) × IsSign (unary_sign op) at ts a × (rank e ≤ cast) × Spells text e a rest
-  Spells text (Cast at to e) ts rest =
-      (a : List Token) × (b : List Token) × (c : List Token) × IsSign signs.OpenParenthesis at ts a × IsType to a b × HasSign signs.CloseParenthesis b c × (rank e ≤ cast) × Spells text e c rest
-  Spells text (Binary e at op f) ts rest =
-      (a : List Token) × (b : List Token) × (rank e ≤ level op) × Spells text e ts a × IsSign (binary_sign op) at a b × (rank f < level op) × Spells text f b rest
-  Spells text (Conditional e at f g) ts rest =
+      × IsKeyword keywords.GetExceptionInformation at ts a × HasPunctuator punctuators.OpenParenthesis a b × HasPunctuator punctuators.CloseParenthesis b c × HasPunctuator punctuators.Arrow c d
+      × HasWord text (codes "ExceptionRecord") d f × HasPunctuator punctuators.Arrow f g × IsField text field g rest
+  SpellsExpression text (Call name es) ts rest = (a : List Token) × (b : List Token) × IsIdentifier name ts a × HasPunctuator punctuators.OpenParenthesis a b × SpellsArguments text es b rest
+  SpellsExpression text (Parentheses at e) ts rest = (a : List Token) × (b : List Token) × IsPunctuator punctuators.OpenParenthesis at ts a × SpellsExpression text e a b × HasPunctuator punctuators.CloseParenthesis b rest
+  SpellsExpression text (Index e at i) ts rest =
+      (a : List Token) × (b : List Token) × (c : List Token) × (rank e ≤ postfix) × SpellsExpression text e ts a × IsPunctuator punctuators.OpenBracket at a b × SpellsExpression text i b c × HasPunctuator punctuators.CloseBracket c rest
+  SpellsExpression text (Postfix e op at) ts rest = (a : List Token) × (rank e ≤ postfix) × SpellsExpression text e ts a × IsPunctuator (increment_punctuator op) at a rest
+  SpellsExpression text (Prefix at op e) ts rest = (a : List Token) × IsPunctuator (increment_punctuator op) at ts a × (rank e ≤ unary) × SpellsExpression text e a rest
+  SpellsExpression text (Unary at op e) ts rest = (a : List Token) × IsPunctuator (unary_punctuator op) at ts a × (rank e ≤ cast) × SpellsExpression text e a rest
+  SpellsExpression text (Cast at to e) ts rest =
+      (a : List Token) × (b : List Token) × (c : List Token) × IsPunctuator punctuators.OpenParenthesis at ts a × IsType to a b × HasPunctuator punctuators.CloseParenthesis b c × (rank e ≤ cast) × SpellsExpression text e c rest
+  SpellsExpression text (Binary e at op f) ts rest =
+      (a : List Token) × (b : List Token) × (rank e ≤ level op) × SpellsExpression text e ts a × IsPunctuator (binary_punctuator op) at a b × (rank f < level op) × SpellsExpression text f b rest
+  SpellsExpression text (Conditional e at f g) ts rest =
       (a : List Token) × (b : List Token) × (c : List Token) × (d : List Token)
-      × (rank e ≤ logical_or) × Spells text e ts a × IsSign signs.Question at a b × Spells text f b c × HasSign signs.Colon c d × (rank g ≤ conditional) × Spells text g d rest
-  Spells text (Assign e at op f) ts rest =
-      (a : List Token) × (b : List Token) × (rank e ≤ unary) × Spells text e ts a × IsSign (assignment_sign op) at a b × (rank f ≤ assignment) × Spells text f b rest
-  Spells text (Comma e at f) ts rest = (a : List Token) × (b : List Token) × (rank e ≤ comma) × Spells text e ts a × IsSign signs.Comma at a b × (rank f ≤ assignment) × Spells text f b rest
+      × (rank e ≤ logical_or) × SpellsExpression text e ts a × IsPunctuator punctuators.Question at a b × SpellsExpression text f b c × HasPunctuator punctuators.Colon c d × (rank g ≤ conditional) × SpellsExpression text g d rest
+  SpellsExpression text (Assign e at op f) ts rest =
+      (a : List Token) × (b : List Token) × (rank e ≤ unary) × SpellsExpression text e ts a × IsPunctuator (assignment_punctuator op) at a b × (rank f ≤ assignment) × SpellsExpression text f b rest
+  SpellsExpression text (Comma e at f) ts rest = (a : List Token) × (b : List Token) × (rank e ≤ comma) × SpellsExpression text e ts a × IsPunctuator punctuators.Comma at a b × (rank f ≤ assignment) × SpellsExpression text f b rest
 
   -- arguments and the parenthesis that ends them
   pub SpellsArguments : List ℕ → Arguments → List Token → List Token → Type 0
-  SpellsArguments text Done ts rest = HasSign signs.CloseParenthesis ts rest
-  SpellsArguments text (Next e es) ts rest = (a : List Token) × (rank e ≤ assignment) × Spells text e ts a × SpellsMore text es a rest
+  SpellsArguments text Done ts rest = HasPunctuator punctuators.CloseParenthesis ts rest
+  SpellsArguments text (Next e es) ts rest = (a : List Token) × (rank e ≤ assignment) × SpellsExpression text e ts a × SpellsMoreArguments text es a rest
 
-  pub SpellsMore : List ℕ → Arguments → List Token → List Token → Type 0
-  SpellsMore text Done ts rest = HasSign signs.CloseParenthesis ts rest
-  SpellsMore text (Next e es) ts rest = (a : List Token) × (b : List Token) × HasSign signs.Comma ts a × (rank e ≤ assignment) × Spells text e a b × SpellsMore text es b rest
+  pub SpellsMoreArguments : List ℕ → Arguments → List Token → List Token → Type 0
+  SpellsMoreArguments text Done ts rest = HasPunctuator punctuators.CloseParenthesis ts rest
+  SpellsMoreArguments text (Next e es) ts rest = (a : List Token) × (b : List Token) × HasPunctuator punctuators.Comma ts a × (rank e ≤ assignment) × SpellsExpression text e a b × SpellsMoreArguments text es b rest
 
 -- The tokens before the rest are an expression of a level.
 pub record Derives (text : List ℕ) (l : ℕ) (e : Expression) (ts rest : List Token) : Type 0 where
   pub fits : rank e ≤ l
-  pub spells : Spells text e ts rest
+  pub spells : SpellsExpression text e ts rest

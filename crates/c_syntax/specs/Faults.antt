@@ -1,7 +1,7 @@
--- Where the reading of a phrase fails: the first token with which no phrase of the kind goes on.
+-- Where the reading of a phrase fails: the first token with which no phrase of the kind continues.
 use Rattle.std.specs.Prelude.{◌≡◌, ℕ, suc, List, [], ◌∷◌, ◌++◌, length, codes, slice_range}
 use Rattle.c_lex.specs.declared.token.Token.{Token}
-use Rattle.c_syntax.specs.declared.expression.Name.{Name}
+use Rattle.c_syntax.specs.declared.expression.Identifier.{Identifier}
 
 -- A kind of phrase, or that there is none of it, by how many limits hold, the text of the names, and tokens.
 abbrev pub Family : Type 1
@@ -24,8 +24,8 @@ place text (t ∷ ts) = t.start
 
 -- Somewhere in the text stand the words with which the reading of an exception's record can always end.
 pub record Speaks (text : List ℕ) : Type 0 where
-  pub of_record : Name
-  pub of_code : Name
+  pub of_record : Identifier
+  pub of_code : Identifier
   pub spells_record : slice_range text of_record.start of_record.end ≡ codes "ExceptionRecord"
   pub spells_code : slice_range text of_code.start of_code.end ≡ codes "ExceptionCode"
 
@@ -47,12 +47,12 @@ pub record Failed (kind at : ℕ) (No Has : Family) (text : List ℕ) (ts : List
   pub front : List Token
   pub fault : List Token
   pub split : ts ≡ front ++ fault
-  pub stands : at ≡ place text fault
+  pub located : at ≡ place text fault
   pub against : (text' : List ℕ) (other : List Token) → Alike text text' ts → SameFirst fault other → No kind text' (front ++ other)
   pub able : (text' : List ℕ) → Alike text text' ts → Speaks text' → Able Has 6 text' front
   pub further : (text' : List ℕ) (k : ℕ) → Alike text text' ts → Speaks text' → kind ≡ suc k → Onward Has k text' front fault
 
--- A phrase stands in a greater one, which begins with the tokens before it.
+-- A phrase is in a greater one, which begins with the tokens before it.
 pub record Wraps (No Has No' Has' : Family) (text : List ℕ) (ts ts' : List Token) : Type 0 where
   pub before : List Token
   pub split : ts' ≡ before ++ ts

@@ -1,7 +1,7 @@
--- How an expression goes on, and where it ends.
+-- How an expression continues, and where it ends.
 use Rattle.std.specs.Prelude.{◌≡◌, ◌<◌, ℕ, IsTrue, List, [], ◌∷◌}
-use Rattle.c_lex.specs.declared.sign.Sign.{Sign}
-use Rattle.c_lex.specs.declared.sign.Sign.TheVariants as signs
+use Rattle.c_lex.specs.declared.punctuator.Punctuator.{Punctuator}
+use Rattle.c_lex.specs.declared.punctuator.Punctuator.TheVariants as punctuators
 use Rattle.c_lex.specs.declared.token.Kind.{Kind}
 use Rattle.c_lex.specs.declared.token.Kind.TheVariants as kinds
 use Rattle.c_lex.specs.declared.token.Token.{Token}
@@ -9,69 +9,69 @@ use Rattle.c_syntax.specs.Expression.{Expression, start}
 use Rattle.c_lex.specs.declared.keyword.Keyword.TheVariants as keywords
 use Rattle.c_syntax.specs.Expressions.{Derives}
 use Rattle.c_syntax.specs.Statement.{Statement}
-use Rattle.c_syntax.specs.Statements.{dangles, IsItem}
+use Rattle.c_syntax.specs.Statements.{dangles, IsBlockItem}
 use Rattle.c_syntax.specs.Tokens.{HasKeyword}
 
--- the level of the production in which a sign stands behind an operand, `(` behind the name of a call; 17 where it never does
-abbrev pub sign_follows : Sign → ℕ
-sign_follows signs.OpenParenthesis = 0
-sign_follows signs.CloseParenthesis = 17
-sign_follows signs.OpenBracket = 1
-sign_follows signs.CloseBracket = 17
-sign_follows signs.OpenBrace = 17
-sign_follows signs.CloseBrace = 17
-sign_follows signs.Semicolon = 17
-sign_follows signs.Comma = 16
-sign_follows signs.Question = 14
-sign_follows signs.Colon = 17
-sign_follows signs.Arrow = 17
-sign_follows signs.Assign = 15
-sign_follows signs.PlusAssign = 15
-sign_follows signs.MinusAssign = 15
-sign_follows signs.StarAssign = 15
-sign_follows signs.SlashAssign = 15
-sign_follows signs.PercentAssign = 15
-sign_follows signs.AmpersandAssign = 15
-sign_follows signs.BarAssign = 15
-sign_follows signs.CaretAssign = 15
-sign_follows signs.ShiftLeftAssign = 15
-sign_follows signs.ShiftRightAssign = 15
-sign_follows signs.BarBar = 13
-sign_follows signs.AmpersandAmpersand = 12
-sign_follows signs.Bar = 11
-sign_follows signs.Caret = 10
-sign_follows signs.Ampersand = 9
-sign_follows signs.Equal = 8
-sign_follows signs.NotEqual = 8
-sign_follows signs.Less = 7
-sign_follows signs.Greater = 7
-sign_follows signs.LessEqual = 7
-sign_follows signs.GreaterEqual = 7
-sign_follows signs.ShiftLeft = 6
-sign_follows signs.ShiftRight = 6
-sign_follows signs.Plus = 5
-sign_follows signs.Minus = 5
-sign_follows signs.Star = 4
-sign_follows signs.Slash = 4
-sign_follows signs.Percent = 4
-sign_follows signs.Exclamation = 17
-sign_follows signs.Tilde = 17
-sign_follows signs.PlusPlus = 1
-sign_follows signs.MinusMinus = 1
+-- the level of the production in which a punctuator is after an operand, `(` after the name of a call; 17 where it never does
+abbrev pub punctuator_follows : Punctuator → ℕ
+punctuator_follows punctuators.OpenParenthesis = 0
+punctuator_follows punctuators.CloseParenthesis = 17
+punctuator_follows punctuators.OpenBracket = 1
+punctuator_follows punctuators.CloseBracket = 17
+punctuator_follows punctuators.OpenBrace = 17
+punctuator_follows punctuators.CloseBrace = 17
+punctuator_follows punctuators.Semicolon = 17
+punctuator_follows punctuators.Comma = 16
+punctuator_follows punctuators.Question = 14
+punctuator_follows punctuators.Colon = 17
+punctuator_follows punctuators.Arrow = 17
+punctuator_follows punctuators.Assign = 15
+punctuator_follows punctuators.PlusAssign = 15
+punctuator_follows punctuators.MinusAssign = 15
+punctuator_follows punctuators.StarAssign = 15
+punctuator_follows punctuators.SlashAssign = 15
+punctuator_follows punctuators.PercentAssign = 15
+punctuator_follows punctuators.AmpersandAssign = 15
+punctuator_follows punctuators.BarAssign = 15
+punctuator_follows punctuators.CaretAssign = 15
+punctuator_follows punctuators.ShiftLeftAssign = 15
+punctuator_follows punctuators.ShiftRightAssign = 15
+punctuator_follows punctuators.BarBar = 13
+punctuator_follows punctuators.AmpersandAmpersand = 12
+punctuator_follows punctuators.Bar = 11
+punctuator_follows punctuators.Caret = 10
+punctuator_follows punctuators.Ampersand = 9
+punctuator_follows punctuators.Equal = 8
+punctuator_follows punctuators.NotEqual = 8
+punctuator_follows punctuators.Less = 7
+punctuator_follows punctuators.Greater = 7
+punctuator_follows punctuators.LessEqual = 7
+punctuator_follows punctuators.GreaterEqual = 7
+punctuator_follows punctuators.ShiftLeft = 6
+punctuator_follows punctuators.ShiftRight = 6
+punctuator_follows punctuators.Plus = 5
+punctuator_follows punctuators.Minus = 5
+punctuator_follows punctuators.Star = 4
+punctuator_follows punctuators.Slash = 4
+punctuator_follows punctuators.Percent = 4
+punctuator_follows punctuators.Exclamation = 17
+punctuator_follows punctuators.Tilde = 17
+punctuator_follows punctuators.PlusPlus = 1
+punctuator_follows punctuators.MinusMinus = 1
 
 abbrev pub kind_follows : Kind → ℕ
-kind_follows kinds.Name = 17
+kind_follows kinds.Identifier = 17
 kind_follows (kinds.Keyword k) = 17
 kind_follows (kinds.Reserved r) = 17
 kind_follows (kinds.Integer value type) = 17
-kind_follows (kinds.Character value) = 17
-kind_follows (kinds.Sign s) = sign_follows s
+kind_follows (kinds.CharacterConstant value) = 17
+kind_follows (kinds.Punctuator s) = punctuator_follows s
 
 abbrev pub follows : List Token → ℕ
 follows [] = 17
 follows (t ∷ ts) = kind_follows t.kind
 
--- no expression of the level or a tighter one goes on with these tokens
+-- no expression of the level or a tighter one continues with these tokens
 abbrev pub Stops : ℕ → List Token → Type 0
 Stops l ts = l < follows ts
 
@@ -87,10 +87,10 @@ Begins = (text : List ℕ) (l : ℕ) (e : Expression) (ts rest : List Token) →
 abbrev pub NoElse : List Token → Type 0
 NoElse ts = (rest : List Token) → HasKeyword keywords.Else ts rest → ⊥
 
--- behind a statement that ends with an `if` without `else`
+-- after a statement that ends with an `if` without `else`
 abbrev pub Closed : Statement → List Token → Type 0
 Closed s rest = IsTrue (dangles s) → NoElse rest
 
--- A statement that could go on with an `else`, and doesn't, is found by where it begins; each other is too.
+-- A statement that could continue with an `else`, and doesn't, is found by where it begins; each other is too.
 abbrev pub OneStatement : Type 0
-OneStatement = (text : List ℕ) (s z : Statement) (ts rest end : List Token) → IsItem text s ts rest → IsItem text z ts end → Closed s rest → Closed z end → (s ≡ z) × (rest ≡ end)
+OneStatement = (text : List ℕ) (s z : Statement) (ts rest end : List Token) → IsBlockItem text s ts rest → IsBlockItem text z ts end → Closed s rest → Closed z end → (s ≡ z) × (rest ≡ end)

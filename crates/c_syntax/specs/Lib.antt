@@ -3,7 +3,7 @@ pub mod Statement
 pub mod Program
 pub mod Tokens
 pub mod Operators
-pub mod SignReaders
+pub mod PunctuatorReaders
 pub mod Types
 pub mod Expressions
 pub mod Follow

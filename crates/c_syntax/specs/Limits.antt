@@ -7,8 +7,8 @@ use Rattle.c_syntax.specs.declared.expression.Base.{Base}
 use Rattle.c_syntax.specs.declared.expression.Base.TheVariants as bases
 use Rattle.c_syntax.specs.declared.expression.Literal.TheVariants as literals
 use Rattle.c_syntax.specs.Expression.{Expression, Constant, Variable, Information, Call, Parentheses, Index, Postfix, Prefix, Unary, Cast, Binary, Conditional, Assign, Comma, height}
-use Rattle.c_syntax.specs.Program.{Global, External, Globals, Function}
-use Rattle.c_syntax.specs.Statement.{Local, First, Declaring, Evaluating, Statement, Declare, Block, Evaluate, If, IfElse, While, DoWhile, For, Return, Break, Continue, Leave, TryExcept, TryFinally, Statements, Empty, Then}
+use Rattle.c_syntax.specs.Program.{Global, ExternalDeclaration, Globals, Function}
+use Rattle.c_syntax.specs.Statement.{Local, ForInitialiser, Declaring, Evaluating, Statement, Declare, Block, Evaluate, If, IfElse, While, DoWhile, For, Return, Break, Continue, Leave, TryExcept, TryFinally, Statements, Empty, Then}
 
 -- ---- expressions around a node: the greatest height
 
@@ -20,9 +20,9 @@ abbrev pub height_of_locals : List Local → ℕ
 height_of_locals [] = 0
 height_of_locals (l ∷ ls) = max (height_of l.initialiser) (height_of_locals ls)
 
-abbrev pub height_of_first : First → ℕ
-height_of_first (Declaring base ls) = height_of_locals ls
-height_of_first (Evaluating e) = height_of e
+abbrev pub height_of_for_initialiser : ForInitialiser → ℕ
+height_of_for_initialiser (Declaring base ls) = height_of_locals ls
+height_of_for_initialiser (Evaluating e) = height_of e
 
 abbrev mutual
   pub expressions_over : Statement → ℕ
@@ -33,7 +33,7 @@ abbrev mutual
   expressions_over (IfElse at c s t) = max (height c) (max (expressions_over s) (expressions_over t))
   expressions_over (While at c s) = max (height c) (expressions_over s)
   expressions_over (DoWhile s at c) = max (expressions_over s) (height c)
-  expressions_over (For at f c n s) = max (height_of_first f) (max (height_of c) (max (height_of n) (expressions_over s)))
+  expressions_over (For at f c n s) = max (height_of_for_initialiser f) (max (height_of c) (max (height_of n) (expressions_over s)))
   expressions_over (Return at e) = height_of e
   expressions_over (Break at) = 0
   expressions_over (Continue at) = 0
@@ -56,9 +56,9 @@ abbrev pub one_over_locals : List Local → ℕ
 one_over_locals [] = 0
 one_over_locals (l ∷ ls) = max (one_over l.initialiser) (one_over_locals ls)
 
-abbrev pub one_over_first : First → ℕ
-one_over_first (Declaring base ls) = one_over_locals ls
-one_over_first (Evaluating e) = one_over e
+abbrev pub one_over_for_initialiser : ForInitialiser → ℕ
+one_over_for_initialiser (Declaring base ls) = one_over_locals ls
+one_over_for_initialiser (Evaluating e) = one_over e
 
 -- How many statements at most stand around a part, and around what is in a block. A declaration is no statement, nor are the blocks of a `__try` statement.
 abbrev mutual
@@ -80,29 +80,29 @@ abbrev mutual
 
   pub statements_over_all : Statements → ℕ
   statements_over_all Empty = 0
-  statements_over_all (Then s ss) = max (over_item s (statements_over s)) (statements_over_all ss)
+  statements_over_all (Then s ss) = max (over_block_item s (statements_over s)) (statements_over_all ss)
 
-  pub over_item : Statement → ℕ → ℕ
-  over_item (Declare base ls) n = one_over_locals ls
-  over_item (Block ss) n = 1 + n
-  over_item (Evaluate e) n = 1 + n
-  over_item (If at c s) n = 1 + n
-  over_item (IfElse at c s t) n = 1 + n
-  over_item (While at c s) n = 1 + n
-  over_item (DoWhile s at c) n = 1 + n
-  over_item (For at f c n s) m = 1 + m
-  over_item (Return at e) n = 1 + n
-  over_item (Break at) n = 1 + n
-  over_item (Continue at) n = 1 + n
-  over_item (Leave at) n = 1 + n
-  over_item (TryExcept body at f handler) n = 1 + n
-  over_item (TryFinally body at last) n = 1 + n
+  pub over_block_item : Statement → ℕ → ℕ
+  over_block_item (Declare base ls) n = one_over_locals ls
+  over_block_item (Block ss) n = 1 + n
+  over_block_item (Evaluate e) n = 1 + n
+  over_block_item (If at c s) n = 1 + n
+  over_block_item (IfElse at c s t) n = 1 + n
+  over_block_item (While at c s) n = 1 + n
+  over_block_item (DoWhile s at c) n = 1 + n
+  over_block_item (For at f c n s) m = 1 + m
+  over_block_item (Return at e) n = 1 + n
+  over_block_item (Break at) n = 1 + n
+  over_block_item (Continue at) n = 1 + n
+  over_block_item (Leave at) n = 1 + n
+  over_block_item (TryExcept body at f handler) n = 1 + n
+  over_block_item (TryFinally body at last) n = 1 + n
 
 -- ---- locals of a function
 
-abbrev pub locals_of_first : First → ℕ
-locals_of_first (Declaring base ls) = length ls
-locals_of_first (Evaluating e) = 0
+abbrev pub locals_of_for_initialiser : ForInitialiser → ℕ
+locals_of_for_initialiser (Declaring base ls) = length ls
+locals_of_for_initialiser (Evaluating e) = 0
 
 abbrev mutual
   pub locals : Statement → ℕ
@@ -113,7 +113,7 @@ abbrev mutual
   locals (IfElse at c s t) = locals s + locals t
   locals (While at c s) = locals s
   locals (DoWhile s at c) = locals s
-  locals (For at f c n s) = locals_of_first f + locals s
+  locals (For at f c n s) = locals_of_for_initialiser f + locals s
   locals (Return at e) = 0
   locals (Break at) = 0
   locals (Continue at) = 0
@@ -130,7 +130,7 @@ abbrev mutual
 -- The filter accepts whatever was raised: it is an integer literal of value 1 or the name of that value, parentheses aside.
 abbrev pub accepts : List ℕ → Expression → Bool
 accepts text (Constant at (literals.Integer value type)) = nat_eq value 1
-accepts text (Constant at (literals.Character value)) = false
+accepts text (Constant at (literals.CharacterConstant value)) = false
 accepts text (Variable name) = bytes_eq (slice_range text name.start name.end) (codes "EXCEPTION_EXECUTE_HANDLER")
 accepts text (Information at field) = false
 accepts text (Call name es) = false
@@ -149,7 +149,7 @@ accepts text (Comma a at b) = false
 abbrev mutual
   pub numbered : List ℕ → Statement → List ℕ
   numbered text (Declare base ls) = []
-  numbered text (Block ss) = all_numbered text ss
+  numbered text (Block ss) = funclets_of_all text ss
   numbered text (Evaluate e) = []
   numbered text (If at c s) = numbered text s
   numbered text (IfElse at c s t) = numbered text s ++ numbered text t
@@ -160,17 +160,17 @@ abbrev mutual
   numbered text (Break at) = []
   numbered text (Continue at) = []
   numbered text (Leave at) = []
-  numbered text (TryExcept body at f handler) = all_numbered text body ++ cond (accepts text f) [] (at ∷ []) ++ all_numbered text handler
-  numbered text (TryFinally body at last) = all_numbered text body ++ at ∷ [] ++ all_numbered text last
+  numbered text (TryExcept body at f handler) = funclets_of_all text body ++ cond (accepts text f) [] (at ∷ []) ++ funclets_of_all text handler
+  numbered text (TryFinally body at last) = funclets_of_all text body ++ at ∷ [] ++ funclets_of_all text last
 
-  pub all_numbered : List ℕ → Statements → List ℕ
-  all_numbered text Empty = []
-  all_numbered text (Then s ss) = numbered text s ++ all_numbered text ss
+  pub funclets_of_all : List ℕ → Statements → List ℕ
+  funclets_of_all text Empty = []
+  funclets_of_all text (Then s ss) = numbered text s ++ funclets_of_all text ss
 
-abbrev pub numbered_in : List ℕ → List External → List ℕ
-numbered_in text [] = []
-numbered_in text (Globals base gs ∷ xs) = numbered_in text xs
-numbered_in text (Function returns name ps body ∷ xs) = all_numbered text body ++ numbered_in text xs
+abbrev pub funclets_in : List ℕ → List ExternalDeclaration → List ℕ
+funclets_in text [] = []
+funclets_in text (Globals base gs ∷ xs) = funclets_in text xs
+funclets_in text (Function returns name ps body ∷ xs) = funclets_of_all text body ++ funclets_in text xs
 
 -- ---- bytes of globals
 
@@ -199,19 +199,19 @@ abbrev pub aligned : ℕ → ℕ → ℕ
 aligned at zero = at
 aligned at (suc n) = (at + n) / suc n * suc n
 
--- where the globals end that begin at a place, one behind another
+-- where the globals end that begin at a place, one after another
 abbrev pub end_of_globals : Base → List Global → ℕ → ℕ
 end_of_globals base [] at = at
 end_of_globals base (g ∷ gs) at = end_of_globals base gs (aligned at (size base g.pointers) + size base g.pointers * elements g.length)
 
-abbrev pub bytes_from : List External → ℕ → ℕ
+abbrev pub bytes_from : List ExternalDeclaration → ℕ → ℕ
 bytes_from [] at = at
 bytes_from (Globals base gs ∷ xs) at = bytes_from xs (end_of_globals base gs at)
 bytes_from (Function returns name ps body ∷ xs) at = bytes_from xs at
 
 -- ---- the limits
 
-abbrev pub functions : List External → ℕ
+abbrev pub functions : List ExternalDeclaration → ℕ
 functions [] = 0
 functions (Globals base gs ∷ xs) = functions xs
 functions (Function returns name ps body ∷ xs) = suc (functions xs)
@@ -223,13 +223,13 @@ pub record FunctionWithin (ps : List Parameter) (body : Statements) : Type 0 whe
   pub statements : statements_over_all body ≤ 65
   pub expressions : expressions_over_all body ≤ 64
 
-abbrev pub EachWithin : List External → Type 0
+abbrev pub EachWithin : List ExternalDeclaration → Type 0
 EachWithin [] = Unit {0}
 EachWithin (Globals base gs ∷ xs) = EachWithin xs
 EachWithin (Function returns name ps body ∷ xs) = FunctionWithin ps body × EachWithin xs
 
-pub record Within (text : List ℕ) (program : List External) : Type 0 where
+pub record Within (text : List ℕ) (program : List ExternalDeclaration) : Type 0 where
   pub each : EachWithin program
   pub functions : functions program ≤ 4096
   pub bytes : bytes_from program 0 ≤ 1048576
-  pub numbered : length (numbered_in text program) ≤ 16384
+  pub numbered : length (funclets_in text program) ≤ 16384

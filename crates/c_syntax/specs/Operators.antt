@@ -1,7 +1,7 @@
--- The signs of operators, and how tightly they bind (C11, 6.5; the tightest level first).
+-- The punctuators of operators, and how tightly they bind (C11, 6.5; the tightest level first).
 use Rattle.std.specs.Prelude.{ℕ, Option, Some, None}
-use Rattle.c_lex.specs.declared.sign.Sign.{Sign}
-use Rattle.c_lex.specs.declared.sign.Sign.TheVariants as signs
+use Rattle.c_lex.specs.declared.punctuator.Punctuator.{Punctuator}
+use Rattle.c_lex.specs.declared.punctuator.Punctuator.TheVariants as punctuators
 use Rattle.c_syntax.specs.declared.operator.Arithmetic.{Arithmetic}
 use Rattle.c_syntax.specs.declared.operator.Arithmetic.TheVariants.{Multiply, Divide, Remainder, Add, Subtract, ShiftLeft, ShiftRight, And, ExclusiveOr, Or}
 use Rattle.c_syntax.specs.declared.operator.Comparison.{Comparison}
@@ -65,59 +65,59 @@ level (binary.Comparison c) = level_of_comparison c
 level binary.LogicalAnd = 12
 level binary.LogicalOr = logical_or
 
--- ---- signs
+-- ---- punctuators
 
-abbrev pub sign_of_arithmetic : Arithmetic → Sign
-sign_of_arithmetic Multiply = signs.Star
-sign_of_arithmetic Divide = signs.Slash
-sign_of_arithmetic Remainder = signs.Percent
-sign_of_arithmetic Add = signs.Plus
-sign_of_arithmetic Subtract = signs.Minus
-sign_of_arithmetic ShiftLeft = signs.ShiftLeft
-sign_of_arithmetic ShiftRight = signs.ShiftRight
-sign_of_arithmetic And = signs.Ampersand
-sign_of_arithmetic ExclusiveOr = signs.Caret
-sign_of_arithmetic Or = signs.Bar
+abbrev pub punctuator_of_arithmetic : Arithmetic → Punctuator
+punctuator_of_arithmetic Multiply = punctuators.Star
+punctuator_of_arithmetic Divide = punctuators.Slash
+punctuator_of_arithmetic Remainder = punctuators.Percent
+punctuator_of_arithmetic Add = punctuators.Plus
+punctuator_of_arithmetic Subtract = punctuators.Minus
+punctuator_of_arithmetic ShiftLeft = punctuators.ShiftLeft
+punctuator_of_arithmetic ShiftRight = punctuators.ShiftRight
+punctuator_of_arithmetic And = punctuators.Ampersand
+punctuator_of_arithmetic ExclusiveOr = punctuators.Caret
+punctuator_of_arithmetic Or = punctuators.Bar
 
-abbrev pub sign_of_comparison : Comparison → Sign
-sign_of_comparison Less = signs.Less
-sign_of_comparison Greater = signs.Greater
-sign_of_comparison LessEqual = signs.LessEqual
-sign_of_comparison GreaterEqual = signs.GreaterEqual
-sign_of_comparison Equal = signs.Equal
-sign_of_comparison NotEqual = signs.NotEqual
+abbrev pub punctuator_of_comparison : Comparison → Punctuator
+punctuator_of_comparison Less = punctuators.Less
+punctuator_of_comparison Greater = punctuators.Greater
+punctuator_of_comparison LessEqual = punctuators.LessEqual
+punctuator_of_comparison GreaterEqual = punctuators.GreaterEqual
+punctuator_of_comparison Equal = punctuators.Equal
+punctuator_of_comparison NotEqual = punctuators.NotEqual
 
-abbrev pub binary_sign : BinaryOperator → Sign
-binary_sign (binary.Arithmetic a) = sign_of_arithmetic a
-binary_sign (binary.Comparison c) = sign_of_comparison c
-binary_sign binary.LogicalAnd = signs.AmpersandAmpersand
-binary_sign binary.LogicalOr = signs.BarBar
+abbrev pub binary_punctuator : BinaryOperator → Punctuator
+binary_punctuator (binary.Arithmetic a) = punctuator_of_arithmetic a
+binary_punctuator (binary.Comparison c) = punctuator_of_comparison c
+binary_punctuator binary.LogicalAnd = punctuators.AmpersandAmpersand
+binary_punctuator binary.LogicalOr = punctuators.BarBar
 
-abbrev pub unary_sign : UnaryOperator → Sign
-unary_sign unary_operators.Plus = signs.Plus
-unary_sign unary_operators.Minus = signs.Minus
-unary_sign unary_operators.LogicalNot = signs.Exclamation
-unary_sign unary_operators.Complement = signs.Tilde
-unary_sign unary_operators.Indirection = signs.Star
-unary_sign unary_operators.AddressOf = signs.Ampersand
+abbrev pub unary_punctuator : UnaryOperator → Punctuator
+unary_punctuator unary_operators.Plus = punctuators.Plus
+unary_punctuator unary_operators.Minus = punctuators.Minus
+unary_punctuator unary_operators.LogicalNot = punctuators.Exclamation
+unary_punctuator unary_operators.Complement = punctuators.Tilde
+unary_punctuator unary_operators.Indirection = punctuators.Star
+unary_punctuator unary_operators.AddressOf = punctuators.Ampersand
 
-abbrev pub increment_sign : Increment → Sign
-increment_sign increments.Increment = signs.PlusPlus
-increment_sign increments.Decrement = signs.MinusMinus
+abbrev pub increment_punctuator : Increment → Punctuator
+increment_punctuator increments.Increment = punctuators.PlusPlus
+increment_punctuator increments.Decrement = punctuators.MinusMinus
 
-abbrev pub compound_sign : Arithmetic → Sign
-compound_sign Multiply = signs.StarAssign
-compound_sign Divide = signs.SlashAssign
-compound_sign Remainder = signs.PercentAssign
-compound_sign Add = signs.PlusAssign
-compound_sign Subtract = signs.MinusAssign
-compound_sign ShiftLeft = signs.ShiftLeftAssign
-compound_sign ShiftRight = signs.ShiftRightAssign
-compound_sign And = signs.AmpersandAssign
-compound_sign ExclusiveOr = signs.CaretAssign
-compound_sign Or = signs.BarAssign
+abbrev pub compound_punctuator : Arithmetic → Punctuator
+compound_punctuator Multiply = punctuators.StarAssign
+compound_punctuator Divide = punctuators.SlashAssign
+compound_punctuator Remainder = punctuators.PercentAssign
+compound_punctuator Add = punctuators.PlusAssign
+compound_punctuator Subtract = punctuators.MinusAssign
+compound_punctuator ShiftLeft = punctuators.ShiftLeftAssign
+compound_punctuator ShiftRight = punctuators.ShiftRightAssign
+compound_punctuator And = punctuators.AmpersandAssign
+compound_punctuator ExclusiveOr = punctuators.CaretAssign
+compound_punctuator Or = punctuators.BarAssign
 
 -- `=`, or an operator with `=`
-abbrev pub assignment_sign : Option Arithmetic → Sign
-assignment_sign None = signs.Assign
-assignment_sign (Some a) = compound_sign a
+abbrev pub assignment_punctuator : Option Arithmetic → Punctuator
+assignment_punctuator None = punctuators.Assign
+assignment_punctuator (Some a) = compound_punctuator a

@@ -1,8 +1,8 @@
--- External declarations, wherever they lie in memory.
+-- ExternalDeclaration declarations, wherever they lie in memory.
 use Rattle.std.specs.Prelude.{ℕ, List, map, Option, option_map}
 use Rattle.c_syntax.specs.declared.declaration.Constant.{Constant}
-use Rattle.c_syntax.specs.declared.declaration.External.{External as External'}
-use Rattle.c_syntax.specs.declared.declaration.External.TheVariants as externals
+use Rattle.c_syntax.specs.declared.declaration.ExternalDeclaration.{ExternalDeclaration as ExternalDeclaration'}
+use Rattle.c_syntax.specs.declared.declaration.ExternalDeclaration.TheVariants as external_declarations
 use Rattle.c_syntax.specs.declared.declaration.Global.{Global as Global'}
 use Rattle.c_syntax.specs.declared.declaration.Initialiser.{Initialiser as Initialiser'}
 use Rattle.c_syntax.specs.declared.declaration.Initialiser.TheVariants as initialisers
@@ -10,7 +10,7 @@ use Rattle.c_syntax.specs.declared.declaration.Length.{Length}
 use Rattle.c_syntax.specs.declared.declaration.Parameter.{Parameter}
 use Rattle.c_syntax.specs.declared.expression.Base.{Base}
 use Rattle.c_syntax.specs.declared.expression.CType.{CType}
-use Rattle.c_syntax.specs.declared.expression.Name.{Name}
+use Rattle.c_syntax.specs.declared.expression.Identifier.{Identifier}
 use Rattle.c_syntax.specs.Statement.{Statements, statement, statements}
 
 pub data Initialiser : Type 0 where
@@ -19,13 +19,13 @@ pub data Initialiser : Type 0 where
 
 pub record Global : Type 0 where
   pub pointers : ℕ
-  pub name : Name
+  pub name : Identifier
   pub length : Option Length
   pub initialiser : Option Initialiser
 
-pub data External : Type 0 where
-  Globals : Base → List Global → External
-  Function : CType → Name → List Parameter → Statements → External
+pub data ExternalDeclaration : Type 0 where
+  Globals : Base → List Global → ExternalDeclaration
+  Function : CType → Identifier → List Parameter → Statements → ExternalDeclaration
 
 -- ---- the code's declarations
 
@@ -36,6 +36,6 @@ initialiser (initialisers.List at cs) = Several at cs.items
 abbrev pub global : Global' → Global
 global g = record { pointers = g.pointers; name = g.name; length = g.length; initialiser = option_map initialiser g.initialiser }
 
-abbrev pub external : External' → External
-external (externals.Globals base gs) = Globals base (map global gs.items)
-external (externals.Function returns name ps body) = Function returns name ps.items (statements (map statement body.items))
+abbrev pub external_declaration : ExternalDeclaration' → ExternalDeclaration
+external_declaration (external_declarations.Globals base gs) = Globals base (map global gs.items)
+external_declaration (external_declarations.Function returns name ps body) = Function returns name ps.items (statements (map statement body.items))

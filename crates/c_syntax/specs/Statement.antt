@@ -1,9 +1,9 @@
 -- Statements, wherever they lie in memory.
 use Rattle.std.specs.Prelude.{ℕ, List, [], ◌∷◌, map, Option, Some, None, option_map}
 use Rattle.c_syntax.specs.declared.expression.Base.{Base}
-use Rattle.c_syntax.specs.declared.expression.Name.{Name}
-use Rattle.c_syntax.specs.declared.statement.ForFirst.{ForFirst}
-use Rattle.c_syntax.specs.declared.statement.ForFirst.TheVariants as firsts
+use Rattle.c_syntax.specs.declared.expression.Identifier.{Identifier}
+use Rattle.c_syntax.specs.declared.statement.ForInitialiser.{ForInitialiser as ForInitialiser'}
+use Rattle.c_syntax.specs.declared.statement.ForInitialiser.TheVariants as firsts
 use Rattle.c_syntax.specs.declared.statement.Local.{Local as Local'}
 use Rattle.c_syntax.specs.declared.statement.Stmt.{Stmt}
 use Rattle.c_syntax.specs.declared.statement.Stmt.TheOpen as opened
@@ -12,12 +12,12 @@ use Rattle.c_syntax.specs.Expression.{Expression, expression}
 
 pub record Local : Type 0 where
   pub pointers : ℕ
-  pub name : Name
+  pub name : Identifier
   pub initialiser : Option Expression
 
-pub data First : Type 0 where
-  Declaring : Base → List Local → First
-  Evaluating : Option Expression → First
+pub data ForInitialiser : Type 0 where
+  Declaring : Base → List Local → ForInitialiser
+  Evaluating : Option Expression → ForInitialiser
 
 mutual
   pub data Statement : Type 0 where
@@ -28,7 +28,7 @@ mutual
     IfElse : ℕ → Expression → Statement → Statement → Statement
     While : ℕ → Expression → Statement → Statement
     DoWhile : Statement → ℕ → Expression → Statement
-    For : ℕ → First → Option Expression → Option Expression → Statement → Statement
+    For : ℕ → ForInitialiser → Option Expression → Option Expression → Statement → Statement
     Return : ℕ → Option Expression → Statement
     Break : ℕ → Statement
     Continue : ℕ → Statement
@@ -49,7 +49,7 @@ statements (s ∷ ss) = Then s (statements ss)
 abbrev pub local : Local' → Local
 local l = record { pointers = l.pointers; name = l.name; initialiser = option_map expression l.initialiser }
 
-abbrev pub first : ForFirst → First
+abbrev pub first : ForInitialiser' → ForInitialiser
 first (firsts.Declaration d) = Declaring d.base (map local d.locals.items)
 first (firsts.Expression e) = Evaluating (option_map expression e)
 

@@ -1,17 +1,17 @@
--- An expression from left to right: its first operand, and the steps behind it.
+-- An expression from left to right: its first operand, and the steps after it.
 use Rattle.std.specs.Prelude.{◌≡◌, ◌≤◌, ◌<◌, ◌-◌, ℕ, List, [], ◌∷◌, Option}
-use Rattle.c_lex.specs.declared.sign.Sign.TheVariants as signs
+use Rattle.c_lex.specs.declared.punctuator.Punctuator.TheVariants as punctuators
 use Rattle.c_lex.specs.declared.token.Token.{Token}
 use Rattle.c_syntax.specs.declared.operator.Arithmetic.{Arithmetic}
 use Rattle.c_syntax.specs.declared.operator.BinaryOperator.{BinaryOperator}
 use Rattle.c_syntax.specs.declared.operator.Increment.{Increment}
 use Rattle.c_syntax.specs.Expression.{Expression, Constant, Variable, Information, Call, Parentheses, Index, Postfix, Prefix, Unary, Cast, Binary, Conditional, Assign, Comma}
-use Rattle.c_syntax.specs.Expressions.{rank, Spells}
+use Rattle.c_syntax.specs.Expressions.{rank, SpellsExpression}
 use Rattle.c_syntax.specs.Follow.{follows}
-use Rattle.c_syntax.specs.Operators.{level, binary_sign, increment_sign, assignment_sign}
-use Rattle.c_syntax.specs.Tokens.{IsSign, HasSign}
+use Rattle.c_syntax.specs.Operators.{level, binary_punctuator, increment_punctuator, assignment_punctuator}
+use Rattle.c_syntax.specs.Tokens.{IsPunctuator, HasPunctuator}
 
--- ---- what stands behind an operand
+-- ---- what is after an operand
 
 pub data Step : Type 0 where
   At : ℕ → Expression → Step
@@ -39,12 +39,12 @@ bound (Set at op f) = 2
 bound (And at f) = 16
 
 abbrev pub Tail : List ℕ → Step → List Token → List Token → Type 0
-Tail text (At at i) ts rest = (b : List Token) × (c : List Token) × IsSign signs.OpenBracket at ts b × Spells text i b c × HasSign signs.CloseBracket c rest
-Tail text (After op at) ts rest = IsSign (increment_sign op) at ts rest
-Tail text (With at op f) ts rest = (b : List Token) × IsSign (binary_sign op) at ts b × (rank f < level op) × Spells text f b rest
-Tail text (Choose at f g) ts rest = (b : List Token) × (c : List Token) × (d : List Token) × IsSign signs.Question at ts b × Spells text f b c × HasSign signs.Colon c d × (rank g ≤ 14) × Spells text g d rest
-Tail text (Set at op f) ts rest = (b : List Token) × IsSign (assignment_sign op) at ts b × (rank f ≤ 15) × Spells text f b rest
-Tail text (And at f) ts rest = (b : List Token) × IsSign signs.Comma at ts b × (rank f ≤ 15) × Spells text f b rest
+Tail text (At at i) ts rest = (b : List Token) × (c : List Token) × IsPunctuator punctuators.OpenBracket at ts b × SpellsExpression text i b c × HasPunctuator punctuators.CloseBracket c rest
+Tail text (After op at) ts rest = IsPunctuator (increment_punctuator op) at ts rest
+Tail text (With at op f) ts rest = (b : List Token) × IsPunctuator (binary_punctuator op) at ts b × (rank f < level op) × SpellsExpression text f b rest
+Tail text (Choose at f g) ts rest = (b : List Token) × (c : List Token) × (d : List Token) × IsPunctuator punctuators.Question at ts b × SpellsExpression text f b c × HasPunctuator punctuators.Colon c d × (rank g ≤ 14) × SpellsExpression text g d rest
+Tail text (Set at op f) ts rest = (b : List Token) × IsPunctuator (assignment_punctuator op) at ts b × (rank f ≤ 15) × SpellsExpression text f b rest
+Tail text (And at f) ts rest = (b : List Token) × IsPunctuator punctuators.Comma at ts b × (rank f ≤ 15) × SpellsExpression text f b rest
 
 abbrev pub Run : List ℕ → Expression → List Step → List Token → Expression → List Token → Type 0
 Run text left [] ts e end = (left ≡ e) × (ts ≡ end)
@@ -66,7 +66,7 @@ IsHead (Conditional c at a b) = ⊥
 IsHead (Assign a at op b) = ⊥
 IsHead (Comma a at b) = ⊥
 
--- what follows doesn't go on with the last operand, nor make a call of a name
+-- what follows doesn't continue with the last operand, nor make a call of a name
 abbrev pub Closes : Expression → List Token → Type 0
 Closes (Constant at literal) ts = Unit {0}
 Closes (Variable name) ts = 0 < follows ts

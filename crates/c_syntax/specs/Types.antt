@@ -1,13 +1,13 @@
--- Specifiers of types (C11, 6.7.2), and types behind stars.
+-- Specifiers of types (C11, 6.7.2), and types after stars.
 use Rattle.std.specs.Prelude.{◌≡◌, ℕ, zero, suc, List, [], ◌∷◌, ◌⊎◌}
 use Rattle.c_lex.specs.declared.keyword.Keyword.{Keyword}
 use Rattle.c_lex.specs.declared.keyword.Keyword.TheVariants as keywords
-use Rattle.c_lex.specs.declared.sign.Sign.TheVariants as signs
+use Rattle.c_lex.specs.declared.punctuator.Punctuator.TheVariants as punctuators
 use Rattle.c_lex.specs.declared.token.Token.{Token}
 use Rattle.c_syntax.specs.declared.expression.Base.{Base}
 use Rattle.c_syntax.specs.declared.expression.Base.TheVariants.{Void, Char, UnsignedChar, Short, UnsignedShort, Int, Unsigned, LongLong, UnsignedLongLong}
 use Rattle.c_syntax.specs.declared.expression.CType.{CType}
-use Rattle.c_syntax.specs.Tokens.{HasKeyword, HasSign}
+use Rattle.c_syntax.specs.Tokens.{HasKeyword, HasPunctuator}
 
 -- all ways to write a base: `char` is signed, and `long` is `int`
 abbrev pub spellings : Base → List (List Keyword)
@@ -40,7 +40,7 @@ IsBase base ts rest = IsOneOf (spellings base) ts rest
 
 abbrev pub AreStars : ℕ → List Token → List Token → Type 0
 AreStars zero ts rest = ts ≡ rest
-AreStars (suc n) ts rest = (mid : List Token) × HasSign signs.Star ts mid × AreStars n mid rest
+AreStars (suc n) ts rest = (mid : List Token) × HasPunctuator punctuators.Star ts mid × AreStars n mid rest
 
 abbrev pub IsType : CType → List Token → List Token → Type 0
 IsType type ts rest = (mid : List Token) × IsBase type.base ts mid × AreStars type.pointers mid rest

@@ -1,9 +1,9 @@
-//! External declarations (C11, 6.9).
+//! ExternalDeclaration declarations (C11, 6.9).
 
-use crate::expression::{Base, CType, Literal, Name};
+use crate::expression::{Base, CType, Identifier, Literal};
 use crate::statement::Stmt;
 
-/// A constant of an initialiser; `at` is the place of its first token, the sign or the literal.
+/// A constant of an initialiser; `at` is the place of its first token, the punctuator or the literal.
 #[derive(Clone, Copy, Debug, PartialEq, Eq)]
 pub struct Constant {
     pub at: u64,
@@ -31,7 +31,7 @@ pub struct Length {
 #[derive(Drop)]
 pub struct Global {
     pub pointers: u64,
-    pub name: Name,
+    pub name: Identifier,
     pub length: Option<Length>,
     pub initialiser: Option<Initialiser>,
 }
@@ -40,12 +40,12 @@ pub struct Global {
 #[derive(Clone, Copy, Debug, PartialEq, Eq)]
 pub struct Parameter {
     pub of: CType,
-    pub name: Name,
+    pub name: Identifier,
 }
 
 /// An external declaration.
 #[derive(Drop)]
-pub enum External {
+pub enum ExternalDeclaration {
     /// Globals of one base, at least one.
     Globals {
         base: Base,
@@ -53,7 +53,7 @@ pub enum External {
     },
     Function {
         returns: CType,
-        name: Name,
+        name: Identifier,
         parameters: Vec<Parameter>,
         body: Vec<Stmt>,
     },

@@ -8,7 +8,7 @@ use c_lex::token::IntegerType;
 
 /// A name: its bytes' places in the text, from `start` to below `end`.
 #[derive(Clone, Copy, Debug, PartialEq, Eq)]
-pub struct Name {
+pub struct Identifier {
     pub start: u64,
     pub end: u64,
 }
@@ -19,7 +19,7 @@ pub enum Literal {
     /// An integer, and the first of its types that holds it.
     Integer { value: u64, of: IntegerType },
     /// A character: its value as a signed char, of type int.
-    Character(i8),
+    CharacterConstant(i8),
 }
 
 /// The types that specifiers name (C11, 6.7.2). `char` is signed, and `long` is `int`: 32 bits, as on
@@ -37,7 +37,7 @@ pub enum Base {
     UnsignedLongLong,
 }
 
-/// A type: what its specifiers name behind so many `*`.
+/// A type: what its specifiers name after so many `*`.
 #[derive(Clone, Copy, Debug, PartialEq, Eq)]
 pub struct CType {
     pub base: Base,
@@ -65,14 +65,14 @@ pub enum Expr {
         at: u64,
         literal: Literal,
     },
-    Variable(Name),
+    Variable(Identifier),
     /// `GetExceptionInformation()->ExceptionRecord->field`
     Information {
         at: u64,
         field: Field,
     },
     Call {
-        name: Name,
+        name: Identifier,
         arguments: Vec<Expr>,
     },
     /// `(inner)`

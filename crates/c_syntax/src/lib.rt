@@ -2,7 +2,7 @@
 //!
 //! A tree is what the grammar makes of a list of tokens (C11, annex A.2, and the Microsoft C
 //! reference, "try-except statement" and "try-finally statement"). Each node holds the places in the
-//! text where its faults are told. Parentheses are nodes: they mean nothing, but nesting counts them.
+//! text where its faults are reported. Parentheses are nodes: they mean nothing, but nesting counts them.
 //! The grammar itself is in `specs/`: `Expressions`, `Statements` and `Programs`.
 #![tactic(auto)]
 
@@ -11,5 +11,3 @@ pub mod expression;
 pub mod laws;
 pub mod operator;
 pub mod statement;
-#[cfg(test)]
-mod tests;

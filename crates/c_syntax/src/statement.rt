@@ -1,12 +1,12 @@
 //! Statements.
 
-use crate::expression::{Base, Expr, Name};
+use crate::expression::{Base, Expr, Identifier};
 
 /// A local of a declaration: `pointers` stars, its name and its initialiser.
 #[derive(Drop)]
 pub struct Local {
     pub pointers: u64,
-    pub name: Name,
+    pub name: Identifier,
     pub initialiser: Option<Expr>,
 }
 
@@ -19,7 +19,7 @@ pub struct Declaration {
 
 /// What a `for` does first (C11, 6.8.5.3).
 #[derive(Drop)]
-pub enum ForFirst {
+pub enum ForInitialiser {
     Declaration(Declaration),
     Expression(Option<Expr>),
 }
@@ -27,7 +27,7 @@ pub enum ForFirst {
 /// A statement, or a declaration in a block (C11, 6.8). `at` is the place of the keyword.
 #[derive(Drop)]
 pub enum Stmt {
-    /// A declaration, which stands in a block alone.
+    /// A declaration, which is in a block alone.
     Declaration(Declaration),
     Block(Vec<Stmt>),
     /// `expression;`, or `;` alone
@@ -51,7 +51,7 @@ pub enum Stmt {
     },
     For {
         at: u64,
-        first: ForFirst,
+        first: ForInitialiser,
         condition: Option<Expr>,
         next: Option<Expr>,
         body: Box<Stmt>,

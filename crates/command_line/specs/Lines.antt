@@ -1,4 +1,4 @@
--- The lines of the command set, and what each stands for.
+-- The lines of the command set, and what each means.
 use Rattle.std.specs.Prelude.{◌≡◌, ℕ, ◌^◌, ◌<◌, true, false, List, [], ◌∷◌, pos, Option, Some, None, codes}
 use Rattle.std.specs.Fmt.{decimal}
 use Rattle.std.specs.Option.{option_map_or}
@@ -36,7 +36,7 @@ bare_app =
 abbrev pub seh_app : App
 seh_app = with_subcommand (with_subcommand (with_subcommand bare_app compile_app.top) show_app.top) exec_app.top
 
--- ---- what a line stands for
+-- ---- what a line means
 
 -- the number that an option gives, as it is written in decimal digits with no sign and no leading zero; another one where the option isn't there
 abbrev pub IsNumber : ℕ → Option Text → ℕ → Type 0
@@ -53,7 +53,7 @@ Names Compile x = x.0 ≡ codes "compile"
 Names Show x = x.0 ≡ codes "show"
 Names (Exec options) x = (x.0 ≡ codes "exec") × HasOptions options x.1
 
--- the words are a line of the command set, which stands for the command
+-- the words are a line of the command set, which means the command
 abbrev pub IsLine : List Text → Command → Type 0
 IsLine words command = (fault_of seh_app words ≡ []) × ((x : Text × List Row) × (subcommand_of seh_app words ≡ Some x) × Names command x)
 

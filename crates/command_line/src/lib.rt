@@ -6,6 +6,4 @@
 
 pub mod command;
 pub mod reading;
-#[cfg(test)]
-mod tests;
 pub mod worked;

@@ -15,7 +15,7 @@ use clap::{Arg, ArgAction, ArgMatches};
 use seh_io::line::Line;
 use std::alloc::{AllocError, Global};
 
-/// Why words stand for no command.
+/// Why words are no command.
 #[derive(Clone, Copy, Debug, PartialEq, Eq)]
 pub enum WordsErr {
     /// They are no line of the command set.
@@ -156,7 +156,7 @@ fn command_named(name: &str, matches: &ArgMatches<'_>) -> Result<Command, WordsE
     }
 }
 
-/// The command that the words after the program's name stand for.
+/// The command that the words after the program's name are.
 ///
 /// `exec` takes `--turns N`, `--arg N` and `--trace`, each at most once and in any order; a number is
 /// written in decimal digits with no sign and no leading zero, and is at most 2^63 - 1. Words that

@@ -3,8 +3,8 @@ use Rattle.std.proofs.Common.{◌≡◌, ℕ, ◌+◌, ◌-◌, ◌*◌, ◌/◌
 use Rattle.std.proofs.lemmas.Bool.{cond_both, and_parts, eqb-true, ltb-true, lt-ltb, le-ltb}
 use Rattle.std.specs.List.{AllByRecursion}
 use Rattle.std.specs.Prelude.{◌&&◌, ◌==◌, nat_lt, nat_le}
-use Rattle.eh_tables.specs.declared.code.Operation.{Operation}
-use Rattle.eh_tables.specs.declared.code.Operation.TheVariants.{Push, Allocate, SetFrame, Save, SaveVector, MachineFrame}
+use Rattle.eh_tables.specs.declared.code.UnwindOperation.{UnwindOperation}
+use Rattle.eh_tables.specs.declared.code.UnwindOperation.TheVariants.{Push, Allocate, SetFrame, Save, SaveVector, MachineFrame}
 use Rattle.eh_tables.specs.declared.code.UnwindCode.{UnwindCode}
 use Rattle.eh_tables.specs.Codes.{operation, code_before, codes, code_checked, in_order, checked}
 use Rattle.eh_tables.specs.Written.{u16, u32, slot, is_short, is_small, allocation, saving, operation_bytes, code_bytes, codes_bytes, Fits, AreFalling}
@@ -35,12 +35,12 @@ four_is n lt = omega arith
 
 -- ---- what one code's bytes are read as, whatever follows
 
-record IsReadAs (framed : Bool) (offset : ℕ) (o : Operation) (bytes : List ℕ) : Type 0 where
+record IsReadAs (framed : Bool) (offset : ℕ) (o : UnwindOperation) (bytes : List ℕ) : Type 0 where
   code : (rest : List ℕ) → codes framed 0 (bytes ++ rest) ≡ record { offset = offset; operation = o } ∷ codes framed 0 rest
   order : (rest : List ℕ) (index slot last : ℕ) → offset ≤ last → ((k : ℕ) → checked index framed k offset 0 rest ≡ Ok tt) → checked index framed slot last 0 (bytes ++ rest) ≡ Ok tt
   even : length bytes % 2 ≡ 0
 
-module _ (framed : Bool) (offset op info : ℕ) (o : Operation) (small : op < 16) where
+module _ (framed : Bool) (offset op info : ℕ) (o : UnwindOperation) (small : op < 16) where
   bare : ((rest : List ℕ) → operation framed op info rest ≡ Some (o, 0)) → IsReadAs framed offset o (slot offset op info)
   bare is = record {
     code = λ rest. ap (code_before offset (λ k. codes framed k rest)) (operation_is framed op info rest small ∙ is rest);
@@ -131,7 +131,7 @@ module _ (framed : Bool) (offset : ℕ) where
       (λ is. short framed offset 8 r (SaveVector r n) (omega arith) (n / 16) (λ rest. ap (λ m. Some (SaveVector r m, 1)) (sixteen_is n is)))
       (λ far. long framed offset 9 r (SaveVector r n) (omega arith) n (λ rest. ap (λ m. Some (SaveVector r m, 2)) (four_is n lt)))
 
-  one_again : (o : Operation) → Fits framed o → IsOperation o → IsReadAs framed offset o (operation_bytes offset o)
+  one_again : (o : UnwindOperation) → Fits framed o → IsOperation o → IsReadAs framed offset o (operation_bytes offset o)
   one_again (Push r) fits is = pushed r
   one_again (Allocate n) fits is = allocated n is
   one_again SetFrame fits is = frame_set fits

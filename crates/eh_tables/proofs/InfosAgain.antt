@@ -1,5 +1,5 @@
 -- Unwind infos that are written, with the scope tables behind them, read again.
-use Rattle.std.proofs.Common.{◌≡◌, ℕ, zero, suc, ◌+◌, ◌-◌, ◌*◌, ◌/◌, ◌%◌, ◌^◌, ◌<◌, Bool, true, false, not, cond, Option, Some, None, Ok, List, [], ◌++◌, length, take, drop, replicate, length-append, refl, sym, ap, ◌∙◌, subst, append_assoc, arith}
+use Rattle.std.proofs.Common.{◌≡◌, ℕ, zero, suc, ◌+◌, ◌*◌, ◌/◌, ◌%◌, ◌^◌, ◌<◌, Bool, true, false, not, cond, Option, Some, None, Ok, List, [], ◌++◌, length, take, drop, replicate, length-append, refl, sym, ap, ◌∙◌, subst, append_assoc, arith}
 use Rattle.std.proofs.lemmas.Bool.{eq-eqb, ne_eqb, lt-ltb}
 use Rattle.std.proofs.lemmas.List.{append-nil, length-replicate, take_at, drop_at, drop-drop}
 use Rattle.std.specs.List.{flat_map}
@@ -8,7 +8,7 @@ use Rattle.byteorder.specs.Endian.{little_number}
 use Rattle.pe_image.specs.Field.{field}
 use Rattle.pe_image.specs.Image.{Image, stored}
 use Rattle.eh_tables.specs.declared.range.RuntimeFunction.{RuntimeFunction}
-use Rattle.eh_tables.specs.declared.scope.ScopeRow.{ScopeRow}
+use Rattle.eh_tables.specs.declared.scope.ScopeRecord.{ScopeRecord}
 use Rattle.eh_tables.specs.declared.refusal.TableErr.{TableErr}
 use Rattle.eh_tables.specs.declared.refusal.TableErr.TheVariants as refusals
 use Rattle.eh_tables.specs.declared.unwind_info.Trailer.{Trailer}
@@ -18,10 +18,10 @@ use Rattle.eh_tables.specs.Answer.{Table, ◌>>=◌, unless, or_refused}
 use Rattle.eh_tables.specs.Codes as slots
 use Rattle.eh_tables.specs.Handler.{is_c_handler}
 use Rattle.eh_tables.specs.Infos as infos
-use Rattle.eh_tables.specs.Infos.{Info, range_at, info_of, info, stored_info, stored_rows, rows_at, rows_if}
+use Rattle.eh_tables.specs.Infos.{Info, range_at, info_of, info, stored_info, stored_scope_records, scope_records_at, scope_records_if}
 use Rattle.eh_tables.specs.Scopes as scopes
-use Rattle.eh_tables.specs.Written.{u32, codes_bytes, bit, trailer_flags, trailer_bytes, range_bytes, padded, header, unwind_bytes, is_framed, IsTrailer, CanBeWritten, row_bytes, scope_bytes}
-use Rattle.eh_tables.specs.ReadAgain.{Stands, HasTrailer, IsUnwindInfo, handler_of, parent_of, is_c, has_c_handler, said, ReadsInfo, ReadsScopes}
+use Rattle.eh_tables.specs.Written.{u32, codes_bytes, bit, trailer_flags, trailer_bytes, range_bytes, padded, header, unwind_bytes, is_framed, IsTrailer, CanBeWritten, scope_record_bytes, scope_bytes}
+use Rattle.eh_tables.specs.ReadAgain.{IsStoredAt, HasTrailer, IsUnwindInfo, handler_of, parent_of, is_c, has_c_handler, info_written, InfoIsReadAgain, ScopeRecordsAreReadAgain}
 use Rattle.eh_tables.proofs.CodesAgain.{codes_again, order_again, whole_slots}
 use Rattle.eh_tables.proofs.TablesAgain.{front_stands, four_is, range_again, range_length, rows_again, rows_length}
 
@@ -138,7 +138,7 @@ module _ (i : UnwindInfo) (is : IsUnwindInfo i) (can : CanBeWritten i) where
       let e = ap (λ f. cond (handled f) 4 (cond (f == 4) 12 0)) (flags_is (trailer_flags i.trailer)) ∙ trailer.size in
       omega (arith, end_is, e, length-append front tail)
 
-  stored_again : (image : Image) (index rva : ℕ) (rest : List ℕ) → rva % 4 ≡ 0 → Stands image rva (all ++ rest) → stored_info image index rva ≡ Ok all
+  stored_again : (image : Image) (index rva : ℕ) (rest : List ℕ) → rva % 4 ≡ 0 → IsStoredAt image rva (all ++ rest) → stored_info image index rva ≡ Ok all
   unfolding stored_info
   stored_again image index rva rest aligned stands =
       let total = all ++ rest in
@@ -221,11 +221,11 @@ module _ (i : UnwindInfo) (is : IsUnwindInfo i) (can : CanBeWritten i) where
       ∙ ap (slots.checked index (is_framed i) 0 255 0) slots_again
       ∙ order_again (is_framed i) index i.codes.items 0 255 can.codes is.operations can.order
 
-  said_again : (b c : Bool) (bytes : List ℕ) (rows : List ScopeRow) → b ≡ c → scopes.rows_in bytes ≡ rows → info_of all b bytes ≡ said i c rows
+  said_again : (b c : Bool) (bytes : List ℕ) (rows : List ScopeRecord) → b ≡ c → scopes.scope_records_in bytes ≡ rows → info_of all b bytes ≡ info_written i c rows
   said_again b c bytes rows same are = λ j. record {
     bytes = bytes_again j;
     flags = flags_again j;
-    prolog = i.prolog;
+    prologue_size = i.prologue_size;
     frame_register = register_again j;
     frame_offset = offset_again j;
     codes = codes_read j;
@@ -237,22 +237,22 @@ module _ (i : UnwindInfo) (is : IsUnwindInfo i) (can : CanBeWritten i) where
 
   -- ---- the whole
 
-  whole_info : (image : Image) (index rva : ℕ) (rest bytes : List ℕ) (b : Bool) (rows : List ScopeRow) → rva % 4 ≡ 0 → has_c_handler image i ≡ b → Stands image rva (all ++ rest)
-      → stored_rows image rva all ≡ Ok bytes → scopes.rows_in bytes ≡ rows
-      → info image index rva ≡ (scopes.checked index image.size 0 rows >>= λ _. Ok (said i b rows))
+  whole_info : (image : Image) (index rva : ℕ) (rest bytes : List ℕ) (b : Bool) (rows : List ScopeRecord) → rva % 4 ≡ 0 → has_c_handler image i ≡ b → IsStoredAt image rva (all ++ rest)
+      → stored_scope_records image rva all ≡ Ok bytes → scopes.scope_records_in bytes ≡ rows
+      → info image index rva ≡ (scopes.checked index image.size 0 rows >>= λ _. Ok (info_written i b rows))
   unfolding info
   whole_info image index rva rest bytes b rows aligned c stands behind are =
-      all_read (stored_info image index rva) all bytes (stored_rows image rva)
+      all_read (stored_info image index rva) all bytes (stored_scope_records image rva)
       (λ x. slots.checked index (infos.is_framed x) 0 255 0 (infos.slots_of x))
-      (λ r. scopes.checked index image.size 0 (scopes.rows_in r))
+      (λ r. scopes.checked index image.size 0 (scopes.scope_records_in r))
       (λ x r. info_of x (infos.is_c image x) r)
       (stored_again image index rva rest aligned stands) behind (order_read index)
-      ∙ ap (λ (r : List ScopeRow). scopes.checked index image.size 0 r >>= λ _. Ok (info_of all (infos.is_c image all) bytes)) are
+      ∙ ap (λ (r : List ScopeRecord). scopes.checked index image.size 0 r >>= λ _. Ok (info_of all (infos.is_c image all) bytes)) are
       ∙ ap (λ (x : Info). scopes.checked index image.size 0 rows >>= λ _. Ok x) (said_again (infos.is_c image all) b bytes rows (c_again image ∙ c) are)
 
-  no_rows : (image : Image) (rva : ℕ) → has_c_handler image i ≡ false → stored_rows image rva all ≡ Ok []
-  unfolding stored_rows
-  no_rows image rva none = ap (rows_if (rows_at image rva (infos.slots_end all + 4))) (c_again image ∙ none)
+  no_rows : (image : Image) (rva : ℕ) → has_c_handler image i ≡ false → stored_scope_records image rva all ≡ Ok []
+  unfolding stored_scope_records
+  no_rows image rva none = ap (scope_records_if (scope_records_at image rva (infos.slots_end all + 4))) (c_again image ∙ none)
 
   handler_length : (image : Image) (t : Trailer) → is_c image (handler_of t) ≡ true → length (trailer_bytes t) ≡ 4
   handler_length image Nothing h = absurd cc
@@ -263,10 +263,10 @@ module _ (i : UnwindInfo) (is : IsUnwindInfo i) (can : CanBeWritten i) where
   unfolding u32
   count_again n lt = four_is n lt
 
-  rows_behind : (image : Image) (rva : ℕ) (rs : List ScopeRow) → length rs < 2 ^ 32 → Stands image rva (all ++ scope_bytes rs) → rows_at image rva (length all) ≡ Ok (flat_map row_bytes rs)
+  rows_behind : (image : Image) (rva : ℕ) (rs : List ScopeRecord) → length rs < 2 ^ 32 → IsStoredAt image rva (all ++ scope_bytes rs) → scope_records_at image rva (length all) ≡ Ok (flat_map scope_record_bytes rs)
   rows_behind image rva rs few stands =
       let count = u32 (length rs) in
-      let body = flat_map row_bytes rs in
+      let body = flat_map scope_record_bytes rs in
       let total = all ++ (count ++ body) in
       let four_more : length (all ++ count) ≡ length all + 4 = omega (arith, length-append all count, handler_size (length rs)) in
       let long : length total ≡ length all + 4 + 16 * length rs = omega (arith, length-append all (count ++ body), length-append count body, handler_size (length rs), rows_length rs) in
@@ -286,22 +286,22 @@ module _ (i : UnwindInfo) (is : IsUnwindInfo i) (can : CanBeWritten i) where
       ∙ ap (λ (l : List ℕ). Ok (drop (length all + 4) l)) parted
       ∙ ap (λ (l : List ℕ). Ok l) (drop_at (all ++ count) body (length all + 4) four_more)
 
-  c_rows : (image : Image) (rva : ℕ) (rs : List ScopeRow) → length rs < 2 ^ 32 → has_c_handler image i ≡ true → Stands image rva (all ++ scope_bytes rs) → stored_rows image rva all ≡ Ok (flat_map row_bytes rs)
-  unfolding stored_rows
+  c_rows : (image : Image) (rva : ℕ) (rs : List ScopeRecord) → length rs < 2 ^ 32 → has_c_handler image i ≡ true → IsStoredAt image rva (all ++ scope_bytes rs) → stored_scope_records image rva all ≡ Ok (flat_map scope_record_bytes rs)
+  unfolding stored_scope_records
   c_rows image rva rs few some stands =
       let behind : infos.slots_end all + 4 ≡ length all = omega (arith, end_is, handler_length image i.trailer some, length-append front tail) in
-      ap (rows_if (rows_at image rva (infos.slots_end all + 4))) (c_again image ∙ some)
-      ∙ ap (rows_at image rva) behind
+      ap (scope_records_if (scope_records_at image rva (infos.slots_end all + 4))) (c_again image ∙ some)
+      ∙ ap (scope_records_at image rva) behind
       ∙ rows_behind image rva rs few stands
 
-pub reads_info : ReadsInfo
+pub reads_info : InfoIsReadAgain
 unfolding unwind_bytes
 reads_info image index rva i is can aligned none stands =
     let bytes = all i is can in
-    let there : Stands image rva (bytes ++ []) = subst (Stands image rva) (sym (append-nil bytes)) stands in
+    let there : IsStoredAt image rva (bytes ++ []) = subst (IsStoredAt image rva) (sym (append-nil bytes)) stands in
     whole_info i is can image index rva [] [] false [] aligned none there (no_rows i is can image rva none) refl
 
-pub reads_scopes : ReadsScopes
+pub reads_scopes : ScopeRecordsAreReadAgain
 unfolding unwind_bytes
 reads_scopes image index rva i rows is can are few aligned some stands =
-    whole_info i is can image index rva (scope_bytes rows) (flat_map row_bytes rows) true rows aligned some stands (c_rows i is can image rva rows few some stands) (rows_again rows are)
+    whole_info i is can image index rva (scope_bytes rows) (flat_map scope_record_bytes rows) true rows aligned some stands (c_rows i is can image rva rows few some stands) (rows_again rows are)

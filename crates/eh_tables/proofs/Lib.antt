@@ -6,3 +6,4 @@ pub mod Ranges
 pub mod Rows
 pub mod Slots
 pub mod TablesAgain
+pub mod WholeAgain

@@ -1,4 +1,4 @@
--- The entry whose range holds an address, by where the entries end.
+-- The entry whose range covers an address, by where the entries end.
 use Rattle.std.proofs.Common.{◌≡◌, ℕ, zero, suc, ◌+◌, ◌-◌, ◌*◌, ◌^◌, ◌≤◌, ◌<◌, Bool, true, false, None, Ok, Err, List, [], ◌∷◌, length, get_or, ltb, leb, refl, sym, ap, ◌∙◌, arith}
 use Rattle.std.specs.Prelude.{nat_le, nat_lt}
 use Rattle.std.specs.Result.{result_ok}
@@ -10,7 +10,7 @@ use Rattle.eh_tables.specs.declared.refusal.TableErr.{TableErr}
 use Rattle.eh_tables.specs.declared.refusal.TableErr.TheVariants as refusals
 use Rattle.eh_tables.specs.Answer.{Table, ◌>>=◌, unless, prepend}
 use Rattle.eh_tables.specs.Infos.{info}
-use Rattle.eh_tables.specs.Tables.{Entry, Tables, entry, entry_at, parents, no_range, end_before, entries, entries_of, holds, entry_or, holding, IsWhole}
+use Rattle.eh_tables.specs.Tables.{Entry, Tables, entry, entry_at, parents, no_range, end_before, entries, entries_of, covers_address, entry_or, holding, IsWhole}
 
 -- ---- what an answer without a refusal says
 
@@ -74,20 +74,20 @@ split image index last r rs es h =
     let two = prepended one.value (entries image (index + 1) r.end rs) es one.then in
     record { head = one.value; rest = two.rest; is = one.first; others = two.is; all = two.all; read = entry_read image index last r one.value one.first }
 
-below_begin : (rva : ℕ) (r : RuntimeFunction) → rva < r.begin → holds rva r ≡ false
+below_begin : (rva : ℕ) (r : RuntimeFunction) → rva < r.begin → covers_address rva r ≡ false
 below_begin rva r lt = and_left (leb r.begin rva) (ltb rva r.end) (lt-leb r.begin rva lt)
 
-past_end : (rva : ℕ) (r : RuntimeFunction) → r.end ≤ rva → holds rva r ≡ false
+past_end : (rva : ℕ) (r : RuntimeFunction) → r.end ≤ rva → covers_address rva r ≡ false
 past_end rva r le = and_right (leb r.begin rva) (ltb rva r.end) (le-ltb rva r.end le)
 
-within : (rva : ℕ) (r : RuntimeFunction) → r.begin ≤ rva → rva < r.end → holds rva r ≡ true
+within : (rva : ℕ) (r : RuntimeFunction) → r.begin ≤ rva → rva < r.end → covers_address rva r ≡ true
 within rva r le lt = and_from (leb r.begin rva) (ltb rva r.end) (le-leb r.begin rva le) (lt-ltb rva r.end lt)
 
 module _ (image : Image) (index last : ℕ) (r : RuntimeFunction) (rs : List RuntimeFunction) (es : List Entry) (s : Split image index last r rs es) (rva : ℕ) where
-  by_head : (b : Bool) → holds rva r ≡ b → holding rva es ≡ entry_or (holding rva s.rest) s.head b
+  by_head : (b : Bool) → covers_address rva r ≡ b → holding rva es ≡ entry_or (holding rva s.rest) s.head b
   by_head b e =
       ap (holding rva) s.all
-      ∙ ap (λ (q : RuntimeFunction). entry_or (holding rva s.rest) s.head (holds rva q)) s.read.range
+      ∙ ap (λ (q : RuntimeFunction). entry_or (holding rva s.rest) s.head (covers_address rva q)) s.read.range
       ∙ ap (entry_or (holding rva s.rest) s.head) e
 
 none_from : (image : Image) (index last : ℕ) (rs : List RuntimeFunction) (es : List Entry) (rva : ℕ) → entries image index last rs ≡ Ok es → rva < last → holding rva es ≡ None

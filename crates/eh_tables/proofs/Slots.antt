@@ -2,7 +2,7 @@
 use Rattle.std.proofs.Common.{◌≡◌, ◌≢◌, ℕ, zero, suc, ◌+◌, ◌-◌, ◌*◌, ◌/◌, ◌%◌, ◌≤◌, Bool, true, false, Some, None, Err, List, [], ◌∷◌, length, take, drop, get_or, length-drop, refl, sym, ap, ◌∙◌, arith}
 use Rattle.std.specs.Prelude.{nat_lt}
 use Rattle.std.proofs.lemmas.List.{take_all}
-use Rattle.eh_tables.specs.declared.code.Operation.{Operation}
+use Rattle.eh_tables.specs.declared.code.UnwindOperation.{UnwindOperation}
 use Rattle.eh_tables.specs.declared.code.UnwindCode.{UnwindCode}
 use Rattle.eh_tables.specs.declared.refusal.TableErr.TheVariants as refusals
 use Rattle.eh_tables.specs.Answer.{Table}
@@ -18,7 +18,7 @@ passed framed (suc k) (suc (suc n)) (a ∷ []) e = refl
 passed framed (suc k) (suc (suc n)) (a ∷ b ∷ xs) e = passed framed k n xs (omega arith)
 
 -- the first code, and those behind its operands
-pub first_code : (framed : Bool) (xs : List ℕ) (o : Operation) (n : ℕ) → 2 ≤ length xs → operation framed (get_or xs 1 0 % 16) (get_or xs 1 0 / 16) (drop 2 xs) ≡ Some (o, n)
+pub first_code : (framed : Bool) (xs : List ℕ) (o : UnwindOperation) (n : ℕ) → 2 ≤ length xs → operation framed (get_or xs 1 0 % 16) (get_or xs 1 0 / 16) (drop 2 xs) ≡ Some (o, n)
     → codes framed 0 xs ≡ record { offset = get_or xs 0 0; operation = o } ∷ codes framed 0 (drop (2 * n) (drop 2 xs))
 first_code framed [] o n le is = absurd (omega arith)
 first_code framed (a ∷ []) o n le is = absurd (omega arith)
@@ -58,10 +58,10 @@ module _ (index : ℕ) (framed : Bool) (slot last k : ℕ) (xs : List ℕ) (le :
   pub unknown : operation framed (get_or xs 1 0 % 16) (get_or xs 1 0 / 16) (take (length xs - 2) (drop 2 xs)) ≡ None → checked index framed slot last k xs ≡ Err (refusals.Op index slot)
   unknown is = here ∙ ap (code_checked index slot last (get_or xs 0 0) (Later index framed slot xs)) is
 
-  pub out_of_order : (x : Operation × ℕ) → operation framed (get_or xs 1 0 % 16) (get_or xs 1 0 / 16) (take (length xs - 2) (drop 2 xs)) ≡ Some x → nat_lt last (get_or xs 0 0) ≡ true → checked index framed slot last k xs ≡ Err (refusals.CodeOrder index slot)
+  pub out_of_order : (x : UnwindOperation × ℕ) → operation framed (get_or xs 1 0 % 16) (get_or xs 1 0 / 16) (take (length xs - 2) (drop 2 xs)) ≡ Some x → nat_lt last (get_or xs 0 0) ≡ true → checked index framed slot last k xs ≡ Err (refusals.CodeOrder index slot)
   out_of_order x is above = here ∙ ap (code_checked index slot last (get_or xs 0 0) (Later index framed slot xs)) is ∙ ap (in_order index slot (Later index framed slot xs x.1)) above
 
-  pub code_passed : (x : Operation × ℕ) → operation framed (get_or xs 1 0 % 16) (get_or xs 1 0 / 16) (take (length xs - 2) (drop 2 xs)) ≡ Some x → nat_lt last (get_or xs 0 0) ≡ false → Later index framed slot xs x.1 ≡ checked index framed slot last k xs
+  pub code_passed : (x : UnwindOperation × ℕ) → operation framed (get_or xs 1 0 % 16) (get_or xs 1 0 / 16) (take (length xs - 2) (drop 2 xs)) ≡ Some x → nat_lt last (get_or xs 0 0) ≡ false → Later index framed slot xs x.1 ≡ checked index framed slot last k xs
   code_passed x is below = sym (here ∙ ap (code_checked index slot last (get_or xs 0 0) (Later index framed slot xs)) is ∙ ap (in_order index slot (Later index framed slot xs x.1)) below)
 
 pub cut : (xs : List ℕ) (n : ℕ) → take (length xs - n) (drop n xs) ≡ drop n xs
@@ -71,7 +71,7 @@ cut xs n = take_all (length xs - n) (drop n xs) (omega (arith, length-drop n xs)
 pub behind_code : (xs : List ℕ) (n : ℕ) → (let ys = take (length xs - 2) (drop 2 xs) in take (length ys - n) (drop n ys)) ≡ drop n (drop 2 xs)
 behind_code xs n = cut (take (length xs - 2) (drop 2 xs)) n ∙ ap (drop n) (behind xs)
 
-pub left_behind : (framed : Bool) (xs : List ℕ) (o : Operation) (n : ℕ) → 2 ≤ length xs → operation framed (get_or xs 1 0 % 16) (get_or xs 1 0 / 16) (take (length xs - 2) (drop 2 xs)) ≡ Some (o, n)
+pub left_behind : (framed : Bool) (xs : List ℕ) (o : UnwindOperation) (n : ℕ) → 2 ≤ length xs → operation framed (get_or xs 1 0 % 16) (get_or xs 1 0 / 16) (take (length xs - 2) (drop 2 xs)) ≡ Some (o, n)
     → codes framed 0 xs ≡ record { offset = get_or xs 0 0; operation = o } ∷ codes framed 0 (let ys = take (length xs - 2) (drop 2 xs) in take (length ys - 2 * n) (drop (2 * n) ys))
 left_behind framed xs o n le is =
     first_code framed xs o n le (ap (operation framed (get_or xs 1 0 % 16) (get_or xs 1 0 / 16)) (sym (behind xs)) ∙ is)

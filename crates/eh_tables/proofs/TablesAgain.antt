@@ -6,15 +6,15 @@ use Rattle.std.specs.List.{flat_map, AllByRecursion}
 use Rattle.std.specs.Prelude.{◌==◌}
 use Rattle.pe_image.specs.Image.{Section, section_at, stored_in, only_if, whole, stored}
 use Rattle.eh_tables.specs.declared.range.RuntimeFunction.{RuntimeFunction}
-use Rattle.eh_tables.specs.declared.scope.ScopeRow.{ScopeRow}
+use Rattle.eh_tables.specs.declared.scope.ScopeRecord.{ScopeRecord}
 use Rattle.eh_tables.specs.declared.refusal.TableErr.{TableErr}
 use Rattle.eh_tables.specs.declared.refusal.TableErr.TheVariants as refusals
 use Rattle.eh_tables.specs.Answer.{Table, ◌>>=◌, unless, or_refused}
 use Rattle.eh_tables.specs.Infos.{range_at}
-use Rattle.eh_tables.specs.Scopes.{scope_row, rows, rows_in}
+use Rattle.eh_tables.specs.Scopes.{scope_record, rows, scope_records_in}
 use Rattle.eh_tables.specs.Tables.{ranges, ranges_in, unless_none, stored_ranges, directory}
-use Rattle.eh_tables.specs.Written.{u32, range_bytes, row_bytes, table_bytes}
-use Rattle.eh_tables.specs.ReadAgain.{IsRange, IsRow, ReadsRanges}
+use Rattle.eh_tables.specs.Written.{u32, range_bytes, scope_record_bytes, table_bytes}
+use Rattle.eh_tables.specs.ReadAgain.{IsRange, IsScopeRecord, RangesAreReadAgain}
 
 -- ---- where bytes stand, those at their front stand too
 
@@ -86,7 +86,7 @@ three : (t1 t3 : Bool) (o : Option (List ℕ)) (bytes : List ℕ) (e1 e2 e3 : Ta
     → (unless t1 e1 >>= λ _. or_refused o e2 >>= λ b. unless t3 e3 >>= λ _. Ok (ranges_in b)) ≡ Ok (ranges_in bytes)
 three t1 t3 o bytes e1 e2 e3 h1 h2 h3 = rw (h1, h2, h3) refl
 
-pub reads_ranges : ReadsRanges
+pub reads_ranges : RangesAreReadAgain
 unfolding directory
 reads_ranges image rs are aligned size stands =
     let d = image.exceptions in
@@ -98,37 +98,37 @@ reads_ranges image rs are aligned size stands =
     (eq-eqb (d.rva % 4) 0 aligned) there (eq-eqb (d.size % 12) 0 multiple)
     ∙ ap (λ (l : List RuntimeFunction). Ok l) (ranges_again rs are))
 
--- ---- rows of a scope table
+-- ---- records of a scope table
 
-row_again : (r : ScopeRow) (rest : List ℕ) → IsRow r → scope_row (row_bytes r ++ rest) ≡ r
+row_again : (r : ScopeRecord) (rest : List ℕ) → IsScopeRecord r → scope_record (scope_record_bytes r ++ rest) ≡ r
 unfolding u32
 row_again r rest is =
     let begin = four_is r.begin is.0 in
     let end = four_is r.end is.1 in
-    let handler = four_is r.handler is.2 in
-    let jump = four_is r.jump is.3 in
-    λ i. record { begin = begin i; end = end i; handler = handler i; jump = jump i }
+    let handler = four_is r.handler_address is.2 in
+    let jump = four_is r.jump_target is.3 in
+    λ i. record { begin = begin i; end = end i; handler_address = handler i; jump_target = jump i }
 
-behind_row : (r : ScopeRow) (rest : List ℕ) → drop 16 (row_bytes r ++ rest) ≡ rest
+behind_row : (r : ScopeRecord) (rest : List ℕ) → drop 16 (scope_record_bytes r ++ rest) ≡ rest
 unfolding u32
 behind_row r rest = refl
 
-row_length : (r : ScopeRow) → length (row_bytes r) ≡ 16
+row_length : (r : ScopeRecord) → length (scope_record_bytes r) ≡ 16
 unfolding u32
 row_length r = refl
 
-pub rows_length : (rs : List ScopeRow) → length (flat_map row_bytes rs) ≡ 16 * length rs
+pub rows_length : (rs : List ScopeRecord) → length (flat_map scope_record_bytes rs) ≡ 16 * length rs
 rows_length [] = refl
-rows_length (r ∷ rs) = omega (arith, length-append (row_bytes r) (flat_map row_bytes rs), row_length r, rows_length rs)
+rows_length (r ∷ rs) = omega (arith, length-append (scope_record_bytes r) (flat_map scope_record_bytes rs), row_length r, rows_length rs)
 
-so_many_rows : (rs : List ScopeRow) → AllByRecursion IsRow rs → rows (length rs) (flat_map row_bytes rs) ≡ rs
+so_many_rows : (rs : List ScopeRecord) → AllByRecursion IsScopeRecord rs → rows (length rs) (flat_map scope_record_bytes rs) ≡ rs
 so_many_rows [] are = refl
 so_many_rows (r ∷ rs) are =
-    ap (λ (t : ScopeRow). t ∷ rows (length rs) (drop 16 (row_bytes r ++ flat_map row_bytes rs))) (row_again r (flat_map row_bytes rs) are.0)
-    ∙ ap (λ (t : List ℕ). r ∷ rows (length rs) t) (behind_row r (flat_map row_bytes rs))
-    ∙ ap (λ (t : List ScopeRow). r ∷ t) (so_many_rows rs are.1)
+    ap (λ (t : ScopeRecord). t ∷ rows (length rs) (drop 16 (scope_record_bytes r ++ flat_map scope_record_bytes rs))) (row_again r (flat_map scope_record_bytes rs) are.0)
+    ∙ ap (λ (t : List ℕ). r ∷ rows (length rs) t) (behind_row r (flat_map scope_record_bytes rs))
+    ∙ ap (λ (t : List ScopeRecord). r ∷ t) (so_many_rows rs are.1)
 
-pub rows_again : (rs : List ScopeRow) → AllByRecursion IsRow rs → rows_in (flat_map row_bytes rs) ≡ rs
+pub rows_again : (rs : List ScopeRecord) → AllByRecursion IsScopeRecord rs → scope_records_in (flat_map scope_record_bytes rs) ≡ rs
 rows_again rs are =
-    let e : length (flat_map row_bytes rs) / 16 ≡ length rs = omega (arith, rows_length rs) in
-    ap (λ n. rows n (flat_map row_bytes rs)) e ∙ so_many_rows rs are
+    let e : length (flat_map scope_record_bytes rs) / 16 ≡ length rs = omega (arith, rows_length rs) in
+    ap (λ n. rows n (flat_map scope_record_bytes rs)) e ∙ so_many_rows rs are

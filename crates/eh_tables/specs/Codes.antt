@@ -1,7 +1,7 @@
 -- Unwind codes, as cases on a list of slots. A slot has two bytes.
 use Rattle.std.specs.Prelude.{ℕ, zero, suc, ◌+◌, ◌*◌, ◌/◌, ◌%◌, Bool, true, false, ◌==◌, nat_lt, if◌then◌else◌, List, [], ◌∷◌, Option, Some, None, Ok, Err}
-use Rattle.eh_tables.specs.declared.code.Operation.{Operation}
-use Rattle.eh_tables.specs.declared.code.Operation.TheVariants.{Push, Allocate, SetFrame, Save, SaveVector, MachineFrame}
+use Rattle.eh_tables.specs.declared.code.UnwindOperation.{UnwindOperation}
+use Rattle.eh_tables.specs.declared.code.UnwindOperation.TheVariants.{Push, Allocate, SetFrame, Save, SaveVector, MachineFrame}
 use Rattle.eh_tables.specs.declared.code.UnwindCode.{UnwindCode}
 use Rattle.eh_tables.specs.declared.refusal.TableErr.TheVariants as refusals
 use Rattle.eh_tables.specs.Answer.{Table}
@@ -10,7 +10,7 @@ use Rattle.eh_tables.specs.Answer.{Table}
 
 -- an operation, and how many slots of operands follow its code's first slot
 abbrev pub Taken : Type 0
-Taken = Option (Operation × ℕ)
+Taken = Option (UnwindOperation × ℕ)
 
 -- one slot of operands, a number of 16 bits, or two, a number of 32 bits
 abbrev pub one_slot : List ℕ → Option ℕ
@@ -25,7 +25,7 @@ two_slots (a ∷ b ∷ []) = None
 two_slots (a ∷ []) = None
 two_slots [] = None
 
-abbrev pub taken : (ℕ → Operation) → ℕ → Option ℕ → Taken
+abbrev pub taken : (ℕ → UnwindOperation) → ℕ → Option ℕ → Taken
 taken f n None = None
 taken f n (Some v) = Some (f v, n)
 

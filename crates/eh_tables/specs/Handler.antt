@@ -1,6 +1,7 @@
 -- Which handler is the C handler: one whose code is a jump through the slot of `__C_specific_handler`.
-use Rattle.std.specs.Prelude.{ℕ, ◌+◌, ◌/◌, ◌%◌, ◌^◌, ◌-◌, Bool, true, false, ◌&&◌, ◌==◌, nat_lt, if◌then◌else◌, List, [], ◌∷◌, drop, slice_index, option_and_then, Option, Some, None, codes}
+use Rattle.std.specs.Prelude.{ℕ, ◌+◌, ◌/◌, ◌%◌, ◌^◌, ◌-◌, Bool, true, false, ◌&&◌, ◌==◌, nat_lt, if◌then◌else◌, List, [], ◌∷◌, drop, slice_index, option_and_then, Option, Some, None}
 use Rattle.std.specs.Str.{bytes_eq}
+use Rattle.host_layout.specs.declared.name.TheConstants.{C_SPECIFIC_HANDLER}
 use Rattle.pe_image.specs.Field.{field}
 use Rattle.pe_image.specs.Image.{Image, stored}
 use Rattle.pe_image.specs.Imports.{Import, imports_of}
@@ -37,7 +38,7 @@ jump_slot image rva = option_and_then (λ bytes. behind_rex image rva bytes (has
 -- ---- the name that a slot is bound to, which is that of its last import
 
 abbrev pub is_c_name : List ℕ → Bool
-is_c_name name = bytes_eq name (codes "__C_specific_handler")
+is_c_name name = bytes_eq name C_SPECIFIC_HANDLER.now
 
 abbrev pub bound_at : ℕ → Bool → Import → Bool → Bool
 bound_at slot others i true = is_c_name i.name

@@ -5,7 +5,7 @@ use Rattle.pe_image.specs.Field.{field}
 use Rattle.pe_image.specs.Image.{Image, stored}
 use Rattle.eh_tables.specs.declared.code.UnwindCode.{UnwindCode}
 use Rattle.eh_tables.specs.declared.range.RuntimeFunction.{RuntimeFunction}
-use Rattle.eh_tables.specs.declared.scope.ScopeRow.{ScopeRow}
+use Rattle.eh_tables.specs.declared.scope.ScopeRecord.{ScopeRecord}
 use Rattle.eh_tables.specs.declared.refusal.TableErr.{TableErr}
 use Rattle.eh_tables.specs.declared.refusal.TableErr.TheVariants as refusals
 use Rattle.eh_tables.specs.Answer.{Table, ◌>>=◌, unless, or_refused}
@@ -25,8 +25,8 @@ version bytes = slice_index bytes 0 % 8
 abbrev pub flags : List ℕ → ℕ
 flags bytes = slice_index bytes 0 / 8
 
-abbrev pub prolog : List ℕ → ℕ
-prolog bytes = slice_index bytes 1
+abbrev pub prologue_size : List ℕ → ℕ
+prologue_size bytes = slice_index bytes 1
 
 -- how many slots there are
 abbrev pub slot_count : List ℕ → ℕ
@@ -79,28 +79,28 @@ parent bytes = if is_chained bytes then Some (range_at bytes (slots_end bytes)) 
 pub record Info : Type 0 where
   pub bytes : List ℕ  -- header and slots as they are stored, with the one that makes their count even
   pub flags : ℕ
-  pub prolog : ℕ
+  pub prologue_size : ℕ
   pub frame_register : ℕ  -- 0 for none
   pub frame_offset : ℕ  -- in bytes
   pub codes : List UnwindCode
   pub handler : Option ℕ
   pub parent : Option RuntimeFunction
   pub has_c_handler : Bool
-  pub scopes : List ScopeRow  -- none where the handler isn't the C handler
+  pub scopes : List ScopeRecord  -- none where the handler isn't the C handler
 
--- by the bytes up to the trailer's end, and those of the scope rows
+-- by the bytes up to the trailer's end, and those of the scope records
 abbrev pub info_of : List ℕ → Bool → List ℕ → Info
 info_of bytes is_c rows = record {
   bytes = take (slots_end bytes) bytes;
   flags = flags bytes;
-  prolog = prolog bytes;
+  prologue_size = prologue_size bytes;
   frame_register = frame_register bytes;
   frame_offset = frame_offset bytes;
   codes = slots.codes (is_framed bytes) 0 (slots_of bytes);
   handler = handler bytes;
   parent = parent bytes;
   has_c_handler = is_c;
-  scopes = scopes.rows_in rows;
+  scopes = scopes.scope_records_in rows;
 }
 
 -- ---- what an info must be
@@ -124,28 +124,28 @@ stored_info image index rva = do
   _ ← unless (are_flags (flags head)) (refusals.Flags index)
   or_refused (stored image.sections rva (slots_end head + trailer_size head)) (refusals.Truncated rva)
 
--- the rows of the scope table, which stands behind the handler's address: their count, and they themselves
-abbrev pub rows_at : Image → ℕ → ℕ → Table (List ℕ)
-rows_at image rva at = do
+-- the records of the scope table, which stands behind the handler's address: their count, and they themselves
+abbrev pub scope_records_at : Image → ℕ → ℕ → Table (List ℕ)
+scope_records_at image rva at = do
   counted ← or_refused (stored image.sections rva (at + 4)) (refusals.Truncated rva)
   all ← or_refused (stored image.sections rva (at + 4 + 16 * field 4 counted at)) (refusals.Truncated rva)
   Ok (drop (at + 4) all)
 
-abbrev pub rows_if : Table (List ℕ) → Bool → Table (List ℕ)
-rows_if rows true = rows
-rows_if rows false = Ok []
+abbrev pub scope_records_if : Table (List ℕ) → Bool → Table (List ℕ)
+scope_records_if rows true = rows
+scope_records_if rows false = Ok []
 
 abbrev pub is_c : Image → List ℕ → Bool
 is_c image bytes = has_handler bytes && is_c_handler image (handler_at bytes)
 
-unfoldable pub stored_rows : Image → ℕ → List ℕ → Table (List ℕ)
-stored_rows image rva bytes = rows_if (rows_at image rva (slots_end bytes + 4)) (is_c image bytes)
+unfoldable pub stored_scope_records : Image → ℕ → List ℕ → Table (List ℕ)
+stored_scope_records image rva bytes = scope_records_if (scope_records_at image rva (slots_end bytes + 4)) (is_c image bytes)
 
--- The codes come before the chain, and the chain before the scope rows; since a chained info has no handler, its rows are none.
+-- The codes come before the chain, and the chain before the scope records; since a chained info has no handler, its rows are none.
 unfoldable pub info : Image → ℕ → ℕ → Table Info
 info image index rva = do
   bytes ← stored_info image index rva
-  rows ← stored_rows image rva bytes
+  rows ← stored_scope_records image rva bytes
   _ ← slots.checked index (is_framed bytes) 0 255 0 (slots_of bytes)
-  _ ← scopes.checked index image.size 0 (scopes.rows_in rows)
+  _ ← scopes.checked index image.size 0 (scopes.scope_records_in rows)
   Ok (info_of bytes (is_c image bytes) rows)

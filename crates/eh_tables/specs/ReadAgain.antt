@@ -1,11 +1,11 @@
 -- What is written is read again as the same values, wherever it stands in an image.
-use Rattle.std.specs.Prelude.{◌≡◌, ℕ, ◌%◌, ◌^◌, ◌<◌, Bool, true, false, List, [], ◌++◌, length, Option, Some, None, Ok}
+use Rattle.std.specs.Prelude.{◌≡◌, ℕ, ◌%◌, ◌^◌, ◌<◌, ◌≤◌, Bool, true, false, List, [], ◌∷◌, ◌++◌, length, map, Option, Some, None, Ok}
 use Rattle.std.specs.List.{AllByRecursion}
 use Rattle.pe_image.specs.Image.{Image, stored}
-use Rattle.eh_tables.specs.declared.code.Operation.{Operation}
-use Rattle.eh_tables.specs.declared.code.Operation.TheVariants.{Push, Allocate, SetFrame, Save, SaveVector, MachineFrame}
+use Rattle.eh_tables.specs.declared.code.UnwindOperation.{UnwindOperation}
+use Rattle.eh_tables.specs.declared.code.UnwindOperation.TheVariants.{Push, Allocate, SetFrame, Save, SaveVector, MachineFrame}
 use Rattle.eh_tables.specs.declared.range.RuntimeFunction.{RuntimeFunction}
-use Rattle.eh_tables.specs.declared.scope.ScopeRow.{ScopeRow}
+use Rattle.eh_tables.specs.declared.scope.ScopeRecord.{ScopeRecord}
 use Rattle.eh_tables.specs.declared.unwind_info.Trailer.{Trailer}
 use Rattle.eh_tables.specs.declared.unwind_info.Trailer.TheVariants.{Nothing, Handler, Parent}
 use Rattle.eh_tables.specs.declared.unwind_info.UnwindInfo.{UnwindInfo}
@@ -13,16 +13,16 @@ use Rattle.eh_tables.specs.Answer.{◌>>=◌}
 use Rattle.eh_tables.specs.Handler.{is_c_handler}
 use Rattle.eh_tables.specs.Infos.{Info, info}
 use Rattle.eh_tables.specs.Scopes as scopes
-use Rattle.eh_tables.specs.Tables.{directory}
+use Rattle.eh_tables.specs.Tables.{Entry, directory, tables}
 use Rattle.eh_tables.specs.Written.{codes_bytes, padded, header, trailer_flags, unwind_bytes, scope_bytes, table_bytes, CanBeWritten}
 
 -- these bytes are stored in an image from an address on
-abbrev pub Stands : Image → ℕ → List ℕ → Type 0
-Stands image rva bytes = stored image.sections rva (length bytes) ≡ Some bytes
+abbrev pub IsStoredAt : Image → ℕ → List ℕ → Type 0
+IsStoredAt image rva bytes = stored image.sections rva (length bytes) ≡ Some bytes
 
 -- ---- values of their types: each number of 32 bits is below 2 ^ 32
 
-abbrev pub IsOperation : Operation → Type 0
+abbrev pub IsOperation : UnwindOperation → Type 0
 IsOperation (Push r) = Unit {0}
 IsOperation (Allocate n) = n < 2 ^ 32
 IsOperation SetFrame = Unit {0}
@@ -33,8 +33,8 @@ IsOperation (MachineFrame i) = Unit {0}
 abbrev pub IsRange : RuntimeFunction → Type 0
 IsRange r = (r.begin < 2 ^ 32) × (r.end < 2 ^ 32) × (r.unwind_info < 2 ^ 32)
 
-abbrev pub IsRow : ScopeRow → Type 0
-IsRow r = (r.begin < 2 ^ 32) × (r.end < 2 ^ 32) × (r.handler < 2 ^ 32) × (r.jump < 2 ^ 32)
+abbrev pub IsScopeRecord : ScopeRecord → Type 0
+IsScopeRecord r = (r.begin < 2 ^ 32) × (r.end < 2 ^ 32) × (r.handler_address < 2 ^ 32) × (r.jump_target < 2 ^ 32)
 
 abbrev pub HasTrailer : Trailer → Type 0
 HasTrailer Nothing = Unit {0}
@@ -65,11 +65,11 @@ abbrev pub has_c_handler : Image → UnwindInfo → Bool
 has_c_handler image i = is_c image (handler_of i.trailer)
 
 -- what an info says that was written, with the rows behind it
-abbrev pub said : UnwindInfo → Bool → List ScopeRow → Info
-said i is_c rows = record {
+abbrev pub info_written : UnwindInfo → Bool → List ScopeRecord → Info
+info_written i is_c rows = record {
   bytes = header i (length (codes_bytes i.codes.items)) ++ padded (codes_bytes i.codes.items);
   flags = trailer_flags i.trailer;
-  prolog = i.prolog;
+  prologue_size = i.prologue_size;
   frame_register = i.frame_register;
   frame_offset = i.frame_offset;
   codes = i.codes.items;
@@ -80,20 +80,69 @@ said i is_c rows = record {
 }
 
 -- without the C handler
-abbrev pub ReadsInfo : Type 0
-ReadsInfo = (image : Image) (index rva : ℕ) (i : UnwindInfo) → IsUnwindInfo i → CanBeWritten i → rva % 4 ≡ 0 → has_c_handler image i ≡ false
-    → Stands image rva (unwind_bytes i)
-    → info image index rva ≡ Ok (said i false [])
+abbrev pub InfoIsReadAgain : Type 0
+InfoIsReadAgain = (image : Image) (index rva : ℕ) (i : UnwindInfo) → IsUnwindInfo i → CanBeWritten i → rva % 4 ≡ 0 → has_c_handler image i ≡ false
+    → IsStoredAt image rva (unwind_bytes i)
+    → info image index rva ≡ Ok (info_written i false [])
 
 -- with it and its scope table, where each row is a range of code in the image; else it is refused for the first that isn't
-abbrev pub ReadsScopes : Type 0
-ReadsScopes = (image : Image) (index rva : ℕ) (i : UnwindInfo) (rows : List ScopeRow) → IsUnwindInfo i → CanBeWritten i → AllByRecursion IsRow rows → length rows < 2 ^ 32 → rva % 4 ≡ 0 → has_c_handler image i ≡ true
-    → Stands image rva (unwind_bytes i ++ scope_bytes rows)
-    → info image index rva ≡ (scopes.checked index image.size 0 rows >>= λ _. Ok (said i true rows))
+abbrev pub ScopeRecordsAreReadAgain : Type 0
+ScopeRecordsAreReadAgain = (image : Image) (index rva : ℕ) (i : UnwindInfo) (rows : List ScopeRecord) → IsUnwindInfo i → CanBeWritten i → AllByRecursion IsScopeRecord rows → length rows < 2 ^ 32 → rva % 4 ≡ 0 → has_c_handler image i ≡ true
+    → IsStoredAt image rva (unwind_bytes i ++ scope_bytes rows)
+    → info image index rva ≡ (scopes.checked index image.size 0 rows >>= λ _. Ok (info_written i true rows))
 
 -- ---- function tables
 
-abbrev pub ReadsRanges : Type 0
-ReadsRanges = (image : Image) (rs : List RuntimeFunction) → AllByRecursion IsRange rs → image.exceptions.rva % 4 ≡ 0 → image.exceptions.size ≡ length (table_bytes rs)
-    → Stands image image.exceptions.rva (table_bytes rs)
+abbrev pub RangesAreReadAgain : Type 0
+RangesAreReadAgain = (image : Image) (rs : List RuntimeFunction) → AllByRecursion IsRange rs → image.exceptions.rva % 4 ≡ 0 → image.exceptions.size ≡ length (table_bytes rs)
+    → IsStoredAt image image.exceptions.rva (table_bytes rs)
     → directory image ≡ Ok rs
+
+-- ---- whole function tables
+
+-- an entry as it is written: its range, its unwind info, and the records of its scope table
+pub record WrittenEntry : Type 0 where
+  pub range : RuntimeFunction
+  pub info : UnwindInfo
+  pub scopes : List ScopeRecord
+
+-- without the C handler there is no scope table; with it the records are of code in the image
+abbrev pub HasScopes : Image → WrittenEntry → Bool → Type 0
+HasScopes image w false = (w.scopes ≡ []) × IsStoredAt image w.range.unwind_info (unwind_bytes w.info)
+HasScopes image w true =
+    AllByRecursion IsScopeRecord w.scopes × (length w.scopes < 2 ^ 32)
+    × ((index : ℕ) → scopes.checked index image.size 0 w.scopes ≡ Ok tt)
+    × IsStoredAt image w.range.unwind_info (unwind_bytes w.info ++ scope_bytes w.scopes)
+
+-- the unwind info is stored where the range says, and is chained to no other
+pub record IsWritten (image : Image) (w : WrittenEntry) : Type 0 where
+  pub info : IsUnwindInfo w.info
+  pub can : CanBeWritten w.info
+  pub aligned : w.range.unwind_info % 4 ≡ 0
+  pub alone : parent_of w.info.trailer ≡ None
+  pub stored : HasScopes image w (has_c_handler image w.info)
+
+-- no range is empty, or begins below the end of the one before
+abbrev pub AreInOrder : ℕ → List WrittenEntry → Type 0
+AreInOrder last [] = Unit {0}
+AreInOrder last (w ∷ ws) = (last ≤ w.range.begin) × (w.range.begin < w.range.end) × AreInOrder w.range.end ws
+
+-- what is read of it
+abbrev pub as_read : Image → WrittenEntry → Entry
+as_read image w = record {
+  range = w.range;
+  info = info_written w.info (has_c_handler image w.info) w.scopes;
+  parents = [];
+}
+
+abbrev pub ranges_of : List WrittenEntry → List RuntimeFunction
+ranges_of ws = map (λ w. w.range) ws
+
+-- a whole function table, wherever it and its unwind infos are stored
+abbrev pub TableIsReadAgain : Type 0
+TableIsReadAgain =
+    (image : Image) (ws : List WrittenEntry) → AllByRecursion IsRange (ranges_of ws)
+    → image.exceptions.rva % 4 ≡ 0 → image.exceptions.size ≡ length (table_bytes (ranges_of ws))
+    → IsStoredAt image image.exceptions.rva (table_bytes (ranges_of ws))
+    → AllByRecursion (IsWritten image) ws → AreInOrder 0 ws
+    → tables image ≡ Ok (map (as_read image) ws)

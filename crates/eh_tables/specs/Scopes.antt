@@ -1,27 +1,27 @@
--- The rows of the C handler's scope tables.
+-- The records of the C handler's scope tables.
 use Rattle.std.specs.Prelude.{ℕ, zero, suc, ◌+◌, ◌/◌, Bool, ◌&&◌, nat_lt, List, [], ◌∷◌, length, drop, Ok}
 use Rattle.pe_image.specs.Field.{field}
-use Rattle.eh_tables.specs.declared.scope.ScopeRow.{ScopeRow}
+use Rattle.eh_tables.specs.declared.scope.ScopeRecord.{ScopeRecord}
 use Rattle.eh_tables.specs.declared.refusal.TableErr.TheVariants as refusals
 use Rattle.eh_tables.specs.Answer.{Table, ◌>>=◌, unless}
 
-abbrev pub scope_row : List ℕ → ScopeRow
-scope_row bytes = record { begin = field 4 bytes 0; end = field 4 bytes 4; handler = field 4 bytes 8; jump = field 4 bytes 12 }
+abbrev pub scope_record : List ℕ → ScopeRecord
+scope_record bytes = record { begin = field 4 bytes 0; end = field 4 bytes 4; handler_address = field 4 bytes 8; jump_target = field 4 bytes 12 }
 
 -- so many rows, of 16 bytes each
-abbrev pub rows : ℕ → List ℕ → List ScopeRow
+abbrev pub rows : ℕ → List ℕ → List ScopeRecord
 rows zero bytes = []
-rows (suc n) bytes = scope_row bytes ∷ rows n (drop 16 bytes)
+rows (suc n) bytes = scope_record bytes ∷ rows n (drop 16 bytes)
 
-abbrev pub rows_in : List ℕ → List ScopeRow
-rows_in bytes = rows (length bytes / 16) bytes
+abbrev pub scope_records_in : List ℕ → List ScopeRecord
+scope_records_in bytes = rows (length bytes / 16) bytes
 
 -- a range that isn't empty, and all addresses in an image of that size
-abbrev pub is_within : ℕ → ScopeRow → Bool
-is_within size r = nat_lt r.begin r.end && nat_lt r.begin size && nat_lt r.end size && nat_lt r.handler size && nat_lt r.jump size
+abbrev pub is_within : ℕ → ScopeRecord → Bool
+is_within size r = nat_lt r.begin r.end && nat_lt r.begin size && nat_lt r.end size && nat_lt r.handler_address size && nat_lt r.jump_target size
 
 -- rows from a number on
-abbrev pub checked : ℕ → ℕ → ℕ → List ScopeRow → Table Unit
+abbrev pub checked : ℕ → ℕ → ℕ → List ScopeRecord → Table Unit
 checked index size n [] = Ok tt
 checked index size n (r ∷ rs) = do
   _ ← unless (is_within size r) (refusals.ScopeRange index n)

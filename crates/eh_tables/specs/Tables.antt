@@ -1,7 +1,7 @@
 -- Function tables, entry by entry. Each definition answers what it reads, or the first refusal.
 use Rattle.std.specs.Prelude.{◌≡◌, ℕ, zero, suc, ◌+◌, ◌/◌, ◌%◌, Bool, true, false, ◌&&◌, ◌==◌, nat_le, nat_lt, List, [], ◌∷◌, length, drop, slice_index_or, Option, Some, None, Result, Ok, Err}
 use Rattle.arrayvec.specs.ArrayVec.{ArrayVec}
-use Rattle.pe_image.specs.declared.directory.Directory.{Directory}
+use Rattle.pe_image.specs.declared.directory.DataDirectory.{DataDirectory}
 use Rattle.pe_image.specs.Image.{Image, stored}
 use Rattle.eh_tables.specs.declared.range.RuntimeFunction.{RuntimeFunction}
 use Rattle.eh_tables.specs.declared.refusal.TableErr.{TableErr}
@@ -55,7 +55,7 @@ abbrev pub unless_none : Table (List RuntimeFunction) → Bool → Table (List R
 unless_none others true = Ok []
 unless_none others false = others
 
-abbrev pub stored_ranges : Image → Directory → Table (List RuntimeFunction)
+abbrev pub stored_ranges : Image → DataDirectory → Table (List RuntimeFunction)
 stored_ranges image d = do
   _ ← unless (d.rva % 4 == 0) (refusals.Misaligned d.rva)
   bytes ← or_refused (stored image.sections d.rva d.size) (refusals.Truncated d.rva)
@@ -111,9 +111,9 @@ entries_of t = or_none (all_entries t)
 pub record IsWhole (t : Tables) : Type 0 where
   pub whole : all_entries t ≡ Ok (entries_of t)
 
--- the entry whose range holds an address
-abbrev pub holds : ℕ → RuntimeFunction → Bool
-holds rva r = nat_le r.begin rva && nat_lt rva r.end
+-- the entry whose range covers an address
+abbrev pub covers_address : ℕ → RuntimeFunction → Bool
+covers_address rva r = nat_le r.begin rva && nat_lt rva r.end
 
 abbrev pub entry_or : Option Entry → Entry → Bool → Option Entry
 entry_or others e true = Some e
@@ -121,7 +121,7 @@ entry_or others e false = others
 
 abbrev pub holding : ℕ → List Entry → Option Entry
 holding rva [] = None
-holding rva (e ∷ es) = entry_or (holding rva es) e (holds rva e.range)
+holding rva (e ∷ es) = entry_or (holding rva es) e (covers_address rva e.range)
 
 -- whether none is refused
 abbrev pub passed : Table (List Entry) → Table Unit

@@ -2,11 +2,11 @@
 use Rattle.std.specs.Prelude.{◌≡◌, ℕ, ◌+◌, ◌-◌, ◌*◌, ◌/◌, ◌%◌, ◌<◌, ◌≤◌, Bool, true, false, ◌&&◌, ◌==◌, nat_lt, nat_le, if◌then◌else◌, List, [], ◌∷◌, ◌++◌, length, replicate}
 use Rattle.std.specs.List.{flat_map, AllByRecursion}
 use Rattle.byteorder.specs.Endian.{little_bytes}
-use Rattle.eh_tables.specs.declared.code.Operation.{Operation}
-use Rattle.eh_tables.specs.declared.code.Operation.TheVariants.{Push, Allocate, SetFrame, Save, SaveVector, MachineFrame}
+use Rattle.eh_tables.specs.declared.code.UnwindOperation.{UnwindOperation}
+use Rattle.eh_tables.specs.declared.code.UnwindOperation.TheVariants.{Push, Allocate, SetFrame, Save, SaveVector, MachineFrame}
 use Rattle.eh_tables.specs.declared.code.UnwindCode.{UnwindCode}
 use Rattle.eh_tables.specs.declared.range.RuntimeFunction.{RuntimeFunction}
-use Rattle.eh_tables.specs.declared.scope.ScopeRow.{ScopeRow}
+use Rattle.eh_tables.specs.declared.scope.ScopeRecord.{ScopeRecord}
 use Rattle.eh_tables.specs.declared.unwind_info.Trailer.{Trailer}
 use Rattle.eh_tables.specs.declared.unwind_info.Trailer.TheVariants.{Nothing, Handler, Parent}
 use Rattle.eh_tables.specs.declared.unwind_info.UnwindInfo.{UnwindInfo}
@@ -39,7 +39,7 @@ allocation offset n = if is_small n then slot offset 2 (n / 8 - 1) else (if is_s
 abbrev pub saving : ℕ → ℕ → ℕ → ℕ → ℕ → List ℕ
 saving offset op unit register n = if is_short unit n then slot offset op register ++ u16 (n / unit) else slot offset (op + 1) register ++ u32 n
 
-abbrev pub operation_bytes : ℕ → Operation → List ℕ
+abbrev pub operation_bytes : ℕ → UnwindOperation → List ℕ
 operation_bytes offset (Push r) = slot offset 0 r
 operation_bytes offset (Allocate n) = allocation offset n
 operation_bytes offset SetFrame = slot offset 3 0
@@ -77,7 +77,7 @@ abbrev pub padded : List ℕ → List ℕ
 padded slots = slots ++ replicate (length slots % 4) 0
 
 abbrev pub header : UnwindInfo → ℕ → List ℕ
-header i size = (1 + 8 * trailer_flags i.trailer) ∷ i.prolog ∷ (size / 2) ∷ (i.frame_register + i.frame_offset) ∷ []
+header i size = (1 + 8 * trailer_flags i.trailer) ∷ i.prologue_size ∷ (size / 2) ∷ (i.frame_register + i.frame_offset) ∷ []
 
 unfoldable pub unwind_bytes : UnwindInfo → List ℕ
 unwind_bytes i =
@@ -87,7 +87,7 @@ unwind_bytes i =
 -- ---- what can be written
 
 -- each operand fits its field, and a frame is set only where there is a frame register
-abbrev pub Fits : Bool → Operation → Type 0
+abbrev pub Fits : Bool → UnwindOperation → Type 0
 Fits framed (Push r) = r < 16
 Fits framed (Allocate n) = Unit {0}
 Fits framed SetFrame = framed ≡ true
@@ -116,12 +116,12 @@ pub record CanBeWritten (i : UnwindInfo) : Type 0 where
 
 -- ---- tables
 
-abbrev pub row_bytes : ScopeRow → List ℕ
-row_bytes r = u32 r.begin ++ u32 r.end ++ u32 r.handler ++ u32 r.jump
+abbrev pub scope_record_bytes : ScopeRecord → List ℕ
+scope_record_bytes r = u32 r.begin ++ u32 r.end ++ u32 r.handler_address ++ u32 r.jump_target
 
 -- the count of the rows, and they themselves
-abbrev pub scope_bytes : List ScopeRow → List ℕ
-scope_bytes rs = u32 (length rs) ++ flat_map row_bytes rs
+abbrev pub scope_bytes : List ScopeRecord → List ℕ
+scope_bytes rs = u32 (length rs) ++ flat_map scope_record_bytes rs
 
 abbrev pub table_bytes : List RuntimeFunction → List ℕ
 table_bytes rs = flat_map range_bytes rs

@@ -4,7 +4,7 @@
 /// operation code"). Registers have their numbers in instructions: RAX 0, RCX 1, RDX 2, RBX 3, RSP 4,
 /// RBP 5, RSI 6, RDI 7, R8 to R15 8 to 15.
 #[derive(Clone, Copy, Debug, Default, PartialEq, Eq)]
-pub enum Operation {
+pub enum UnwindOperation {
     /// UWOP_PUSH_NONVOL: pushed a register.
     Push { register: u8 },
     /// UWOP_ALLOC_LARGE and UWOP_ALLOC_SMALL: allocated so many bytes of the stack.
@@ -24,5 +24,5 @@ pub enum Operation {
 #[derive(Clone, Copy, Debug, Default, PartialEq, Eq)]
 pub struct UnwindCode {
     pub offset: u8,
-    pub operation: Operation,
+    pub operation: UnwindOperation,
 }

@@ -3,7 +3,7 @@
 ghost use Rattle.std.specs.Prelude.{◌≡◌, ◌≤◌, ◌<◌, ◌+◌, ◌*◌, ◌^◌, length, IfSome};
 ghost use Rattle.eh_tables.specs.Codes as spec;
 
-use crate::code::{Operation, UnwindCode};
+use crate::code::{UnwindCode, UnwindOperation};
 use crate::refusal::TableErr;
 use std::marker::Model;
 
@@ -83,18 +83,18 @@ fn two_slots(rest: &[u8]) -> Option<u32>
 }
 
 /// UWOP_ALLOC_LARGE.
-fn large(info: u8, rest: &[u8]) -> Option<(Operation, usize)>
+fn large(info: u8, rest: &[u8]) -> Option<(UnwindOperation, usize)>
     ensures value { result ≡ spec.large info rest.now }
     ensures fits { IfSome result (λ x. 2 * x.1 ≤ length rest.now) }
 {
     match info {
         0 => {
             let n = one_slot(rest)?;
-            Some((Operation::Allocate { size: 8 * n }, 1))
+            Some((UnwindOperation::Allocate { size: 8 * n }, 1))
         }
         1 => {
             let size = two_slots(rest)?;
-            Some((Operation::Allocate { size }, 2))
+            Some((UnwindOperation::Allocate { size }, 2))
         }
         _ => None,
     }
@@ -102,21 +102,21 @@ fn large(info: u8, rest: &[u8]) -> Option<(Operation, usize)>
 
 /// The operation of a code, and how many slots of operands it takes.
 #[tactic(auto, unfolding(crate::specs::Codes::operation))]
-fn operation(framed: bool, op: u8, info: u8, rest: &[u8]) -> Option<(Operation, usize)>
+fn operation(framed: bool, op: u8, info: u8, rest: &[u8]) -> Option<(UnwindOperation, usize)>
     requires { info < 16 }
     ensures value { result ≡ spec.operation framed op info rest.now }
     ensures fits { IfSome result (λ x. 2 * x.1 ≤ length rest.now) }
 {
     match op {
-        0 => Some((Operation::Push { register: info }, 0)),
+        0 => Some((UnwindOperation::Push { register: info }, 0)),
         1 => large(info, rest),
         2 => {
             let size = 8 * info as u32 + 8;
-            Some((Operation::Allocate { size }, 0))
+            Some((UnwindOperation::Allocate { size }, 0))
         }
         3 => {
             if framed {
-                Some((Operation::SetFrame, 0))
+                Some((UnwindOperation::SetFrame, 0))
             } else {
                 None
             }
@@ -124,7 +124,7 @@ fn operation(framed: bool, op: u8, info: u8, rest: &[u8]) -> Option<(Operation, 
         4 => {
             let offset = 8 * one_slot(rest)?;
             Some((
-                Operation::Save {
+                UnwindOperation::Save {
                     register: info,
                     offset,
                 },
@@ -134,7 +134,7 @@ fn operation(framed: bool, op: u8, info: u8, rest: &[u8]) -> Option<(Operation, 
         5 => {
             let offset = two_slots(rest)?;
             Some((
-                Operation::Save {
+                UnwindOperation::Save {
                     register: info,
                     offset,
                 },
@@ -144,7 +144,7 @@ fn operation(framed: bool, op: u8, info: u8, rest: &[u8]) -> Option<(Operation, 
         8 => {
             let offset = 16 * one_slot(rest)?;
             Some((
-                Operation::SaveVector {
+                UnwindOperation::SaveVector {
                     register: info,
                     offset,
                 },
@@ -154,7 +154,7 @@ fn operation(framed: bool, op: u8, info: u8, rest: &[u8]) -> Option<(Operation, 
         9 => {
             let offset = two_slots(rest)?;
             Some((
-                Operation::SaveVector {
+                UnwindOperation::SaveVector {
                     register: info,
                     offset,
                 },
@@ -163,7 +163,7 @@ fn operation(framed: bool, op: u8, info: u8, rest: &[u8]) -> Option<(Operation, 
         }
         10 => {
             if info < 2 {
-                Some((Operation::MachineFrame { info }, 0))
+                Some((UnwindOperation::MachineFrame { info }, 0))
             } else {
                 None
             }

@@ -58,7 +58,7 @@ impl<'a> Entry<'a> {
         self.info.codes()
     }
 
-    /// The rows of its scope table, in their order; none where its handler isn't the C handler.
+    /// The records of its scope table, in their order; none where its handler isn't the C handler.
     pub fn scopes(&self) -> Scopes<'a>
         ensures { result ≡ self.now.info.scopes }
     {

@@ -5,6 +5,7 @@ ghost use Rattle.pe_image.specs.Imports.{Import, imports_of};
 ghost use Rattle.eh_tables.specs.Handler as spec;
 
 use crate::fields::u32_at;
+use host_layout::name::C_SPECIFIC_HANDLER;
 use pe_image::{ImageView, Import};
 
 /// A number of 32 bits, extended by its sign to 64.
@@ -47,7 +48,7 @@ fn jump_slot(image: &ImageView<'_>, rva: u32) -> Option<u64>
 fn is_c_name(name: &[u8]) -> bool
     ensures { result ≡ spec.is_c_name name.now }
 {
-    name == b"__C_specific_handler".as_slice()
+    name == C_SPECIFIC_HANDLER
 }
 
 /// Whether the last import that has a slot is the C handler.

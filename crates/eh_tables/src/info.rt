@@ -8,7 +8,7 @@ use crate::fields::u32_at;
 use crate::handler::is_c_handler;
 use crate::range::{RuntimeFunction, read_range};
 use crate::refusal::TableErr;
-use crate::scope::{Scopes, check_rows};
+use crate::scope::{Scopes, check_scope_records};
 use pe_image::ImageView;
 use std::marker::Model;
 
@@ -20,7 +20,7 @@ const CHAINED: u8 = 4;
 pub struct Info<'a> {
     /// All up to the end of what follows the slots.
     bytes: &'a [u8],
-    /// The rows of its scope table.
+    /// The records of its scope table.
     rows: &'a [u8],
     has_c_handler: bool,
 }
@@ -64,8 +64,8 @@ impl<'a> Info<'a> {
     }
 
     /// How many bytes the prologue has.
-    pub fn prolog(&self) -> u8
-        ensures { result ≡ self.now.prolog }
+    pub fn prologue_size(&self) -> u8
+        ensures { result ≡ self.now.prologue_size }
     {
         self.bytes[1]
     }
@@ -121,7 +121,7 @@ impl<'a> Info<'a> {
         self.has_c_handler
     }
 
-    /// The rows of its scope table, in their order; none where its handler isn't the C handler.
+    /// The records of its scope table, in their order; none where its handler isn't the C handler.
     #[tactic(auto, using(crate::proofs::Rows::row_count))]
     pub fn scopes(&self) -> Scopes<'a>
         ensures value { result ≡ self.now.scopes }
@@ -181,9 +181,9 @@ fn stored_info<'a>(image: &ImageView<'a>, index: u64, rva: u32) -> Result<&'a [u
     }
 }
 
-/// The rows of the scope table of an info, where its handler is the C handler.
-#[tactic(auto, unfolding(crate::specs::Infos::stored_rows))]
-fn stored_rows<'a>(
+/// The records of the scope table of an info, where its handler is the C handler.
+#[tactic(auto, unfolding(crate::specs::Infos::stored_scope_records))]
+fn stored_scope_records<'a>(
     image: &ImageView<'a>,
     rva: u32,
     bytes: &[u8],
@@ -191,7 +191,7 @@ fn stored_rows<'a>(
 ) -> Result<&'a [u8], TableErr>
     requires parts { spec.HasParts bytes.now }
     requires handler { has_c_handler ≡ spec.is_c image.now bytes.now }
-    ensures { spec.shown result ≡ spec.stored_rows image.now rva bytes.now }
+    ensures { spec.shown result ≡ spec.stored_scope_records image.now rva bytes.now }
 {
     if !has_c_handler {
         return Ok(&[]);
@@ -224,9 +224,9 @@ pub fn read_info<'a>(image: &ImageView<'a>, index: u64, rva: u32) -> Result<Info
 {
     let bytes = stored_info(image, index, rva)?;
     let has_c_handler = is_c(image, bytes);
-    let rows = stored_rows(image, rva, bytes, has_c_handler)?;
+    let rows = stored_scope_records(image, rva, bytes, has_c_handler)?;
     check_codes(index, bytes[3] % 16 != 0, slots_of(bytes))?;
-    check_rows(index, image.size(), rows)?;
+    check_scope_records(index, image.size(), rows)?;
     Ok(Info {
         bytes,
         rows,

@@ -1,11 +1,13 @@
 //! What is written is read again.
 
-ghost use Rattle.eh_tables.specs.ReadAgain.{ReadsInfo, ReadsScopes, ReadsRanges};
+ghost use Rattle.eh_tables.specs.ReadAgain.{InfoIsReadAgain, ScopeRecordsAreReadAgain, RangesAreReadAgain, TableIsReadAgain};
 
 /// What `write_unwind`, `write_scopes` and `write_pdata` append is read again as the same values,
-/// wherever it stands in an image.
+/// wherever it is stored in an image, and a function table whose unwind infos were written so as the
+/// same whole table.
 pub fn read_again()
-    ensures infos { ReadsInfo }
-    ensures scopes { ReadsScopes }
-    ensures ranges { ReadsRanges }
+    ensures infos { InfoIsReadAgain }
+    ensures scopes { ScopeRecordsAreReadAgain }
+    ensures ranges { RangesAreReadAgain }
+    ensures table { TableIsReadAgain }
 {}

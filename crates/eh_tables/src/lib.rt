@@ -4,6 +4,7 @@
 
 mod code;
 mod codes;
+mod counted_ranges;
 mod entry;
 mod fields;
 mod handler;
@@ -17,17 +18,14 @@ mod tables;
 mod unwind_info;
 mod writing;
 
-pub use code::{Operation, UnwindCode};
+pub use code::{UnwindCode, UnwindOperation};
 pub use codes::Codes;
 pub use entry::Entry;
 pub use info::Info;
 pub use laws::read_again;
 pub use range::RuntimeFunction;
 pub use refusal::TableErr;
-pub use scope::{ScopeRow, Scopes};
+pub use scope::{ScopeRecord, Scopes};
 pub use tables::Tables;
 pub use unwind_info::{Trailer, UnwindInfo};
 pub use writing::{write_pdata, write_scopes, write_unwind};
-
-#[cfg(test)]
-mod tests;

@@ -1,8 +1,9 @@
-//! The entry whose range holds an address.
+//! The entry whose range covers an address.
 
 ghost use Rattle.std.specs.Prelude.{◌≡◌, ℕ, ◌+◌, ◌-◌, ◌*◌, ◌≤◌, ◌<◌, ◌^◌, length, slice_index_or};
 ghost use Rattle.eh_tables.specs.Tables as spec;
 
+use crate::counted_ranges::CountedRanges;
 use crate::entry::Entry;
 use crate::tables::Tables;
 use seh_num::steps::Steps;
@@ -10,7 +11,7 @@ use std::marker::Brand;
 use std::sync::ledger::{Blank, Ledger};
 
 impl<'image, 'bytes> Tables<'image, 'bytes> {
-    /// The entry whose range holds an address, in a table that was read whole.
+    /// The entry whose range covers an address, in a table that was read whole.
     pub fn lookup(&self, rva: u64) -> Option<Entry<'bytes>>
         requires { spec.IsWhole self.now }
         ensures { result ≡ spec.holding rva (spec.entries_of self.now) }
@@ -18,13 +19,14 @@ impl<'image, 'bytes> Tables<'image, 'bytes> {
         lookup_with::<Brand>(self, rva, Blank::new(1))
     }
 
-    /// The same, with its steps counted: a step reads the range of one entry.
+    /// The same, with its steps counted: a step reads the range of one entry, and the search reads
+    /// ranges in no other way.
     pub fn lookup_counted<L: Ledger>(&self, rva: u64, steps: &mut Steps<L>) -> Option<Entry<'bytes>>
         requires { spec.IsWhole self.now }
         ensures found { result ≡ spec.holding rva (spec.entries_of self.now) }
         ensures cost { 2 ^ (steps.new - steps.old) ≤ 2 * length self.now.ranges + 1 }
     {
-        let index = self.first_past(rva, steps);
+        let index = first_past(&CountedRanges::of(self), rva, steps);
         if index == self.len() {
             return None;
         }
@@ -33,28 +35,27 @@ impl<'image, 'bytes> Tables<'image, 'bytes> {
         }
         self.entry(index).ok()
     }
+}
 
-    /// The index of the first entry that ends above an address, or how many entries there are.
-    fn first_past<L: Ledger>(&self, rva: u64, steps: &mut Steps<L>) -> u64
-        requires { spec.IsWhole self.now }
-        ensures within { result ≤ length self.now.ranges }
-        ensures below { (k : ℕ) → k < result → (slice_index_or self.now.ranges k spec.no_range).end ≤ rva }
-        ensures above { (k : ℕ) → result ≤ k → k < length self.now.ranges → rva < (slice_index_or self.now.ranges k spec.no_range).end }
-        ensures cost { 2 ^ (steps.new - steps.old) ≤ 2 * length self.now.ranges + 1 }
-    {
-        let mut low = 0;
-        let mut high = self.len();
-        while low < high {
-            let middle = low + (high - low) / 2;
-            steps.tick();
-            if self.range(middle).end as u64 <= rva {
-                low = middle + 1;
-            } else {
-                high = middle;
-            }
+/// The index of the first range that ends above an address, or how many there are.
+fn first_past<L: Ledger>(ranges: &CountedRanges<'_, '_, '_>, rva: u64, steps: &mut Steps<L>) -> u64
+    requires { spec.IsWhole ranges.now }
+    ensures within { result ≤ length ranges.now.ranges }
+    ensures below { (k : ℕ) → k < result → (slice_index_or ranges.now.ranges k spec.no_range).end ≤ rva }
+    ensures above { (k : ℕ) → result ≤ k → k < length ranges.now.ranges → rva < (slice_index_or ranges.now.ranges k spec.no_range).end }
+    ensures cost { 2 ^ (steps.new - steps.old) ≤ 2 * length ranges.now.ranges + 1 }
+{
+    let mut low = 0;
+    let mut high = ranges.len();
+    while low < high {
+        let middle = low + (high - low) / 2;
+        if ranges.end(middle, steps) <= rva {
+            low = middle + 1;
+        } else {
+            high = middle;
         }
-        low
     }
+    low
 }
 
 fn lookup_with<'bytes, L: Ledger>(

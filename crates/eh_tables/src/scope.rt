@@ -7,28 +7,28 @@ use crate::fields::u32_at;
 use crate::refusal::TableErr;
 use std::marker::Model;
 
-/// A row of a scope table: a `__try` whose body is the code from `begin` to before `end`. A `jump` of
+/// A record of a scope table: a `__try` whose body is the code from `begin` to before `end`. A `jump_target` of
 /// 0 stands for a `__finally`, whose block is at `handler`; else its `__except` block is at `jump`,
 /// and its filter at `handler`, where 1 stands for a filter that always accepts. All addresses are
 /// relative to the image base.
 #[derive(Clone, Copy, Debug, PartialEq, Eq)]
-pub struct ScopeRow {
+pub struct ScopeRecord {
     pub begin: u32,
     pub end: u32,
-    pub handler: u32,
-    pub jump: u32,
+    pub handler_address: u32,
+    pub jump_target: u32,
 }
 
-impl ScopeRow {
-    fn read(bytes: &[u8]) -> ScopeRow
+impl ScopeRecord {
+    fn read(bytes: &[u8]) -> ScopeRecord
         requires { 16 ≤ length bytes.now }
-        ensures { result ≡ spec.scope_row bytes.now }
+        ensures { result ≡ spec.scope_record bytes.now }
     {
-        ScopeRow {
+        ScopeRecord {
             begin: u32_at(bytes, 0),
             end: u32_at(bytes, 4),
-            handler: u32_at(bytes, 8),
-            jump: u32_at(bytes, 12),
+            handler_address: u32_at(bytes, 8),
+            jump_target: u32_at(bytes, 12),
         }
     }
 
@@ -39,12 +39,12 @@ impl ScopeRow {
         self.begin < self.end
             && (self.begin as u64) < size
             && (self.end as u64) < size
-            && (self.handler as u64) < size
-            && (self.jump as u64) < size
+            && (self.handler_address as u64) < size
+            && (self.jump_target as u64) < size
     }
 }
 
-/// The rows of a scope table, in their order. A clause sees the list of those that are left.
+/// The records of a scope table, in their order. A clause sees the list of those that are left.
 #[derive(Drop)]
 pub struct Scopes<'a> {
     rows: &'a [u8],
@@ -52,18 +52,18 @@ pub struct Scopes<'a> {
 
 impl<'a> Model for Scopes<'a> {
     ghost use Rattle.std.specs.Prelude.{List, length, ◌/◌};
-    ghost use Rattle.eh_tables.specs.declared.scope.ScopeRow.{ScopeRow};
-    ghost use Rattle.eh_tables.specs.Scopes.{rows_in};
+    ghost use Rattle.eh_tables.specs.declared.scope.ScopeRecord.{ScopeRecord};
+    ghost use Rattle.eh_tables.specs.Scopes.{scope_records_in};
 
-    ghost Value = { List ScopeRow };
+    ghost Value = { List ScopeRecord };
 
-    ghost view = { λ s. rows_in s.rows.now };
+    ghost view = { λ s. scope_records_in s.rows.now };
 }
 
 impl<'a> Scopes<'a> {
     #[tactic(auto, using(crate::proofs::Rows::row_count))]
     pub(crate) fn new(rows: &'a [u8]) -> Scopes<'a>
-        ensures value { result ≡ spec.rows_in rows.now }
+        ensures value { result ≡ spec.scope_records_in rows.now }
         ensures fits { length result < 2 ^ 60 }
     {
         Scopes { rows }
@@ -71,7 +71,7 @@ impl<'a> Scopes<'a> {
 }
 
 impl<'a> Iterator for Scopes<'a> {
-    type Item = ScopeRow;
+    type Item = ScopeRecord;
 
     ghost use Rattle.std.specs.Iterator.{YieldsFirst, item_count};
 
@@ -79,20 +79,20 @@ impl<'a> Iterator for Scopes<'a> {
 
     ghost remaining = { item_count (λ s. s) };
 
-    fn next(&mut self) -> Option<ScopeRow> {
+    fn next(&mut self) -> Option<ScopeRecord> {
         if self.rows.len() < 16 {
             return None;
         }
-        let row = ScopeRow::read(self.rows);
+        let row = ScopeRecord::read(self.rows);
         self.rows = &self.rows[16..];
         Some(row)
     }
 }
 
-/// Checks the rows of a scope table in an image of that size.
+/// Checks the records of a scope table in an image of that size.
 #[tactic(auto, using(crate::proofs::Rows::row_count))]
-pub fn check_rows(index: u64, size: u64, rows: &[u8]) -> Result<(), TableErr>
-    ensures { result ≡ spec.checked index size 0 (spec.rows_in rows.now) }
+pub fn check_scope_records(index: u64, size: u64, rows: &[u8]) -> Result<(), TableErr>
+    ensures { result ≡ spec.checked index size 0 (spec.scope_records_in rows.now) }
 {
     let mut row = 0;
     for scope in Scopes::new(rows) {

@@ -60,6 +60,13 @@ impl<'image, 'bytes> Tables<'image, 'bytes> {
         (self.directory.len() / 12) as u64
     }
 
+    /// The base of the image, from which its addresses count.
+    pub fn base(&self) -> u64
+        ensures { result ≡ self.now.image.base }
+    {
+        self.image.base()
+    }
+
     /// The entry of an index, with its unwind infos unread.
     pub fn range(&self, index: u64) -> RuntimeFunction
         requires { index < length self.now.ranges }
@@ -72,7 +79,7 @@ impl<'image, 'bytes> Tables<'image, 'bytes> {
     /// in this order: its range isn't empty, and not below the entry before; its unwind info is
     /// 4-aligned, its first four bytes are stored, its version is 1, its flags are known, all of it
     /// is stored, the scope table of the C handler too; its codes, slot by slot; the infos that it is
-    /// chained to, in the same way; and the rows of the scope table.
+    /// chained to, in the same way; and the records of the scope table.
     pub fn entry(&self, index: u64) -> Result<Entry<'bytes>, TableErr>
         requires { index < length self.now.ranges }
         ensures { result ≡ spec.entry_at self.now index }

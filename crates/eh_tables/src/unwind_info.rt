@@ -24,7 +24,7 @@ pub enum Trailer {
 #[derive(Debug, Drop)]
 pub struct UnwindInfo {
     /// How many bytes the prologue has.
-    pub prolog: u8,
+    pub prologue_size: u8,
     /// The number of the frame register, where 0 stands for none.
     pub frame_register: u8,
     /// How many bytes the frame register lies above the base of the frame: a multiple of 16.

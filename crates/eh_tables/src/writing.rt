@@ -5,9 +5,9 @@ ghost use Rattle.std.specs.List.{AllByRecursion};
 ghost use Rattle.arrayvec.specs.ArrayVec.{array_vec_len};
 ghost use Rattle.eh_tables.specs.Written as spec;
 
-use crate::code::{Operation, UnwindCode};
+use crate::code::{UnwindCode, UnwindOperation};
 use crate::range::RuntimeFunction;
-use crate::scope::ScopeRow;
+use crate::scope::ScopeRecord;
 use crate::unwind_info::{Trailer, UnwindInfo};
 use arrayvec::ArrayVec;
 use std::alloc::AllocError;
@@ -96,33 +96,33 @@ fn one_slot(offset: u8, op: u8, info: u8) -> CodeBytes
     out
 }
 
-/// A code in the shortest form that holds it.
+/// A code in the shortest form that fits it.
 fn code_bytes(framed: bool, code: &UnwindCode) -> CodeBytes
     requires { spec.Fits framed code.now.operation }
     ensures { result.items ≡ spec.code_bytes code.now }
 {
     let offset = code.offset;
     match code.operation {
-        Operation::Push { register } => one_slot(offset, 0, register),
-        Operation::Allocate { size } => allocation(offset, size),
-        Operation::SetFrame => one_slot(offset, 3, 0),
-        Operation::Save {
+        UnwindOperation::Push { register } => one_slot(offset, 0, register),
+        UnwindOperation::Allocate { size } => allocation(offset, size),
+        UnwindOperation::SetFrame => one_slot(offset, 3, 0),
+        UnwindOperation::Save {
             register,
             offset: at,
         } => saving(offset, 4, 8, register, at),
-        Operation::SaveVector {
+        UnwindOperation::SaveVector {
             register,
             offset: at,
         } => saving(offset, 8, 16, register, at),
-        Operation::MachineFrame { info } => one_slot(offset, 10, info),
+        UnwindOperation::MachineFrame { info } => one_slot(offset, 10, info),
     }
 }
 
 /// The bytes of a row of a table.
-type RowBytes = ArrayVec<u8, 16>;
+type FieldBytes = ArrayVec<u8, 16>;
 
 #[tactic(auto, unfolding(crate::specs::Written::u32))]
-fn put_field(out: &mut RowBytes, value: u32)
+fn put_field(out: &mut FieldBytes, value: u32)
     requires { array_vec_len out.old + 4 ≤ 16 }
     ensures items { out.new.items ≡ out.old.items ++ spec.u32 value }
     ensures len { array_vec_len out.new ≡ array_vec_len out.old + 4 }
@@ -130,25 +130,25 @@ fn put_field(out: &mut RowBytes, value: u32)
     let _ = out.try_extend_from_slice(&value.to_le_bytes());
 }
 
-fn range_bytes(range: &RuntimeFunction) -> RowBytes
+fn range_bytes(range: &RuntimeFunction) -> FieldBytes
     ensures items { result.items ≡ spec.range_bytes range.now }
     ensures len { array_vec_len result ≡ 12 }
 {
-    let mut out = RowBytes::new();
+    let mut out = FieldBytes::new();
     put_field(&mut out, range.begin);
     put_field(&mut out, range.end);
     put_field(&mut out, range.unwind_info);
     out
 }
 
-fn row_bytes(row: &ScopeRow) -> RowBytes
-    ensures { result.items ≡ spec.row_bytes row.now }
+fn scope_record_bytes(row: &ScopeRecord) -> FieldBytes
+    ensures { result.items ≡ spec.scope_record_bytes row.now }
 {
-    let mut out = RowBytes::new();
+    let mut out = FieldBytes::new();
     put_field(&mut out, row.begin);
     put_field(&mut out, row.end);
-    put_field(&mut out, row.handler);
-    put_field(&mut out, row.jump);
+    put_field(&mut out, row.handler_address);
+    put_field(&mut out, row.jump_target);
     out
 }
 
@@ -180,14 +180,14 @@ fn flags(trailer: Trailer) -> u8
     }
 }
 
-fn trailer_bytes(trailer: Trailer) -> RowBytes
+fn trailer_bytes(trailer: Trailer) -> FieldBytes
     ensures items { result.items ≡ spec.trailer_bytes trailer }
     ensures fits { array_vec_len result ≤ 12 }
 {
     match trailer {
-        Trailer::Nothing => RowBytes::new(),
+        Trailer::Nothing => FieldBytes::new(),
         Trailer::Handler { rva, .. } => {
-            let mut out = RowBytes::new();
+            let mut out = FieldBytes::new();
             put_field(&mut out, rva);
             out
         }
@@ -214,7 +214,7 @@ fn info_bytes(info: &UnwindInfo) -> InfoBytes
     let slots = codes_bytes(0 < info.frame_register, &info.codes);
     let mut out = InfoBytes::new();
     out.push(1 + 8 * flags(info.trailer));
-    out.push(info.prolog);
+    out.push(info.prologue_size);
     out.push((slots.len() / 2) as u8);
     out.push(info.frame_register + info.frame_offset);
     let _ = out.try_extend_from_slice(&slots);
@@ -223,7 +223,7 @@ fn info_bytes(info: &UnwindInfo) -> InfoBytes
     out
 }
 
-/// Appends an unwind info. Each allocation and each offset is written by the shortest code that holds
+/// Appends an unwind info. Each allocation and each offset is written by the shortest code that fits
 /// it. Where no memory is left, nothing is appended.
 pub fn write_unwind(info: &UnwindInfo, to: &mut Vec<u8>) -> Result<(), AllocError>
     requires { spec.CanBeWritten info.now }
@@ -235,17 +235,17 @@ pub fn write_unwind(info: &UnwindInfo, to: &mut Vec<u8>) -> Result<(), AllocErro
 
 /// Appends a scope table: the count of its rows, and they themselves. Where no memory is left, nothing
 /// is appended.
-pub fn write_scopes(rows: &[ScopeRow], to: &mut Vec<u8>) -> Result<(), AllocError>
+pub fn write_scopes(rows: &[ScopeRecord], to: &mut Vec<u8>) -> Result<(), AllocError>
     requires { length rows.now < 2 ^ 32 }
     ensures written { OnOk result (to.new.items ≡ to.old.items ++ spec.scope_bytes rows.now) }
     ensures kept { OnErr result (to.new.items ≡ to.old.items) }
 {
     let before = to.len();
-    let mut count = RowBytes::new();
+    let mut count = FieldBytes::new();
     put_field(&mut count, rows.len() as u32);
     to.extend_from_slice(&count)?;
     for row in rows {
-        if let Err(lack) = to.extend_from_slice(&row_bytes(row)) {
+        if let Err(lack) = to.extend_from_slice(&scope_record_bytes(row)) {
             to.truncate(before);
             return Err(lack);
         }

@@ -6,10 +6,10 @@ use Rattle.std.proofs.Math.Arith.{mod-mul}
 use Rattle.seh_num.specs.declared.width.Width.{Width}
 use Rattle.seh_num.specs.declared.width.Width.TheVariants.{W8, W16, W32, W64}
 use Rattle.seh_num.specs.Widths.{bytes_of, limit}
-use Rattle.flat_memory.specs.declared.access.Access.{Access}
-use Rattle.flat_memory.specs.declared.mode.Rights.{Rights}
-use Rattle.flat_memory.specs.declared.mode.Rights.TheVariants.{Nothing, Read, ReadWrite}
-use Rattle.flat_memory.specs.Modes.{is_readable, is_writable}
+use Rattle.flat_memory.specs.declared.access.RefusedAccess.{RefusedAccess}
+use Rattle.flat_memory.specs.declared.protection.Rights.{Rights}
+use Rattle.flat_memory.specs.declared.protection.Rights.TheVariants.{Nothing, Read, ReadWrite}
+use Rattle.flat_memory.specs.Protections.{is_readable, is_writable}
 use Rattle.flat_memory.specs.Memory.{Memory, next, distance, is_among, first_refused, may_read, may_write, access, unless_refused, number_at, with_number, with_byte}
 use Rattle.flat_memory.specs.Laws.{IsApart, LoadsWhatWasStored, LeavesOthers, KeepsModes, RefusalsChangeNothing}
 
@@ -138,7 +138,7 @@ writable_is_readable m zero at e = refl
 writable_is_readable m (suc n) at e = go (λ h. writable_is_readable m n (next at) h) (may_write m at) refl e
   where
     go : (first_refused (may_write m) n (next at) ≡ None → first_refused (may_read m) n (next at) ≡ None) → (b : Bool) → may_write m at ≡ b → cond b (first_refused (may_write m) n (next at)) (Some at) ≡ None → cond (may_read m at) (first_refused (may_read m) n (next at)) (Some at) ≡ None
-    go more true w e = rw (readable (m.mode at).rights w) (more e)
+    go more true w e = rw (readable (m.protection at).rights w) (more e)
     go more false w e = absurd cc
 
 small : (w : Width) → bytes_of w ≤ 8
@@ -157,7 +157,7 @@ none_refused : (o : Option ℕ) → access {A = Unit {0}} true o tt ≡ Ok tt �
 none_refused None e = refl
 none_refused (Some a) e = absurd cc
 
-some_refused : (o : Option ℕ) (a : Access) (new old : Memory) → access {A = Unit {0}} true o tt ≡ Err a → unless_refused o new old ≡ old
+some_refused : (o : Option ℕ) (a : RefusedAccess) (new old : Memory) → access {A = Unit {0}} true o tt ≡ Err a → unless_refused o new old ≡ old
 some_refused None a new old e = absurd cc
 some_refused (Some b) a new old e = refl
 
@@ -166,12 +166,12 @@ loads_what_was_stored m at v w lt ok =
     let may = none_refused (first_refused (may_write m) (bytes_of w) at) ok in
     rw (may, writable_is_readable m (bytes_of w) at may) (ap Ok (stored_is_loaded m.byte (bytes_of w) at v (small w) lt ∙ ap (λ l. v % l) (power w)))
 
-modes_kept : (o : Option ℕ) (m new : Memory) → new.mode ≡ m.mode → (unless_refused o new m).mode ≡ m.mode
+modes_kept : (o : Option ℕ) (m new : Memory) → new.protection ≡ m.protection → (unless_refused o new m).protection ≡ m.protection
 modes_kept None m new e = e
 modes_kept (Some a) m new e = refl
 
 pub keeps_modes : KeepsModes
-keeps_modes m at v w = modes_kept (first_refused (may_write m) (bytes_of w) at) m (record { mode = m.mode; byte = with_number m.byte (bytes_of w) at v }) refl
+keeps_modes m at v w = modes_kept (first_refused (may_write m) (bytes_of w) at) m (record { protection = m.protection; byte = with_number m.byte (bytes_of w) at v }) refl
 
 pub refusals_change_nothing : RefusalsChangeNothing
-refusals_change_nothing m at v w a e = some_refused (first_refused (may_write m) (bytes_of w) at) a (record { mode = m.mode; byte = with_number m.byte (bytes_of w) at v }) m e
+refusals_change_nothing m at v w a e = some_refused (first_refused (may_write m) (bytes_of w) at) a (record { protection = m.protection; byte = with_number m.byte (bytes_of w) at v }) m e

@@ -2,7 +2,7 @@
 use Rattle.std.specs.Prelude.{◌≡◌, ◌≢◌, ℕ, ◌+◌, ◌%◌, ◌^◌, ◌<◌, Ok, Err}
 use Rattle.seh_num.specs.declared.width.Width.{Width}
 use Rattle.seh_num.specs.Widths.{low}
-use Rattle.flat_memory.specs.declared.access.Access.{Access}
+use Rattle.flat_memory.specs.declared.access.RefusedAccess.{RefusedAccess}
 use Rattle.flat_memory.specs.Memory.{Memory, loaded, stored, after_store, number_at, with_number}
 
 -- a byte is none of the n from at on
@@ -15,7 +15,7 @@ LoadsWhatWasStored =
     (m : Memory) (at v : ℕ) (w : Width) → at < 2 ^ 64
     → stored m at w ≡ Ok tt → loaded (after_store m at w v) at w ≡ Ok (low w v)
 
--- a store leaves each number that it doesn't meet
+-- a store leaves each number that it doesn't overlap
 abbrev pub LeavesOthers : Type 0
 LeavesOthers =
     (byte : ℕ → ℕ) (n at v m to : ℕ) → at < 2 ^ 64 → to < 2 ^ 64
@@ -23,7 +23,7 @@ LeavesOthers =
 
 -- what may be done where stays as it was
 abbrev pub KeepsModes : Type 0
-KeepsModes = (m : Memory) (at v : ℕ) (w : Width) → (after_store m at w v).mode ≡ m.mode
+KeepsModes = (m : Memory) (at v : ℕ) (w : Width) → (after_store m at w v).protection ≡ m.protection
 
 abbrev pub RefusalsChangeNothing : Type 0
-RefusalsChangeNothing = (m : Memory) (at v : ℕ) (w : Width) (a : Access) → stored m at w ≡ Err a → after_store m at w v ≡ m
+RefusalsChangeNothing = (m : Memory) (at v : ℕ) (w : Width) (a : RefusedAccess) → stored m at w ≡ Err a → after_store m at w v ≡ m

@@ -1,3 +1,3 @@
-pub mod Modes
+pub mod Protections
 pub mod Memory
 pub mod Laws

@@ -2,14 +2,15 @@
 use Rattle.std.specs.Prelude.{ℕ, zero, suc, ◌+◌, ◌-◌, ◌*◌, ◌/◌, ◌%◌, ◌^◌, Bool, true, false, ◌&&◌, ◌==◌, nat_lt, nat_le, nat_eq, if◌then◌else◌, List, [], ◌∷◌, ℤ, Option, Some, None, Result, Ok, Err}
 use Rattle.seh_num.specs.declared.width.Width.{Width}
 use Rattle.seh_num.specs.Widths.{bytes_of}
-use Rattle.flat_memory.specs.declared.mode.Mode.{Mode}
-use Rattle.flat_memory.specs.declared.mode.Rights.{Rights}
-use Rattle.flat_memory.specs.declared.access.Access.{Access}
-use Rattle.flat_memory.specs.declared.access.Access.TheVariants.{Fault, Guard}
-use Rattle.flat_memory.specs.Modes.{is_readable, is_writable, mode_of}
+use Rattle.host_layout.specs.Ranges.{in_guard, in_arena}
+use Rattle.flat_memory.specs.declared.protection.Protection.{Protection}
+use Rattle.flat_memory.specs.declared.protection.Rights.{Rights}
+use Rattle.flat_memory.specs.declared.access.RefusedAccess.{RefusedAccess}
+use Rattle.flat_memory.specs.declared.access.RefusedAccess.TheVariants.{Fault, Guard}
+use Rattle.flat_memory.specs.Protections.{is_readable, is_writable, rights_numbered}
 
 pub record Memory : Type 0 where
-  pub mode : ℕ → Mode
+  pub protection : ℕ → Protection
   pub byte : ℕ → ℕ
 
 -- the address after one
@@ -43,28 +44,25 @@ unfoldable pub with_number : (ℕ → ℕ) → ℕ → ℕ → ℕ → ℕ → �
 with_number byte n at v a = if is_among n at a then v / 256 ^ distance at a % 256 else byte a
 
 -- a refused access, by the place of its first byte that may not be accessed
-abbrev pub in_guard : ℕ → Bool
-in_guard a = nat_le 0x6FFF0000 a && nat_lt a 0x70000000
-
-abbrev pub refused : Bool → ℕ → Access
+abbrev pub refused : Bool → ℕ → RefusedAccess
 refused write a = if in_guard a then Guard a else Fault a write
 
-abbrev pub access : {A : Type 0} → Bool → Option ℕ → A → Result A Access
+abbrev pub access : {A : Type 0} → Bool → Option ℕ → A → Result A RefusedAccess
 access write None x = Ok x
 access write (Some a) x = Err (refused write a)
 
 abbrev pub may_read : Memory → ℕ → Bool
-may_read m a = is_readable (m.mode a).rights
+may_read m a = is_readable (m.protection a).rights
 
 abbrev pub may_write : Memory → ℕ → Bool
-may_write m a = is_writable (m.mode a).rights
+may_write m a = is_writable (m.protection a).rights
 
 -- what a load answers
-abbrev pub loaded : Memory → ℕ → Width → Result ℕ Access
+abbrev pub loaded : Memory → ℕ → Width → Result ℕ RefusedAccess
 loaded m at w = access false (first_refused (may_read m) (bytes_of w) at) (number_at m.byte (bytes_of w) at)
 
 -- what a store answers, and the memory after it
-abbrev pub stored : Memory → ℕ → Width → Result Unit Access
+abbrev pub stored : Memory → ℕ → Width → Result Unit RefusedAccess
 stored m at w = access true (first_refused (may_write m) (bytes_of w) at) tt
 
 abbrev pub unless_refused : Option ℕ → Memory → Memory → Memory
@@ -72,7 +70,7 @@ unless_refused None new old = new
 unless_refused (Some a) new old = old
 
 abbrev pub with_bytes : Memory → (ℕ → ℕ) → Memory
-with_bytes m byte = record { mode = m.mode; byte = byte }
+with_bytes m byte = record { protection = m.protection; byte = byte }
 
 abbrev pub after_store : Memory → ℕ → Width → ℕ → Memory
 after_store m at w v = unless_refused (first_refused (may_write m) (bytes_of w) at) (with_bytes m (with_number m.byte (bytes_of w) at v)) m
@@ -80,20 +78,17 @@ after_store m at w v = unless_refused (first_refused (may_write m) (bytes_of w) 
 -- the executable bytes at an address, at most n
 unfoldable pub executable : Memory → ℕ → ℕ → List ℕ
 executable m zero at = []
-executable m (suc n) at = if (m.mode at).execute then m.byte at ∷ executable m n (next at) else []
+executable m (suc n) at = if (m.protection at).execute then m.byte at ∷ executable m n (next at) else []
 
 -- ---- the arena, whose pages a program may protect
 
-abbrev pub in_arena : ℕ → Bool
-in_arena a = nat_le 0x20000000 a && nat_lt a 0x20100000
-
 -- whether a page's rights can be set so, and the memory after it
 abbrev pub rights_asked : ℕ → ℤ → Option Rights
-rights_asked at number = if in_arena at then mode_of number else None
+rights_asked at number = if in_arena at then rights_numbered number else None
 
 abbrev pub with_rights : Memory → ℕ → Option Rights → Memory
 with_rights m at None = m
-with_rights m at (Some r) = record { mode = λ a. if a / 4096 == at / 4096 then record (m.mode a) { rights = r } else m.mode a; byte = m.byte }
+with_rights m at (Some r) = record { protection = λ a. if a / 4096 == at / 4096 then record (m.protection a) { rights = r } else m.protection a; byte = m.byte }
 
 abbrev pub protected : Memory → ℕ → ℤ → Memory
 protected m at number = with_rights m at (rights_asked at number)

@@ -8,6 +8,4 @@
 
 pub mod access;
 pub mod laws;
-pub mod mode;
-#[cfg(test)]
-mod tests;
+pub mod protection;

@@ -1,87 +1,112 @@
--- One turn of the host: an instruction, or a service.
-use Rattle.std.specs.Prelude.{ℕ, ◌+◌, ◌%◌, ◌^◌, Bool, true, false, ◌==◌, List, [], ◌∷◌, Option, Some, None, Result, Ok, Err}
+-- One turn of the host: an instruction, a service, or the dispatch between two funclets.
+use Rattle.std.specs.Prelude.{ℕ, ◌+◌, ◌%◌, ◌^◌, Bool, true, false, ◌==◌, List, [], ◌∷◌, is_some, Option, Some, None, Result, Ok, Err}
 use Rattle.seh_num.specs.declared.width.Width.TheVariants.{W32, W64}
 use Rattle.seh_num.specs.declared.event.Event.{Event}
 use Rattle.seh_num.specs.declared.event.Event.TheVariants as events
 use Rattle.seh_num.specs.declared.end.Reason.TheVariants as reasons
 use Rattle.seh_num.specs.declared.end.RunEnd.{RunEnd}
 use Rattle.seh_num.specs.declared.end.RunEnd.TheVariants as ends
-use Rattle.seh_num.specs.Widths.{signed}
-use Rattle.flat_memory.specs.declared.access.Access.{Access}
-use Rattle.flat_memory.specs.Memory.{loaded}
-use Rattle.x64_instr.specs.declared.register.Reg.TheVariants.{Rax, Rcx, Rsp}
-use Rattle.x64_machine.specs.declared.cpu.Cpu.{Cpu}
+use Rattle.seh_num.specs.Widths.{low, signed}
+use Rattle.flat_memory.specs.declared.access.RefusedAccess.{RefusedAccess}
+use Rattle.flat_memory.specs.Memory.{loaded, rights_asked, protected}
+use Rattle.x64_instr.specs.declared.register.Reg.TheVariants.{Rax, Rcx, Rdx, Rsp}
 use Rattle.x64_machine.specs.declared.outcome.Stop.TheVariants as stops
-use Rattle.x64_machine.specs.declared.service.Service.{Service}
-use Rattle.x64_machine.specs.declared.service.Service.TheVariants as services
-use Rattle.x64_machine.specs.Services.{service_at}
+use Rattle.host_layout.specs.declared.service.Service.{Service}
+use Rattle.host_layout.specs.declared.service.Service.TheVariants as services
+use Rattle.host_layout.specs.Services.{service_at}
 use Rattle.x64_machine.specs.Effect.{State, Answer, register, with_register, with_rip, step}
-
--- a turn: the state after it, or an end, with what it showed
-pub data Turn : Type 0 where
-  Goes : State → List Event → Turn
-  Ends : List Event → RunEnd → Turn
+use Rattle.virtual_unwind.specs.CallerOf.{Functions}
+use Rattle.seh_records.specs.Record.{fetched}
+use Rattle.seh_walk.specs.Walk.{stop_cause}
+use Rattle.host_model.specs.declared.funclet.Funclet.{Funclet}
+use Rattle.host_model.specs.Turns.{Turn, Continues, Ends, stopped, shown_in}
+use Rattle.host_model.specs.Funclets.{arrived}
+use Rattle.host_model.specs.Dispatch.{raised, unwound_locally, filter_returned, finally_returned}
 
 -- ---- services
 
+-- the state after a service's return
+abbrev pub back : State → ℕ → State
+back s a = with_rip (record s { cpu = with_register W64 s.cpu Rsp ((register s.cpu Rsp + 8) % 2 ^ 64) }) a
+
 -- a service that returns reads its return address at [RSP] first; where it can't, it does nothing else
-abbrev pub returned : State → Result ℕ Access → (State → Turn) → Turn
-returned s (Ok back) go = go (with_rip (record s { cpu = with_register W64 s.cpu Rsp ((register s.cpu Rsp + 8) % 2 ^ 64) }) back)
-returned s (Err refused) go = Ends [] (ends.Stopped reasons.Unreadable (register s.cpu Rsp))
+abbrev pub returned : State → Result ℕ RefusedAccess → (State → Turn) → Turn
+returned s (Ok a) go = go (back s a)
+returned s (Err refused) go = stopped (stop_cause reasons.Unreadable (register s.cpu Rsp))
+
+abbrev pub returning : State → (State → Turn) → Turn
+returning s go = returned s (loaded s.memory (register s.cpu Rsp) W64) go
 
 -- `put` shows RCX as a signed number, and leaves all other registers
 abbrev pub put : State → Turn
-put s = returned s (loaded s.memory (register s.cpu Rsp) W64) (λ t. Goes t (events.Put (signed W64 (register s.cpu Rcx)) ∷ []))
+put s = returning s (λ u. Continues u (events.Put (signed W64 (register s.cpu Rcx)) ∷ []))
 
-abbrev pub served : State → Option Service → Turn
-served s (Some services.Put) = put s
-served s other = Ends [] (ends.Stopped reasons.Illegal s.cpu.rip)
+-- `protect` answers in RAX
+abbrev pub answer_number : Bool → ℕ
+answer_number true = 1
+answer_number false = 0
+
+abbrev pub protecting : State → State → Turn
+protecting s u =
+    Continues (record {
+      cpu = with_register W64 u.cpu Rax (answer_number (is_some (rights_asked (register s.cpu Rcx) (signed W32 (register s.cpu Rdx)))));
+      memory = protected u.memory (register s.cpu Rcx) (signed W32 (register s.cpu Rdx));
+    }) []
+
+abbrev pub illegal : State → Turn
+illegal s = stopped (stop_cause reasons.Illegal s.cpu.rip)
+
+abbrev pub served : Functions → State → Option Service → Turn
+served t s (Some services.Put) = put s
+served t s (Some services.Protect) = returning s (protecting s)
+served t s (Some services.RaiseException) = returning s (λ u. raised t s (record { 0 = low W32 (register s.cpu Rcx) }) (register s.cpu Rdx % 2) None u.cpu)
+served t s (Some services.LocalUnwind) = returning s (λ u. unwound_locally t s (register s.cpu Rcx) (register s.cpu Rdx) u.cpu)
+served t s (Some services.FilterReturn) = filter_returned t s (register s.cpu Rsp) (fetched s.memory (register s.cpu Rsp))
+served t s (Some services.FinallyReturn) = finally_returned t s (register s.cpu Rsp) (fetched s.memory (register s.cpu Rsp))
+served t s (Some services.CSpecificHandler) = illegal s
+served t s None = illegal s
 
 -- ---- a turn
 
-abbrev pub turned : State → Answer State → Turn
-turned s (Ok t) = Goes t []
-turned s (Err (stops.Fault code access)) = Ends (events.Raise code false access ∷ []) (ends.Unhandled code)
-turned s (Err (stops.Host a)) = served s (service_at a)
-turned s (Err (stops.Illegal a)) = Ends [] (ends.Stopped reasons.Illegal a)
-turned s (Err (stops.Guard a)) = Ends [] (ends.StackLimit a)
+-- a fault saves the state before the instruction, and can be continued
+abbrev pub turned : Functions → State → Answer State → Turn
+turned t s (Ok u) = Continues u []
+turned t s (Err (stops.Fault code access)) = raised t s code 0 access s.cpu
+turned t s (Err (stops.Host a)) = served t s (service_at a)
+turned t s (Err (stops.Illegal a)) = stopped (stop_cause reasons.Illegal a)
+turned t s (Err (stops.Guard a)) = Ends [] (ends.StackLimit a)
 
-unfoldable pub turn : State → Turn
-turn s = turned s (step s)
+-- with the event of the funclet at whose first byte RIP arrives
+unfoldable pub turn : Functions → List Funclet → State → Turn
+turn t fs s = arrived t fs (turned t s (step s))
 
 -- ---- the host, which keeps how its run ended
 
-pub record Host : Type 0 where
-  pub state : State
-  pub end : Option RunEnd
+pub data Host : Type 0 where
+  Live : State → Host
+  Ended : RunEnd → Host
 
 -- a state whose RIP is 0 has ended, with the low 32 bits of RAX
-abbrev pub over : Cpu → Bool → Option RunEnd
-over c true = Some (ends.Exit (signed W32 (register c Rax)))
-over c false = None
+abbrev pub over : State → Bool → Host
+over s true = Ended (ends.Exit (signed W32 (register s.cpu Rax)))
+over s false = Live s
 
 abbrev pub host : State → Host
-host s = record { state = s; end = over s.cpu (s.cpu.rip == 0) }
+host s = over s (s.cpu.rip == 0)
 
-abbrev pub after : State → Turn → Host
-after s (Goes t shown) = host t
-after s (Ends shown end) = record { state = s; end = Some end }
-
-abbrev pub shown_in : Turn → List Event
-shown_in (Goes t shown) = shown
-shown_in (Ends shown end) = shown
+abbrev pub after : Turn → Host
+after (Continues t shown) = host t
+after (Ends shown end) = Ended end
 
 -- a turn of a host; one that has ended stays as it is, and shows nothing
-abbrev pub next_of : Host → Option RunEnd → Host
-next_of h (Some e) = h
-next_of h None = after h.state (turn h.state)
+abbrev pub next : Functions → List Funclet → Host → Host
+next t fs (Live s) = after (turn t fs s)
+next t fs (Ended e) = Ended e
 
-abbrev pub next : Host → Host
-next h = next_of h h.end
+abbrev pub shown_next : Functions → List Funclet → Host → List Event
+shown_next t fs (Live s) = shown_in (turn t fs s)
+shown_next t fs (Ended e) = []
 
-abbrev pub shown_of : State → Option RunEnd → List Event
-shown_of s (Some e) = []
-shown_of s None = shown_in (turn s)
-
-abbrev pub shown_next : Host → List Event
-shown_next h = shown_of h.state h.end
+abbrev pub end_of : Host → Option RunEnd
+end_of (Live s) = None
+end_of (Ended e) = Some e

@@ -1,5 +1,10 @@
 pub mod Loading
 pub mod Slots
+pub mod Turns
+pub mod Funclets
+pub mod Dispatch
 pub mod HostStep
 pub mod Machine
+pub mod Laws
 pub mod Worked
+pub mod Images

@@ -1,28 +1,24 @@
 -- How an image stands in memory, and the state that a run starts from (PE format, "Section Table", "Import Address Table"; the stack, the arena, the services and their places are the host's own).
 use Rattle.std.specs.Prelude.{ℕ, ◌+◌, ◌-◌, ◌*◌, ◌/◌, ◌%◌, ◌^◌, Bool, true, false, ◌&&◌, ◌==◌, nat_lt, nat_le, if◌then◌else◌, List, [], ◌∷◌, replicate, position, ℤ, codes, Option, Some, None, option_map, Ok, Err, slice_index}
-use Rattle.std.specs.Str.{bytes_eq}
 use Rattle.seh_num.specs.declared.width.Width.TheVariants.{W64}
 use Rattle.seh_num.specs.Widths.{wrapped}
-use Rattle.flat_memory.specs.declared.mode.Mode.{Mode}
-use Rattle.flat_memory.specs.declared.mode.TheConstants.{UNMAPPED}
-use Rattle.flat_memory.specs.declared.mode.Rights.{Rights}
-use Rattle.flat_memory.specs.declared.mode.Rights.TheVariants.{Nothing, Read, ReadWrite}
+pub use Rattle.host_layout.specs.Ranges.{pages, in_stack}
+pub use Rattle.host_layout.specs.Services.{service_named}
+use Rattle.flat_memory.specs.declared.protection.Protection.{Protection}
+use Rattle.flat_memory.specs.declared.protection.TheConstants.{UNMAPPED}
+use Rattle.flat_memory.specs.declared.protection.Rights.{Rights}
+use Rattle.flat_memory.specs.declared.protection.Rights.TheVariants.{Nothing, Read, ReadWrite}
 use Rattle.flat_memory.specs.Memory.{Memory, with_number}
 use Rattle.pe_image.specs.Image.{Section, Image, is_executable, is_writable, is_readable}
 use Rattle.pe_image.specs.Imports.{Import, imports_of}
 use Rattle.eh_tables.specs.Answer.{Table}
 use Rattle.eh_tables.specs.Tables.{tables}
 use Rattle.x64_machine.specs.declared.cpu.Cpu.{Cpu}
-use Rattle.x64_machine.specs.declared.service.Service.{Service}
-use Rattle.x64_machine.specs.declared.service.Service.TheVariants as services
-use Rattle.x64_machine.specs.Services.{address_of}
+use Rattle.host_layout.specs.declared.service.Service.{Service}
+use Rattle.host_layout.specs.Services.{address_of}
 use Rattle.x64_machine.specs.Effect.{State}
 use Rattle.host_model.specs.declared.refusal.LoadErr.{LoadErr}
 use Rattle.host_model.specs.declared.refusal.LoadErr.TheVariants as refusals
-
--- whole pages
-abbrev pub pages : ℕ → ℕ
-pages n = (n + 4095) / 4096 * 4096
 
 -- the address of a section's first byte
 abbrev pub begins_at : ℕ → Section → ℕ
@@ -46,39 +42,26 @@ rights_of read true = ReadWrite
 rights_of true false = Read
 rights_of false false = Nothing
 
-abbrev pub section_mode : Section → Mode
+abbrev pub section_mode : Section → Protection
 section_mode s = record { rights = rights_of (is_readable s) (is_writable s); execute = is_executable s }
 
 -- outside the image the stack alone may be accessed; the arena's pages begin with no rights
-abbrev pub in_stack : ℕ → Bool
-in_stack a = nat_le 0x70000000 a && nat_lt a 0x70800000
-
-abbrev pub stack_mode : Bool → Mode
+abbrev pub stack_mode : Bool → Protection
 stack_mode true = record { rights = ReadWrite; execute = false }
 stack_mode false = UNMAPPED
 
-abbrev pub mode_in : Option Section → ℕ → Mode
+abbrev pub mode_in : Option Section → ℕ → Protection
 mode_in (Some s) a = section_mode s
 mode_in None a = stack_mode (in_stack a)
 
--- what the file stores of a section, and zeros behind it
+-- what the file stores of a section, and zeros after it
 abbrev pub byte_in : ℕ → Option Section → ℕ → ℕ
 byte_in base (Some s) a = slice_index s.raw (a - begins_at base s)
 byte_in base None a = 0
 
 -- ---- the slots of imports
 
--- what an image can import, by its name
-abbrev pub service_named : List ℕ → Option Service
-service_named name =
-    if bytes_eq name (codes "RaiseException") then Some services.RaiseException
-    else (if bytes_eq name (codes "__C_specific_handler") then Some services.CSpecificHandler
-    else (if bytes_eq name (codes "_local_unwind") then Some services.LocalUnwind
-    else (if bytes_eq name (codes "protect") then Some services.Protect
-    else (if bytes_eq name (codes "put") then Some services.Put
-    else None))))
-
--- the address of a service stands in eight bytes, the lowest first
+-- the address of a service is stored in eight bytes, the lowest first
 abbrev pub with_address : (ℕ → ℕ) → ℕ → Option Service → ℕ → ℕ
 with_address byte at None = byte
 with_address byte at (Some s) = with_number byte 8 at (address_of s)
@@ -90,14 +73,14 @@ with_slots base byte (i ∷ is) = with_slots base (with_address byte (base + i.s
 
 -- ---- the whole
 
-abbrev pub mode_at : Image → ℕ → Mode
+abbrev pub mode_at : Image → ℕ → Protection
 mode_at image a = mode_in (section_of image.base a image.sections) a
 
 abbrev pub stored_byte : Image → ℕ → ℕ
 stored_byte image a = byte_in image.base (section_of image.base a image.sections) a
 
 unfoldable pub mapped : Image → Memory
-mapped image = record { mode = mode_at image; byte = with_slots image.base (stored_byte image) (imports_of image) }
+mapped image = record { protection = mode_at image; byte = with_slots image.base (stored_byte image) (imports_of image) }
 
 -- RIP is the entry point, RCX the argument; RSP points to a return address of 0 near the stack's top
 abbrev pub first_cpu : ℕ → ℤ → Cpu
@@ -157,6 +140,10 @@ has_entry image = is_code (section_of 0 image.entry image.sections)
 
 abbrev pub entry_refusal : Image → Option LoadErr
 entry_refusal image = unless (has_entry image) (refusals.Entry image.entry)
+
+-- after the function table's
+abbrev pub later_refusal : Image → Option LoadErr
+later_refusal image = first_of (place_refusal image ∷ import_refusal image ∷ entry_refusal image ∷ [])
 
 -- the first reason that an image isn't loaded, if there is one
 abbrev pub load_refusal : Image → Option LoadErr

@@ -5,30 +5,41 @@ use Rattle.seh_num.specs.declared.end.RunEnd.{RunEnd}
 use Rattle.pe_image.specs.declared.refusal.ImageErr.{ImageErr}
 use Rattle.pe_image.specs.Image.{Image}
 use Rattle.pe_image.specs.Reading.{reading}
-use Rattle.x64_machine.specs.Effect.{State}
+use Rattle.eh_tables.specs.Tables.{tables, or_none}
+use Rattle.virtual_unwind.specs.CallerOf.{Functions}
+use Rattle.host_model.specs.declared.funclet.Funclet.{Funclet}
 use Rattle.host_model.specs.Loading.{start}
-use Rattle.host_model.specs.HostStep.{Turn, Host, host, turn, after, shown_in}
+use Rattle.host_model.specs.Funclets.{funclets}
+use Rattle.host_model.specs.Turns.{Turn, shown_in}
+use Rattle.host_model.specs.HostStep.{Host, Live, Ended, host, turn, after, end_of}
 
 -- the events of a run so far, and its end, if it has one
 pub record Shown : Type 0 where
   pub events : List Event
   pub end : Option RunEnd
 
--- a run that goes on by a turn, unless it has ended
-abbrev pub goes_on : (Host → List Event → Shown) → State → List Event → Turn → Shown
-goes_on rest s out t = rest (after s t) (out ++ shown_in t)
+-- a run that continues by a turn, unless it has ended
+abbrev pub continued_by : (Host → List Event → Shown) → List Event → Turn → Shown
+continued_by rest out t = rest (after t) (out ++ shown_in t)
 
-abbrev pub or_turn : (Host → List Event → Shown) → State → List Event → Option RunEnd → Shown
-or_turn rest s out (Some e) = record { events = out; end = Some e }
-or_turn rest s out None = goes_on rest s out (turn s)
+abbrev pub or_turn : Functions → List Funclet → (Host → List Event → Shown) → List Event → Host → Shown
+or_turn t fs rest out (Ended e) = record { events = out; end = Some e }
+or_turn t fs rest out (Live s) = continued_by rest out (turn t fs s)
 
 -- at most n turns more, after what was shown
-unfoldable pub run : ℕ → Host → List Event → Shown
-run zero h out = record { events = out; end = h.end }
-run (suc n) h out = or_turn (run n) h.state out h.end
+unfoldable pub run : Functions → List Funclet → ℕ → Host → List Event → Shown
+run t fs zero h out = record { events = out; end = end_of h }
+run t fs (suc n) h out = or_turn t fs (run t fs n) out h
+
+-- the function table of an image, where it is read whole
+abbrev pub functions_in : Image → Functions
+functions_in image = record { base = image.base; entries = or_none (tables image) }
+
+abbrev pub run_from : Image → ℤ → ℕ → Functions → Shown
+run_from image arg m t = run t (funclets t.entries) m (host (start image arg)) []
 
 abbrev pub machine_of : Result Image ImageErr → ℤ → ℕ → Shown
-machine_of (Ok image) arg m = run m (host (start image arg)) []
+machine_of (Ok image) arg m = run_from image arg m (functions_in image)
 machine_of (Err e) arg m = record { events = []; end = None }
 
 -- what an image shows in at most m turns

@@ -3,5 +3,7 @@
 #![tactic(auto)]
 
 pub mod binding;
+pub mod funclet;
+pub mod laws;
 pub mod refusal;
 pub mod worked;

@@ -9,12 +9,14 @@ use Rattle.eh_tables.specs.declared.range.RuntimeFunction.{RuntimeFunction}
 use Rattle.eh_tables.specs.declared.refusal.TableErr.TheVariants as refusals
 use Rattle.eh_tables.specs.Answer.{Table, ◌>>=◌, unless, or_refused, prepend}
 use Rattle.eh_tables.specs.Codes.{operation}
-use Rattle.eh_tables.specs.Infos.{Info, version, flags, are_flags, is_framed, slots_of, slots_end, trailer_size, stored_info, is_c, stored_rows, info_of, info}
+use Rattle.eh_tables.specs.Infos.{Info, version, flags, are_flags, is_framed, slots_of, slots_end, trailer_size, stored_info, is_c, stored_scope_records, info_of, info}
 use Rattle.eh_tables.specs.Codes as slots
 use Rattle.eh_tables.specs.Scopes as scopes
-use Rattle.eh_tables.specs.Tables.{Entry, parents, entry, ranges_in, unless_none, directory, entries, tables}
+use Rattle.eh_tables.specs.Tables.{Entry, parents, entry, ranges_in, unless_none, directory, entries, tables, or_none}
 use Rattle.eh_tables.specs.Written.{u32, range_bytes}
 use Rattle.host_model.specs.Loading.{table_refusal, of_tables}
+use Rattle.host_model.specs.Funclets.{funclets}
+use Rattle.host_model.specs.Machine.{functions_in}
 use Rattle.image_link.specs.Linked.{sizes, main_info, main_range, linked}
 use Rattle.image_link.proofs.Lengths.{range_length, same_sizes, is_linked}
 use Rattle.image_link.proofs.Mapped.{image}
@@ -34,10 +36,10 @@ info_stored i rva e1 e2 e3 =
 
 abbrev behind : Image → ℕ → List ℕ → Table Info
 behind i rva bytes =
-    stored_rows i rva bytes >>= λ rows. slots.checked 0 (is_framed bytes) 0 255 0 (slots_of bytes) >>= λ _. scopes.checked 0 i.size 0 (scopes.rows_in rows) >>= λ _. Ok (info_of bytes (is_c i bytes) rows)
+    stored_scope_records i rva bytes >>= λ rows. slots.checked 0 (is_framed bytes) 0 255 0 (slots_of bytes) >>= λ _. scopes.checked 0 i.size 0 (scopes.scope_records_in rows) >>= λ _. Ok (info_of bytes (is_c i bytes) rows)
 
 info_is : (i : Image) (rva : ℕ) → stored_info i 0 rva ≡ Ok main_info → info i 0 rva ≡ Ok (info_of main_info false [])
-unfolding info stored_rows operation
+unfolding info stored_scope_records operation
 info_is i rva e = ap (λ r. r >>= behind i rva) e
 
 -- ---- its entry
@@ -96,7 +98,17 @@ module _ (main : List ℕ) (some : 0 < length main) (few : length main ≤ 67108
   found : directory (image main) ≡ Ok (main_range (length main) ∷ [])
   found = directory_is (image main) (range_bytes (main_range (length main))) (range_length (length main)) (omega arith) range_there ∙ ap (λ (rs : List RuntimeFunction). Ok rs) (range_is (length main) few)
 
+  abbrev main_entry : Entry
+  main_entry = record { range = main_range (length main); info = info_of main_info false []; parents = [] }
+
+  tables_are : tables (image main) ≡ Ok (main_entry ∷ [])
+  tables_are =
+      one_entry (image main) (main_range (length main)) main_entry found
+      (entry_is (image main) (length main) some (ap (λ s. info (image main) 0 (xdata_at s)) (sym (same_sizes main)) ∙ own))
+
   pub table_read : table_refusal (image main) ≡ None
-  table_read =
-      ap of_tables (one_entry (image main) (main_range (length main)) (record { range = main_range (length main); info = info_of main_info false []; parents = [] }) found
-      (entry_is (image main) (length main) some (ap (λ s. info (image main) 0 (xdata_at s)) (sym (same_sizes main)) ∙ own)))
+  table_read = ap of_tables tables_are
+
+  -- it has no scope table, and so no funclets
+  pub no_funclets : funclets (functions_in (image main)).entries ≡ []
+  no_funclets = ap (λ t. funclets (or_none t)) tables_are

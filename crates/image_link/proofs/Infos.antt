@@ -2,7 +2,7 @@
 use Rattle.std.proofs.Common.{◌≡◌, false, List, [], ◌∷◌, ◌++◌, length, refl, sym, ap, subst, arith}
 use Rattle.std.specs.List.{AllByRecursion}
 use Rattle.arrayvec.specs.ArrayVec.{ArrayVec}
-use Rattle.eh_tables.specs.declared.code.Operation.TheVariants.{Allocate}
+use Rattle.eh_tables.specs.declared.code.UnwindOperation.TheVariants.{Allocate}
 use Rattle.eh_tables.specs.declared.code.UnwindCode.{UnwindCode}
 use Rattle.eh_tables.specs.declared.unwind_info.Trailer.TheVariants.{Nothing}
 use Rattle.eh_tables.specs.declared.unwind_info.UnwindInfo.{UnwindInfo}
@@ -13,7 +13,7 @@ abbrev pub allocates : UnwindCode
 allocates = record { offset = 8; operation = Allocate 552 }
 
 abbrev pub with_codes : ArrayVec UnwindCode → UnwindInfo
-with_codes codes = record { prolog = 8; frame_register = 0; frame_offset = 0; codes = codes; trailer = Nothing }
+with_codes codes = record { prologue_size = 8; frame_register = 0; frame_offset = 0; codes = codes; trailer = Nothing }
 
 module _ (codes : ArrayVec UnwindCode) (are : codes.items ≡ allocates ∷ []) where
   short : length (codes_bytes codes.items) ≡ 4

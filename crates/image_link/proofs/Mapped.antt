@@ -3,8 +3,8 @@ use Rattle.std.specs.Prelude.{option_map}
 use Rattle.std.specs.List.{AllByRecursion}
 use Rattle.std.proofs.Common.{◌≡◌, ℕ, suc, inl, ◌+◌, ◌-◌, ◌*◌, ◌/◌, ◌^◌, ◌<◌, ◌≤◌, true, false, ltb, leb, List, [], ◌∷◌, length, get_or, take, Some, None, refl, sym, ap, subst, ◌∙◌, arith}
 use Rattle.std.proofs.lemmas.Bool.{lt-ltb, le-ltb, le-leb, lt-leb}
-use Rattle.flat_memory.specs.declared.mode.Mode.{Mode}
-use Rattle.flat_memory.specs.Modes.{is_readable, is_writable}
+use Rattle.flat_memory.specs.declared.protection.Protection.{Protection}
+use Rattle.flat_memory.specs.Protections.{is_readable, is_writable}
 use Rattle.flat_memory.specs.Memory.{Memory, number_at, may_read, may_write}
 use Rattle.pe_image.specs.Image.{Section, Image}
 use Rattle.pe_image.specs.Imports.{Import}
@@ -17,7 +17,7 @@ use Rattle.host_model.specs.Loading.{section_of, mode_in, byte_in, stored_byte, 
 use Rattle.host_model.specs.declared.refusal.LoadErr.TheVariants as refusals
 use Rattle.host_model.specs.Slots.{IsBeside}
 use Rattle.host_model.proofs.Slots.{slots-beside, slots_read}
-use Rattle.x64_machine.specs.declared.service.Service.TheVariants.{Put}
+use Rattle.host_layout.specs.declared.service.Service.TheVariants.{Put}
 use Rattle.x64_encode.specs.Chosen.{chosen}
 use Rattle.x64_emit.specs.Code.{thunk_at}
 use Rattle.x64_emit.specs.Standing.{Stands}
@@ -101,15 +101,15 @@ module _ (main : List ℕ) (some : 0 < length main) (few : length main ≤ 67108
       let before : ltb (0x140000000 + (r + j)) (0x140000000 + r + 4096) ≡ true = lt-ltb _ _ (omega arith) in
       rw (past, after, begun, gone, inside, before) refl
 
-  tables_mode : (j : ℕ) → j < 222 → (mapped (image main)).mode (0x140000000 + (r + j)) ≡ mode_in (Some tables) (0x140000000 + (r + j))
+  tables_mode : (j : ℕ) → j < 222 → (mapped (image main)).protection (0x140000000 + (r + j)) ≡ mode_in (Some tables) (0x140000000 + (r + j))
   unfolding mapped
   tables_mode j lt = ap (λ s. mode_in s (0x140000000 + (r + j))) (tables_at j lt)
 
   tables_read : (j : ℕ) → j < 222 → may_read (mapped (image main)) (0x140000000 + (r + j)) ≡ true
-  tables_read j lt = ap (λ (m : Mode). is_readable m.rights) (tables_mode j lt)
+  tables_read j lt = ap (λ (m : Protection). is_readable m.rights) (tables_mode j lt)
 
   tables_fixed : (j : ℕ) → j < 222 → may_write (mapped (image main)) (0x140000000 + (r + j)) ≡ false
-  tables_fixed j lt = ap (λ (m : Mode). is_writable m.rights) (tables_mode j lt)
+  tables_fixed j lt = ap (λ (m : Protection). is_writable m.rights) (tables_mode j lt)
 
   -- ---- the code
 
@@ -127,27 +127,27 @@ module _ (main : List ℕ) (some : 0 < length main) (few : length main ≤ 67108
       below_slots (0x140002000 + k) (omega arith)
       ∙ ap (λ s. byte_in 0x140000000 s (0x140002000 + k)) (text_at k lt) ∙ ap (λ j. get_or code j 0) gone
 
-  mode_is : (k : ℕ) → k < length code → (mapped (image main)).mode (0x140002000 + k) ≡ mode_in (Some text) (0x140002000 + k)
+  mode_is : (k : ℕ) → k < length code → (mapped (image main)).protection (0x140002000 + k) ≡ mode_in (Some text) (0x140002000 + k)
   unfolding mapped
   mode_is k lt = ap (λ s. mode_in s (0x140002000 + k)) (text_at k lt)
 
-  executes : (k : ℕ) → k < length code → ((mapped (image main)).mode (0x140002000 + k)).execute ≡ true
-  executes k lt = ap (λ (m : Mode). m.execute) (mode_is k lt)
+  executes : (k : ℕ) → k < length code → ((mapped (image main)).protection (0x140002000 + k)).execute ≡ true
+  executes k lt = ap (λ (m : Protection). m.execute) (mode_is k lt)
 
   is_fixed : (k : ℕ) → k < length code → may_write (mapped (image main)) (0x140002000 + k) ≡ false
-  is_fixed k lt = ap (λ (m : Mode). is_writable m.rights) (mode_is k lt)
+  is_fixed k lt = ap (λ (m : Protection). is_writable m.rights) (mode_is k lt)
 
 -- bytes that stand one by one stand together
-stands_of : (m : Memory) (at : ℕ) (bytes : List ℕ) → ((k : ℕ) → k < length bytes → m.byte (at + k) ≡ get_or bytes k 0) → ((k : ℕ) → k < length bytes → (m.mode (at + k)).execute ≡ true) → ((k : ℕ) → k < length bytes → may_write m (at + k) ≡ false) → Stands m at bytes
+stands_of : (m : Memory) (at : ℕ) (bytes : List ℕ) → ((k : ℕ) → k < length bytes → m.byte (at + k) ≡ get_or bytes k 0) → ((k : ℕ) → k < length bytes → (m.protection (at + k)).execute ≡ true) → ((k : ℕ) → k < length bytes → may_write m (at + k) ≡ false) → Stands m at bytes
 stands_of m at [] b x w = tt
 stands_of m at (c ∷ bytes) b x w =
     let z : at + 0 ≡ at = omega arith in (
       ap m.byte (sym z) ∙ b 0 (omega arith),
-      ap (λ a. (m.mode a).execute) (sym z) ∙ x 0 (omega arith),
+      ap (λ a. (m.protection a).execute) (sym z) ∙ x 0 (omega arith),
       ap (may_write m) (sym z) ∙ w 0 (omega arith),
       stands_of m (at + 1) bytes
           (λ k lt. let e : at + 1 + k ≡ at + suc k = omega arith in ap m.byte e ∙ b (suc k) (omega arith))
-          (λ k lt. let e : at + 1 + k ≡ at + suc k = omega arith in ap (λ a. (m.mode a).execute) e ∙ x (suc k) (omega arith))
+          (λ k lt. let e : at + 1 + k ≡ at + suc k = omega arith in ap (λ a. (m.protection a).execute) e ∙ x (suc k) (omega arith))
           (λ k lt. let e : at + 1 + k ≡ at + suc k = omega arith in ap (may_write m) e ∙ w (suc k) (omega arith)),
     )
 
@@ -189,7 +189,7 @@ module _ (main : List ℕ) (some : 0 < length main) (few : length main ≤ 67108
       let pdata = above_stack (pdata_at (sizes_of (linked main))) a lt in
       rw (globals, text, rdata, xdata, pdata) refl
 
-  stack_is : (a : ℕ) → 0x70000000 ≤ a → a < 0x70800000 → (mapped (image main)).mode a ≡ stack_mode true
+  stack_is : (a : ℕ) → 0x70000000 ≤ a → a < 0x70800000 → (mapped (image main)).protection a ≡ stack_mode true
   unfolding mapped
   stack_is a ge lt =
       let p : leb 0x70000000 a ≡ true = le-leb _ _ ge in
@@ -197,10 +197,10 @@ module _ (main : List ℕ) (some : 0 < length main) (few : length main ≤ 67108
       ap (λ s. mode_in s a) (outside a (omega arith)) ∙ rw (p, q) refl
 
   pub stack_writes : (a : ℕ) → 0x70000000 ≤ a → a < 0x70800000 → may_write (mapped (image main)) a ≡ true
-  stack_writes a ge lt = ap (λ (m : Mode). is_writable m.rights) (stack_is a ge lt)
+  stack_writes a ge lt = ap (λ (m : Protection). is_writable m.rights) (stack_is a ge lt)
 
   pub stack_reads : (a : ℕ) → 0x70000000 ≤ a → a < 0x70800000 → may_read (mapped (image main)) a ≡ true
-  stack_reads a ge lt = ap (λ (m : Mode). is_readable m.rights) (stack_is a ge lt)
+  stack_reads a ge lt = ap (λ (m : Protection). is_readable m.rights) (stack_is a ge lt)
 
   pub stack_bytes : (a : ℕ) → a < 0x100000000 → (mapped (image main)).byte a ≡ 0
   stack_bytes a lt = below_slots main some few a (omega arith) ∙ ap (λ s. byte_in 0x140000000 s a) (outside a lt)

@@ -1,5 +1,5 @@
 -- The image of a program's code does what the program means.
-use Rattle.std.proofs.Common.{◌≡◌, ℕ, ◌+◌, ◌*◌, ◌/◌, ◌^◌, ◌<◌, ◌≤◌, true, leb, ltb, List, [], ◌∷◌, length, pos, Option, None, refl, sym, ap, subst, arith}
+use Rattle.std.proofs.Common.{◌≡◌, ℕ, ◌+◌, ◌*◌, ◌/◌, ◌^◌, ◌<◌, ◌≤◌, true, leb, ltb, List, [], ◌∷◌, length, pos, Option, None, refl, sym, ap, subst, ◌∙◌, arith}
 use Rattle.std.proofs.lemmas.Bool.{le-leb, lt-ltb}
 use Rattle.flat_memory.specs.Memory.{number_at}
 use Rattle.pe_image.specs.Reading.{IsImage}
@@ -8,16 +8,18 @@ use Rattle.host_model.specs.Loading.{mapped, start, unless, first_of, load_refus
 use Rattle.host_model.specs.declared.refusal.LoadErr.{LoadErr}
 use Rattle.host_model.specs.declared.refusal.LoadErr.TheVariants as refusals
 use Rattle.host_model.specs.HostStep.{host}
-use Rattle.host_model.specs.Machine.{machine, machine_of, run}
+use Rattle.host_model.specs.declared.funclet.Funclet.{Funclet}
+use Rattle.host_model.specs.Laws.{Covers}
+use Rattle.host_model.specs.Machine.{machine, machine_of, run, functions_in}
 use Rattle.c_meaning.specs.Syntax.{Statement, deepest}
 use Rattle.c_meaning.specs.Meaning.{meaning}
 use Rattle.x64_emit.specs.Code.{main_bytes}
-use Rattle.x64_emit.specs.Correct.{Covers, HasRoom}
+use Rattle.x64_emit.specs.Correct.{HasRoom}
 use Rattle.x64_emit.proofs.Expressions.{same_number}
 use Rattle.x64_emit.proofs.Programs.{program_shows}
 use Rattle.image_link.specs.Linked.{text_of, linked}
 use Rattle.image_link.specs.Realises.{Realises}
-use Rattle.image_link.proofs.Functions.{table_read}
+use Rattle.image_link.proofs.Functions.{table_read, no_funclets}
 use Rattle.image_link.proofs.Lengths.{text_length, range_length}
 use Rattle.image_link.proofs.Mapped.{image, imports_known, main_stands, has_thunk, stack_writes, stack_reads, stack_bytes}
 
@@ -65,9 +67,11 @@ module _ (main : List ℕ) (some : 0 < length main) (few : length main ≤ 67108
 -- ---- the run
 
 module _ (p : List Statement) (bytes : List ℕ) (deep : deepest p ≤ 64) (is : IsImage bytes (image (main_bytes p))) where
-  machine_is : (arg m : ℕ) → machine bytes (pos arg) m ≡ run m (host (start (image (main_bytes p)) (pos arg))) []
+  machine_is : 0 < length (main_bytes p) → length (main_bytes p) ≤ 67108864 → (arg m : ℕ) → machine bytes (pos arg) m ≡ run (functions_in (image (main_bytes p))) [] m (host (start (image (main_bytes p)) (pos arg))) []
   unfolding machine
-  machine_is arg m = ap (λ r. machine_of r (pos arg) m) is
+  machine_is some few arg m =
+      ap (λ r. machine_of r (pos arg) m) is
+      ∙ ap (λ (fs : List Funclet). run (functions_in (image (main_bytes p))) fs m (host (start (image (main_bytes p)) (pos arg))) []) (no_funclets (main_bytes p) some few)
 
   pub realises : length (main_bytes p) ≤ 67108864 → 0 < length (main_bytes p) → length bytes ≤ end_at (sizes_of (linked (main_bytes p))) → Realises bytes p
   unfolding start
@@ -79,8 +83,8 @@ module _ (p : List Statement) (bytes : List ℕ) (deep : deepest p ≤ 64) (is :
         fits = let s = small main some few in omega arith;
         loads = loads main some few;
         shows = λ arg n lt.
-            let shown = program_shows p (start (image main) (pos arg)) n deep (room main arg some few) (record { low = omega arith; high = omega arith }) (main_stands main some few) in
-            subst (λ r. Covers (meaning p (pos arg) n).events (meaning p (pos arg) n).end r) (sym (machine_is arg (256 * n + 256))) shown;
+            let shown = program_shows (functions_in (image main)) p (start (image main) (pos arg)) n deep (room main arg some few) (record { low = omega arith; high = omega arith }) (main_stands main some few) in
+            subst (λ r. Covers (meaning p (pos arg) n).events (meaning p (pos arg) n).end r) (sym (machine_is some few arg (256 * n + 256))) shown;
       }
 
 -- the same of the bytes that the linker wrote

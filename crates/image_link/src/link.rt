@@ -9,7 +9,7 @@ ghost use Rattle.image_link.specs.Realises.{Realises};
 use arrayvec::ArrayVec;
 use c_meaning::checked::Checked;
 use eh_tables::{
-    Operation, RuntimeFunction, Trailer, UnwindCode, UnwindInfo, write_pdata, write_unwind,
+    RuntimeFunction, Trailer, UnwindCode, UnwindInfo, UnwindOperation, write_pdata, write_unwind,
 };
 use pe_write::{Image, Service, Sizes, write};
 use std::alloc::{AllocError, Global};
@@ -56,10 +56,10 @@ fn unwind_info(alloc: Global) -> Result<Vec<u8>, AllocError>
     let mut codes = ArrayVec::new();
     codes.push(UnwindCode {
         offset: 8,
-        operation: Operation::Allocate { size: 552 },
+        operation: UnwindOperation::Allocate { size: 552 },
     });
     let info = UnwindInfo {
-        prolog: 8,
+        prologue_size: 8,
         frame_register: 0,
         frame_offset: 0,
         codes,

@@ -3,13 +3,13 @@ use Rattle.std.proofs.Common.{◌≡◌, ◌≢◌, ℕ, zero, suc, ◌+◌, Boo
 use Rattle.std.proofs.lemmas.List.{append-nil}
 use Rattle.byteorder.specs.Endian.{little_number}
 use Rattle.std.proofs.lemmas.Bool.{ne_eqb}
-use Rattle.pe_image.specs.declared.directory.Directory.{Directory}
+use Rattle.pe_image.specs.declared.directory.DataDirectory.{DataDirectory}
 use Rattle.pe_image.specs.declared.refusal.ImageErr.{ImageErr}
 use Rattle.pe_image.specs.declared.refusal.ImageErr.TheVariants as refusals
 use Rattle.pe_image.specs.Answer.{◌>>=◌, or_refused, prepend, onto, Refuses}
 use Rattle.pe_image.specs.Field.{field}
 use Rattle.pe_image.specs.Image.{Section, stored}
-use Rattle.pe_image.specs.Imports.{Import, import_at, next_entry, library, is_zero, lookups, entries_of, next_library, libraries, most, unless_none, imports_in}
+use Rattle.pe_image.specs.Imports.{Import, import_at, next_entry, library, is_zero, lookups, entries_of, next_library, libraries, max_count, unless_none, imports_in}
 
 abbrev Answered : Type 0
 Answered = Result (List Import) ImageErr
@@ -117,20 +117,20 @@ module _ (ss : List Section) (xs : List Import) (index at : ℕ) where
 pub refused_at : (k n : ℕ) → k ≡ n → (let r : Answered = Err (refusals.ImportBad k) in r) ≡ Err (refusals.ImportBad n)
 refused_at k n e = ap (λ j. Err (refusals.ImportBad j)) e
 
-pub with_directory : (ss : List Section) (d : Directory) (r : Answered) → d.size ≢ 0 → libraries most ss 0 d.rva ≡ r → imports_in ss d ≡ r
-with_directory ss d r ne e = ap (unless_none (libraries most ss 0 d.rva)) (ne_eqb d.size 0 ne) ∙ e
+pub with_directory : (ss : List Section) (d : DataDirectory) (r : Answered) → d.size ≢ 0 → libraries max_count ss 0 d.rva ≡ r → imports_in ss d ≡ r
+with_directory ss d r ne e = ap (unless_none (libraries max_count ss 0 d.rva)) (ne_eqb d.size 0 ne) ∙ e
 
-pub same_entries : (ss : List Section) (index look slot : ℕ) (d : List ℕ) → look ≡ lookups (field 4 d 0) (field 4 d 16) → slot ≡ field 4 d 16 → library most ss index look slot ≡ entries_of ss index d
-same_entries ss index look slot d e1 e2 = ap (λ n. library most ss index n slot) e1 ∙ ap (library most ss index (lookups (field 4 d 0) (field 4 d 16))) e2
+pub same_entries : (ss : List Section) (index look slot : ℕ) (d : List ℕ) → look ≡ lookups (field 4 d 0) (field 4 d 16) → slot ≡ field 4 d 16 → library max_count ss index look slot ≡ entries_of ss index d
+same_entries ss index look slot d e1 e2 = ap (λ n. library max_count ss index n slot) e1 ∙ ap (library max_count ss index (lookups (field 4 d 0) (field 4 d 16))) e2
 
-module _ (ss : List Section) (dir : Directory) (xs : List Import) (n m look slot : ℕ) (d : List ℕ) (at : ℕ) (some : dir.size ≢ 0) (e : n ≡ m + 1) (is : stored ss at 20 ≡ Some d) (z : is_zero d ≡ false)
-    (e1 : look ≡ lookups (field 4 d 0) (field 4 d 16)) (e2 : slot ≡ field 4 d 16) (so_far : onto xs (libraries n ss (length xs) at) ≡ libraries most ss 0 dir.rva) where
-  pub whole_refused : (f : ImageErr) → Refuses f (onto xs (library most ss (length xs) look slot)) → Refuses f (imports_in ss dir)
+module _ (ss : List Section) (dir : DataDirectory) (xs : List Import) (n m look slot : ℕ) (d : List ℕ) (at : ℕ) (some : dir.size ≢ 0) (e : n ≡ m + 1) (is : stored ss at 20 ≡ Some d) (z : is_zero d ≡ false)
+    (e1 : look ≡ lookups (field 4 d 0) (field 4 d 16)) (e2 : slot ≡ field 4 d 16) (so_far : onto xs (libraries n ss (length xs) at) ≡ libraries max_count ss 0 dir.rva) where
+  pub whole_refused : (f : ImageErr) → Refuses f (onto xs (library max_count ss (length xs) look slot)) → Refuses f (imports_in ss dir)
   whole_refused refusals.Memory h = tt
   whole_refused f h =
       with_directory ss dir _ some (sym so_far ∙ library_refused ss xs (length xs) at n m d f e is z (ap (onto xs) (sym (same_entries ss (length xs) look slot d e1 e2)) ∙ h))
 
-  pub whole_goes_on : (zs : List Import) (next : ℕ) → onto xs (library most ss (length xs) look slot) ≡ Ok zs → next ≡ at + 20 → onto zs (libraries m ss (length zs) next) ≡ libraries most ss 0 dir.rva
+  pub whole_goes_on : (zs : List Import) (next : ℕ) → onto xs (library max_count ss (length xs) look slot) ≡ Ok zs → next ≡ at + 20 → onto zs (libraries m ss (length zs) next) ≡ libraries max_count ss 0 dir.rva
   whole_goes_on zs next h there =
       ap (λ k. onto zs (libraries m ss (length zs) k)) there
       ∙ library_passed ss xs (length xs) at n m d zs e is z refl (ap (onto xs) (sym (same_entries ss (length xs) look slot d e1 e2)) ∙ h)

@@ -3,7 +3,7 @@ use Rattle.std.proofs.Common.{◌≡◌, ℕ, zero, suc, ◌+◌, ◌-◌, ◌<�
 use Rattle.std.specs.List.Sorted.{IsNonDecreasingBy}
 use Rattle.std.proofs.lemmas.Bool.{cases_lt, and_from, and_left, and_right, lt-ltb, le-ltb, le-leb, lt-leb}
 use Rattle.std.proofs.lemmas.List.{drop_all}
-use Rattle.pe_image.specs.Image.{Section, AreAscending, holds, section_or, section_at, stored_in}
+use Rattle.pe_image.specs.Image.{Section, AreAscending, stores_byte, section_or, section_at, stored_in}
 
 lies_above : (end : ℕ) (ss : List Section) (k : ℕ) (d : Section) → AreAscending end ss → k < length ss → end ≤ (get_or ss k d).address
 lies_above end [] k d up lt = absurd (omega arith)
@@ -17,10 +17,10 @@ addresses_rise end (s ∷ ss) up zero (suc j) d le lt = let above = lies_above (
 addresses_rise end (s ∷ ss) up (suc i) zero d le lt = absurd (omega arith)
 addresses_rise end (s ∷ ss) up (suc i) (suc j) d le lt = addresses_rise (s.address + s.size) ss up.3 i j d (omega arith) (omega arith)
 
-below_holds_none : (rva : ℕ) (s : Section) → rva < s.address → holds rva s ≡ false
+below_holds_none : (rva : ℕ) (s : Section) → rva < s.address → stores_byte rva s ≡ false
 below_holds_none rva s lt = and_left (leb s.address rva) (ltb rva (s.address + length s.raw)) (lt-leb s.address rva lt)
 
-pub above_holds_none : (rva : ℕ) (s : Section) → s.address + length s.raw ≤ rva → holds rva s ≡ false
+pub above_holds_none : (rva : ℕ) (s : Section) → s.address + length s.raw ≤ rva → stores_byte rva s ≡ false
 above_holds_none rva s le = and_right (leb s.address rva) (ltb rva (s.address + length s.raw)) (le-ltb rva (s.address + length s.raw) le)
 
 pub none_above : (rva : ℕ) (ss : List Section) → ((k : ℕ) (d : Section) → k < length ss → rva < (get_or ss k d).address) → section_at rva ss ≡ None
@@ -35,8 +35,8 @@ pub last_below : (rva end : ℕ) (ss : List Section) (k : ℕ) (d : Section) →
 last_below rva end [] k d up lt le above = absurd (omega arith)
 last_below rva end (s ∷ ss) zero d up lt le above =
     let others : section_at rva ss ≡ None = none_above rva ss (λ j e h. above (suc j) e (omega arith) (omega arith)) in
-    ap (λ o. stored_in rva (section_or o s (holds rva s))) others
-    ∙ (elim (cases_lt rva (s.address + length s.raw)) as (λ _. stored_in rva (section_or None s (holds rva s)) ≡ drop (rva - s.address) s.raw) [
+    ap (λ o. stored_in rva (section_or o s (stores_byte rva s))) others
+    ∙ (elim (cases_lt rva (s.address + length s.raw)) as (λ _. stored_in rva (section_or None s (stores_byte rva s)) ≡ drop (rva - s.address) s.raw) [
       | inl inside ↦ ap (λ b. stored_in rva (section_or None s b)) (and_from (leb s.address rva) (ltb rva (s.address + length s.raw)) (le-leb s.address rva le) (lt-ltb rva (s.address + length s.raw) inside))
       | inr past ↦ ap (λ b. stored_in rva (section_or None s b)) (above_holds_none rva s past) ∙ sym (drop_all (rva - s.address) s.raw (omega arith))
     ])

@@ -1,6 +1,6 @@
 -- What the checks of the headers, of the sections and of the imports say of the whole reading.
 use Rattle.std.proofs.Common.{◌≡◌, ℕ, List, Result, Ok, Err, ap, sym, subst, ◌∙◌}
-use Rattle.pe_image.specs.declared.directory.Directory.{Directory}
+use Rattle.pe_image.specs.declared.directory.DataDirectory.{DataDirectory}
 use Rattle.pe_image.specs.declared.refusal.ImageErr.{ImageErr}
 use Rattle.pe_image.specs.declared.refusal.ImageErr.TheVariants as refusals
 use Rattle.pe_image.specs.Answer.{◌>>=◌, Refuses}
@@ -42,7 +42,7 @@ pub read_whole : (bytes : List ℕ) (ss : List Section) (end count at : ℕ) →
     → sections_of bytes end (headers_from bytes count at) ≡ Ok ss → outline bytes ≡ Ok (image_with bytes ss)
 read_whole bytes ss end count at ok e1 e2 e3 h = behind_headers bytes ok ∙ ap (finished bytes) (sym (same_table bytes end count at e1 e2 e3) ∙ h)
 
-pub same_image : (bytes : List ℕ) (ss : List Section) (base entry size : ℕ) (imports exceptions : Directory)
+pub same_image : (bytes : List ℕ) (ss : List Section) (base entry size : ℕ) (imports exceptions : DataDirectory)
     → base ≡ image_base bytes → entry ≡ entry_point bytes → size ≡ image_size bytes → imports ≡ directory bytes 1 → exceptions ≡ directory bytes 3
     → image_with bytes ss ≡ record { base = base; entry = entry; size = size; sections = ss; imports = imports; exceptions = exceptions }
 same_image bytes ss base entry size imports exceptions e1 e2 e3 e4 e5 = λ i. record { base = sym e1 i; entry = sym e2 i; size = sym e3 i; sections = ss; imports = sym e4 i; exceptions = sym e5 i }
@@ -62,7 +62,7 @@ whole_read bytes image xs ok h =
     ap (λ (r : Result Image ImageErr). r >>= λ i. imports i >>= λ _. Ok i) ok
     ∙ ap (λ (r : Result (List Import) ImageErr). r >>= λ _. Ok image) h
 
-module _ (bytes : List ℕ) (ss items : List Section) (dir : Directory) (ok : outline bytes ≡ Ok (image_with bytes ss)) (same : items ≡ ss) (at : dir ≡ directory bytes 1) where
+module _ (bytes : List ℕ) (ss items : List Section) (dir : DataDirectory) (ok : outline bytes ≡ Ok (image_with bytes ss)) (same : items ≡ ss) (at : dir ≡ directory bytes 1) where
   same_imports : imports_in items dir ≡ imports (image_with bytes ss)
   same_imports = ap (λ (t : List Section). imports_in t dir) same ∙ ap (imports_in ss) at
 

@@ -1,6 +1,6 @@
 -- An image as it is read, and what is stored in it.
 use Rattle.std.specs.Prelude.{◌≡◌, ℕ, ◌+◌, ◌-◌, ◌%◌, ◌≤◌, bit_and, Bool, true, false, not, ◌&&◌, ◌==◌, nat_lt, nat_le, List, [], ◌∷◌, length, take, drop, Option, Some, None}
-use Rattle.pe_image.specs.declared.directory.Directory.{Directory}
+use Rattle.pe_image.specs.declared.directory.DataDirectory.{DataDirectory}
 
 -- a section: where it lies from the image base on, how many bytes it takes there, those that the file stores of it from its front on (the others are 0), and its characteristics
 pub record Section : Type 0 where
@@ -15,8 +15,8 @@ pub record Image : Type 0 where
   pub entry : ℕ  -- relative to the base, as are all addresses of sections and directories
   pub size : ℕ
   pub sections : List Section
-  pub imports : Directory
-  pub exceptions : Directory
+  pub imports : DataDirectory
+  pub exceptions : DataDirectory
 
 -- ---- what a section's characteristics allow (PE format, "Section Flags")
 
@@ -45,8 +45,8 @@ AreAscending end (s ∷ ss) = (end ≤ s.address) × (s.address % 4096 ≡ 0) ×
 -- ---- what is stored
 
 -- whether the byte at an address is stored in a section
-abbrev pub holds : ℕ → Section → Bool
-holds rva s = nat_le s.address rva && nat_lt rva (s.address + length s.raw)
+abbrev pub stores_byte : ℕ → Section → Bool
+stores_byte rva s = nat_le s.address rva && nat_lt rva (s.address + length s.raw)
 
 abbrev pub section_or : Option Section → Section → Bool → Option Section
 section_or others s true = Some s
@@ -55,7 +55,7 @@ section_or others s false = others
 -- the section in which the byte at an address is stored
 abbrev pub section_at : ℕ → List Section → Option Section
 section_at rva [] = None
-section_at rva (s ∷ ss) = section_or (section_at rva ss) s (holds rva s)
+section_at rva (s ∷ ss) = section_or (section_at rva ss) s (stores_byte rva s)
 
 -- the bytes that a section stores from an address on
 abbrev pub stored_in : ℕ → Option Section → List ℕ

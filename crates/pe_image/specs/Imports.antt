@@ -1,7 +1,7 @@
 -- What an image imports (PE format, "The .idata Section"): its libraries in their order, and the names of each in theirs. Each definition answers what it reads, or refuses the import at which it can't go on, by its index over all libraries.
 use Rattle.std.specs.Prelude.{ℕ, zero, suc, ◌+◌, ◌^◌, Bool, true, false, ◌&&◌, ◌==◌, nat_lt, nat_le, List, [], length, take, drop, position, option_map, option_and_then, Option, Some, None, Result, Ok, Err}
 use Rattle.byteorder.specs.Endian.{little_number}
-use Rattle.pe_image.specs.declared.directory.Directory.{Directory}
+use Rattle.pe_image.specs.declared.directory.DataDirectory.{DataDirectory}
 use Rattle.pe_image.specs.declared.refusal.ImageErr.{ImageErr}
 use Rattle.pe_image.specs.declared.refusal.ImageErr.TheVariants as refusals
 use Rattle.pe_image.specs.Answer.{◌>>=◌, or_refused, prepend, onto}
@@ -45,8 +45,8 @@ import_at ss slot entry =
 -- ---- one library
 
 -- there are at most as many entries and libraries as addresses
-abbrev pub most : ℕ
-most = 4294967296
+abbrev pub max_count : ℕ
+max_count = 4294967296
 
 abbrev pub next_entry : List Section → ℕ → ℕ → Result (List Import) ImageErr → ℕ → Result (List Import) ImageErr
 next_entry ss index slot others zero = Ok []
@@ -73,7 +73,7 @@ lookups zero slots = slots
 lookups (suc k) slots = suc k
 
 abbrev pub entries_of : List Section → ℕ → List ℕ → Result (List Import) ImageErr
-entries_of ss index d = library most ss index (lookups (field 4 d 0) (field 4 d 16)) (field 4 d 16)
+entries_of ss index d = library max_count ss index (lookups (field 4 d 0) (field 4 d 16)) (field 4 d 16)
 
 abbrev pub next_library : (List Import → Result (List Import) ImageErr) → Result (List Import) ImageErr → Bool → Result (List Import) ImageErr
 next_library others these true = Ok []
@@ -93,8 +93,8 @@ abbrev pub unless_none : Result (List Import) ImageErr → Bool → Result (List
 unless_none others true = Ok []
 unless_none others false = others
 
-abbrev pub imports_in : List Section → Directory → Result (List Import) ImageErr
-imports_in ss d = unless_none (libraries most ss 0 d.rva) (d.size == 0)
+abbrev pub imports_in : List Section → DataDirectory → Result (List Import) ImageErr
+imports_in ss d = unless_none (libraries max_count ss 0 d.rva) (d.size == 0)
 
 abbrev pub imports : Image → Result (List Import) ImageErr
 imports image = imports_in image.sections image.imports

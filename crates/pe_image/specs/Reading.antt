@@ -1,6 +1,6 @@
 -- How an image is read: fields by their places in the PE format, and the checks in their order.
 use Rattle.std.specs.Prelude.{◌≡◌, ℕ, zero, suc, ◌+◌, ◌*◌, ◌/◌, ◌%◌, ◌≤◌, Bool, ◌&&◌, ◌||◌, ◌==◌, nat_lt, nat_le, if◌then◌else◌, List, [], ◌∷◌, length, take, drop, map, min, Result, Ok, Err}
-use Rattle.pe_image.specs.declared.directory.Directory.{Directory}
+use Rattle.pe_image.specs.declared.directory.DataDirectory.{DataDirectory}
 use Rattle.pe_image.specs.declared.refusal.ImageErr.{ImageErr}
 use Rattle.pe_image.specs.declared.refusal.ImageErr.TheVariants as refusals
 use Rattle.pe_image.specs.declared.table.SectionHeader.{SectionHeader}
@@ -71,7 +71,7 @@ pub record HasHeaders (bytes : List ℕ) : Type 0 where
   pub table : sections_at bytes + 40 * section_count bytes ≤ length bytes
 
 -- a directory by its index; one that isn't counted is empty
-abbrev pub directory : List ℕ → ℕ → Directory
+abbrev pub directory : List ℕ → ℕ → DataDirectory
 directory bytes k =
     if nat_lt k (directory_count bytes)
     then record { rva = field 4 bytes (directories_at bytes + 8 * k); size = field 4 bytes (directories_at bytes + 8 * k + 4) }

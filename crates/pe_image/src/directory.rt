@@ -1,7 +1,7 @@
 /// A data directory of the optional header: where a table of the image lies (PE format, "Optional
 /// Header Data Directories"). One of size 0 stands for no table.
 #[derive(Clone, Copy, Debug, PartialEq, Eq)]
-pub struct Directory {
+pub struct DataDirectory {
     /// The table's address, relative to the image base.
     pub rva: u32,
     /// Its size in bytes.

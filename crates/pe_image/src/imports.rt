@@ -6,7 +6,7 @@ ghost use Rattle.pe_image.specs.Field.{field};
 ghost use Rattle.pe_image.specs.Image.{AreAscending, stored};
 ghost use Rattle.pe_image.specs.Imports as spec;
 
-use crate::directory::Directory;
+use crate::directory::DataDirectory;
 use crate::fields::{u32_at, u64_at};
 use crate::refusal::ImageErr;
 use crate::section::{SectionView, stored_from};
@@ -114,7 +114,7 @@ fn read_library<'a>(
     requires lookups { lookups < 2 ^ 32 }
     requires slots { slots < 2 ^ 32 }
     ensures { Gives (λ _. imports.new.items) result
-        (onto imports.old.items (spec.library spec.most sections.now (length imports.old.items) lookups slots)) }
+        (onto imports.old.items (spec.library spec.max_count sections.now (length imports.old.items) lookups slots)) }
 {
     for n in 0..MOST {
         let index = imports.len() as u64;
@@ -139,7 +139,7 @@ fn read_library<'a>(
 pub fn read_imports<'a>(
     alloc: Global,
     sections: &[SectionView<'a>],
-    directory: Directory,
+    directory: DataDirectory,
 ) -> Result<Vec<Import<'a>>, ImageErr>
     requires { AreAscending 0 sections.now }
     ensures { Gives (λ v. v.items) result (spec.imports_in sections.now directory) }

@@ -17,11 +17,8 @@ mod section;
 mod table;
 mod view;
 
-pub use directory::Directory;
+pub use directory::DataDirectory;
 pub use imports::Import;
 pub use refusal::ImageErr;
 pub use section::SectionView;
 pub use view::ImageView;
-
-#[cfg(test)]
-mod tests;

@@ -3,7 +3,7 @@
 ghost use Rattle.std.specs.Prelude.{◌≡◌, ◌<◌, OnOk};
 ghost use Rattle.pe_image.specs.Reading as spec;
 
-use crate::directory::Directory;
+use crate::directory::DataDirectory;
 use crate::fields::{u16_at, u32_at, u64_at};
 use crate::refusal::ImageErr;
 
@@ -116,7 +116,7 @@ pub fn entry_point(bytes: &[u8]) -> u32
 }
 
 /// The directory of an index; one that NumberOfRvaAndSizes doesn't count is empty.
-pub fn directory(bytes: &[u8], index: usize) -> Directory
+pub fn directory(bytes: &[u8], index: usize) -> DataDirectory
     requires headers { spec.HasHeaders bytes.now }
     requires known { index < 16 }
     ensures { result ≡ spec.directory bytes.now index }
@@ -124,11 +124,11 @@ pub fn directory(bytes: &[u8], index: usize) -> Directory
     let optional_at = optional_at(bytes);
     if index < u32_at(bytes, optional_at + 108) as usize {
         let at = optional_at + 112 + 8 * index;
-        Directory {
+        DataDirectory {
             rva: u32_at(bytes, at),
             size: u32_at(bytes, at + 4),
         }
     } else {
-        Directory { rva: 0, size: 0 }
+        DataDirectory { rva: 0, size: 0 }
     }
 }

@@ -5,7 +5,7 @@ ghost use Rattle.pe_image.specs.Image.{AreAscending, stored};
 ghost use Rattle.pe_image.specs.Imports.{imports, imports_of};
 ghost use Rattle.pe_image.specs.Reading.{IsImage, IsRefused};
 
-use crate::directory::Directory;
+use crate::directory::DataDirectory;
 use crate::imports::{Import, read_imports, stored};
 use crate::reading::{
     check_headers, directory, entry_point, image_base, image_end, image_size, section_count,
@@ -24,8 +24,8 @@ pub struct ImageView<'a> {
     entry: u32,
     size: u32,
     sections: Vec<SectionView<'a>>,
-    import_directory: Directory,
-    exceptions: Directory,
+    import_directory: DataDirectory,
+    exceptions: DataDirectory,
     imports: Vec<Import<'a>>,
 }
 
@@ -101,7 +101,7 @@ impl<'a> ImageView<'a> {
     }
 
     /// Where the import descriptors lie.
-    pub fn import_directory(&self) -> Directory
+    pub fn import_directory(&self) -> DataDirectory
         ensures { result ≡ self.now.imports }
     {
         self.import_directory
@@ -117,7 +117,7 @@ impl<'a> ImageView<'a> {
     }
 
     /// Where the function table lies.
-    pub fn exception_directory(&self) -> Directory
+    pub fn exception_directory(&self) -> DataDirectory
         ensures { result ≡ self.now.exceptions }
     {
         self.exceptions

@@ -6,7 +6,7 @@ use Rattle.std.specs.declared.alloc.AllocError.{AllocError}
 use Rattle.std.proofs.lemmas.Bool.{and_from, lt-ltb, le-leb}
 use Rattle.std.proofs.lemmas.List.{take_all}
 use Rattle.std.proofs.Math.Seq.{take-append_seam}
-use Rattle.pe_image.specs.Image.{Section, holds, section_or, section_at, stored_in}
+use Rattle.pe_image.specs.Image.{Section, stores_byte, section_or, section_at, stored_in}
 use Rattle.pe_image.specs.Imports.{Import, imports, or_none}
 use Rattle.pe_image.specs.Imports as importing
 use Rattle.pe_write.specs.ImportTables.{import_tables}
@@ -44,7 +44,7 @@ module _ (p : Program) (fits : IsProgram p) where
   stored_of_data = let e = raw_length (data_section p) in let h = fits.stored in let w = fits.whole in omega arith
 
   -- the byte at an address is stored in this section, and in none before it
-  inside : (rva : ℕ) (s : Section) → s.address ≤ rva → rva < s.address + length s.raw → holds rva s ≡ true
+  inside : (rva : ℕ) (s : Section) → s.address ≤ rva → rva < s.address + length s.raw → stores_byte rva s ≡ true
   inside rva s le lt = and_from (leb s.address rva) (ltb rva (s.address + length s.raw)) (le-leb s.address rva le) (lt-ltb rva (s.address + length s.raw) lt)
 
   past_code : (rva : ℕ) → r ≤ rva → section_at rva (sections_of p) ≡ section_at rva (tables ∷ others)

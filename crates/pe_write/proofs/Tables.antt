@@ -9,7 +9,7 @@ use Rattle.pe_write.specs.declared.service.Service.TheVariants.{RaiseException, 
 use Rattle.pe_image.specs.Answer.{onto}
 use Rattle.pe_image.specs.Field.{field}
 use Rattle.pe_image.specs.Image.{Section, section_at, stored_in, stored, whole}
-use Rattle.pe_image.specs.Imports.{Import, hinted, name_at, with_slot, unless_ordinal, import_at, library, is_zero, lookups, entries_of, libraries, most, imports_in}
+use Rattle.pe_image.specs.Imports.{Import, hinted, name_at, with_slot, unless_ordinal, import_at, library, is_zero, lookups, entries_of, libraries, max_count, imports_in}
 use Rattle.pe_write.specs.ImportTables.{name_of, services, hint_name, descriptor, import_tables, imported}
 use Rattle.pe_write.specs.Written.{u32, u64, zeros}
 use Rattle.pe_image.proofs.Imported.{import_passed, entries_end, library_passed, libraries_end, same_entries, with_directory}
@@ -117,9 +117,9 @@ module _ (ss : List Section) (r : ℕ) (low : r + 222 < 2 ^ 32) (here : (k : ℕ
       ∙ ap (option_and_then (with_slot slot (name_of s))) (at_place slot j 8 slot_at lj ∙ is.slot) in
       sym (import_passed ss xs index look slot left rest (entry r k) (record { name = name_of s; slot = slot }) e bytes some found)
 
-  all : (look slot : ℕ) → look ≡ r + 40 → slot ≡ r + 88 → onto [] (library most ss 0 look slot) ≡ Ok (imported slot services)
+  all : (look slot : ℕ) → look ≡ r + 40 → slot ≡ r + 88 → onto [] (library max_count ss 0 look slot) ≡ Ok (imported slot services)
   all look slot e1 e2 =
-      one 40 88 136 RaiseException (first r low) [] most 4294967295 0 look slot refl e1 e2 (omega arith) (omega arith) (omega arith) (omega arith)
+      one 40 88 136 RaiseException (first r low) [] max_count 4294967295 0 look slot refl e1 e2 (omega arith) (omega arith) (omega arith) (omega arith)
       ∙ one 48 96 154 CSpecificHandler (second r low) (take 1 (imported slot services)) 4294967295 4294967294 1 (look + 8) (slot + 8) refl (omega arith) (omega arith) (omega arith) (omega arith) (omega arith) (omega arith)
       ∙ one 56 104 178 LocalUnwind (third r low) (take 2 (imported slot services)) 4294967294 4294967293 2 (look + 8 + 8) (slot + 8 + 8) refl (omega arith) (omega arith) (omega arith) (omega arith) (omega arith) (omega arith)
       ∙ one 64 112 194 Protect (fourth r low) (take 3 (imported slot services)) 4294967293 4294967292 3 (look + 8 + 8 + 8) (slot + 8 + 8 + 8) refl (omega arith) (omega arith) (omega arith) (omega arith) (omega arith) (omega arith)
@@ -133,6 +133,6 @@ module _ (ss : List Section) (r : ℕ) (low : r + 222 < 2 ^ 32) (here : (k : ℕ
       let entries : onto [] (entries_of ss 0 d) ≡ Ok (imported (r + 88) services) = ap (onto []) (sym (same_entries ss 0 (r + 40) (r + 88) d look (sym (slots r low)))) ∙ all (r + 40) (r + 88) refl refl in
       let some : field 4 d 0 ≢ 0 = let h = looks r low in omega arith in
       with_directory ss (record { rva = r; size = 40 }) (Ok (imported (r + 88) services)) (omega arith)
-      (sym (onto_none (libraries most ss 0 r))
-      ∙ sym (library_passed ss [] 0 r most 4294967295 d (imported (r + 88) services) refl (at_place r 0 20 (omega arith) (omega arith) ∙ (descriptors r low).0) (some_field d some) refl entries)
+      (sym (onto_none (libraries max_count ss 0 r))
+      ∙ sym (library_passed ss [] 0 r max_count 4294967295 d (imported (r + 88) services) refl (at_place r 0 20 (omega arith) (omega arith) ∙ (descriptors r low).0) (some_field d some) refl entries)
       ∙ libraries_end ss (imported (r + 88) services) 5 (r + 20) 4294967295 4294967294 (zeros_there r low) refl (at_place (r + 20) 20 20 refl (omega arith) ∙ (descriptors r low).1) (is_last r low))

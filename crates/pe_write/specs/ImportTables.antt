@@ -1,6 +1,7 @@
 -- The tables of `.rdata` by which a written image imports the services of its host (PE format, "The .idata Section"): one library, whose names have no hints. All addresses are relative to the image base.
 use Rattle.std.specs.Prelude.{ℕ, ◌+◌, ◌%◌, List, [], ◌∷◌, ◌++◌, length, codes}
 use Rattle.std.specs.List.{flat_map}
+use Rattle.host_layout.specs.declared.name.TheConstants as names
 use Rattle.pe_write.specs.declared.service.Service.{Service}
 use Rattle.pe_write.specs.declared.service.Service.TheVariants.{RaiseException, CSpecificHandler, LocalUnwind, Protect, Put}
 use Rattle.pe_image.specs.Imports.{Import}
@@ -12,11 +13,11 @@ abbrev pub library : List ℕ
 library = codes "sehhost.dll"
 
 abbrev pub name_of : Service → List ℕ
-name_of RaiseException = codes "RaiseException"
-name_of CSpecificHandler = codes "__C_specific_handler"
-name_of LocalUnwind = codes "_local_unwind"
-name_of Protect = codes "protect"
-name_of Put = codes "put"
+name_of RaiseException = names.RAISE_EXCEPTION.now
+name_of CSpecificHandler = names.C_SPECIFIC_HANDLER.now
+name_of LocalUnwind = names.LOCAL_UNWIND.now
+name_of Protect = names.PROTECT.now
+name_of Put = names.PUT.now
 
 -- in the order of their slots
 abbrev pub services : List Service

@@ -1,6 +1,6 @@
 -- The image of a program, as it is written: five sections, the imports of its host's services, and the table of its functions.
 use Rattle.std.specs.Prelude.{◌≡◌, ℕ, ◌+◌, ◌%◌, ◌^◌, ◌<◌, ◌≤◌, List, [], ◌∷◌, length}
-use Rattle.pe_image.specs.declared.directory.Directory.{Directory}
+use Rattle.pe_image.specs.declared.directory.DataDirectory.{DataDirectory}
 use Rattle.pe_write.specs.declared.sizes.Sizes.{Sizes}
 use Rattle.pe_image.specs.Image.{Section, Image}
 use Rattle.pe_image.specs.Imports.{Import}
@@ -62,15 +62,15 @@ pdata_section p = record { name = 46 ∷ 112 ∷ 100 ∷ 97 ∷ 116 ∷ 97 ∷ 0
 -- ---- its directories
 
 -- the descriptors
-abbrev pub import_directory : Program → Directory
+abbrev pub import_directory : Program → DataDirectory
 import_directory p = record { rva = rdata_at (sizes_of p); size = 40 }
 
 -- the function table
-abbrev pub exception_directory : Program → Directory
+abbrev pub exception_directory : Program → DataDirectory
 exception_directory p = record { rva = pdata_at (sizes_of p); size = length p.pdata }
 
 -- the slots
-abbrev pub address_directory : Program → Directory
+abbrev pub address_directory : Program → DataDirectory
 address_directory p = record { rva = slots_at (rdata_at (sizes_of p)); size = 48 }
 
 -- ---- the image

@@ -2,7 +2,8 @@
 use Rattle.std.specs.Prelude.{◌≡◌, ℕ, ◌+◌, ◌-◌, ◌*◌, ◌/◌, ◌^◌, ◌<◌, ◌≤◌, bit_and, Bool, true, false, not, ◌==◌, List, [], ◌∷◌, ◌++◌, length, take, replicate, sum_by, filter, Ok}
 use Rattle.std.specs.List.{flat_map, AllByRecursion}
 use Rattle.byteorder.specs.Endian.{little_bytes}
-use Rattle.pe_image.specs.declared.directory.Directory.{Directory}
+pub use Rattle.host_layout.specs.Ranges.{pages}
+use Rattle.pe_image.specs.declared.directory.DataDirectory.{DataDirectory}
 use Rattle.pe_image.specs.Image.{Section, Image}
 use Rattle.pe_image.specs.Imports as importing
 
@@ -19,16 +20,13 @@ pub record SectionParts : Type 0 where
 pub record ImageParts : Type 0 where
   pub entry : ℕ
   pub sections : List SectionParts
-  pub imports : Directory
-  pub exceptions : Directory
-  pub import_addresses : Directory
+  pub imports : DataDirectory
+  pub exceptions : DataDirectory
+  pub import_addresses : DataDirectory
 
 -- ---- where it is laid
 
--- n rounded up to whole pages, and to whole blocks of a file
-abbrev pub pages : ℕ → ℕ
-pages n = (n + 4095) / 4096 * 4096
-
+-- n rounded up to whole blocks of a file
 abbrev pub blocks : ℕ → ℕ
 blocks n = (n + 511) / 512 * 512
 
@@ -122,7 +120,7 @@ windows_fields image =
     ++ zeros 38
     ++ u32 16  -- NumberOfRvaAndSizes
 
-unfoldable pub directory_entry : Directory → List ℕ
+unfoldable pub directory_entry : DataDirectory → List ℕ
 directory_entry d = u32 d.rva ++ u32 d.size
 
 -- directories 1, 3 and 12 of 16
@@ -195,7 +193,7 @@ pub record IsSection (s : SectionParts) : Type 0 where
   pub flags : s.flags < 2 ^ 32
   pub stored : length s.bytes ≤ s.size
 
-abbrev pub IsDirectory : Directory → Type 0
+abbrev pub IsDirectory : DataDirectory → Type 0
 IsDirectory d = (d.rva < 2 ^ 32) × (d.size < 2 ^ 32)
 
 -- the section table fits the headers, all addresses fit 32 bits, and the imports can be read

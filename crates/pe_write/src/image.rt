@@ -11,7 +11,7 @@ use crate::import_tables::{TABLES_SIZE, import_tables};
 use crate::parts::ImageSection;
 use crate::sizes::Sizes;
 use crate::writing::{SectionedImage, write_sections};
-use pe_image::Directory;
+use pe_image::DataDirectory;
 use std::alloc::{AllocError, Global};
 use std::marker::Model;
 
@@ -154,15 +154,15 @@ impl Image {
         SectionedImage::new(
             sizes.text_at() as u32 + self.entry,
             sections,
-            Directory {
+            DataDirectory {
                 rva: rdata,
                 size: 40,
             },
-            Directory {
+            DataDirectory {
                 rva: sizes.pdata_at() as u32,
                 size: sizes.pdata_size,
             },
-            Directory {
+            DataDirectory {
                 rva: rdata + 88,
                 size: 48,
             },

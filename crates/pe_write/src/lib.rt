@@ -18,6 +18,3 @@ mod writing;
 pub use image::{Image, write};
 pub use service::Service;
 pub use sizes::Sizes;
-
-#[cfg(test)]
-mod tests;

@@ -3,6 +3,8 @@
 ghost use Rattle.std.specs.Prelude.{◌≡◌, ◌<◌, ◌+◌};
 ghost use Rattle.pe_write.specs.ImportTables as spec;
 
+use host_layout::name;
+
 /// A service that a written image imports from its host.
 #[derive(Clone, Copy, Debug, PartialEq, Eq)]
 pub enum Service {
@@ -33,11 +35,11 @@ impl Service {
         ensures { result.now ≡ spec.name_of self.now }
     {
         match self {
-            Service::RaiseException => b"RaiseException",
-            Service::CSpecificHandler => b"__C_specific_handler",
-            Service::LocalUnwind => b"_local_unwind",
-            Service::Protect => b"protect",
-            Service::Put => b"put",
+            Service::RaiseException => name::RAISE_EXCEPTION,
+            Service::CSpecificHandler => name::C_SPECIFIC_HANDLER,
+            Service::LocalUnwind => name::LOCAL_UNWIND,
+            Service::Protect => name::PROTECT,
+            Service::Put => name::PUT,
         }
     }
 

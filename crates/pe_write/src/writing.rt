@@ -6,7 +6,7 @@ ghost use Rattle.pe_write.specs.Written as spec;
 use crate::layout::{code_base, code_size, data_size, end_of, put_data, put_headers};
 use crate::parts::ImageSection;
 use crate::put::{put_u16, put_u32, put_u64, put_zeros};
-use pe_image::Directory;
+use pe_image::DataDirectory;
 use std::alloc::{AllocError, Global};
 use std::marker::Model;
 
@@ -18,9 +18,9 @@ const IMAGE_BASE: u64 = 0x1_4000_0000;
 pub struct SectionedImage<'a> {
     entry: u32,
     sections: Vec<ImageSection<'a>>,
-    imports: Directory,
-    exceptions: Directory,
-    import_addresses: Directory,
+    imports: DataDirectory,
+    exceptions: DataDirectory,
+    import_addresses: DataDirectory,
 }
 
 impl<'a> Model for SectionedImage<'a> {
@@ -53,9 +53,9 @@ impl<'a> SectionedImage<'a> {
     pub fn new(
         entry: u32,
         sections: Vec<ImageSection<'a>>,
-        imports: Directory,
-        exceptions: Directory,
-        import_addresses: Directory,
+        imports: DataDirectory,
+        exceptions: DataDirectory,
+        import_addresses: DataDirectory,
     ) -> SectionedImage<'a>
         requires { spec.CanBeWritten (record {
           entry = entry;
@@ -154,7 +154,7 @@ fn put_dos_header(out: &mut Vec<u8>) -> Result<(), AllocError>
 }
 
 #[tactic(auto, unfolding(crate::specs::Written::directory_entry), using(crate::proofs::Pieces::pieces))]
-fn put_directory(out: &mut Vec<u8>, directory: Directory) -> Result<(), AllocError>
+fn put_directory(out: &mut Vec<u8>, directory: DataDirectory) -> Result<(), AllocError>
     ensures { OnOk result (out.new.items ≡ out.old.items ++ spec.directory_entry directory) }
 {
     put_u32(out, directory.rva)?;

@@ -4,6 +4,8 @@
 #[cfg(test)]
 mod compiles;
 #[cfg(test)]
+mod dispatches;
+#[cfg(test)]
 mod image;
 #[cfg(test)]
 mod linked;

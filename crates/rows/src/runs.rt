@@ -21,7 +21,7 @@ pub fn answers(
 }
 
 /// The same of a line of words.
-fn answers_with(
+pub fn answers_with(
     rt: &impl Abort,
     alloc: Global,
     line: &str,

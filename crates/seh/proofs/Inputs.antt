@@ -1,5 +1,5 @@
 -- What comes of a text comes of the input that it was.
-use Rattle.std.proofs.Common.{◌<◌, ℕ, min, List, length, take, drop, Option, Result, Ok, Err, sym, ap, arith}
+use Rattle.std.proofs.Common.{◌≡◌, ◌+◌, ◌<◌, ◌≤◌, ℕ, min, List, [], length, append-nil, ◌∙◌, take, drop, Option, Result, Ok, Err, sym, ap, arith}
 use Rattle.std.proofs.lemmas.List.{take-append-drop, length-take-le}
 use Rattle.seh_io.specs.Streams.{Grew, last_count}
 use Rattle.seh_io.specs.Writer.{TookPart}
@@ -7,15 +7,23 @@ use Rattle.seh.specs.declared.outcome.Outcome.{Outcome}
 use Rattle.seh.specs.declared.refusal.Refusal.{Refusal}
 use Rattle.seh.specs.declared.refusal.Refusal.TheVariants as refusals
 use Rattle.seh.specs.Streams.{Stream}
-use Rattle.seh.specs.Answers.{text_limit, IsInput, IsCompileAnswer, IsInputAnswer}
+use Rattle.seh.specs.Answers.{text_limit, IsInput, LostFew, IsCompileAnswer, IsInputAnswer}
 
-pub from_text : (text : List ℕ) (source source' out out' : Stream) (answer : Result Outcome Refusal) → IsInput source source' text → IsCompileAnswer text out out' answer → IsInputAnswer text_limit IsCompileAnswer source source' out out' answer
+-- what was read whole was lost from the front
+lost_all : (limit : ℕ) (source source' : Stream) (bytes : List ℕ) → IsInput limit source source' bytes → LostFew limit source source'
+lost_all limit source source' bytes input = (
+  bytes,
+  (let w = input.within in omega arith),
+  λ held known. ([], sym (input.all held known) ∙ sym (append-nil bytes), input.emptied held known),
+)
+
+pub from_text : (text : List ℕ) (source source' out out' : Stream) (answer : Result Outcome Refusal) → IsInput text_limit source source' text → IsCompileAnswer text out out' answer → IsInputAnswer text_limit IsCompileAnswer source source' out out' answer
 from_text text source source' out out' (Ok done) input h = record { bytes = text; input = input; comes = h }
 from_text text source source' out out' (Err (refusals.Lex e)) input h = record { bytes = text; input = input; comes = h }
 from_text text source source' out out' (Err (refusals.Parse e)) input h = record { bytes = text; input = input; comes = h }
-from_text text source source' out out' (Err refusals.Later) input h = record { bytes = text; input = input; comes = h }
+from_text text source source' out out' (Err refusals.Unsupported) input h = record { bytes = text; input = input; comes = h }
 from_text text source source' out out' (Err refusals.WriteFault) input h = record { bytes = text; input = input; comes = h }
-from_text text source source' out out' (Err refusals.NoMemory) input h = h
+from_text text source source' out out' (Err refusals.NoMemory) input h = (lost_all text_limit source source' text input, h)
 from_text text source source' out out' (Err r) input h = absurd h
 
 -- a front of a text was taken

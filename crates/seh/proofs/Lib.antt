@@ -1,3 +1,4 @@
 pub mod Shown
 pub mod Inputs
 pub mod Texts
+pub mod Headline

@@ -1,13 +1,12 @@
 -- What the host that was loaded shows is what the image shows.
-use Rattle.std.proofs.Common.{◌≡◌, ℕ, List, [], sym, ap, ◌∙◌}
+use Rattle.std.proofs.Common.{◌≡◌, ℕ, List, sym, ap, ◌∙◌}
 use Rattle.pe_image.specs.Image.{Image}
 use Rattle.pe_image.specs.Reading.{IsImage}
-use Rattle.host_model.specs.Loading.{start}
-use Rattle.host_model.specs.HostStep.{Host, host}
-use Rattle.host_model.specs.Machine.{run, machine, machine_of}
+use Rattle.host_model.specs.Machine.{machine, machine_of}
+use Rattle.seh_host.specs.Running.{Running, first_running, run_of}
 use Rattle.command_line.specs.declared.command.RunOptions.{RunOptions}
 use Rattle.seh.specs.Answers.{shown_by}
 
-pub shown_is : (options : RunOptions) (bytes : List ℕ) (image : Image) (h : Host) → IsImage bytes image → h ≡ host (start image options.argument) → run options.turns h [] ≡ shown_by options bytes
+pub shown_is : (options : RunOptions) (bytes : List ℕ) (image : Image) (r : Running) → IsImage bytes image → r ≡ first_running image options.argument → run_of options.turns r ≡ shown_by options bytes
 unfolding machine
-shown_is options bytes image h is e = ap (λ k. run options.turns k []) e ∙ sym (ap (λ r. machine_of r options.argument options.turns) is)
+shown_is options bytes image r is e = ap (run_of options.turns) e ∙ sym (ap (λ read. machine_of read options.argument options.turns) is)

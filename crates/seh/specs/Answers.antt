@@ -1,8 +1,9 @@
 -- Which answer a call of the program has, and by what cause.
-use Rattle.std.specs.Prelude.{◌≡◌, ◌⊎◌, ℕ, ◌<◌, List, [], length, Some, None, Result, Ok, Err}
+use Rattle.std.specs.Prelude.{◌≡◌, ◌⊎◌, ℕ, ◌+◌, ◌<◌, ◌≤◌, List, [], length, Some, None, Result, Ok, Err}
 use Rattle.std.specs.Option.{ForSome}
 use Rattle.seh_num.specs.declared.end.RunEnd.{RunEnd}
 use Rattle.seh_io.specs.Streams.{Rose, Grew}
+use Rattle.seh_io.specs.Reading.{LostAtMost}
 use Rattle.seh_io.specs.Text.{text}
 use Rattle.seh_io.specs.Writer.{TookPart}
 use Rattle.pe_image.specs.Image.{Image}
@@ -17,10 +18,10 @@ use Rattle.c_lex.specs.declared.lexing.LexErr.{LexErr}
 use Rattle.c_lex.specs.declared.token.Token.{Token}
 use Rattle.c_lex.specs.declared.word.Fault.{Fault}
 use Rattle.c_lex.specs.Answers.{refused}
-use Rattle.c_lex.specs.Text.{IsTokens, IsFault}
+use Rattle.c_lex.specs.Text.{IsTokens, IsLexicalFault}
 use Rattle.c_syntax.specs.Limits.{Within}
-use Rattle.c_syntax.specs.Program.{External}
-use Rattle.c_syntax.specs.Programs.{Reads}
+use Rattle.c_syntax.specs.Program.{ExternalDeclaration}
+use Rattle.c_syntax.specs.Programs.{ParsesAs}
 use Rattle.c_parse_expr.specs.declared.refusal.ParseErr.{ParseErr}
 use Rattle.c_parse_expr.specs.declared.refusal.ParseErr.TheVariants as parses
 use Rattle.c_parse_expr.specs.Refusals.{Refuses}
@@ -47,8 +48,10 @@ text_limit = 1048576
 abbrev pub image_limit : ℕ
 image_limit = 268435456
 
--- these are the bytes that the source held; where it tells what it holds, they are that, and nothing is left
-pub record IsInput (source source' : Stream) (bytes : List ℕ) : Type 0 where
+-- these are the bytes that the source held, at most so many; where it is known what it held, they are
+-- that, and nothing is left
+pub record IsInput (limit : ℕ) (source source' : Stream) (bytes : List ℕ) : Type 0 where
+  pub within : length bytes ≤ limit
   pub all : ForSome source.bytes (λ held. bytes ≡ held)
   pub emptied : ForSome source.bytes (λ _. source'.bytes ≡ Some [])
 
@@ -102,13 +105,13 @@ IsShowAnswer bytes out out' answer = ⊥
 -- ---- compiling
 
 -- the text is that of a program of C within the limits
-pub record IsAccepted (text : List ℕ) (xs : List External) : Type 0 where
-  pub reads : Reads text xs
+pub record IsAccepted (text : List ℕ) (xs : List ExternalDeclaration) : Type 0 where
+  pub reads : ParsesAs text xs
   pub within : Within text xs
 
 -- the text is that of a program that is compiled, and this is the program as one of the first part
 pub record IsCompilable (text : List ℕ) (program : List Statement) : Type 0 where
-  pub whole : List External
+  pub whole : List ExternalDeclaration
   pub accepted : IsAccepted text whole
   pub compilable : first text whole ≡ Some program
 
@@ -120,7 +123,7 @@ pub record IsCompiled (text image : List ℕ) : Type 0 where
 
 -- the first text that is no token, white space or comment is this fault
 abbrev pub IsNoText : List ℕ → LexErr → Type 0
-IsNoText text e = (f : Fault) × (at : ℕ) × (e ≡ refused f at) × IsFault text f at
+IsNoText text e = (f : Fault) × (at : ℕ) × (e ≡ refused f at) × IsLexicalFault text f at
 
 -- the text's tokens have their first fault as the refusal tells: there no program of C within the limits goes on, by the limit that it names
 pub record HasFault (text : List ℕ) (e : ParseErr) : Type 0 where
@@ -135,16 +138,16 @@ IsNoProgram text (parses.TooMany at what) = HasFault text (parses.TooMany at wha
 IsNoProgram text parses.Memory = ⊥
 
 -- the text is that of a program of C within the limits which isn't compiled
-pub record IsLater (text : List ℕ) : Type 0 where
-  pub whole : List External
+pub record IsUnsupported (text : List ℕ) : Type 0 where
+  pub whole : List ExternalDeclaration
   pub accepted : IsAccepted text whole
-  pub later : first text whole ≡ None
+  pub unsupported : first text whole ≡ None
 
 -- why a text isn't compiled; want of memory says nothing
 abbrev pub IsTextRefusal : List ℕ → Refusal → Type 0
 IsTextRefusal text (refusals.Lex e) = IsNoText text e
 IsTextRefusal text (refusals.Parse e) = IsNoProgram text e
-IsTextRefusal text refusals.Later = IsLater text
+IsTextRefusal text refusals.Unsupported = IsUnsupported text
 IsTextRefusal text refusals.NoMemory = Unit {0}
 IsTextRefusal text r = ⊥
 
@@ -160,7 +163,7 @@ abbrev pub IsCompileAnswer : Judged
 IsCompileAnswer text out out' (Ok Compiled) = (image : List ℕ) × IsCompiled text image × Grew out.bytes image out'.bytes
 IsCompileAnswer text out out' (Err (refusals.Lex e)) = IsNoText text e × Quiet out out'
 IsCompileAnswer text out out' (Err (refusals.Parse e)) = IsNoProgram text e × Quiet out out'
-IsCompileAnswer text out out' (Err refusals.Later) = IsLater text × Quiet out out'
+IsCompileAnswer text out out' (Err refusals.Unsupported) = IsUnsupported text × Quiet out out'
 IsCompileAnswer text out out' (Err refusals.WriteFault) = (image : List ℕ) × IsCompiled text image × Rose out.faults out'.faults × ((count : ℕ) × TookPart out.bytes image out'.bytes count)
 IsCompileAnswer text out out' (Err refusals.NoMemory) = Quiet out out'
 IsCompileAnswer text out out' answer = ⊥
@@ -168,18 +171,28 @@ IsCompileAnswer text out out' answer = ⊥
 -- ---- the input
 
 -- the source was read to its end, and this comes of what it held
-pub record FromInput (judged : Judged) (source source' out out' : Stream) (answer : Result Outcome Refusal) : Type 0 where
+pub record FromInput (limit : ℕ) (judged : Judged) (source source' out out' : Stream) (answer : Result Outcome Refusal) : Type 0 where
   pub bytes : List ℕ
-  pub input : IsInput source source' bytes
+  pub input : IsInput limit source source' bytes
   pub comes : judged bytes out out' answer
+
+-- the source holds more than the limit
+abbrev pub IsTooLong : ℕ → Stream → Type 0
+IsTooLong limit source = ForSome source.bytes (λ held. limit < length held)
+
+-- the source has lost at most the limit and one byte, from the front
+abbrev pub LostFew : ℕ → Stream → Stream → Type 0
+LostFew limit source source' = LostAtMost (limit + 1) source.bytes source'.bytes
 
 -- a command that reads its input has this answer by its cause, from the source and the sink before and after
 abbrev pub IsInputAnswer : ℕ → Judged → Stream → Stream → Stream → Stream → Result Outcome Refusal → Type 0
 IsInputAnswer limit judged source source' out out' (Err refusals.Usage) = ⊥
-IsInputAnswer limit judged source source' out out' (Err refusals.ReadFault) = Rose source.faults source'.faults × Quiet out out'
-IsInputAnswer limit judged source source' out out' (Err (refusals.TooLong most)) = (most ≡ limit) × ForSome source.bytes (λ held. limit < length held) × Quiet out out'
-IsInputAnswer limit judged source source' out out' (Err refusals.NoMemory) = Quiet out out'
-IsInputAnswer limit judged source source' out out' answer = FromInput judged source source' out out' answer
+IsInputAnswer limit judged source source' out out' (Err refusals.ReadFault) =
+    Rose source.faults source'.faults × LostFew limit source source' × Quiet out out'
+IsInputAnswer limit judged source source' out out' (Err (refusals.TooLong most)) =
+    (most ≡ limit) × IsTooLong limit source × LostFew limit source source' × Quiet out out'
+IsInputAnswer limit judged source source' out out' (Err refusals.NoMemory) = LostFew limit source source' × Quiet out out'
+IsInputAnswer limit judged source source' out out' answer = FromInput limit judged source source' out out' answer
 
 -- ---- the words
 

@@ -3,6 +3,7 @@ use Rattle.std.specs.Prelude.{◌≡◌, ◌⊎◌, ℕ, List, ◌++◌, codes, 
 use Rattle.std.specs.Fmt.{decimal}
 use Rattle.seh_io.specs.Streams.{Rose, Grew}
 use Rattle.seh_io.specs.Text.{ended}
+use Rattle.seh_io.specs.Writer.{TookPart}
 use Rattle.c_lex.specs.declared.lexing.LexErr.{LexErr}
 use Rattle.c_lex.specs.declared.lexing.LexErr.TheVariants as lexes
 use Rattle.c_parse_expr.specs.declared.refusal.Count.{Count}
@@ -85,7 +86,7 @@ refusal_text refusals.ReadFault = codes "read fault"
 refusal_text (refusals.TooLong limit) = named (codes "too long ") limit
 refusal_text (refusals.Lex e) = lex_text e
 refusal_text (refusals.Parse e) = parse_text e
-refusal_text refusals.Later = codes "refused Later 0"
+refusal_text refusals.Unsupported = codes "refused Later 0"
 refusal_text (refusals.Image e) = image_text e
 refusal_text (refusals.Load e) = load_text e
 refusal_text refusals.WriteFault = codes "write fault"
@@ -99,7 +100,7 @@ refusal_status (refusals.Lex lexes.Memory) = statuses.NoMemory
 refusal_status (refusals.Lex e) = statuses.Refused
 refusal_status (refusals.Parse parses.Memory) = statuses.NoMemory
 refusal_status (refusals.Parse e) = statuses.Refused
-refusal_status refusals.Later = statuses.Refused
+refusal_status refusals.Unsupported = statuses.Refused
 refusal_status (refusals.Image images.Memory) = statuses.NoMemory
 refusal_status (refusals.Image e) = statuses.Image
 refusal_status (refusals.Load loads.Memory) = statuses.NoMemory
@@ -107,9 +108,10 @@ refusal_status (refusals.Load e) = statuses.Image
 refusal_status refusals.WriteFault = statuses.WriteFault
 refusal_status refusals.NoMemory = statuses.NoMemory
 
--- what was carried out is told by the status alone; a refusal by its line on `err` too, and where that line can't be written the status is that of a write fault
+-- what was carried out is told by the status alone; a refusal by its line on `err` too, and where that line can't be written the status is that of a write fault, and a part of the line from the front was taken
 abbrev pub Reported : Result Outcome Refusal → Stream → Stream → Status → Type 0
 Reported (Ok done) err err' status = (status ≡ outcome_status done) × (err' ≡ err)
 Reported (Err r) err err' status =
     ((status ≡ refusal_status r) × Grew err.bytes (ended (refusal_text r)) err'.bytes)
-    ⊎ ((status ≡ statuses.WriteFault) × Rose err.faults err'.faults)
+    ⊎ ((status ≡ statuses.WriteFault) × Rose err.faults err'.faults
+    × ((count : ℕ) × TookPart err.bytes (ended (refusal_text r)) err'.bytes count))

@@ -47,9 +47,9 @@ fn read_text(alloc: Global, text: &[u8]) -> Result<Checked, Refusal>
         Ok(whole) => whole,
         Err(error) => return Err(parse_refusal(error)),
     };
-    match first_of(alloc, text, &whole.externals) {
+    match first_of(alloc, text, &whole.external_declarations) {
         Ok(checked) => Ok(checked),
-        Err(FirstErr::Later) => Err(Refusal::Later),
+        Err(FirstErr::Unsupported) => Err(Refusal::Unsupported),
         Err(FirstErr::Memory) => Err(Refusal::NoMemory),
     }
 }

@@ -3,6 +3,7 @@
 
 pub mod compile;
 pub mod exec;
+pub mod laws;
 pub mod outcome;
 pub mod refusal;
 pub mod show;

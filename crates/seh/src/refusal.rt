@@ -27,7 +27,7 @@ pub enum Refusal {
     /// Its tokens are no program of C within the limits.
     Parse(ParseErr),
     /// The program isn't of the part of C that is compiled.
-    Later,
+    Unsupported,
     /// The bytes are no image.
     Image(ImageErr),
     /// The image can't be loaded, or its function table can't be read.
@@ -51,7 +51,7 @@ impl Refusal {
             | Refusal::Parse(ParseErr::Memory)
             | Refusal::Image(ImageErr::Memory)
             | Refusal::Load(LoadErr::Memory) => Status::NoMemory,
-            Refusal::Lex(_) | Refusal::Parse(_) | Refusal::Later => Status::Refused,
+            Refusal::Lex(_) | Refusal::Parse(_) | Refusal::Unsupported => Status::Refused,
             Refusal::Image(_) | Refusal::Load(_) => Status::Image,
             Refusal::WriteFault => Status::WriteFault,
             Refusal::NoMemory => Status::NoMemory,
@@ -217,7 +217,7 @@ fn refusal_text(refusal: &Refusal) -> Line
         }
         Refusal::Lex(error) => lex_text(error),
         Refusal::Parse(error) => parse_text(error),
-        Refusal::Later => plain(b"refused Later 0"),
+        Refusal::Unsupported => plain(b"refused Later 0"),
         Refusal::Image(error) => image_text(error),
         Refusal::Load(error) => load_text(error),
         Refusal::WriteFault => plain(b"write fault"),

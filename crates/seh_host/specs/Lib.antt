@@ -1,3 +1,7 @@
 pub mod Mapping
 pub mod Hosts
+pub mod Running
+pub mod Placed
 pub mod Turns
+pub mod Outcomes
+pub mod Writing

@@ -1,15 +1,25 @@
-use pe_image::ImageView;
+ghost use Rattle.std.specs.Prelude.{◌≡◌, ◌-◌, ◌<◌, ◌^◌, length};
+ghost use Rattle.eh_tables.specs.Tables.{IsWhole, entries_of};
+ghost use Rattle.host_model.specs.Funclets as spec;
+
+use eh_tables::Tables;
+use host_model::funclet::Funclet;
 use seh_num::end::RunEnd;
 use x64_machine::cpu::Cpu;
-use x64_memory::map_space::MapSpace;
+use x64_memory::page_map::PageMap;
 
-/// An image that is run: its registers and memory, and how its run ended, once it has.
+/// An image that is run: its registers and memory, and how its run ended, once it has; with its
+/// function table, which is read whole, and its funclets.
 #[derive(Drop)]
 pub struct Host<'image, 'bytes> {
     pub(crate) cpu: Cpu,
-    pub(crate) space: MapSpace,
+    pub(crate) space: PageMap,
     pub(crate) end: Option<RunEnd>,
-    pub(crate) image: &'image ImageView<'bytes>,
+    pub(crate) tables: Tables<'image, 'bytes>,
+    pub(crate) funclets: Vec<Funclet>,
+    ghost whole: { IsWhole tables },
+    ghost few: { length funclets.items < 2 ^ 32 - 1 },
+    ghost listed: { funclets.items ≡ spec.funclets (entries_of tables) },
 }
 
 /// Whether a turn was made.

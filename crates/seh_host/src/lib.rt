@@ -1,13 +1,17 @@
 //! The host: it loads an image, and runs it turn by turn.
 #![tactic(auto)]
 
+pub mod advancing;
+pub mod answering;
 mod binding;
+pub mod dispatching;
+pub mod funclets;
 pub mod host;
 pub mod loading;
 pub mod mapping;
+pub mod outcome;
 pub mod run;
-#[cfg(test)]
-mod tests;
+pub mod serving;
 
 pub use eh_tables::TableErr;
 pub use host_model::refusal::LoadErr;

@@ -3,12 +3,13 @@
 ghost use Rattle.std.specs.Prelude.{◌≡◌, true, None, IfOk, IfErr};
 ghost use Rattle.host_model.specs.Loading as model;
 ghost use Rattle.host_model.specs.Loading.{first_cpu, has_place};
-ghost use Rattle.host_model.specs.HostStep.{host};
-ghost use Rattle.x64_memory.specs.MapSpaces.{memory_of};
-ghost use Rattle.seh_host.specs.Hosts.{host_of, IsLoadRefusal};
+ghost use Rattle.x64_memory.specs.PageMaps.{memory_of};
+ghost use Rattle.seh_host.specs.Hosts.{IsLoadRefusal};
+ghost use Rattle.seh_host.specs.Running.{running_of, first_running, image_of};
 
 use crate::LoadErr;
 use crate::binding::{bind_all, first_unknown};
+use crate::funclets::funclets_in;
 use crate::host::Host;
 use crate::mapping::{has_entry, has_place, regions};
 use eh_tables::Tables;
@@ -17,7 +18,7 @@ use seh_num::extension::wrap;
 use seh_num::width::Width;
 use std::alloc::{AllocError, Global};
 use x64_machine::cpu::{Cpu, Flags};
-use x64_memory::map_space::MapSpace;
+use x64_memory::page_map::PageMap;
 
 /// The registers that a run starts with.
 fn first_cpu(entry: u64, arg: i64) -> Cpu
@@ -38,14 +39,14 @@ fn first_cpu(entry: u64, arg: i64) -> Cpu
     }
 }
 
-/// Memory in which an image stands with its imports bound, with the stack and the arena.
-fn mapped(alloc: Global, image: &ImageView<'_>) -> Result<MapSpace, AllocError>
+/// Memory in which an image is placed with its imports bound, with the stack and the arena.
+fn mapped(alloc: Global, image: &ImageView<'_>) -> Result<PageMap, AllocError>
     requires { has_place image.now ≡ true }
     ensures { IfOk result (λ s. memory_of s ≡ model.mapped image.now) }
 {
     let sections = image.sections();
     let regions = regions(alloc, image)?;
-    let mut space = MapSpace::new(alloc, &regions)?;
+    let mut space = PageMap::new(alloc, &regions)?;
     for section in sections {
         space.fill(image.base() + section.address(), section.raw());
     }
@@ -53,14 +54,11 @@ fn mapped(alloc: Global, image: &ImageView<'_>) -> Result<MapSpace, AllocError>
     Ok(space)
 }
 
-/// The first reason that an image isn't loaded.
+/// The first reason that an image isn't loaded, whose function table was read whole.
 fn refusal(image: &ImageView<'_>) -> Option<LoadErr>
-    ensures first { result ≡ model.load_refusal image.now }
+    ensures first { result ≡ model.later_refusal image.now }
     ensures place { result ≡ None → has_place image.now ≡ true }
 {
-    if let Err(error) = Tables::read(image) {
-        return Some(LoadErr::Table(error));
-    }
     if !has_place(image) {
         return Some(LoadErr::Place { base: image.base() });
     }
@@ -76,7 +74,7 @@ fn refusal(image: &ImageView<'_>) -> Option<LoadErr>
 }
 
 /// Loads an image: its sections, a stack and the arena are mapped, the slots of its imports hold the
-/// addresses of the host's services, a later one over an earlier, and the run stands at the entry
+/// addresses of the host's services, a later one over an earlier, and the run is at the entry
 /// point with the argument in RCX.
 ///
 /// It is refused for the first reason that holds, in this order: `Table` where the function table
@@ -89,20 +87,29 @@ pub fn load<'image, 'bytes>(
     image: &'image ImageView<'bytes>,
     arg: i64,
 ) -> Result<Host<'image, 'bytes>, LoadErr>
-    ensures loaded { IfOk result (λ h. host_of h ≡ host (model.start image.now arg)) }
+    ensures image { IfOk result (λ h. image_of h ≡ image.now) }
+    ensures loaded { IfOk result (λ h. running_of h ≡ first_running image.now arg) }
     ensures accepted { IfOk result (λ h. model.load_refusal image.now ≡ None) }
     ensures refused { IfErr result (λ e. IsLoadRefusal image.now e) }
 {
+    let tables = match Tables::read(image) {
+        Ok(tables) => tables,
+        Err(error) => return Err(LoadErr::Table(error)),
+    };
     if let Some(refusal) = refusal(image) {
         return Err(refusal);
     }
-    match mapped(alloc, image) {
-        Err(_) => Err(LoadErr::Memory),
-        Ok(space) => Ok(Host {
-            cpu: first_cpu(image.base() + image.entry(), arg),
-            space,
-            end: None,
-            image,
-        }),
-    }
+    let Ok(space) = mapped(alloc, image) else {
+        return Err(LoadErr::Memory);
+    };
+    let Ok(funclets) = funclets_in(alloc, &tables) else {
+        return Err(LoadErr::Memory);
+    };
+    Ok(Host {
+        cpu: first_cpu(image.base() + image.entry(), arg),
+        space,
+        end: None,
+        tables,
+        funclets,
+    })
 }

@@ -34,7 +34,7 @@ abbrev pub access_text : Option (Bool × ℕ) → List ℕ
 access_text None = []
 access_text (Some (write, address)) = (if write then codes " write " else codes " read ") ++ address_text address
 
--- the access stands in the line where the exception is an access violation
+-- the access is written in the line where the exception is an access violation
 abbrev pub raise_text : Code → Bool → Option (Bool × ℕ) → List ℕ
 raise_text code flag access =
     codes "raise " ++ code_text code ++ codes " " ++ flag_text flag

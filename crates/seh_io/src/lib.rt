@@ -13,7 +13,5 @@ pub mod reading;
 pub mod receiver;
 pub mod sink;
 pub mod source;
-#[cfg(test)]
-mod tests;
 pub mod text;
 pub mod writing;

@@ -110,7 +110,7 @@ impl Line {
     }
 }
 
-/// The digit of base 16 that stands for `n`.
+/// The digit of base 16 for `n`.
 fn glyph(n: u64) -> u8
     requires { n < 16 }
     ensures { result ≡ digit_glyph true n }

@@ -45,7 +45,7 @@ pub struct Lines<'a, O> {
     pub trace: bool,
     /// Whether a write has failed.
     pub failed: bool,
-    /// How many bytes the sink has taken from this writer in all; it stands still at 2^64 - 1.
+    /// How many bytes the sink has taken from this writer in all; it stays at 2^64 - 1.
     pub taken: u64,
 }
 
@@ -139,7 +139,7 @@ impl<O: Sink> Events for Lines<'_, O> {
 /// Writes the whole text of a run, from its events and its end.
 ///
 /// After a fault the sink has taken a part of the text from the front, of `taken` bytes; that count
-/// stands still at 2^64 - 1.
+/// stays at 2^64 - 1.
 pub fn put_text<O: Sink>(
     sink: &mut O,
     trace: bool,

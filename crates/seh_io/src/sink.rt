@@ -8,9 +8,9 @@ use crate::source::Failed;
 
 /// What takes bytes, piece by piece.
 ///
-/// `taken` are the bytes that were taken, where that is told: a sink over memory tells it, one over a
-/// device tells nothing, and then nothing is claimed of what was taken. `faults` counts the faults of
-/// the sink; it never falls, and stands still at 2^64 - 1.
+/// `taken` are the bytes that were taken, where that is known: it is of a sink over memory, and not of
+/// one over a device, and then nothing is claimed of what was taken. `faults` counts the faults of
+/// the sink; it never falls, and stays at 2^64 - 1.
 pub trait Sink {
     ghost taken: { Self → Option (List ℕ) };
 

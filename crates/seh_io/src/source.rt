@@ -11,9 +11,9 @@ pub struct Failed;
 
 /// What gives bytes, piece by piece.
 ///
-/// `left` are the bytes still to come, where that is told: a source over memory tells it, one over a
-/// device tells nothing, and then nothing is claimed of what comes. `faults` counts the faults of the
-/// source; it never falls, and stands still at 2^64 - 1.
+/// `left` are the bytes still to come, where that is known: it is of a source over memory, and not of
+/// one over a device, and then nothing is claimed of what comes. `faults` counts the faults of the
+/// source; it never falls, and stays at 2^64 - 1.
 pub trait Source {
     ghost left: { Self → Option (List ℕ) };
 

@@ -1,4 +1,4 @@
--- The widths of numbers, and what bits stand for.
+-- The widths of numbers, and the numbers that bits represent.
 use Rattle.std.specs.Prelude.{◌≡◌, ℕ, ◌-◌, ◌%◌, ◌^◌, nat_lt, if◌then◌else◌, ℤ, pos, negsuc, ◌+ℤ◌, ◌-ℤ◌, ◌*ℤ◌}
 use Rattle.seh_num.specs.declared.width.Width.{Width}
 use Rattle.seh_num.specs.declared.width.Width.TheVariants.{W8, W16, W32, W64}
@@ -27,7 +27,7 @@ half W64 = 2 ^ 63
 abbrev pub low : Width → ℕ → ℕ
 low w n = n % limit w
 
--- two's complement: low bits below half stand for themselves, the others for the limit less
+-- two's complement: low bits below half represent themselves, the others themselves less the limit
 abbrev pub signed : Width → ℕ → ℤ
 signed w n = if nat_lt (low w n) (half w) then pos (low w n) else pos (low w n) -ℤ pos (limit w)
 

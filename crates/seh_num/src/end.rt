@@ -1,11 +1,11 @@
 use crate::event::Code;
 
-/// Why a run can't go on.
+/// Why a run was stopped.
 #[derive(Clone, Copy, Debug, PartialEq, Eq)]
 pub enum Reason {
     /// No instruction can be run at the address.
     Illegal,
-    /// What stands at the address is no dispatch record, or not one that fits there.
+    /// At the address there is no dispatch record, or not one that fits there.
     BadRecord,
     /// A stack word that is needed can't be read; the address is its first byte that can't.
     Unreadable,
@@ -26,6 +26,6 @@ pub enum RunEnd {
     StackLimit { address: u64 },
     /// As many turns as were allowed were made.
     OutOfTurns { turns: u64 },
-    /// The run can't go on.
+    /// The run was stopped.
     Stopped { why: Reason, address: u64 },
 }

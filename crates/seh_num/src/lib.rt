@@ -10,6 +10,4 @@ pub mod end;
 pub mod event;
 pub mod extension;
 pub mod steps;
-#[cfg(test)]
-mod tests;
 pub mod width;

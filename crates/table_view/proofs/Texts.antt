@@ -12,6 +12,9 @@ use Rattle.table_view.specs.View.{entry_lines, all_lines, count_line, table_line
 pub same : (x z : Writer) (t t' : List ℕ) → Wrote x t z → t ≡ t' → Wrote x t' z
 same x z t t' p e = subst (λ (s : List ℕ). Wrote x s z) e p
 
+pub joined : (a b c d : List ℕ) → a ≡ c → b ≡ d → a ++ b ≡ c ++ d
+joined a b c d p q = ap (λ t. t ++ b) p ∙ ap (λ t. c ++ t) q
+
 pub two : (x y z : Writer) (a b : List ℕ) → Wrote x a y → Wrote y b z → Wrote x (a ++ b) z
 two x y z a b p q = wrote_more x y z a b p q
 

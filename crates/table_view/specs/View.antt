@@ -5,13 +5,13 @@ use Rattle.std.specs.Fmt.{decimal}
 use Rattle.hex.specs.Hex.{encode_lower}
 use Rattle.seh_io.specs.Text.{hexadecimal, ended}
 use Rattle.pe_image.specs.Image.{Image}
-use Rattle.eh_tables.specs.declared.code.Operation.{Operation}
-use Rattle.eh_tables.specs.declared.code.Operation.TheVariants.{Push, Allocate, SetFrame, Save, SaveVector, MachineFrame}
+use Rattle.eh_tables.specs.declared.code.UnwindOperation.{UnwindOperation}
+use Rattle.eh_tables.specs.declared.code.UnwindOperation.TheVariants.{Push, Allocate, SetFrame, Save, SaveVector, MachineFrame}
 use Rattle.eh_tables.specs.declared.code.UnwindCode.{UnwindCode}
 use Rattle.eh_tables.specs.declared.range.RuntimeFunction.{RuntimeFunction}
 use Rattle.eh_tables.specs.declared.refusal.TableErr.{TableErr}
 use Rattle.eh_tables.specs.declared.refusal.TableErr.TheVariants as refusals
-use Rattle.eh_tables.specs.declared.scope.ScopeRow.{ScopeRow}
+use Rattle.eh_tables.specs.declared.scope.ScopeRecord.{ScopeRecord}
 use Rattle.eh_tables.specs.Infos.{Info}
 use Rattle.eh_tables.specs.Tables.{Entry, entry, directory}
 
@@ -43,7 +43,7 @@ register_name r =
     else (if r == 14 then codes "r14"
     else codes "r15"))))))))))))))
 
-abbrev pub operation_text : Operation → List ℕ
+abbrev pub operation_text : UnwindOperation → List ℕ
 operation_text (Push r) = codes "push " ++ register_name r
 operation_text (Allocate n) = codes "alloc " ++ decimal n
 operation_text SetFrame = codes "frame"
@@ -57,26 +57,26 @@ code_begin c = codes " code " ++ decimal c.offset ++ codes " "
 abbrev pub code_line : UnwindCode → List ℕ
 code_line c = code_begin c ++ ended (operation_text c.operation)
 
--- ---- scope rows
+-- ---- scope records
 
 -- a jump of 0 stands for a `__finally`, and a handler of 1 for a filter that always accepts
 abbrev pub filter_text : ℕ → List ℕ
-filter_text handler = if handler == 1 then codes " always" else codes " filter " ++ rva_text handler
+filter_text handler_address = if handler_address == 1 then codes " always" else codes " filter " ++ rva_text handler_address
 
 abbrev pub except_text : ℕ → ℕ → List ℕ
-except_text jump handler = filter_text handler ++ codes " jump " ++ rva_text jump
+except_text jump_target handler_address = filter_text handler_address ++ codes " jump " ++ rva_text jump_target
 
-abbrev pub kind_text : ScopeRow → List ℕ
-kind_text r = if r.jump == 0 then codes " finally " ++ rva_text r.handler else except_text r.jump r.handler
+abbrev pub kind_text : ScopeRecord → List ℕ
+kind_text r = if r.jump_target == 0 then codes " finally " ++ rva_text r.handler_address else except_text r.jump_target r.handler_address
 
-abbrev pub scope_begin : ℕ → ScopeRow → List ℕ
+abbrev pub scope_begin : ℕ → ScopeRecord → List ℕ
 scope_begin k r = codes " scope " ++ decimal k ++ codes " " ++ rva_text r.begin ++ codes " " ++ rva_text r.end
 
-abbrev pub scope_line : ℕ → ScopeRow → List ℕ
+abbrev pub scope_line : ℕ → ScopeRecord → List ℕ
 scope_line k r = scope_begin k r ++ ended (kind_text r)
 
 -- from a number on
-abbrev pub scope_lines : ℕ → List ScopeRow → List ℕ
+abbrev pub scope_lines : ℕ → List ScopeRecord → List ℕ
 scope_lines k [] = []
 scope_lines k (r ∷ rs) = scope_line k r ++ scope_lines (k + 1) rs
 
@@ -96,7 +96,7 @@ abbrev pub frame_text : Info → List ℕ
 frame_text i = if i.frame_register == 0 then codes " frame - 0" else codes " frame " ++ register_name i.frame_register ++ codes " " ++ decimal i.frame_offset
 
 abbrev pub prolog_text : Info → List ℕ
-prolog_text i = codes " info prolog " ++ decimal i.prolog ++ codes " flags " ++ decimal i.flags
+prolog_text i = codes " info prolog " ++ decimal i.prologue_size ++ codes " flags " ++ decimal i.flags
 
 abbrev pub info_line : Info → List ℕ
 info_line i = prolog_text i ++ ended (frame_text i)

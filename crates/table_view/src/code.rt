@@ -5,7 +5,7 @@ ghost use Rattle.std.specs.Fmt.{decimal};
 ghost use Rattle.seh_io.specs.Text.{ended};
 ghost use Rattle.table_view.specs.View as spec;
 
-use eh_tables::{Operation, UnwindCode};
+use eh_tables::{UnwindCode, UnwindOperation};
 use seh_io::line::Line;
 
 /// The name of the register of a number.
@@ -47,24 +47,24 @@ fn counted(word: &[u8], number: u64) -> Line
 }
 
 /// What a code did.
-fn operation_text(operation: Operation) -> Line
+fn operation_text(operation: UnwindOperation) -> Line
     ensures value { result ≡ spec.operation_text operation }
     ensures len { length result ≤ 63 }
 {
     match operation {
-        Operation::Push { register } => {
+        UnwindOperation::Push { register } => {
             let mut line = Line::new();
             line.text(b"push ");
             line.text(register_name(register));
             line
         }
-        Operation::Allocate { size } => counted(b"alloc ", size as u64),
-        Operation::SetFrame => {
+        UnwindOperation::Allocate { size } => counted(b"alloc ", size as u64),
+        UnwindOperation::SetFrame => {
             let mut line = Line::new();
             line.text(b"frame");
             line
         }
-        Operation::Save { register, offset } => {
+        UnwindOperation::Save { register, offset } => {
             let mut line = Line::new();
             line.text(b"save ");
             line.text(register_name(register));
@@ -72,13 +72,13 @@ fn operation_text(operation: Operation) -> Line
             line.natural(offset as u64);
             line
         }
-        Operation::SaveVector { register, offset } => {
+        UnwindOperation::SaveVector { register, offset } => {
             let mut line = counted(b"xmm ", register as u64);
             line.text(b" ");
             line.natural(offset as u64);
             line
         }
-        Operation::MachineFrame { info } => counted(b"machine ", info as u64),
+        UnwindOperation::MachineFrame { info } => counted(b"machine ", info as u64),
     }
 }
 

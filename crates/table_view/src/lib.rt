@@ -12,6 +12,3 @@ mod row;
 mod writing;
 
 pub use writing::view;
-
-#[cfg(test)]
-mod tests;

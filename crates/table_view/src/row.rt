@@ -5,7 +5,7 @@ ghost use Rattle.seh_io.specs.Text.{ended};
 ghost use Rattle.table_view.specs.View as spec;
 
 use crate::code::register_name;
-use eh_tables::{Info, RuntimeFunction, ScopeRow};
+use eh_tables::{Info, RuntimeFunction, ScopeRecord};
 use seh_io::line::Line;
 
 /// Adds an address.
@@ -49,7 +49,7 @@ pub fn prolog_text(info: &Info<'_>) -> Line
 {
     let mut line = Line::new();
     line.text(b" info prolog ");
-    line.natural(info.prolog() as u64);
+    line.natural(info.prologue_size() as u64);
     line.text(b" flags ");
     line.natural(info.flags() as u64);
     line
@@ -97,7 +97,7 @@ pub fn handler_line(is_c: bool, rva: u32) -> Line
 }
 
 /// The line of a scope row, up to its range.
-pub fn scope_begin(number: u64, row: ScopeRow) -> Line
+pub fn scope_begin(number: u64, row: ScopeRecord) -> Line
     ensures { result ≡ spec.scope_begin number row }
 {
     let mut line = Line::new();
@@ -111,39 +111,39 @@ pub fn scope_begin(number: u64, row: ScopeRow) -> Line
 }
 
 /// The rest of it.
-pub fn kind_line(row: ScopeRow) -> Line
+pub fn kind_line(row: ScopeRecord) -> Line
     ensures { result ≡ ended (spec.kind_text row) }
 {
     let mut line = Line::new();
-    if row.jump == 0 {
+    if row.jump_target == 0 {
         line.text(b" finally ");
-        put_rva(&mut line, row.handler);
+        put_rva(&mut line, row.handler_address);
     } else {
-        put_except(&mut line, row.jump, row.handler);
+        put_except(&mut line, row.jump_target, row.handler_address);
     }
     line.end();
     line
 }
 
-fn put_except(line: &mut Line, jump: u32, handler: u32)
+fn put_except(line: &mut Line, jump_target: u32, handler_address: u32)
     requires { length line.old ≤ 0 }
-    ensures value { line.new ≡ line.old ++ spec.except_text jump handler }
+    ensures value { line.new ≡ line.old ++ spec.except_text jump_target handler_address }
     ensures len { length line.new ≤ 30 }
 {
-    put_filter(line, handler);
+    put_filter(line, handler_address);
     line.text(b" jump ");
-    put_rva(line, jump);
+    put_rva(line, jump_target);
 }
 
-fn put_filter(line: &mut Line, handler: u32)
+fn put_filter(line: &mut Line, handler_address: u32)
     requires { length line.old ≤ 0 }
-    ensures value { line.new ≡ line.old ++ spec.filter_text handler }
+    ensures value { line.new ≡ line.old ++ spec.filter_text handler_address }
     ensures len { length line.new ≤ 16 }
 {
-    if handler == 1 {
+    if handler_address == 1 {
         line.text(b" always");
     } else {
         line.text(b" filter ");
-        put_rva(line, handler);
+        put_rva(line, handler_address);
     }
 }

@@ -1,6 +1,6 @@
 //! The view, written.
 
-ghost use Rattle.std.specs.Prelude.{◌≡◌, ◌≤◌, ◌<◌, ◌*◌, length, true, false, OnOk, OnErr, IfErr};
+ghost use Rattle.std.specs.Prelude.{◌≡◌, ◌≤◌, ◌<◌, ◌*◌, ◌++◌, length, true, false, OnOk, OnErr, IfErr};
 ghost use Rattle.std.specs.List.{flat_map};
 ghost use Rattle.hex.specs.Hex.{encode_lower};
 ghost use Rattle.seh_io.specs.Streams.{Rose, Grew};
@@ -12,8 +12,10 @@ use crate::refusal::{count_line, refused_line, refused_table_line};
 use crate::row::{
     chain_line, entry_line, frame_line, handler_line, kind_line, prolog_text, scope_begin,
 };
+use arrayvec::ArrayVec;
 use eh_tables::{Entry, Info, TableErr, Tables};
 use pe_image::ImageView;
+use seh_io::line::Line;
 use seh_io::receiver::Lines;
 use seh_io::sink::Sink;
 use seh_io::writing::WriteFault;
@@ -27,18 +29,30 @@ fn encode(bytes: &[u8], column: &mut [u8])
     let _ = hex::encode_to_slice(bytes, column);
 }
 
+/// A line of two parts, in one piece.
+fn put_joined<O: Sink>(out: &mut Lines<'_, O>, front: &Line, back: &Line)
+    ensures same_reference { out.new.sink.ghost_name ≡ out.old.sink.ghost_name }
+    ensures wrote { Wrote (writer_of O.taken O.faults out.old) (front.now ++ back.now) (writer_of O.taken O.faults out.new) }
+{
+    let mut line: ArrayVec<u8, 128> = ArrayVec::new();
+    // There is room for both, so that neither can be refused.
+    let _ = line.try_extend_from_slice(front.as_bytes());
+    let _ = line.try_extend_from_slice(back.as_bytes());
+    out.put(line.as_slice());
+}
+
 /// The bytes of an info, header and slots.
 fn put_bytes<O: Sink>(out: &mut Lines<'_, O>, bytes: &[u8])
     requires { length bytes.now ≤ 516 }
     ensures same_reference { out.new.sink.ghost_name ≡ out.old.sink.ghost_name }
     ensures wrote { Wrote (writer_of O.taken O.faults out.old) (spec.bytes_line bytes.now) (writer_of O.taken O.faults out.new) }
 {
-    let mut column = [0; 1032];
-    let digits = &mut column[..2 * bytes.len()];
-    encode(bytes, &mut *digits);
-    out.put(b" bytes ");
-    out.put(digits);
-    out.put(b"\n");
+    let mut line = [0; 1040];
+    let end = 7 + 2 * bytes.len();
+    line[..7].copy_from_slice(b" bytes ");
+    encode(bytes, &mut line[7..end]);
+    line[end] = b'\n';
+    out.put(&line[..=end]);
 }
 
 /// The lines of unwind codes.
@@ -47,20 +61,18 @@ fn put_codes<O: Sink>(out: &mut Lines<'_, O>, info: &Info<'_>)
     ensures wrote { Wrote (writer_of O.taken O.faults out.old) (flat_map spec.code_line info.now.codes) (writer_of O.taken O.faults out.new) }
 {
     for code in info.codes() {
-        out.put(code_begin(&code).as_bytes());
-        out.put(code_end(&code).as_bytes());
+        put_joined(out, &code_begin(&code), &code_end(&code));
     }
 }
 
-/// The lines of scope rows.
+/// The lines of scope records.
 fn put_scopes<O: Sink>(out: &mut Lines<'_, O>, info: &Info<'_>)
     ensures same_reference { out.new.sink.ghost_name ≡ out.old.sink.ghost_name }
     ensures wrote { Wrote (writer_of O.taken O.faults out.old) (spec.scope_lines 0 info.now.scopes) (writer_of O.taken O.faults out.new) }
 {
     let mut number = 0;
     for row in info.scopes() {
-        out.put(scope_begin(number, row).as_bytes());
-        out.put(kind_line(row).as_bytes());
+        put_joined(out, &scope_begin(number, row), &kind_line(row));
         number += 1;
     }
 }
@@ -95,8 +107,7 @@ fn put_info<O: Sink>(out: &mut Lines<'_, O>, info: &Info<'_>)
     ensures wrote { Wrote (writer_of O.taken O.faults out.old) (spec.info_lines info.now) (writer_of O.taken O.faults out.new) }
 {
     put_bytes(out, info.bytes());
-    out.put(prolog_text(info).as_bytes());
-    out.put(frame_line(info).as_bytes());
+    put_joined(out, &prolog_text(info), &frame_line(info));
     put_codes(out, info);
     put_parent(out, info);
     put_handler(out, info);

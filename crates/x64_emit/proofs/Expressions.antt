@@ -4,16 +4,16 @@ use Rattle.std.specs.Prelude.{◌⊎◌}
 use Rattle.std.proofs.lemmas.Bool.{cases_lt}
 use Rattle.seh_num.specs.declared.width.Width.TheVariants.{W32, W64}
 use Rattle.seh_num.specs.Widths.{low}
-use Rattle.flat_memory.specs.declared.mode.Mode.{Mode}
-use Rattle.flat_memory.specs.Modes.{is_readable, is_writable}
+use Rattle.flat_memory.specs.declared.protection.Protection.{Protection}
+use Rattle.flat_memory.specs.Protections.{is_readable, is_writable}
 use Rattle.flat_memory.specs.Memory.{Memory, next, first_refused, number_at, with_number, with_bytes, may_read, may_write, access, unless_refused}
 use Rattle.flat_memory.proofs.Stores.{untouched, stored_is_loaded}
 use Rattle.x64_instr.specs.declared.register.Reg.TheVariants.{Rax, Rcx, Rsp}
-use Rattle.x64_instr.specs.declared.operand.Place.TheVariants as places
+use Rattle.x64_instr.specs.declared.operand.RegisterOrMemory.TheVariants as places
 use Rattle.x64_instr.specs.declared.operand.Operand.TheVariants as operands
 use Rattle.x64_instr.specs.declared.instruction.Instr.{Instr}
 use Rattle.x64_instr.specs.declared.instruction.Instr.TheVariants as instrs
-use Rattle.x64_instr.specs.Spelling.{Spells}
+use Rattle.x64_instr.specs.Spelling.{IsEncoding}
 use Rattle.x64_machine.specs.declared.cpu.Flags.{Flags}
 use Rattle.x64_machine.specs.Words.{added, subtracted, multiplied}
 use Rattle.x64_machine.specs.Effect.{State, Answer, ◌>>=◌, granted, register, with_rip, load, store, effect}
@@ -70,14 +70,14 @@ pub record HasSlots (s : State) : Type 0 where
 pub record Keeps (d : ℕ) (s t : State) : Type 0 where
   pub registers : length t.cpu.registers ≡ 16
   pub stack : rsp t ≡ rsp s
-  pub mode : t.memory.mode ≡ s.memory.mode
+  pub protection : t.memory.protection ≡ s.memory.protection
   pub byte : (a : ℕ) → (a < rsp s + (32 + 8 * d)) ⊎ (rsp s + 544 ≤ a) → t.memory.byte a ≡ s.memory.byte a
 
 keeps_then : (d e : ℕ) (s t u : State) → d ≤ e → Keeps d s t → Keeps e t u → Keeps d s u
 keeps_then d e s t u le a b = record {
   registers = b.registers;
   stack = b.stack ∙ a.stack;
-  mode = b.mode ∙ a.mode;
+  protection = b.protection ∙ a.protection;
   byte = λ x h. b.byte x (elim h [ inl l ↦ inl (let st = a.stack in omega arith) | inr r ↦ inr (let st = a.stack in omega arith) ]) ∙ a.byte x h;
 }
 
@@ -88,8 +88,8 @@ slots_kept d s t h k =
     record {
       registers = k.registers;
       high = omega arith;
-      writable = λ a p q. ap (λ (f : ℕ → Mode). is_writable (f a).rights) k.mode ∙ h.writable a (omega arith) (omega arith);
-      readable = λ a p q. ap (λ (f : ℕ → Mode). is_readable (f a).rights) k.mode ∙ h.readable a (omega arith) (omega arith);
+      writable = λ a p q. ap (λ (f : ℕ → Protection). is_writable (f a).rights) k.protection ∙ h.writable a (omega arith) (omega arith);
+      readable = λ a p q. ap (λ (f : ℕ → Protection). is_readable (f a).rights) k.protection ∙ h.readable a (omega arith) (omega arith);
     }
 
 -- what may not be written is in no slot
@@ -104,7 +104,7 @@ unwritten d s t h k a plain = k.byte a (
     ])
 
 pub kept_code : (d : ℕ) (s t : State) (at : ℕ) (is : List Instr) (to : ℕ) → HasSlots s → Keeps d s t → HasCode s.memory at is to → HasCode t.memory at is to
-kept_code d s t at is to h k c = code_kept s.memory t.memory at is to (unwritten d s t h k) k.mode c
+kept_code d s t at is to h k c = code_kept s.memory t.memory at is to (unwritten d s t h k) k.protection c
 
 -- ---- the states after each instruction
 
@@ -115,7 +115,7 @@ abbrev pub after_rcx : State → ℕ → ℕ → State
 after_rcx s to v = record { cpu = record { registers = set s.cpu.registers 1 v; rip = to; flags = s.cpu.flags }; memory = s.memory }
 
 abbrev after_slot : State → ℕ → ℕ → ℕ → State
-after_slot s to d v = record { cpu = record { registers = s.cpu.registers; rip = to; flags = s.cpu.flags }; memory = record { mode = s.memory.mode; byte = with_number s.memory.byte 8 (rsp s + (32 + 8 * d)) v } }
+after_slot s to d v = record { cpu = record { registers = s.cpu.registers; rip = to; flags = s.cpu.flags }; memory = record { protection = s.memory.protection; byte = with_number s.memory.byte 8 (rsp s + (32 + 8 * d)) v } }
 
 pub rax_is : (regs : List ℕ) (v : ℕ) → length regs ≡ 16 → get_or (set regs 0 v) 0 0 ≡ v
 rax_is regs v e = get_or-set_same regs 0 v 0 (omega arith)
@@ -124,10 +124,10 @@ pub rcx_is : (regs : List ℕ) (v : ℕ) → length regs ≡ 16 → get_or (set 
 rcx_is regs v e = get_or-set_same regs 1 v 0 (omega arith)
 
 pub keeps_rax : (d : ℕ) (s : State) (to v : ℕ) (f : Flags) → length s.cpu.registers ≡ 16 → Keeps d s (after_rax s to v f)
-keeps_rax d s to v f e = record { registers = length-set s.cpu.registers 0 v ∙ e; stack = get_or-set_other s.cpu.registers 0 4 v 0 (λ h. absurd (omega arith)); mode = refl; byte = λ a h. refl }
+keeps_rax d s to v f e = record { registers = length-set s.cpu.registers 0 v ∙ e; stack = get_or-set_other s.cpu.registers 0 4 v 0 (λ h. absurd (omega arith)); protection = refl; byte = λ a h. refl }
 
 pub keeps_rcx : (d : ℕ) (s : State) (to v : ℕ) → length s.cpu.registers ≡ 16 → Keeps d s (after_rcx s to v)
-keeps_rcx d s to v e = record { registers = length-set s.cpu.registers 1 v ∙ e; stack = get_or-set_other s.cpu.registers 1 4 v 0 (λ h. absurd (omega arith)); mode = refl; byte = λ a h. refl }
+keeps_rcx d s to v e = record { registers = length-set s.cpu.registers 1 v ∙ e; stack = get_or-set_other s.cpu.registers 1 4 v 0 (λ h. absurd (omega arith)); protection = refl; byte = λ a h. refl }
 
 keeps_slot : (d : ℕ) (s : State) (to v : ℕ) → d + 1 ≤ 64 → HasSlots s → Keeps d s (after_slot s to d v)
 keeps_slot d s to v le h =
@@ -135,7 +135,7 @@ keeps_slot d s to v le h =
     record {
       registers = h.registers;
       stack = refl;
-      mode = refl;
+      protection = refl;
       byte = λ a out. untouched s.memory.byte 8 (rsp s + (32 + 8 * d)) v a (λ i lt e. absurd (elim out [ inl l ↦ omega arith | inr r ↦ omega arith ])) (omega arith);
     }
 
@@ -221,7 +221,7 @@ gives_then : (c k d e : ℕ) (s : State) (mid to v w : ℕ) → d ≤ e → (g :
 gives_then c k d e s mid to v w le g f =
     record { after = f.after; comes = comes_then c k s g.after f.after g.comes f.comes; rip = f.rip; value = f.value; keeps = keeps_then d e s g.after f.after le g.keeps f.keeps }
 
-one_then : (s t : State) (i : Instr) (bytes : List ℕ) (d k to w : ℕ) → Spells i bytes → length bytes ≤ 15 → Stands s.memory s.cpu.rip bytes → IsPlaced s.cpu.rip (s.cpu.rip + length bytes) → effect (with_rip s (s.cpu.rip + length bytes)) i ≡ Ok t → Keeps d s t → Gives k d t to w → Gives (1 + k) d s to w
+one_then : (s t : State) (i : Instr) (bytes : List ℕ) (d k to w : ℕ) → IsEncoding i bytes → length bytes ≤ 15 → Stands s.memory s.cpu.rip bytes → IsPlaced s.cpu.rip (s.cpu.rip + length bytes) → effect (with_rip s (s.cpu.rip + length bytes)) i ≡ Ok t → Keeps d s t → Gives k d t to w → Gives (1 + k) d s to w
 one_then s t i bytes d k to w spells short stands placed e keeps g =
     let live : s.cpu.rip ≢ 0 = λ z. let low = placed.low in absurd (omega arith) in
     record { after = g.after; comes = comes_then 1 k s t g.after (one_turn s t live (steps s t i bytes spells short stands placed e)) g.comes; rip = g.rip; value = g.value; keeps = keeps_then d d s t g.after (le_self d) keeps g.keeps }
@@ -230,7 +230,7 @@ pub rest_le : (m : Memory) (at : ℕ) (bytes : List ℕ) (is : List Instr) (to :
 rest_le m at bytes is to h = let r = has_le m (at + length bytes) is to h in (omega arith, omega arith)
 
 nothing : (d : ℕ) (s : State) (to v : ℕ) → length s.cpu.registers ≡ 16 → s.cpu.rip ≡ to → register s.cpu Rax ≡ v → Gives 0 d s to v
-nothing d s to v regs at is = record { after = s; comes = λ k out. ap (λ j. run j (host s) out) (zero-add k); rip = at; value = is; keeps = record { registers = regs; stack = refl; mode = refl; byte = λ a h. refl } }
+nothing d s to v regs at is = record { after = s; comes = λ f k out. ap (λ j. run f [] j (host s) out) (zero-add k); rip = at; value = is; keeps = record { registers = regs; stack = refl; protection = refl; byte = λ a h. refl } }
 
 -- ---- an operator between two expressions, from its end
 
@@ -277,7 +277,7 @@ gives_wider c d s to v g = record {
   keeps = record {
     registers = g.keeps.registers;
     stack = g.keeps.stack;
-    mode = g.keeps.mode;
+    protection = g.keeps.protection;
     byte = λ a h. g.keeps.byte a (elim h [ inl l ↦ inl (omega arith) | inr r ↦ inr r ]);
   };
 }

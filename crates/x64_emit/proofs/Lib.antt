@@ -1,7 +1,6 @@
 pub mod Standing
 pub mod Spelled
 pub mod Turns
-pub mod Longer
 pub mod Expressions
 pub mod Statements
 pub mod Programs

@@ -9,7 +9,7 @@ use Rattle.seh_num.specs.declared.end.RunEnd.TheVariants as ends
 use Rattle.seh_num.specs.Widths.{low, signed}
 use Rattle.flat_memory.specs.Memory.{number_at, may_read}
 use Rattle.x64_instr.specs.declared.register.Reg.TheVariants.{Rax, Rcx, Rsp}
-use Rattle.x64_instr.specs.declared.operand.Place.TheVariants as places
+use Rattle.x64_instr.specs.declared.operand.RegisterOrMemory.TheVariants as places
 use Rattle.x64_instr.specs.declared.operand.Operand.TheVariants as operands
 use Rattle.x64_instr.specs.declared.instruction.Operation.TheVariants as operations
 use Rattle.x64_instr.specs.declared.instruction.Instr.{Instr}
@@ -17,6 +17,7 @@ use Rattle.x64_instr.specs.declared.instruction.Instr.TheVariants as instrs
 use Rattle.x64_machine.specs.declared.cpu.Flags.{Flags}
 use Rattle.x64_machine.specs.Words.{added, subtracted}
 use Rattle.x64_machine.specs.Effect.{State, Answer, ◌>>=◌, register, with_rip, effect, step}
+use Rattle.virtual_unwind.specs.CallerOf.{Functions}
 use Rattle.host_model.specs.HostStep.{host}
 use Rattle.host_model.specs.Machine.{Shown, run}
 use Rattle.c_meaning.specs.Syntax.{Expression, height, Statement, Put, Return, deepest}
@@ -26,12 +27,13 @@ use Rattle.c_meaning.specs.Steps.{nodes, value}
 use Rattle.c_meaning.proofs.Steps.{enough, short, value_small}
 use Rattle.x64_emit.specs.Code.{literal, expression_code, put_code, leave_code, body_code, main_code, main_bytes}
 use Rattle.x64_emit.specs.Standing.{IsPlaced}
-use Rattle.x64_emit.specs.Correct.{Covers, HasRoom, ProgramShows}
+use Rattle.host_model.specs.Laws.{Covers}
+use Rattle.x64_emit.specs.Correct.{HasRoom, ProgramShows}
 use Rattle.x64_emit.proofs.Standing.{HasCode, has_split, has_le, code_kept}
 use Rattle.x64_emit.proofs.Bytes.{few}
 use Rattle.x64_emit.proofs.Spelled.{has_code, main_encodable}
 use Rattle.x64_emit.proofs.Turns.{steps, one_turn}
-use Rattle.x64_emit.proofs.Longer.{begins, longer, none_yet, covers_then}
+use Rattle.host_model.proofs.Longer.{begins, longer, none_yet, covers_then}
 use Rattle.x64_emit.proofs.Expressions.{all_may, load_at, rsp, after_rax, after_rcx, rax_is, rcx_is, keeps_rax, keeps_rcx, within, rest_le, le_self, Gives, expression_runs}
 use Rattle.x64_emit.proofs.Statements.{HasFrame, Holds, holds_of_keeps, unwritten, frame_kept, slots_of, Does, put_runs}
 
@@ -41,15 +43,15 @@ exited : List Event → ℕ → Shown
 exited out v = record { events = out; end = Some (ends.Exit (signed W32 v)) }
 
 abbrev Exits : ℕ → State → ℕ → Type 0
-Exits c s v = (k : ℕ) (out : List Event) → run (c + k) (host s) out ≡ exited out v
+Exits c s v = (f : Functions) (k : ℕ) (out : List Event) → run f [] (c + k) (host s) out ≡ exited out v
 
-over : (s : State) (v : ℕ) → s.cpu.rip ≡ 0 → register s.cpu Rax ≡ v → (k : ℕ) (out : List Event) → run k (host s) out ≡ exited out v
+over : (s : State) (v : ℕ) → s.cpu.rip ≡ 0 → register s.cpu Rax ≡ v → (f : Functions) (k : ℕ) (out : List Event) → run f [] k (host s) out ≡ exited out v
 unfolding run exited
-over s v rip rax zero out = rw (eq-eqb s.cpu.rip 0 rip, rax) refl
-over s v rip rax (suc k) out = rw (eq-eqb s.cpu.rip 0 rip, rax) refl
+over s v rip rax f zero out = rw (eq-eqb s.cpu.rip 0 rip, rax) refl
+over s v rip rax f (suc k) out = rw (eq-eqb s.cpu.rip 0 rip, rax) refl
 
 exit_stage : (s t : State) (c v : ℕ) → s.cpu.rip ≢ 0 → step s ≡ Ok t → Exits c t v → Exits (1 + c) s v
-exit_stage s t c v live e x k out = ap (λ j. run j (host s) out) (add_assoc 1 c k) ∙ one_turn s t live e (c + k) out ∙ x k out
+exit_stage s t c v live e x f k out = ap (λ j. run f [] j (host s) out) (add_assoc 1 c k) ∙ one_turn s t live e f (c + k) out ∙ x f k out
 
 live_at : (s : State) (to : ℕ) → IsPlaced s.cpu.rip to → s.cpu.rip ≢ 0
 live_at s to placed z = let bottom = placed.low in absurd (omega arith)
@@ -72,7 +74,7 @@ ret_runs s to v placed code rax lt readable back =
     let t : State = record { cpu = record { registers = set s.cpu.registers 4 up; rip = x; flags = s.cpu.flags }; memory = s.memory } in
     let e : effect (with_rip s next) instrs.Return ≡ Ok t = ap (λ (o : Answer ℕ). (o >>= λ y. popped y (record { cpu = record { registers = set s.cpu.registers 4 up; rip = next; flags = s.cpu.flags }; memory = s.memory })) >>= λ p. Ok (with_rip p.1 p.0)) (load_at s.memory (rsp s) (all_may (may_read s.memory) 8 (rsp s) (omega arith) readable)) in
     exit_stage s t 0 v (live_at s to placed) (steps s t instrs.Return code.0 code.1 code.2 code.3 (subst (IsPlaced s.cpu.rip) (sym code.4) placed) e)
-    (λ k out. over t v back (get_or-set_other s.cpu.registers 4 0 up 0 zero_not_four ∙ rax) (0 + k) out)
+    (λ f k out. over t v back (get_or-set_other s.cpu.registers 4 0 up 0 zero_not_four ∙ rax) f (0 + k) out)
 
 sum_value : (x y : ℕ) → x + y < 2 ^ 64 → low W64 ((added W64 (low W64 x) (low W64 y)).0) ≡ x + y
 unfolding added
@@ -119,7 +121,7 @@ return_runs s to v placed code h rax =
 -- ---- statements
 
 held_code : (s t : State) (at : ℕ) (is : List Instr) (to : ℕ) → HasFrame s → Holds s t → HasCode s.memory at is to → HasCode t.memory at is to
-held_code s t at is to h k c = code_kept s.memory t.memory at is to (unwritten s t h k) k.mode c
+held_code s t at is to h k c = code_kept s.memory t.memory at is to (unwritten s t h k) k.protection c
 
 abbrev limit : ℕ → ℕ
 limit k = 256 * k + 254
@@ -129,27 +131,27 @@ CoversRun x y = Covers x.events x.end y
 
 -- the run shows what the program shows
 abbrev Shows : List Statement → State → Type 0
-Shows p s = (k : ℕ) (out : List Event) → CoversRun (shown_by p k out) (run (limit k) (host s) out)
+Shows p s = (f : Functions) (k : ℕ) (out : List Event) → CoversRun (shown_by p k out) (run f [] (limit k) (host s) out)
 
-early : (s : State) (out : List Event) (k : ℕ) → CoversRun (unfinished out) (run k (host s) out)
-early s out k = none_yet out (run k (host s) out) (begins k (host s) out)
+early : (f : Functions) (s : State) (out : List Event) (k : ℕ) → CoversRun (unfinished out) (run f [] k (host s) out)
+early f s out k = none_yet out (run f [] k (host s) out) (begins f [] k (host s) out)
 
-exit_covers : (c v k : ℕ) (s : State) (out : List Event) → c ≤ limit k → Exits c s v → CoversRun (ended out (signed W32 v)) (run (limit k) (host s) out)
+exit_covers : (f : Functions) (c v k : ℕ) (s : State) (out : List Event) → c ≤ limit k → Exits c s v → CoversRun (ended out (signed W32 v)) (run f [] (limit k) (host s) out)
 unfolding exited
-exit_covers c v k s out le x =
+exit_covers f c v k s out le x =
     let e : limit k ≡ c + (limit k - c) = omega arith in
     let y : Shown = exited out v in
-    let same : run (limit k) (host s) out ≡ y = ap (λ j. run j (host s) out) e ∙ x (limit k - c) out in
+    let same : run f [] (limit k) (host s) out ≡ y = ap (λ j. run f [] j (host s) out) e ∙ x f (limit k - c) out in
     record {
       shows = ([], ap (λ (w : Shown). w.events) same ∙ sym (append-nil out));
       ends = λ d h. same ∙ ap (λ o. let z : Shown = record { events = out; end = o } in z) h;
     }
 
-put_covers : (c w k : ℕ) (s t : State) (ev out : List Event) (x : meaning.Shown) → c ≤ 256 * w → w ≤ k → ((j : ℕ) (o : List Event) → run (c + j) (host s) o ≡ run j (host t) (o ++ ev)) → CoversRun x (run (limit (k - w)) (host t) (out ++ ev)) → CoversRun x (run (limit k) (host s) out)
-put_covers c w k s t ev out x le lt comes h =
+put_covers : (f : Functions) (c w k : ℕ) (s t : State) (ev out : List Event) (x : meaning.Shown) → c ≤ 256 * w → w ≤ k → ((j : ℕ) (o : List Event) → run f [] (c + j) (host s) o ≡ run f [] j (host t) (o ++ ev)) → CoversRun x (run f [] (limit (k - w)) (host t) (out ++ ev)) → CoversRun x (run f [] (limit k) (host s) out)
+put_covers f c w k s t ev out x le lt comes h =
     let more = 256 * w - c in
     let e : limit k ≡ c + (limit (k - w) + more) = omega arith in
-    subst (λ r. CoversRun x r) (sym (ap (λ j. run j (host s) out) e ∙ comes (limit (k - w) + more) out)) (covers_then x.events x.end (run (limit (k - w)) (host t) (out ++ ev)) (run (limit (k - w) + more) (host t) (out ++ ev)) h (longer (limit (k - w)) more (host t) (out ++ ev)))
+    subst (λ r. CoversRun x r) (sym (ap (λ j. run f [] j (host s) out) e ∙ comes (limit (k - w) + more) out)) (covers_then x.events x.end (run f [] (limit (k - w)) (host t) (out ++ ev)) (run f [] (limit (k - w) + more) (host t) (out ++ ev)) h (longer f [] (limit (k - w)) more (host t) (out ++ ev)))
 
 module _ (rest : List Statement) (e : Expression) (s : State) (mid : ℕ) (g : Gives (length (expression_code e 0)) 0 s mid (value e)) where
   abbrev put_then : List Event → Valued → meaning.Shown
@@ -162,34 +164,34 @@ module _ (rest : List Statement) (e : Expression) (s : State) (mid : ℕ) (g : G
   cost = let f = few e 0 in omega arith
 
   put_case : (mid2 : ℕ) (d : Does 5 g.after (events.Put (signed W32 (value e)) ∷ []) mid2 s) → Shows rest d.after → Shows (Put e ∷ rest) s
-  put_case mid2 d h zero out = early s out (limit 0)
-  put_case mid2 d h (suc zero) out = early s out (limit 1)
-  put_case mid2 d h (suc (suc k)) out =
+  put_case mid2 d h f zero out = early f s out (limit 0)
+  put_case mid2 d h f (suc zero) out = early f s out (limit 1)
+  put_case mid2 d h f (suc (suc k)) out =
       let c = length (expression_code e 0) in
       let w = nodes e + 2 in
       let ev = events.Put (signed W32 (value e)) ∷ [] in
       elim (cases_lt k (nodes e)) [
-        | inl lt ↦ subst (λ o. CoversRun (put_then out o) (run (limit (suc (suc k))) (host s) out)) (sym (short e k lt)) (early s out (limit (suc (suc k))))
+        | inl lt ↦ subst (λ o. CoversRun (put_then out o) (run f [] (limit (suc (suc k))) (host s) out)) (sym (short e k lt)) (early f s out (limit (suc (suc k))))
         | inr le ↦
             let left : suc (suc k) - w ≡ k - nodes e = omega arith in
-            subst (λ o. CoversRun (put_then out o) (run (limit (suc (suc k))) (host s) out)) (sym (enough e k le))
-            (put_covers (c + 5) w (suc (suc k)) s d.after ev out (shown_by rest (k - nodes e) (out ++ ev)) cost (omega arith)
-            (λ j o. ap (λ i. run i (host s) o) (add_assoc c 5 j) ∙ g.comes (5 + j) o ∙ d.comes j o)
-            (subst (λ n. CoversRun (shown_by rest (k - nodes e) (out ++ ev)) (run (limit n) (host d.after) (out ++ ev))) (sym left) (h (k - nodes e) (out ++ ev))))
+            subst (λ o. CoversRun (put_then out o) (run f [] (limit (suc (suc k))) (host s) out)) (sym (enough e k le))
+            (put_covers f (c + 5) w (suc (suc k)) s d.after ev out (shown_by rest (k - nodes e) (out ++ ev)) cost (omega arith)
+            (λ j o. ap (λ i. run f [] i (host s) o) (add_assoc c 5 j) ∙ g.comes f (5 + j) o ∙ d.comes f j o)
+            (subst (λ n. CoversRun (shown_by rest (k - nodes e) (out ++ ev)) (run f [] (limit n) (host d.after) (out ++ ev))) (sym left) (h f (k - nodes e) (out ++ ev))))
       ]
 
   exit_fits : (k : ℕ) → nodes e ≤ k → length (expression_code e 0) + 3 ≤ limit (suc k)
   exit_fits k le = let f = few e 0 in omega arith
 
   return_case : Exits 3 g.after (value e) → Shows (Return e ∷ rest) s
-  return_case x zero out = early s out (limit 0)
-  return_case x (suc k) out =
+  return_case x f zero out = early f s out (limit 0)
+  return_case x f (suc k) out =
       let c = length (expression_code e 0) in
       elim (cases_lt k (nodes e)) [
-        | inl lt ↦ subst (λ o. CoversRun (return_then out o) (run (limit (suc k)) (host s) out)) (sym (short e k lt)) (early s out (limit (suc k)))
+        | inl lt ↦ subst (λ o. CoversRun (return_then out o) (run f [] (limit (suc k)) (host s) out)) (sym (short e k lt)) (early f s out (limit (suc k)))
         | inr le ↦
-            subst (λ o. CoversRun (return_then out o) (run (limit (suc k)) (host s) out)) (sym (enough e k le))
-            (exit_covers (c + 3) (value e) (suc k) s out (exit_fits k le) (λ j o. ap (λ i. run i (host s) o) (add_assoc c 3 j) ∙ g.comes (3 + j) o ∙ x j o))
+            subst (λ o. CoversRun (return_then out o) (run f [] (limit (suc k)) (host s) out)) (sym (enough e k le))
+            (exit_covers f (c + 3) (value e) (suc k) s out (exit_fits k le) (λ f j o. ap (λ i. run f [] i (host s) o) (add_assoc c 3 j) ∙ g.comes f (3 + j) o ∙ x f j o))
       ]
 
 after_expression : (e : Expression) (s : State) (mid : ℕ) → height e ≤ 64 → HasFrame s → IsPlaced s.cpu.rip mid → HasCode s.memory s.cpu.rip (expression_code e 0) mid → Gives (length (expression_code e 0)) 0 s mid (value e)
@@ -217,11 +219,11 @@ three_placed a b c to p x y z = (within a to a b p (omega arith) (omega arith), 
 
 -- behind the last statement 0 is returned
 falls_off : (s : State) (to : ℕ) → HasFrame s → IsPlaced s.cpu.rip to → HasCode s.memory s.cpu.rip (body_code []) to → Shows [] s
-falls_off s to h placed code k out =
+falls_off s to h placed code f k out =
     let next = s.cpu.rip + length code.0 in
     let order = rest_le s.memory s.cpu.rip code.0 leave_code to code.4 in
     let t = after_rax s next 0 s.cpu.flags in
-    exit_covers 4 0 k s out (omega arith)
+    exit_covers f 4 0 k s out (omega arith)
     (exit_stage s t 3 0 (live_at s to placed) (steps s t (literal 0) code.0 code.1 code.2 code.3 (within s.cpu.rip to s.cpu.rip next placed (le_self s.cpu.rip) order.1) refl)
     (return_runs t to 0 (within s.cpu.rip to next to placed order.0 (le_self to)) code.4 (frame_kept s t h (holds_of_keeps s t (keeps_rax 0 s next 0 s.cpu.flags h.registers))) (rax_is s.cpu.registers 0 h.registers)))
 
@@ -289,8 +291,8 @@ module _ (s : State) (next next2 : ℕ) (f : Flags) (room : HasRoom s) where
         thunk = room.thunk;
       }
 
-from_code : (p : List Statement) (s : State) (to n : ℕ) → deepest p ≤ 64 → HasRoom s → IsPlaced s.cpu.rip to → HasCode s.memory s.cpu.rip (main_code p) to → CoversRun (shown_by p n []) (run (256 * n + 256) (host s) [])
-from_code p s to n deep room placed code =
+from_code : (tables : Functions) (p : List Statement) (s : State) (to n : ℕ) → deepest p ≤ 64 → HasRoom s → IsPlaced s.cpu.rip to → HasCode s.memory s.cpu.rip (main_code p) to → CoversRun (shown_by p n []) (run tables [] (256 * n + 256) (host s) [])
+from_code tables p s to n deep room placed code =
     let next = s.cpu.rip + length code.0 in
     let rest = code.4 in
     let next2 = next + length rest.0 in
@@ -306,10 +308,10 @@ from_code p s to n deep room placed code =
     let placed1 = within s.cpu.rip to next to placed order.0 (le_self to) in
     let second = one_turn t u (live_at t to placed1) (steps t u sub_rsp rest.0 rest.1 rest.2 rest.3 (within next to next next2 placed1 (le_self next) order2.1)
     (sub_step t next2 (rax_is s.cpu.registers 552 room.registers) (omega arith) (omega arith) ∙ ap (λ x. Ok (after_rsp t next2 (x - 552) f)) rk)) in
-    let shown = body_shows p u to deep (entered_frame s next next2 f room) (within next to next2 to placed1 order2.0 (le_self to)) rest.4 n [] in
+    let shown = body_shows p u to deep (entered_frame s next next2 f room) (within next to next2 to placed1 order2.0 (le_self to)) rest.4 tables n [] in
     let e : 256 * n + 256 ≡ 1 + (1 + limit n) = omega arith in
-    subst (λ r. CoversRun (shown_by p n []) r) (sym (ap (λ j. run j (host s) []) e ∙ first (1 + limit n) [] ∙ second (limit n) [])) shown
+    subst (λ r. CoversRun (shown_by p n []) r) (sym (ap (λ j. run tables [] j (host s) []) e ∙ first tables (1 + limit n) [] ∙ second tables (limit n) [])) shown
 
 pub program_shows : ProgramShows
-program_shows p s n deep room placed stands =
-    from_code p s (s.cpu.rip + length (main_bytes p)) n deep room placed (has_code s.memory s.cpu.rip (main_code p) (main_encodable p deep) stands)
+program_shows tables p s n deep room placed stands =
+    from_code tables p s (s.cpu.rip + length (main_bytes p)) n deep room placed (has_code s.memory s.cpu.rip (main_code p) (main_encodable p deep) stands)

@@ -6,7 +6,7 @@ use Rattle.seh_num.specs.declared.width.Width.TheVariants.{W32, W64}
 use Rattle.seh_num.specs.Widths.{low}
 use Rattle.flat_memory.specs.Memory.{Memory}
 use Rattle.x64_instr.specs.declared.instruction.Instr.{Instr}
-use Rattle.x64_instr.specs.Spelling.{Spells, instr}
+use Rattle.x64_instr.specs.Spelling.{IsEncoding, instr}
 use Rattle.x64_encode.specs.Chosen.{chosen, is_encodable, is_signed}
 use Rattle.x64_encode.proofs.Written.{again}
 use Rattle.x64_encode.proofs.Lengths.{longest}
@@ -36,7 +36,7 @@ stands_split m at (x ∷ a) b h =
     let e : at + 1 + length a ≡ at + length (x ∷ a) = omega arith in
     ((h.0, h.1, h.2, r.0), subst (λ y. Stands m y b) e r.1)
 
-pub spells : (i : Instr) → is_encodable i ≡ true → Spells i (chosen i)
+pub spells : (i : Instr) → is_encodable i ≡ true → IsEncoding i (chosen i)
 spells i e = ap instr (sym (append-nil (chosen i))) ∙ again i [] e
 
 pub has_code : (m : Memory) (at : ℕ) (is : List Instr) → Encodable is → Stands m at (spelled is) → HasCode m at is (at + length (spelled is))

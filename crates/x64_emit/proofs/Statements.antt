@@ -8,22 +8,25 @@ use Rattle.seh_num.specs.declared.width.Width.TheVariants.{W32, W64}
 use Rattle.seh_num.specs.declared.event.Event.{Event}
 use Rattle.seh_num.specs.declared.event.Event.TheVariants as events
 use Rattle.seh_num.specs.Widths.{low, signed, wrapped}
-use Rattle.flat_memory.specs.declared.access.Access.{Access}
-use Rattle.flat_memory.specs.declared.mode.Mode.{Mode}
-use Rattle.flat_memory.specs.Modes.{is_readable, is_writable}
+use Rattle.flat_memory.specs.declared.access.RefusedAccess.{RefusedAccess}
+use Rattle.flat_memory.specs.declared.protection.Protection.{Protection}
+use Rattle.flat_memory.specs.Protections.{is_readable, is_writable}
 use Rattle.flat_memory.specs.Memory.{Memory, number_at, with_number, may_read, may_write, access, first_refused, loaded, executable}
 use Rattle.flat_memory.proofs.Stores.{untouched, stored_is_loaded}
 use Rattle.x64_instr.specs.declared.register.Reg.TheVariants.{Rax, Rcx}
-use Rattle.x64_instr.specs.declared.operand.Place.TheVariants as places
+use Rattle.x64_instr.specs.declared.operand.RegisterOrMemory.TheVariants as places
 use Rattle.x64_instr.specs.declared.operand.Operand.TheVariants as operands
 use Rattle.x64_instr.specs.declared.instruction.Extension.TheVariants.{Sign}
 use Rattle.x64_instr.specs.declared.instruction.Target.TheVariants.{Indirect}
 use Rattle.x64_instr.specs.declared.instruction.Instr.{Instr}
 use Rattle.x64_instr.specs.declared.instruction.Instr.TheVariants as instrs
-use Rattle.x64_instr.specs.Spelling.{Spells, leading}
-use Rattle.x64_machine.specs.Services.{in_host_page, service_at}
+use Rattle.x64_instr.specs.Spelling.{IsEncoding, leading}
+use Rattle.host_layout.specs.Services.{in_host_page, service_at}
 use Rattle.x64_machine.specs.Effect.{State, Answer, ◌>>=◌, register, with_rip, load, store, effect, step, execute, hosted}
-use Rattle.host_model.specs.HostStep.{Goes, host, put, returned, turn, turned}
+use Rattle.virtual_unwind.specs.CallerOf.{Functions}
+use Rattle.host_model.specs.HostStep.{host, put, returned, turn, turned}
+use Rattle.host_model.specs.Turns.{Continues}
+use Rattle.host_model.specs.Funclets.{arrived}
 use Rattle.host_model.specs.Machine.{run}
 use Rattle.x64_encode.specs.Chosen.{chosen, modrm}
 use Rattle.x64_encode.proofs.Lengths.{longest}
@@ -91,15 +94,15 @@ pub thunk_length : (away : ℕ) → length (chosen (thunk away)) ≡ 6
 unfolding modrm
 thunk_length away = refl
 
-thunk_kept : (m m' : Memory) → ((a : ℕ) → may_write m a ≡ false → m'.byte a ≡ m.byte a) → m'.mode ≡ m.mode → HasThunk m → HasThunk m'
+thunk_kept : (m m' : Memory) → ((a : ℕ) → may_write m a ≡ false → m'.byte a ≡ m.byte a) → m'.protection ≡ m.protection → HasThunk m → HasThunk m'
 thunk_kept m m' kept same t =
     let near = t.near in
     record {
       away = t.away;
       near = t.near;
       stands = stands_kept m m' thunk_at (chosen (thunk t.away)) kept same t.stands;
-      readable = λ a p q. ap (λ (f : ℕ → Mode). is_readable (f a).rights) same ∙ t.readable a p q;
-      fixed = λ a p q. ap (λ (f : ℕ → Mode). is_writable (f a).rights) same ∙ t.fixed a p q;
+      readable = λ a p q. ap (λ (f : ℕ → Protection). is_readable (f a).rights) same ∙ t.readable a p q;
+      fixed = λ a p q. ap (λ (f : ℕ → Protection). is_writable (f a).rights) same ∙ t.fixed a p q;
       bound = same_number m'.byte m.byte 8 (slot_at t.away) (omega arith) (λ a p q. kept a (t.fixed a p q)) ∙ t.bound;
     }
 
@@ -127,17 +130,17 @@ pub record HasFrame (s : State) : Type 0 where
 pub record Holds (s t : State) : Type 0 where
   pub registers : length t.cpu.registers ≡ 16
   pub stack : rsp t ≡ rsp s
-  pub mode : t.memory.mode ≡ s.memory.mode
+  pub protection : t.memory.protection ≡ s.memory.protection
   pub byte : (a : ℕ) → (a + 8 < rsp s) ⊎ (rsp s + 552 ≤ a) → t.memory.byte a ≡ s.memory.byte a
 
 pub holds_of_keeps : (s t : State) → Keeps 0 s t → Holds s t
-holds_of_keeps s t k = record { registers = k.registers; stack = k.stack; mode = k.mode; byte = λ a h. k.byte a (elim h [ inl l ↦ inl (omega arith) | inr r ↦ inr (omega arith) ]) }
+holds_of_keeps s t k = record { registers = k.registers; stack = k.stack; protection = k.protection; byte = λ a h. k.byte a (elim h [ inl l ↦ inl (omega arith) | inr r ↦ inr (omega arith) ]) }
 
 pub holds_then : (s t u : State) → Holds s t → Holds t u → Holds s u
 holds_then s t u a b = record {
   registers = b.registers;
   stack = b.stack ∙ a.stack;
-  mode = b.mode ∙ a.mode;
+  protection = b.protection ∙ a.protection;
   byte = λ x h. b.byte x (elim h [ inl l ↦ inl (let st = a.stack in omega arith) | inr r ↦ inr (let st = a.stack in omega arith) ]) ∙ a.byte x h;
 }
 
@@ -161,10 +164,10 @@ frame_kept s t h k =
       registers = k.registers;
       low = omega arith;
       high = omega arith;
-      writable = λ a p q. ap (λ (f : ℕ → Mode). is_writable (f a).rights) k.mode ∙ h.writable a (omega arith) (omega arith);
-      readable = λ a p q. ap (λ (f : ℕ → Mode). is_readable (f a).rights) k.mode ∙ h.readable a (omega arith) (omega arith);
+      writable = λ a p q. ap (λ (f : ℕ → Protection). is_writable (f a).rights) k.protection ∙ h.writable a (omega arith) (omega arith);
+      readable = λ a p q. ap (λ (f : ℕ → Protection). is_readable (f a).rights) k.protection ∙ h.readable a (omega arith) (omega arith);
       back = ap (λ (x : ℕ). number_at t.memory.byte 8 (x + 552)) k.stack ∙ same_number t.memory.byte s.memory.byte 8 (rsp s + 552) (omega arith) (λ a p q. k.byte a (inr p)) ∙ h.back;
-      thunk = thunk_kept s.memory t.memory (unwritten s t h k) k.mode h.thunk;
+      thunk = thunk_kept s.memory t.memory (unwritten s t h k) k.protection h.thunk;
     }
 
 pub slots_of : (s : State) → HasFrame s → HasSlots s
@@ -174,7 +177,7 @@ slots_of s h = let high = h.high in record { registers = h.registers; high = ome
 
 -- the run goes on from the other state, with these events
 abbrev pub ComesWith : ℕ → State → State → List Event → Type 0
-ComesWith c s t ev = (k : ℕ) (out : List Event) → run (c + k) (host s) out ≡ run k (host t) (out ++ ev)
+ComesWith c s t ev = (f : Functions) (k : ℕ) (out : List Event) → run f [] (c + k) (host s) out ≡ run f [] k (host t) (out ++ ev)
 
 -- what a stretch does, in relation to a state before it
 pub record Does (c : ℕ) (s : State) (ev : List Event) (to : ℕ) (base : State) : Type 0 where
@@ -184,22 +187,22 @@ pub record Does (c : ℕ) (s : State) (ev : List Event) (to : ℕ) (base : State
   pub holds : Holds base after
 
 more_turns : (a c : ℕ) (s t u : State) (d e : List Event) → ComesWith a s t d → ComesWith c t u e → ComesWith (a + c) s u (d ++ e)
-more_turns a c s t u d e p q k out = ap (λ j. run j (host s) out) (add_assoc a c k) ∙ p (c + k) out ∙ q k (out ++ d) ∙ ap (run k (host u)) (append_assoc out d e)
+more_turns a c s t u d e p q f k out = ap (λ j. run f [] j (host s) out) (add_assoc a c k) ∙ p f (c + k) out ∙ q f k (out ++ d) ∙ ap (run f [] k (host u)) (append_assoc out d e)
 
-quiet : (c : ℕ) (s t : State) → ((k : ℕ) (out : List Event) → run (c + k) (host s) out ≡ run k (host t) out) → ComesWith c s t []
-quiet c s t h k out = h k out ∙ ap (run k (host t)) (sym (append-nil out))
+quiet : (c : ℕ) (s t : State) → ((f : Functions) (k : ℕ) (out : List Event) → run f [] (c + k) (host s) out ≡ run f [] k (host t) out) → ComesWith c s t []
+quiet c s t h f k out = h f k out ∙ ap (run f [] k (host t)) (sym (append-nil out))
 
 -- one instruction, and the rest
-stage : (s t : State) (i : Instr) (bytes : List ℕ) (c to : ℕ) (ev : List Event) (base : State) → Spells i bytes → length bytes ≤ 15 → Stands s.memory s.cpu.rip bytes → IsPlaced s.cpu.rip (s.cpu.rip + length bytes) → effect (with_rip s (s.cpu.rip + length bytes)) i ≡ Ok t → Does c t ev to base → Does (1 + c) s ev to base
+stage : (s t : State) (i : Instr) (bytes : List ℕ) (c to : ℕ) (ev : List Event) (base : State) → IsEncoding i bytes → length bytes ≤ 15 → Stands s.memory s.cpu.rip bytes → IsPlaced s.cpu.rip (s.cpu.rip + length bytes) → effect (with_rip s (s.cpu.rip + length bytes)) i ≡ Ok t → Does c t ev to base → Does (1 + c) s ev to base
 stage s t i bytes c to ev base spells short stands placed e d =
     let live : s.cpu.rip ≢ 0 = λ z. let low = placed.low in absurd (omega arith) in
     record { after = d.after; comes = more_turns 1 c s t d.after [] ev (quiet 1 s t (one_turn s t live (steps s t i bytes spells short stands placed e))) d.comes; rip = d.rip; holds = d.holds }
 
 -- ---- the service that writes a number
 
-service_turn : (s : State) → s.cpu.rip ≡ 0x7FF00010 → turn s ≡ put s
+service_turn : (f : Functions) (s : State) → s.cpu.rip ≡ 0x7FF00010 → turn f [] s ≡ arrived f [] (put s)
 unfolding turn step
-service_turn s e = ap (λ (a : ℕ). turned s (cond (in_host_page a) (Err (hosted a (service_at a))) (execute s (leading (executable s.memory 15 a))))) e
+service_turn f s e = ap (λ (a : ℕ). arrived f [] (turned f s (cond (in_host_page a) (Err (hosted a (service_at a))) (execute s (leading (executable s.memory 15 a)))))) e
 
 loaded_at : (s : State) (at : ℕ) → first_refused (may_read s.memory) 8 at ≡ None → loaded s.memory at W64 ≡ Ok (number_at s.memory.byte 8 at)
 loaded_at s at h = ap (λ (o : Option ℕ). access false o (number_at s.memory.byte 8 at)) h
@@ -207,17 +210,17 @@ loaded_at s at h = ap (λ (o : Option ℕ). access false o (number_at s.memory.b
 abbrev after_service : State → ℕ → State
 after_service s to = record { cpu = record { registers = set s.cpu.registers 4 (rsp s + 8); rip = to; flags = s.cpu.flags }; memory = s.memory }
 
-served : (s : State) → s.cpu.rip ≡ 0x7FF00010 → rsp s + 8 < 2 ^ 48 → ((a : ℕ) → rsp s ≤ a → a < rsp s + 8 → may_read s.memory a ≡ true) → turn s ≡ Goes (after_service s (number_at s.memory.byte 8 (rsp s))) (events.Put (signed W64 (register s.cpu Rcx)) ∷ [])
-served s at high readable =
+served : (f : Functions) (s : State) → s.cpu.rip ≡ 0x7FF00010 → rsp s + 8 < 2 ^ 48 → ((a : ℕ) → rsp s ≤ a → a < rsp s + 8 → may_read s.memory a ≡ true) → turn f [] s ≡ Continues (after_service s (number_at s.memory.byte 8 (rsp s))) (events.Put (signed W64 (register s.cpu Rcx)) ∷ [])
+served f s at high readable =
     let e : low W64 ((rsp s + 8) % 2 ^ 64) ≡ rsp s + 8 = omega arith in
-    service_turn s at
-    ∙ ap (λ (r : Result ℕ Access). returned s r (λ t. Goes t (events.Put (signed W64 (register s.cpu Rcx)) ∷ []))) (loaded_at s (rsp s) (all_may (may_read s.memory) 8 (rsp s) (omega arith) readable))
-    ∙ ap (λ (x : ℕ). Goes (record { cpu = record { registers = set s.cpu.registers 4 x; rip = number_at s.memory.byte 8 (rsp s); flags = s.cpu.flags }; memory = s.memory }) (events.Put (signed W64 (register s.cpu Rcx)) ∷ [])) e
+    service_turn f s at
+    ∙ ap (λ (r : Result ℕ RefusedAccess). arrived f [] (returned s r (λ t. Continues t (events.Put (signed W64 (register s.cpu Rcx)) ∷ [])))) (loaded_at s (rsp s) (all_may (may_read s.memory) 8 (rsp s) (omega arith) readable))
+    ∙ ap (λ (x : ℕ). Continues (record { cpu = record { registers = set s.cpu.registers 4 x; rip = number_at s.memory.byte 8 (rsp s); flags = s.cpu.flags }; memory = s.memory }) (events.Put (signed W64 (register s.cpu Rcx)) ∷ [])) e
 
 -- ---- the code of `put`
 
 abbrev after_call : State → ℕ → ℕ → State
-after_call s next to = record { cpu = record { registers = set s.cpu.registers 4 (rsp s - 8); rip = to; flags = s.cpu.flags }; memory = record { mode = s.memory.mode; byte = with_number s.memory.byte 8 (rsp s - 8) next } }
+after_call s next to = record { cpu = record { registers = set s.cpu.registers 4 (rsp s - 8); rip = to; flags = s.cpu.flags }; memory = record { protection = s.memory.protection; byte = with_number s.memory.byte 8 (rsp s - 8) next } }
 
 abbrev call_rax : Instr
 call_rax = instrs.Call (Indirect (places.Register Rax))
@@ -234,20 +237,20 @@ call_step s next h =
 
 module _ (base : State) where
   service_runs : (s : State) (to : ℕ) (v : ℤ) → s.cpu.rip ≡ 0x7FF00010 → signed W64 (register s.cpu Rcx) ≡ v → length s.cpu.registers ≡ 16 → rsp s + 8 < 2 ^ 48 → ((a : ℕ) → rsp s ≤ a → a < rsp s + 8 → may_read s.memory a ≡ true) → number_at s.memory.byte 8 (rsp s) ≡ to
-      → rsp base ≡ rsp s + 8 → s.memory.mode ≡ base.memory.mode → ((a : ℕ) → (a + 8 < rsp base) ⊎ (rsp base + 552 ≤ a) → s.memory.byte a ≡ base.memory.byte a) → Does 1 s (events.Put v ∷ []) to base
+      → rsp base ≡ rsp s + 8 → s.memory.protection ≡ base.memory.protection → ((a : ℕ) → (a + 8 < rsp base) ⊎ (rsp base + 552 ≤ a) → s.memory.byte a ≡ base.memory.byte a) → Does 1 s (events.Put v ∷ []) to base
   unfolding run
-  service_runs s to v at rcx regs high readable back stack mode byte =
+  service_runs s to v at rcx regs high readable back stack protection byte =
       let t = after_service s (number_at s.memory.byte 8 (rsp s)) in
-      let e : turn s ≡ Goes t (events.Put v ∷ []) = served s at high readable ∙ ap (λ (x : ℤ). Goes t (events.Put x ∷ [])) rcx in
+      let e : (f : Functions) → turn f [] s ≡ Continues t (events.Put v ∷ []) = λ f. served f s at high readable ∙ ap (λ (x : ℤ). Continues t (events.Put x ∷ [])) rcx in
       let not_over : eqb s.cpu.rip 0 ≡ false = ne_eqb s.cpu.rip 0 (λ z. absurd (omega arith)) in
       record {
         after = t;
-        comes = λ k out. let one : 1 + k ≡ suc k = omega arith in ap (λ j. run j (host s) out) one ∙ rw (not_over, e) refl;
+        comes = λ f k out. let one : 1 + k ≡ suc k = omega arith in ap (λ j. run f [] j (host s) out) one ∙ rw (not_over, e f) refl;
         rip = back;
         holds = record {
           registers = length-set s.cpu.registers 4 (rsp s + 8) ∙ regs;
           stack = get_or-set_same s.cpu.registers 4 (rsp s + 8) 0 (omega arith) ∙ sym stack;
-          mode = mode;
+          protection = protection;
           byte = byte;
         };
       }
@@ -296,7 +299,7 @@ module _ (base : State) where
       stage t u (thunk d) (chosen (thunk d)) 1 to (events.Put v ∷ []) base (spells (thunk d) (thunk_encodable d near)) (longest (thunk d)) there.stands (record { low = omega arith; high = omega arith })
       (thunk_step t (thunk_at + length (chosen (thunk d))) d 0x7FF00010 (omega arith) near there.readable there.bound)
       (service_runs u to v refl (ap (signed W64) (get_or-set_other s.cpu.registers 4 1 (rsp s - 8) 0 four_apart) ∙ rcx) (length-set s.cpu.registers 4 (rsp s - 8) ∙ h.registers) (rsp_below s h) (rsp_readable s h) (pushed s next to h same high)
-      (rsp_back s h held) held.mode (pushed_byte s next h held))
+      (rsp_back s h held) held.protection (pushed_byte s next h held))
 
   -- the call of the thunk
   call_runs : (s : State) (to : ℕ) (v : ℤ) → register s.cpu Rax ≡ thunk_at → signed W64 (register s.cpu Rcx) ≡ v → HasFrame s → Holds base s → IsPlaced s.cpu.rip to → HasCode s.memory s.cpu.rip (call_rax ∷ []) to → Does 3 s (events.Put v ∷ []) to base

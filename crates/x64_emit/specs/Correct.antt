@@ -1,22 +1,17 @@
 -- From a state in which the code of a program stands, a run shows what the program shows.
 use Rattle.std.specs.Prelude.{◌≡◌, ℕ, ◌+◌, ◌*◌, ◌<◌, ◌≤◌, true, List, [], ◌++◌, length, Option, Some}
-use Rattle.seh_num.specs.declared.event.Event.{Event}
-use Rattle.seh_num.specs.declared.end.RunEnd.{RunEnd}
 use Rattle.flat_memory.specs.Memory.{number_at, may_read, may_write}
 use Rattle.x64_instr.specs.declared.register.Reg.TheVariants.{Rsp}
 use Rattle.x64_machine.specs.Effect.{State, register}
+use Rattle.virtual_unwind.specs.CallerOf.{Functions}
 use Rattle.host_model.specs.HostStep.{host}
-use Rattle.host_model.specs.Machine.{Shown, run}
+use Rattle.host_model.specs.Laws.{Covers}
+use Rattle.host_model.specs.Machine.{run}
 use Rattle.c_meaning.specs.Syntax.{Statement, deepest}
 use Rattle.c_meaning.specs.Meaning.{shown_by}
 use Rattle.x64_emit.specs.Code.{frame_size, main_bytes}
 use Rattle.x64_emit.specs.Standing.{Stands, IsPlaced}
 use Rattle.x64_emit.specs.Thunk.{HasThunk}
-
--- a run shows these events at least; if there is this end, it has ended so and shows nothing else
-pub record Covers (events : List Event) (end : Option RunEnd) (shown : Shown) : Type 0 where
-  pub shows : (more : List Event) × (shown.events ≡ events ++ more)
-  pub ends : (e : RunEnd) → end ≡ Some e → shown ≡ record { events = events; end = Some e }
 
 -- where `main` begins: below RSP there is room for its frame and for what it calls, the return address is 0, and there is the thunk of `put`
 pub record HasRoom (s : State) : Type 0 where
@@ -31,5 +26,5 @@ pub record HasRoom (s : State) : Type 0 where
 -- 256 turns for each step, and as many again, are enough
 abbrev pub ProgramShows : Type 0
 ProgramShows =
-    (program : List Statement) (s : State) (n : ℕ) → deepest program ≤ 64 → HasRoom s → IsPlaced s.cpu.rip (s.cpu.rip + length (main_bytes program)) → Stands s.memory s.cpu.rip (main_bytes program)
-    → let shown = shown_by program n [] in Covers shown.events shown.end (run (256 * n + 256) (host s) [])
+    (tables : Functions) (program : List Statement) (s : State) (n : ℕ) → deepest program ≤ 64 → HasRoom s → IsPlaced s.cpu.rip (s.cpu.rip + length (main_bytes program)) → Stands s.memory s.cpu.rip (main_bytes program)
+    → let shown = shown_by program n [] in Covers shown.events shown.end (run tables [] (256 * n + 256) (host s) [])

@@ -11,14 +11,14 @@ use seh_num::width::Width;
 use std::alloc::AllocError;
 use x64_encode::encoding::encode;
 use x64_instr::instruction::{Extension, Instr, Operation, Target};
-use x64_instr::operand::{Base, MemRef, Operand, Place};
+use x64_instr::operand::{Base, MemRef, Operand, RegisterOrMemory};
 use x64_instr::register::Reg;
 
-const RAX: Place = Place::Register(Reg::Rax);
+const RAX: RegisterOrMemory = RegisterOrMemory::Register(Reg::Rax);
 
-const RCX: Place = Place::Register(Reg::Rcx);
+const RCX: RegisterOrMemory = RegisterOrMemory::Register(Reg::Rcx);
 
-const RSP: Place = Place::Register(Reg::Rsp);
+const RSP: RegisterOrMemory = RegisterOrMemory::Register(Reg::Rsp);
 
 /// How many bytes below the return address a frame takes.
 const FRAME_SIZE: u64 = 552;
@@ -37,7 +37,7 @@ fn slot(depth: u64) -> MemRef
     }
 }
 
-fn arithmetic(operation: Operation, width: Width, to: Place, from: Reg) -> Instr
+fn arithmetic(operation: Operation, width: Width, to: RegisterOrMemory, from: Reg) -> Instr
     ensures { result ≡ Instr.Arithmetic operation width to (Operand.Register from) }
 {
     Instr::Arithmetic {
@@ -48,7 +48,7 @@ fn arithmetic(operation: Operation, width: Width, to: Place, from: Reg) -> Instr
     }
 }
 
-fn number(width: Width, to: Place, value: u64) -> Instr
+fn number(width: Width, to: RegisterOrMemory, value: u64) -> Instr
     ensures { result ≡ Instr.Move width to (Operand.Immediate value) }
 {
     Instr::Move {
@@ -97,7 +97,7 @@ pub(crate) fn put_keep(code: &mut Vec<u8>, depth: u64) -> Result<(), AllocError>
 {
     let keep = Instr::Move {
         width: Width::W64,
-        to: Place::Memory(slot(depth)),
+        to: RegisterOrMemory::Memory(slot(depth)),
         from: Operand::Register(Reg::Rax),
     };
     put(code, &keep)
@@ -171,5 +171,8 @@ pub(crate) fn put_thunk(code: &mut Vec<u8>, away: u32) -> Result<(), AllocError>
         index: None,
         displacement: away as u64,
     };
-    put(code, &Instr::Jump(Target::Indirect(Place::Memory(slot))))
+    put(
+        code,
+        &Instr::Jump(Target::Indirect(RegisterOrMemory::Memory(slot))),
+    )
 }

@@ -8,8 +8,8 @@ use Rattle.x64_instr.specs.declared.register.Reg.{Reg}
 use Rattle.x64_instr.specs.declared.operand.Base.{Base}
 use Rattle.x64_instr.specs.declared.operand.Base.TheVariants as bases
 use Rattle.x64_instr.specs.declared.operand.Index.{Index}
-use Rattle.x64_instr.specs.declared.operand.Place.{Place}
-use Rattle.x64_instr.specs.declared.operand.Place.TheVariants as places
+use Rattle.x64_instr.specs.declared.operand.RegisterOrMemory.{RegisterOrMemory}
+use Rattle.x64_instr.specs.declared.operand.RegisterOrMemory.TheVariants as places
 use Rattle.x64_instr.specs.declared.operand.Operand.TheVariants as operands
 use Rattle.x64_encode.specs.declared.writing.Opcode.{Opcode}
 use Rattle.x64_encode.specs.declared.writing.Opcode.TheVariants as opcodes
@@ -21,7 +21,7 @@ use Rattle.x64_instr.specs.declared.instruction.Instr.{Instr}
 use Rattle.x64_instr.specs.declared.instruction.Instr.TheVariants as instrs
 use Rattle.x64_instr.specs.Registers.{number}
 use Rattle.x64_instr.specs.Operands.{immediate_of}
-use Rattle.x64_encode.specs.Chosen.{little, is_signed, wide, has_rex, prefixes, opcode_bytes, mode, displacement, sib, at_register, memory_bytes, place_bytes, modrm_bits, modrm, opcode_register, sized_opcode, digit, unary_digit, division_digit, direction_digit, condition_number, extend_opcode, extend_width, immediate_bytes, arithmetic_bytes, move_bytes, count_bytes, plain_bytes, encoded_len}
+use Rattle.x64_encode.specs.Chosen.{little, is_signed, wide, has_rex, prefixes, opcode_bytes, mode, displacement, sib, at_register, memory_bytes, place_bytes, modrm_bits, modrm, opcode_register, sized_opcode, opcode_extension, unary_opcode_extension, division_opcode_extension, direction_opcode_extension, condition_number, extend_opcode, extend_width, immediate_bytes, arithmetic_bytes, move_bytes, count_bytes, plain_bytes, encoded_len}
 
 pub length-little : (n v : ℕ) → length (little n v) ≡ n
 length-little zero v = refl
@@ -60,11 +60,11 @@ memory_length r bases.Nothing i d = omega (arith, length-little 4 (low W32 d))
 memory_length r bases.Rip i d = omega (arith, length-little 4 (low W32 d))
 memory_length r (bases.Register b) i d = at_register_length r b i d
 
-place_length : (r : ℕ) (at : Place) → length (place_bytes r at) ≤ 6
+place_length : (r : ℕ) (at : RegisterOrMemory) → length (place_bytes r at) ≤ 6
 place_length r (places.Register b) = omega arith
 place_length r (places.Memory m) = memory_length r m.base m.index m.displacement
 
-modrm_length : (w : Width) (op : Opcode) (r : ℕ) (at : Place) → length (modrm w op r at) ≤ 10
+modrm_length : (w : Width) (op : Opcode) (r : ℕ) (at : RegisterOrMemory) → length (modrm w op r at) ≤ 10
 unfolding modrm
 modrm_length w op r at =
     let p = prefixes w (modrm_bits w r at) in
@@ -89,24 +89,24 @@ immediate_most W16 = omega arith
 immediate_most W32 = omega arith
 immediate_most W64 = omega arith
 
-modrm_most : (w : Width) (op : Opcode) (r : ℕ) (at : Place) → length (modrm w op r at) ≤ 15
+modrm_most : (w : Width) (op : Opcode) (r : ℕ) (at : RegisterOrMemory) → length (modrm w op r at) ≤ 15
 modrm_most w op r at = omega (arith, modrm_length w op r at)
 
 -- with a number behind it
-modrm_more : (w : Width) (op : Opcode) (r : ℕ) (at : Place) (n v : ℕ) → n ≤ 4 → length (modrm w op r at ++ little n v) ≤ 15
+modrm_more : (w : Width) (op : Opcode) (r : ℕ) (at : RegisterOrMemory) (n v : ℕ) → n ≤ 4 → length (modrm w op r at ++ little n v) ≤ 15
 modrm_more w op r at n v h = let a = length-append (modrm w op r at) (little n v) in let b = length-little n v in let c = modrm_length w op r at in omega arith
 
-immediate_more : (w : Width) (op : Opcode) (r : ℕ) (at : Place) (u : Width) (v : ℕ) → length (modrm w op r at ++ immediate_bytes u v) ≤ 15
+immediate_more : (w : Width) (op : Opcode) (r : ℕ) (at : RegisterOrMemory) (u : Width) (v : ℕ) → length (modrm w op r at ++ immediate_bytes u v) ≤ 15
 immediate_more w op r at u v = modrm_more w op r at (bytes_of (immediate_of u)) (low (immediate_of u) v) (immediate_most u)
 
 register_more : (w : Width) (op : ℕ) (r : Reg) (n v : ℕ) → n ≤ 8 → length (opcode_register w op r ++ little n v) ≤ 15
 register_more w op r n v h = let a = length-append (opcode_register w op r) (little n v) in let b = length-little n v in let c = opcode_register_length w op r in omega arith
 
-arithmetic_length : (o : Operation) (w : Width) (to : Place) (v : ℕ) → length (arithmetic_bytes o w to v) ≤ 15
-arithmetic_length o W8 to v = immediate_more W8 (opcodes.One 0x80) (digit o) to W8 v
-arithmetic_length o W16 to v = shorter_by (is_signed W8 W16 v) _ _ 15 (modrm_more W16 (opcodes.One 0x83) (digit o) to 1 (low W8 v) (omega arith)) (immediate_more W16 (opcodes.One 0x81) (digit o) to W16 v)
-arithmetic_length o W32 to v = shorter_by (is_signed W8 W32 v) _ _ 15 (modrm_more W32 (opcodes.One 0x83) (digit o) to 1 (low W8 v) (omega arith)) (immediate_more W32 (opcodes.One 0x81) (digit o) to W32 v)
-arithmetic_length o W64 to v = shorter_by (is_signed W8 W64 v) _ _ 15 (modrm_more W64 (opcodes.One 0x83) (digit o) to 1 (low W8 v) (omega arith)) (immediate_more W64 (opcodes.One 0x81) (digit o) to W64 v)
+arithmetic_length : (o : Operation) (w : Width) (to : RegisterOrMemory) (v : ℕ) → length (arithmetic_bytes o w to v) ≤ 15
+arithmetic_length o W8 to v = immediate_more W8 (opcodes.One 0x80) (opcode_extension o) to W8 v
+arithmetic_length o W16 to v = shorter_by (is_signed W8 W16 v) _ _ 15 (modrm_more W16 (opcodes.One 0x83) (opcode_extension o) to 1 (low W8 v) (omega arith)) (immediate_more W16 (opcodes.One 0x81) (opcode_extension o) to W16 v)
+arithmetic_length o W32 to v = shorter_by (is_signed W8 W32 v) _ _ 15 (modrm_more W32 (opcodes.One 0x83) (opcode_extension o) to 1 (low W8 v) (omega arith)) (immediate_more W32 (opcodes.One 0x81) (opcode_extension o) to W32 v)
+arithmetic_length o W64 to v = shorter_by (is_signed W8 W64 v) _ _ 15 (modrm_more W64 (opcodes.One 0x83) (opcode_extension o) to 1 (low W8 v) (omega arith)) (immediate_more W64 (opcodes.One 0x81) (opcode_extension o) to W64 v)
 
 move_length : (w : Width) (to : Reg) (v : ℕ) → length (move_bytes w to v) ≤ 15
 move_length W8 to v = immediate_more W8 (opcodes.One 0xC6) 0 (places.Register to) W8 v
@@ -120,7 +120,7 @@ plain_length W16 op = omega arith
 plain_length W32 op = omega arith
 plain_length W64 op = omega arith
 
-count_length : (w : Width) (d : ℕ) (to : Place) (by : Count) → length (count_bytes w d to by) ≤ 15
+count_length : (w : Width) (d : ℕ) (to : RegisterOrMemory) (by : Count) → length (count_bytes w d to by) ≤ 15
 count_length w d to (counts.Immediate n) = modrm_more w (opcodes.One 0xC1) d to 1 n (omega arith)
 count_length w d to counts.Cl = modrm_most w (opcodes.One 0xD3) d to
 
@@ -135,19 +135,19 @@ longest (instrs.Move w (places.Memory n) (operands.Memory m)) = omega arith
 longest (instrs.Move w (places.Memory n) (operands.Immediate v)) = immediate_more w (opcodes.One (sized_opcode w 0xC6)) 0 (places.Memory n) w v
 longest (instrs.Extend e w to n from) = modrm_most (extend_width w n) (extend_opcode e n) (number to) from
 longest (instrs.LoadAddress w to m) = modrm_most w (opcodes.One 0x8D) (number to) (places.Memory m)
-longest (instrs.Arithmetic o w to (operands.Register r)) = modrm_most w (opcodes.One (sized_opcode w (8 * digit o))) (number r) to
+longest (instrs.Arithmetic o w to (operands.Register r)) = modrm_most w (opcodes.One (sized_opcode w (8 * opcode_extension o))) (number r) to
 longest (instrs.Arithmetic o w to (operands.Immediate v)) = arithmetic_length o w to v
-longest (instrs.Arithmetic o w (places.Register r) (operands.Memory m)) = modrm_most w (opcodes.One (sized_opcode w (8 * digit o + 2))) (number r) (places.Memory m)
+longest (instrs.Arithmetic o w (places.Register r) (operands.Memory m)) = modrm_most w (opcodes.One (sized_opcode w (8 * opcode_extension o + 2))) (number r) (places.Memory m)
 longest (instrs.Arithmetic o w (places.Memory n) (operands.Memory m)) = omega arith
 longest (instrs.Test w at (operands.Register r)) = modrm_most w (opcodes.One (sized_opcode w 0x84)) (number r) at
 longest (instrs.Test w at (operands.Immediate v)) = immediate_more w (opcodes.One (sized_opcode w 0xF6)) 0 at w v
 longest (instrs.Test w at (operands.Memory m)) = omega arith
 longest (instrs.Multiply w to from) = modrm_most w (opcodes.Two 0xAF) (number to) from
 longest (instrs.MultiplyBy w to from v) = shorter_by (is_signed W8 w v) _ _ 15 (modrm_more w (opcodes.One 0x6B) (number to) from 1 (low W8 v) (omega arith)) (immediate_more w (opcodes.One 0x69) (number to) from w v)
-longest (instrs.Unary o w at) = modrm_most w (opcodes.One (sized_opcode w 0xF6)) (unary_digit o) at
-longest (instrs.Divide d w at) = modrm_most w (opcodes.One 0xF7) (division_digit d) at
+longest (instrs.Unary o w at) = modrm_most w (opcodes.One (sized_opcode w 0xF6)) (unary_opcode_extension o) at
+longest (instrs.Divide d w at) = modrm_most w (opcodes.One 0xF7) (division_opcode_extension d) at
 longest (instrs.ExtendRax w) = plain_length w 0x99
-longest (instrs.Shift d w to by) = count_length w (direction_digit d) to by
+longest (instrs.Shift d w to by) = count_length w (direction_opcode_extension d) to by
 longest (instrs.Set c at) = modrm_most W8 (opcodes.Two (0x90 + condition_number c)) 0 at
 longest (instrs.JumpIf c d) = displaced_length 0x0F (0x80 + condition_number c) (low W32 d)
 longest (instrs.Jump (Relative d)) = omega (arith, length-little 4 (low W32 d))

@@ -6,8 +6,8 @@ use Rattle.seh_num.specs.declared.width.Width.{Width}
 use Rattle.seh_num.specs.declared.width.Width.TheVariants.{W8, W16, W32, W64}
 use Rattle.x64_instr.specs.declared.register.Reg.{Reg}
 use Rattle.x64_instr.specs.declared.register.Reg.TheVariants.{Rax, Rcx, Rdx, Rbx, Rsp, Rbp, Rsi, Rdi, R8, R9, R10, R11, R12, R13, R14, R15}
-use Rattle.x64_instr.specs.declared.operand.Place.{Place}
-use Rattle.x64_instr.specs.declared.operand.Place.TheVariants as places
+use Rattle.x64_instr.specs.declared.operand.RegisterOrMemory.{RegisterOrMemory}
+use Rattle.x64_instr.specs.declared.operand.RegisterOrMemory.TheVariants as places
 use Rattle.x64_instr.specs.declared.operand.Operand.{Operand}
 use Rattle.x64_instr.specs.declared.operand.Operand.TheVariants as operands
 use Rattle.x64_instr.specs.declared.prefixes.Prefixes.{Prefixes}
@@ -20,9 +20,9 @@ use Rattle.x64_instr.specs.declared.instruction.Instr.{Instr}
 use Rattle.x64_instr.specs.declared.instruction.Instr.TheVariants as instrs
 use Rattle.x64_instr.specs.Registers as regs
 use Rattle.x64_instr.specs.Reading.{Read, ◌>>=◌, byte, signed, bit}
-use Rattle.x64_instr.specs.Operands.{width_of, sized, immediate_of, middle, lowest, place_and_register, is_listed, operands_of, operand_and_digit, source}
-use Rattle.x64_instr.specs.Spelling.{rm_r, r_rm, rm_digit, arithmetic_immediate, move_to_place, third_group, load, move_immediate, plain_row, row, second_row, after_prefixes, after_size, instr}
-use Rattle.x64_encode.specs.Chosen.{wide, has_rex, prefixes, high_bits, place_bytes, modrm_bits, modrm, opcode_register, sized_opcode, digit, condition_number, is_place}
+use Rattle.x64_instr.specs.Operands.{width_of, sized, immediate_of, register_of_reg_field, register_of_low_bits, modrm_with_register, is_listed, rm_and_register, rm_and_opcode_extension, source}
+use Rattle.x64_instr.specs.Spelling.{rm_r, r_rm, rm_extension, group_1, group_11, group_3, load, move_immediate, plain_row, row, two_byte_row, after_prefixes, after_size, instr}
+use Rattle.x64_encode.specs.Chosen.{wide, has_rex, prefixes, high_bits, place_bytes, modrm_bits, modrm, opcode_register, sized_opcode, opcode_extension, condition_number, is_place}
 use Rattle.x64_encode.proofs.Operands.{read_as, number_small, joined, High, IsRead, read_place, high_small}
 
 -- ---- prefixes
@@ -95,10 +95,10 @@ width_read W64 bits word e = rw (eq-eqb (bit 3 bits) 1 (omega arith)) refl
 
 -- ---- an opcode with ModRM
 
-abbrev pub modrm_prefixes : Width → ℕ → Place → Prefixes
+abbrev pub modrm_prefixes : Width → ℕ → RegisterOrMemory → Prefixes
 modrm_prefixes w r at = read_prefixes w (modrm_bits w r at)
 
-module _ (w : Width) (r : ℕ) (at : Place) (more : List ℕ) (lr : r < 16) where
+module _ (w : Width) (r : ℕ) (at : RegisterOrMemory) (more : List ℕ) (lr : r < 16) where
   abbrev pre : Prefixes
   pre = modrm_prefixes w r at
 
@@ -114,7 +114,7 @@ module _ (w : Width) (r : ℕ) (at : Place) (more : List ℕ) (lr : r < 16) wher
       ap instr (append_assoc (prefixes w (modrm_bits w r at) ++ op ∷ []) (place_bytes (r % 8) at) more ∙ append_assoc (prefixes w (modrm_bits w r at)) (op ∷ []) operand_bytes)
       ∙ front w (modrm_bits w r at) op operand_bytes bits_small n other
 
-  pub open_two : (op : ℕ) → instr (modrm w (opcodes.Two op) r at ++ more) ≡ second_row pre op operand_bytes
+  pub open_two : (op : ℕ) → instr (modrm w (opcodes.Two op) r at ++ more) ≡ two_byte_row pre op operand_bytes
   unfolding modrm after_prefixes
   open_two op =
       ap instr (append_assoc (prefixes w (modrm_bits w r at) ++ 0x0F ∷ op ∷ []) (place_bytes (r % 8) at) more ∙ append_assoc (prefixes w (modrm_bits w r at)) (0x0F ∷ op ∷ []) operand_bytes)
@@ -132,16 +132,16 @@ module _ (w : Width) (r : ℕ) (at : Place) (more : List ℕ) (lr : r < 16) wher
   pub bits_top : modrm_bits w r at / 8 ≡ wide w
   bits_top = let a = wide_small w in let b = high_small at in omega arith
 
-  pub digit_read : (v : Width) → is_listed pre v at ≡ true → is_place at ≡ true → r < 8 → operand_and_digit pre v operand_bytes ≡ Some ((at, r), more)
+  pub digit_read : (v : Width) → is_listed pre v at ≡ true → is_place at ≡ true → r < 8 → rm_and_opcode_extension pre v operand_bytes ≡ Some ((at, r), more)
   digit_read v listed ok small =
       let i = is_read ok in
-      let same : i.modrm / 8 % 8 ≡ r = omega (arith, i.digit) in
-      ap (operand_and_digit pre v) i.whole
-      ∙ ap (λ (o : Read Place). (o >>= λ x. read_as (x.0, i.modrm / 8 % 8) x.1) >>= λ x. cond (is_listed pre v x.0.0) (Some x) None) i.gives
+      let same : i.modrm / 8 % 8 ≡ r = omega (arith, i.opcode_extension) in
+      ap (rm_and_opcode_extension pre v) i.whole
+      ∙ ap (λ (o : Read RegisterOrMemory). (o >>= λ x. read_as (x.0, i.modrm / 8 % 8) x.1) >>= λ x. cond (is_listed pre v x.0.0) (Some x) None) i.gives
       ∙ ap (λ c. cond c (read_as (at, i.modrm / 8 % 8) more) None) listed
       ∙ ap (λ k. read_as (at, k) more) same
 
-register_read : (w : Width) (r : Reg) (at : Place) (more : List ℕ) → is_place at ≡ true → place_and_register (modrm_prefixes w (regs.number r) at) (place_bytes (regs.number r % 8) at ++ more) ≡ Some ((at, r), more)
+register_read : (w : Width) (r : Reg) (at : RegisterOrMemory) (more : List ℕ) → is_place at ≡ true → modrm_with_register (modrm_prefixes w (regs.number r) at) (place_bytes (regs.number r % 8) at ++ more) ≡ Some ((at, r), more)
 register_read w r at more ok =
     let n = number_small r in
     let p = modrm_prefixes w (regs.number r) at in
@@ -149,39 +149,39 @@ register_read w r at more ok =
     let a = wide_small w in
     let b = high_small at in
     let third : bit 2 p.rex ≡ regs.number r / 8 = omega arith in
-    ap (place_and_register p) i.whole
-    ∙ ap (λ (o : Read Place). o >>= λ x. read_as (x.0, middle p i.modrm) x.1) i.gives
-    ∙ ap (λ (x : Reg). read_as (at, x) more) (joined r (bit 2 p.rex) (i.modrm / 8 % 8) third i.digit)
+    ap (modrm_with_register p) i.whole
+    ∙ ap (λ (o : Read RegisterOrMemory). o >>= λ x. read_as (x.0, register_of_reg_field p i.modrm) x.1) i.gives
+    ∙ ap (λ (x : Reg). read_as (at, x) more) (joined r (bit 2 p.rex) (i.modrm / 8 % 8) third i.opcode_extension)
 
 -- the place of width v, the register of width u
-pub operands_read : (w v u : Width) (r : Reg) (at : Place) (more : List ℕ) → is_place at ≡ true → is_listed (modrm_prefixes w (regs.number r) at) v at ≡ true → is_listed (modrm_prefixes w (regs.number r) at) u (places.Register r) ≡ true
-    → operands_of (modrm_prefixes w (regs.number r) at) v u (place_bytes (regs.number r % 8) at ++ more) ≡ Some ((at, r), more)
+pub operands_read : (w v u : Width) (r : Reg) (at : RegisterOrMemory) (more : List ℕ) → is_place at ≡ true → is_listed (modrm_prefixes w (regs.number r) at) v at ≡ true → is_listed (modrm_prefixes w (regs.number r) at) u (places.Register r) ≡ true
+    → rm_and_register (modrm_prefixes w (regs.number r) at) v u (place_bytes (regs.number r % 8) at ++ more) ≡ Some ((at, r), more)
 operands_read w v u r at more ok a b =
     let p = modrm_prefixes w (regs.number r) at in
-    ap (λ (o : Read (Place × Reg)). o >>= λ x. cond (is_listed p v x.0.0 && is_listed p u (places.Register x.0.1)) (Some x) None) (register_read w r at more ok)
+    ap (λ (o : Read (RegisterOrMemory × Reg)). o >>= λ x. cond (is_listed p v x.0.0 && is_listed p u (places.Register x.0.1)) (Some x) None) (register_read w r at more ok)
     ∙ ap (λ c. cond (c && is_listed p u (places.Register r)) (read_as (at, r) more) None) a
     ∙ ap (λ c. cond c (read_as (at, r) more) None) b
 
 -- the prefixes of a width list each place of that width
-pub listed : (w : Width) (bits : ℕ) (at : Place) → is_listed (read_prefixes w bits) w at ≡ true
+pub listed : (w : Width) (bits : ℕ) (at : RegisterOrMemory) → is_listed (read_prefixes w bits) w at ≡ true
 listed W8 bits (places.Register r) = refl
 listed W8 bits (places.Memory m) = refl
 listed W16 bits at = refl
 listed W32 bits at = refl
 listed W64 bits at = refl
 
-rm_r_read : (w : Width) (r : Reg) (at : Place) (more : List ℕ) (made : Place → Operand → Instr) → is_place at ≡ true → rm_r (modrm_prefixes w (regs.number r) at) w made (place_bytes (regs.number r % 8) at ++ more) ≡ Some (made at (operands.Register r), more)
+rm_r_read : (w : Width) (r : Reg) (at : RegisterOrMemory) (more : List ℕ) (made : RegisterOrMemory → Operand → Instr) → is_place at ≡ true → rm_r (modrm_prefixes w (regs.number r) at) w made (place_bytes (regs.number r % 8) at ++ more) ≡ Some (made at (operands.Register r), more)
 rm_r_read w r at more made ok =
     let bits = modrm_bits w (regs.number r) at in
-    ap (λ (o : Read (Place × Reg)). o >>= λ x. read_as (made x.0.0 (operands.Register x.0.1)) x.1) (operands_read w w w r at more ok (listed w bits at) (listed w bits (places.Register r)))
+    ap (λ (o : Read (RegisterOrMemory × Reg)). o >>= λ x. read_as (made x.0.0 (operands.Register x.0.1)) x.1) (operands_read w w w r at more ok (listed w bits at) (listed w bits (places.Register r)))
 
-pub r_rm_read : (w : Width) (r : Reg) (at : Place) (more : List ℕ) (made : Reg → Place → Instr) → is_place at ≡ true → r_rm (modrm_prefixes w (regs.number r) at) w w made (place_bytes (regs.number r % 8) at ++ more) ≡ Some (made r at, more)
+pub r_rm_read : (w : Width) (r : Reg) (at : RegisterOrMemory) (more : List ℕ) (made : Reg → RegisterOrMemory → Instr) → is_place at ≡ true → r_rm (modrm_prefixes w (regs.number r) at) w w made (place_bytes (regs.number r % 8) at ++ more) ≡ Some (made r at, more)
 r_rm_read w r at more made ok =
     let bits = modrm_bits w (regs.number r) at in
-    ap (λ (o : Read (Place × Reg)). o >>= λ x. read_as (made x.0.1 x.0.0) x.1) (operands_read w w w r at more ok (listed w bits at) (listed w bits (places.Register r)))
+    ap (λ (o : Read (RegisterOrMemory × Reg)). o >>= λ x. read_as (made x.0.1 x.0.0) x.1) (operands_read w w w r at more ok (listed w bits at) (listed w bits (places.Register r)))
 
-pub rm_digit_read : (w v : Width) (d : ℕ) (at : Place) (more : List ℕ) (made : ℕ → Place → List ℕ → Read Instr) → d < 8 → is_place at ≡ true → is_listed (modrm_prefixes w d at) v at ≡ true → rm_digit (modrm_prefixes w d at) v made (place_bytes (d % 8) at ++ more) ≡ made d at more
-rm_digit_read w v d at more made small ok is = ap (λ (o : Read (Place × ℕ)). o >>= λ x. made x.0.1 x.0.0 x.1) (digit_read w d at more (omega arith) v is ok small)
+pub rm_digit_read : (w v : Width) (d : ℕ) (at : RegisterOrMemory) (more : List ℕ) (made : ℕ → RegisterOrMemory → List ℕ → Read Instr) → d < 8 → is_place at ≡ true → is_listed (modrm_prefixes w d at) v at ≡ true → rm_extension (modrm_prefixes w d at) v made (place_bytes (d % 8) at ++ more) ≡ made d at more
+rm_digit_read w v d at more made small ok is = ap (λ (o : Read (RegisterOrMemory × ℕ)). o >>= λ x. made x.0.1 x.0.0 x.1) (digit_read w d at more (omega arith) v is ok small)
 
 -- ---- an opcode with a byte form
 
@@ -197,14 +197,14 @@ pub record IsOpcode (base : ℕ) : Type 0 where
   pub size : base / 2 ≢ 0x66 / 2
   pub rex : base / 16 ≢ 4
 
-open_sized : (w : Width) (r : ℕ) (at : Place) (more : List ℕ) (base : ℕ) → r < 16 → IsOpcode base → instr (modrm w (opcodes.One (sized_opcode w base)) r at ++ more) ≡ after_prefixes (modrm_prefixes w r at) (sized_opcode w base) (place_bytes (r % 8) at ++ more)
+open_sized : (w : Width) (r : ℕ) (at : RegisterOrMemory) (more : List ℕ) (base : ℕ) → r < 16 → IsOpcode base → instr (modrm w (opcodes.One (sized_opcode w base)) r at ++ more) ≡ after_prefixes (modrm_prefixes w r at) (sized_opcode w base) (place_bytes (r % 8) at ++ more)
 open_sized W8 r at more base lr k = let even = k.even in open_one W8 r at more lr base (λ e. k.size (omega arith)) k.rex
 open_sized W16 r at more base lr k = let even = k.even in open_one W16 r at more lr (base + 1) (λ e. k.size (omega arith)) (λ e. k.rex (omega arith))
 open_sized W32 r at more base lr k = let even = k.even in open_one W32 r at more lr (base + 1) (λ e. k.size (omega arith)) (λ e. k.rex (omega arith))
 open_sized W64 r at more base lr k = let even = k.even in open_one W64 r at more lr (base + 1) (λ e. k.size (omega arith)) (λ e. k.rex (omega arith))
 
 module _ (w : Width) (base : ℕ) (more : List ℕ) (k : IsOpcode base) where
-  pub rm_r_again : (made : Width → Place → Operand → Instr) (r : Reg) (at : Place) → is_place at ≡ true
+  pub rm_r_again : (made : Width → RegisterOrMemory → Operand → Instr) (r : Reg) (at : RegisterOrMemory) → is_place at ≡ true
       → ((p : Prefixes) (bytes : List ℕ) → after_prefixes p (sized_opcode w base) bytes ≡ rm_r p (sized p (sized_opcode w base)) (made (sized p (sized_opcode w base))) bytes)
       → instr (modrm w (opcodes.One (sized_opcode w base)) (regs.number r) at ++ more) ≡ Some (made w at (operands.Register r), more)
   rm_r_again made r at ok is =
@@ -216,7 +216,7 @@ module _ (w : Width) (base : ℕ) (more : List ℕ) (k : IsOpcode base) where
       ∙ ap (λ v. rm_r p v (made v) bytes) (sized_is w (modrm_bits w n at) base k.even (bits_top w n at more (number_small r)))
       ∙ rm_r_read w r at more (made w) ok
 
-  pub r_rm_again : (made : Width → Reg → Place → Instr) (r : Reg) (at : Place) → is_place at ≡ true
+  pub r_rm_again : (made : Width → Reg → RegisterOrMemory → Instr) (r : Reg) (at : RegisterOrMemory) → is_place at ≡ true
       → ((p : Prefixes) (bytes : List ℕ) → after_prefixes p (sized_opcode w base) bytes ≡ r_rm p (sized p (sized_opcode w base)) (sized p (sized_opcode w base)) (made (sized p (sized_opcode w base))) bytes)
       → instr (modrm w (opcodes.One (sized_opcode w base)) (regs.number r) at ++ more) ≡ Some (made w r at, more)
   r_rm_again made r at ok is =
@@ -228,8 +228,8 @@ module _ (w : Width) (base : ℕ) (more : List ℕ) (k : IsOpcode base) where
       ∙ ap (λ v. r_rm p v v (made v) bytes) (sized_is w (modrm_bits w n at) base k.even (bits_top w n at more (number_small r)))
       ∙ r_rm_read w r at more (made w) ok
 
-  pub rm_digit_again : (made : Prefixes → Width → ℕ → Place → List ℕ → Read Instr) (d : ℕ) (at : Place) → d < 8 → is_place at ≡ true
-      → ((p : Prefixes) (bytes : List ℕ) → after_prefixes p (sized_opcode w base) bytes ≡ rm_digit p (sized p (sized_opcode w base)) (made p (sized p (sized_opcode w base))) bytes)
+  pub rm_digit_again : (made : Prefixes → Width → ℕ → RegisterOrMemory → List ℕ → Read Instr) (d : ℕ) (at : RegisterOrMemory) → d < 8 → is_place at ≡ true
+      → ((p : Prefixes) (bytes : List ℕ) → after_prefixes p (sized_opcode w base) bytes ≡ rm_extension p (sized p (sized_opcode w base)) (made p (sized p (sized_opcode w base))) bytes)
       → instr (modrm w (opcodes.One (sized_opcode w base)) d at ++ more) ≡ made (modrm_prefixes w d at) w d at more
   rm_digit_again made d at small ok is =
       let p = modrm_prefixes w d at in
@@ -237,7 +237,7 @@ module _ (w : Width) (base : ℕ) (more : List ℕ) (k : IsOpcode base) where
       let lr : d < 16 = omega arith in
       open_sized w d at more base lr k
       ∙ is p bytes
-      ∙ ap (λ v. rm_digit p v (made p v) bytes) (sized_is w (modrm_bits w d at) base k.even (bits_top w d at more lr))
+      ∙ ap (λ v. rm_extension p v (made p v) bytes) (sized_is w (modrm_bits w d at) base k.even (bits_top w d at more lr))
       ∙ rm_digit_read w w d at more (made p w) small ok (listed w (modrm_bits w d at) at)
 
 -- ---- an opcode with a register
@@ -253,20 +253,20 @@ open_register w op r more n other =
     ap instr (append_assoc (prefixes w (8 * wide w + regs.number r / 8)) ((op + regs.number r % 8) ∷ []) more)
     ∙ front w (8 * wide w + regs.number r / 8) (op + regs.number r % 8) more (omega arith) n other
 
-pub lowest_read : (w : Width) (op : ℕ) (r : Reg) → (op + regs.number r % 8) % 8 ≡ regs.number r % 8 → lowest (register_prefixes w r) (op + regs.number r % 8) ≡ r
+pub lowest_read : (w : Width) (op : ℕ) (r : Reg) → (op + regs.number r % 8) % 8 ≡ regs.number r % 8 → register_of_low_bits (register_prefixes w r) (op + regs.number r % 8) ≡ r
 lowest_read w op r e =
     let a = wide_small w in
     let b = number_small r in
     joined r (bit 0 (8 * wide w + regs.number r / 8)) ((op + regs.number r % 8) % 8) (omega arith) e
 
 -- these rows by each register, since the opcode has its number
-pub push_row : (r : Reg) (h : Bool) (bits : ℕ) (more : List ℕ) → let p : Prefixes = record { operand_size = false; has_rex = h; rex = bits } in after_prefixes p (0x50 + regs.number r % 8) more ≡ Some (instrs.Push (lowest p (0x50 + regs.number r % 8)), more)
+pub push_row : (r : Reg) (h : Bool) (bits : ℕ) (more : List ℕ) → let p : Prefixes = record { operand_size = false; has_rex = h; rex = bits } in after_prefixes p (0x50 + regs.number r % 8) more ≡ Some (instrs.Push (register_of_low_bits p (0x50 + regs.number r % 8)), more)
 unfolding after_prefixes row plain_row
-push_row r h bits more = elim r as (λ r. let p : Prefixes = record { operand_size = false; has_rex = h; rex = bits } in after_prefixes p (0x50 + regs.number r % 8) more ≡ Some (instrs.Push (lowest p (0x50 + regs.number r % 8)), more)) [ Rax ↦ refl | Rcx ↦ refl | Rdx ↦ refl | Rbx ↦ refl | Rsp ↦ refl | Rbp ↦ refl | Rsi ↦ refl | Rdi ↦ refl | R8 ↦ refl | R9 ↦ refl | R10 ↦ refl | R11 ↦ refl | R12 ↦ refl | R13 ↦ refl | R14 ↦ refl | R15 ↦ refl ]
+push_row r h bits more = elim r as (λ r. let p : Prefixes = record { operand_size = false; has_rex = h; rex = bits } in after_prefixes p (0x50 + regs.number r % 8) more ≡ Some (instrs.Push (register_of_low_bits p (0x50 + regs.number r % 8)), more)) [ Rax ↦ refl | Rcx ↦ refl | Rdx ↦ refl | Rbx ↦ refl | Rsp ↦ refl | Rbp ↦ refl | Rsi ↦ refl | Rdi ↦ refl | R8 ↦ refl | R9 ↦ refl | R10 ↦ refl | R11 ↦ refl | R12 ↦ refl | R13 ↦ refl | R14 ↦ refl | R15 ↦ refl ]
 
-pub pop_row : (r : Reg) (h : Bool) (bits : ℕ) (more : List ℕ) → let p : Prefixes = record { operand_size = false; has_rex = h; rex = bits } in after_prefixes p (0x58 + regs.number r % 8) more ≡ Some (instrs.Pop (lowest p (0x58 + regs.number r % 8)), more)
+pub pop_row : (r : Reg) (h : Bool) (bits : ℕ) (more : List ℕ) → let p : Prefixes = record { operand_size = false; has_rex = h; rex = bits } in after_prefixes p (0x58 + regs.number r % 8) more ≡ Some (instrs.Pop (register_of_low_bits p (0x58 + regs.number r % 8)), more)
 unfolding after_prefixes row plain_row
-pop_row r h bits more = elim r as (λ r. let p : Prefixes = record { operand_size = false; has_rex = h; rex = bits } in after_prefixes p (0x58 + regs.number r % 8) more ≡ Some (instrs.Pop (lowest p (0x58 + regs.number r % 8)), more)) [ Rax ↦ refl | Rcx ↦ refl | Rdx ↦ refl | Rbx ↦ refl | Rsp ↦ refl | Rbp ↦ refl | Rsi ↦ refl | Rdi ↦ refl | R8 ↦ refl | R9 ↦ refl | R10 ↦ refl | R11 ↦ refl | R12 ↦ refl | R13 ↦ refl | R14 ↦ refl | R15 ↦ refl ]
+pop_row r h bits more = elim r as (λ r. let p : Prefixes = record { operand_size = false; has_rex = h; rex = bits } in after_prefixes p (0x58 + regs.number r % 8) more ≡ Some (instrs.Pop (register_of_low_bits p (0x58 + regs.number r % 8)), more)) [ Rax ↦ refl | Rcx ↦ refl | Rdx ↦ refl | Rbx ↦ refl | Rsp ↦ refl | Rbp ↦ refl | Rsi ↦ refl | Rdi ↦ refl | R8 ↦ refl | R9 ↦ refl | R10 ↦ refl | R11 ↦ refl | R12 ↦ refl | R13 ↦ refl | R14 ↦ refl | R15 ↦ refl ]
 
 pub immediate_row : (r : Reg) (p : Prefixes) (more : List ℕ) → after_prefixes p (0xB8 + regs.number r % 8) more ≡ move_immediate p (0xB8 + regs.number r % 8) more
 unfolding after_prefixes row
@@ -296,31 +296,31 @@ row_test W16 p bytes = refl
 row_test W32 p bytes = refl
 row_test W64 p bytes = refl
 
-pub row_move_number : (w : Width) (p : Prefixes) (bytes : List ℕ) → after_prefixes p (sized_opcode w 0xC6) bytes ≡ rm_digit p (sized p (sized_opcode w 0xC6)) (move_to_place (sized p (sized_opcode w 0xC6))) bytes
+pub row_move_number : (w : Width) (p : Prefixes) (bytes : List ℕ) → after_prefixes p (sized_opcode w 0xC6) bytes ≡ rm_extension p (sized p (sized_opcode w 0xC6)) (group_11 (sized p (sized_opcode w 0xC6))) bytes
 unfolding after_prefixes row
 row_move_number W8 p bytes = refl
 row_move_number W16 p bytes = refl
 row_move_number W32 p bytes = refl
 row_move_number W64 p bytes = refl
 
-pub row_arithmetic_number : (w : Width) (p : Prefixes) (bytes : List ℕ) → after_prefixes p (sized_opcode w 0x80) bytes ≡ rm_digit p (sized p (sized_opcode w 0x80)) (arithmetic_immediate (immediate_of (sized p (sized_opcode w 0x80))) (sized p (sized_opcode w 0x80))) bytes
+pub row_arithmetic_number : (w : Width) (p : Prefixes) (bytes : List ℕ) → after_prefixes p (sized_opcode w 0x80) bytes ≡ rm_extension p (sized p (sized_opcode w 0x80)) (group_1 (immediate_of (sized p (sized_opcode w 0x80))) (sized p (sized_opcode w 0x80))) bytes
 unfolding after_prefixes row
 row_arithmetic_number W8 p bytes = refl
 row_arithmetic_number W16 p bytes = refl
 row_arithmetic_number W32 p bytes = refl
 row_arithmetic_number W64 p bytes = refl
 
-abbrev pub third : Width → Prefixes → Width → ℕ → Place → List ℕ → Read Instr
-third w p v d at bytes = third_group (eqb (sized_opcode w 0xF6) 0xF7 && not p.operand_size) v d at bytes
+abbrev pub third : Width → Prefixes → Width → ℕ → RegisterOrMemory → List ℕ → Read Instr
+third w p v d at bytes = group_3 (eqb (sized_opcode w 0xF6) 0xF7 && not p.operand_size) v d at bytes
 
-pub row_third : (w : Width) (p : Prefixes) (bytes : List ℕ) → after_prefixes p (sized_opcode w 0xF6) bytes ≡ rm_digit p (sized p (sized_opcode w 0xF6)) (third w p (sized p (sized_opcode w 0xF6))) bytes
+pub row_third : (w : Width) (p : Prefixes) (bytes : List ℕ) → after_prefixes p (sized_opcode w 0xF6) bytes ≡ rm_extension p (sized p (sized_opcode w 0xF6)) (third w p (sized p (sized_opcode w 0xF6))) bytes
 unfolding after_prefixes row
 row_third W8 p bytes = refl
 row_third W16 p bytes = refl
 row_third W32 p bytes = refl
 row_third W64 p bytes = refl
 
-pub row_arithmetic : (o : Operation) (w : Width) (p : Prefixes) (bytes : List ℕ) → after_prefixes p (sized_opcode w (8 * digit o)) bytes ≡ rm_r p (sized p (sized_opcode w (8 * digit o))) (instrs.Arithmetic o (sized p (sized_opcode w (8 * digit o)))) bytes
+pub row_arithmetic : (o : Operation) (w : Width) (p : Prefixes) (bytes : List ℕ) → after_prefixes p (sized_opcode w (8 * opcode_extension o)) bytes ≡ rm_r p (sized p (sized_opcode w (8 * opcode_extension o))) (instrs.Arithmetic o (sized p (sized_opcode w (8 * opcode_extension o)))) bytes
 unfolding after_prefixes row
 row_arithmetic operations.Add W8 p bytes = refl
 row_arithmetic operations.Add W16 p bytes = refl
@@ -347,10 +347,10 @@ row_arithmetic operations.Compare W16 p bytes = refl
 row_arithmetic operations.Compare W32 p bytes = refl
 row_arithmetic operations.Compare W64 p bytes = refl
 
-abbrev pub from_memory : Operation → Width → Reg → Place → Instr
+abbrev pub from_memory : Operation → Width → Reg → RegisterOrMemory → Instr
 from_memory o w to from = instrs.Arithmetic o w (places.Register to) (source from)
 
-pub row_arithmetic_load : (o : Operation) (w : Width) (p : Prefixes) (bytes : List ℕ) → after_prefixes p (sized_opcode w (8 * digit o + 2)) bytes ≡ r_rm p (sized p (sized_opcode w (8 * digit o + 2))) (sized p (sized_opcode w (8 * digit o + 2))) (from_memory o (sized p (sized_opcode w (8 * digit o + 2)))) bytes
+pub row_arithmetic_load : (o : Operation) (w : Width) (p : Prefixes) (bytes : List ℕ) → after_prefixes p (sized_opcode w (8 * opcode_extension o + 2)) bytes ≡ r_rm p (sized p (sized_opcode w (8 * opcode_extension o + 2))) (sized p (sized_opcode w (8 * opcode_extension o + 2))) (from_memory o (sized p (sized_opcode w (8 * opcode_extension o + 2)))) bytes
 unfolding after_prefixes row
 row_arithmetic_load operations.Add W8 p bytes = refl
 row_arithmetic_load operations.Add W16 p bytes = refl
@@ -378,7 +378,7 @@ row_arithmetic_load operations.Compare W32 p bytes = refl
 row_arithmetic_load operations.Compare W64 p bytes = refl
 
 pub row_jump_if : (c : Condition) (bytes : List ℕ) → instr (0x0F ∷ (0x80 + condition_number c) ∷ bytes) ≡ (signed W32 W64 bytes >>= λ d. Some (instrs.JumpIf c d.0, d.1))
-unfolding instr after_size after_prefixes second_row
+unfolding instr after_size after_prefixes two_byte_row
 row_jump_if conditions.Overflow bytes = refl
 row_jump_if conditions.NotOverflow bytes = refl
 row_jump_if conditions.Below bytes = refl
@@ -394,8 +394,8 @@ row_jump_if conditions.GreaterOrEqual bytes = refl
 row_jump_if conditions.LessOrEqual bytes = refl
 row_jump_if conditions.Greater bytes = refl
 
-pub row_set : (c : Condition) (bits : ℕ) (bytes : List ℕ) → second_row (read_prefixes W8 bits) (0x90 + condition_number c) bytes ≡ (operand_and_digit (read_prefixes W8 bits) W8 bytes >>= λ x. Some (instrs.Set c x.0.0, x.1))
-unfolding second_row
+pub row_set : (c : Condition) (bits : ℕ) (bytes : List ℕ) → two_byte_row (read_prefixes W8 bits) (0x90 + condition_number c) bytes ≡ (rm_and_opcode_extension (read_prefixes W8 bits) W8 bytes >>= λ x. Some (instrs.Set c x.0.0, x.1))
+unfolding two_byte_row
 row_set conditions.Overflow bits bytes = refl
 row_set conditions.NotOverflow bits bytes = refl
 row_set conditions.Below bits bytes = refl

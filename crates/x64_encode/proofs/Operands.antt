@@ -13,12 +13,12 @@ use Rattle.x64_instr.specs.declared.operand.Scale.TheVariants.{One, Two, Four, E
 use Rattle.x64_instr.specs.declared.operand.Base.{Base}
 use Rattle.x64_instr.specs.declared.operand.Base.TheVariants as bases
 use Rattle.x64_instr.specs.declared.operand.Index.{Index}
-use Rattle.x64_instr.specs.declared.operand.Place.{Place}
-use Rattle.x64_instr.specs.declared.operand.Place.TheVariants as places
+use Rattle.x64_instr.specs.declared.operand.RegisterOrMemory.{RegisterOrMemory}
+use Rattle.x64_instr.specs.declared.operand.RegisterOrMemory.TheVariants as places
 use Rattle.x64_instr.specs.declared.prefixes.Prefixes.{Prefixes}
 use Rattle.x64_instr.specs.Registers as regs
 use Rattle.x64_instr.specs.Reading.{Read, ◌>>=◌, byte, number, signed, extended, bit}
-use Rattle.x64_instr.specs.Operands.{lowest, scale, indexed, memory, displaced, sib_place, memory_place, place}
+use Rattle.x64_instr.specs.Operands.{register_of_low_bits, scale, index_of_sib, memory, displaced, sib_operand, memory_operand, place}
 use Rattle.x64_encode.specs.Chosen.{little, is_signed, base_number, index_number, high_bits, mode, displacement, scale_number, sib, at_register, memory_bytes, place_bytes, is_index, is_place}
 
 abbrev pub read_as : {A : Type 0} → A → List ℕ → Read A
@@ -104,20 +104,20 @@ pub record High (p : Prefixes) (h : ℕ) : Type 0 where
   pub x : bit 1 p.rex ≡ h / 2
 
 -- a place that is read, with the reg field beside it
-pub record IsRead (p : Prefixes) (r : ℕ) (at : Place) (bytes more : List ℕ) : Type 0 where
+pub record IsRead (p : Prefixes) (r : ℕ) (at : RegisterOrMemory) (bytes more : List ℕ) : Type 0 where
   pub modrm : ℕ
   pub rest : List ℕ
   pub whole : bytes ≡ modrm ∷ rest
-  pub digit : modrm / 8 % 8 ≡ r
+  pub opcode_extension : modrm / 8 % 8 ≡ r
   pub gives : place p modrm rest ≡ Some (at, more)
 
-place_at : (p : Prefixes) (m mode low : ℕ) (bytes : List ℕ) → m / 64 ≡ mode → m % 8 ≡ low → mode < 3 → place p m bytes ≡ memory_place p mode low bytes
+place_at : (p : Prefixes) (m mode low : ℕ) (bytes : List ℕ) → m / 64 ≡ mode → m % 8 ≡ low → mode < 3 → place p m bytes ≡ memory_operand p mode low bytes
 unfolding place
 place_at p m mode low bytes em el lt =
     let no : eqb (m / 64) 3 ≡ false = ne_eqb _ _ (λ h. absurd (omega arith)) in
-    ap (λ c. cond c (read_as (places.Register (lowest p m)) bytes) (memory_place p (m / 64) (m % 8) bytes)) no
-    ∙ ap (λ k. memory_place p k (m % 8) bytes) em
-    ∙ ap (λ k. memory_place p mode k bytes) el
+    ap (λ c. cond c (read_as (places.Register (register_of_low_bits p m)) bytes) (memory_operand p (m / 64) (m % 8) bytes)) no
+    ∙ ap (λ k. memory_operand p k (m % 8) bytes) em
+    ∙ ap (λ k. memory_operand p mode k bytes) el
 
 scale-number : (s : Scale) → scale (scale_number s) ≡ s
 scale-number One = refl
@@ -140,7 +140,7 @@ IsIndex : Option Index → Type 0
 IsIndex None = Unit {0}
 IsIndex (Some i) = regs.number i.register ≢ 4
 
-indexed_sib : (p : Prefixes) (i : Option Index) (b : ℕ) → b < 8 → bit 1 p.rex ≡ index_number i / 8 → IsIndex i → indexed p (sib i b) ≡ i
+indexed_sib : (p : Prefixes) (i : Option Index) (b : ℕ) → b < 8 → bit 1 p.rex ≡ index_number i / 8 → IsIndex i → index_of_sib p (sib i b) ≡ i
 unfolding IsIndex
 indexed_sib p None b lt h fine =
     let e : 8 * bit 1 p.rex + (8 * 4 + b) / 8 % 8 ≡ 4 = omega arith in
@@ -169,18 +169,18 @@ displaced_by true d more a b = signed_little W8 W64 d more (omega arith) (a refl
 displaced_by false d more a b = signed_little W32 W64 d more (omega arith) b
 
 -- SIB with a base
-sib_by : (t : Bool) (p : Prefixes) (s d : ℕ) (more : List ℕ) → (t ≡ true → is_signed W8 W64 d ≡ true) → is_signed W32 W64 d ≡ true → sib_place p (cond t 1 2) s (bytes_by t d ++ more) ≡ read_as (memory (bases.Register (lowest p s)) (indexed p s) d) more
-sib_by true p s d more a b = ap (λ (o : Read ℕ). o >>= λ v. read_as (memory (bases.Register (lowest p s)) (indexed p s) v.0) v.1) (displaced_by true d more a b)
-sib_by false p s d more a b = ap (λ (o : Read ℕ). o >>= λ v. read_as (memory (bases.Register (lowest p s)) (indexed p s) v.0) v.1) (displaced_by false d more a b)
+sib_by : (t : Bool) (p : Prefixes) (s d : ℕ) (more : List ℕ) → (t ≡ true → is_signed W8 W64 d ≡ true) → is_signed W32 W64 d ≡ true → sib_operand p (cond t 1 2) s (bytes_by t d ++ more) ≡ read_as (memory (bases.Register (register_of_low_bits p s)) (index_of_sib p s) d) more
+sib_by true p s d more a b = ap (λ (o : Read ℕ). o >>= λ v. read_as (memory (bases.Register (register_of_low_bits p s)) (index_of_sib p s) v.0) v.1) (displaced_by true d more a b)
+sib_by false p s d more a b = ap (λ (o : Read ℕ). o >>= λ v. read_as (memory (bases.Register (register_of_low_bits p s)) (index_of_sib p s) v.0) v.1) (displaced_by false d more a b)
 
 -- a base without SIB
-low_by : (t : Bool) (p : Prefixes) (k d : ℕ) (more : List ℕ) → k ≢ 4 → (t ≡ true → is_signed W8 W64 d ≡ true) → is_signed W32 W64 d ≡ true → memory_place p (cond t 1 2) k (bytes_by t d ++ more) ≡ read_as (memory (bases.Register (lowest p k)) None d) more
+low_by : (t : Bool) (p : Prefixes) (k d : ℕ) (more : List ℕ) → k ≢ 4 → (t ≡ true → is_signed W8 W64 d ≡ true) → is_signed W32 W64 d ≡ true → memory_operand p (cond t 1 2) k (bytes_by t d ++ more) ≡ read_as (memory (bases.Register (register_of_low_bits p k)) None d) more
 low_by true p k d more n a b =
-    ap (λ c. cond c (byte (bytes_by true d ++ more) >>= λ s. sib_place p 1 s.0 s.1) (displaced 1 (bytes_by true d ++ more) >>= λ v. read_as (memory (bases.Register (lowest p k)) None v.0) v.1)) (ne_eqb _ _ n)
-    ∙ ap (λ (o : Read ℕ). o >>= λ v. read_as (memory (bases.Register (lowest p k)) None v.0) v.1) (displaced_by true d more a b)
+    ap (λ c. cond c (byte (bytes_by true d ++ more) >>= λ s. sib_operand p 1 s.0 s.1) (displaced 1 (bytes_by true d ++ more) >>= λ v. read_as (memory (bases.Register (register_of_low_bits p k)) None v.0) v.1)) (ne_eqb _ _ n)
+    ∙ ap (λ (o : Read ℕ). o >>= λ v. read_as (memory (bases.Register (register_of_low_bits p k)) None v.0) v.1) (displaced_by true d more a b)
 low_by false p k d more n a b =
-    ap (λ c. cond c (byte (bytes_by false d ++ more) >>= λ s. sib_place p 2 s.0 s.1) (displaced 2 (bytes_by false d ++ more) >>= λ v. read_as (memory (bases.Register (lowest p k)) None v.0) v.1)) (ne_eqb _ _ n)
-    ∙ ap (λ (o : Read ℕ). o >>= λ v. read_as (memory (bases.Register (lowest p k)) None v.0) v.1) (displaced_by false d more a b)
+    ap (λ c. cond c (byte (bytes_by false d ++ more) >>= λ s. sib_operand p 2 s.0 s.1) (displaced 2 (bytes_by false d ++ more) >>= λ v. read_as (memory (bases.Register (register_of_low_bits p k)) None v.0) v.1)) (ne_eqb _ _ n)
+    ∙ ap (λ (o : Read ℕ). o >>= λ v. read_as (memory (bases.Register (register_of_low_bits p k)) None v.0) v.1) (displaced_by false d more a b)
 
 mode_small : (t : Bool) → cond t 1 2 < 3
 mode_small true = omega arith
@@ -200,11 +200,11 @@ with_sib p r b i d more lr fine fits hx hb =
       modrm = m;
       rest = s ∷ (displacement d ++ more);
       whole = refl;
-      digit = omega arith;
+      opcode_extension = omega arith;
       gives =
           place_at p m (mode d) 4 (s ∷ (displacement d ++ more)) top bottom lm
           ∙ sib_by t p s d more (λ e. e) fits
-          ∙ ap (λ (x : Reg). read_as (memory (bases.Register x) (indexed p s) d) more) (joined b (bit 0 p.rex) (s % 8) hb (sib_low i (regs.number b % 8) (omega arith)))
+          ∙ ap (λ (x : Reg). read_as (memory (bases.Register x) (index_of_sib p s) d) more) (joined b (bit 0 p.rex) (s % 8) hb (sib_low i (regs.number b % 8) (omega arith)))
           ∙ ap (λ (x : Option Index). read_as (memory (bases.Register b) x d) more) (indexed_sib p i (regs.number b % 8) (omega arith) hx fine);
     }
 
@@ -222,7 +222,7 @@ without_sib p r b d more lr n fits hb =
       modrm = m;
       rest = displacement d ++ more;
       whole = refl;
-      digit = omega arith;
+      opcode_extension = omega arith;
       gives =
           place_at p m (mode d) k (displacement d ++ more) top bottom lm
           ∙ low_by t p k d more n (λ e. e) fits
@@ -242,11 +242,11 @@ no_base p r i d more lr fine fits hx =
       modrm = m;
       rest = s ∷ bytes;
       whole = refl;
-      digit = omega arith;
+      opcode_extension = omega arith;
       gives =
           place_at p m 0 4 (s ∷ bytes) top bottom (omega arith)
-          ∙ ap (λ c. cond c (signed W32 W64 bytes >>= λ v. read_as (memory bases.Nothing (indexed p s) v.0) v.1) (displaced 0 bytes >>= λ v. read_as (memory (bases.Register (lowest p s)) (indexed p s) v.0) v.1)) (eq-eqb (s % 8) 5 (sib_low i 5 (omega arith)))
-          ∙ ap (λ (o : Read ℕ). o >>= λ v. read_as (memory bases.Nothing (indexed p s) v.0) v.1) (signed_little W32 W64 d more (omega arith) fits)
+          ∙ ap (λ c. cond c (signed W32 W64 bytes >>= λ v. read_as (memory bases.Nothing (index_of_sib p s) v.0) v.1) (displaced 0 bytes >>= λ v. read_as (memory (bases.Register (register_of_low_bits p s)) (index_of_sib p s) v.0) v.1)) (eq-eqb (s % 8) 5 (sib_low i 5 (omega arith)))
+          ∙ ap (λ (o : Read ℕ). o >>= λ v. read_as (memory bases.Nothing (index_of_sib p s) v.0) v.1) (signed_little W32 W64 d more (omega arith) fits)
           ∙ ap (λ (x : Option Index). read_as (memory bases.Nothing x d) more) (indexed_sib p i 5 (omega arith) hx fine);
     }
 
@@ -260,7 +260,7 @@ relative p r d more lr fits =
       modrm = m;
       rest = bytes;
       whole = refl;
-      digit = omega arith;
+      opcode_extension = omega arith;
       gives = place_at p m 0 5 bytes top bottom (omega arith) ∙ ap (λ (o : Read ℕ). o >>= λ v. read_as (memory bases.Rip None v.0) v.1) (signed_little W32 W64 d more (omega arith) fits);
     }
 
@@ -274,12 +274,12 @@ of_register p r b more lr hb =
       modrm = m;
       rest = more;
       whole = refl;
-      digit = omega arith;
-      gives = ap (λ c. cond c (read_as (places.Register (lowest p m)) more) (memory_place p (m / 64) (m % 8) more)) (eq-eqb _ _ top) ∙ ap (λ (x : Reg). read_as (places.Register x) more) (joined b (bit 0 p.rex) (m % 8) hb bottom);
+      opcode_extension = omega arith;
+      gives = ap (λ c. cond c (read_as (places.Register (register_of_low_bits p m)) more) (memory_operand p (m / 64) (m % 8) more)) (eq-eqb _ _ top) ∙ ap (λ (x : Reg). read_as (places.Register x) more) (joined b (bit 0 p.rex) (m % 8) hb bottom);
     }
 
-along : {p : Prefixes} {r : ℕ} {at : Place} {more : List ℕ} (bytes others : List ℕ) → bytes ≡ others → IsRead p r at others more → IsRead p r at bytes more
-along bytes others e i = record { modrm = i.modrm; rest = i.rest; whole = e ∙ i.whole; digit = i.digit; gives = i.gives }
+along : {p : Prefixes} {r : ℕ} {at : RegisterOrMemory} {more : List ℕ} (bytes others : List ℕ) → bytes ≡ others → IsRead p r at others more → IsRead p r at bytes more
+along bytes others e i = record { modrm = i.modrm; rest = i.rest; whole = e ∙ i.whole; opcode_extension = i.opcode_extension; gives = i.gives }
 
 at_base : (p : Prefixes) (r : ℕ) (b : Reg) (i : Option Index) (d : ℕ) (more : List ℕ) → r < 8 → IsIndex i → is_signed W32 W64 d ≡ true → bit 1 p.rex ≡ index_number i / 8 → bit 0 p.rex ≡ regs.number b / 8
     → IsRead p r (memory (bases.Register b) i d) (at_register r b i d ++ more) more
@@ -314,13 +314,13 @@ read_memory p r (bases.Register b) (Some i) d more lr ok fits h =
     let m = number_small i.register in
     at_base p r b (Some i) d more lr (not_four (regs.number i.register) ok) fits (let x = h.x in omega arith) (let y = h.b in omega arith)
 
-pub read_place : (p : Prefixes) (r : ℕ) (at : Place) (more : List ℕ) → r < 8 → is_place at ≡ true → High p (high_bits at) → IsRead p r at (place_bytes r at ++ more) more
+pub read_place : (p : Prefixes) (r : ℕ) (at : RegisterOrMemory) (more : List ℕ) → r < 8 → is_place at ≡ true → High p (high_bits at) → IsRead p r at (place_bytes r at ++ more) more
 read_place p r (places.Register b) more lr ok h = let n = number_small b in of_register p r b more lr (let y = h.b in omega arith)
 read_place p r (places.Memory m) more lr ok h =
     let parts = and_parts (is_index m.base m.index) (is_signed W32 W64 m.displacement) ok in
     read_memory p r m.base m.index m.displacement more lr parts.0 parts.1 h
 
-pub high_small : (at : Place) → high_bits at < 4
+pub high_small : (at : RegisterOrMemory) → high_bits at < 4
 high_small (places.Register b) = let n = number_small b in omega arith
 high_small (places.Memory m) = let i = index_small m.index in let b = base_small m.base in omega arith
   where

@@ -8,8 +8,8 @@ use Rattle.seh_num.specs.declared.width.Width.{Width}
 use Rattle.seh_num.specs.declared.width.Width.TheVariants.{W8, W16, W32, W64}
 use Rattle.seh_num.specs.Widths.{bytes_of, limit, low}
 use Rattle.x64_instr.specs.declared.register.Reg.{Reg}
-use Rattle.x64_instr.specs.declared.operand.Place.{Place}
-use Rattle.x64_instr.specs.declared.operand.Place.TheVariants as places
+use Rattle.x64_instr.specs.declared.operand.RegisterOrMemory.{RegisterOrMemory}
+use Rattle.x64_instr.specs.declared.operand.RegisterOrMemory.TheVariants as places
 use Rattle.x64_instr.specs.declared.operand.Operand.TheVariants as operands
 use Rattle.x64_encode.specs.declared.writing.Opcode.TheVariants as opcodes
 use Rattle.x64_instr.specs.declared.instruction.Operation.{Operation}
@@ -29,9 +29,9 @@ use Rattle.x64_instr.specs.declared.instruction.Instr.{Instr}
 use Rattle.x64_instr.specs.declared.instruction.Instr.TheVariants as instrs
 use Rattle.x64_instr.specs.Registers as regs
 use Rattle.x64_instr.specs.Reading.{Read, ◌>>=◌, byte, number, signed, bit}
-use Rattle.x64_instr.specs.Operands.{width_of, sized_narrow, immediate_of, lowest, is_listed, operands_of}
-use Rattle.x64_instr.specs.Spelling.{r_rm, rm_digit, given, operation, direction, arithmetic_immediate, move_to_place, shift_immediate, shift_by_cl, indirect, load, extend, address_to, move_immediate, plain_row, row, second_row, after_prefixes, after_size, instr, Spells, leading}
-use Rattle.x64_encode.specs.Chosen.{little, is_signed, wide, has_rex, place_bytes, modrm_bits, modrm, opcode_register, sized_opcode, digit, division_digit, direction_digit, condition_number, extend_width, extend_opcode, immediate_bytes, arithmetic_bytes, move_bytes, count_bytes, chosen, encoded_len, is_place, is_wide, is_immediate, is_widened, is_count, is_encodable, IsEncodable}
+use Rattle.x64_instr.specs.Operands.{width_of, sized_narrow, immediate_of, register_of_low_bits, is_listed, rm_and_register}
+use Rattle.x64_instr.specs.Spelling.{r_rm, rm_extension, given, operation, direction, group_1, group_11, group_2_immediate, group_2_cl, group_5, load, extend, address_to, move_immediate, plain_row, row, two_byte_row, after_prefixes, after_size, instr, IsEncoding, leading}
+use Rattle.x64_encode.specs.Chosen.{little, is_signed, wide, has_rex, place_bytes, modrm_bits, modrm, opcode_register, sized_opcode, opcode_extension, division_opcode_extension, direction_opcode_extension, condition_number, extend_width, extend_opcode, immediate_bytes, arithmetic_bytes, move_bytes, count_bytes, chosen, encoded_len, is_place, is_wide, is_immediate, is_widened, is_count, is_encodable, IsEncodable}
 use Rattle.x64_encode.proofs.Operands.{read_as, number_small, number_little, signed_little, high_small}
 use Rattle.x64_encode.proofs.OpcodesAgain.{is_word, read_prefixes, wide_small, width_read, modrm_prefixes, open_one, open_two, width_is, bits_top, digit_read, operands_read, listed, r_rm_read, rm_digit_read, IsOpcode, rm_r_again, r_rm_again, rm_digit_again, register_prefixes, open_register, lowest_read, push_row, pop_row, immediate_row, row_move, row_load, row_test, row_move_number, row_arithmetic_number, third, row_third, row_arithmetic, from_memory, row_arithmetic_load, row_jump_if, row_set}
 
@@ -69,15 +69,15 @@ byte_is v lt = elim (leb_tells 128 v) [
   | inr b ↦ let less = b.1 in ap (λ c. c || (nat_le 128 v && nat_lt v 256)) (lt-ltb v 128 less)
 ]
 
-operation-digit : (o : Operation) → operation (digit o) ≡ Some o
-operation-digit operations.Add = refl
-operation-digit operations.Or = refl
-operation-digit operations.And = refl
-operation-digit operations.Sub = refl
-operation-digit operations.Xor = refl
-operation-digit operations.Compare = refl
+operation-opcode_extension : (o : Operation) → operation (opcode_extension o) ≡ Some o
+operation-opcode_extension operations.Add = refl
+operation-opcode_extension operations.Or = refl
+operation-opcode_extension operations.And = refl
+operation-opcode_extension operations.Sub = refl
+operation-opcode_extension operations.Xor = refl
+operation-opcode_extension operations.Compare = refl
 
-digit_small : (o : Operation) → digit o < 8
+digit_small : (o : Operation) → opcode_extension o < 8
 digit_small operations.Add = omega arith
 digit_small operations.Or = omega arith
 digit_small operations.And = omega arith
@@ -85,10 +85,10 @@ digit_small operations.Sub = omega arith
 digit_small operations.Xor = omega arith
 digit_small operations.Compare = omega arith
 
-arithmetic_read : (o : Operation) (from w : Width) (to : Place) (v : ℕ) (more : List ℕ) → limit from ≤ limit w → is_signed from w v ≡ true → arithmetic_immediate from w (digit o) to (little (bytes_of from) (low from v) ++ more) ≡ Some (instrs.Arithmetic o w to (operands.Immediate v), more)
+arithmetic_read : (o : Operation) (from w : Width) (to : RegisterOrMemory) (v : ℕ) (more : List ℕ) → limit from ≤ limit w → is_signed from w v ≡ true → group_1 from w (opcode_extension o) to (little (bytes_of from) (low from v) ++ more) ≡ Some (instrs.Arithmetic o w to (operands.Immediate v), more)
 arithmetic_read o from w to v more le fits =
     let bytes = little (bytes_of from) (low from v) ++ more in
-    ap (λ x. given x bytes >>= λ y. signed from w y.1 >>= λ n. read_as (instrs.Arithmetic y.0 w to (operands.Immediate n.0)) n.1) (operation-digit o)
+    ap (λ x. given x bytes >>= λ y. signed from w y.1 >>= λ n. read_as (instrs.Arithmetic y.0 w to (operands.Immediate n.0)) n.1) (operation-opcode_extension o)
     ∙ ap (λ (x : Read ℕ). x >>= λ n. read_as (instrs.Arithmetic o w to (operands.Immediate n.0)) n.1) (signed_little from w v more le fits)
 
 is_80 : IsOpcode 0x80
@@ -118,8 +118,8 @@ move_immediate_read w r v more word fits =
     let p = register_prefixes w r in
     let op = 0xB8 + regs.number r % 8 in
     let made = λ (v : Width) (x : Reg) (n : ℕ). instrs.Move v (places.Register x) (operands.Immediate n) in
-    ap (λ u. number (bytes_of u) (little (bytes_of w) v ++ more) >>= λ x. read_as (made u (lowest p op) x.0) x.1) is_w
-    ∙ ap (λ (o : Read ℕ). o >>= λ x. read_as (made w (lowest p op) x.0) x.1) (number_little (bytes_of w) v more (let e = bytes_limit w in omega arith))
+    ap (λ u. number (bytes_of u) (little (bytes_of w) v ++ more) >>= λ x. read_as (made u (register_of_low_bits p op) x.0) x.1) is_w
+    ∙ ap (λ (o : Read ℕ). o >>= λ x. read_as (made w (register_of_low_bits p op) x.0) x.1) (number_little (bytes_of w) v more (let e = bytes_limit w in omega arith))
     ∙ ap (λ x. read_as (made w x v) more) (lowest_read w 0xB8 r (omega arith))
 
 move_word : (w : Width) (r : Reg) (v : ℕ) (more : List ℕ) → is_word w ≡ true → nat_lt v (limit w) ≡ true → instr ((opcode_register w 0xB8 r ++ little (bytes_of w) v) ++ more) ≡ Some (instrs.Move w (places.Register r) (operands.Immediate v), more)
@@ -130,10 +130,10 @@ move_word w r v more word fits =
     ∙ immediate_row r (register_prefixes w r) (bytes ++ more)
     ∙ move_immediate_read w r v more word (ltb-true v (limit w) fits)
 
-move_place : (w : Width) (to : Place) (v : ℕ) (more : List ℕ) → is_place to ≡ true → is_immediate w v ≡ true → instr ((modrm w (opcodes.One (sized_opcode w 0xC6)) 0 to ++ immediate_bytes w v) ++ more) ≡ Some (instrs.Move w to (operands.Immediate v), more)
+move_place : (w : Width) (to : RegisterOrMemory) (v : ℕ) (more : List ℕ) → is_place to ≡ true → is_immediate w v ≡ true → instr ((modrm w (opcodes.One (sized_opcode w 0xC6)) 0 to ++ immediate_bytes w v) ++ more) ≡ Some (instrs.Move w to (operands.Immediate v), more)
 move_place w to v more ok fits =
     ap instr (append_assoc (modrm w (opcodes.One (sized_opcode w 0xC6)) 0 to) (immediate_bytes w v) more)
-    ∙ rm_digit_again w 0xC6 (immediate_bytes w v ++ more) is_C6 (λ p. move_to_place) 0 to (omega arith) ok (row_move_number w)
+    ∙ rm_digit_again w 0xC6 (immediate_bytes w v ++ more) is_C6 (λ p. group_11) 0 to (omega arith) ok (row_move_number w)
     ∙ ap (λ (o : Read ℕ). o >>= λ n. read_as (instrs.Move w to (operands.Immediate n.0)) n.1) (immediate_read w v more fits)
 
 again_move_number : (w : Width) (r : Reg) (v : ℕ) (more : List ℕ) → nat_lt v (limit w) ≡ true → instr (move_bytes w r v ++ more) ≡ Some (instrs.Move w (places.Register r) (operands.Immediate v), more)
@@ -144,24 +144,24 @@ again_move_number W64 r v more fits = move_word W64 r v more refl fits
 
 -- ---- arithmetic
 
-arithmetic_byte : (o : Operation) (w : Width) (to : Place) (v : ℕ) (more : List ℕ) → is_word w ≡ true → is_place to ≡ true → is_signed W8 w v ≡ true → instr ((modrm w (opcodes.One 0x83) (digit o) to ++ little 1 (low W8 v)) ++ more) ≡ Some (instrs.Arithmetic o w to (operands.Immediate v), more)
+arithmetic_byte : (o : Operation) (w : Width) (to : RegisterOrMemory) (v : ℕ) (more : List ℕ) → is_word w ≡ true → is_place to ≡ true → is_signed W8 w v ≡ true → instr ((modrm w (opcodes.One 0x83) (opcode_extension o) to ++ little 1 (low W8 v)) ++ more) ≡ Some (instrs.Arithmetic o w to (operands.Immediate v), more)
 unfolding after_prefixes row
 arithmetic_byte o w to v more word ok fits =
     let bytes = little 1 (low W8 v) in
     let d = digit_small o in
-    let p = modrm_prefixes w (digit o) to in
-    let lr : digit o < 16 = omega arith in
-    let is_w = width_is w (digit o) to (bytes ++ more) lr word in
-    ap instr (append_assoc (modrm w (opcodes.One 0x83) (digit o) to) bytes more)
-    ∙ open_one w (digit o) to (bytes ++ more) lr 0x83 (λ e. absurd (omega arith)) (λ e. absurd (omega arith))
-    ∙ ap (λ u. rm_digit p u (arithmetic_immediate W8 u) (place_bytes (digit o % 8) to ++ (bytes ++ more))) is_w
-    ∙ rm_digit_read w w (digit o) to (bytes ++ more) (arithmetic_immediate W8 w) d ok (listed w (modrm_bits w (digit o) to) to)
+    let p = modrm_prefixes w (opcode_extension o) to in
+    let lr : opcode_extension o < 16 = omega arith in
+    let is_w = width_is w (opcode_extension o) to (bytes ++ more) lr word in
+    ap instr (append_assoc (modrm w (opcodes.One 0x83) (opcode_extension o) to) bytes more)
+    ∙ open_one w (opcode_extension o) to (bytes ++ more) lr 0x83 (λ e. absurd (omega arith)) (λ e. absurd (omega arith))
+    ∙ ap (λ u. rm_extension p u (group_1 W8 u) (place_bytes (opcode_extension o % 8) to ++ (bytes ++ more))) is_w
+    ∙ rm_digit_read w w (opcode_extension o) to (bytes ++ more) (group_1 W8 w) d ok (listed w (modrm_bits w (opcode_extension o) to) to)
     ∙ arithmetic_read o W8 w to v more (limit_least w) fits
 
-arithmetic_full : (o : Operation) (w : Width) (to : Place) (v : ℕ) (more : List ℕ) → is_place to ≡ true → is_immediate w v ≡ true → instr ((modrm w (opcodes.One (sized_opcode w 0x80)) (digit o) to ++ immediate_bytes w v) ++ more) ≡ Some (instrs.Arithmetic o w to (operands.Immediate v), more)
+arithmetic_full : (o : Operation) (w : Width) (to : RegisterOrMemory) (v : ℕ) (more : List ℕ) → is_place to ≡ true → is_immediate w v ≡ true → instr ((modrm w (opcodes.One (sized_opcode w 0x80)) (opcode_extension o) to ++ immediate_bytes w v) ++ more) ≡ Some (instrs.Arithmetic o w to (operands.Immediate v), more)
 arithmetic_full o w to v more ok fits =
-    ap instr (append_assoc (modrm w (opcodes.One (sized_opcode w 0x80)) (digit o) to) (immediate_bytes w v) more)
-    ∙ rm_digit_again w 0x80 (immediate_bytes w v ++ more) is_80 (λ p u. arithmetic_immediate (immediate_of u) u) (digit o) to (digit_small o) ok (row_arithmetic_number w)
+    ap instr (append_assoc (modrm w (opcodes.One (sized_opcode w 0x80)) (opcode_extension o) to) (immediate_bytes w v) more)
+    ∙ rm_digit_again w 0x80 (immediate_bytes w v ++ more) is_80 (λ p u. group_1 (immediate_of u) u) (opcode_extension o) to (digit_small o) ok (row_arithmetic_number w)
     ∙ arithmetic_read o (immediate_of w) w to v more (immediate_most w) fits
 
 -- the short form where t holds
@@ -169,27 +169,27 @@ either : (t : Bool) (xs ys more : List ℕ) (i : Instr) → (t ≡ true → inst
 either true xs ys more i a b = a refl
 either false xs ys more i a b = b
 
-again_arithmetic_number : (o : Operation) (w : Width) (to : Place) (v : ℕ) (more : List ℕ) → is_place to ≡ true → is_immediate w v ≡ true → instr (arithmetic_bytes o w to v ++ more) ≡ Some (instrs.Arithmetic o w to (operands.Immediate v), more)
+again_arithmetic_number : (o : Operation) (w : Width) (to : RegisterOrMemory) (v : ℕ) (more : List ℕ) → is_place to ≡ true → is_immediate w v ≡ true → instr (arithmetic_bytes o w to v ++ more) ≡ Some (instrs.Arithmetic o w to (operands.Immediate v), more)
 again_arithmetic_number o W8 to v more ok fits = arithmetic_full o W8 to v more ok fits
 again_arithmetic_number o W16 to v more ok fits = either (is_signed W8 W16 v) _ _ more _ (arithmetic_byte o W16 to v more refl ok) (arithmetic_full o W16 to v more ok fits)
 again_arithmetic_number o W32 to v more ok fits = either (is_signed W8 W32 v) _ _ more _ (arithmetic_byte o W32 to v more refl ok) (arithmetic_full o W32 to v more ok fits)
 again_arithmetic_number o W64 to v more ok fits = either (is_signed W8 W64 v) _ _ more _ (arithmetic_byte o W64 to v more refl ok) (arithmetic_full o W64 to v more ok fits)
 
-is_arithmetic : (o : Operation) (k : ℕ) → k % 2 ≡ 0 → k < 4 → IsOpcode (8 * digit o + k)
+is_arithmetic : (o : Operation) (k : ℕ) → k % 2 ≡ 0 → k < 4 → IsOpcode (8 * opcode_extension o + k)
 is_arithmetic o k even lt = let d = digit_small o in record { even = omega arith; size = λ e. absurd (omega arith); rex = λ e. absurd (omega arith) }
 
-is_arithmetic_first : (o : Operation) → IsOpcode (8 * digit o)
+is_arithmetic_first : (o : Operation) → IsOpcode (8 * opcode_extension o)
 is_arithmetic_first o = let d = digit_small o in record { even = omega arith; size = λ e. absurd (omega arith); rex = λ e. absurd (omega arith) }
 
-again_arithmetic : (o : Operation) (w : Width) (to : Place) (r : Reg) (more : List ℕ) → is_place to ≡ true → instr (modrm w (opcodes.One (sized_opcode w (8 * digit o))) (regs.number r) to ++ more) ≡ Some (instrs.Arithmetic o w to (operands.Register r), more)
-again_arithmetic o w to r more ok = rm_r_again w (8 * digit o) more (is_arithmetic_first o) (instrs.Arithmetic o) r to ok (row_arithmetic o w)
+again_arithmetic : (o : Operation) (w : Width) (to : RegisterOrMemory) (r : Reg) (more : List ℕ) → is_place to ≡ true → instr (modrm w (opcodes.One (sized_opcode w (8 * opcode_extension o))) (regs.number r) to ++ more) ≡ Some (instrs.Arithmetic o w to (operands.Register r), more)
+again_arithmetic o w to r more ok = rm_r_again w (8 * opcode_extension o) more (is_arithmetic_first o) (instrs.Arithmetic o) r to ok (row_arithmetic o w)
 
 -- ---- instructions of 32 and 64 bits
 
 -- what stands after an opcode without 66
 module _ (w : Width) (op : ℕ) (more : List ℕ) (size : op ≢ 0x66) (rex : op / 16 ≢ 4) (word : is_word w ≡ true) where
-  wide_digit_again : (made : Width → ℕ → Place → List ℕ → Read Instr) (d : ℕ) (at : Place) → d < 8 → is_place at ≡ true
-      → ((bits : ℕ) (bytes : List ℕ) → after_prefixes (read_prefixes w bits) op bytes ≡ rm_digit (read_prefixes w bits) (width_of (read_prefixes w bits)) (made (width_of (read_prefixes w bits))) bytes)
+  wide_digit_again : (made : Width → ℕ → RegisterOrMemory → List ℕ → Read Instr) (d : ℕ) (at : RegisterOrMemory) → d < 8 → is_place at ≡ true
+      → ((bits : ℕ) (bytes : List ℕ) → after_prefixes (read_prefixes w bits) op bytes ≡ rm_extension (read_prefixes w bits) (width_of (read_prefixes w bits)) (made (width_of (read_prefixes w bits))) bytes)
       → instr (modrm w (opcodes.One op) d at ++ more) ≡ made w d at more
   wide_digit_again made d at small ok is =
       let lr : d < 16 = omega arith in
@@ -197,12 +197,12 @@ module _ (w : Width) (op : ℕ) (more : List ℕ) (size : op ≢ 0x66) (rex : op
       let bytes = place_bytes (d % 8) at ++ more in
       open_one w d at more lr op size rex
       ∙ is (modrm_bits w d at) bytes
-      ∙ ap (λ u. rm_digit p u (made u) bytes) (width_is w d at more lr word)
+      ∙ ap (λ u. rm_extension p u (made u) bytes) (width_is w d at more lr word)
       ∙ rm_digit_read w w d at more (made w) small ok (listed w (modrm_bits w d at) at)
 
   -- both operands, then what is made of them
-  wide_register_again : (made : Width → Reg → Place → List ℕ → Read Instr) (r : Reg) (at : Place) → is_place at ≡ true
-      → ((bits : ℕ) (bytes : List ℕ) → after_prefixes (read_prefixes w bits) op bytes ≡ (operands_of (read_prefixes w bits) (width_of (read_prefixes w bits)) (width_of (read_prefixes w bits)) bytes >>= λ x. made (width_of (read_prefixes w bits)) x.0.1 x.0.0 x.1))
+  wide_register_again : (made : Width → Reg → RegisterOrMemory → List ℕ → Read Instr) (r : Reg) (at : RegisterOrMemory) → is_place at ≡ true
+      → ((bits : ℕ) (bytes : List ℕ) → after_prefixes (read_prefixes w bits) op bytes ≡ (rm_and_register (read_prefixes w bits) (width_of (read_prefixes w bits)) (width_of (read_prefixes w bits)) bytes >>= λ x. made (width_of (read_prefixes w bits)) x.0.1 x.0.0 x.1))
       → instr (modrm w (opcodes.One op) (regs.number r) at ++ more) ≡ made w r at more
   wide_register_again made r at ok is =
       let n = regs.number r in
@@ -212,13 +212,13 @@ module _ (w : Width) (op : ℕ) (more : List ℕ) (size : op ≢ 0x66) (rex : op
       let bytes = place_bytes (n % 8) at ++ more in
       open_one w n at more lr op size rex
       ∙ is bits bytes
-      ∙ ap (λ u. operands_of p u u bytes >>= λ x. made u x.0.1 x.0.0 x.1) (width_is w n at more lr word)
-      ∙ ap (λ (o : Read (Place × Reg)). o >>= λ x. made w x.0.1 x.0.0 x.1) (operands_read w w w r at more ok (listed w bits at) (listed w bits (places.Register r)))
+      ∙ ap (λ u. rm_and_register p u u bytes >>= λ x. made u x.0.1 x.0.0 x.1) (width_is w n at more lr word)
+      ∙ ap (λ (o : Read (RegisterOrMemory × Reg)). o >>= λ x. made w x.0.1 x.0.0 x.1) (operands_read w w w r at more ok (listed w bits at) (listed w bits (places.Register r)))
 
-abbrev multiplied_by : Width → Width → Reg → Place → List ℕ → Read Instr
+abbrev multiplied_by : Width → Width → Reg → RegisterOrMemory → List ℕ → Read Instr
 multiplied_by from w to at bytes = signed from w bytes >>= λ v. read_as (instrs.MultiplyBy w to at v.0) v.1
 
-multiply_byte : (w : Width) (to : Reg) (from : Place) (v : ℕ) (more : List ℕ) → is_wide w ≡ true → is_place from ≡ true → is_signed W8 w v ≡ true → instr ((modrm w (opcodes.One 0x6B) (regs.number to) from ++ little 1 (low W8 v)) ++ more) ≡ Some (instrs.MultiplyBy w to from v, more)
+multiply_byte : (w : Width) (to : Reg) (from : RegisterOrMemory) (v : ℕ) (more : List ℕ) → is_wide w ≡ true → is_place from ≡ true → is_signed W8 w v ≡ true → instr ((modrm w (opcodes.One 0x6B) (regs.number to) from ++ little 1 (low W8 v)) ++ more) ≡ Some (instrs.MultiplyBy w to from v, more)
 unfolding after_prefixes row plain_row
 multiply_byte W8 to from v more is ok fits = impossible is
 multiply_byte W16 to from v more is ok fits = impossible is
@@ -233,7 +233,7 @@ multiply_byte W64 to from v more is ok fits =
     ∙ wide_register_again W64 0x6B (bytes ++ more) (λ e. absurd (omega arith)) (λ e. absurd (omega arith)) refl (multiplied_by W8) to from ok (λ b bs. refl)
     ∙ ap (λ (o : Read ℕ). o >>= λ n. read_as (instrs.MultiplyBy W64 to from n.0) n.1) (signed_little W8 W64 v more (limit_least W64) fits)
 
-multiply_full : (w : Width) (to : Reg) (from : Place) (v : ℕ) (more : List ℕ) → is_wide w ≡ true → is_place from ≡ true → is_immediate w v ≡ true → instr ((modrm w (opcodes.One 0x69) (regs.number to) from ++ immediate_bytes w v) ++ more) ≡ Some (instrs.MultiplyBy w to from v, more)
+multiply_full : (w : Width) (to : Reg) (from : RegisterOrMemory) (v : ℕ) (more : List ℕ) → is_wide w ≡ true → is_place from ≡ true → is_immediate w v ≡ true → instr ((modrm w (opcodes.One 0x69) (regs.number to) from ++ immediate_bytes w v) ++ more) ≡ Some (instrs.MultiplyBy w to from v, more)
 unfolding after_prefixes row plain_row
 multiply_full W8 to from v more is ok fits = impossible is
 multiply_full W16 to from v more is ok fits = impossible is
@@ -248,8 +248,8 @@ multiply_full W64 to from v more is ok fits =
     ∙ wide_register_again W64 0x69 (bytes ++ more) (λ e. absurd (omega arith)) (λ e. absurd (omega arith)) refl (λ u. multiplied_by (immediate_of u) u) to from ok (λ b bs. refl)
     ∙ ap (λ (o : Read ℕ). o >>= λ n. read_as (instrs.MultiplyBy W64 to from n.0) n.1) (immediate_read W64 v more fits)
 
-again_multiply : (w : Width) (to : Reg) (from : Place) (more : List ℕ) → is_wide w ≡ true → is_place from ≡ true → instr (modrm w (opcodes.Two 0xAF) (regs.number to) from ++ more) ≡ Some (instrs.Multiply w to from, more)
-unfolding second_row
+again_multiply : (w : Width) (to : Reg) (from : RegisterOrMemory) (more : List ℕ) → is_wide w ≡ true → is_place from ≡ true → instr (modrm w (opcodes.Two 0xAF) (regs.number to) from ++ more) ≡ Some (instrs.Multiply w to from, more)
+unfolding two_byte_row
 again_multiply W8 to from more is ok = impossible is
 again_multiply W16 to from more is ok = impossible is
 again_multiply W32 to from more is ok =
@@ -263,7 +263,7 @@ again_multiply W64 to from more is ok =
     ∙ ap (λ u. r_rm p u u (instrs.Multiply u) (place_bytes (regs.number to % 8) from ++ more)) (width_is W64 (regs.number to) from more (number_small to) refl)
     ∙ r_rm_read W64 to from more (instrs.Multiply W64) ok
 
-again_load_address : (w : Width) (to : Reg) (from : Place) (more : List ℕ) → is_wide w ≡ true → is_place from ≡ true → instr (modrm w (opcodes.One 0x8D) (regs.number to) from ++ more) ≡ address_to w to from more
+again_load_address : (w : Width) (to : Reg) (from : RegisterOrMemory) (more : List ℕ) → is_wide w ≡ true → is_place from ≡ true → instr (modrm w (opcodes.One 0x8D) (regs.number to) from ++ more) ≡ address_to w to from more
 unfolding after_prefixes row plain_row
 again_load_address W8 to from more is ok = impossible is
 again_load_address W16 to from more is ok = impossible is
@@ -272,54 +272,54 @@ again_load_address W64 to from more is ok = wide_register_again W64 0x8D more (�
 
 -- ---- shifts and divisions
 
-direction-digit : (d : Direction) → direction (direction_digit d) ≡ Some d
-direction-digit Left = refl
-direction-digit Right = refl
-direction-digit ArithmeticRight = refl
+direction-opcode_extension : (d : Direction) → direction (direction_opcode_extension d) ≡ Some d
+direction-opcode_extension Left = refl
+direction-opcode_extension Right = refl
+direction-opcode_extension ArithmeticRight = refl
 
-direction_small : (d : Direction) → direction_digit d < 8
+direction_small : (d : Direction) → direction_opcode_extension d < 8
 direction_small Left = omega arith
 direction_small Right = omega arith
 direction_small ArithmeticRight = omega arith
 
-shifted_by : (d : Direction) (w : Width) (to : Place) (n : ℕ) (more : List ℕ) → n < 256 → shift_immediate w (direction_digit d) to (little 1 n ++ more) ≡ Some (instrs.Shift d w to (counts.Immediate n), more)
+shifted_by : (d : Direction) (w : Width) (to : RegisterOrMemory) (n : ℕ) (more : List ℕ) → n < 256 → group_2_immediate w (direction_opcode_extension d) to (little 1 n ++ more) ≡ Some (instrs.Shift d w to (counts.Immediate n), more)
 shifted_by d w to n more lt =
     let same : n % 256 ≡ n = omega arith in
-    ap (λ x. given x (little 1 n ++ more) >>= λ y. byte y.1 >>= λ b. read_as (instrs.Shift y.0 w to (counts.Immediate b.0)) b.1) (direction-digit d)
+    ap (λ x. given x (little 1 n ++ more) >>= λ y. byte y.1 >>= λ b. read_as (instrs.Shift y.0 w to (counts.Immediate b.0)) b.1) (direction-opcode_extension d)
     ∙ ap (λ b. read_as (instrs.Shift d w to (counts.Immediate b)) more) same
 
-shift_number : (d : Direction) (w : Width) (to : Place) (n : ℕ) (more : List ℕ) → is_wide w ≡ true → is_place to ≡ true → n < 256 → instr ((modrm w (opcodes.One 0xC1) (direction_digit d) to ++ little 1 n) ++ more) ≡ Some (instrs.Shift d w to (counts.Immediate n), more)
+shift_number : (d : Direction) (w : Width) (to : RegisterOrMemory) (n : ℕ) (more : List ℕ) → is_wide w ≡ true → is_place to ≡ true → n < 256 → instr ((modrm w (opcodes.One 0xC1) (direction_opcode_extension d) to ++ little 1 n) ++ more) ≡ Some (instrs.Shift d w to (counts.Immediate n), more)
 unfolding after_prefixes row plain_row
 shift_number d W8 to n more is ok lt = impossible is
 shift_number d W16 to n more is ok lt = impossible is
 shift_number d W32 to n more is ok lt =
-    ap instr (append_assoc (modrm W32 (opcodes.One 0xC1) (direction_digit d) to) (little 1 n) more)
-    ∙ wide_digit_again W32 0xC1 (little 1 n ++ more) (λ e. absurd (omega arith)) (λ e. absurd (omega arith)) refl shift_immediate (direction_digit d) to (direction_small d) ok (λ b bs. refl)
+    ap instr (append_assoc (modrm W32 (opcodes.One 0xC1) (direction_opcode_extension d) to) (little 1 n) more)
+    ∙ wide_digit_again W32 0xC1 (little 1 n ++ more) (λ e. absurd (omega arith)) (λ e. absurd (omega arith)) refl group_2_immediate (direction_opcode_extension d) to (direction_small d) ok (λ b bs. refl)
     ∙ shifted_by d W32 to n more lt
 shift_number d W64 to n more is ok lt =
-    ap instr (append_assoc (modrm W64 (opcodes.One 0xC1) (direction_digit d) to) (little 1 n) more)
-    ∙ wide_digit_again W64 0xC1 (little 1 n ++ more) (λ e. absurd (omega arith)) (λ e. absurd (omega arith)) refl shift_immediate (direction_digit d) to (direction_small d) ok (λ b bs. refl)
+    ap instr (append_assoc (modrm W64 (opcodes.One 0xC1) (direction_opcode_extension d) to) (little 1 n) more)
+    ∙ wide_digit_again W64 0xC1 (little 1 n ++ more) (λ e. absurd (omega arith)) (λ e. absurd (omega arith)) refl group_2_immediate (direction_opcode_extension d) to (direction_small d) ok (λ b bs. refl)
     ∙ shifted_by d W64 to n more lt
 
-shift_cl : (d : Direction) (w : Width) (to : Place) (more : List ℕ) → is_wide w ≡ true → is_place to ≡ true → instr (modrm w (opcodes.One 0xD3) (direction_digit d) to ++ more) ≡ Some (instrs.Shift d w to counts.Cl, more)
+shift_cl : (d : Direction) (w : Width) (to : RegisterOrMemory) (more : List ℕ) → is_wide w ≡ true → is_place to ≡ true → instr (modrm w (opcodes.One 0xD3) (direction_opcode_extension d) to ++ more) ≡ Some (instrs.Shift d w to counts.Cl, more)
 unfolding after_prefixes row plain_row
 shift_cl d W8 to more is ok = impossible is
 shift_cl d W16 to more is ok = impossible is
 shift_cl d W32 to more is ok =
-    wide_digit_again W32 0xD3 more (λ e. absurd (omega arith)) (λ e. absurd (omega arith)) refl shift_by_cl (direction_digit d) to (direction_small d) ok (λ b bs. refl)
-    ∙ ap (λ x. given x more >>= λ y. read_as (instrs.Shift y.0 W32 to counts.Cl) y.1) (direction-digit d)
+    wide_digit_again W32 0xD3 more (λ e. absurd (omega arith)) (λ e. absurd (omega arith)) refl group_2_cl (direction_opcode_extension d) to (direction_small d) ok (λ b bs. refl)
+    ∙ ap (λ x. given x more >>= λ y. read_as (instrs.Shift y.0 W32 to counts.Cl) y.1) (direction-opcode_extension d)
 shift_cl d W64 to more is ok =
-    wide_digit_again W64 0xD3 more (λ e. absurd (omega arith)) (λ e. absurd (omega arith)) refl shift_by_cl (direction_digit d) to (direction_small d) ok (λ b bs. refl)
-    ∙ ap (λ x. given x more >>= λ y. read_as (instrs.Shift y.0 W64 to counts.Cl) y.1) (direction-digit d)
+    wide_digit_again W64 0xD3 more (λ e. absurd (omega arith)) (λ e. absurd (omega arith)) refl group_2_cl (direction_opcode_extension d) to (direction_small d) ok (λ b bs. refl)
+    ∙ ap (λ x. given x more >>= λ y. read_as (instrs.Shift y.0 W64 to counts.Cl) y.1) (direction-opcode_extension d)
 
-again_shift : (d : Direction) (w : Width) (to : Place) (by : Count) (more : List ℕ) → is_wide w ≡ true → is_place to ≡ true → is_count by ≡ true → instr (count_bytes w (direction_digit d) to by ++ more) ≡ Some (instrs.Shift d w to by, more)
+again_shift : (d : Direction) (w : Width) (to : RegisterOrMemory) (by : Count) (more : List ℕ) → is_wide w ≡ true → is_place to ≡ true → is_count by ≡ true → instr (count_bytes w (direction_opcode_extension d) to by ++ more) ≡ Some (instrs.Shift d w to by, more)
 again_shift d w to (counts.Immediate n) more is ok fits = shift_number d w to n more is ok (ltb-true n 256 fits)
 again_shift d w to counts.Cl more is ok fits = shift_cl d w to more is ok
 
-divided : (w : Width) (d : ℕ) (at : Place) (more : List ℕ) → d < 8 → is_place at ≡ true → instr (modrm w (opcodes.One (sized_opcode w 0xF6)) d at ++ more) ≡ third w (modrm_prefixes w d at) w d at more
+divided : (w : Width) (d : ℕ) (at : RegisterOrMemory) (more : List ℕ) → d < 8 → is_place at ≡ true → instr (modrm w (opcodes.One (sized_opcode w 0xF6)) d at ++ more) ≡ third w (modrm_prefixes w d at) w d at more
 divided w d at more small ok = rm_digit_again w 0xF6 more is_F6 (third w) d at small ok (row_third w)
 
-again_divide : (d : Division) (w : Width) (at : Place) (more : List ℕ) → is_wide w ≡ true → is_place at ≡ true → instr (modrm w (opcodes.One 0xF7) (division_digit d) at ++ more) ≡ Some (instrs.Divide d w at, more)
+again_divide : (d : Division) (w : Width) (at : RegisterOrMemory) (more : List ℕ) → is_wide w ≡ true → is_place at ≡ true → instr (modrm w (opcodes.One 0xF7) (division_opcode_extension d) at ++ more) ≡ Some (instrs.Divide d w at, more)
 again_divide d W8 at more is ok = impossible is
 again_divide d W16 at more is ok = impossible is
 again_divide Unsigned W32 at more is ok = divided W32 6 at more (omega arith) ok
@@ -327,7 +327,7 @@ again_divide Signed W32 at more is ok = divided W32 7 at more (omega arith) ok
 again_divide Unsigned W64 at more is ok = divided W64 6 at more (omega arith) ok
 again_divide Signed W64 at more is ok = divided W64 7 at more (omega arith) ok
 
-again_test_number : (w : Width) (at : Place) (v : ℕ) (more : List ℕ) → is_place at ≡ true → is_immediate w v ≡ true → instr ((modrm w (opcodes.One (sized_opcode w 0xF6)) 0 at ++ immediate_bytes w v) ++ more) ≡ Some (instrs.Test w at (operands.Immediate v), more)
+again_test_number : (w : Width) (at : RegisterOrMemory) (v : ℕ) (more : List ℕ) → is_place at ≡ true → is_immediate w v ≡ true → instr ((modrm w (opcodes.One (sized_opcode w 0xF6)) 0 at ++ immediate_bytes w v) ++ more) ≡ Some (instrs.Test w at (operands.Immediate v), more)
 again_test_number w at v more ok fits =
     ap instr (append_assoc (modrm w (opcodes.One (sized_opcode w 0xF6)) 0 at) (immediate_bytes w v) more)
     ∙ divided w 0 at (immediate_bytes w v ++ more) (omega arith) ok
@@ -336,8 +336,8 @@ again_test_number w at v more ok fits =
 -- ---- extensions
 
 -- q is the width of the prefixes
-extended_again : (e : Extension) (q w n : Width) (to : Reg) (from : Place) (more : List ℕ) (op : ℕ) → is_place from ≡ true
-    → ((bits : ℕ) (bytes : List ℕ) → second_row (read_prefixes q bits) op bytes ≡ extend e (read_prefixes q bits) op bytes)
+extended_again : (e : Extension) (q w n : Width) (to : Reg) (from : RegisterOrMemory) (more : List ℕ) (op : ℕ) → is_place from ≡ true
+    → ((bits : ℕ) (bytes : List ℕ) → two_byte_row (read_prefixes q bits) op bytes ≡ extend e (read_prefixes q bits) op bytes)
     → sized_narrow op ≡ n
     → width_of (modrm_prefixes q (regs.number to) from) ≡ w
     → is_listed (modrm_prefixes q (regs.number to) from) n from ≡ true
@@ -350,18 +350,18 @@ extended_again e q w n to from more op ok is narrow width a b =
     ∙ is (modrm_bits q (regs.number to) from) bytes
     ∙ ap (λ k. r_rm p (width_of p) k (λ t f. instrs.Extend e (width_of p) t k f) bytes) narrow
     ∙ ap (λ u. r_rm p u n (λ t f. instrs.Extend e u t n f) bytes) width
-    ∙ ap (λ (o : Read (Place × Reg)). o >>= λ x. read_as (instrs.Extend e w x.0.1 n x.0.0) x.1) (operands_read q n w to from more ok a b)
+    ∙ ap (λ (o : Read (RegisterOrMemory × Reg)). o >>= λ x. read_as (instrs.Extend e w x.0.1 n x.0.0) x.1) (operands_read q n w to from more ok a b)
 
 byte_width : (bits : ℕ) → bits / 8 ≡ 0 → width_of (read_prefixes W8 bits) ≡ W32
 byte_width bits e = ap (λ c. cond c W64 W32) (ne_eqb (bit 3 bits) 1 (λ h. absurd (omega arith)))
 
 -- REX.W is REX
-rex_wide : (bits : ℕ) → bits / 8 ≡ 1 → (at : Place) → is_listed (read_prefixes W64 bits) W8 at ≡ true
+rex_wide : (bits : ℕ) → bits / 8 ≡ 1 → (at : RegisterOrMemory) → is_listed (read_prefixes W64 bits) W8 at ≡ true
 rex_wide bits e (places.Register r) = ap (λ c. not c || not (eqb (regs.number r / 4) 1)) (ne_eqb bits 0 (λ h. absurd (omega arith)))
 rex_wide bits e (places.Memory m) = refl
 
-again_extend : (e : Extension) (w n : Width) (to : Reg) (from : Place) (more : List ℕ) → is_widened e w n ≡ true → is_place from ≡ true → instr (modrm (extend_width w n) (extend_opcode e n) (regs.number to) from ++ more) ≡ Some (instrs.Extend e w to n from, more)
-unfolding after_prefixes row plain_row second_row
+again_extend : (e : Extension) (w n : Width) (to : Reg) (from : RegisterOrMemory) (more : List ℕ) → is_widened e w n ≡ true → is_place from ≡ true → instr (modrm (extend_width w n) (extend_opcode e n) (regs.number to) from ++ more) ≡ Some (instrs.Extend e w to n from, more)
+unfolding after_prefixes row plain_row two_byte_row
 again_extend Zero W8 W8 to from more is ok = impossible is
 again_extend Zero W8 W16 to from more is ok = impossible is
 again_extend Zero W8 W32 to from more is ok = impossible is
@@ -399,25 +399,25 @@ again_extend Sign W64 W32 to from more is ok =
     let bytes = place_bytes (regs.number to % 8) from ++ more in
     open_one W64 (regs.number to) from more n 0x63 (λ e. absurd (omega arith)) (λ e. absurd (omega arith))
     ∙ ap (λ c. cond c (r_rm p W64 W32 (λ t f. instrs.Extend Sign W64 t W32 f) bytes) None) (eq-eqb (bit 3 (modrm_bits W64 (regs.number to) from)) 1 (let h = high_small from in omega arith))
-    ∙ ap (λ (o : Read (Place × Reg)). o >>= λ x. read_as (instrs.Extend Sign W64 x.0.1 W32 x.0.0) x.1) (operands_read W64 W32 W64 to from more ok refl refl)
+    ∙ ap (λ (o : Read (RegisterOrMemory × Reg)). o >>= λ x. read_as (instrs.Extend Sign W64 x.0.1 W32 x.0.0) x.1) (operands_read W64 W32 W64 to from more ok refl refl)
 
 -- ---- jumps
 
 relative : (made : ℕ → Instr) (d : ℕ) (more : List ℕ) → is_signed W32 W64 d ≡ true → (signed W32 W64 (little 4 (low W32 d) ++ more) >>= λ x. read_as (made x.0) x.1) ≡ Some (made d, more)
 relative made d more fits = ap (λ (o : Read ℕ). o >>= λ x. read_as (made x.0) x.1) (signed_little W32 W64 d more (omega arith) fits)
 
-again_set : (c : Condition) (at : Place) (more : List ℕ) → is_place at ≡ true → instr (modrm W8 (opcodes.Two (0x90 + condition_number c)) 0 at ++ more) ≡ Some (instrs.Set c at, more)
+again_set : (c : Condition) (at : RegisterOrMemory) (more : List ℕ) → is_place at ≡ true → instr (modrm W8 (opcodes.Two (0x90 + condition_number c)) 0 at ++ more) ≡ Some (instrs.Set c at, more)
 again_set c at more ok =
     open_two W8 0 at more (omega arith) (0x90 + condition_number c)
     ∙ row_set c (modrm_bits W8 0 at) (place_bytes 0 at ++ more)
-    ∙ ap (λ (o : Read (Place × ℕ)). o >>= λ x. read_as (instrs.Set c x.0.0) x.1) (digit_read W8 0 at more (omega arith) W8 (listed W8 (modrm_bits W8 0 at) at) ok (omega arith))
+    ∙ ap (λ (o : Read (RegisterOrMemory × ℕ)). o >>= λ x. read_as (instrs.Set c x.0.0) x.1) (digit_read W8 0 at more (omega arith) W8 (listed W8 (modrm_bits W8 0 at) at) ok (omega arith))
 
-again_indirect : (d : ℕ) (at : Place) (more : List ℕ) → d < 8 → is_place at ≡ true → instr (modrm W32 (opcodes.One 0xFF) d at ++ more) ≡ indirect d at more
+again_indirect : (d : ℕ) (at : RegisterOrMemory) (more : List ℕ) → d < 8 → is_place at ≡ true → instr (modrm W32 (opcodes.One 0xFF) d at ++ more) ≡ group_5 d at more
 unfolding after_prefixes row plain_row
 again_indirect d at more small ok =
     let lr : d < 16 = omega arith in
     open_one W32 d at more lr 0xFF (λ e. absurd (omega arith)) (λ e. absurd (omega arith))
-    ∙ rm_digit_read W32 W64 d at more indirect small ok refl
+    ∙ rm_digit_read W32 W64 d at more group_5 small ok refl
 
 again_extend_rax : (w : Width) (more : List ℕ) → is_wide w ≡ true → instr (chosen (instrs.ExtendRax w) ++ more) ≡ Some (instrs.ExtendRax w, more)
 unfolding instr after_size after_prefixes row plain_row
@@ -429,7 +429,7 @@ again_extend_rax W64 more is = refl
 -- ---- instructions
 
 pub again : (i : Instr) (more : List ℕ) → is_encodable i ≡ true → instr (chosen i ++ more) ≡ Some (i, more)
-unfolding instr after_size after_prefixes row plain_row second_row
+unfolding instr after_size after_prefixes row plain_row two_byte_row
 again (instrs.Move w to (operands.Register r)) more ok = rm_r_again w 0x88 more is_88 instrs.Move r to ok (row_move w)
 again (instrs.Move w (places.Register r) (operands.Memory m)) more ok = r_rm_again w 0x8A more is_8A load r (places.Memory m) ok (row_load w)
 again (instrs.Move w (places.Register r) (operands.Immediate v)) more ok = again_move_number w r v more ok
@@ -439,7 +439,7 @@ again (instrs.Extend e w to n from) more ok = let parts = and_parts (is_widened 
 again (instrs.LoadAddress w to m) more ok = let parts = and_parts (is_wide w) (is_place (places.Memory m)) ok in again_load_address w to (places.Memory m) more parts.0 parts.1
 again (instrs.Arithmetic o w to (operands.Register r)) more ok = again_arithmetic o w to r more ok
 again (instrs.Arithmetic o w to (operands.Immediate v)) more ok = let parts = and_parts (is_place to) (is_immediate w v) ok in again_arithmetic_number o w to v more parts.0 parts.1
-again (instrs.Arithmetic o w (places.Register r) (operands.Memory m)) more ok = r_rm_again w (8 * digit o + 2) more (is_arithmetic o 2 refl (omega arith)) (from_memory o) r (places.Memory m) ok (row_arithmetic_load o w)
+again (instrs.Arithmetic o w (places.Register r) (operands.Memory m)) more ok = r_rm_again w (8 * opcode_extension o + 2) more (is_arithmetic o 2 refl (omega arith)) (from_memory o) r (places.Memory m) ok (row_arithmetic_load o w)
 again (instrs.Arithmetic o w (places.Memory n) (operands.Memory m)) more ok = impossible ok
 again (instrs.Test w at (operands.Register r)) more ok = rm_r_again w 0x84 more is_84 instrs.Test r at ok (row_test w)
 again (instrs.Test w at (operands.Immediate v)) more ok = let parts = and_parts (is_place at) (is_immediate w v) ok in again_test_number w at v more parts.0 parts.1
@@ -478,7 +478,7 @@ again instrs.Undefined more ok = refl
 
 -- ---- both laws
 
-pub spells : (i : Instr) → IsEncodable i → Spells i (chosen i)
+pub spells : (i : Instr) → IsEncodable i → IsEncoding i (chosen i)
 spells i ok = ap instr (sym (append-nil (chosen i))) ∙ again i [] ok
 
 pub read_again : (i : Instr) (more : List ℕ) → IsEncodable i → leading (chosen i ++ more) ≡ Some (i, encoded_len i)

@@ -9,8 +9,8 @@ use Rattle.x64_instr.specs.declared.operand.Scale.TheVariants.{One, Two, Four, E
 use Rattle.x64_instr.specs.declared.operand.Base.{Base}
 use Rattle.x64_instr.specs.declared.operand.Base.TheVariants as bases
 use Rattle.x64_instr.specs.declared.operand.Index.{Index}
-use Rattle.x64_instr.specs.declared.operand.Place.{Place}
-use Rattle.x64_instr.specs.declared.operand.Place.TheVariants as places
+use Rattle.x64_instr.specs.declared.operand.RegisterOrMemory.{RegisterOrMemory}
+use Rattle.x64_instr.specs.declared.operand.RegisterOrMemory.TheVariants as places
 use Rattle.x64_instr.specs.declared.operand.Operand.TheVariants as operands
 use Rattle.x64_encode.specs.declared.writing.Opcode.{Opcode}
 use Rattle.x64_encode.specs.declared.writing.Opcode.TheVariants as opcodes
@@ -35,7 +35,7 @@ use Rattle.x64_instr.specs.declared.instruction.Instr.TheVariants as instrs
 use Rattle.x64_instr.specs.Registers.{number}
 use Rattle.x64_instr.specs.Operands.{immediate_of}
 
--- the lowest n bytes of a number, the lowest first
+-- the low n bytes of a number, little-endian
 abbrev pub little : ℕ → ℕ → List ℕ
 little zero v = []
 little (suc n) v = (v % 256) ∷ little n (v / 256)
@@ -55,7 +55,7 @@ abbrev pub wide : Width → ℕ
 wide W64 = 1
 wide w = 0
 
--- with a byte operand it stands always: without it the byte registers 4 to 7 are others
+-- with a byte operand it is always written: without it the byte registers 4 to 7 are others
 abbrev pub has_rex : Width → ℕ → Bool
 has_rex W8 bits = true
 has_rex w bits = not (bits == 0)
@@ -72,7 +72,7 @@ abbrev pub index_number : Option Index → ℕ
 index_number None = 4
 index_number (Some i) = number i.register
 
-abbrev pub high_bits : Place → ℕ
+abbrev pub high_bits : RegisterOrMemory → ℕ
 high_bits (places.Register r) = number r / 8
 high_bits (places.Memory m) = 2 * (index_number m.index / 8) + base_number m.base / 8
 
@@ -108,7 +108,7 @@ memory_bytes r bases.Nothing i d = (8 * r + 4) ∷ sib i 5 ∷ little 4 (low W32
 memory_bytes r bases.Rip i d = (8 * r + 5) ∷ little 4 (low W32 d)
 memory_bytes r (bases.Register b) i d = at_register r b i d
 
-abbrev pub place_bytes : ℕ → Place → List ℕ
+abbrev pub place_bytes : ℕ → RegisterOrMemory → List ℕ
 place_bytes r (places.Register b) = (64 * 3 + 8 * r + number b % 8) ∷ []
 place_bytes r (places.Memory m) = memory_bytes r m.base m.index m.displacement
 
@@ -121,11 +121,11 @@ abbrev pub opcode_bytes : Opcode → List ℕ
 opcode_bytes (opcodes.One b) = b ∷ []
 opcode_bytes (opcodes.Two b) = 0x0F ∷ b ∷ []
 
--- an opcode with ModRM: r is the number of the register in the reg field, or the digit there
-abbrev pub modrm_bits : Width → ℕ → Place → ℕ
+-- an opcode with ModRM: r is the number of the register in the reg field, or the opcode extension there
+abbrev pub modrm_bits : Width → ℕ → RegisterOrMemory → ℕ
 modrm_bits w r at = 8 * wide w + 4 * (r / 8) + high_bits at
 
-unfoldable pub modrm : Width → Opcode → ℕ → Place → List ℕ
+unfoldable pub modrm : Width → Opcode → ℕ → RegisterOrMemory → List ℕ
 modrm w op r at = prefixes w (modrm_bits w r at) ++ opcode_bytes op ++ place_bytes (r % 8) at
 
 -- an opcode with a register in its low three bits
@@ -139,26 +139,26 @@ abbrev pub sized_opcode : Width → ℕ → ℕ
 sized_opcode W8 op = op
 sized_opcode w op = op + 1
 
-abbrev pub digit : Operation → ℕ
-digit operations.Add = 0
-digit operations.Or = 1
-digit operations.And = 4
-digit operations.Sub = 5
-digit operations.Xor = 6
-digit operations.Compare = 7
+abbrev pub opcode_extension : Operation → ℕ
+opcode_extension operations.Add = 0
+opcode_extension operations.Or = 1
+opcode_extension operations.And = 4
+opcode_extension operations.Sub = 5
+opcode_extension operations.Xor = 6
+opcode_extension operations.Compare = 7
 
-abbrev pub unary_digit : Unary → ℕ
-unary_digit Not = 2
-unary_digit Negate = 3
+abbrev pub unary_opcode_extension : Unary → ℕ
+unary_opcode_extension Not = 2
+unary_opcode_extension Negate = 3
 
-abbrev pub division_digit : Division → ℕ
-division_digit Unsigned = 6
-division_digit Signed = 7
+abbrev pub division_opcode_extension : Division → ℕ
+division_opcode_extension Unsigned = 6
+division_opcode_extension Signed = 7
 
-abbrev pub direction_digit : Direction → ℕ
-direction_digit Left = 4
-direction_digit Right = 5
-direction_digit ArithmeticRight = 7
+abbrev pub direction_opcode_extension : Direction → ℕ
+direction_opcode_extension Left = 4
+direction_opcode_extension Right = 5
+direction_opcode_extension ArithmeticRight = 7
 
 abbrev pub condition_number : Condition → ℕ
 condition_number conditions.Overflow = 0
@@ -194,14 +194,14 @@ extend_width w n = w
 abbrev pub immediate_bytes : Width → ℕ → List ℕ
 immediate_bytes w v = little (bytes_of (immediate_of w)) (low (immediate_of w) v)
 
-abbrev pub arithmetic_bytes : Operation → Width → Place → ℕ → List ℕ
-arithmetic_bytes o W8 to v = modrm W8 (opcodes.One 0x80) (digit o) to ++ immediate_bytes W8 v
+abbrev pub arithmetic_bytes : Operation → Width → RegisterOrMemory → ℕ → List ℕ
+arithmetic_bytes o W8 to v = modrm W8 (opcodes.One 0x80) (opcode_extension o) to ++ immediate_bytes W8 v
 arithmetic_bytes o w to v =
     if is_signed W8 w v
-    then modrm w (opcodes.One 0x83) (digit o) to ++ little 1 (low W8 v)
-    else modrm w (opcodes.One 0x81) (digit o) to ++ immediate_bytes w v
+    then modrm w (opcodes.One 0x83) (opcode_extension o) to ++ little 1 (low W8 v)
+    else modrm w (opcodes.One 0x81) (opcode_extension o) to ++ immediate_bytes w v
 
-abbrev pub multiply_bytes : Width → Reg → Place → ℕ → List ℕ
+abbrev pub multiply_bytes : Width → Reg → RegisterOrMemory → ℕ → List ℕ
 multiply_bytes w to from v =
     if is_signed W8 w v
     then modrm w (opcodes.One 0x6B) (number to) from ++ little 1 (low W8 v)
@@ -211,11 +211,11 @@ abbrev pub move_bytes : Width → Reg → ℕ → List ℕ
 move_bytes W8 to v = modrm W8 (opcodes.One 0xC6) 0 (places.Register to) ++ immediate_bytes W8 v
 move_bytes w to v = opcode_register w 0xB8 to ++ little (bytes_of w) v
 
-abbrev pub count_bytes : Width → ℕ → Place → Count → List ℕ
+abbrev pub count_bytes : Width → ℕ → RegisterOrMemory → Count → List ℕ
 count_bytes w d to (counts.Immediate n) = modrm w (opcodes.One 0xC1) d to ++ little 1 n
 count_bytes w d to counts.Cl = modrm w (opcodes.One 0xD3) d to
 
--- an opcode with nothing behind it
+-- an opcode with nothing after it
 abbrev pub plain_bytes : Width → ℕ → List ℕ
 plain_bytes W64 op = 0x48 ∷ op ∷ []
 plain_bytes w op = op ∷ []
@@ -230,19 +230,19 @@ chosen (instrs.Move w (places.Memory n) (operands.Immediate v)) = modrm w (opcod
 chosen (instrs.Move w (places.Memory n) (operands.Memory m)) = []
 chosen (instrs.Extend e w to narrow from) = modrm (extend_width w narrow) (extend_opcode e narrow) (number to) from
 chosen (instrs.LoadAddress w to m) = modrm w (opcodes.One 0x8D) (number to) (places.Memory m)
-chosen (instrs.Arithmetic o w to (operands.Register r)) = modrm w (opcodes.One (sized_opcode w (8 * digit o))) (number r) to
+chosen (instrs.Arithmetic o w to (operands.Register r)) = modrm w (opcodes.One (sized_opcode w (8 * opcode_extension o))) (number r) to
 chosen (instrs.Arithmetic o w to (operands.Immediate v)) = arithmetic_bytes o w to v
-chosen (instrs.Arithmetic o w (places.Register r) (operands.Memory m)) = modrm w (opcodes.One (sized_opcode w (8 * digit o + 2))) (number r) (places.Memory m)
+chosen (instrs.Arithmetic o w (places.Register r) (operands.Memory m)) = modrm w (opcodes.One (sized_opcode w (8 * opcode_extension o + 2))) (number r) (places.Memory m)
 chosen (instrs.Arithmetic o w (places.Memory n) (operands.Memory m)) = []
 chosen (instrs.Test w at (operands.Register r)) = modrm w (opcodes.One (sized_opcode w 0x84)) (number r) at
 chosen (instrs.Test w at (operands.Immediate v)) = modrm w (opcodes.One (sized_opcode w 0xF6)) 0 at ++ immediate_bytes w v
 chosen (instrs.Test w at (operands.Memory m)) = []
 chosen (instrs.Multiply w to from) = modrm w (opcodes.Two 0xAF) (number to) from
 chosen (instrs.MultiplyBy w to from v) = multiply_bytes w to from v
-chosen (instrs.Unary o w at) = modrm w (opcodes.One (sized_opcode w 0xF6)) (unary_digit o) at
-chosen (instrs.Divide d w at) = modrm w (opcodes.One 0xF7) (division_digit d) at
+chosen (instrs.Unary o w at) = modrm w (opcodes.One (sized_opcode w 0xF6)) (unary_opcode_extension o) at
+chosen (instrs.Divide d w at) = modrm w (opcodes.One 0xF7) (division_opcode_extension d) at
 chosen (instrs.ExtendRax w) = plain_bytes w 0x99
-chosen (instrs.Shift d w to by) = count_bytes w (direction_digit d) to by
+chosen (instrs.Shift d w to by) = count_bytes w (direction_opcode_extension d) to by
 chosen (instrs.Set c at) = modrm W8 (opcodes.Two (0x90 + condition_number c)) 0 at
 chosen (instrs.JumpIf c d) = 0x0F ∷ (0x80 + condition_number c) ∷ little 4 (low W32 d)
 chosen (instrs.Jump (Relative d)) = 0xE9 ∷ little 4 (low W32 d)
@@ -267,7 +267,7 @@ is_index b None = true
 is_index bases.Rip (Some i) = false
 is_index b (Some i) = not (number i.register == 4)
 
-abbrev pub is_place : Place → Bool
+abbrev pub is_place : RegisterOrMemory → Bool
 is_place (places.Register r) = true
 is_place (places.Memory m) = is_index m.base m.index && is_signed W32 W64 m.displacement
 

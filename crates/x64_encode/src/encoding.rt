@@ -6,18 +6,18 @@ ghost use Rattle.seh_num.specs.declared.width.Width.TheVariants.{W32};
 ghost use Rattle.seh_num.specs.Widths.{low};
 ghost use Rattle.x64_encode.specs.Chosen as spec;
 ghost use Rattle.x64_encode.specs.Chosen.{chosen, encoded_len, IsEncodable};
-ghost use Rattle.x64_instr.specs.Spelling.{leading, Spells};
+ghost use Rattle.x64_instr.specs.Spelling.{leading, IsEncoding};
 
 use crate::opcodes::{
-    condition_number, digit, direction_digit, division_digit, extend_opcode, extend_width,
-    sized_opcode, unary_digit,
+    condition_number, direction_opcode_extension, division_opcode_extension, extend_opcode,
+    extend_width, opcode_extension, sized_opcode, unary_opcode_extension,
 };
 use crate::writing::{Opcode, is_signed, put_modrm, put_number, put_opcode_register};
 use arrayvec::ArrayVec;
 use seh_num::extension::zero_extend;
 use seh_num::width::Width;
 use x64_instr::instruction::{Count, Extension, Instr, Operation, Target};
-use x64_instr::operand::{Base, Index, Operand, Place};
+use x64_instr::operand::{Base, Index, Operand, RegisterOrMemory};
 use x64_instr::prefixes::immediate_of;
 use x64_instr::register::Reg;
 
@@ -31,12 +31,12 @@ fn is_index(base: Base, index: Option<Index>) -> bool
     }
 }
 
-fn is_place(place: Place) -> bool
+fn is_place(place: RegisterOrMemory) -> bool
     ensures { result ≡ spec.is_place place }
 {
     match place {
-        Place::Register(_) => true,
-        Place::Memory(memory) => {
+        RegisterOrMemory::Register(_) => true,
+        RegisterOrMemory::Memory(memory) => {
             is_index(memory.base, memory.index)
                 && is_signed(Width::W32, Width::W64, memory.displacement)
         }
@@ -86,30 +86,36 @@ fn is_target(target: Target) -> bool
     }
 }
 
-fn is_move(width: Width, to: Place, from: Operand) -> bool
+fn is_move(width: Width, to: RegisterOrMemory, from: Operand) -> bool
     ensures { result ≡ spec.is_encodable (Instr.Move width to from) }
 {
     match (to, from) {
         (to, Operand::Register(_)) => is_place(to),
-        (Place::Register(_), Operand::Memory(memory)) => is_place(Place::Memory(memory)),
-        (Place::Register(_), Operand::Immediate(value)) => u128::from(value) < width.limit(),
-        (Place::Memory(_), Operand::Immediate(value)) => is_place(to) && is_immediate(width, value),
-        (Place::Memory(_), Operand::Memory(_)) => false,
+        (RegisterOrMemory::Register(_), Operand::Memory(memory)) => is_place(
+            RegisterOrMemory::Memory(memory),
+        ),
+        (RegisterOrMemory::Register(_), Operand::Immediate(value)) => u128::from(value)
+            < width.limit(),
+        (RegisterOrMemory::Memory(_), Operand::Immediate(value)) => is_place(to)
+            && is_immediate(width, value),
+        (RegisterOrMemory::Memory(_), Operand::Memory(_)) => false,
     }
 }
 
-fn is_arithmetic(operation: Operation, width: Width, to: Place, from: Operand) -> bool
+fn is_arithmetic(operation: Operation, width: Width, to: RegisterOrMemory, from: Operand) -> bool
     ensures { result ≡ spec.is_encodable (Instr.Arithmetic operation width to from) }
 {
     match (to, from) {
         (to, Operand::Register(_)) => is_place(to),
         (to, Operand::Immediate(value)) => is_place(to) && is_immediate(width, value),
-        (Place::Register(_), Operand::Memory(memory)) => is_place(Place::Memory(memory)),
-        (Place::Memory(_), Operand::Memory(_)) => false,
+        (RegisterOrMemory::Register(_), Operand::Memory(memory)) => is_place(
+            RegisterOrMemory::Memory(memory),
+        ),
+        (RegisterOrMemory::Memory(_), Operand::Memory(_)) => false,
     }
 }
 
-fn is_test(width: Width, first: Place, second: Operand) -> bool
+fn is_test(width: Width, first: RegisterOrMemory, second: Operand) -> bool
     ensures { result ≡ spec.is_encodable (Instr.Test width first second) }
 {
     match second {
@@ -132,7 +138,8 @@ pub fn is_encodable(instr: &Instr) -> bool
             from,
             ..
         } => is_widened(extension, width, narrow) && is_place(from),
-        Instr::LoadAddress { width, from, .. } => is_wide(width) && is_place(Place::Memory(from)),
+        Instr::LoadAddress { width, from, .. } => is_wide(width)
+            && is_place(RegisterOrMemory::Memory(from)),
         Instr::Arithmetic {
             operation,
             width,
@@ -189,7 +196,13 @@ fn encode_move_number(into: &mut ArrayVec<u8, 15>, width: Width, to: Reg, value:
 {
     match width {
         Width::W8 => {
-            put_modrm(into, width, Opcode::One(0xC6), 0, Place::Register(to));
+            put_modrm(
+                into,
+                width,
+                Opcode::One(0xC6),
+                0,
+                RegisterOrMemory::Register(to),
+            );
             put_immediate(into, width, value);
         }
         _ => {
@@ -199,7 +212,7 @@ fn encode_move_number(into: &mut ArrayVec<u8, 15>, width: Width, to: Reg, value:
     }
 }
 
-fn encode_move(into: &mut ArrayVec<u8, 15>, width: Width, to: Place, from: Operand)
+fn encode_move(into: &mut ArrayVec<u8, 15>, width: Width, to: RegisterOrMemory, from: Operand)
     requires { IsEncodable (Instr.Move width to from) }
     ensures { into.new.items ≡ chosen (Instr.Move width to from) }
 {
@@ -208,18 +221,24 @@ fn encode_move(into: &mut ArrayVec<u8, 15>, width: Width, to: Place, from: Opera
             let opcode = Opcode::One(sized_opcode(width, 0x88));
             put_modrm(into, width, opcode, from.number(), to);
         }
-        (Place::Register(to), Operand::Memory(from)) => {
+        (RegisterOrMemory::Register(to), Operand::Memory(from)) => {
             let opcode = Opcode::One(sized_opcode(width, 0x8A));
-            put_modrm(into, width, opcode, to.number(), Place::Memory(from));
+            put_modrm(
+                into,
+                width,
+                opcode,
+                to.number(),
+                RegisterOrMemory::Memory(from),
+            );
         }
-        (Place::Register(to), Operand::Immediate(value)) => {
+        (RegisterOrMemory::Register(to), Operand::Immediate(value)) => {
             encode_move_number(into, width, to, value);
         }
-        (Place::Memory(_), Operand::Immediate(value)) => {
+        (RegisterOrMemory::Memory(_), Operand::Immediate(value)) => {
             put_modrm(into, width, Opcode::One(sized_opcode(width, 0xC6)), 0, to);
             put_immediate(into, width, value);
         }
-        (Place::Memory(_), Operand::Memory(_)) => unreachable!(),
+        (RegisterOrMemory::Memory(_), Operand::Memory(_)) => unreachable!(),
     }
 }
 
@@ -227,20 +246,20 @@ fn encode_arithmetic_number(
     into: &mut ArrayVec<u8, 15>,
     operation: Operation,
     width: Width,
-    to: Place,
+    to: RegisterOrMemory,
     value: u64,
 )
     ensures { into.new.items ≡ spec.arithmetic_bytes operation width to value }
 {
-    let digit = digit(operation);
+    let opcode_extension = opcode_extension(operation);
     if width == Width::W8 {
-        put_modrm(into, width, Opcode::One(0x80), digit, to);
+        put_modrm(into, width, Opcode::One(0x80), opcode_extension, to);
         put_immediate(into, width, value);
     } else if is_signed(Width::W8, width, value) {
-        put_modrm(into, width, Opcode::One(0x83), digit, to);
+        put_modrm(into, width, Opcode::One(0x83), opcode_extension, to);
         put_number(into, 1, value % (1 << 8));
     } else {
-        put_modrm(into, width, Opcode::One(0x81), digit, to);
+        put_modrm(into, width, Opcode::One(0x81), opcode_extension, to);
         put_immediate(into, width, value);
     }
 }
@@ -249,13 +268,13 @@ fn encode_arithmetic(
     into: &mut ArrayVec<u8, 15>,
     operation: Operation,
     width: Width,
-    to: Place,
+    to: RegisterOrMemory,
     from: Operand,
 )
     requires { IsEncodable (Instr.Arithmetic operation width to from) }
     ensures { into.new.items ≡ chosen (Instr.Arithmetic operation width to from) }
 {
-    let base = 8 * digit(operation);
+    let base = 8 * opcode_extension(operation);
     match (to, from) {
         (to, Operand::Register(from)) => {
             let opcode = Opcode::One(sized_opcode(width, base));
@@ -264,15 +283,21 @@ fn encode_arithmetic(
         (to, Operand::Immediate(value)) => {
             encode_arithmetic_number(into, operation, width, to, value);
         }
-        (Place::Register(to), Operand::Memory(from)) => {
+        (RegisterOrMemory::Register(to), Operand::Memory(from)) => {
             let opcode = Opcode::One(sized_opcode(width, base + 2));
-            put_modrm(into, width, opcode, to.number(), Place::Memory(from));
+            put_modrm(
+                into,
+                width,
+                opcode,
+                to.number(),
+                RegisterOrMemory::Memory(from),
+            );
         }
-        (Place::Memory(_), Operand::Memory(_)) => unreachable!(),
+        (RegisterOrMemory::Memory(_), Operand::Memory(_)) => unreachable!(),
     }
 }
 
-fn encode_test(into: &mut ArrayVec<u8, 15>, width: Width, first: Place, second: Operand)
+fn encode_test(into: &mut ArrayVec<u8, 15>, width: Width, first: RegisterOrMemory, second: Operand)
     requires { IsEncodable (Instr.Test width first second) }
     ensures { into.new.items ≡ chosen (Instr.Test width first second) }
 {
@@ -295,7 +320,13 @@ fn encode_test(into: &mut ArrayVec<u8, 15>, width: Width, first: Place, second: 
     }
 }
 
-fn encode_multiply_by(into: &mut ArrayVec<u8, 15>, width: Width, to: Reg, from: Place, by: u64)
+fn encode_multiply_by(
+    into: &mut ArrayVec<u8, 15>,
+    width: Width,
+    to: Reg,
+    from: RegisterOrMemory,
+    by: u64,
+)
     ensures { into.new.items ≡ spec.multiply_bytes width to from by }
 {
     if is_signed(Width::W8, width, by) {
@@ -307,16 +338,22 @@ fn encode_multiply_by(into: &mut ArrayVec<u8, 15>, width: Width, to: Reg, from: 
     }
 }
 
-fn encode_shift(into: &mut ArrayVec<u8, 15>, width: Width, digit: u8, to: Place, by: Count)
-    requires { digit ≤ 7 }
-    ensures { into.new.items ≡ spec.count_bytes width digit to by }
+fn encode_shift(
+    into: &mut ArrayVec<u8, 15>,
+    width: Width,
+    opcode_extension: u8,
+    to: RegisterOrMemory,
+    by: Count,
+)
+    requires { opcode_extension ≤ 7 }
+    ensures { into.new.items ≡ spec.count_bytes width opcode_extension to by }
 {
     match by {
         Count::Immediate(number) => {
-            put_modrm(into, width, Opcode::One(0xC1), digit, to);
+            put_modrm(into, width, Opcode::One(0xC1), opcode_extension, to);
             put_number(into, 1, number);
         }
-        Count::Cl => put_modrm(into, width, Opcode::One(0xD3), digit, to),
+        Count::Cl => put_modrm(into, width, Opcode::One(0xD3), opcode_extension, to),
     }
 }
 
@@ -379,7 +416,7 @@ fn put_instr(instr: &Instr, into: &mut ArrayVec<u8, 15>)
                 width,
                 Opcode::One(0x8D),
                 to.number(),
-                Place::Memory(from),
+                RegisterOrMemory::Memory(from),
             );
         }
         Instr::Arithmetic {
@@ -408,20 +445,26 @@ fn put_instr(instr: &Instr, into: &mut ArrayVec<u8, 15>)
             to,
         } => {
             let opcode = Opcode::One(sized_opcode(width, 0xF6));
-            put_modrm(into, width, opcode, unary_digit(operation), to);
+            put_modrm(into, width, opcode, unary_opcode_extension(operation), to);
         }
         Instr::Divide {
             division,
             width,
             by,
-        } => put_modrm(into, width, Opcode::One(0xF7), division_digit(division), by),
+        } => put_modrm(
+            into,
+            width,
+            Opcode::One(0xF7),
+            division_opcode_extension(division),
+            by,
+        ),
         Instr::ExtendRax { width } => put_plain(into, width, 0x99),
         Instr::Shift {
             direction,
             width,
             to,
             by,
-        } => encode_shift(into, width, direction_digit(direction), to, by),
+        } => encode_shift(into, width, direction_opcode_extension(direction), to, by),
         Instr::Set { condition, to } => {
             let opcode = Opcode::Two(0x90 + condition_number(condition));
             put_modrm(into, Width::W8, opcode, 0, to);
@@ -453,7 +496,7 @@ fn put_instr(instr: &Instr, into: &mut ArrayVec<u8, 15>)
 pub fn encode(instr: &Instr, into: &mut ArrayVec<u8, 15>)
     requires { IsEncodable instr.now }
     ensures bytes { into.new.items ≡ chosen instr.now }
-    ensures spelled { Spells instr.now into.new.items }
+    ensures spelled { IsEncoding instr.now into.new.items }
 {
     put_instr(instr, into);
 }

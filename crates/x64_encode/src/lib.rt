@@ -7,6 +7,4 @@
 
 pub mod encoding;
 mod opcodes;
-#[cfg(test)]
-mod tests;
 pub mod writing;

@@ -18,8 +18,8 @@ pub(crate) fn sized_opcode(width: Width, opcode: u8) -> u8
     }
 }
 
-pub(crate) fn digit(operation: Operation) -> u8
-    ensures value { result ≡ spec.digit operation }
+pub(crate) fn opcode_extension(operation: Operation) -> u8
+    ensures value { result ≡ spec.opcode_extension operation }
     ensures small { result ≤ 7 }
 {
     match operation {
@@ -32,8 +32,8 @@ pub(crate) fn digit(operation: Operation) -> u8
     }
 }
 
-pub(crate) fn unary_digit(operation: Unary) -> u8
-    ensures value { result ≡ spec.unary_digit operation }
+pub(crate) fn unary_opcode_extension(operation: Unary) -> u8
+    ensures value { result ≡ spec.unary_opcode_extension operation }
     ensures small { result ≤ 7 }
 {
     match operation {
@@ -42,8 +42,8 @@ pub(crate) fn unary_digit(operation: Unary) -> u8
     }
 }
 
-pub(crate) fn division_digit(division: Division) -> u8
-    ensures value { result ≡ spec.division_digit division }
+pub(crate) fn division_opcode_extension(division: Division) -> u8
+    ensures value { result ≡ spec.division_opcode_extension division }
     ensures small { result ≤ 7 }
 {
     match division {
@@ -52,8 +52,8 @@ pub(crate) fn division_digit(division: Division) -> u8
     }
 }
 
-pub(crate) fn direction_digit(direction: Direction) -> u8
-    ensures value { result ≡ spec.direction_digit direction }
+pub(crate) fn direction_opcode_extension(direction: Direction) -> u8
+    ensures value { result ≡ spec.direction_opcode_extension direction }
     ensures small { result ≤ 7 }
 {
     match direction {

@@ -8,10 +8,10 @@ ghost use Rattle.x64_encode.specs.Chosen as spec;
 
 use arrayvec::ArrayVec;
 use seh_num::width::Width;
-use x64_instr::operand::{Base, Index, Place, Scale};
+use x64_instr::operand::{Base, Index, RegisterOrMemory, Scale};
 use x64_instr::register::Reg;
 
-/// An opcode, behind the prefixes.
+/// An opcode, after the prefixes.
 #[derive(Clone, Copy, Debug, PartialEq, Eq)]
 pub enum Opcode {
     /// One byte.
@@ -20,7 +20,7 @@ pub enum Opcode {
     Two(u8),
 }
 
-/// The lowest bytes of a number, the lowest first.
+/// The low bytes of a number, little-endian.
 pub(crate) fn put_number(into: &mut ArrayVec<u8, 15>, count: u64, value: u64)
     requires { array_vec_len into.old + count ≤ 15 }
     ensures items { into.new.items ≡ into.old.items ++ spec.little count value }
@@ -60,7 +60,7 @@ fn wide(width: Width) -> u8
     }
 }
 
-/// The prefixes of an instruction, behind nothing.
+/// The prefixes of an instruction, into an empty list.
 fn put_prefixes(into: &mut ArrayVec<u8, 15>, width: Width, bits: u8)
     requires { bits < 16 }
     ensures items { into.new.items ≡ spec.prefixes width bits }
@@ -95,13 +95,13 @@ fn index_number(index: Option<Index>) -> u8
     }
 }
 
-fn high_bits(place: Place) -> u8
+fn high_bits(place: RegisterOrMemory) -> u8
     ensures value { result ≡ spec.high_bits place }
     ensures small { result < 4 }
 {
     match place {
-        Place::Register(register) => register.number() / 8,
-        Place::Memory(memory) => {
+        RegisterOrMemory::Register(register) => register.number() / 8,
+        RegisterOrMemory::Memory(memory) => {
             2 * (index_number(memory.index) / 8) + base_number(memory.base) / 8
         }
     }
@@ -176,18 +176,18 @@ fn put_at_register(
 }
 
 /// ModRM, SIB and displacement.
-fn put_place(into: &mut ArrayVec<u8, 15>, reg: u8, place: Place)
+fn put_place(into: &mut ArrayVec<u8, 15>, reg: u8, place: RegisterOrMemory)
     requires reg { reg < 8 }
     requires room { array_vec_len into.old + 6 ≤ 15 }
     ensures items { into.new.items ≡ into.old.items ++ spec.place_bytes reg place }
     ensures len { array_vec_len into.new ≤ array_vec_len into.old + 6 }
 {
     let memory = match place {
-        Place::Register(register) => {
+        RegisterOrMemory::Register(register) => {
             into.push(64 * 3 + 8 * reg + register.number() % 8);
             return;
         }
-        Place::Memory(memory) => memory,
+        RegisterOrMemory::Memory(memory) => memory,
     };
     match memory.base {
         Base::Nothing => {
@@ -219,15 +219,15 @@ fn put_opcode(into: &mut ArrayVec<u8, 15>, opcode: Opcode)
     }
 }
 
-/// An opcode with ModRM, behind nothing: `reg` is the number of the register in the reg field, or
-/// the digit there.
+/// An opcode with ModRM, into an empty list: `reg` is the number of the register in the reg field, or
+/// the opcode extension there.
 #[tactic(auto, unfolding(crate::specs::Chosen::modrm))]
 pub(crate) fn put_modrm(
     into: &mut ArrayVec<u8, 15>,
     width: Width,
     opcode: Opcode,
     reg: u8,
-    place: Place,
+    place: RegisterOrMemory,
 )
     requires { reg < 16 }
     ensures items { into.new.items ≡ spec.modrm width opcode reg place }
@@ -239,7 +239,7 @@ pub(crate) fn put_modrm(
     put_place(into, reg % 8, place);
 }
 
-/// An opcode with a register in its low three bits, behind nothing.
+/// An opcode with a register in its low three bits, into an empty list.
 #[tactic(auto, unfolding(crate::specs::Chosen::opcode_register))]
 pub(crate) fn put_opcode_register(
     into: &mut ArrayVec<u8, 15>,

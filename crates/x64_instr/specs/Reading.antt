@@ -16,12 +16,12 @@ abbrev pub byte : List ℕ → Read ℕ
 byte [] = None
 byte (b ∷ bytes) = Some (b, bytes)
 
--- n bytes, the lowest first
+-- n bytes, little-endian
 abbrev pub number : ℕ → List ℕ → Read ℕ
 number zero bytes = Some (0, bytes)
 number (suc n) bytes = byte bytes >>= λ b. number n b.1 >>= λ v. Some (b.0 + 256 * v.0, v.1)
 
--- a number whose highest bit of one width stands for all bits above it of another
+-- a number of one width, sign-extended to another
 abbrev pub extended : Width → Width → ℕ → ℕ
 extended from to v = if nat_lt v (half from) then v else v + (limit to - limit from)
 

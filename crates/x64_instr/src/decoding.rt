@@ -2,10 +2,10 @@
 
 ghost use Rattle.std.specs.Prelude.{◌≡◌, ◌≤◌, [], ◌++◌, ℕ, List, Some, option_map, IfSome, length, take};
 ghost use Rattle.x64_instr.specs.Spelling as spec;
-ghost use Rattle.x64_instr.specs.Spelling.{Spells};
+ghost use Rattle.x64_instr.specs.Spelling.{IsEncoding};
 
 use crate::instruction::Instr;
-use crate::opcode_map::{row, second_row};
+use crate::opcode_map::{row, two_byte_row};
 use crate::prefixes::Prefixes;
 use crate::reading::byte;
 
@@ -15,7 +15,7 @@ fn after_prefixes(prefixes: Prefixes, opcode: u8, bytes: &[u8]) -> Option<(Instr
 {
     if opcode == 0x0F {
         let (second, rest) = byte(bytes)?;
-        return second_row(prefixes, second, rest);
+        return two_byte_row(prefixes, second, rest);
     }
     row(prefixes, opcode, bytes)
 }
@@ -56,9 +56,9 @@ fn instr(bytes: &[u8]) -> Option<(Instr, &[u8])>
 /// The instruction that the leading bytes spell, and how many bytes it takes; none where no leading
 /// bytes are a spelling. No more than 15 bytes are looked at.
 pub fn decode(bytes: &[u8]) -> Option<(Instr, usize)>
-    ensures found { IfSome result (λ x. (x.1 ≤ length bytes.now) × Spells x.0 (take x.1 bytes.now)) }
+    ensures found { IfSome result (λ x. (x.1 ≤ length bytes.now) × IsEncoding x.0 (take x.1 bytes.now)) }
     ensures exact { result ≡ spec.leading bytes.now }
-    ensures only { (i : Instr) (k : ℕ) → k ≤ length bytes.now → Spells i (take k bytes.now) → result ≡ Some (i, k) }
+    ensures only { (i : Instr) (k : ℕ) → k ≤ length bytes.now → IsEncoding i (take k bytes.now) → result ≡ Some (i, k) }
 {
     match instr(bytes) {
         None => None,
@@ -68,5 +68,5 @@ pub fn decode(bytes: &[u8]) -> Option<(Instr, usize)>
 
 /// No spelling begins another, and each spells one instruction.
 pub fn one_reading()
-    ensures { (i j : Instr) (a more : List ℕ) → Spells i a → Spells j (a ++ more) → (more ≡ []) × (i ≡ j) }
+    ensures { (i j : Instr) (a more : List ℕ) → IsEncoding i a → IsEncoding j (a ++ more) → (more ≡ []) × (i ≡ j) }
 {}

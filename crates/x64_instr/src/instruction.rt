@@ -1,6 +1,6 @@
 //! The instructions.
 
-use crate::operand::{MemRef, Operand, Place};
+use crate::operand::{MemRef, Operand, RegisterOrMemory};
 use crate::register::Reg;
 use seh_num::width::Width;
 
@@ -41,7 +41,7 @@ pub enum Division {
     Signed,
 }
 
-/// Where the bits of a shift go, and what comes in behind them.
+/// Where the bits of a shift go, and what comes in after them.
 #[derive(Clone, Copy, Debug, PartialEq, Eq)]
 pub enum Direction {
     /// To the top; zeros come in.
@@ -86,17 +86,17 @@ pub enum Condition {
 pub enum Target {
     /// So far from the next instruction: a signed number of 32 bits, sign-extended to 64.
     Relative(u64),
-    /// To the address that stands at the place, of 64 bits.
-    Indirect(Place),
+    /// To the address in the operand, of 64 bits.
+    Indirect(RegisterOrMemory),
 }
 
 /// An instruction (Intel manual, volume 2). Not each value has a spelling: `is_encodable` tells.
-#[derive(Clone, Copy, Debug, PartialEq, Eq)]
+#[derive(Clone, Copy, Debug, Default, PartialEq, Eq)]
 pub enum Instr {
     /// MOV.
     Move {
         width: Width,
-        to: Place,
+        to: RegisterOrMemory,
         from: Operand,
     },
     /// MOVZX, MOVSX, MOVSXD.
@@ -107,7 +107,7 @@ pub enum Instr {
         to: Reg,
         /// The width of `from`.
         narrow: Width,
-        from: Place,
+        from: RegisterOrMemory,
     },
     /// LEA: the address itself goes to `to`.
     LoadAddress {
@@ -119,26 +119,26 @@ pub enum Instr {
     Arithmetic {
         operation: Operation,
         width: Width,
-        to: Place,
+        to: RegisterOrMemory,
         from: Operand,
     },
     /// TEST: the flags of AND.
     Test {
         width: Width,
-        first: Place,
+        first: RegisterOrMemory,
         second: Operand,
     },
     /// IMUL with two operands: `to` is one of them, and takes the low half of the product.
     Multiply {
         width: Width,
         to: Reg,
-        from: Place,
+        from: RegisterOrMemory,
     },
     /// IMUL with three operands: `to` takes the low half of the product of the other two.
     MultiplyBy {
         width: Width,
         to: Reg,
-        from: Place,
+        from: RegisterOrMemory,
         /// A number of the width, sign-extended from 32 bits.
         by: u64,
     },
@@ -146,14 +146,14 @@ pub enum Instr {
     Unary {
         operation: Unary,
         width: Width,
-        to: Place,
+        to: RegisterOrMemory,
     },
     /// DIV, IDIV: of RDX and RAX together, RDX the high half; RAX takes the quotient, RDX the
     /// remainder.
     Divide {
         division: Division,
         width: Width,
-        by: Place,
+        by: RegisterOrMemory,
     },
     /// CDQ, CQO: RDX takes copies of the top bit of RAX.
     ExtendRax {
@@ -163,13 +163,13 @@ pub enum Instr {
     Shift {
         direction: Direction,
         width: Width,
-        to: Place,
+        to: RegisterOrMemory,
         by: Count,
     },
     /// SETcc: a byte of 1 where the condition holds, else of 0.
     Set {
         condition: Condition,
-        to: Place,
+        to: RegisterOrMemory,
     },
     /// Jcc: so far from the next instruction where the condition holds.
     JumpIf {
@@ -187,7 +187,8 @@ pub enum Instr {
     Pop(Reg),
     /// RET.
     Return,
-    /// NOP.
+    /// NOP, which is also the default.
+    #[default]
     NoOperation,
     /// INT3.
     Breakpoint,

@@ -15,5 +15,3 @@ pub mod prefixes;
 mod reading;
 pub mod register;
 mod rows;
-#[cfg(test)]
-mod tests;

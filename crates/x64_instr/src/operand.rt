@@ -39,9 +39,10 @@ pub struct MemRef {
     pub displacement: u64,
 }
 
-/// What can be read and written: a register or a place in memory.
+/// An operand r/m: a register or a place in memory (Intel manual, volume 2, "Instruction Column in
+/// the Opcode Summary Table").
 #[derive(Clone, Copy, Debug, PartialEq, Eq)]
-pub enum Place {
+pub enum RegisterOrMemory {
     Register(Reg),
     Memory(MemRef),
 }

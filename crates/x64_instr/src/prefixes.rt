@@ -2,7 +2,7 @@ ghost use Rattle.std.specs.Prelude.{◌≡◌, ◌<◌, ◌≤◌};
 ghost use Rattle.seh_num.specs.Widths.{limit};
 ghost use Rattle.x64_instr.specs.Operands as spec;
 
-use crate::operand::{Index, Place, Scale};
+use crate::operand::{Index, RegisterOrMemory, Scale};
 use crate::reading::bit;
 use crate::register::Reg;
 use seh_num::width::Width;
@@ -45,32 +45,33 @@ impl Prefixes {
     }
 
     /// Whether an operand of this width stands for the place, and not for AH, CH, DH or BH.
-    pub(crate) fn lists(self, width: Width, place: Place) -> bool
+    pub(crate) fn lists(self, width: Width, place: RegisterOrMemory) -> bool
         ensures { result ≡ spec.is_listed self width place }
     {
         match (width, place) {
-            (Width::W8, Place::Register(register)) => self.has_rex || register.number() / 4 != 1,
+            (Width::W8, RegisterOrMemory::Register(register)) => self.has_rex
+                || register.number() / 4 != 1,
             _ => true,
         }
     }
 
     /// The register of ModRM's reg field.
-    pub(crate) fn middle(self, modrm: u8) -> Reg
-        ensures { result ≡ spec.middle self modrm }
+    pub(crate) fn register_of_reg_field(self, modrm: u8) -> Reg
+        ensures { result ≡ spec.register_of_reg_field self modrm }
     {
         Reg::of(8 * bit(2, self.rex) + modrm / 8 % 8)
     }
 
     /// The register in the low three bits of ModRM, SIB or the opcode.
-    pub(crate) fn lowest(self, byte: u8) -> Reg
-        ensures { result ≡ spec.lowest self byte }
+    pub(crate) fn register_of_low_bits(self, byte: u8) -> Reg
+        ensures { result ≡ spec.register_of_low_bits self byte }
     {
         Reg::of(8 * bit(0, self.rex) + byte % 8)
     }
 
     /// The index of SIB.
-    pub(crate) fn indexed(self, sib: u8) -> Option<Index>
-        ensures { result ≡ spec.indexed self sib }
+    pub(crate) fn index_of_sib(self, sib: u8) -> Option<Index>
+        ensures { result ≡ spec.index_of_sib self sib }
     {
         let number = 8 * bit(1, self.rex) + sib / 8 % 8;
         if number == 4 {

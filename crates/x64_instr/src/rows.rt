@@ -1,4 +1,5 @@
-//! Rows of the table that have more behind their operands, or that a digit tells apart.
+//! Rows of the table that have an immediate after their operands, and the groups whose instruction
+//! is chosen by ModRM's reg field (Intel manual, volume 2, appendix A, table A-6).
 
 ghost use Rattle.std.specs.Prelude.{◌≡◌, ◌≤◌, option_map};
 ghost use Rattle.seh_num.specs.Widths.{limit};
@@ -9,8 +10,8 @@ ghost use Rattle.x64_instr.specs.Spelling as spec;
 use crate::instruction::{
     Condition, Count, Direction, Division, Extension, Instr, Operation, Target, Unary,
 };
-use crate::operand::{Operand, Place};
-use crate::places::{operand_and_digit, operands_of, source};
+use crate::operand::{Operand, RegisterOrMemory};
+use crate::places::{rm_and_opcode_extension, rm_and_register, source};
 use crate::prefixes::{Prefixes, immediate_of, sized_narrow};
 use crate::reading::{byte, number, signed};
 use seh_num::width::Width;
@@ -75,11 +76,11 @@ fn arithmetic_form(
     if form > 1 {
         return None;
     }
-    let (place, register, rest) = operands_of(prefixes, width, width, bytes)?;
+    let (place, register, rest) = rm_and_register(prefixes, width, width, bytes)?;
     let (to, from) = if form == 0 {
         (place, Operand::Register(register))
     } else {
-        (Place::Register(register), source(place))
+        (RegisterOrMemory::Register(register), source(place))
     };
     Some((
         Instr::Arithmetic {
@@ -99,7 +100,7 @@ pub(crate) fn arithmetic_row(prefixes: Prefixes, opcode: u8, bytes: &[u8]) -> Op
     arithmetic_form(prefixes, operation, opcode, bytes)
 }
 
-pub(crate) fn arithmetic_immediate(
+pub(crate) fn group_1(
     prefixes: Prefixes,
     from: Width,
     width: Width,
@@ -107,10 +108,10 @@ pub(crate) fn arithmetic_immediate(
 ) -> Option<(Instr, &[u8])>
     requires { limit from ≤ limit width }
     ensures { option_map (λ x. (x.0, x.1.now)) result
-        ≡ spec.rm_digit prefixes width (spec.arithmetic_immediate from width) bytes.now }
+        ≡ spec.rm_extension prefixes width (spec.group_1 from width) bytes.now }
 {
-    let (to, digit, rest) = operand_and_digit(prefixes, width, bytes)?;
-    let operation = operation(digit)?;
+    let (to, opcode_extension, rest) = rm_and_opcode_extension(prefixes, width, bytes)?;
+    let operation = operation(opcode_extension)?;
     let (value, rest) = signed(from, width, rest)?;
     let from = Operand::Immediate(value);
     Some((
@@ -129,21 +130,17 @@ pub(crate) fn move_immediate(prefixes: Prefixes, opcode: u8, bytes: &[u8]) -> Op
 {
     let width = prefixes.width();
     let (value, rest) = number(width.bytes(), bytes)?;
-    let to = Place::Register(prefixes.lowest(opcode));
+    let to = RegisterOrMemory::Register(prefixes.register_of_low_bits(opcode));
     let from = Operand::Immediate(value);
     Some((Instr::Move { width, to, from }, rest))
 }
 
-pub(crate) fn move_to_place(
-    prefixes: Prefixes,
-    width: Width,
-    bytes: &[u8],
-) -> Option<(Instr, &[u8])>
+pub(crate) fn group_11(prefixes: Prefixes, width: Width, bytes: &[u8]) -> Option<(Instr, &[u8])>
     ensures { option_map (λ x. (x.0, x.1.now)) result
-        ≡ spec.rm_digit prefixes width (spec.move_to_place width) bytes.now }
+        ≡ spec.rm_extension prefixes width (spec.group_11 width) bytes.now }
 {
-    let (to, digit, rest) = operand_and_digit(prefixes, width, bytes)?;
-    if digit != 0 {
+    let (to, opcode_extension, rest) = rm_and_opcode_extension(prefixes, width, bytes)?;
+    if opcode_extension != 0 {
         return None;
     }
     let (value, rest) = signed(immediate_of(width), width, rest)?;
@@ -151,7 +148,7 @@ pub(crate) fn move_to_place(
     Some((Instr::Move { width, to, from }, rest))
 }
 
-fn test_immediate(width: Width, first: Place, bytes: &[u8]) -> Option<(Instr, &[u8])>
+fn test_immediate(width: Width, first: RegisterOrMemory, bytes: &[u8]) -> Option<(Instr, &[u8])>
     ensures { option_map (λ x. (x.0, x.1.now)) result ≡ spec.test_immediate width first bytes.now }
 {
     let (value, rest) = signed(immediate_of(width), width, bytes)?;
@@ -166,7 +163,7 @@ fn test_immediate(width: Width, first: Place, bytes: &[u8]) -> Option<(Instr, &[
     ))
 }
 
-fn unary(operation: Unary, width: Width, to: Place) -> Instr
+fn unary(operation: Unary, width: Width, to: RegisterOrMemory) -> Instr
     ensures { result ≡ Instr.Unary operation width to }
 {
     Instr::Unary {
@@ -176,7 +173,7 @@ fn unary(operation: Unary, width: Width, to: Place) -> Instr
     }
 }
 
-fn divide(division: Division, width: Width, by: Place) -> Instr
+fn divide(division: Division, width: Width, by: RegisterOrMemory) -> Instr
     ensures { result ≡ Instr.Divide division width by }
 {
     Instr::Divide {
@@ -186,17 +183,17 @@ fn divide(division: Division, width: Width, by: Place) -> Instr
     }
 }
 
-pub(crate) fn third_group(
+pub(crate) fn group_3(
     prefixes: Prefixes,
     divides: bool,
     width: Width,
     bytes: &[u8],
 ) -> Option<(Instr, &[u8])>
     ensures { option_map (λ x. (x.0, x.1.now)) result
-        ≡ spec.rm_digit prefixes width (spec.third_group divides width) bytes.now }
+        ≡ spec.rm_extension prefixes width (spec.group_3 divides width) bytes.now }
 {
-    let (at, digit, rest) = operand_and_digit(prefixes, width, bytes)?;
-    match digit {
+    let (at, opcode_extension, rest) = rm_and_opcode_extension(prefixes, width, bytes)?;
+    match opcode_extension {
         0 => test_immediate(width, at, rest),
         2 => Some((unary(Unary::Not, width, at), rest)),
         3 => Some((unary(Unary::Negate, width, at), rest)),
@@ -206,7 +203,7 @@ pub(crate) fn third_group(
     }
 }
 
-fn shift(direction: Direction, width: Width, to: Place, by: Count) -> Instr
+fn shift(direction: Direction, width: Width, to: RegisterOrMemory, by: Count) -> Instr
     ensures { result ≡ Instr.Shift direction width to by }
 {
     Instr::Shift {
@@ -217,35 +214,35 @@ fn shift(direction: Direction, width: Width, to: Place, by: Count) -> Instr
     }
 }
 
-pub(crate) fn shift_immediate(
+pub(crate) fn group_2_immediate(
     prefixes: Prefixes,
     width: Width,
     bytes: &[u8],
 ) -> Option<(Instr, &[u8])>
     ensures { option_map (λ x. (x.0, x.1.now)) result
-        ≡ spec.rm_digit prefixes width (spec.shift_immediate width) bytes.now }
+        ≡ spec.rm_extension prefixes width (spec.group_2_immediate width) bytes.now }
 {
-    let (to, digit, rest) = operand_and_digit(prefixes, width, bytes)?;
-    let direction = direction(digit)?;
+    let (to, opcode_extension, rest) = rm_and_opcode_extension(prefixes, width, bytes)?;
+    let direction = direction(opcode_extension)?;
     let (count, rest) = byte(rest)?;
     let by = Count::Immediate(u64::from(count));
     Some((shift(direction, width, to, by), rest))
 }
 
-pub(crate) fn shift_by_cl(prefixes: Prefixes, width: Width, bytes: &[u8]) -> Option<(Instr, &[u8])>
+pub(crate) fn group_2_cl(prefixes: Prefixes, width: Width, bytes: &[u8]) -> Option<(Instr, &[u8])>
     ensures { option_map (λ x. (x.0, x.1.now)) result
-        ≡ spec.rm_digit prefixes width (spec.shift_by_cl width) bytes.now }
+        ≡ spec.rm_extension prefixes width (spec.group_2_cl width) bytes.now }
 {
-    let (to, digit, rest) = operand_and_digit(prefixes, width, bytes)?;
-    let direction = direction(digit)?;
+    let (to, opcode_extension, rest) = rm_and_opcode_extension(prefixes, width, bytes)?;
+    let direction = direction(opcode_extension)?;
     Some((shift(direction, width, to, Count::Cl), rest))
 }
 
-pub(crate) fn indirect(prefixes: Prefixes, bytes: &[u8]) -> Option<(Instr, &[u8])>
-    ensures { option_map (λ x. (x.0, x.1.now)) result ≡ spec.rm_digit prefixes W64 spec.indirect bytes.now }
+pub(crate) fn group_5(prefixes: Prefixes, bytes: &[u8]) -> Option<(Instr, &[u8])>
+    ensures { option_map (λ x. (x.0, x.1.now)) result ≡ spec.rm_extension prefixes W64 spec.group_5 bytes.now }
 {
-    let (at, digit, rest) = operand_and_digit(prefixes, Width::W64, bytes)?;
-    match digit {
+    let (at, opcode_extension, rest) = rm_and_opcode_extension(prefixes, Width::W64, bytes)?;
+    match opcode_extension {
         2 => Some((Instr::Call(Target::Indirect(at)), rest)),
         4 => Some((Instr::Jump(Target::Indirect(at)), rest)),
         _ => None,
@@ -261,7 +258,7 @@ fn extend(
     ensures { option_map (λ x. (x.0, x.1.now)) result ≡ spec.extend extension prefixes opcode bytes.now }
 {
     let (width, narrow) = (prefixes.width(), sized_narrow(opcode));
-    let (from, to, rest) = operands_of(prefixes, narrow, width, bytes)?;
+    let (from, to, rest) = rm_and_register(prefixes, narrow, width, bytes)?;
     Some((
         Instr::Extend {
             extension,
@@ -290,7 +287,7 @@ pub(crate) fn multiply_by(prefixes: Prefixes, from: Width, bytes: &[u8]) -> Opti
     ensures { option_map (λ x. (x.0, x.1.now)) result ≡ spec.multiply_by prefixes from bytes.now }
 {
     let width = prefixes.width();
-    let (place, to, rest) = operands_of(prefixes, width, width, bytes)?;
+    let (place, to, rest) = rm_and_register(prefixes, width, width, bytes)?;
     let (by, rest) = signed(from, width, rest)?;
     Some((
         Instr::MultiplyBy {
@@ -307,10 +304,10 @@ pub(crate) fn load_address(prefixes: Prefixes, bytes: &[u8]) -> Option<(Instr, &
     ensures { option_map (λ x. (x.0, x.1.now)) result ≡ spec.load_address prefixes bytes.now }
 {
     let width = prefixes.width();
-    let (place, to, rest) = operands_of(prefixes, width, width, bytes)?;
+    let (place, to, rest) = rm_and_register(prefixes, width, width, bytes)?;
     match place {
-        Place::Memory(from) => Some((Instr::LoadAddress { width, to, from }, rest)),
-        Place::Register(_) => None,
+        RegisterOrMemory::Memory(from) => Some((Instr::LoadAddress { width, to, from }, rest)),
+        RegisterOrMemory::Register(_) => None,
     }
 }
 
@@ -333,6 +330,6 @@ pub(crate) fn set_if(prefixes: Prefixes, opcode: u8, bytes: &[u8]) -> Option<(In
     ensures { option_map (λ x. (x.0, x.1.now)) result ≡ spec.set_if prefixes opcode bytes.now }
 {
     let condition = condition(opcode % 16)?;
-    let (to, _, rest) = operand_and_digit(prefixes, Width::W8, bytes)?;
+    let (to, _, rest) = rm_and_opcode_extension(prefixes, Width::W8, bytes)?;
     Some((Instr::Set { condition, to }, rest))
 }

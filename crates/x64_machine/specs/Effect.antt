@@ -5,8 +5,8 @@ use Rattle.seh_num.specs.declared.width.Width.TheVariants.{W8, W64}
 use Rattle.seh_num.specs.declared.division.DivFault.{DivFault}
 use Rattle.seh_num.specs.declared.division.DivFault.TheVariants as faults
 use Rattle.seh_num.specs.Widths.{limit, half, low, signed, wrapped}
-use Rattle.flat_memory.specs.declared.access.Access.{Access}
-use Rattle.flat_memory.specs.declared.access.Access.TheVariants as accesses
+use Rattle.flat_memory.specs.declared.access.RefusedAccess.{RefusedAccess}
+use Rattle.flat_memory.specs.declared.access.RefusedAccess.TheVariants as accesses
 use Rattle.flat_memory.specs.Memory.{Memory, executable, loaded, stored, after_store}
 use Rattle.x64_instr.specs.declared.register.Reg.{Reg}
 use Rattle.x64_instr.specs.declared.register.Reg.TheVariants.{Rax, Rcx, Rdx, Rsp}
@@ -16,8 +16,8 @@ use Rattle.x64_instr.specs.declared.operand.Base.{Base}
 use Rattle.x64_instr.specs.declared.operand.Base.TheVariants as bases
 use Rattle.x64_instr.specs.declared.operand.Index.{Index}
 use Rattle.x64_instr.specs.declared.operand.MemRef.{MemRef}
-use Rattle.x64_instr.specs.declared.operand.Place.{Place}
-use Rattle.x64_instr.specs.declared.operand.Place.TheVariants as places
+use Rattle.x64_instr.specs.declared.operand.RegisterOrMemory.{RegisterOrMemory}
+use Rattle.x64_instr.specs.declared.operand.RegisterOrMemory.TheVariants as places
 use Rattle.x64_instr.specs.declared.operand.Operand.{Operand}
 use Rattle.x64_instr.specs.declared.operand.Operand.TheVariants as operands
 use Rattle.x64_instr.specs.declared.instruction.Operation.{Operation}
@@ -41,11 +41,11 @@ use Rattle.x64_machine.specs.declared.cpu.Cpu.{Cpu}
 use Rattle.x64_machine.specs.declared.cpu.Flags.{Flags}
 use Rattle.x64_machine.specs.declared.outcome.Stop.{Stop}
 use Rattle.x64_machine.specs.declared.outcome.Stop.TheVariants as stops
-use Rattle.x64_machine.specs.declared.outcome.Step.{Step}
-use Rattle.x64_machine.specs.declared.outcome.Step.TheVariants as steps
-use Rattle.x64_machine.specs.declared.service.Service.{Service}
-use Rattle.x64_machine.specs.declared.service.Service.TheVariants as services
-use Rattle.x64_machine.specs.Services.{service_at, in_host_page}
+use Rattle.x64_machine.specs.declared.outcome.StepOutcome.{StepOutcome}
+use Rattle.x64_machine.specs.declared.outcome.StepOutcome.TheVariants as steps
+use Rattle.host_layout.specs.declared.service.Service.{Service}
+use Rattle.host_layout.specs.declared.service.Service.TheVariants as services
+use Rattle.host_layout.specs.Services.{service_at, in_host_page}
 use Rattle.x64_machine.specs.Words.{merged, added, subtracted, multiplied, logical, inverted}
 use Rattle.x64_machine.specs.Shifts.{count_of, shifted, shift_flags}
 use Rattle.x64_machine.specs.Conditions.{holds}
@@ -82,11 +82,11 @@ with_rip s a = record s { cpu = record s.cpu { rip = a } }
 -- ---- memory
 
 -- a refused access is an access violation, but of the guard
-abbrev pub refusal : Access → Stop
+abbrev pub refusal : RefusedAccess → Stop
 refusal (accesses.Fault a write) = stops.Fault (record { 0 = 0xC0000005 }) (Some (write, a))
 refusal (accesses.Guard a) = stops.Guard a
 
-abbrev pub granted : {A : Type 0} → Result A Access → Answer A
+abbrev pub granted : {A : Type 0} → Result A RefusedAccess → Answer A
 granted (Ok x) = Ok x
 granted (Err a) = Err (refusal a)
 
@@ -117,7 +117,7 @@ store s at w v = granted (stored s.memory at w) >>= λ _. Ok (record s { memory 
 
 -- ---- operands
 
-abbrev pub read : State → Width → Place → Answer ℕ
+abbrev pub read : State → Width → RegisterOrMemory → Answer ℕ
 read s w (places.Register r) = Ok (low w (register s.cpu r))
 read s w (places.Memory a) = load s.memory (address_of s.cpu a) w
 
@@ -126,12 +126,12 @@ operand s w (operands.Register r) = Ok (low w (register s.cpu r))
 operand s w (operands.Memory a) = load s.memory (address_of s.cpu a) w
 operand s w (operands.Immediate v) = Ok (low w v)
 
-abbrev pub write : State → Width → Place → ℕ → Answer State
+abbrev pub write : State → Width → RegisterOrMemory → ℕ → Answer State
 write s w (places.Register r) v = Ok (record s { cpu = with_register w s.cpu r v })
 write s w (places.Memory a) v = store s (address_of s.cpu a) w v
 
 -- a place in memory that is read and written is refused as a write
-abbrev pub may_change : State → Width → Place → Answer Unit
+abbrev pub may_change : State → Width → RegisterOrMemory → Answer Unit
 may_change s w (places.Register r) = Ok tt
 may_change s w (places.Memory a) = granted (stored s.memory (address_of s.cpu a) w)
 
@@ -146,7 +146,7 @@ computed operations.Xor w a b = logical w (bit_xor a b)
 computed operations.Compare w a b = subtracted w a b
 
 -- the second operand is read first, then the first, which takes the result
-abbrev pub change : State → Operation → Width → Place → Operand → Answer State
+abbrev pub change : State → Operation → Width → RegisterOrMemory → Operand → Answer State
 change s o w to from = do
   b ← operand s w from
   _ ← may_change s w to
@@ -154,7 +154,7 @@ change s o w to from = do
   write (with_flags s (computed o w a b).1) w to (computed o w a b).0
 
 -- the flags alone are kept, and no operand is written
-abbrev pub compare : State → Operation → Width → Place → Operand → Answer State
+abbrev pub compare : State → Operation → Width → RegisterOrMemory → Operand → Answer State
 compare s o w first second = do
   b ← operand s w second
   a ← read s w first
@@ -164,14 +164,14 @@ abbrev pub is_compare : Operation → Bool
 is_compare operations.Compare = true
 is_compare o = false
 
-abbrev pub arithmetic : State → Operation → Width → Place → Operand → Answer State
+abbrev pub arithmetic : State → Operation → Width → RegisterOrMemory → Operand → Answer State
 arithmetic s o w to from = if is_compare o then compare s o w to from else change s o w to from
 
 abbrev pub unary_of : Unary → Width → ℕ → Flags → ℕ × Flags
 unary_of Not w a f = (inverted w a, f)
 unary_of Negate w a f = subtracted w 0 a
 
-abbrev pub unary : State → Unary → Width → Place → Answer State
+abbrev pub unary : State → Unary → Width → RegisterOrMemory → Answer State
 unary s o w to = do
   _ ← may_change s w to
   a ← read s w to
@@ -182,22 +182,22 @@ amount c (counts.Immediate n) = n
 amount c counts.Cl = low W8 (register c Rcx)
 
 -- a count of 0 writes the operand too
-abbrev pub shift_by : State → Direction → Width → Place → ℕ → Answer State
+abbrev pub shift_by : State → Direction → Width → RegisterOrMemory → ℕ → Answer State
 shift_by s d w to n = do
   _ ← may_change s w to
   a ← read s w to
   write (with_flags s (shift_flags d w a n s.cpu.flags)) w to (shifted d w a n)
 
-abbrev pub shift : State → Direction → Width → Place → Count → Answer State
+abbrev pub shift : State → Direction → Width → RegisterOrMemory → Count → Answer State
 shift s d w to by = shift_by s d w to (count_of w (amount s.cpu by))
 
-abbrev pub multiply : State → Width → Reg → Place → Answer State
+abbrev pub multiply : State → Width → Reg → RegisterOrMemory → Answer State
 multiply s w to from = do
   b ← read s w from
   let p = multiplied w (low w (register s.cpu to)) b s.cpu.flags in
       Ok (with_flags (record s { cpu = with_register w s.cpu to p.0 }) p.1)
 
-abbrev pub multiply_by : State → Width → Reg → Place → ℕ → Answer State
+abbrev pub multiply_by : State → Width → Reg → RegisterOrMemory → ℕ → Answer State
 multiply_by s w to from v = do
   a ← read s w from
   let p = multiplied w a (low w v) s.cpu.flags in
@@ -213,7 +213,7 @@ with_quotient s w (Ok x) = Ok (record s { cpu = with_register w (with_register w
 with_quotient s w (Err e) = Err (division_stop e)
 
 -- the flags stay
-abbrev pub divide : State → Division → Width → Place → Answer State
+abbrev pub divide : State → Division → Width → RegisterOrMemory → Answer State
 divide s d w by = do
   v ← read s w by
   with_quotient s w (divided d w (joined w (low w (register s.cpu Rdx)) (low w (register s.cpu Rax))) v)
@@ -226,7 +226,7 @@ abbrev pub widened : Extension → Width → Width → ℕ → ℕ
 widened Sign w narrow v = wrapped w (signed narrow v)
 widened Zero w narrow v = low narrow v
 
-abbrev pub extend : State → Extension → Width → Reg → Width → Place → Answer State
+abbrev pub extend : State → Extension → Width → Reg → Width → RegisterOrMemory → Answer State
 extend s e w to narrow from = do
   v ← read s narrow from
   Ok (record s { cpu = with_register w s.cpu to (widened e w narrow v) })
@@ -301,7 +301,7 @@ effect s instrs.Undefined = Err (stops.Illegal s.cpu.rip)
 
 -- ---- one step
 
--- INT3 and UD2 have no effect: nothing can be run where they stand
+-- INT3 and UD2 have no effect: nothing can be run at their address
 abbrev pub is_trap : Instr → Bool
 is_trap instrs.Breakpoint = true
 is_trap instrs.Undefined = true
@@ -337,13 +337,13 @@ abbrev pub popped : Answer (ℕ × State) → Answer (ℕ × Cpu)
 popped (Ok x) = Ok (x.0, x.1.cpu)
 popped (Err e) = Err e
 
-abbrev pub step_of : Stop → Step
+abbrev pub step_of : Stop → StepOutcome
 step_of (stops.Fault c a) = steps.Fault c a
 step_of (stops.Host a) = steps.Host a
 step_of (stops.Illegal a) = steps.Illegal a
 step_of (stops.Guard a) = steps.Guard a
 
-abbrev pub step_answer : Answer State → Step
+abbrev pub step_answer : Answer State → StepOutcome
 step_answer (Ok s) = steps.Next
 step_answer (Err e) = step_of e
 

@@ -1,4 +1,3 @@
-pub mod Services
 pub mod Contexts
 pub mod Words
 pub mod Shifts

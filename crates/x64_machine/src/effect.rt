@@ -5,163 +5,27 @@ ghost use Rattle.seh_num.specs.Widths.{limit};
 ghost use Rattle.x64_machine.specs.Effect as spec;
 ghost use Rattle.x64_machine.specs.Effect.{State};
 
+use crate::control::{call, condition_byte, jump, jump_if, pop, push};
 use crate::cpu::{Cpu, Flags};
 use crate::dividing::{divide, join};
+use crate::operands::{may_change, operand, read, write};
 use crate::outcome::Stop;
 use crate::shifts::{count_of, shift, shift_flags};
-use crate::words::{add, invert, logical, merge, multiply, subtract};
-use flat_memory::access::Access;
+use crate::words::{add, invert, logical, multiply, subtract};
 use seh_num::division::DivFault;
 use seh_num::event::Code;
 use seh_num::extension::{sign_extend, wrap, zero_extend};
 use seh_num::width::Width;
-use x64_instr::instruction::{
-    Condition, Count, Direction, Division, Extension, Instr, Operation, Target, Unary,
-};
-use x64_instr::operand::{Base, MemRef, Operand, Place, Scale};
+use x64_instr::instruction::{Count, Direction, Division, Extension, Instr, Operation, Unary};
+use x64_instr::operand::{Operand, RegisterOrMemory};
 use x64_instr::register::Reg;
-use x64_memory::space::Space;
-
-/// The code of an access violation (Windows headers, STATUS_ACCESS_VIOLATION).
-const ACCESS_VIOLATION: Code = Code(0xC000_0005);
+use x64_memory::space::AddressSpace;
 
 /// The code of a division by 0 (STATUS_INTEGER_DIVIDE_BY_ZERO).
 const DIVIDE_BY_ZERO: Code = Code(0xC000_0094);
 
 /// The code of a quotient that doesn't fit (STATUS_INTEGER_OVERFLOW).
 const INTEGER_OVERFLOW: Code = Code(0xC000_0095);
-
-impl Cpu {
-    /// The number in a register.
-    pub fn register(&self, register: Reg) -> u64
-        ensures { result ≡ spec.register self.now register }
-    {
-        self.registers[register.number() as usize]
-    }
-
-    /// Puts a number of a width into a register.
-    pub fn set_register(&mut self, width: Width, register: Reg, value: u64)
-        ensures { self.new ≡ spec.with_register width self.old register value }
-    {
-        let old = self.register(register);
-        self.registers[register.number() as usize] = merge(width, old, value);
-    }
-
-    fn address(&self, place: &MemRef) -> u64
-        ensures { result ≡ spec.address_of self.now place.now }
-    {
-        let base = match place.base {
-            Base::Nothing => 0,
-            Base::Rip => self.rip,
-            Base::Register(register) => self.register(register),
-        };
-        let index = match &place.index {
-            None => 0,
-            Some(index) => self
-                .register(index.register)
-                .wrapping_mul(factor(index.scale)),
-        };
-        base.wrapping_add(index).wrapping_add(place.displacement)
-    }
-}
-
-fn factor(scale: Scale) -> u64
-    ensures { result ≡ spec.factor scale }
-{
-    match scale {
-        Scale::One => 1,
-        Scale::Two => 2,
-        Scale::Four => 4,
-        Scale::Eight => 8,
-    }
-}
-
-fn refusal(access: Access) -> Stop
-    ensures { result ≡ spec.refusal access }
-{
-    match access {
-        Access::Fault { address, write } => Stop::Fault {
-            code: ACCESS_VIOLATION,
-            access: Some((write, address)),
-        },
-        Access::Guard { address } => Stop::Guard { address },
-    }
-}
-
-fn load<S: Space>(space: &S, at: u64, width: Width) -> Result<u64, Stop>
-    ensures value { result ≡ spec.load (S.memory space.now) at width }
-    ensures fits { IfOk result (λ v. v < limit width) }
-{
-    match space.load(at, width) {
-        Ok(value) => Ok(value),
-        Err(access) => Err(refusal(access)),
-    }
-}
-
-fn store<S: Space>(cpu: Cpu, space: &mut S, at: u64, width: Width, value: u64) -> Result<Cpu, Stop>
-    ensures answer { result ≡ spec.cpu_of (spec.store (spec.state cpu (S.memory space.old)) at width value) }
-    ensures memory { S.memory space.new ≡ spec.memory_after (S.memory space.old) (spec.store (spec.state cpu (S.memory space.old)) at width value) }
-{
-    match space.store(at, width, value) {
-        Ok(()) => Ok(cpu),
-        Err(access) => Err(refusal(access)),
-    }
-}
-
-fn read<S: Space>(cpu: &Cpu, space: &S, width: Width, from: &Place) -> Result<u64, Stop>
-    ensures value { result ≡ spec.read (spec.state cpu.now (S.memory space.now)) width from.now }
-    ensures fits { IfOk result (λ v. v < limit width) }
-{
-    match from {
-        Place::Register(register) => Ok(zero_extend(width, cpu.register(*register))),
-        Place::Memory(place) => load(space, cpu.address(place), width),
-    }
-}
-
-fn operand<S: Space>(cpu: &Cpu, space: &S, width: Width, from: &Operand) -> Result<u64, Stop>
-    ensures value { result ≡ spec.operand (spec.state cpu.now (S.memory space.now)) width from.now }
-    ensures fits { IfOk result (λ v. v < limit width) }
-{
-    match from {
-        Operand::Register(register) => Ok(zero_extend(width, cpu.register(*register))),
-        Operand::Memory(place) => load(space, cpu.address(place), width),
-        Operand::Immediate(value) => Ok(zero_extend(width, *value)),
-    }
-}
-
-fn write<S: Space>(
-    mut cpu: Cpu,
-    space: &mut S,
-    width: Width,
-    to: &Place,
-    value: u64,
-) -> Result<Cpu, Stop>
-    ensures answer { result ≡ spec.cpu_of (spec.write (spec.state cpu (S.memory space.old)) width to.now value) }
-    ensures memory { S.memory space.new ≡ spec.memory_after (S.memory space.old) (spec.write (spec.state cpu (S.memory space.old)) width to.now value) }
-{
-    match to {
-        Place::Register(register) => {
-            cpu.set_register(width, *register, value);
-            Ok(cpu)
-        }
-        Place::Memory(place) => {
-            let at = cpu.address(place);
-            store(cpu, space, at, width, value)
-        }
-    }
-}
-
-fn may_change<S: Space>(cpu: &Cpu, space: &S, width: Width, to: &Place) -> Result<(), Stop>
-    ensures { result ≡ spec.may_change (spec.state cpu.now (S.memory space.now)) width to.now }
-{
-    match to {
-        Place::Register(_) => Ok(()),
-        Place::Memory(place) => match space.may_store(cpu.address(place), width) {
-            Ok(()) => Ok(()),
-            Err(access) => Err(refusal(access)),
-        },
-    }
-}
 
 fn computed(operation: Operation, width: Width, first: u64, second: u64) -> (u64, Flags)
     requires { second < limit width }
@@ -176,12 +40,12 @@ fn computed(operation: Operation, width: Width, first: u64, second: u64) -> (u64
     }
 }
 
-fn change<S: Space>(
+fn change<S: AddressSpace>(
     mut cpu: Cpu,
     space: &mut S,
     operation: Operation,
     width: Width,
-    to: &Place,
+    to: &RegisterOrMemory,
     from: &Operand,
 ) -> Result<Cpu, Stop>
     ensures answer { result ≡ spec.cpu_of (spec.change (spec.state cpu (S.memory space.old)) operation width to.now from.now) }
@@ -196,12 +60,12 @@ fn change<S: Space>(
 }
 
 /// The flags alone.
-fn compare<S: Space>(
+fn compare<S: AddressSpace>(
     mut cpu: Cpu,
     space: &S,
     operation: Operation,
     width: Width,
-    first: &Place,
+    first: &RegisterOrMemory,
     second: &Operand,
 ) -> Result<Cpu, Stop>
     ensures answer { result ≡ spec.cpu_of (spec.compare (spec.state cpu (S.memory space.now)) operation width first.now second.now) }
@@ -223,12 +87,12 @@ fn is_compare(operation: Operation) -> bool
     }
 }
 
-fn arithmetic<S: Space>(
+fn arithmetic<S: AddressSpace>(
     cpu: Cpu,
     space: &mut S,
     operation: Operation,
     width: Width,
-    to: &Place,
+    to: &RegisterOrMemory,
     from: &Operand,
 ) -> Result<Cpu, Stop>
     ensures answer { result ≡ spec.cpu_of (spec.arithmetic (spec.state cpu (S.memory space.old)) operation width to.now from.now) }
@@ -251,12 +115,12 @@ fn unary_of(operation: Unary, width: Width, value: u64, flags: Flags) -> (u64, F
     }
 }
 
-fn unary<S: Space>(
+fn unary<S: AddressSpace>(
     mut cpu: Cpu,
     space: &mut S,
     operation: Unary,
     width: Width,
-    to: &Place,
+    to: &RegisterOrMemory,
 ) -> Result<Cpu, Stop>
     ensures answer { result ≡ spec.cpu_of (spec.unary (spec.state cpu (S.memory space.old)) operation width to.now) }
     ensures memory { S.memory space.new ≡ spec.memory_after (S.memory space.old) (spec.unary (spec.state cpu (S.memory space.old)) operation width to.now) }
@@ -277,12 +141,12 @@ fn amount(cpu: &Cpu, count: Count) -> u64
     }
 }
 
-fn shift_by<S: Space>(
+fn shift_by<S: AddressSpace>(
     mut cpu: Cpu,
     space: &mut S,
     direction: Direction,
     width: Width,
-    to: &Place,
+    to: &RegisterOrMemory,
     count: u64,
 ) -> Result<Cpu, Stop>
     requires { count < 64 }
@@ -296,12 +160,12 @@ fn shift_by<S: Space>(
     write(cpu, space, width, to, value)
 }
 
-fn product<S: Space>(
+fn product<S: AddressSpace>(
     mut cpu: Cpu,
     space: &S,
     width: Width,
     to: Reg,
-    from: &Place,
+    from: &RegisterOrMemory,
 ) -> Result<Cpu, Stop>
     ensures { result ≡ spec.cpu_of (spec.multiply (spec.state cpu (S.memory space.now)) width to from.now) }
 {
@@ -313,12 +177,12 @@ fn product<S: Space>(
     Ok(cpu)
 }
 
-fn product_by<S: Space>(
+fn product_by<S: AddressSpace>(
     mut cpu: Cpu,
     space: &S,
     width: Width,
     to: Reg,
-    from: &Place,
+    from: &RegisterOrMemory,
     by: u64,
 ) -> Result<Cpu, Stop>
     ensures { result ≡ spec.cpu_of (spec.multiply_by (spec.state cpu (S.memory space.now)) width to from.now by) }
@@ -340,12 +204,12 @@ fn division_stop(fault: DivFault) -> Stop
     Stop::Fault { code, access: None }
 }
 
-fn quotient<S: Space>(
+fn quotient<S: AddressSpace>(
     mut cpu: Cpu,
     space: &S,
     division: Division,
     width: Width,
-    by: &Place,
+    by: &RegisterOrMemory,
 ) -> Result<Cpu, Stop>
     ensures { result ≡ spec.cpu_of (spec.divide (spec.state cpu (S.memory space.now)) division width by.now) }
 {
@@ -383,75 +247,13 @@ fn widened(extension: Extension, width: Width, narrow: Width, value: u64) -> u64
     }
 }
 
-fn push<S: Space>(mut cpu: Cpu, space: &mut S, value: u64) -> Result<Cpu, Stop>
-    ensures answer { result ≡ spec.cpu_of (spec.push (spec.state cpu (S.memory space.old)) value) }
-    ensures memory { S.memory space.new ≡ spec.memory_after (S.memory space.old) (spec.push (spec.state cpu (S.memory space.old)) value) }
-{
-    let at = cpu.register(Reg::Rsp).wrapping_sub(8);
-    cpu.set_register(Width::W64, Reg::Rsp, at);
-    store(cpu, space, at, Width::W64, value)
-}
-
-/// The number at RSP, and the registers with RSP risen by 8.
-pub fn pop<S: Space>(mut cpu: Cpu, space: &S) -> Result<(u64, Cpu), Stop>
-    ensures { result ≡ spec.popped (spec.pop (spec.state cpu (S.memory space.now))) }
-{
-    let at = cpu.register(Reg::Rsp);
-    let value = load(space, at, Width::W64)?;
-    cpu.set_register(Width::W64, Reg::Rsp, at.wrapping_add(8));
-    Ok((value, cpu))
-}
-
-fn relative(cpu: &Cpu, displacement: u64) -> u64
-    ensures { result ≡ spec.relative cpu.now displacement }
-{
-    cpu.rip.wrapping_add(displacement)
-}
-
-fn target_of<S: Space>(cpu: &Cpu, space: &S, to: &Target) -> Result<u64, Stop>
-    ensures { result ≡ spec.target_of (spec.state cpu.now (S.memory space.now)) to.now }
-{
-    match to {
-        Target::Relative(displacement) => Ok(relative(cpu, *displacement)),
-        Target::Indirect(at) => read(cpu, space, Width::W64, at),
-    }
-}
-
-fn jump<S: Space>(mut cpu: Cpu, space: &S, to: &Target) -> Result<Cpu, Stop>
-    ensures { result ≡ spec.cpu_of (spec.jump (spec.state cpu (S.memory space.now)) to.now) }
-{
-    let target = target_of(&cpu, space, to)?;
-    cpu.rip = target;
-    Ok(cpu)
-}
-
-fn jump_if(mut cpu: Cpu, condition: Condition, displacement: u64) -> Cpu
-    ensures { result ≡ spec.jumped cpu condition displacement }
-{
-    if cpu.flags.holds(condition) {
-        cpu.rip = relative(&cpu, displacement);
-    }
-    cpu
-}
-
-fn condition_byte(flags: Flags, condition: Condition) -> u64
-    ensures { result ≡ spec.condition_byte flags condition }
-{
-    if flags.holds(condition) { 1 } else { 0 }
-}
-
-fn call<S: Space>(cpu: Cpu, space: &mut S, to: &Target) -> Result<Cpu, Stop>
-    ensures answer { result ≡ spec.cpu_of (spec.call (spec.state cpu (S.memory space.old)) to.now) }
-    ensures memory { S.memory space.new ≡ spec.memory_after (S.memory space.old) (spec.call (spec.state cpu (S.memory space.old)) to.now) }
-{
-    let target = target_of(&cpu, space, to)?;
-    let mut after = push(cpu, space, cpu.rip)?;
-    after.rip = target;
-    Ok(after)
-}
-
-/// What an instruction does, where RIP is that of the next one.
-pub fn effect<S: Space>(mut cpu: Cpu, space: &mut S, instr: &Instr) -> Result<Cpu, Stop>
+/// What an instruction does, where RIP is that of the next one. INT3 and UD2 have no effect, and are
+/// stopped before it.
+pub(crate) fn effect<S: AddressSpace>(
+    mut cpu: Cpu,
+    space: &mut S,
+    instr: &Instr,
+) -> Result<Cpu, Stop>
     ensures answer { result ≡ spec.cpu_of (spec.effect (spec.state cpu (S.memory space.old)) instr.now) }
     ensures memory { S.memory space.new ≡ spec.memory_after (S.memory space.old) (spec.effect (spec.state cpu (S.memory space.old)) instr.now) }
 {

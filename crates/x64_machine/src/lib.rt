@@ -1,15 +1,18 @@
 //! The processor: its registers, what each instruction does, and one step of it.
+//!
+//! Begin with `specs/Effect.antt`, which says what each instruction does, and with `running::step`.
+//! Proved: `running::execute` and `running::step` do exactly that, and change nothing where an
+//! instruction is refused. Laws in the manual's words are in the crate x64_laws.
 #![tactic(auto)]
 
 pub mod conditions;
 pub mod context;
+pub mod control;
 pub mod cpu;
 mod dividing;
-pub mod effect;
+mod effect;
+mod operands;
 pub mod outcome;
 pub mod running;
-pub mod service;
 pub mod shifts;
-#[cfg(test)]
-mod tests;
 pub mod words;

@@ -24,7 +24,7 @@ pub enum Stop {
 
 /// What a step came to. After anything but `Next`, registers and memory are as before.
 #[derive(Clone, Copy, Debug, PartialEq, Eq)]
-pub enum Step {
+pub enum StepOutcome {
     /// The instruction was run.
     Next,
     /// An exception is due; for a refused access with whether it was a write, and the address.

@@ -1,23 +1,24 @@
-ghost use Rattle.std.specs.Prelude.{◌≡◌};
+ghost use Rattle.std.specs.Prelude.{◌≡◌, Some};
 ghost use Rattle.x64_machine.specs.Effect as spec;
-ghost use Rattle.x64_machine.specs.Services.{service_at};
+ghost use Rattle.host_layout.specs.Services.{service_at};
 
 use crate::cpu::Cpu;
 use crate::effect::effect;
-use crate::outcome::{Step, Stop};
-use crate::service::Service;
+use crate::outcome::{StepOutcome, Stop};
+use host_layout::range::{HOST_PAGE_END, HOST_PAGE_START};
+use host_layout::service::Service;
 use x64_instr::decoding::decode;
 use x64_instr::instruction::Instr;
-use x64_memory::space::Space;
+use x64_memory::space::AddressSpace;
 
-fn refused(stop: Stop) -> Step
+fn refused(stop: Stop) -> StepOutcome
     ensures { result ≡ spec.step_of stop }
 {
     match stop {
-        Stop::Fault { code, access } => Step::Fault { code, access },
-        Stop::Host { address } => Step::Host { address },
-        Stop::Illegal { rip } => Step::Illegal { rip },
-        Stop::Guard { address } => Step::Guard { address },
+        Stop::Fault { code, access } => StepOutcome::Fault { code, access },
+        Stop::Host { address } => StepOutcome::Host { address },
+        Stop::Illegal { rip } => StepOutcome::Illegal { rip },
+        Stop::Guard { address } => StepOutcome::Guard { address },
     }
 }
 
@@ -40,33 +41,47 @@ fn is_trap(instr: &Instr) -> bool
     }
 }
 
-/// One step of the processor. In the host's page, from 0x7FF00000 to below 0x7FF01000, no
-/// instruction is fetched: the step tells that the host's service is due, or that there is none.
-/// After anything but `Next`, registers and memory are as before.
+/// What an instruction of so many bytes does at RIP. INT3 and UD2 do nothing but to stop at their own
+/// address. After a stop the memory is as before.
+pub fn execute<S: AddressSpace>(
+    cpu: Cpu,
+    space: &mut S,
+    instr: &Instr,
+    len: usize,
+) -> Result<Cpu, Stop>
+    ensures answer { result ≡ spec.cpu_of (spec.execute (spec.state cpu (S.memory space.old)) (Some (instr.now, len))) }
+    ensures memory { S.memory space.new ≡ spec.memory_after (S.memory space.old) (spec.execute (spec.state cpu (S.memory space.old)) (Some (instr.now, len))) }
+{
+    if is_trap(instr) {
+        return Err(Stop::Illegal { rip: cpu.rip });
+    }
+    let mut next = cpu;
+    next.rip = cpu.rip.wrapping_add(len as u64);
+    effect(next, space, instr)
+}
+
+/// One step of the processor. In the host's page no instruction is fetched: the step says that the
+/// host's service is due, or that there is none. After anything but `Next`, registers and memory are
+/// as before.
 #[tactic(auto, unfolding(crate::specs::Effect::step))]
-pub fn step<S: Space>(cpu: &mut Cpu, space: &mut S) -> Step
+pub fn step<S: AddressSpace>(cpu: &mut Cpu, space: &mut S) -> StepOutcome
     ensures answer { result ≡ spec.step_answer (spec.step (spec.state cpu.old (S.memory space.old))) }
     ensures cpu { cpu.new ≡ spec.cpu_after cpu.old (spec.step (spec.state cpu.old (S.memory space.old))) }
     ensures memory { S.memory space.new ≡ spec.memory_after (S.memory space.old) (spec.step (spec.state cpu.old (S.memory space.old))) }
 {
-    if 0x7FF0_0000 <= cpu.rip && cpu.rip < 0x7FF0_1000 {
+    if HOST_PAGE_START <= cpu.rip && cpu.rip < HOST_PAGE_END {
         return refused(hosted(cpu.rip));
     }
     let mut bytes = [0; 15];
     let count = space.fetch(cpu.rip, &mut bytes);
-    match decode(&bytes[..count]) {
-        None => Step::Illegal { rip: cpu.rip },
-        Some((instr, _)) if is_trap(&instr) => Step::Illegal { rip: cpu.rip },
-        Some((instr, len)) => {
-            let mut next = *cpu;
-            next.rip = cpu.rip.wrapping_add(len as u64);
-            match effect(next, space, &instr) {
-                Ok(after) => {
-                    *cpu = after;
-                    Step::Next
-                }
-                Err(stop) => refused(stop),
-            }
+    let Some((instr, len)) = decode(&bytes[..count]) else {
+        return StepOutcome::Illegal { rip: cpu.rip };
+    };
+    match execute(*cpu, space, &instr, len) {
+        Ok(after) => {
+            *cpu = after;
+            StepOutcome::Next
         }
+        Err(stop) => refused(stop),
     }
 }

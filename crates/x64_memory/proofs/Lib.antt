@@ -1,4 +1,4 @@
 pub mod Steps
-pub mod Stretches
+pub mod RestsOfPages
 pub mod Paging
 pub mod Mapping

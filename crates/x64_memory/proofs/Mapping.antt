@@ -8,7 +8,7 @@ use Rattle.std.proofs.lemmas.Bool.{cases_eq, cases_lt, ne_eqb, lt-ltb, le-ltb, l
 use Rattle.std.proofs.lemmas.List.{get_or-append-add, get_or_append_left, get_or-take, get_or-drop, length-take-le}
 use borrow.Rule.Slice.PartMut.{put_mid, post_of}
 use Rattle.std.proofs.lemmas.Slice.{drop-put_mid}
-use Rattle.flat_memory.specs.declared.mode.Mode.{Mode}
+use Rattle.flat_memory.specs.declared.protection.Protection.{Protection}
 use Rattle.flat_memory.specs.Memory.{Memory}
 use Rattle.x64_memory.specs.declared.page.Page.{Page}
 use Rattle.x64_memory.specs.declared.region.Region.{Region}
@@ -62,15 +62,15 @@ zeros (suc n) zero = refl
 zeros (suc n) (suc i) = zeros n i
 
 -- one page more of a region
-pub region_more : (m : Memory) (r : Region) (k : ℕ) (mode : Mode) → r.start % 4096 ≡ 0 → r.start / 4096 ≤ k → mode ≡ region_mode r → with_page (with_region m (up_to r (4096 * k))) k (zero_page mode) ≡ with_region m (up_to r (4096 * (k + 1)))
-region_more m r k md e le mode = λ i. record {
-  mode = λ a. (ap (λ x. cond (eqb (a / 4096) k) x (cond (covers (up_to r (4096 * k)) a) (region_mode r) (m.mode a))) mode ∙ either (eqb (a / 4096) k) (covers (up_to r (4096 * k)) a) (region_mode r) (m.mode a) ∙ ap (λ b. cond b (region_mode r) (m.mode a)) (sym (page_covered r k a e le))) i;
+pub region_more : (m : Memory) (r : Region) (k : ℕ) (protection : Protection) → r.start % 4096 ≡ 0 → r.start / 4096 ≤ k → protection ≡ region_mode r → with_page (with_region m (up_to r (4096 * k))) k (zero_page protection) ≡ with_region m (up_to r (4096 * (k + 1)))
+region_more m r k md e le protection = λ i. record {
+  protection = λ a. (ap (λ x. cond (eqb (a / 4096) k) x (cond (covers (up_to r (4096 * k)) a) (region_mode r) (m.protection a))) protection ∙ either (eqb (a / 4096) k) (covers (up_to r (4096 * k)) a) (region_mode r) (m.protection a) ∙ ap (λ b. cond b (region_mode r) (m.protection a)) (sym (page_covered r k a e le))) i;
   byte = λ a. (ap (λ x. cond (eqb (a / 4096) k) x (cond (covers (up_to r (4096 * k)) a) 0 (m.byte a))) (zeros 4096 (a % 4096)) ∙ either (eqb (a / 4096) k) (covers (up_to r (4096 * k)) a) 0 (m.byte a) ∙ ap (λ b. cond b 0 (m.byte a)) (sym (page_covered r k a e le))) i;
 }
 
 pub region_none : (m : Memory) (r : Region) (e : ℕ) → e ≤ r.start → m ≡ with_region m (up_to r e)
 region_none m r e le = λ i. record {
-  mode = λ a. ap (λ b. cond b (region_mode r) (m.mode a)) (sym (none_covered (up_to r e) a le)) i;
+  protection = λ a. ap (λ b. cond b (region_mode r) (m.protection a)) (sym (none_covered (up_to r e) a le)) i;
   byte = λ a. ap (λ b. cond b 0 (m.byte a)) (sym (none_covered (up_to r e) a le)) i;
 }
 
@@ -85,7 +85,7 @@ holds_more r k a before e le = or_assoc (eqb (a / 4096) k) (covers (up_to r (409
 
 pub empty_map : (pages : BTreeMap ℕ Page) → pages.entries ≡ [] → paged pages ≡ unmapped
 unfolding paged
-empty_map pages e = λ i. record { mode = λ a. page_mode (lookup (is_at (nat_cmp (a / 4096))) (e i)); byte = λ a. page_byte (lookup (is_at (nat_cmp (a / 4096))) (e i)) (a % 4096) }
+empty_map pages e = λ i. record { protection = λ a. page_mode (lookup (is_at (nat_cmp (a / 4096))) (e i)); byte = λ a. page_byte (lookup (is_at (nat_cmp (a / 4096))) (e i)) (a % 4096) }
 
 pub empty_holds : (pages : BTreeMap ℕ Page) (a : ℕ) → pages.entries ≡ [] → has_page pages a ≡ false
 empty_holds pages a e = λ i. is_some (lookup (is_at (nat_cmp (a / 4096))) (e i))
@@ -125,18 +125,18 @@ module _ (m : Memory) (at : ℕ) (first others : List ℕ) where
   ]
 
   pub filled_more : filled (filled m at first) (at + length first) others ≡ filled m at (first ++ others)
-  filled_more = λ i. record { mode = m.mode; byte = λ a. both_bytes a i }
+  filled_more = λ i. record { protection = m.protection; byte = λ a. both_bytes a i }
 
 pub filled_none : (m : Memory) (at : ℕ) (xs : List ℕ) → length xs ≡ 0 → filled m at xs ≡ m
-filled_none m at xs e = λ i. record { mode = m.mode; byte = λ a. none a i }
+filled_none m at xs e = λ i. record { protection = m.protection; byte = λ a. none a i }
   where
     none : (a : ℕ) → (filled m at xs).byte a ≡ m.byte a
     none a = elim (cases_lt a at) [ inl lt ↦ put_below m at xs a lt | inr le ↦ put_above m at xs a (omega arith) ]
 
 -- ---- bytes put into one page
 
-module _ (pages : BTreeMap ℕ Page) (p q : Page) (at : ℕ) (xs : List ℕ) (had : tree.get nat_cmp pages (at / 4096) ≡ Some p) (within : at % 4096 + length xs ≤ 4096) (mode : q.mode ≡ p.mode) (inside : (j : ℕ) → j < length xs → get_or q.bytes (at % 4096 + j) 0 ≡ get_or xs j 0) (before : (i : ℕ) → i < at % 4096 → get_or q.bytes i 0 ≡ get_or p.bytes i 0) (after : (i : ℕ) → at % 4096 + length xs ≤ i → get_or q.bytes i 0 ≡ get_or p.bytes i 0) where
-  mode_had : (a : ℕ) → a / 4096 ≡ at / 4096 → (paged pages).mode a ≡ p.mode
+module _ (pages : BTreeMap ℕ Page) (p q : Page) (at : ℕ) (xs : List ℕ) (had : tree.get nat_cmp pages (at / 4096) ≡ Some p) (within : at % 4096 + length xs ≤ 4096) (protection : q.protection ≡ p.protection) (inside : (j : ℕ) → j < length xs → get_or q.bytes (at % 4096 + j) 0 ≡ get_or xs j 0) (before : (i : ℕ) → i < at % 4096 → get_or q.bytes i 0 ≡ get_or p.bytes i 0) (after : (i : ℕ) → at % 4096 + length xs ≤ i → get_or q.bytes i 0 ≡ get_or p.bytes i 0) where
+  mode_had : (a : ℕ) → a / 4096 ≡ at / 4096 → (paged pages).protection a ≡ p.protection
   unfolding paged
   mode_had a e = ap page_mode (ap (tree.get nat_cmp pages) e ∙ had)
 
@@ -167,14 +167,14 @@ module _ (pages : BTreeMap ℕ Page) (p q : Page) (at : ℕ) (xs : List ℕ) (ha
     | inr n ↦ ap (λ b. cond b (get_or q.bytes (a % 4096) 0) ((paged pages).byte a)) (ne_eqb (a / 4096) (at / 4096) n) ∙ off_page a n
   ]
 
-  each_mode : (a : ℕ) → cond (eqb (a / 4096) (at / 4096)) q.mode ((paged pages).mode a) ≡ (paged pages).mode a
+  each_mode : (a : ℕ) → cond (eqb (a / 4096) (at / 4096)) q.protection ((paged pages).protection a) ≡ (paged pages).protection a
   each_mode a = elim (cases_eq (a / 4096) (at / 4096)) [
-    | inl e ↦ ap (λ b. cond b q.mode ((paged pages).mode a)) (eq-eqb (a / 4096) (at / 4096) e) ∙ mode ∙ sym (mode_had a e)
-    | inr n ↦ ap (λ b. cond b q.mode ((paged pages).mode a)) (ne_eqb (a / 4096) (at / 4096) n)
+    | inl e ↦ ap (λ b. cond b q.protection ((paged pages).protection a)) (eq-eqb (a / 4096) (at / 4096) e) ∙ protection ∙ sym (mode_had a e)
+    | inr n ↦ ap (λ b. cond b q.protection ((paged pages).protection a)) (ne_eqb (a / 4096) (at / 4096) n)
   ]
 
   pub bytes_put : (new : BTreeMap ℕ Page) → ((k : ℕ) → tree.get nat_cmp new k ≡ cond (is_at (nat_cmp (at / 4096)) k) (Some q) (tree.get nat_cmp pages k)) → paged new ≡ filled (paged pages) at xs
-  bytes_put new has = page_changed pages new (at / 4096) q has ∙ (λ i. record { mode = λ a. each_mode a i; byte = λ a. each_byte a i })
+  bytes_put new has = page_changed pages new (at / 4096) q has ∙ (λ i. record { protection = λ a. each_mode a i; byte = λ a. each_byte a i })
 
 -- ---- the bytes of a page with a piece put in
 

@@ -8,14 +8,14 @@ use Rattle.std.specs.BTreeMap as tree
 use Rattle.std.specs.BTreeMap.{BTreeMap, is_at}
 use Rattle.std.proofs.lemmas.Bool.{cases_eq, cases_lt, cases_order, ne_eqb, lt-ltb, le-ltb, le-leb, lt-leb}
 use Rattle.std.proofs.lemmas.List.{get_or-drop}
-use Rattle.flat_memory.specs.declared.mode.Mode.{Mode}
-use Rattle.flat_memory.specs.declared.mode.TheConstants.{UNMAPPED}
+use Rattle.flat_memory.specs.declared.protection.Protection.{Protection}
+use Rattle.flat_memory.specs.declared.protection.TheConstants.{UNMAPPED}
 use Rattle.flat_memory.specs.Memory.{with_bytes, with_number, distance, may_write, with_rights}
-use Rattle.flat_memory.specs.declared.mode.Rights.{Rights}
-use Rattle.flat_memory.specs.Modes.{is_writable}
+use Rattle.flat_memory.specs.declared.protection.Rights.{Rights}
+use Rattle.flat_memory.specs.Protections.{is_writable}
 use Rattle.flat_memory.proofs.Stores.{among, beyond, outside}
 use Rattle.x64_memory.specs.declared.page.Page.{Page}
-use Rattle.x64_memory.specs.Pages.{page_mode, page_byte, paged, put_in_page, IsStretch, HasArena, has_page, with_page}
+use Rattle.x64_memory.specs.Pages.{page_mode, page_byte, paged, page_with_number, IsRestOfPage, HasArena, has_page, with_page}
 
 here : (k q : ℕ) → q ≡ k → is_at (nat_cmp k) q ≡ true
 here k q e = ap is_eq (sym (nat_cmp_is k q Equal (sym e)))
@@ -36,10 +36,10 @@ module _ (old new : BTreeMap ℕ Page) (k : ℕ) (p : Page) (has : (q : ℕ) →
   off_page : (q : ℕ) → q ≢ k → tree.get nat_cmp new q ≡ tree.get nat_cmp old q
   off_page q n = has q ∙ ap (λ b. cond b (Some p) (tree.get nat_cmp old q)) (elsewhere k q n)
 
-  modes : (a : ℕ) → page_mode (tree.get nat_cmp new (a / 4096)) ≡ cond (eqb (a / 4096) k) p.mode (page_mode (tree.get nat_cmp old (a / 4096)))
+  modes : (a : ℕ) → page_mode (tree.get nat_cmp new (a / 4096)) ≡ cond (eqb (a / 4096) k) p.protection (page_mode (tree.get nat_cmp old (a / 4096)))
   modes a = elim (cases_eq (a / 4096) k) [
-    | inl e ↦ ap page_mode (at_page (a / 4096) e) ∙ sym (ap (λ b. cond b p.mode (page_mode (tree.get nat_cmp old (a / 4096)))) (eq-eqb (a / 4096) k e))
-    | inr n ↦ ap page_mode (off_page (a / 4096) n) ∙ sym (ap (λ b. cond b p.mode (page_mode (tree.get nat_cmp old (a / 4096)))) (ne_eqb (a / 4096) k n))
+    | inl e ↦ ap page_mode (at_page (a / 4096) e) ∙ sym (ap (λ b. cond b p.protection (page_mode (tree.get nat_cmp old (a / 4096)))) (eq-eqb (a / 4096) k e))
+    | inr n ↦ ap page_mode (off_page (a / 4096) n) ∙ sym (ap (λ b. cond b p.protection (page_mode (tree.get nat_cmp old (a / 4096)))) (ne_eqb (a / 4096) k n))
   ]
 
   bytes : (a : ℕ) → page_byte (tree.get nat_cmp new (a / 4096)) (a % 4096) ≡ cond (eqb (a / 4096) k) (get_or p.bytes (a % 4096) 0) (page_byte (tree.get nat_cmp old (a / 4096)) (a % 4096))
@@ -50,7 +50,7 @@ module _ (old new : BTreeMap ℕ Page) (k : ℕ) (p : Page) (has : (q : ℕ) →
 
   pub page_changed : paged new ≡ with_page (paged old) k p
   unfolding paged
-  page_changed = λ i. record { mode = λ a. modes a i; byte = λ a. bytes a i }
+  page_changed = λ i. record { protection = λ a. modes a i; byte = λ a. bytes a i }
 
   pub has_changed : (a : ℕ) → has_page new a ≡ (eqb (a / 4096) k || has_page old a)
   has_changed a = elim (cases_eq (a / 4096) k) [
@@ -66,17 +66,17 @@ module _ (old new : BTreeMap ℕ Page) (k : ℕ) (p : Page) (has : (q : ℕ) →
 
 -- ---- a number put into a page
 
-pub put_inside : (bytes : List ℕ) (from n v i : ℕ) → from ≤ i → i < from + n → put_in_page bytes from n v i ≡ v / 256 ^ (i - from) % 256
+pub put_inside : (bytes : List ℕ) (from n v i : ℕ) → from ≤ i → i < from + n → page_with_number bytes from n v i ≡ v / 256 ^ (i - from) % 256
 put_inside bytes from n v i le lt = rw (le-leb from i le, lt-ltb i (from + n) lt) refl
 
-pub put_before : (bytes : List ℕ) (from n v i : ℕ) → i < from → put_in_page bytes from n v i ≡ get_or bytes i 0
+pub put_before : (bytes : List ℕ) (from n v i : ℕ) → i < from → page_with_number bytes from n v i ≡ get_or bytes i 0
 put_before bytes from n v i lt = rw (lt-leb from i lt) refl
 
-pub put_after : (bytes : List ℕ) (from n v i : ℕ) → from + n ≤ i → put_in_page bytes from n v i ≡ get_or bytes i 0
+pub put_after : (bytes : List ℕ) (from n v i : ℕ) → from + n ≤ i → page_with_number bytes from n v i ≡ get_or bytes i 0
 put_after bytes from n v i le = rw (le-leb from i (omega arith), le-ltb i (from + n) le) refl
 
-module _ (pages : BTreeMap ℕ Page) (p q : Page) (n at v : ℕ) (had : tree.get nat_cmp pages (at / 4096) ≡ Some p) (lt : at < 2 ^ 64) (within : at % 4096 + n ≤ 4096) (put : (i : ℕ) → get_or q.bytes i 0 ≡ put_in_page p.bytes (at % 4096) n v i) where
-  old_mode : (a : ℕ) → a / 4096 ≡ at / 4096 → (paged pages).mode a ≡ p.mode
+module _ (pages : BTreeMap ℕ Page) (p q : Page) (n at v : ℕ) (had : tree.get nat_cmp pages (at / 4096) ≡ Some p) (lt : at < 2 ^ 64) (within : at % 4096 + n ≤ 4096) (put : (i : ℕ) → get_or q.bytes i 0 ≡ page_with_number p.bytes (at % 4096) n v i) where
+  old_mode : (a : ℕ) → a / 4096 ≡ at / 4096 → (paged pages).protection a ≡ p.protection
   unfolding paged
   old_mode a e = ap page_mode (ap (tree.get nat_cmp pages) e ∙ had)
 
@@ -111,18 +111,18 @@ module _ (pages : BTreeMap ℕ Page) (p q : Page) (n at v : ℕ) (had : tree.get
     | inr ne ↦ ap (λ b. cond b (get_or q.bytes (a % 4096) 0) ((paged pages).byte a)) (ne_eqb (a / 4096) (at / 4096) ne) ∙ off a ne
   ]
 
-  same_mode : q.mode ≡ p.mode → (a : ℕ) → cond (eqb (a / 4096) (at / 4096)) q.mode ((paged pages).mode a) ≡ (paged pages).mode a
+  same_mode : q.protection ≡ p.protection → (a : ℕ) → cond (eqb (a / 4096) (at / 4096)) q.protection ((paged pages).protection a) ≡ (paged pages).protection a
   same_mode m a = elim (cases_eq (a / 4096) (at / 4096)) [
-    | inl e ↦ ap (λ b. cond b q.mode ((paged pages).mode a)) (eq-eqb (a / 4096) (at / 4096) e) ∙ m ∙ sym (old_mode a e)
-    | inr ne ↦ ap (λ b. cond b q.mode ((paged pages).mode a)) (ne_eqb (a / 4096) (at / 4096) ne)
+    | inl e ↦ ap (λ b. cond b q.protection ((paged pages).protection a)) (eq-eqb (a / 4096) (at / 4096) e) ∙ m ∙ sym (old_mode a e)
+    | inr ne ↦ ap (λ b. cond b q.protection ((paged pages).protection a)) (ne_eqb (a / 4096) (at / 4096) ne)
   ]
 
-  pub number_put : q.mode ≡ p.mode → (new : BTreeMap ℕ Page) → ((k : ℕ) → tree.get nat_cmp new k ≡ cond (is_at (nat_cmp (at / 4096)) k) (Some q) (tree.get nat_cmp pages k)) → paged new ≡ with_bytes (paged pages) (with_number (paged pages).byte n at v)
-  number_put m new has = page_changed pages new (at / 4096) q has ∙ (λ i. record { mode = λ a. same_mode m a i; byte = λ a. same_byte a i })
+  pub number_put : q.protection ≡ p.protection → (new : BTreeMap ℕ Page) → ((k : ℕ) → tree.get nat_cmp new k ≡ cond (is_at (nat_cmp (at / 4096)) k) (Some q) (tree.get nat_cmp pages k)) → paged new ≡ with_bytes (paged pages) (with_number (paged pages).byte n at v)
+  number_put m new has = page_changed pages new (at / 4096) q has ∙ (λ i. record { protection = λ a. same_mode m a i; byte = λ a. same_byte a i })
 
 -- ---- stretches
 
-pub stretch_none : (pages : BTreeMap ℕ Page) (at : ℕ) → tree.get nat_cmp pages (at / 4096) ≡ None → at < 2 ^ 64 → IsStretch (paged pages) at UNMAPPED []
+pub stretch_none : (pages : BTreeMap ℕ Page) (at : ℕ) → tree.get nat_cmp pages (at / 4096) ≡ None → at < 2 ^ 64 → IsRestOfPage (paged pages) at UNMAPPED []
 unfolding paged
 stretch_none pages at e lt = record {
   mode_is = ap page_mode e;
@@ -143,7 +143,7 @@ module _ (pages : BTreeMap ℕ Page) (at : ℕ) (p : Page) (had : tree.get nat_c
   same_place : (i : ℕ) → i < length (drop (at % 4096) p.bytes) → (at + i) % 4096 ≡ at % 4096 + i
   same_place i l = omega (arith, left)
 
-  pub stretch_some : IsStretch (paged pages) at p.mode (drop (at % 4096) p.bytes)
+  pub stretch_some : IsRestOfPage (paged pages) at p.protection (drop (at % 4096) p.bytes)
   unfolding paged
   stretch_some = record {
     mode_is = ap page_mode had;
@@ -159,7 +159,7 @@ module _ (pages : BTreeMap ℕ Page) (at : ℕ) (p : Page) (had : tree.get nat_c
 pub digit_later : (v i : ℕ) → v / 256 ^ i / 256 ≡ v / 256 ^ (i + 1)
 digit_later v i = div-div-eq-div-mul v (256 ^ i) 256 ∙ ap (λ x. v / x) (sym (let e : i + 1 ≡ suc i = omega arith in ap (λ k. 256 ^ k) e ∙ pow-suc 256 i))
 
-pub put_step : (old bytes : List ℕ) (from i v rest : ℕ) → ((j : ℕ) → get_or bytes j 0 ≡ put_in_page old from i v j) → rest ≡ v / 256 ^ i → from + i < length bytes → (j : ℕ) → get_or (set bytes (from + i) (rest % 256)) j 0 ≡ put_in_page old from (i + 1) v j
+pub put_step : (old bytes : List ℕ) (from i v rest : ℕ) → ((j : ℕ) → get_or bytes j 0 ≡ page_with_number old from i v j) → rest ≡ v / 256 ^ i → from + i < length bytes → (j : ℕ) → get_or (set bytes (from + i) (rest % 256)) j 0 ≡ page_with_number old from (i + 1) v j
 put_step old bytes from i v rest places digit lt j = elim (cases_eq j (from + i)) [
   | inl e ↦
       let d : i ≡ j - from = omega arith in
@@ -167,11 +167,11 @@ put_step old bytes from i v rest places digit lt j = elim (cases_eq j (from + i)
   | inr n ↦ get_or-set_other bytes (from + i) j (rest % 256) 0 n ∙ places j ∙ widened n (cases_lt j from)
 ]
   where
-    later : j ≢ from + i → from ≤ j → (j < from + i) ⊎ (from + i ≤ j) → put_in_page old from i v j ≡ put_in_page old from (i + 1) v j
+    later : j ≢ from + i → from ≤ j → (j < from + i) ⊎ (from + i ≤ j) → page_with_number old from i v j ≡ page_with_number old from (i + 1) v j
     later n g (inl l) = put_inside old from i v j g l ∙ sym (put_inside old from (i + 1) v j g (omega arith))
     later n g (inr h) = put_after old from i v j h ∙ sym (put_after old from (i + 1) v j (omega arith))
 
-    widened : j ≢ from + i → (j < from) ⊎ (from ≤ j) → put_in_page old from i v j ≡ put_in_page old from (i + 1) v j
+    widened : j ≢ from + i → (j < from) ⊎ (from ≤ j) → page_with_number old from i v j ≡ page_with_number old from (i + 1) v j
     widened n (inl l) = put_before old from i v j l ∙ sym (put_before old from (i + 1) v j l)
     widened n (inr g) = later n g (cases_lt j (from + i))
 
@@ -183,7 +183,7 @@ unmapped pages at e h = let f : false ≡ true = sym (ap (λ o. is_writable (pag
 -- ---- the rights of a page set
 
 module _ (pages : BTreeMap ℕ Page) (p : Page) (at : ℕ) (r : Rights) (had : tree.get nat_cmp pages (at / 4096) ≡ Some p) where
-  mode_there : (a : ℕ) → a / 4096 ≡ at / 4096 → (paged pages).mode a ≡ p.mode
+  mode_there : (a : ℕ) → a / 4096 ≡ at / 4096 → (paged pages).protection a ≡ p.protection
   unfolding paged
   mode_there a e = ap page_mode (ap (tree.get nat_cmp pages) e ∙ had)
 
@@ -191,10 +191,10 @@ module _ (pages : BTreeMap ℕ Page) (p : Page) (at : ℕ) (r : Rights) (had : t
   unfolding paged
   byte_there a e = ap (λ o. page_byte o (a % 4096)) (ap (tree.get nat_cmp pages) e ∙ had)
 
-  mode_set : (a : ℕ) → cond (eqb (a / 4096) (at / 4096)) (record p.mode { rights = r }) ((paged pages).mode a) ≡ cond (eqb (a / 4096) (at / 4096)) (record ((paged pages).mode a) { rights = r }) ((paged pages).mode a)
+  mode_set : (a : ℕ) → cond (eqb (a / 4096) (at / 4096)) (record p.protection { rights = r }) ((paged pages).protection a) ≡ cond (eqb (a / 4096) (at / 4096)) (record ((paged pages).protection a) { rights = r }) ((paged pages).protection a)
   mode_set a = elim (cases_eq (a / 4096) (at / 4096)) [
-    | inl e ↦ ap (λ (m : Mode). cond (eqb (a / 4096) (at / 4096)) (record m { rights = r }) ((paged pages).mode a)) (sym (mode_there a e))
-    | inr n ↦ ap (λ b. cond b (record p.mode { rights = r }) ((paged pages).mode a)) (ne_eqb (a / 4096) (at / 4096) n) ∙ sym (ap (λ b. cond b (record ((paged pages).mode a) { rights = r }) ((paged pages).mode a)) (ne_eqb (a / 4096) (at / 4096) n))
+    | inl e ↦ ap (λ (m : Protection). cond (eqb (a / 4096) (at / 4096)) (record m { rights = r }) ((paged pages).protection a)) (sym (mode_there a e))
+    | inr n ↦ ap (λ b. cond b (record p.protection { rights = r }) ((paged pages).protection a)) (ne_eqb (a / 4096) (at / 4096) n) ∙ sym (ap (λ b. cond b (record ((paged pages).protection a) { rights = r }) ((paged pages).protection a)) (ne_eqb (a / 4096) (at / 4096) n))
   ]
 
   byte_stays : (a : ℕ) → cond (eqb (a / 4096) (at / 4096)) (get_or p.bytes (a % 4096) 0) ((paged pages).byte a) ≡ (paged pages).byte a
@@ -203,5 +203,5 @@ module _ (pages : BTreeMap ℕ Page) (p : Page) (at : ℕ) (r : Rights) (had : t
     | inr n ↦ ap (λ b. cond b (get_or p.bytes (a % 4096) 0) ((paged pages).byte a)) (ne_eqb (a / 4096) (at / 4096) n)
   ]
 
-  pub rights_set : (new : BTreeMap ℕ Page) → ((k : ℕ) → tree.get nat_cmp new k ≡ cond (is_at (nat_cmp (at / 4096)) k) (Some (record p { mode = record p.mode { rights = r } })) (tree.get nat_cmp pages k)) → paged new ≡ with_rights (paged pages) at (Some r)
-  rights_set new has = page_changed pages new (at / 4096) (record p { mode = record p.mode { rights = r } }) has ∙ (λ i. record { mode = λ a. mode_set a i; byte = λ a. byte_stays a i })
+  pub rights_set : (new : BTreeMap ℕ Page) → ((k : ℕ) → tree.get nat_cmp new k ≡ cond (is_at (nat_cmp (at / 4096)) k) (Some (record p { protection = record p.protection { rights = r } })) (tree.get nat_cmp pages k)) → paged new ≡ with_rights (paged pages) at (Some r)
+  rights_set new has = page_changed pages new (at / 4096) (record p { protection = record p.protection { rights = r } }) has ∙ (λ i. record { protection = λ a. mode_set a i; byte = λ a. byte_stays a i })

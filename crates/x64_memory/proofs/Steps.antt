@@ -61,7 +61,7 @@ pub not_true : (b : Bool) → not b ≡ true → b ≡ false
 not_true true e = absurd cc
 not_true false e = refl
 
-pub executable-none : (m : Memory) (n at : ℕ) → (m.mode at).execute ≡ false → executable m n at ≡ []
+pub executable-none : (m : Memory) (n at : ℕ) → (m.protection at).execute ≡ false → executable m n at ≡ []
 unfolding executable
 executable-none m zero at t = refl
 executable-none m (suc n) at t = rw t refl

@@ -1,3 +1,3 @@
 pub mod Pages
 pub mod Regions
-pub mod MapSpaces
+pub mod PageMaps

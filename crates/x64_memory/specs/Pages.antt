@@ -1,16 +1,17 @@
 -- Memory that is kept in pages.
-use Rattle.std.specs.Prelude.{◌≡◌, ℕ, ◌+◌, ◌-◌, ◌/◌, ◌%◌, ◌^◌, ◌<◌, ◌≤◌, Bool, true, ◌==◌, replicate, ◌&&◌, nat_le, nat_lt, List, length, Option, Some, None, is_some, Result, Ok, Err, slice_index, if◌then◌else◌}
+use Rattle.std.specs.Prelude.{◌≡◌, ℕ, ◌+◌, ◌-◌, ◌*◌, ◌/◌, ◌%◌, ◌^◌, ◌<◌, ◌≤◌, Bool, true, ◌==◌, replicate, ◌&&◌, nat_le, nat_lt, List, length, Option, Some, None, is_some, Result, Ok, Err, slice_index, if◌then◌else◌}
 use Rattle.std.specs.Ordering.{nat_cmp}
 use Rattle.std.specs.BTreeMap as tree
 use Rattle.std.specs.BTreeMap.{BTreeMap}
-use Rattle.flat_memory.specs.declared.mode.Mode.{Mode}
-use Rattle.flat_memory.specs.declared.mode.TheConstants.{UNMAPPED}
+use Rattle.host_layout.specs.declared.range.TheConstants.{ARENA_START, ARENA_END}
+use Rattle.flat_memory.specs.declared.protection.Protection.{Protection}
+use Rattle.flat_memory.specs.declared.protection.TheConstants.{UNMAPPED}
 use Rattle.flat_memory.specs.Memory.{Memory, first_refused, may_read, number_at}
 use Rattle.x64_memory.specs.declared.page.Page.{Page}
 
-abbrev pub page_mode : Option Page → Mode
+abbrev pub page_mode : Option Page → Protection
 page_mode None = UNMAPPED
-page_mode (Some p) = p.mode
+page_mode (Some p) = p.protection
 
 abbrev pub page_byte : Option Page → ℕ → ℕ
 page_byte None i = 0
@@ -23,25 +24,25 @@ page_of pages a = tree.get nat_cmp pages (a / 4096)
 abbrev pub has_page : BTreeMap ℕ Page → ℕ → Bool
 has_page pages a = is_some (page_of pages a)
 
--- each address has the mode of its page, and there its byte
+-- each address has the protection of its page, and there its byte
 unfoldable pub paged : BTreeMap ℕ Page → Memory
-paged pages = record { mode = λ a. page_mode (page_of pages a); byte = λ a. page_byte (page_of pages a) (a % 4096) }
+paged pages = record { protection = λ a. page_mode (page_of pages a); byte = λ a. page_byte (page_of pages a) (a % 4096) }
 
 -- memory with one page in the place of another, or of none
 abbrev pub with_page : Memory → ℕ → Page → Memory
-with_page m k p = record { mode = λ a. if a / 4096 == k then p.mode else m.mode a; byte = λ a. if a / 4096 == k then slice_index p.bytes (a % 4096) else m.byte a }
+with_page m k p = record { protection = λ a. if a / 4096 == k then p.protection else m.protection a; byte = λ a. if a / 4096 == k then slice_index p.bytes (a % 4096) else m.byte a }
 
-abbrev pub zero_page : Mode → Page
-zero_page mode = record { mode = mode; bytes = replicate 4096 0 }
+abbrev pub zero_page : Protection → Page
+zero_page protection = record { protection = protection; bytes = replicate 4096 0 }
 
--- the mode at an address, and the bytes from there to the end of its page, or none
-pub record IsStretch (m : Memory) (at : ℕ) (mode : Mode) (bytes : List ℕ) : Type 0 where
-  pub mode_is : m.mode at ≡ mode
-  pub modes : (i : ℕ) → i < length bytes → m.mode (at + i) ≡ mode
+-- the protection at an address, and the bytes from there to the end of its page, or none
+pub record IsRestOfPage (m : Memory) (at : ℕ) (protection : Protection) (bytes : List ℕ) : Type 0 where
+  pub mode_is : m.protection at ≡ protection
+  pub modes : (i : ℕ) → i < length bytes → m.protection (at + i) ≡ protection
   pub bytes_are : (i : ℕ) → i < length bytes → m.byte (at + i) ≡ slice_index bytes i
   pub inside : at + length bytes ≤ 2 ^ 64
   pub small : (i : ℕ) → slice_index bytes i < 256
-  pub unmapped : length bytes ≡ 0 → mode ≡ UNMAPPED
+  pub unmapped : length bytes ≡ 0 → protection ≡ UNMAPPED
 
 -- a number, or the first address at which it can't be read
 abbrev pub or_number : Option ℕ → ℕ → Result ℕ ℕ
@@ -55,9 +56,9 @@ abbrev pub readable_byte : Memory → ℕ → Option ℕ
 readable_byte m at = if may_read m at then Some (m.byte at) else None
 
 -- a byte of a page after the low bytes of a number were put from a place on
-abbrev pub put_in_page : List ℕ → ℕ → ℕ → ℕ → ℕ → ℕ
-put_in_page bytes from count v i = if nat_le from i && nat_lt i (from + count) then v / 256 ^ (i - from) % 256 else slice_index bytes i
+abbrev pub page_with_number : List ℕ → ℕ → ℕ → ℕ → ℕ → ℕ
+page_with_number bytes from count v i = if nat_le from i && nat_lt i (from + count) then v / 256 ^ (i - from) % 256 else slice_index bytes i
 
 -- the pages of the arena are there
 abbrev pub HasArena : BTreeMap ℕ Page → Type 0
-HasArena pages = (q : ℕ) → 0x20000 ≤ q → q < 0x20100 → is_some (tree.get nat_cmp pages q) ≡ true
+HasArena pages = (q : ℕ) → ARENA_START ≤ 4096 * q → 4096 * q < ARENA_END → is_some (tree.get nat_cmp pages q) ≡ true

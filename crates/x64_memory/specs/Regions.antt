@@ -1,9 +1,10 @@
 -- Memory as it is mapped by regions.
 use Rattle.std.specs.Prelude.{◌≡◌, ℕ, ◌+◌, ◌%◌, ◌≤◌, ◌<◌, Bool, true, false, ◌&&◌, ◌||◌, nat_le, nat_lt, if◌then◌else◌, List, [], ◌∷◌, length, slice_index, ◌-◌}
-use Rattle.flat_memory.specs.declared.mode.Mode.{Mode}
-use Rattle.flat_memory.specs.declared.mode.TheConstants.{UNMAPPED}
-use Rattle.flat_memory.specs.declared.mode.Rights.{Rights}
-use Rattle.flat_memory.specs.declared.mode.Rights.TheVariants.{Nothing, Read, ReadWrite}
+use Rattle.host_layout.specs.declared.range.TheConstants.{ARENA_START, ARENA_END}
+use Rattle.flat_memory.specs.declared.protection.Protection.{Protection}
+use Rattle.flat_memory.specs.declared.protection.TheConstants.{UNMAPPED}
+use Rattle.flat_memory.specs.declared.protection.Rights.{Rights}
+use Rattle.flat_memory.specs.declared.protection.Rights.TheVariants.{Nothing, Read, ReadWrite}
 use Rattle.flat_memory.specs.Memory.{Memory}
 use Rattle.x64_memory.specs.declared.region.Region.{Region}
 
@@ -12,7 +13,7 @@ rights read true = ReadWrite
 rights true false = Read
 rights false false = Nothing
 
-abbrev pub region_mode : Region → Mode
+abbrev pub region_mode : Region → Protection
 region_mode r = record { rights = rights r.read r.write; execute = r.execute }
 
 abbrev pub covers : Region → ℕ → Bool
@@ -20,14 +21,14 @@ covers r a = nat_le r.start a && nat_lt a r.end
 
 -- a region over what was there
 abbrev pub with_region : Memory → Region → Memory
-with_region m r = record { mode = λ a. if covers r a then region_mode r else m.mode a; byte = λ a. if covers r a then 0 else m.byte a }
+with_region m r = record { protection = λ a. if covers r a then region_mode r else m.protection a; byte = λ a. if covers r a then 0 else m.byte a }
 
 abbrev pub mapped_over : Memory → List Region → Memory
 mapped_over m [] = m
 mapped_over m (r ∷ rs) = mapped_over (with_region m r) rs
 
 abbrev pub unmapped : Memory
-unmapped = record { mode = λ a. UNMAPPED; byte = λ a. 0 }
+unmapped = record { protection = λ a. UNMAPPED; byte = λ a. 0 }
 
 -- the memory of some regions
 abbrev pub mapped : List Region → Memory
@@ -46,8 +47,8 @@ pub record IsWhole (r : Region) : Type 0 where
   pub readable : r.write ≡ true → r.read ≡ true
 
 abbrev pub HoldsArena : List Region → Type 0
-HoldsArena rs = (a : ℕ) → 0x20000000 ≤ a → a < 0x20100000 → in_regions rs a ≡ true
+HoldsArena rs = (a : ℕ) → ARENA_START ≤ a → a < ARENA_END → in_regions rs a ≡ true
 
--- memory with bytes put at a place, whatever the modes there
+-- memory with bytes put at a place, whatever the protection there
 abbrev pub filled : Memory → ℕ → List ℕ → Memory
-filled m at xs = record { mode = m.mode; byte = λ a. if nat_le at a && nat_lt a (at + length xs) then slice_index xs (a - at) else m.byte a }
+filled m at xs = record { protection = m.protection; byte = λ a. if nat_le at a && nat_lt a (at + length xs) then slice_index xs (a - at) else m.byte a }

@@ -2,10 +2,8 @@
 //! pages.
 #![tactic(auto)]
 
-pub mod map_space;
 pub mod page;
+pub mod page_map;
 pub mod paged;
 pub mod region;
 pub mod space;
-#[cfg(test)]
-mod tests;

@@ -1,11 +1,8 @@
-use flat_memory::mode::Mode;
+use flat_memory::protection::Protection;
 
-/// The bytes of a page of memory (Intel manual, volume 3, "Paging").
-pub const PAGE: u64 = 4096;
-
-/// A page of memory: all its bytes have one mode.
+/// A page of memory: all its bytes have one protection.
 #[derive(Drop)]
 pub struct Page {
-    pub mode: Mode,
+    pub protection: Protection,
     pub bytes: [u8; 4096],
 }

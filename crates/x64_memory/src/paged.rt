@@ -4,22 +4,22 @@ ghost use Rattle.std.specs.Prelude.{◌≡◌, ◌+◌, ◌*◌, ◌%◌, ◌≤
 ghost use Rattle.seh_num.specs.Widths.{bytes_of, limit};
 ghost use Rattle.flat_memory.specs.Memory.{Memory, with_bytes, with_number, loaded, stored, after_store, may_write, may_read, first_refused, number_at, refused, executable};
 ghost use Rattle.byteorder.specs.Endian.{little_number};
-ghost use Rattle.x64_memory.specs.Pages.{IsStretch, readable_byte, number_or_refused};
+ghost use Rattle.x64_memory.specs.Pages.{IsRestOfPage, readable_byte, number_or_refused};
 
-use crate::page::PAGE;
 use byteorder::{ByteOrder, LittleEndian};
-use flat_memory::access::Access;
-use flat_memory::mode::Mode;
+use flat_memory::access::RefusedAccess;
+use flat_memory::protection::Protection;
+use host_layout::range::{GUARD_START, PAGE, STACK_START};
 use seh_num::width::Width;
 
 /// Memory that is kept in pages.
 pub trait Paged {
     ghost memory: { Self → Memory };
 
-    /// The mode at an address, and the bytes from there to the end of its page; none where no page
+    /// The protection at an address, and the bytes from there to the end of its page; none where no page
     /// is.
-    fn stretch(&self, at: u64) -> (Mode, &[u8])
-        ensures { IsStretch (memory self.now) at result.0 result.1.now };
+    fn rest_of_page(&self, at: u64) -> (Protection, &[u8])
+        ensures { IsRestOfPage (memory self.now) at result.0 result.1.now };
 
     /// Puts the low bytes of a number into one page.
     fn put(&mut self, at: u64, width: Width, value: u64)
@@ -28,13 +28,13 @@ pub trait Paged {
         ensures { memory self.new ≡ with_bytes (memory self.old) (with_number (memory self.old).byte (bytes_of width) at value) };
 }
 
-fn refusal(write: bool, address: u64) -> Access
+fn refusal(write: bool, address: u64) -> RefusedAccess
     ensures { result ≡ refused write address }
 {
-    if 0x6FFF_0000 <= address && address < 0x7000_0000 {
-        Access::Guard { address }
+    if GUARD_START <= address && address < STACK_START {
+        RefusedAccess::Guard { address }
     } else {
-        Access::Fault { address, write }
+        RefusedAccess::Fault { address, write }
     }
 }
 
@@ -55,8 +55,8 @@ fn little_number(bytes: &[u8], width: Width) -> u64
 fn byte<P: Paged>(space: &P, at: u64) -> Option<u8>
     ensures { result ≡ readable_byte (P.memory space.now) at }
 {
-    let (mode, bytes) = space.stretch(at);
-    if !mode.rights.is_readable() {
+    let (protection, bytes) = space.rest_of_page(at);
+    if !protection.rights.is_readable() {
         return None;
     }
     match bytes {
@@ -85,18 +85,18 @@ fn spread_number<P: Paged>(space: &P, at: u64, count: u64) -> Result<u64, u64>
 }
 
 /// The number at an address.
-pub fn load<P: Paged>(space: &P, at: u64, width: Width) -> Result<u64, Access>
+pub fn load<P: Paged>(space: &P, at: u64, width: Width) -> Result<u64, RefusedAccess>
     ensures value { result ≡ loaded (P.memory space.now) at width }
     ensures fits { IfOk result (λ v. v < limit width) }
 {
-    let (mode, bytes) = space.stretch(at);
+    let (protection, bytes) = space.rest_of_page(at);
     if (bytes.len() as u64) < width.bytes() {
         return match spread_number(space, at, width.bytes()) {
             Ok(value) => Ok(value),
             Err(address) => Err(refusal(false, address)),
         };
     }
-    if !mode.rights.is_readable() {
+    if !protection.rights.is_readable() {
         return Err(refusal(false, at));
     }
     Ok(little_number(bytes, width))
@@ -106,8 +106,8 @@ pub fn load<P: Paged>(space: &P, at: u64, width: Width) -> Result<u64, Access>
 fn is_writable<P: Paged>(space: &P, at: u64) -> bool
     ensures { result ≡ may_write (P.memory space.now) at }
 {
-    let (mode, _) = space.stretch(at);
-    mode.rights.is_writable()
+    let (protection, _) = space.rest_of_page(at);
+    protection.rights.is_writable()
 }
 
 #[tactic(auto, using(crate::proofs::Steps::refused_steps))]
@@ -126,12 +126,12 @@ fn first_unwritable<P: Paged>(space: &P, at: u64, count: u64) -> Option<u64>
 }
 
 /// Whether a number may be put at an address.
-pub fn may_store<P: Paged>(space: &P, at: u64, width: Width) -> Result<(), Access>
+pub fn may_store<P: Paged>(space: &P, at: u64, width: Width) -> Result<(), RefusedAccess>
     ensures { result ≡ stored (P.memory space.now) at width }
 {
-    let (mode, bytes) = space.stretch(at);
+    let (protection, bytes) = space.rest_of_page(at);
     let within = width.bytes() <= bytes.len() as u64;
-    if within && mode.rights.is_writable() {
+    if within && protection.rights.is_writable() {
         return Ok(());
     }
     match first_unwritable(space, at, width.bytes()) {
@@ -156,7 +156,12 @@ fn spread_store<P: Paged>(space: &mut P, at: u64, count: u64, value: u64)
 }
 
 /// Puts the low bytes of a number at an address.
-pub fn store<P: Paged>(space: &mut P, at: u64, width: Width, value: u64) -> Result<(), Access>
+pub fn store<P: Paged>(
+    space: &mut P,
+    at: u64,
+    width: Width,
+    value: u64,
+) -> Result<(), RefusedAccess>
     ensures answer { result ≡ stored (P.memory space.old) at width }
     ensures after { P.memory space.new ≡ after_store (P.memory space.old) at width value }
 {
@@ -177,8 +182,8 @@ pub fn fetch<P: Paged>(space: &P, at: u64, into: &mut [u8; 15]) -> usize
     let mut here = at;
     let mut filled: usize = 0;
     while filled < 15 {
-        let (mode, bytes) = space.stretch(here);
-        if !mode.execute {
+        let (protection, bytes) = space.rest_of_page(here);
+        if !protection.execute {
             break;
         }
         let count = bytes.len().min(15 - filled);

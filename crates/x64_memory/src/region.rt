@@ -1,9 +1,9 @@
 ghost use Rattle.std.specs.Prelude.{◌≡◌};
 ghost use Rattle.x64_memory.specs.Regions.{region_mode};
 
-use flat_memory::mode::{Mode, Rights};
+use flat_memory::protection::{Protection, Rights};
 
-/// Addresses from `start` to below `end` that are mapped with one mode.
+/// Addresses from `start` to below `end` that are mapped with one protection.
 #[derive(Clone, Copy, Debug, PartialEq, Eq)]
 pub struct Region {
     /// The first address, a multiple of 4,096.
@@ -20,7 +20,7 @@ pub struct Region {
 
 impl Region {
     /// What may be done with the region's bytes.
-    pub fn mode(&self) -> Mode
+    pub fn protection(&self) -> Protection
         ensures { result ≡ region_mode self.now }
     {
         let rights = if self.write {
@@ -30,7 +30,7 @@ impl Region {
         } else {
             Rights::Nothing
         };
-        Mode {
+        Protection {
             rights,
             execute: self.execute,
         }

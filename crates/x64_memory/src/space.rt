@@ -2,25 +2,25 @@ ghost use Rattle.std.specs.Prelude.{◌≡◌, ◌≤◌, ◌<◌, IfOk, is_some
 ghost use Rattle.seh_num.specs.Widths.{limit};
 ghost use Rattle.flat_memory.specs.Memory.{Memory, executable, loaded, stored, after_store, rights_asked, protected};
 
-use flat_memory::access::Access;
+use flat_memory::access::RefusedAccess;
 use seh_num::width::Width;
 
-/// A machine's memory. What it means is a map from addresses to a mode and a byte; every method is
+/// A machine's memory. What it means is a map from addresses to a protection and a byte; every method is
 /// an equation on that map. No method takes memory of the system.
-pub trait Space {
+pub trait AddressSpace {
     ghost memory: { Self → Memory };
 
     /// The number at an address; refused by the first byte that may not be read.
-    fn load(&self, at: u64, width: Width) -> Result<u64, Access>
+    fn load(&self, at: u64, width: Width) -> Result<u64, RefusedAccess>
         ensures value { result ≡ loaded (memory self.now) at width }
         ensures fits { IfOk result (λ v. v < limit width) };
 
     /// Whether a number may be put at an address; refused by the first byte that may not be written.
-    fn may_store(&self, at: u64, width: Width) -> Result<(), Access>
+    fn may_store(&self, at: u64, width: Width) -> Result<(), RefusedAccess>
         ensures { result ≡ stored (memory self.now) at width };
 
     /// Puts the low bytes of a number at an address. A refusal, as of `may_store`, changes nothing.
-    fn store(&mut self, at: u64, width: Width, value: u64) -> Result<(), Access>
+    fn store(&mut self, at: u64, width: Width, value: u64) -> Result<(), RefusedAccess>
         ensures answer { result ≡ stored (memory self.old) at width }
         ensures after { memory self.new ≡ after_store (memory self.old) at width value };
 
@@ -33,7 +33,7 @@ pub trait Space {
     /// Sets what may be done with the page of the arena that holds an address, by the number of the
     /// rights: none (0), reading (1), reading and writing (2). False, and nothing changed, exactly
     /// where the address is outside the arena or the number is another.
-    fn protect(&mut self, at: u64, mode: i32) -> bool
-        ensures answer { result ≡ is_some (rights_asked at mode) }
-        ensures after { memory self.new ≡ protected (memory self.old) at mode };
+    fn protect(&mut self, at: u64, protection: i32) -> bool
+        ensures answer { result ≡ is_some (rights_asked at protection) }
+        ensures after { memory self.new ≡ protected (memory self.old) at protection };
 }

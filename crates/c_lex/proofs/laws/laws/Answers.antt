@@ -1,8 +1,8 @@
 use Rattle.c_lex.proofs.Texts.{tokens_once, no_fault, fault_once}
 use Rattle.c_lex.proofs.Total.{each_text}
 use Rattle.c_lex.proofs.Covering.{ranges_rise, every_byte}
-use Rattle.c_lex.proofs.OnlySpelled.{signs_only, keywords_only, reserved_only}
-use Rattle.c_lex.proofs.Spelled.{signs_spelled, keywords_spelled, reserved_spelled}
+use Rattle.c_lex.proofs.OnlySpelled.{punctuators_only, keywords_only, reserved_only}
+use Rattle.c_lex.proofs.Spelled.{punctuators_spelled, keywords_spelled, reserved_spelled}
 use Rattle.c_lex.proofs.laws.laws.Goals as goal
 
 pub returns : goal.returns
@@ -13,6 +13,6 @@ returns c = record {
   each_text = each_text;
   ranges = ranges_rise;
   every_byte = every_byte;
-  spellings = (signs_spelled, keywords_spelled, reserved_spelled);
-  no_other = (signs_only, keywords_only, reserved_only);
+  spellings = (punctuators_spelled, keywords_spelled, reserved_spelled);
+  no_other = (punctuators_only, keywords_only, reserved_only);
 }

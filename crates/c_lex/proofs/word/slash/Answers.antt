@@ -9,4 +9,4 @@ returns-then-first-eq42 c = comment_found c.args.text.now c.comment.result.1.now
 
 pub returns-else-first-eq42 : goal.returns-else-first-eq42
 returns-else-first-eq42 c =
-    slash_found c.args.text.now c.longest_sign-else-first-eq42.result.1.now c.longest_sign-else-first-eq42.result.0 c.if-first-eq47.false c.if-first-eq42.false c.longest_sign-else-first-eq42.ensures
+    slash_found c.args.text.now c.longest_punctuator-else-first-eq42.result.1.now c.longest_punctuator-else-first-eq42.result.0 c.if-first-eq47.false c.if-first-eq42.false c.longest_punctuator-else-first-eq42.ensures

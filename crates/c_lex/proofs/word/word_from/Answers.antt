@@ -1,7 +1,7 @@
 use Rattle.std.proofs.Common.{◌≡◌, true, sym, ◌∙◌, arith, refl}
 use Rattle.std.proofs.lemmas.Bool.Decides.{nat_tests}
-use Rattle.c_lex.specs.Names.{is_digit}
-use Rattle.c_lex.proofs.FirstBytes.{name_first, zero_first, digit_first, quote_first, slash_first, space_first, sign_first}
+use Rattle.c_lex.specs.Identifiers.{is_digit}
+use Rattle.c_lex.proofs.FirstBytes.{name_first, zero_first, digit_first, quote_first, slash_first, space_first, punctuator_first}
 use Rattle.c_lex.proofs.word.word_from.Goals as goal
 
 pub overflow_sub-first : goal.overflow_sub-first
@@ -27,4 +27,4 @@ pub returns-then-is_space : goal.returns-then-is_space
 returns-then-is_space c = space_first c.args.first c.args.rest.now c.args.text.now c.args.rest.now _ c.requires (sym c.is_letter.ensures ∙ c.if-is_letter.false) c.if-first-eq48.false (sym c.is_digit.ensures ∙ c.if-is_digit.false) c.if-first-eq39.false c.if-first-eq47.false (sym c.is_space.ensures ∙ c.if-is_space.true) refl refl
 
 pub returns-else-is_space : goal.returns-else-is_space
-returns-else-is_space c = sign_first c.args.first c.args.rest.now c.args.text.now c.longest_sign.result.1.now c.longest_sign.result.0 c.requires (sym c.is_letter.ensures ∙ c.if-is_letter.false) c.if-first-eq48.false (sym c.is_digit.ensures ∙ c.if-is_digit.false) c.if-first-eq39.false c.if-first-eq47.false (sym c.is_space.ensures ∙ c.if-is_space.false) c.longest_sign.ensures
+returns-else-is_space c = punctuator_first c.args.first c.args.rest.now c.args.text.now c.longest_punctuator.result.1.now c.longest_punctuator.result.0 c.requires (sym c.is_letter.ensures ∙ c.if-is_letter.false) c.if-first-eq48.false (sym c.is_digit.ensures ∙ c.if-is_digit.false) c.if-first-eq39.false c.if-first-eq47.false (sym c.is_space.ensures ∙ c.if-is_space.false) c.longest_punctuator.ensures

@@ -9,7 +9,7 @@ pub returns-in_err-stop-in-None-clause-refused : goal.returns-in_err-stop-in-Non
 returns-in_err-stop-in-None-clause-refused c =
     let r = c.from_residual-in_err-stop-in-None in
     let p = err_from_is_err_and r.result r.ensures.1 in
-    rw (p.1, p.2, c.in_err-stop-in-None.ensures.refused) (not_scalar c.args.text.now c.args.base c.args.pointers c.args.bytes c.args.tokens.now c.requires c.in-None.ensures.none c.in_err-stop-in-None.ensures.goes_on)
+    rw (p.1, p.2, c.in_err-stop-in-None.ensures.refused) (not_scalar c.args.text.now c.args.base c.args.pointers c.args.bytes c.args.tokens.now c.requires c.in-None.ensures.none c.in_err-stop-in-None.ensures.continues)
 
 pub returns-in_err-length-in-Some-clause-refused : goal.returns-in_err-length-in-Some-clause-refused
 returns-in_err-length-in-Some-clause-refused c =

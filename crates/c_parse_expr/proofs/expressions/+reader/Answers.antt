@@ -1,18 +1,18 @@
 use Rattle.std.proofs.Common.{◌≡◌, ℕ, map, List, sym, ap, ◌∙◌, subst, arith}
 use Rattle.std.proofs.lemmas.Result.{err_from_is_err_and, IfOk-weaker, IfErr-weaker}
-use Rattle.c_lex.specs.declared.sign.Sign.{Sign}
-use Rattle.c_lex.specs.declared.sign.Sign.TheVariants as signs
+use Rattle.c_lex.specs.declared.punctuator.Punctuator.{Punctuator}
+use Rattle.c_lex.specs.declared.punctuator.Punctuator.TheVariants as punctuators
 use Rattle.c_lex.specs.declared.token.Token.{Token}
 use Rattle.c_syntax.specs.Expression.{Expression, expression, arguments, height, heights}
 use Rattle.c_syntax.specs.Expressions.{Derives}
 use Rattle.c_syntax.specs.Follow.{follows, Stops}
 use Rattle.c_syntax.specs.Steps as steps
 use Rattle.c_syntax.specs.Steps.{Closes}
-use Rattle.c_syntax.specs.Tokens.{IsSign}
+use Rattle.c_syntax.specs.Tokens.{IsPunctuator}
 use Rattle.c_syntax.proofs.Failing.{wrapped}
 use Rattle.c_syntax.proofs.Shorter as shorter
-use Rattle.c_parse_atom.proofs.Signs.{increment_only, unary_only}
-use Rattle.c_parse_type.proofs.Types.{sign_shorter}
+use Rattle.c_parse_atom.proofs.Punctuators.{increment_only, unary_only}
+use Rattle.c_parse_type.proofs.Types.{punctuator_shorter}
 use Rattle.c_parse_expr.specs.declared.step.Operation.{Operation}
 use Rattle.c_parse_expr.specs.Operations.{with}
 use Rattle.c_parse_expr.specs.Readings.{NoExpression, HasExpression, NoOperand, NoArguments, HasArguments, NoneBehind, HasBehind, AreListed, IsBehind}
@@ -20,7 +20,7 @@ use Rattle.c_parse_expr.specs.Refusals.{Placed}
 use Rattle.c_parse_expr.specs.Steps as code_steps
 use Rattle.c_parse_expr.proofs.Arguing.{first_wraps, next_wraps, stuck_there}
 use Rattle.c_parse_expr.proofs.Beginning.{call_wraps, information_wraps, prefix_wraps, unary_wraps, group_wraps, cast_wraps, cast_unclosed, no_operand_there, no_room_there}
-use Rattle.c_parse_expr.proofs.Climbing.{goes_on}
+use Rattle.c_parse_expr.proofs.Climbing.{continues}
 use Rattle.c_parse_expr.proofs.Listing.{listed_behind, heights_behind, mapped_behind, positive, listed_spelled}
 use Rattle.c_parse_expr.proofs.Operands.{no_parenthesis}
 use Rattle.c_parse_expr.proofs.Operations.{applied_height, right_behind, is_step}
@@ -38,16 +38,16 @@ expression-returns-in_err-left-clause-refused t c =
 pub expression-loop-alloc-init : goal.expression-loop-alloc-init
 expression-loop-alloc-init t c = (c.in_ok-left.ensures.low, c.in_ok-left.ensures.found.derives, c.in_ok-left.ensures.found.closes)
 
-pub expression-returns-in_err-behind-clause-refused : goal.expression-returns-in_err-behind-clause-refused
-expression-returns-in_err-behind-clause-refused t c =
-    let p = err_from_is_err_and c.from_residual-in_err-behind.result c.from_residual-in_err-behind.ensures.1 in
+pub expression-returns-in_err-following-clause-refused : goal.expression-returns-in_err-following-clause-refused
+expression-returns-in_err-following-clause-refused t c =
+    let p = err_from_is_err_and c.from_residual-in_err-following.result c.from_residual-in_err-following.ensures.1 in
     let f = c.follows.ensures in
     let g = c.loop-alloc-test.true in
     let h = c.loop-alloc.left.exact in
     let low = c.loop-alloc.invariant.0 in
-    rw (p.1, p.2) (placed_so c.in_err-behind.field-0.0 _ _ _ _ _ _ _
+    rw (p.1, p.2) (placed_so c.in_err-following.field-0.0 _ _ _ _ _ _ _
     (step_wraps c.args.level c.args.room (expression c.loop-alloc.left.expr) c.args.text.now c.args.tokens.now c.loop-alloc.left.rest.now c.loop-alloc.invariant.1 c.loop-alloc.invariant.2 (omega arith) (omega arith))
-    c.in_err-behind.ensures.refused)
+    c.in_err-following.ensures.refused)
 
 pub expression-loop-alloc-preserved : goal.expression-loop-alloc-preserved
 expression-loop-alloc-preserved t c =
@@ -56,19 +56,19 @@ expression-loop-alloc-preserved t c =
     let text = c.args.text.now in
     let ts = c.args.tokens.now in
     let left = expression c.loop-alloc.left.expr in
-    let s = code_steps.step c.in_ok-behind.behind.step in
-    let mid = c.in_ok-behind.behind.rest.now in
+    let s = code_steps.step c.in_ok-following.following.step in
+    let mid = c.in_ok-following.following.rest.now in
     let made : expression c.in_ok-left-2.left.expr ≡ steps.apply left s = c.in_ok-left-2.ensures.made in
     let rest : c.in_ok-left-2.left.rest.now ≡ mid = c.in_ok-left-2.ensures.rest in
-    let found = c.in_ok-behind.ensures.found in
-    let d : Derives text c.args.level (steps.apply left s) ts mid = goes_on text c.args.level left s ts c.loop-alloc.left.rest.now mid c.loop-alloc.invariant.1 (omega arith) found in
+    let found = c.in_ok-following.ensures.found in
+    let d : Derives text c.args.level (steps.apply left s) ts mid = continues text c.args.level left s ts c.loop-alloc.left.rest.now mid c.loop-alloc.invariant.1 (omega arith) found in
     let h = applied_height left s in
     let k = ap height made in
     let a = c.loop-alloc.left.exact in
-    let b = c.in_ok-behind.behind.exact in
+    let b = c.in_ok-following.following.exact in
     let e = c.in_ok-left-2.left.exact in
-    let low = c.in_ok-behind.ensures.low in
-    let fits = c.in_ok-behind.ensures.fits in (
+    let low = c.in_ok-following.ensures.low in
+    let fits = c.in_ok-following.ensures.fits in (
       omega arith,
       subst (λ (x : Expression). Derives text c.args.level x ts c.in_ok-left-2.left.rest.now) (sym made) (subst (λ (z : List Token). Derives text c.args.level (steps.apply left s) ts z) (sym rest) d),
       subst (λ (x : Expression). Closes x c.in_ok-left-2.left.rest.now) (sym made) (subst (λ (z : List Token). Closes (steps.apply left s) z) (sym rest) found.closes),
@@ -101,7 +101,7 @@ step-returns-in_default-clause-refused t c =
 pub step-returns-in_default-operation_of-clause-refused : goal.step-returns-in_default-operation_of-clause-refused
 step-returns-in_default-operation_of-clause-refused t c =
     placed_as _ _ _ _ _ _ c.unexpected-in_default-operation_of.ensures
-    (no_operator_there c.args.room (expression c.args.operand.now.expr) (follows c.args.operand.now.rest.now) c.in-Some.sign c.in-Some.at c.args.text.now c.args.operand.now.rest.now c.in-Some.rest.now c.in-Some.ensures.found (sym c.in_default-operation_of.ensures))
+    (no_operator_there c.args.room (expression c.args.operand.now.expr) (follows c.args.operand.now.rest.now) c.in-Some.punctuator c.in-Some.at c.args.text.now c.args.operand.now.rest.now c.in-Some.rest.now c.in-Some.ensures.found (sym c.in_default-operation_of.ensures))
 
 pub step-returns-then-bound-rank-clause-refused : goal.step-returns-then-bound-rank-clause-refused
 step-returns-then-bound-rank-clause-refused t c =
@@ -110,7 +110,7 @@ step-returns-then-bound-rank-clause-refused t c =
     let b = c.rank.ensures in
     let n = c.if-bound-rank.true in
     placed_as _ _ _ _ _ _ c.unexpected-then-bound-rank.ensures
-    (loose_there c.args.room e (follows c.args.operand.now.rest.now) c.in-Some.sign c.in-Some-operation_of.operation c.in-Some.at c.args.text.now c.args.operand.now.rest.now c.in-Some.rest.now c.in-Some.ensures.found (sym c.in-Some-operation_of.ensures) (omega arith))
+    (loose_there c.args.room e (follows c.args.operand.now.rest.now) c.in-Some.punctuator c.in-Some-operation_of.operation c.in-Some.at c.args.text.now c.args.operand.now.rest.now c.in-Some.rest.now c.in-Some.ensures.found (sym c.in-Some-operation_of.ensures) (omega arith))
 
 pub step-returns-then-room-operand-clause-refused : goal.step-returns-then-room-operand-clause-refused
 step-returns-then-room-operand-clause-refused t c =
@@ -121,7 +121,7 @@ step-returns-then-room-operand-clause-refused t c =
     let m = c.if-room-operand.true in
     let x = c.args.operand.now.exact in
     placed_as _ _ _ _ _ _ c.too_deep.ensures
-    (high_there c.args.room e c.in-Some.sign c.in-Some-operation_of.operation c.in-Some.at c.args.text.now c.args.operand.now.rest.now c.in-Some.rest.now c.in-Some.ensures.found (sym c.in-Some-operation_of.ensures) (omega arith) (omega arith))
+    (high_there c.args.room e c.in-Some.punctuator c.in-Some-operation_of.operation c.in-Some.at c.args.text.now c.args.operand.now.rest.now c.in-Some.rest.now c.in-Some.ensures.found (sym c.in-Some-operation_of.ensures) (omega arith) (omega arith))
 
 pub step-returns-clause-found : goal.step-returns-clause-found
 step-returns-clause-found t c =
@@ -131,7 +131,7 @@ step-returns-clause-found t c =
     let b = c.rank.ensures in
     let n = c.if-bound-rank.false in
     IfOk-weaker c.operated.result _ _
-    (λ x h. is_step text e c.in-Some-operation_of.operation c.in-Some.sign c.in-Some.at (code_steps.step x.step) c.args.operand.now.rest.now c.in-Some.rest.now x.rest.now (sym c.in-Some-operation_of.ensures) (omega arith) c.in-Some.ensures.found h)
+    (λ x h. is_step text e c.in-Some-operation_of.operation c.in-Some.punctuator c.in-Some.at (code_steps.step x.step) c.args.operand.now.rest.now c.in-Some.rest.now x.rest.now (sym c.in-Some-operation_of.ensures) (omega arith) c.in-Some.ensures.found h)
     c.operated.ensures.found
 
 pub step-returns-clause-refused : goal.step-returns-clause-refused
@@ -144,7 +144,7 @@ step-returns-clause-refused t c =
     let m = c.if-room-operand.false in
     let x = c.args.operand.now.exact in
     IfErr-weaker c.operated.result _ _
-    (λ y h. placed_so y _ _ _ _ _ _ _ (behind_wraps c.args.room e c.in-Some.sign c.in-Some-operation_of.operation c.in-Some.at text c.args.operand.now.rest.now c.in-Some.rest.now c.in-Some.ensures.found (sym c.in-Some-operation_of.ensures) (omega arith) (omega arith)) h)
+    (λ y h. placed_so y _ _ _ _ _ _ _ (behind_wraps c.args.room e c.in-Some.punctuator c.in-Some-operation_of.operation c.in-Some.at text c.args.operand.now.rest.now c.in-Some.rest.now c.in-Some.ensures.found (sym c.in-Some-operation_of.ensures) (omega arith) (omega arith)) h)
     c.operated.ensures.refused
 
 pub chosen-returns-in_err-yes-clause-refused : goal.chosen-returns-in_err-yes-clause-refused
@@ -209,44 +209,44 @@ named-returns-in-None-clause-found t c =
 
 pub signed-returns-then-not-opens-clause-refused : goal.signed-returns-then-not-opens-clause-refused
 signed-returns-then-not-opens-clause-refused t c =
-    placed_as _ _ _ _ _ _ c.unexpected.ensures (no_operand_there c.args.level c.args.room c.args.sign c.args.at c.args.text.now c.args.tokens.now c.args.rest.now c.requires.sign (c.opens.ensures.never c.if-not-opens.true))
+    placed_as _ _ _ _ _ _ c.unexpected.ensures (no_operand_there c.args.level c.args.room c.args.punctuator c.args.at c.args.text.now c.args.tokens.now c.args.rest.now c.requires.punctuator (c.opens.ensures.never c.if-not-opens.true))
 
 pub signed-returns-then-room-eq0-clause-refused : goal.signed-returns-then-room-eq0-clause-refused
 signed-returns-then-room-eq0-clause-refused t c =
     let o = c.opens.ensures.opens c.if-not-opens.false in
     subst (λ (z : ℕ). Placed c.too_deep.result (NoOperand c.args.level z) (HasExpression c.args.level z) c.args.text.now c.args.tokens.now) (sym c.if-room-eq0.true)
-    (placed_as _ _ _ _ _ _ c.too_deep.ensures (no_room_there c.args.level c.args.sign c.args.at c.args.text.now c.args.tokens.now c.args.rest.now c.requires.level c.requires.sign o))
+    (placed_as _ _ _ _ _ _ c.too_deep.ensures (no_room_there c.args.level c.args.punctuator c.args.at c.args.text.now c.args.tokens.now c.args.rest.now c.requires.level c.requires.punctuator o))
 
 pub signed-returns-in_err-inner-clause-refused : goal.signed-returns-in_err-inner-clause-refused
 signed-returns-in_err-inner-clause-refused t c =
     let p = err_from_is_err_and c.from_residual.result c.from_residual.ensures.1 in
     rw (p.1, p.2) (placed_so c.in_err-inner.field-0.0 _ _ _ _ _ _ _
-    (prefix_wraps c.args.level c.args.room c.args.sign c.in-Some.operator c.args.at c.args.text.now c.args.tokens.now c.args.rest.now c.requires.level (positive c.args.room c.if-room-eq0.false) c.requires.sign (sym c.in-Some.ensures))
+    (prefix_wraps c.args.level c.args.room c.args.punctuator c.in-Some.operator c.args.at c.args.text.now c.args.tokens.now c.args.rest.now c.requires.level (positive c.args.room c.if-room-eq0.false) c.requires.punctuator (sym c.in-Some.ensures))
     c.in_err-inner.ensures.refused)
 
 pub signed-returns-in_err-inner-2-clause-refused : goal.signed-returns-in_err-inner-2-clause-refused
 signed-returns-in_err-inner-2-clause-refused t c =
     let p = err_from_is_err_and c.from_residual-in_err-inner-2.result c.from_residual-in_err-inner-2.ensures.1 in
     rw (p.1, p.2) (placed_so c.in_err-inner-2.field-0.0 _ _ _ _ _ _ _
-    (unary_wraps c.args.level c.args.room c.args.sign c.in-Some-unary_of.operator c.args.at c.args.text.now c.args.tokens.now c.args.rest.now c.requires.level (positive c.args.room c.if-room-eq0.false) c.requires.sign (sym c.in-Some-unary_of.ensures))
+    (unary_wraps c.args.level c.args.room c.args.punctuator c.in-Some-unary_of.operator c.args.at c.args.text.now c.args.tokens.now c.args.rest.now c.requires.level (positive c.args.room c.if-room-eq0.false) c.requires.punctuator (sym c.in-Some-unary_of.ensures))
     c.in_err-inner-2.ensures.refused)
 
 pub signed-returns-in-Some-clause-found : goal.signed-returns-in-Some-clause-found
 signed-returns-in-Some-clause-found t c =
     let op = c.in-Some.operator in
-    let q = increment_only op c.args.sign (sym c.in-Some.ensures) in
+    let q = increment_only op c.args.punctuator (sym c.in-Some.ensures) in
     let k = c.in_ok-inner in
     let level = c.requires.level in
-    let h = subst (λ (z : Sign). IsSign z c.args.at c.args.tokens.now c.args.rest.now) q c.requires.sign in
+    let h = subst (λ (z : Punctuator). IsPunctuator z c.args.at c.args.tokens.now c.args.rest.now) q c.requires.punctuator in
     rw c.in_ok-expr.ensures.made (record { derives = record { fits = omega arith; spells = (c.args.rest.now, h, k.ensures.found.fits, k.ensures.found.spells) }; head = tt; closes = k.ensures.stops })
 
 pub signed-returns-in-Some-unary_of-clause-found : goal.signed-returns-in-Some-unary_of-clause-found
 signed-returns-in-Some-unary_of-clause-found t c =
     let op = c.in-Some-unary_of.operator in
-    let q = unary_only op c.args.sign (sym c.in-Some-unary_of.ensures) in
+    let q = unary_only op c.args.punctuator (sym c.in-Some-unary_of.ensures) in
     let k = c.in_ok-inner-2 in
     let level = c.requires.level in
-    let h = subst (λ (z : Sign). IsSign z c.args.at c.args.tokens.now c.args.rest.now) q c.requires.sign in
+    let h = subst (λ (z : Punctuator). IsPunctuator z c.args.at c.args.tokens.now c.args.rest.now) q c.requires.punctuator in
     rw c.in_ok-expr-2.ensures.made (record { derives = record { fits = omega arith; spells = (c.args.rest.now, h, k.ensures.found.fits, k.ensures.found.spells) }; head = tt; closes = k.ensures.stops })
 
 pub parenthesised-returns-in_default-clause-refused : goal.parenthesised-returns-in_default-clause-refused
@@ -254,7 +254,7 @@ parenthesised-returns-in_default-clause-refused t c =
     let l = c.requires.level in
     let m = c.if-level-eq2.false in
     placed_as _ _ _ _ _ _ c.unexpected.ensures
-    (cast_unclosed c.args.level c.args.room c.args.at c.in-Some.to c.args.text.now c.args.tokens.now c.args.rest.now c.in-Some.rest.now (omega arith) c.requires.sign c.in-Some.ensures.found c.in-Some.ensures.far c.in_default.ensures.none)
+    (cast_unclosed c.args.level c.args.room c.args.at c.in-Some.to c.args.text.now c.args.tokens.now c.args.rest.now c.in-Some.rest.now (omega arith) c.requires.punctuator c.in-Some.ensures.found c.in-Some.ensures.far c.in_default.ensures.none)
 
 pub parenthesised-returns-in_err-inner-in-Some-clause-refused : goal.parenthesised-returns-in_err-inner-in-Some-clause-refused
 parenthesised-returns-in_err-inner-in-Some-clause-refused t c =
@@ -262,13 +262,13 @@ parenthesised-returns-in_err-inner-in-Some-clause-refused t c =
     let l = c.requires.level in
     let m = c.if-level-eq2.false in
     rw (p.1, p.2) (placed_so c.in_err-inner-in-Some.field-0.0 _ _ _ _ _ _ _
-    (cast_wraps c.args.level c.args.room c.args.at c.in-Some.to c.args.text.now c.args.tokens.now c.args.rest.now c.in-Some.rest.now c.in-Some-after.rest.now (omega arith) c.requires.sign c.in-Some.ensures.found c.in-Some.ensures.far c.in-Some-after.ensures.found)
+    (cast_wraps c.args.level c.args.room c.args.at c.in-Some.to c.args.text.now c.args.tokens.now c.args.rest.now c.in-Some.rest.now c.in-Some-after.rest.now (omega arith) c.requires.punctuator c.in-Some.ensures.found c.in-Some.ensures.far c.in-Some-after.ensures.found)
     c.in_err-inner-in-Some.ensures.refused)
 
 pub grouped-returns-in_err-inner-clause-refused : goal.grouped-returns-in_err-inner-clause-refused
 grouped-returns-in_err-inner-clause-refused t c =
     let p = err_from_is_err_and c.from_residual.result c.from_residual.ensures.1 in
-    rw (p.1, p.2) (placed_so c.in_err-inner.field-0.0 _ _ _ _ _ _ _ (group_wraps c.args.level c.args.room c.args.at c.args.text.now c.args.tokens.now c.args.rest.now c.requires.sign c.requires.base) c.in_err-inner.ensures.refused)
+    rw (p.1, p.2) (placed_so c.in_err-inner.field-0.0 _ _ _ _ _ _ _ (group_wraps c.args.level c.args.room c.args.at c.args.text.now c.args.tokens.now c.args.rest.now c.requires.punctuator c.requires.base) c.in_err-inner.ensures.refused)
 
 -- ---- arguments
 
@@ -284,22 +284,22 @@ arguments-returns-in_err-first-clause-refused t c =
 pub arguments-returns-in_err-next-clause-refused : goal.arguments-returns-in_err-next-clause-refused
 arguments-returns-in_err-next-clause-refused t c =
     let p = err_from_is_err_and c.from_residual-in_err-next.result c.from_residual-in_err-next.ensures.1 in
-    let i = c.loop-behind.invariant in
+    let i = c.loop-following.invariant in
     let a = i.1 in
     let b = i.2 in
     rw (p.1, p.2) (placed_so c.in_err-next.field-0.0 _ _ _ _ _ _ _
-    (next_wraps c.args.room (map expression c.loop-behind.exprs.items) c.args.text.now c.args.tokens.now c.loop-behind.rest.now c.in-Some-after.behind.now (positive c.args.room i.0) i.3 i.4 c.in-Some-after.ensures.found (omega arith))
+    (next_wraps c.args.room (map expression c.loop-following.exprs.items) c.args.text.now c.args.tokens.now c.loop-following.rest.now c.in-Some-after.following.now (positive c.args.room i.0) i.3 i.4 c.in-Some-after.ensures.found (omega arith))
     c.in_err-next.ensures.refused)
 
-pub arguments-loop-behind-smaller : goal.arguments-loop-behind-smaller
-arguments-loop-behind-smaller t c =
-    let a = shorter.expression c.args.text.now (expression c.in_ok-next.next.expr) c.in-Some-after.behind.now c.in_ok-next.next.rest.now c.in_ok-next.ensures.found.spells in
-    let b = sign_shorter signs.Comma c.in-Some-after.ensures.found.0 c.loop-behind.rest.now c.in-Some-after.behind.now c.in-Some-after.ensures.found.1 in omega arith
+pub arguments-loop-following-smaller : goal.arguments-loop-following-smaller
+arguments-loop-following-smaller t c =
+    let a = shorter.expression c.args.text.now (expression c.in_ok-next.next.expr) c.in-Some-after.following.now c.in_ok-next.next.rest.now c.in_ok-next.ensures.found.spells in
+    let b = punctuator_shorter punctuators.Comma c.in-Some-after.ensures.found.0 c.loop-following.rest.now c.in-Some-after.following.now c.in-Some-after.ensures.found.1 in omega arith
 
-pub arguments-loop-behind-preserved : goal.arguments-loop-behind-preserved
-arguments-loop-behind-preserved t c =
-    let i = c.loop-behind.invariant in
-    let old = c.loop-behind.exprs.items in
+pub arguments-loop-following-preserved : goal.arguments-loop-following-preserved
+arguments-loop-following-preserved t c =
+    let i = c.loop-following.invariant in
+    let old = c.loop-following.exprs.items in
     let e = expression c.in_ok-next.next.expr in
     let q = ap (map expression) c.in_ok-push-2.ensures.items ∙ mapped_behind expression old c.in_ok-next.next.expr in
     let r = positive c.args.room i.0 in
@@ -314,18 +314,18 @@ arguments-loop-behind-preserved t c =
       omega arith,
       omega arith,
       subst (λ (z : List Expression). AreListed c.args.text.now z c.args.tokens.now c.in_ok-next.next.rest.now) (sym q)
-          (listed_behind c.args.text.now (map expression old) e c.args.tokens.now c.loop-behind.rest.now c.in-Some-after.behind.now c.in_ok-next.next.rest.now i.3 c.in-Some-after.ensures.found c.in_ok-next.ensures.found),
+          (listed_behind c.args.text.now (map expression old) e c.args.tokens.now c.loop-following.rest.now c.in-Some-after.following.now c.in_ok-next.next.rest.now i.3 c.in-Some-after.ensures.found c.in_ok-next.ensures.found),
       c.in_ok-next.ensures.stops,
     )
 
 pub arguments-returns-in-Some-after-2-clause-found : goal.arguments-returns-in-Some-after-2-clause-found
 arguments-returns-in-Some-after-2-clause-found t c =
-    listed_spelled c.args.text.now (map expression c.loop-behind.exprs.items) c.args.tokens.now c.loop-behind.rest.now c.in-Some-after-2.rest.now c.loop-behind.invariant.3 c.in-Some-after-2.ensures.found
+    listed_spelled c.args.text.now (map expression c.loop-following.exprs.items) c.args.tokens.now c.loop-following.rest.now c.in-Some-after-2.rest.now c.loop-following.invariant.3 c.in-Some-after-2.ensures.found
 
 pub arguments-returns-clause-refused : goal.arguments-returns-clause-refused
 arguments-returns-clause-refused t c =
-    let i = c.loop-behind.invariant in
+    let i = c.loop-following.invariant in
     let a = i.1 in
     let b = i.2 in
     placed_as _ _ _ _ _ _ c.unexpected.ensures
-    (stuck_there c.args.room (map expression c.loop-behind.exprs.items) c.args.text.now c.args.tokens.now c.loop-behind.rest.now i.3 i.4 c.in-None.ensures.none c.in_default-after.ensures.none (omega arith))
+    (stuck_there c.args.room (map expression c.loop-following.exprs.items) c.args.text.now c.args.tokens.now c.loop-following.rest.now i.3 i.4 c.in-None.ensures.none c.in_default-after.ensures.none (omega arith))

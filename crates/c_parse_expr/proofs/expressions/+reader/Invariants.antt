@@ -39,12 +39,12 @@ decreases-parenthesised l = 8 * l.room + 10
 abbrev pub decreases-grouped : goal.decreases-grouped
 decreases-grouped l = 8 * l.room + 9
 
-abbrev pub invariant-arguments-loop-behind : goal.invariant-arguments-loop-behind
-invariant-arguments-loop-behind l =
+abbrev pub invariant-arguments-loop-following : goal.invariant-arguments-loop-following
+invariant-arguments-loop-following l =
     (l.room ≢ 0) × (l.over ≤ l.room) × (l.over ≡ heights (arguments (map expression l.exprs.items))) × AreListed l.text (map expression l.exprs.items) l.tokens l.rest × Stops 15 l.rest
 
-abbrev pub decreases-arguments-loop-behind : goal.decreases-arguments-loop-behind
-decreases-arguments-loop-behind l = length l.rest
+abbrev pub decreases-arguments-loop-following : goal.decreases-arguments-loop-following
+decreases-arguments-loop-following l = length l.rest
 
 abbrev pub invariant-expression-loop-alloc : goal.invariant-expression-loop-alloc
 invariant-expression-loop-alloc l = (l.left.over ≤ l.room) × Derives l.text l.level (expression l.left.expr) l.tokens l.left.rest.now × Closes (expression l.left.expr) l.left.rest.now

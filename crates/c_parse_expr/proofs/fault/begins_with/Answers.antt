@@ -5,11 +5,11 @@ use Rattle.c_lex.specs.declared.token.Kind.{Kind}
 use Rattle.c_lex.specs.declared.token.Kind.TheVariants as kinds
 use Rattle.c_syntax.specs.Tokens.{token}
 use Rattle.c_parse_expr.specs.Readings.{Begins, NeverBegins}
-use Rattle.c_parse_expr.proofs.Beginning.{plain_begins, keyword_begins, sign_begins, never_kind, other_keyword, other_sign}
+use Rattle.c_parse_expr.proofs.Beginning.{plain_begins, keyword_begins, punctuator_begins, never_kind, other_keyword, other_punctuator}
 use Rattle.c_parse_expr.proofs.fault.begins_with.Goals as goal
 
-pub returns-in-Name-clause-begins : goal.returns-in-Name-clause-begins
-returns-in-Name-clause-begins c = λ h start end rest. plain_begins c.args.kind c.in-Name.is start end rest
+pub returns-in-Identifier-clause-begins : goal.returns-in-Identifier-clause-begins
+returns-in-Identifier-clause-begins c = λ h start end rest. plain_begins c.args.kind c.in-Identifier.is start end rest
 
 pub returns-in-Keyword-clause-begins : goal.returns-in-Keyword-clause-begins
 returns-in-Keyword-clause-begins c = λ h start end rest.
@@ -24,8 +24,8 @@ returns-in-Keyword-clause-never c = λ h start end rest.
 pub returns-in-Reserved-clause-never : goal.returns-in-Reserved-clause-never
 returns-in-Reserved-clause-never c = λ h start end rest. subst (λ (k : Kind). NeverBegins (token k start end ∷ rest)) (sym c.in-Reserved.is) (never_kind (kinds.Reserved c.in-Reserved.field-0) start end rest (omega arith))
 
-pub returns-in-Sign-clause-begins : goal.returns-in-Sign-clause-begins
-returns-in-Sign-clause-begins c = λ h start end rest. subst (λ (k : Kind). Begins (token k start end ∷ rest)) (sym c.in-Sign.is) (sign_begins c.in-Sign.sign start end rest (c.opens.ensures.opens h))
+pub returns-in-Punctuator-clause-begins : goal.returns-in-Punctuator-clause-begins
+returns-in-Punctuator-clause-begins c = λ h start end rest. subst (λ (k : Kind). Begins (token k start end ∷ rest)) (sym c.in-Punctuator.is) (punctuator_begins c.in-Punctuator.punctuator start end rest (c.opens.ensures.opens h))
 
-pub returns-in-Sign-clause-never : goal.returns-in-Sign-clause-never
-returns-in-Sign-clause-never c = λ h start end rest. subst (λ (k : Kind). NeverBegins (token k start end ∷ rest)) (sym c.in-Sign.is) (never_kind (kinds.Sign c.in-Sign.sign) start end rest (other_sign c.in-Sign.sign (c.opens.ensures.never h)))
+pub returns-in-Punctuator-clause-never : goal.returns-in-Punctuator-clause-never
+returns-in-Punctuator-clause-never c = λ h start end rest. subst (λ (k : Kind). NeverBegins (token k start end ∷ rest)) (sym c.in-Punctuator.is) (never_kind (kinds.Punctuator c.in-Punctuator.punctuator) start end rest (other_punctuator c.in-Punctuator.punctuator (c.opens.ensures.never h)))

@@ -13,7 +13,7 @@ returns-then-closed-opened-clause-none c = λ h none.
     let o = c.past_opening-opened in
     let q = c.past_closing-closed in
     let s = c.in-Some in
-    absurd (whole o.result.0 c.args.text.now s.token c.args.tokens.now o.result.1.now s.behind.now q.result.1.now (omega (arith, c.if-opened-eq0.false)) o.ensures.most o.ensures.opened s.ensures.found s.ensures.accepts (subst (λ n. AreClosing n s.behind.now q.result.1.now) c.if-closed-opened.true q.ensures.closed) none)
+    absurd (whole o.result.0 c.args.text.now s.token c.args.tokens.now o.result.1.now s.following.now q.result.1.now (omega (arith, c.if-opened-eq0.false)) o.ensures.most o.ensures.opened s.ensures.found s.ensures.accepts (subst (λ n. AreClosing n s.following.now q.result.1.now) c.if-closed-opened.true q.ensures.closed) none)
 
 pub goes_behind-requires-clause-unclosed : goal.goes_behind-requires-clause-unclosed
 goes_behind-requires-clause-unclosed c =
@@ -25,14 +25,14 @@ returns-else-closed-opened-clause-many c = λ h none.
     let o = c.past_opening-opened in
     let q = c.past_closing-closed in
     let s = c.in-Some in
-    goes_on_behind o.result.0 q.result.0 c.args.text.now s.token c.args.tokens.now o.result.1.now s.behind.now q.result.1.now (omega (arith, q.ensures.most, c.if-closed-opened.false)) o.ensures.most o.ensures.opened s.ensures.found s.ensures.accepts q.ensures.closed (q.ensures.all (omega (arith, q.ensures.most, c.if-closed-opened.false))) (c.goes_behind.ensures.some h)
+    goes_on_behind o.result.0 q.result.0 c.args.text.now s.token c.args.tokens.now o.result.1.now s.following.now q.result.1.now (omega (arith, q.ensures.most, c.if-closed-opened.false)) o.ensures.most o.ensures.opened s.ensures.found s.ensures.accepts q.ensures.closed (q.ensures.all (omega (arith, q.ensures.most, c.if-closed-opened.false))) (c.goes_behind.ensures.some h)
 
 pub returns-else-closed-opened-clause-none : goal.returns-else-closed-opened-clause-none
 returns-else-closed-opened-clause-none c = λ h none.
     let o = c.past_opening-opened in
     let q = c.past_closing-closed in
     let s = c.in-Some in
-    departs_behind o.result.0 q.result.0 c.args.text.now s.token c.args.tokens.now o.result.1.now s.behind.now q.result.1.now (omega (arith, q.ensures.most, c.if-closed-opened.false)) o.ensures.most o.ensures.opened s.ensures.found s.ensures.accepts q.ensures.closed (c.goes_behind.ensures.none h)
+    departs_behind o.result.0 q.result.0 c.args.text.now s.token c.args.tokens.now o.result.1.now s.following.now q.result.1.now (omega (arith, q.ensures.most, c.if-closed-opened.false)) o.ensures.most o.ensures.opened s.ensures.found s.ensures.accepts q.ensures.closed (c.goes_behind.ensures.none h)
 
 pub returns-in-None-clause-many : goal.returns-in-None-clause-many
 returns-in-None-clause-many c = λ h none.

@@ -3,15 +3,15 @@ use Rattle.std.proofs.lemmas.Bool.Decides.{nat_tests}
 use Rattle.c_parse_stmt.proofs.Continuing.{goes_call, goes_step, stops_behind, no_call, deep_behind}
 use Rattle.c_parse_stmt.proofs.filters.goes_behind.Goals as goal
 
-pub returns-in-Name-clause-some : goal.returns-in-Name-clause-some
-returns-in-Name-clause-some c = λ h.
+pub returns-in-Identifier-clause-some : goal.returns-in-Identifier-clause-some
+returns-in-Identifier-clause-some c = λ h.
     let e = c.follows-level.ensures in
-    goes_call c.args.opened c.args.closed c.args.atom c.args.tokens.now c.requires.fewer c.requires.most c.if-closed-eq0.true c.in-Name.is (omega arith)
+    goes_call c.args.opened c.args.closed c.args.atom c.args.tokens.now c.requires.fewer c.requires.most c.if-closed-eq0.true c.in-Identifier.is (omega arith)
 
 pub returns-in_default-clause-none : goal.returns-in_default-clause-none
 returns-in_default-clause-none c = λ h.
     let e = c.follows-level.ensures in
-    no_call c.args.opened c.args.closed c.args.atom c.args.tokens.now c.requires.fewer (omega arith) (λ z i. c.in_default.not-Name i)
+    no_call c.args.opened c.args.closed c.args.atom c.args.tokens.now c.requires.fewer (omega arith) (λ z i. c.in_default.not-Identifier i)
 
 pub returns-else-closed-eq0-clause-none : goal.returns-else-closed-eq0-clause-none
 returns-else-closed-eq0-clause-none c = λ h.

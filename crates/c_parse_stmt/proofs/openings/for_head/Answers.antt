@@ -2,7 +2,7 @@ use Rattle.std.proofs.Common.{arith, refl, option_map}
 use Rattle.std.proofs.lemmas.Result.{err_from_is_err_and}
 use Rattle.c_syntax.specs.Expression.{expression}
 use Rattle.c_syntax.specs.Statement.{first}
-use Rattle.c_parse_stmt.proofs.Heading.{for_too_deep, for_open, for_first, for_condition, for_next}
+use Rattle.c_parse_stmt.proofs.Heading.{for_too_deep, for_open, for_initialiser, for_condition, for_next}
 use Rattle.c_parse_stmt.proofs.Sequences.{placed}
 use Rattle.c_parse_stmt.proofs.Wholes.{left_of}
 use Rattle.c_parse_stmt.proofs.openings.for_head.Goals as goal
@@ -10,31 +10,31 @@ use Rattle.c_parse_stmt.proofs.openings.for_head.Goals as goal
 pub returns-then-room-eq0-clause-refused : goal.returns-then-room-eq0-clause-refused
 returns-then-room-eq0-clause-refused c = λ ts k. for_too_deep c.args.room c.args.at c.args.left c.args.text.now ts c.args.tokens.now c.if-room-eq0.true k
 
-pub returns-in_err-behind-clause-refused : goal.returns-in_err-behind-clause-refused
-returns-in_err-behind-clause-refused c =
+pub returns-in_err-following-clause-refused : goal.returns-in_err-following-clause-refused
+returns-in_err-following-clause-refused c =
     let p = err_from_is_err_and c.from_residual.result c.from_residual.ensures.1 in
-    rw (p.1, p.2) (λ ts k. placed c.in_err-behind.field-0.0 _ _ _ _ c.args.text.now c.args.tokens.now ts (for_open c.args.room c.args.at c.args.left c.args.text.now ts c.args.tokens.now (omega arith) k) c.in_err-behind.ensures.refused)
+    rw (p.1, p.2) (λ ts k. placed c.in_err-following.field-0.0 _ _ _ _ c.args.text.now c.args.tokens.now ts (for_open c.args.room c.args.at c.args.left c.args.text.now ts c.args.tokens.now (omega arith) k) c.in_err-following.ensures.refused)
 
 pub returns-in_err-first-clause-refused : goal.returns-in_err-first-clause-refused
 returns-in_err-first-clause-refused c =
     let r = c.from_residual-in_err-first in
     let p = err_from_is_err_and r.result r.ensures.1 in
-    let o = c.in_ok-behind in
-    rw (p.1, p.2) (λ ts k. placed c.in_err-first.field-0.0 _ _ _ _ c.args.text.now o.behind.now ts (for_first c.args.room c.args.at c.args.left c.args.text.now ts c.args.tokens.now o.behind.now (omega arith) k o.ensures.found) c.in_err-first.ensures.refused)
+    let o = c.in_ok-following in
+    rw (p.1, p.2) (λ ts k. placed c.in_err-first.field-0.0 _ _ _ _ c.args.text.now o.following.now ts (for_initialiser c.args.room c.args.at c.args.left c.args.text.now ts c.args.tokens.now o.following.now (omega arith) k o.ensures.found) c.in_err-first.ensures.refused)
 
 pub returns-in_err-condition-clause-refused : goal.returns-in_err-condition-clause-refused
 returns-in_err-condition-clause-refused c =
     let r = c.from_residual-in_err-condition in
     let p = err_from_is_err_and r.result r.ensures.1 in
-    let o = c.in_ok-behind in
+    let o = c.in_ok-following in
     let f = c.in_ok-first in
-    rw (p.1, p.2) (λ ts k. placed c.in_err-condition.field-0.0 _ _ _ _ c.args.text.now f.behind.now ts (for_condition c.args.room c.args.at c.args.left (left_of f.locals c.args.left.funclets) (first f.first) c.args.text.now ts c.args.tokens.now o.behind.now f.behind.now (omega arith) k o.ensures.found f.ensures.found f.ensures.low f.ensures.taken refl) c.in_err-condition.ensures.refused)
+    rw (p.1, p.2) (λ ts k. placed c.in_err-condition.field-0.0 _ _ _ _ c.args.text.now f.following.now ts (for_condition c.args.room c.args.at c.args.left (left_of f.locals c.args.left.funclets) (first f.first) c.args.text.now ts c.args.tokens.now o.following.now f.following.now (omega arith) k o.ensures.found f.ensures.found f.ensures.low f.ensures.taken refl) c.in_err-condition.ensures.refused)
 
 pub returns-in_err-next-clause-refused : goal.returns-in_err-next-clause-refused
 returns-in_err-next-clause-refused c =
     let r = c.from_residual-in_err-next in
     let p = err_from_is_err_and r.result r.ensures.1 in
-    let o = c.in_ok-behind in
+    let o = c.in_ok-following in
     let f = c.in_ok-first in
     let i = c.in_ok-condition in
-    rw (p.1, p.2) (λ ts k. placed c.in_err-next.field-0.0 _ _ _ _ c.args.text.now i.behind.now ts (for_next c.args.room c.args.at c.args.left (left_of f.locals c.args.left.funclets) (first f.first) (option_map expression i.condition) c.args.text.now ts c.args.tokens.now o.behind.now f.behind.now i.behind.now (omega arith) k o.ensures.found f.ensures.found f.ensures.low f.ensures.taken refl i.ensures.found i.ensures.low) c.in_err-next.ensures.refused)
+    rw (p.1, p.2) (λ ts k. placed c.in_err-next.field-0.0 _ _ _ _ c.args.text.now i.following.now ts (for_next c.args.room c.args.at c.args.left (left_of f.locals c.args.left.funclets) (first f.first) (option_map expression i.condition) c.args.text.now ts c.args.tokens.now o.following.now f.following.now i.following.now (omega arith) k o.ensures.found f.ensures.found f.ensures.low f.ensures.taken refl i.ensures.found i.ensures.low) c.in_err-next.ensures.refused)

@@ -1,6 +1,6 @@
 use Rattle.std.proofs.Common.{◌∙◌, refl, ap, inl, inr, arith}
 use Rattle.c_lex.specs.declared.token.Kind.TheVariants as kinds
-use Rattle.c_syntax.proofs.Blocks.{sign_begins}
+use Rattle.c_syntax.proofs.Blocks.{punctuator_begins}
 use Rattle.c_parse_stmt.proofs.Stating.{begins_statement, begins_empty, begins_evaluation, begins_is, stating_class}
 use Rattle.c_parse_stmt.proofs.Begins.{front_is}
 use Rattle.c_parse_stmt.proofs.parts.begins_statement.Goals as goal
@@ -20,8 +20,8 @@ returns-in-OpenBrace-clause-some c = λ h.
     let s = c.in-Some in
     elim (c.in-OpenBrace.is) [
       | inl e ↦
-          let p = begins_is c.args.tokens.now s.field-0-1.now s.token (kinds.Sign c.in-Sign.sign) s.ensures c.in-Sign.is in
-          let q = ap sign_begins e in
+          let p = begins_is c.args.tokens.now s.field-0-1.now s.token (kinds.Punctuator c.in-Punctuator.punctuator) s.ensures c.in-Punctuator.is in
+          let q = ap punctuator_begins e in
           begins_statement c.args.tokens.now (omega arith) (omega arith)
-      | inr e ↦ begins_empty c.args.tokens.now s.field-0-1.now s.token (front_is c.args.tokens.now s.field-0-1.now s.token s.ensures) (c.in-Sign.is ∙ ap kinds.Sign e)
+      | inr e ↦ begins_empty c.args.tokens.now s.field-0-1.now s.token (front_is c.args.tokens.now s.field-0-1.now s.token s.ensures) (c.in-Punctuator.is ∙ ap kinds.Punctuator e)
     ]

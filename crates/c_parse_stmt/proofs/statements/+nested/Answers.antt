@@ -4,7 +4,7 @@ use Rattle.c_syntax.specs.Statement.{statement, statements}
 use Rattle.c_syntax.proofs.Shorter.{item}
 use Rattle.c_parse_type.specs.Bases.{NoBase}
 use Rattle.c_parse_stmt.proofs.Guarding.{still, guards, try_body, last_block, guarded_found}
-use Rattle.c_parse_stmt.proofs.Held.{none_of, statement_item, block_fails, start, goes_on, ends, item_fails}
+use Rattle.c_parse_stmt.proofs.Held.{none_of, statement_item, block_fails, start, continues, ends, item_fails}
 use Rattle.c_parse_stmt.proofs.Inside.{opens_head, inner_fails, holds, otherwise_fails, otherwise_found, whole_found}
 use Rattle.c_parse_stmt.proofs.Sequences.{placed, placed_so, found_so}
 use Rattle.c_parse_stmt.proofs.statements.+nested.Goals as goal
@@ -25,7 +25,7 @@ guarded-returns-in_err-clause-clause-refused t c =
     let p = err_from_is_err_and r.result r.ensures.1 in
     let k = c.in_ok-body in
     let ss = statements (map statement k.body.items) in
-    rw (p.1, p.2) (λ ts h. c.in_err-clause.ensures.refused c.args.left ss ts (guards c.args.text.now c.args.room c.args.left k.left ss ts c.args.tokens.now k.behind.now c.requires.some h k.ensures.found k.ensures.taken))
+    rw (p.1, p.2) (λ ts h. c.in_err-clause.ensures.refused c.args.left ss ts (guards c.args.text.now c.args.room c.args.left k.left ss ts c.args.tokens.now k.following.now c.requires.some h k.ensures.found k.ensures.taken))
 
 pub guarded-returns-in_err-last-clause-refused : goal.guarded-returns-in_err-last-clause-refused
 guarded-returns-in_err-last-clause-refused t c =
@@ -34,7 +34,7 @@ guarded-returns-in_err-last-clause-refused t c =
     let k = c.in_ok-body in
     let ss = statements (map statement k.body.items) in
     let j = c.in_ok-clause in
-    rw (p.1, p.2) (λ ts h. placed c.in_err-last.field-0.0 _ _ _ _ c.args.text.now j.behind.now ts (last_block c.args.room c.args.left k.left j.left ss j.clause c.args.text.now ts k.behind.now j.behind.now (guards c.args.text.now c.args.room c.args.left k.left ss ts c.args.tokens.now k.behind.now c.requires.some h k.ensures.found k.ensures.taken) j.ensures.found) c.in_err-last.ensures.refused)
+    rw (p.1, p.2) (λ ts h. placed c.in_err-last.field-0.0 _ _ _ _ c.args.text.now j.following.now ts (last_block c.args.room c.args.left k.left j.left ss j.clause c.args.text.now ts k.following.now j.following.now (guards c.args.text.now c.args.room c.args.left k.left ss ts c.args.tokens.now k.following.now c.requires.some h k.ensures.found k.ensures.taken) j.ensures.found) c.in_err-last.ensures.refused)
 
 pub guarded-returns-clause-found : goal.guarded-returns-clause-found
 guarded-returns-clause-found t c =
@@ -42,7 +42,7 @@ guarded-returns-clause-found t c =
     let ss = statements (map statement k.body.items) in
     let j = c.in_ok-clause in
     let q = c.in_ok-last in
-    λ ts h. rw c.try_of.ensures (guarded_found c.args.room c.args.left k.left j.left q.left ss (statements (map statement q.last.items)) j.clause c.args.text.now ts k.behind.now j.behind.now q.rest.now (guards c.args.text.now c.args.room c.args.left k.left ss ts c.args.tokens.now k.behind.now c.requires.some h k.ensures.found k.ensures.taken) j.ensures.found q.ensures.found q.ensures.taken)
+    λ ts h. rw c.try_of.ensures (guarded_found c.args.room c.args.left k.left j.left q.left ss (statements (map statement q.last.items)) j.clause c.args.text.now ts k.following.now j.following.now q.rest.now (guards c.args.text.now c.args.room c.args.left k.left ss ts c.args.tokens.now k.following.now c.requires.some h k.ensures.found k.ensures.taken) j.ensures.found q.ensures.found q.ensures.taken)
 
 pub inside-returns-in_err-inner-clause-refused : goal.inside-returns-in_err-inner-clause-refused
 inside-returns-in_err-inner-clause-refused t c =
@@ -54,7 +54,7 @@ inside-returns-in_err-ending-clause-refused t c =
     let r = c.from_residual-in_err-ending in
     let p = err_from_is_err_and r.result r.ensures.1 in
     let k = c.in_ok-inner in
-    rw (p.1, p.2) (λ whole ts h. c.in_err-ending.ensures.refused c.args.room whole k.left ts (holds c.args.text.now c.args.room (c.args.room - 1) whole c.args.left k.left c.args.head (statement k.inner) ts c.args.tokens.now k.behind.now (omega arith) h k.ensures.found))
+    rw (p.1, p.2) (λ whole ts h. c.in_err-ending.ensures.refused c.args.room whole k.left ts (holds c.args.text.now c.args.room (c.args.room - 1) whole c.args.left k.left c.args.head (statement k.inner) ts c.args.tokens.now k.following.now (omega arith) h k.ensures.found))
 
 pub inside-returns-in_err-otherwise-in-Else-clause-refused : goal.inside-returns-in_err-otherwise-in-Else-clause-refused
 inside-returns-in_err-otherwise-in-Else-clause-refused t c =
@@ -63,13 +63,13 @@ inside-returns-in_err-otherwise-in-Else-clause-refused t c =
     let k = c.in_ok-inner in
     let i = c.in_ok-ending in
     let e = c.in-Else in
-    rw (p.1, p.2) (λ whole ts h. placed c.in_err-otherwise-in-Else.field-0.0 _ _ _ _ c.args.text.now i.behind.now ts (otherwise_fails c.args.text.now c.args.room (c.args.room - 1) e.at whole c.args.left k.left c.args.head e.condition e.then (statement k.inner) i.ending ts c.args.tokens.now k.behind.now i.behind.now (omega arith) h k.ensures.found i.ensures.found e.is) c.in_err-otherwise-in-Else.ensures.refused)
+    rw (p.1, p.2) (λ whole ts h. placed c.in_err-otherwise-in-Else.field-0.0 _ _ _ _ c.args.text.now i.following.now ts (otherwise_fails c.args.text.now c.args.room (c.args.room - 1) e.at whole c.args.left k.left c.args.head e.condition e.then (statement k.inner) i.ending ts c.args.tokens.now k.following.now i.following.now (omega arith) h k.ensures.found i.ensures.found e.is) c.in_err-otherwise-in-Else.ensures.refused)
 
 pub inside-returns-in-Whole-clause-found : goal.inside-returns-in-Whole-clause-found
 inside-returns-in-Whole-clause-found t c =
     let k = c.in_ok-inner in
     let i = c.in_ok-ending in
-    λ whole ts h. whole_found c.args.text.now c.args.room (c.args.room - 1) whole c.args.left k.left c.args.head c.in-Whole.made (statement k.inner) i.ending ts c.args.tokens.now k.behind.now i.behind.now (omega arith) h k.ensures.found i.ensures.found c.in-Whole.is
+    λ whole ts h. whole_found c.args.text.now c.args.room (c.args.room - 1) whole c.args.left k.left c.args.head c.in-Whole.made (statement k.inner) i.ending ts c.args.tokens.now k.following.now i.following.now (omega arith) h k.ensures.found i.ensures.found c.in-Whole.is
 
 pub inside-returns-in_ok-made-in-Else-clause-found : goal.inside-returns-in_ok-made-in-Else-clause-found
 inside-returns-in_ok-made-in-Else-clause-found t c =
@@ -77,7 +77,7 @@ inside-returns-in_ok-made-in-Else-clause-found t c =
     let i = c.in_ok-ending in
     let e = c.in-Else in
     let q = c.in_ok-otherwise-in-Else in
-    λ whole ts h. rw c.in_ok-made-in-Else.ensures.made (otherwise_found c.args.text.now c.args.room (c.args.room - 1) e.at whole c.args.left k.left q.left c.args.head e.condition e.then (statement k.inner) (statement q.otherwise) i.ending ts c.args.tokens.now k.behind.now i.behind.now q.rest.now (omega arith) h k.ensures.found i.ensures.found e.is q.ensures.found)
+    λ whole ts h. rw c.in_ok-made-in-Else.ensures.made (otherwise_found c.args.text.now c.args.room (c.args.room - 1) e.at whole c.args.left k.left q.left c.args.head e.condition e.then (statement k.inner) (statement q.otherwise) i.ending ts c.args.tokens.now k.following.now i.following.now q.rest.now (omega arith) h k.ensures.found i.ensures.found e.is q.ensures.found)
 
 pub item-returns-in-None-clause-refused : goal.item-returns-in-None-clause-refused
 item-returns-in-None-clause-refused t c =
@@ -101,7 +101,7 @@ pub items-loop-end-preserved : goal.items-loop-end-preserved
 items-loop-end-preserved t c =
     let s = c.loop-end in
     let k = c.in_ok-next-in-None in
-    rw c.in_ok-push-in-None.ensures.items (goes_on c.args.text.now c.args.room c.args.left s.left k.less c.args.tokens.now s.rest.now k.behind.now s.found.items k.next s.invariant k.ensures.found)
+    rw c.in_ok-push-in-None.ensures.items (continues c.args.text.now c.args.room c.args.left s.left k.less c.args.tokens.now s.rest.now k.following.now s.found.items k.next s.invariant k.ensures.found)
 
 pub items-returns-in-Some-clause-found : goal.items-returns-in-Some-clause-found
 items-returns-in-Some-clause-found t c =
@@ -118,9 +118,9 @@ statement-returns-in_err-found-in-Block-clause-refused t c =
     let r = c.from_residual-in_err-found-in-Block in
     let p = err_from_is_err_and r.result r.ensures.1 in
     let i = c.in_ok-opening in
-    rw (p.1, p.2) (placed c.in_err-found-in-Block.field-0.0 _ _ _ _ c.args.text.now i.behind.now c.args.tokens.now (block_fails c.args.text.now c.args.room c.args.left i.left i.opening c.args.tokens.now i.behind.now i.ensures.found c.in-Block.is) c.in_err-found-in-Block.ensures.refused)
+    rw (p.1, p.2) (placed c.in_err-found-in-Block.field-0.0 _ _ _ _ c.args.text.now i.following.now c.args.tokens.now (block_fails c.args.text.now c.args.room c.args.left i.left i.opening c.args.tokens.now i.following.now i.ensures.found c.in-Block.is) c.in_err-found-in-Block.ensures.refused)
 
 pub statement-returns-in-Head-clause-found : goal.statement-returns-in-Head-clause-found
 statement-returns-in-Head-clause-found t c =
     let i = c.in_ok-opening in
-    found_so c.inside.result _ _ (λ x h. h c.args.left c.args.tokens.now (opens_head c.args.text.now c.args.room c.args.left i.left i.opening c.in-Head.head c.args.tokens.now i.behind.now i.ensures.found c.in-Head.is)) c.inside.ensures.found
+    found_so c.inside.result _ _ (λ x h. h c.args.left c.args.tokens.now (opens_head c.args.text.now c.args.room c.args.left i.left i.opening c.in-Head.head c.args.tokens.now i.following.now i.ensures.found c.in-Head.is)) c.inside.ensures.found

@@ -2,9 +2,9 @@ use Rattle.std.proofs.Common.{arith}
 use Rattle.c_parse_type.proofs.Types.{one_star, star_shorter}
 use Rattle.c_parse_type.proofs.specifiers.stars.Goals as goal
 
-pub loop-behind-preserved : goal.loop-behind-preserved
-loop-behind-preserved c =
+pub loop-following-preserved : goal.loop-following-preserved
+loop-following-preserved c =
     let h = c.in-Some.ensures.found in
     let p = star_shorter _ _ h in
-    let q = c.loop-behind.invariant.0 in
-    (omega arith, one_star _ _ _ _ c.loop-behind.invariant.1 h)
+    let q = c.loop-following.invariant.0 in
+    (omega arith, one_star _ _ _ _ c.loop-following.invariant.1 h)

@@ -1,8 +1,6 @@
-use Rattle.std.proofs.Common.{rules, ap, ◌∙◌, subst, ℤ, w64, FitsSigned}
+use Rattle.std.proofs.Common.{rules, ap, ◌∙◌, subst, w64, FitsSigned}
 use Rattle.std.proofs.lemmas.Int.{to_z-of_z}
-use Rattle.host_model.specs.Loading.{start}
-use Rattle.host_model.specs.HostStep.{host}
-use Rattle.seh_host.specs.Hosts.{host_of}
+use Rattle.seh_host.specs.Running.{running_of, first_running}
 use Rattle.seh_host.specs.Turns.{end_within, taken_before}
 use Rattle.seh_io.specs.Streams.{Grew}
 use Rattle.seh_io.specs.Text.{text}
@@ -15,7 +13,7 @@ use Rattle.seh.proofs.exec.run_image.Goals as goal
 pub returns-in-Ok-run : goal.returns-in-Ok-run
 returns-in-Ok-run g c =
     let fits : FitsSigned w64 c.args.options.argument = search rules in
-    let same = shown_is c.args.options c.args.bytes.now c.in-Ok.image (host_of c.in-Ok-load.host) c.in-Ok.ensures.image (c.in-Ok-load.ensures.loaded ∙ ap (λ (z : ℤ). host (start c.in-Ok.image z)) (to_z-of_z w64 c.args.options.argument fits)) in
+    let same = shown_is c.args.options c.args.bytes.now c.in-Ok.image (running_of c.in-Ok-load.host) c.in-Ok.ensures.image (c.in-Ok-load.ensures.loaded ∙ ap (first_running c.in-Ok.image) (to_z-of_z w64 c.args.options.argument fits)) in
     let ends = c.in-Ok-run.ensures.end ∙ ap (λ (s : Shown). end_within c.args.options.turns s.end) same in (
       record { image = c.in-Ok.image; is = c.in-Ok.ensures.image; loads = c.in-Ok-load.ensures.accepted },
       ends,
@@ -27,7 +25,7 @@ returns-in-Ok-run g c =
 pub returns : goal.returns
 returns g c =
     let fits : FitsSigned w64 c.args.options.argument = search rules in
-    let same = shown_is c.args.options c.args.bytes.now c.in-Ok.image (host_of c.in-Ok-load.host) c.in-Ok.ensures.image (c.in-Ok-load.ensures.loaded ∙ ap (λ (z : ℤ). host (start c.in-Ok.image z)) (to_z-of_z w64 c.args.options.argument fits)) in (
+    let same = shown_is c.args.options c.args.bytes.now c.in-Ok.image (running_of c.in-Ok-load.host) c.in-Ok.ensures.image (c.in-Ok-load.ensures.loaded ∙ ap (first_running c.in-Ok.image) (to_z-of_z w64 c.args.options.argument fits)) in (
       record { image = c.in-Ok.image; is = c.in-Ok.ensures.image; loads = c.in-Ok-load.ensures.accepted },
       c.in-Err-run.ensures.cause,
       (

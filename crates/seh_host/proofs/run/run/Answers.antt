@@ -1,27 +1,50 @@
-use Rattle.std.proofs.Common.{◌++◌, ap, ◌∙◌, rules, []}
+use Rattle.std.proofs.Common.{◌++◌, ap, ◌∙◌, rules}
 use Rattle.seh_io.specs.Text.{lines, end_line}
-use Rattle.seh_io.proofs.Writers.{ran_whole, ran_part, same_grew, same_part}
-use Rattle.host_model.specs.Machine.{run}
-use Rattle.seh_host.specs.Hosts.{host_of}
+use Rattle.seh_io.proofs.Writers.{ran_whole, same_grew, same_part}
+use Rattle.x64_memory.specs.PageMaps.{memory_of}
+use Rattle.seh_host.specs.Running.{running_of, run_of}
 use Rattle.seh_host.specs.Turns.{end_within}
-use Rattle.seh_host.proofs.Runs.{within}
+use Rattle.seh_host.proofs.Runs.{within, end_left}
+use Rattle.seh_host.proofs.Writing.{events_of, end_answered, part_of_text, stopped_then, same_stopped}
 use Rattle.seh_host.proofs.run.run.Goals as goal
+
+pub returns-in-Ok-clause-end : goal.returns-in-Ok-clause-end
+returns-in-Ok-clause-end g c =
+    let host = c.write_turns.new.host in
+    c.unwrap_or-end.ensures
+    ∙ within c.args.turns host.end
+    ∙ ap (end_within c.args.turns) (end_left host.cpu (memory_of host.space) host.end
+    ∙ end_answered c.args.turns c.new-lines.result.trace (running_of c.args.host.now) (running_of host) _ _ _ _ c.write_turns.ensures.written c.end.ensures.wrote c.in-Ok.ensures.outcome)
 
 pub returns-in-Ok-clause-text : goal.returns-in-Ok-clause-text
 returns-in-Ok-clause-text g c =
-    let events = (run c.args.turns (host_of c.args.host.now) []).events in
+    let r = running_of c.args.host.now in
     same_grew (g.O.Sink.taken c.new-lines.result.sink.now) (g.O.Sink.taken c.args.sink.now) (g.O.Sink.taken c.end.new.self.sink.now) _ _ _
     (ap g.O.Sink.taken c.new-lines.ensures.sink)
-    (ap (λ b. lines b events ++ end_line c.unwrap_or-end.result) c.new-lines.ensures.trace)
+    (ap (λ es. lines c.new-lines.result.trace es ++ end_line c.unwrap_or-end.result) (events_of c.args.turns r)
+    ∙ ap (λ b. lines b (run_of c.args.turns r).events ++ end_line c.unwrap_or-end.result) c.new-lines.ensures.trace)
     (search rules)
-    (ran_whole _ _ _ _ _ c.make_turns.ensures.shown.wrote c.end.ensures.wrote c.in-Ok.ensures.outcome)
+    (ran_whole _ _ _ _ _ c.write_turns.ensures.written.wrote c.end.ensures.wrote c.in-Ok.ensures.outcome)
 
 pub returns-clause-part : goal.returns-clause-part
 returns-clause-part g c =
-    let shown = run c.args.turns (host_of c.args.host.now) [] in
+    let r = running_of c.args.host.now in
+    let host = c.write_turns.new.host in
+    let shown = run_of c.args.turns r in
     same_part (g.O.Sink.taken c.new-lines.result.sink.now) (g.O.Sink.taken c.args.sink.now) (g.O.Sink.taken c.end.new.self.sink.now) _ _ _ c.in-Err.fault.taken
     (ap g.O.Sink.taken c.new-lines.ensures.sink)
-    (ap (λ b. lines b shown.events ++ end_line c.unwrap_or-end.result) c.new-lines.ensures.trace
-    ∙ ap (λ e. lines c.args.trace shown.events ++ end_line e) (c.unwrap_or-end.ensures ∙ within c.args.turns c.make_turns.new.host.end ∙ ap (end_within c.args.turns) c.make_turns.ensures.end))
+    (ap (λ b. lines b shown.events ++ end_line (end_within c.args.turns shown.end)) c.new-lines.ensures.trace)
     (search rules)
-    (ran_part _ _ _ _ _ c.make_turns.ensures.shown.wrote c.end.ensures.wrote c.in-Err.fault.taken c.new-lines.ensures.taken (c.in-Err.ensures.outcome).1)
+    (part_of_text c.args.turns c.in-Err.fault.taken c.new-lines.result.trace r (running_of host) _ _ _ c.unwrap_or-end.result c.write_turns.ensures.written c.end.ensures.wrote
+    (c.unwrap_or-end.ensures ∙ within c.args.turns host.end ∙ ap (end_within c.args.turns) (end_left host.cpu (memory_of host.space) host.end))
+    c.new-lines.ensures.taken (c.in-Err.ensures.outcome).1)
+
+pub returns-clause-stopped : goal.returns-clause-stopped
+returns-clause-stopped g c =
+    let r = running_of c.args.host.now in
+    let host = c.write_turns.new.host in
+    same_stopped c.args.turns c.new-lines.result.trace c.args.trace r (running_of host) (g.O.Sink.taken c.new-lines.result.sink.now) (g.O.Sink.taken c.args.sink.now) (g.O.Sink.taken c.end.new.self.sink.now) _
+    (ap g.O.Sink.taken c.new-lines.ensures.sink)
+    c.new-lines.ensures.trace
+    (search rules)
+    (stopped_then c.args.turns c.new-lines.result.trace r (running_of host) _ _ _ (end_line c.unwrap_or-end.result) c.write_turns.ensures.written c.end.ensures.wrote)

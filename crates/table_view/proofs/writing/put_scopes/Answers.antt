@@ -1,15 +1,15 @@
 use Rattle.std.proofs.Common.{List, length, ap, ◌∙◌, arith}
-use Rattle.eh_tables.specs.declared.scope.ScopeRow.{ScopeRow}
+use Rattle.eh_tables.specs.declared.scope.ScopeRecord.{ScopeRecord}
 use Rattle.table_view.specs.View.{scope_line, scope_lines}
-use Rattle.table_view.proofs.Texts.{same, two, then_rest}
+use Rattle.table_view.proofs.Texts.{same, joined, then_rest}
 use Rattle.table_view.proofs.writing.put_scopes.Goals as goal
 
 pub loop-row-preserved : goal.loop-row-preserved
 loop-row-preserved g c = record {
   can = tt;
   ends = tt;
-  same = c.put-in-loop-row.ensures.same_reference ∙ c.put.ensures.same_reference ∙ c.loop-row.invariant.same;
+  same = c.put_joined.ensures.same_reference ∙ c.loop-row.invariant.same;
   room = let e = ap length c.in-Some.ensures.steps in omega (arith, c.loop-row.invariant.room);
-  rest = λ z p. c.loop-row.invariant.rest z (then_rest _ _ z (scope_line c.loop-row.number c.in-Some.row) _ _ (ap (λ (t : List ScopeRow). scope_lines c.loop-row.number t) c.in-Some.ensures.steps)
-      (two _ _ _ _ _ (same _ _ _ _ c.put.ensures.wrote (c.as_bytes.ensures.value ∙ c.scope_begin.ensures)) (same _ _ _ _ c.put-in-loop-row.ensures.wrote (c.as_bytes-in-loop-row.ensures.value ∙ c.kind_line.ensures))) p);
+  rest = λ z p. c.loop-row.invariant.rest z (then_rest _ _ z (scope_line c.loop-row.number c.in-Some.row) _ _ (ap (λ (t : List ScopeRecord). scope_lines c.loop-row.number t) c.in-Some.ensures.steps)
+      (same _ _ _ _ c.put_joined.ensures.wrote (joined _ _ _ _ c.scope_begin.ensures c.kind_line.ensures)) p);
 }

@@ -2,7 +2,7 @@ use Rattle.std.proofs.Common.{◌≡◌, ℕ, zero, suc, ◌+◌, ◌-◌, ◌%�
 use Rattle.x64_encode.specs.Chosen.{little}
 use Rattle.x64_encode.proofs.writing.put_number.Goals as goal
 
--- the lowest byte, then those of the rest
+-- the low byte, then those of the rest
 little_more : (n m v : ℕ) → n ≡ m + 1 → little n v ≡ (v % 256) ∷ little m (v / 256)
 little_more zero m v e = absurd (omega arith)
 little_more (suc n) m v e = let h : n ≡ m = omega arith in ap (λ k. (v % 256) ∷ little k (v / 256)) h

@@ -1,7 +1,7 @@
 use Rattle.std.proofs.Common.{◌≡◌, ◌-◌, ℕ, length, take, drop, Some, None, sym, ap, subst, ◌∙◌, arith, length-drop}
 use Rattle.x64_instr.specs.declared.instruction.Instr.{Instr}
 use Rattle.x64_instr.specs.Spelling as spec
-use Rattle.x64_instr.specs.Spelling.{Spells}
+use Rattle.x64_instr.specs.Spelling.{IsEncoding}
 use Rattle.x64_instr.proofs.Table.{found, only}
 use Rattle.x64_instr.proofs.Readers.{pair}
 use Rattle.x64_instr.proofs.decoding.decode.Goals as goal
@@ -16,7 +16,7 @@ pub returns-in-Some-clause-found : goal.returns-in-Some-clause-found
 returns-in-Some-clause-found c =
     let f = found c.args.bytes.now _ _ (sym c.in-Some.ensures) in
     let k : f.0 ≡ length c.args.bytes.now - length c.in-Some.rest.now = omega arith in
-    (omega arith, subst (λ k. Spells c.in-Some.instr (take k c.args.bytes.now)) k f.2)
+    (omega arith, subst (λ k. IsEncoding c.in-Some.instr (take k c.args.bytes.now)) k f.2)
 
 pub returns-in-Some-clause-only : goal.returns-in-Some-clause-only
 returns-in-Some-clause-only c = λ i k le s.

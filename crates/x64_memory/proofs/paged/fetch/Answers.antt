@@ -2,10 +2,10 @@ use Rattle.std.proofs.Common.{◌≡◌, ◌-◌, ◌+◌, ◌%◌, ◌^◌, ◌
 use Rattle.std.proofs.lemmas.Grind.{common_steps}
 use Rattle.std.proofs.lemmas.List.{append-nil, length-take-le}
 use Rattle.std.proofs.lemmas.Slice.{take-put_mid}
-use Rattle.flat_memory.specs.declared.mode.Mode.{Mode}
+use Rattle.flat_memory.specs.declared.protection.Protection.{Protection}
 use Rattle.flat_memory.specs.Memory.{executable}
 use Rattle.x64_memory.proofs.Steps.{executable-none, executable-zero, not_false, not_true}
-use Rattle.x64_memory.proofs.Stretches.{executable_stretch}
+use Rattle.x64_memory.proofs.RestsOfPages.{executable_stretch}
 use Rattle.x64_memory.proofs.paged.fetch.Goals as goal
 
 pub loop-filled-preserved : goal.loop-filled-preserved
@@ -14,11 +14,11 @@ loop-filled-preserved g c =
     let i = c.loop-filled.filled in
     let k = c.min-count.result in
     let into = c.loop-filled.into in
-    let bytes = c.stretch.result.1.now in
+    let bytes = c.rest_of_page.result.1.now in
     let left = 15 - (i + k) in
     let copied : c.copy_from_slice.new.self ≡ take k bytes = let a = c.copy_from_slice.ensures.after in grind (arith, common_steps, a) in
     let whole : k + left ≡ 15 - i = omega arith in
-    let rest = executable_stretch m c.loop-filled.here c.stretch.result.0 bytes k left c.stretch.ensures (omega arith) (not_false _ c.if-not-mode.false) (omega arith) in
+    let rest = executable_stretch m c.loop-filled.here c.rest_of_page.result.0 bytes k left c.rest_of_page.ensures (omega arith) (not_false _ c.if-not-protection.false) (omega arith) in
     let len : length c.copy_from_slice.new.self ≡ k = ap length copied ∙ length-take-le k bytes (omega arith) in
     let room : length into ≡ 15 = search rules in
     let kept : take (i + k) _ ≡ take i into ++ c.copy_from_slice.new.self = take-put_mid i (i + k - i) into c.copy_from_slice.new.self (i + k) (omega arith) (omega arith) in
@@ -35,9 +35,9 @@ returns-after-loop-filled-clause-bytes g c =
     let end = executable-zero m (15 - c.loop-filled.filled) c.loop-filled.here (omega arith) in
     sym (c.loop-filled.invariant.rest ∙ ap (λ (t : List ℕ). take c.loop-filled.filled c.loop-filled.into ++ t) end ∙ append-nil (take c.loop-filled.filled c.loop-filled.into))
 
-pub returns-then-not-mode-clause-bytes : goal.returns-then-not-mode-clause-bytes
-returns-then-not-mode-clause-bytes g c =
+pub returns-then-not-protection-clause-bytes : goal.returns-then-not-protection-clause-bytes
+returns-then-not-protection-clause-bytes g c =
     let m = g.P.Paged.memory c.args.space.now in
-    let no = ap (λ (o : Mode). o.execute) c.stretch.ensures.mode_is ∙ not_true _ c.if-not-mode.true in
+    let no = ap (λ (o : Protection). o.execute) c.rest_of_page.ensures.mode_is ∙ not_true _ c.if-not-protection.true in
     let end = executable-none m (15 - c.loop-filled.filled) c.loop-filled.here no in
     sym (c.loop-filled.invariant.rest ∙ ap (λ (t : List ℕ). take c.loop-filled.filled c.loop-filled.into ++ t) end ∙ append-nil (take c.loop-filled.filled c.loop-filled.into))

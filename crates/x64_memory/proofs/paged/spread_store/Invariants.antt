@@ -7,7 +7,7 @@ invariant-loop-i g l =
     let m = g.P.Paged.memory l.space in
     let old = g.P.Paged.memory l.fn.space in
     record {
-      modes : m.mode ≡ old.mode;
+      modes : m.protection ≡ old.protection;
       may : first_refused (may_write m) (l.count - l._i) l.here ≡ None;
       bytes : with_number m.byte (l.count - l._i) l.here l.rest ≡ with_number old.byte l.count l.at l.value;
     }

@@ -1,7 +1,7 @@
 use Rattle.seh_num.specs.Widths.{bytes_of}
 use Rattle.flat_memory.specs.Memory.{may_write}
 use Rattle.x64_memory.proofs.Steps.{may_first}
-use Rattle.x64_memory.proofs.Stretches.{may_store_is, positive}
+use Rattle.x64_memory.proofs.RestsOfPages.{may_store_is, positive}
 use Rattle.x64_memory.proofs.paged.store.Goals as goal
 
 pub put-requires-clause-may : goal.put-requires-clause-may

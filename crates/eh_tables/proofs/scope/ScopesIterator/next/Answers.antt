@@ -1,6 +1,6 @@
 use Rattle.std.proofs.Common.{length, sym, ap, ◌∙◌, ◌∷◌, arith}
-use Rattle.eh_tables.specs.declared.scope.ScopeRow.{ScopeRow}
-use Rattle.eh_tables.specs.Scopes.{rows_in}
+use Rattle.eh_tables.specs.declared.scope.ScopeRecord.{ScopeRecord}
+use Rattle.eh_tables.specs.Scopes.{scope_records_in}
 use Rattle.std.proofs.Common.{◌-◌, take, drop}
 use Rattle.eh_tables.proofs.Rows.{first_row}
 use Rattle.eh_tables.proofs.scope.ScopesIterator.next.Goals as goal
@@ -8,7 +8,7 @@ use Rattle.eh_tables.proofs.scope.ScopesIterator.next.Goals as goal
 pub returns-clause-steps : goal.returns-clause-steps
 returns-clause-steps c =
     let xs = c.self.inside.rows.now in
-    sym c.self.view_is ∙ first_row xs c.if-self-lt16.false ∙ ap (λ (r : ScopeRow). r ∷ rows_in (take (length xs - 16) (drop 16 xs))) (sym c.read-row.ensures)
+    sym c.self.view_is ∙ first_row xs c.if-self-lt16.false ∙ ap (λ (r : ScopeRecord). r ∷ scope_records_in (take (length xs - 16) (drop 16 xs))) (sym c.read-row.ensures)
 
 pub returns-clause-goes : goal.returns-clause-goes
 returns-clause-goes c =

@@ -1,0 +1,190 @@
+use Rattle.std.proofs.Common.{◌≡◌, ◌∙◌, ◌+◌, ◌<◌, ◌≤◌, [], get_or, length, map, ap, sym, refl, subst, arith, nat_eq, false, true}
+use Rattle.std.proofs.lemmas.Result.{on_ok_weaker, IfOk-weaker}
+use Rattle.std.specs.Prelude.{option_map}
+use Rattle.c_expressions.proofs.Kept.{kept_more}
+use Rattle.c_expressions.proofs.Ruled.{two, three, on_any, assign_is}
+use Rattle.c_expressions.proofs.Calling.{StillToPass, none_passed, pass_next_to, all_passed_at, called_for, fused, same_counts, call_refused, call_passed, faults_on}
+use Rattle.c_expressions.proofs.expressions.+expressions.Goals as goal
+use Rattle.c_expressions.specs.Calls.{passed_of, resolved_all}
+use Rattle.c_expressions.specs.Kept.{least_of, kept}
+use Rattle.c_expressions.specs.Rules.{assigning_to, assigning_at}
+use Rattle.c_expressions.specs.Views.{names_of, wanted}
+use denote.Hole.Carrier as Carrier
+use Rattle.c_checked.specs.Expression as nodes
+use Rattle.c_syntax.specs.declared.expression.Expr.TheFolds.{fold-roll-Expr}
+use Rattle.c_syntax.specs.declared.expression.Expr.TheOpen.{Index as Index_F, Binary as Binary_F, Conditional as Conditional_F, Comma as Comma_F, Assign as Assign_F}
+use Rattle.c_syntax.specs.declared.expression.Expr.TheVariants.{rolls-Index, rolls-Binary, rolls-Conditional, rolls-Comma, rolls-Assign}
+use Rattle.c_syntax.specs.declared.expression.Expr.TheViews.{roll-Expr}
+use Rattle.c_resolved.specs.declared.fault.Fault.TheVariants.{ArgCount, CodeOutsideFilter, AbnormalOutsideFinally}
+use Rattle.c_resolved.specs.Expressions.{resolve_expression, rule_2, rule_3, fault_at, faults_of, pass_all, unless, call_with, unsigned}
+use Rattle.c_resolved.specs.Operators.{int, element_of, binary_of, comma_of, conditional_of}
+use Rattle.c_syntax.specs.Expression as trees
+use Rattle.c_syntax.specs.Expression.{Expression, node, expression, start}
+
+pub resolve-returns-in_ok-i-in-Index-clause-faults : goal.resolve-returns-in_ok-i-in-Index-clause-faults
+unfolding roll-Expr Carrier.roll
+resolve-returns-in_ok-i-in-Index-clause-faults t c =
+    let x = c.in-Index in
+    let s = names_of c.args.context.now in
+    let q : expression c.args.e.now ≡ trees.Index (expression x.array.value) x.at (expression x.index.value) = ap expression c.in-Index.is ∙ ap expression (rolls-Index x.array x.at x.index) ∙ fold-roll-Expr Expression node (Index_F x.array x.at x.index) in
+    rw q
+    (on_ok_weaker c.element.result
+    (λ h. two (least_of c.args.worst.now) _ _ _ (resolve_expression s (expression x.array.value)) (resolve_expression s (expression x.index.value)) (rule_2 x.at element_of) _ _
+    (rw c.deref-in-Index.ensures at c.in_ok-a-in-Index.ensures.faults) (rw c.deref-in-Index-2.ensures at c.in_ok-i-in-Index.ensures.faults)
+    (rw c.deref-in-Index.ensures at c.in_ok-a-in-Index.ensures.found) (rw c.deref-in-Index-2.ensures at c.in_ok-i-in-Index.ensures.found) h) c.element.ensures.faults)
+
+pub resolve-returns-in_ok-b-in-Binary-clause-faults : goal.resolve-returns-in_ok-b-in-Binary-clause-faults
+unfolding roll-Expr Carrier.roll
+resolve-returns-in_ok-b-in-Binary-clause-faults t c =
+    let x = c.in-Binary in
+    let s = names_of c.args.context.now in
+    let q : expression c.args.e.now ≡ trees.Binary (expression x.left.value) x.at x.operator (expression x.right.value) = ap expression c.in-Binary.is ∙ ap expression (rolls-Binary x.left x.at x.operator x.right) ∙ fold-roll-Expr Expression node (Binary_F x.left x.at x.operator x.right) in
+    rw q
+    (on_ok_weaker c.binary.result
+    (λ h. two (least_of c.args.worst.now) _ _ _ (resolve_expression s (expression x.left.value)) (resolve_expression s (expression x.right.value)) (rule_2 x.at (binary_of x.operator)) _ _
+    (rw c.deref-in-Binary.ensures at c.in_ok-a-in-Binary.ensures.faults) (rw c.deref-in-Binary-2.ensures at c.in_ok-b-in-Binary.ensures.faults)
+    (rw c.deref-in-Binary.ensures at c.in_ok-a-in-Binary.ensures.found) (rw c.deref-in-Binary-2.ensures at c.in_ok-b-in-Binary.ensures.found) h) c.binary.ensures.faults)
+
+pub resolve-returns-in_ok-b-in-Conditional-clause-faults : goal.resolve-returns-in_ok-b-in-Conditional-clause-faults
+unfolding roll-Expr Carrier.roll
+resolve-returns-in_ok-b-in-Conditional-clause-faults t c =
+    let x = c.in-Conditional in
+    let s = names_of c.args.context.now in
+    let q : expression c.args.e.now ≡ trees.Conditional (expression x.condition.value) x.at (expression x.yes.value) (expression x.no.value) = ap expression c.in-Conditional.is ∙ ap expression (rolls-Conditional x.condition x.at x.yes x.no) ∙ fold-roll-Expr Expression node (Conditional_F x.condition x.at x.yes x.no) in
+    rw q
+    (on_ok_weaker c.conditional.result
+    (λ h. three (least_of c.args.worst.now) _ _ _ _ (resolve_expression s (expression x.condition.value)) (resolve_expression s (expression x.yes.value)) (resolve_expression s (expression x.no.value)) (rule_3 x.at conditional_of) _ _ _
+    (rw c.deref-in-Conditional.ensures at c.in_ok-c-in-Conditional.ensures.faults) (rw c.deref-in-Conditional-2.ensures at c.in_ok-a-in-Conditional.ensures.faults) (rw c.deref-in-Conditional-3.ensures at c.in_ok-b-in-Conditional.ensures.faults)
+    (rw c.deref-in-Conditional.ensures at c.in_ok-c-in-Conditional.ensures.found) (rw c.deref-in-Conditional-2.ensures at c.in_ok-a-in-Conditional.ensures.found) (rw c.deref-in-Conditional-3.ensures at c.in_ok-b-in-Conditional.ensures.found) h) c.conditional.ensures.faults)
+
+pub resolve-returns-in_ok-b-in-Comma-clause-faults : goal.resolve-returns-in_ok-b-in-Comma-clause-faults
+unfolding roll-Expr Carrier.roll
+resolve-returns-in_ok-b-in-Comma-clause-faults t c =
+    let x = c.in-Comma in
+    let s = names_of c.args.context.now in
+    let ja = resolve_expression s (expression x.left.value) in
+    let jb = resolve_expression s (expression x.right.value) in
+    let q : expression c.args.e.now ≡ trees.Comma (expression x.left.value) x.at (expression x.right.value) = ap expression c.in-Comma.is ∙ ap expression (rolls-Comma x.left x.at x.right) ∙ fold-roll-Expr Expression node (Comma_F x.left x.at x.right) in
+    rw q
+    (on_any c.comma.result
+    (two (least_of c.args.worst.now) _ _ _ ja jb (rule_2 x.at comma_of) _ _
+    (rw c.deref-in-Comma.ensures at c.in_ok-a-in-Comma.ensures.faults) (rw c.deref-in-Comma-2.ensures at c.in_ok-b-in-Comma.ensures.faults)
+    (rw c.deref-in-Comma.ensures at c.in_ok-a-in-Comma.ensures.found) (rw c.deref-in-Comma-2.ensures at c.in_ok-b-in-Comma.ensures.found)
+    (λ f fs h. h ∙ ap (kept f) (sym (c.comma.ensures.faults x.at fs)))))
+
+pub resolve_all-loop-e-preserved : goal.resolve_all-loop-e-preserved
+resolve_all-loop-e-preserved t c =
+    faults_on (names_of c.args.context.now) _ _ _ c.args.given.now c.loop-e.e-index c.e-item.result c.loop-e-test.true c.e-item.is c.in_ok-resolve.ensures.faults c.loop-e.invariant
+
+pub refuse_call-returns-clause-faults : goal.refuse_call-returns-clause-faults
+refuse_call-returns-clause-faults t c =
+    kept_more (least_of c.args.worst.now) _ _ (faults_of (resolved_all (names_of c.args.context.now) c.args.given.now)) (fault_at c.args.at c.args.fault) c.in_ok-resolve_all.ensures c.add.ensures
+
+pub call_with-returns-then-same_count-clause-found : goal.call_with-returns-then-same_count-clause-found
+call_with-returns-then-same_count-clause-found t c =
+    let s = names_of c.args.context.now in
+    let ws = map wanted c.args.wants.now in
+    let args = resolved_all s c.args.given.now in
+    let same : nat_eq (length ws) (length args) ≡ true = same_counts s c.args.wants.now c.args.given.now ∙ sym c.same_count.ensures ∙ c.if-same_count.true in
+    IfOk-weaker c.pass_all.result _ _
+    (λ r h. λ u make. called_for u make (λ v. passed_of v.items) r (pass_all ws args) h ∙ ap (λ j. j.found) (sym (call_passed c.args.at ws u make args same))) c.pass_all.ensures.found
+
+pub call_with-returns-then-same_count-clause-faults : goal.call_with-returns-then-same_count-clause-faults
+call_with-returns-then-same_count-clause-faults t c =
+    let s = names_of c.args.context.now in
+    let ws = map wanted c.args.wants.now in
+    let args = resolved_all s c.args.given.now in
+    let same : nat_eq (length ws) (length args) ≡ true = same_counts s c.args.wants.now c.args.given.now ∙ sym c.same_count.ensures ∙ c.if-same_count.true in
+    on_ok_weaker c.pass_all.result
+    (λ h. λ u make. h ∙ ap (λ j. kept (least_of c.args.worst.now) j.faults) (sym (call_passed c.args.at ws u make args same))) c.pass_all.ensures.faults
+
+pub call_with-returns-clause-found : goal.call_with-returns-clause-found
+call_with-returns-clause-found t c =
+    let s = names_of c.args.context.now in
+    let ws = map wanted c.args.wants.now in
+    let args = resolved_all s c.args.given.now in
+    let differ : nat_eq (length ws) (length args) ≡ false = same_counts s c.args.wants.now c.args.given.now ∙ sym c.same_count.ensures ∙ c.if-same_count.false in
+    λ u make. ap (λ j. j.found) (sym (call_refused c.args.at ws u make args differ))
+
+pub call_with-returns-clause-faults : goal.call_with-returns-clause-faults
+call_with-returns-clause-faults t c =
+    let s = names_of c.args.context.now in
+    let ws = map wanted c.args.wants.now in
+    let args = resolved_all s c.args.given.now in
+    let differ : nat_eq (length ws) (length args) ≡ false = same_counts s c.args.wants.now c.args.given.now ∙ sym c.same_count.ensures ∙ c.if-same_count.false in
+    λ u make. kept_more (least_of c.args.worst.now) _ _ (faults_of args) (fault_at c.args.at ArgCount) c.in_ok-resolve_all.ensures c.add.ensures
+    ∙ ap (λ j. kept (least_of c.args.worst.now) j.faults) (sym (call_refused c.args.at ws u make args differ))
+
+pub pass_all-loop-e-init : goal.pass_all-loop-e-init
+pass_all-loop-e-init t c =
+    let s = names_of c.args.context.now in (
+      refl,
+      subst (λ d. StillToPass s (least_of c.args.worst.now) (pass_all (map wanted c.args.wants.now) (resolved_all s c.args.given.now)) d (least_of c.args.worst.now) c.args.wants.now c.args.given.now) (sym c.no_arguments-passed.ensures)
+          (none_passed s (least_of c.args.worst.now) c.args.wants.now c.args.given.now),
+    )
+
+pub resolve-returns-in_ok-b-in-Assign-clause-faults : goal.resolve-returns-in_ok-b-in-Assign-clause-faults
+unfolding roll-Expr Carrier.roll
+resolve-returns-in_ok-b-in-Assign-clause-faults t c =
+    let x = c.in-Assign in
+    let s = names_of c.args.context.now in
+    let ja = resolve_expression s (expression x.target.value) in
+    let jb = resolve_expression s (expression x.value.value) in
+    let first = least_of c.args.worst.now in
+    let q : expression c.args.e.now ≡ trees.Assign (expression x.target.value) x.at x.operator (expression x.value.value) = ap expression c.in-Assign.is ∙ ap expression (rolls-Assign x.target x.at x.operator x.value) ∙ fold-roll-Expr Expression node (Assign_F x.target x.at x.operator x.value) in
+    rw q
+    (on_ok_weaker c.assign.result
+    (λ h. two first _ _ _ ja jb (assigning_to s (expression x.target.value) (assigning_at x.operator x.at (start (expression x.value.value))) x.operator) _ _
+    (rw c.deref-in-Assign.ensures at c.in_ok-a-in-Assign.ensures.faults) (rw c.deref-in-Assign-2.ensures at c.in_ok-b-in-Assign.ensures.faults)
+    (rw c.deref-in-Assign.ensures at c.in_ok-a-in-Assign.ensures.found) (rw c.deref-in-Assign-2.ensures at c.in_ok-b-in-Assign.ensures.found) h
+    ∙ ap (λ j. kept first j.faults) (assign_is s (expression x.target.value) (expression x.value.value) x.at x.operator ja jb))
+    (rw (c.deref-in-Assign-4.ensures, c.place_of-place.ensures, c.deref-in-Assign-3.ensures) at c.assign.ensures.faults))
+
+pub code_function-returns-then-context-clause-found : goal.code_function-returns-then-context-clause-found
+code_function-returns-then-context-clause-found t c =
+    let args = resolved_all (names_of c.args.context.now) c.args.given.now in
+    c.code_call.ensures ∙ c.in_ok-passed.ensures.found unsigned (λ es. nodes.ExceptionCode)
+    ∙ sym (ap (λ b. (unless b c.args.at CodeOutsideFilter (faults_of args) (call_with c.args.at [] unsigned (λ es. nodes.ExceptionCode) args)).found) c.if-context.true)
+
+pub code_function-returns-then-context-clause-faults : goal.code_function-returns-then-context-clause-faults
+code_function-returns-then-context-clause-faults t c =
+    let args = resolved_all (names_of c.args.context.now) c.args.given.now in
+    c.in_ok-passed.ensures.faults unsigned (λ es. nodes.ExceptionCode)
+    ∙ sym (ap (λ b. kept (least_of c.args.worst.now) (unless b c.args.at CodeOutsideFilter (faults_of args) (call_with c.args.at [] unsigned (λ es. nodes.ExceptionCode) args)).faults) c.if-context.true)
+
+pub abnormal_function-returns-then-context-clause-found : goal.abnormal_function-returns-then-context-clause-found
+abnormal_function-returns-then-context-clause-found t c =
+    let args = resolved_all (names_of c.args.context.now) c.args.given.now in
+    c.abnormal_call.ensures ∙ c.in_ok-passed.ensures.found int (λ es. nodes.AbnormalTermination)
+    ∙ sym (ap (λ b. (unless b c.args.at AbnormalOutsideFinally (faults_of args) (call_with c.args.at [] int (λ es. nodes.AbnormalTermination) args)).found) c.if-context.true)
+
+pub abnormal_function-returns-then-context-clause-faults : goal.abnormal_function-returns-then-context-clause-faults
+abnormal_function-returns-then-context-clause-faults t c =
+    let args = resolved_all (names_of c.args.context.now) c.args.given.now in
+    c.in_ok-passed.ensures.faults int (λ es. nodes.AbnormalTermination)
+    ∙ sym (ap (λ b. kept (least_of c.args.worst.now) (unless b c.args.at AbnormalOutsideFinally (faults_of args) (call_with c.args.at [] int (λ es. nodes.AbnormalTermination) args)).faults) c.if-context.true)
+
+pub pass_all-loop-e-preserved : goal.pass_all-loop-e-preserved
+pass_all-loop-e-preserved t c =
+    let s = names_of c.args.context.now in
+    let i = c.loop-e.e-index in
+    let ws = c.args.wants.now in
+    let es = c.args.given.now in
+    let x = c.want_at-want.result in
+    let lw : i < length ws = omega (arith, c.loop-e-test.true, c.requires) in (
+      ap (λ k. k + 1) c.loop-e.invariant.0,
+      pass_next_to s (least_of c.args.worst.now) (pass_all (map wanted ws) (resolved_all s es)) _ _ _ _ _ ws es i x c.e-item.result _ _ c.in_ok-passed.ensures lw (c.want_at-want.ensures ∙ ap (λ k. get_or ws k x) c.loop-e.invariant.0) c.loop-e-test.true c.e-item.is
+          c.in_ok-found.ensures.found c.in_ok-found.ensures.faults c.pass-one.ensures.passed c.pass-one.ensures.faults c.loop-e.invariant.1,
+    )
+
+pub pass_all-returns-clause-found : goal.pass_all-returns-clause-found
+pass_all-returns-clause-found t c =
+    let s = names_of c.args.context.now in
+    let i = c.loop-e.e-index in
+    let ws = c.args.wants.now in
+    let es = c.args.given.now in
+    let past : length es ≤ i = omega (arith, c.loop-e-test.false) in
+    let past' : length ws ≤ i = omega (arith, past, c.requires) in
+    let done = option_map (λ v. map nodes.expression v.items) c.loop-e.passed in
+    fused nodes.arguments (λ v. map nodes.expression v.items) c.loop-e.passed
+    ∙ (all_passed_at s (least_of c.args.worst.now) (pass_all (map wanted ws) (resolved_all s es)) done (least_of c.loop-e.worst) ws es i past' past c.loop-e.invariant.1).0

@@ -1,0 +1,5 @@
+pub mod Kept
+pub mod Rules
+pub mod Views
+pub mod Calls
+pub mod Values

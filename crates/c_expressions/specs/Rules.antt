@@ -1,0 +1,46 @@
+-- What the code of a rule on types gives, and what it keeps, after operands with these faults.
+use Rattle.std.specs.Prelude.{◌≡◌, ℕ, List, Option, Some, None, option_map}
+use Rattle.c_expressions.specs.declared.least.Least.{Least}
+use Rattle.c_expressions.specs.Kept.{least_of, kept}
+use Rattle.c_resolved.specs.Expressions.{FaultAt, Names, ResolvedExpression, unless, rule_1, rule_2, is_lvalue, operand_is_lvalue}
+use Rattle.c_resolved.specs.Operators.{TypedNode, assigned, compound_assigned, incremented, unary_of}
+use Rattle.c_syntax.specs.declared.operator.Arithmetic.{Arithmetic}
+use Rattle.c_syntax.specs.declared.operator.Increment.{Increment}
+use Rattle.c_syntax.specs.declared.operator.UnaryOperator.{UnaryOperator}
+use Rattle.c_syntax.specs.Expression.{Expression, start}
+use Rattle.c_checked.specs.declared.expression.Fixity.{Fixity}
+use Rattle.c_resolved.specs.declared.fault.Fault.TheVariants.{NotLvalue}
+use Rattle.c_types.specs.declared.typed.TypedNode.{TypedNode as TypedNode'}
+use Rattle.c_types.specs.Views.{typed_node}
+
+-- The code gives what the rule gives, whatever the operands' faults are.
+abbrev pub Finds : Option TypedNode' → (List FaultAt → ResolvedExpression) → Type 0
+Finds r rule = (fs : List FaultAt) → option_map typed_node r ≡ (rule fs).found
+
+-- Where the operands' faults are kept, it keeps the rule's too.
+abbrev pub Adds : Least → Least → (List FaultAt → ResolvedExpression) → Type 0
+Adds before after rule = (first : Option FaultAt) (fs : List FaultAt) → least_of before ≡ kept first fs → least_of after ≡ kept first (rule fs).faults
+
+-- `=`, or with an operator its compound form
+abbrev pub assigning_rule : Option Arithmetic → TypedNode → TypedNode → Option TypedNode
+assigning_rule None = assigned
+assigning_rule (Some o) = compound_assigned o
+
+abbrev pub assigning : Option Arithmetic → ℕ → List FaultAt → Option TypedNode → Option TypedNode → ResolvedExpression
+assigning o at fs a b = rule_2 at (assigning_rule o) fs a b
+
+-- the place of its fault: the value's for `=`
+abbrev pub assigning_at : Option Arithmetic → ℕ → ℕ → ℕ
+assigning_at None at value = value
+assigning_at (Some o) at value = at
+
+-- ---- operators whose operand has to be an lvalue, after operands with these faults
+
+abbrev pub stepping : Names → ℕ → Fixity → Increment → Expression → List FaultAt → Option TypedNode → ResolvedExpression
+stepping s at m o e fs a = unless (is_lvalue s e) (start e) NotLvalue fs (rule_1 at (incremented m o) fs a)
+
+abbrev pub preceding : Names → ℕ → UnaryOperator → Expression → List FaultAt → Option TypedNode → ResolvedExpression
+preceding s at o e fs a = unless (operand_is_lvalue o s e) (start e) NotLvalue fs (rule_1 at (unary_of o) fs a)
+
+abbrev pub assigning_to : Names → Expression → ℕ → Option Arithmetic → List FaultAt → Option TypedNode → Option TypedNode → ResolvedExpression
+assigning_to s target at o fs a b = unless (is_lvalue s target) (start target) NotLvalue fs (assigning o at fs a b)

@@ -1,0 +1,189 @@
+//! Names, and what they mean.
+
+ghost use Rattle.std.specs.Prelude.{◌≡◌, ◌++◌, None, OnOk, option_map, IfSome};
+ghost use Rattle.c_resolved.specs.Scopes.{spelled, same_bytes, meaning_in, built_ins};
+ghost use Rattle.c_resolved.specs.Statements.{is_taken, with_name};
+ghost use Rattle.c_expressions.specs.Views.{entity, block_of, scopes_of, built_in_functions, built_in_constants};
+
+use c_operations::built_in::BuiltIn;
+use c_syntax::declaration::Parameter;
+use c_syntax::expression::{CType, Identifier};
+use indexmap::IndexMap;
+use std::alloc::AllocError;
+
+/// What a name means.
+#[derive(Clone, Copy, Drop)]
+pub enum Entity<'a> {
+    LocalVariable {
+        number: u64,
+        of: CType,
+    },
+    GlobalVariable {
+        address: u64,
+        of: CType,
+    },
+    /// `of` is the type of its elements.
+    GlobalArray {
+        address: u64,
+        of: CType,
+    },
+    UserFunction {
+        number: u64,
+        returns: CType,
+        parameters: &'a [Parameter],
+    },
+    BuiltInFunction(BuiltIn),
+    /// `GetExceptionCode`
+    CodeFunction,
+    /// `AbnormalTermination`
+    AbnormalFunction,
+    /// One of the constants of filters, as a number of 32 bits.
+    BuiltInConstant(u64),
+}
+
+/// The blocks around a place, innermost first, and the file last. Each has its names in the order of
+/// their declarations.
+#[derive(Clone, Copy)]
+pub enum Scopes<'t, 's> {
+    File(&'s IndexMap<&'t [u8], Entity<'t>>),
+    Inside(&'s IndexMap<&'t [u8], Entity<'t>>, &'s Scopes<'t, 's>),
+}
+
+/// The bytes of an identifier.
+pub fn spelled<'a>(text: &'a [u8], name: Identifier) -> &'a [u8]
+    ensures { result.now ≡ spelled text.now name }
+{
+    let start = name.start as usize;
+    let end = name.end as usize;
+    if end <= start || text.len() <= start {
+        return &[];
+    }
+    if text.len() < end {
+        &text[start..]
+    } else {
+        &text[start..end]
+    }
+}
+
+/// Whether a name is a word.
+#[tactic(auto, using(crate::proofs::Names::same_flips))]
+fn same(name: &[u8], word: &[u8]) -> bool
+    ensures { result ≡ same_bytes word.now name.now }
+{
+    name == word
+}
+
+/// The built-in function of a name.
+fn built_in_function(name: &[u8]) -> Option<Entity<'static>>
+    ensures { option_map entity result ≡ meaning_in built_in_functions name.now }
+{
+    if same(name, b"put") {
+        return Some(Entity::BuiltInFunction(BuiltIn::Put));
+    }
+    if same(name, b"protect") {
+        return Some(Entity::BuiltInFunction(BuiltIn::Protect));
+    }
+    if same(name, b"RaiseException") {
+        return Some(Entity::BuiltInFunction(BuiltIn::RaiseException));
+    }
+    if same(name, b"GetExceptionCode") {
+        return Some(Entity::CodeFunction);
+    }
+    if same(name, b"AbnormalTermination") {
+        return Some(Entity::AbnormalFunction);
+    }
+    None
+}
+
+/// The built-in constant of a name.
+fn built_in_constant(name: &[u8]) -> Option<Entity<'static>>
+    ensures { option_map entity result ≡ meaning_in built_in_constants name.now }
+{
+    if same(name, b"EXCEPTION_EXECUTE_HANDLER") {
+        return Some(Entity::BuiltInConstant(1));
+    }
+    if same(name, b"EXCEPTION_CONTINUE_SEARCH") {
+        return Some(Entity::BuiltInConstant(0));
+    }
+    if same(name, b"EXCEPTION_CONTINUE_EXECUTION") {
+        return Some(Entity::BuiltInConstant(0xFFFF_FFFF));
+    }
+    None
+}
+
+/// What a name is built in for.
+#[tactic(auto, using(crate::proofs::Names::built_in_is))]
+pub fn built_in(name: &[u8]) -> Option<Entity<'static>>
+    ensures { option_map entity result ≡ meaning_in built_ins name.now }
+{
+    match built_in_function(name) {
+        Some(found) => Some(found),
+        None => built_in_constant(name),
+    }
+}
+
+/// What a name that isn't built in means in a block.
+fn in_block<'a>(name: &[u8], block: &IndexMap<&'a [u8], Entity<'a>>) -> Option<Entity<'a>>
+    requires { meaning_in built_ins name.now ≡ None }
+    ensures { option_map entity result ≡ meaning_in (block_of block.now.entries) name.now }
+{
+    match block.get(name) {
+        Some(found) => Some(*found),
+        None => None,
+    }
+}
+
+/// What a name that isn't built in means, the innermost block first.
+#[tactic(auto, using(crate::proofs::Names::meaning_append))]
+pub fn declared<'t>(name: &[u8], scopes: &Scopes<'t, '_>) -> Option<Entity<'t>>
+    requires { meaning_in built_ins name.now ≡ None }
+    ensures { option_map entity result ≡ meaning_in (scopes_of scopes.now) name.now }
+{
+    match scopes {
+        Scopes::File(names) => in_block(name, names),
+        Scopes::Inside(names, outer) => match in_block(name, names) {
+            Some(found) => Some(found),
+            None => declared(name, outer),
+        },
+    }
+}
+
+/// What a name means: what it is built in for, else what it is declared as.
+#[tactic(auto, using(crate::proofs::Names::meaning_append))]
+pub fn meaning<'t>(name: &[u8], scopes: &Scopes<'t, '_>) -> Option<Entity<'t>>
+    ensures { option_map entity result ≡ meaning_in (built_ins ++ scopes_of scopes.now) name.now }
+{
+    match built_in(name) {
+        Some(found) => Some(found),
+        None => declared(name, scopes),
+    }
+}
+
+/// Whether a name is built in, or the block has it already.
+#[tactic(auto, using(crate::proofs::Names::meaning_append))]
+pub fn is_taken(name: &[u8], block: &IndexMap<&[u8], Entity<'_>>) -> bool
+    ensures { result ≡ is_taken (block_of block.now.entries) name.now }
+{
+    match built_in(name) {
+        Some(_) => true,
+        None => match in_block(name, block) {
+            Some(_) => true,
+            None => false,
+        },
+    }
+}
+
+/// A declaration in a block; the first one of a name counts.
+pub fn declare<'a>(
+    name: &'a [u8],
+    meaning: Entity<'a>,
+    block: &mut IndexMap<&'a [u8], Entity<'a>>,
+) -> Result<(), AllocError>
+    ensures { OnOk result (block_of block.new.entries ≡ with_name (block_of block.old.entries) name.now (entity meaning.entry)) }
+{
+    if is_taken(name, block) {
+        return Ok(());
+    }
+    block.insert(name, meaning)?;
+    Ok(())
+}

@@ -1,0 +1,72 @@
+-- Punctuators (C11, 6.4.6).
+use Rattle.std.specs.Prelude.{ℕ, Bool, true, false, ◌&&◌, ◌==◌, List, [], ◌∷◌, Option, find, codes}
+use Rattle.c_lex.specs.declared.punctuator.Punctuator.{Punctuator}
+use Rattle.c_lex.specs.declared.punctuator.Punctuator.TheVariants.{OpenParenthesis, CloseParenthesis, OpenBracket, CloseBracket, OpenBrace, CloseBrace, Semicolon, Comma, Question, Colon, Arrow, Assign, PlusAssign, MinusAssign, StarAssign, SlashAssign, PercentAssign, AmpersandAssign, BarAssign, CaretAssign, ShiftLeftAssign, ShiftRightAssign, BarBar, AmpersandAmpersand, Bar, Caret, Ampersand, Equal, NotEqual, Less, Greater, LessEqual, GreaterEqual, ShiftLeft, ShiftRight, Plus, Minus, Star, Slash, Percent, Exclamation, Tilde, PlusPlus, MinusMinus}
+
+abbrev pub spelling : Punctuator → List ℕ
+spelling OpenParenthesis = codes "("
+spelling CloseParenthesis = codes ")"
+spelling OpenBracket = codes "["
+spelling CloseBracket = codes "]"
+spelling OpenBrace = codes "{"
+spelling CloseBrace = codes "}"
+spelling Semicolon = codes ";"
+spelling Comma = codes ","
+spelling Question = codes "?"
+spelling Colon = codes ":"
+spelling Arrow = codes "->"
+spelling Assign = codes "="
+spelling PlusAssign = codes "+="
+spelling MinusAssign = codes "-="
+spelling StarAssign = codes "*="
+spelling SlashAssign = codes "/="
+spelling PercentAssign = codes "%="
+spelling AmpersandAssign = codes "&="
+spelling BarAssign = codes "|="
+spelling CaretAssign = codes "^="
+spelling ShiftLeftAssign = codes "<<="
+spelling ShiftRightAssign = codes ">>="
+spelling BarBar = codes "||"
+spelling AmpersandAmpersand = codes "&&"
+spelling Bar = codes "|"
+spelling Caret = codes "^"
+spelling Ampersand = codes "&"
+spelling Equal = codes "=="
+spelling NotEqual = codes "!="
+spelling Less = codes "<"
+spelling Greater = codes ">"
+spelling LessEqual = codes "<="
+spelling GreaterEqual = codes ">="
+spelling ShiftLeft = codes "<<"
+spelling ShiftRight = codes ">>"
+spelling Plus = codes "+"
+spelling Minus = codes "-"
+spelling Star = codes "*"
+spelling Slash = codes "/"
+spelling Percent = codes "%"
+spelling Exclamation = codes "!"
+spelling Tilde = codes "~"
+spelling PlusPlus = codes "++"
+spelling MinusMinus = codes "--"
+
+abbrev pub punctuators : List Punctuator
+punctuators =
+    OpenParenthesis ∷ CloseParenthesis ∷ OpenBracket ∷ CloseBracket ∷ OpenBrace ∷ CloseBrace ∷
+    Semicolon ∷ Comma ∷ Question ∷ Colon ∷ Arrow ∷ Assign ∷
+    PlusAssign ∷ MinusAssign ∷ StarAssign ∷ SlashAssign ∷ PercentAssign ∷ AmpersandAssign ∷
+    BarAssign ∷ CaretAssign ∷ ShiftLeftAssign ∷ ShiftRightAssign ∷ BarBar ∷ AmpersandAmpersand ∷
+    Bar ∷ Caret ∷ Ampersand ∷ Equal ∷ NotEqual ∷ Less ∷
+    Greater ∷ LessEqual ∷ GreaterEqual ∷ ShiftLeft ∷ ShiftRight ∷ Plus ∷
+    Minus ∷ Star ∷ Slash ∷ Percent ∷ Exclamation ∷ Tilde ∷
+    PlusPlus ∷ MinusMinus ∷ []
+
+-- the bytes are the same, the last ones first
+abbrev pub is_same : List ℕ → List ℕ → Bool
+is_same [] [] = true
+is_same [] (b ∷ bs) = false
+is_same (a ∷ as_) [] = false
+is_same (a ∷ as_) (b ∷ bs) = is_same as_ bs && a == b
+
+-- the punctuator that is spelled so
+unfoldable pub punctuator_of : List ℕ → Option Punctuator
+punctuator_of word = find (λ s. is_same word (spelling s)) punctuators

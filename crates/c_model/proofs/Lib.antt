@@ -1,0 +1,7 @@
+pub mod Relations
+pub mod RelatedMeanings
+pub mod RemainingSteps
+pub mod MoreSteps
+pub mod Rows
+pub mod MoreRows
+pub mod SoundRows

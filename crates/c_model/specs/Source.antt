@@ -1,0 +1,35 @@
+-- The memory that a program begins with, and the addresses of which the language says nothing.
+use Rattle.std.specs.Prelude.{ℕ, ◌+◌, ◌-◌, ◌*◌, ◌/◌, Bool, false, not, ◌&&◌, ◌||◌, nat_le, nat_lt, if◌then◌else◌, List, length, get_or}
+use Rattle.host_layout.specs.declared.range.TheConstants.{GUARD_START, STACK_END, IMAGE_BASE, IMAGE_RANGE_END, PAGE}
+use Rattle.flat_memory.specs.declared.protection.Protection.{Protection}
+use Rattle.flat_memory.specs.declared.protection.Rights.{Rights}
+use Rattle.flat_memory.specs.declared.protection.Rights.TheVariants.{Nothing, ReadWrite}
+use Rattle.flat_memory.specs.Memory.{Memory}
+
+abbrev pub is_between : ℕ → ℕ → ℕ → Bool
+is_between first end a = nat_le first a && nat_lt a end
+
+abbrev pub first_data : ℕ
+first_data = IMAGE_BASE + PAGE
+
+-- the end of the pages of the globals, of which there is one at least
+abbrev pub data_end : List ℕ → ℕ
+data_end globals = first_data + 4096 * ((length globals - 1) / 4096 + 1)
+
+abbrev pub is_data : List ℕ → ℕ → Bool
+is_data globals a = is_between first_data (data_end globals) a
+
+-- the stack with its guard, and the image's range without its data
+abbrev pub is_reserved : List ℕ → ℕ → Bool
+is_reserved globals a = is_between GUARD_START STACK_END a || (is_between IMAGE_BASE IMAGE_RANGE_END a && not (is_data globals a))
+
+abbrev pub plain_mode : Rights → Protection
+plain_mode rights = record { rights = rights; execute = false }
+
+-- the globals' pages may be read and written, and nothing else; bytes that no global has are 0
+abbrev pub first_memory : List ℕ → Memory
+first_memory globals =
+    record {
+      protection = λ a. if is_data globals a then plain_mode ReadWrite else plain_mode Nothing;
+      byte = λ a. if nat_lt a first_data then 0 else get_or globals (a - first_data) 0;
+    }

@@ -1,0 +1,328 @@
+-- ExternalDeclaration declarations are read by their heads.
+use Rattle.std.proofs.Common.{◌≡◌, ◌≤◌, ◌<◌, ◌+◌, ◌⊎◌, ℕ, List, [], ◌∷◌, ◌++◌, length, length-append, refl, sym, ap, ◌∙◌, subst, arith, inl, inr, Some, None}
+use Rattle.std.proofs.lemmas.List.{append_cancel_right}
+use Rattle.c_lex.specs.declared.punctuator.Punctuator.TheVariants as punctuators
+use Rattle.c_lex.specs.declared.token.Kind.TheVariants as kinds
+use Rattle.c_lex.specs.declared.token.Token.{Token}
+use Rattle.c_syntax.specs.declared.declaration.Parameter.{Parameter}
+use Rattle.c_syntax.specs.declared.expression.Base.{Base}
+use Rattle.c_syntax.specs.declared.expression.Base.TheVariants as bases
+use Rattle.c_syntax.specs.declared.expression.CType.{CType}
+use Rattle.c_syntax.specs.declared.expression.Identifier.{Identifier}
+use Rattle.c_syntax.specs.Faults.{SameFirst, place, Failed, Wraps}
+use Rattle.c_syntax.specs.Limits.{end_of_globals, funclets_of_all, FunctionWithin}
+use Rattle.c_syntax.specs.Program.{Global, ExternalDeclaration, Globals, Function}
+use Rattle.c_syntax.specs.Programs.{AreMoreGlobals, AreGlobals, AreMoreParameters, AreParameters, IsExternalDeclaration}
+use Rattle.c_syntax.specs.Statement.{Statements, Empty}
+use Rattle.c_syntax.specs.Tokens.{token, IsIdentifier, HasPunctuator}
+use Rattle.c_syntax.specs.Types.{IsBase, AreStars}
+use Rattle.c_syntax.proofs.Failing.{append_append, alike_same, alike_inner, first_behind}
+use Rattle.c_syntax.proofs.Firsts as firsts
+use Rattle.c_syntax.proofs.Moves as moves
+use Rattle.c_syntax.proofs.Fronts.{has_same, name_same, base_once, base_front, stars_once, stars_front, NoType}
+use Rattle.c_syntax.proofs.Blocks.{name_star, name_type}
+use Rattle.c_syntax.proofs.Files.{globals_type, apart}
+use Rattle.c_syntax.proofs.Shorter.{base, stars, items}
+use Rattle.c_parse_type.specs.Bases.{NoBase, NoStar, EndsBase}
+use Rattle.c_parse.specs.declared.counts.Counts.{Counts}
+use Rattle.c_parse.specs.Counts.{Taken, NoExternalDeclaration, HasExternalDeclaration}
+use Rattle.c_parse.specs.Parts.{NoGlobals, HasGlobals, IsTail, NoTail, HasTail, IsHead, NoHead, HasHead}
+use Rattle.c_parse.proofs.Refusing.{missing, punctuator, named, name, has_it, following, Lacks, NoIdentifier}
+use Rattle.c_parse.proofs.Placing.{no_elements}
+use Rattle.c_parse.proofs.Declarators.{global_shorter, array, is_array}
+use Rattle.c_parse.proofs.Parameters.{word}
+use Rattle.c_parse.proofs.Bodies.{empty}
+
+-- ---- heads
+
+declarators_type : (n : ℕ) (called : Identifier) (ts a end : List Token) → AreStars n ts a → IsIdentifier called a end → NoType ts
+declarators_type n called ts a end s m = stars_front n ts a (name_type called a end m) s
+
+pub no_base : (text : List ℕ) (ts : List Token) → NoBase ts → Failed 0 (place text ts) NoHead HasHead text ts
+no_base text ts none =
+    missing NoHead HasHead text ts [] ts refl
+    (λ text' other s b n m d end h. firsts.no_base ts other s none b d h.1)
+    (λ text'. record {
+      more = word ∷ name ∷ [];
+      has = record { base = bases.Int; pointers = 0; name = named; is = λ other. (name ∷ other, (name ∷ other, inl (name ∷ other, (0, (0, refl)), refl), refl, refl)) };
+    })
+
+pub no_name : (text : List ℕ) (b : Base) (k : ℕ) (ts d a : List Token) → IsBase b ts d → EndsBase b ts d → AreStars k d a → NoStar a → NoIdentifier a → Failed 0 (place text a) NoHead HasHead text ts
+no_name text b k ts d a is far s z none =
+    let mb = moves.base b text ts d is in
+    let e : mb.front ≡ far.front = append_cancel_right mb.front far.front d (sym mb.split ∙ far.split) in
+    let ms = moves.stars k text d a s in
+    let again : (other : List Token) → AreStars k (ms.front ++ other) other = λ other. ms.again text other (alike_same text d) in
+    missing NoHead HasHead text ts (far.front ++ ms.front) a (far.split ∙ ap (λ (x : List Token). far.front ++ x) ms.split ∙ sym (append_append far.front ms.front a))
+    (λ text' other f. following (λ x. NoHead 0 text' x) far.front ms.front other (λ c n m g end h.
+    let t = declarators_type n m g h.0 end h.2 h.3 in
+    let q = far.only (ms.front ++ other) (subst (λ (x : List Token). SameFirst x (ms.front ++ other)) (sym ms.split) (first_behind ms.front a other f)) c g h.1 (λ x y w. t (base_front x g y w)) in
+    let r = stars_once k n (ms.front ++ other) g other h.0 q.1 (firsts.no_punctuator punctuators.Star a other f z) (name_star m h.0 end h.3) (again other) h.2 in
+    firsts.no_name a other f none m end (subst (λ (x : List Token). IsIdentifier m x end) (sym r.1) h.3)))
+    (λ text'. record {
+      more = name ∷ [];
+      has = record {
+        base = b;
+        pointers = k;
+        name = named;
+        is = λ other.
+            let rest = name ∷ other in
+            following (λ x. (g : List Token) × IsHead b k named x g other) (far.front ++ ms.front) (name ∷ []) other
+            (following (λ x. (g : List Token) × IsHead b k named x g other) far.front ms.front rest
+            (ms.front ++ rest, (rest, subst (λ (x : List Token). IsBase b (x ++ (ms.front ++ rest)) (ms.front ++ rest)) e (mb.again text (ms.front ++ rest) (alike_same text ts)), again rest, refl)));
+      };
+    })
+
+-- a head is before other tokens
+pub record Headed (b : Base) (n : ℕ) (called : Identifier) (ts d rest : List Token) : Type 0 where
+  pub front : List Token
+  pub split : ts ≡ front ++ d
+  pub declared : List Token
+  pub split_declared : d ≡ declared ++ rest
+  pub again : (other : List Token) → IsBase b (front ++ other) other
+  pub declares : (other : List Token) → (a : List Token) × AreStars n (declared ++ other) a × IsIdentifier called a other
+
+pub headed : (text : List ℕ) (b : Base) (n : ℕ) (called : Identifier) (ts d rest : List Token) → IsHead b n called ts d rest → Headed b n called ts d rest
+headed text b n called ts d rest h =
+    let mb = moves.base b text ts d h.1 in
+    let ms = moves.stars n text d h.0 h.2 in
+    let t = token kinds.Identifier called.start called.end in record {
+      front = mb.front;
+      split = mb.split;
+      declared = ms.front ++ t ∷ [];
+      split_declared = ms.split ∙ ap (λ (x : List Token). ms.front ++ x) h.3 ∙ sym (append_append ms.front (t ∷ []) rest);
+      again = λ other. mb.again text other (alike_same text ts);
+      declares = λ other. following (λ x. (a : List Token) × AreStars n x a × IsIdentifier called a other) ms.front (t ∷ []) other (t ∷ other, ms.again text (t ∷ other) (alike_same text d), refl);
+    }
+
+-- with these tokens after it
+is_head : (b : Base) (n : ℕ) (called : Identifier) (ts d rest : List Token) (m : Headed b n called ts d rest) (other : List Token) → IsHead b n called (m.front ++ (m.declared ++ other)) (m.declared ++ other) other
+is_head b n called ts d rest m other = let q = m.declares other in (q.0, m.again (m.declared ++ other), q.1, q.2)
+
+whole_split : (b : Base) (n : ℕ) (called : Identifier) (ts d rest : List Token) (m : Headed b n called ts d rest) → ts ≡ (m.front ++ m.declared) ++ rest
+whole_split b n called ts d rest m = m.split ∙ ap (λ (x : List Token). m.front ++ x) m.split_declared ∙ sym (append_append m.front m.declared rest)
+
+has_head : (n : ℕ) (text : List ℕ) (b : Base) (k : ℕ) (called : Identifier) (ts d rest : List Token) (m : Headed b k called ts d rest) → HasHead n text (m.front ++ m.declared)
+has_head n text b k called ts d rest m = record { base = b; pointers = k; name = called; is = λ other. following (λ x. (g : List Token) × IsHead b k called x g other) m.front m.declared other (m.declared ++ other, is_head b k called ts d rest m other) }
+
+-- an array with no elements completes it
+array_behind : (counts : Counts) (n : ℕ) (text : List ℕ) (inner : List Token) → counts.bytes ≤ 1048576 → HasHead n text inner → HasExternalDeclaration counts n text (inner ++ array)
+array_behind counts n text inner w h =
+    let g : Global = record { pointers = h.pointers; name = h.name; length = Some (record { at = 0; value = 0 }); initialiser = None } in record {
+      tree = Globals h.base (g ∷ []);
+      is = λ other.
+          let q = h.is (array ++ other) in
+          let rest = punctuator punctuators.Semicolon ∷ other in
+          following (λ x. IsExternalDeclaration text (Globals h.base (g ∷ [])) x other) inner array other (q.0, q.1.1, (rest, (q.1.0, array ++ other, rest, q.1.2, q.1.3, is_array other, refl), has_it punctuators.Semicolon other));
+      fits = record { each = tt; functions = λ four. omega arith; bytes = λ five. no_elements h.base h.pointers counts.bytes w; funclets = λ six. omega arith };
+    }
+
+no_head : (counts : Counts) (n : ℕ) (text : List ℕ) (ts : List Token) → NoHead n text ts → NoExternalDeclaration counts n text ts
+no_head counts n text ts none (Globals b []) end h w = absurd h.2
+no_head counts n text ts none (Globals b (g ∷ gs)) end h w = none b g.pointers g.name h.0 h.2.1.1 (h.2.1.0, h.1, h.2.1.3, h.2.1.4)
+no_head counts n text ts none (Function t called ps body) end h w = none t.base t.pointers called h.5.0 h.1 (h.0, h.5.1, h.5.2, h.6)
+
+pub in_head : (text : List ℕ) (counts : Counts) (ts : List Token) → counts.bytes ≤ 1048576 → Wraps NoHead HasHead (NoExternalDeclaration counts) (HasExternalDeclaration counts) text ts ts
+in_head text counts ts w = record {
+  before = [];
+  split = refl;
+  no = λ n text' other a s x. no_head counts n text' other x;
+  has = λ n text' inner a s h. record { more = array; has = array_behind counts n text' inner w h };
+}
+
+-- ---- functions
+
+abbrev typed : Base → ℕ → CType
+typed b n = record { base = b; pointers = n }
+
+-- no globals stand where a parenthesis is after the head
+not_globals : (text : List ℕ) (b base : Base) (n : ℕ) (called : Identifier) (gs : List Global) (ts d rest inner end : List Token) → IsHead base n called ts d rest → HasPunctuator punctuators.OpenParenthesis rest inner → IsExternalDeclaration text (Globals b gs) ts end → ⊥
+not_globals text b base n called gs ts d rest inner end h o g = apart b gs (typed base n) called ts ts h.0 rest inner end refl g (d, h.1, h.2) h.3 o
+
+-- a function has one head
+head_once : (base other : Base) (n m : ℕ) (called again : Identifier) (ts d e rest end : List Token) → IsHead base n called ts d rest → IsHead other m again ts e end → rest ≡ end
+head_once base other n m called again ts d e rest end h g =
+    let b = base_once base other ts ts d e refl (declarators_type n called d h.0 rest h.2 h.3) (declarators_type m again e g.0 end g.2 g.3) h.1 g.1 in
+    let s = stars_once n m d e h.0 g.0 b.1 (name_star called h.0 rest h.3) (name_star again g.0 end g.3) h.2 g.2 in
+    (name_same called again h.0 g.0 rest end s.1 h.3 g.3).1
+
+pub function : (text : List ℕ) (base : Base) (n : ℕ) (called : Identifier) (ps : List Parameter) (body : Statements) (ts d rest inner end : List Token) → IsHead base n called ts d rest → HasPunctuator punctuators.OpenParenthesis rest inner → IsTail text ps body inner end → IsExternalDeclaration text (Function (typed base n) called ps body) ts end
+function text base n called ps body ts d rest inner end h o t = (h.0, rest, inner, t.0, t.1, (d, h.1, h.2), h.3, o, t.2, t.3, t.4)
+
+full : (counts : Counts) (k : ℕ) (text : List ℕ) (base : Base) (n : ℕ) (called : Identifier) (ts d rest inner : List Token) → 4 ≤ k → IsHead base n called ts d rest → HasPunctuator punctuators.OpenParenthesis rest inner → counts.functions ≡ 0 → NoExternalDeclaration counts k text ts
+full counts k text base n called ts d rest inner four h o z (Globals b gs) end g w = not_globals text b base n called gs ts d rest inner end h o g
+full counts k text base n called ts d rest inner four h o z (Function t again ps body) end g w = let a = w.functions four in absurd (omega arith)
+
+abbrev nothing : List Token
+nothing = punctuator punctuators.CloseParenthesis ∷ punctuator punctuators.OpenBrace ∷ punctuator punctuators.CloseBrace ∷ []
+
+pub functions_full : (text : List ℕ) (counts : Counts) (base : Base) (n : ℕ) (called : Identifier) (ts d rest inner : List Token) → counts.bytes ≤ 1048576 → IsHead base n called ts d rest → HasPunctuator punctuators.OpenParenthesis rest inner → counts.functions ≡ 0 → Failed 4 (place text rest) (NoExternalDeclaration counts) (HasExternalDeclaration counts) text ts
+functions_full text counts base n called ts d rest inner w h o z =
+    let m = headed text base n called ts d rest h in
+    let t = token (kinds.Punctuator punctuators.OpenParenthesis) o.0 o.1.0 in record {
+      front = m.front ++ m.declared;
+      fault = rest;
+      split = whole_split base n called ts d rest m;
+      located = refl;
+      against = λ text' other a s.
+          let f = subst (λ (x : List Token). SameFirst x other) o.1.1 s in
+          following (λ x. NoExternalDeclaration counts 4 text' x) m.front m.declared other
+          (full counts 4 text' base n called (m.front ++ (m.declared ++ other)) (m.declared ++ other) other f.0 (omega arith) (is_head base n called ts d rest m other) (o.0, (o.1.0, f.1)) z);
+      able = λ text' a s. record { more = array; has = array_behind counts 6 text' (m.front ++ m.declared) w (has_head 6 text' base n called ts d rest m) };
+      further = λ text' k a s e. record {
+        token = t;
+        rest = inner;
+        more = nothing;
+        is = o.1.1;
+        has = record {
+          tree = Function (typed base n) called [] Empty;
+          is = λ other.
+              let u = t ∷ (nothing ++ other) in
+              following (λ x. IsExternalDeclaration text' (Function (typed base n) called [] Empty) x other) (m.front ++ m.declared) (t ∷ nothing) other
+              (following (λ x. IsExternalDeclaration text' (Function (typed base n) called [] Empty) x other) m.front m.declared u
+              (function text' base n called [] Empty (m.front ++ (m.declared ++ u)) (m.declared ++ u) u (nothing ++ other) other (is_head base n called ts d rest m u) (o.0, (o.1.0, refl))
+              (punctuator punctuators.OpenBrace ∷ punctuator punctuators.CloseBrace ∷ other, punctuator punctuators.CloseBrace ∷ other, inl (has_it punctuators.CloseParenthesis (punctuator punctuators.OpenBrace ∷ punctuator punctuators.CloseBrace ∷ other)), has_it punctuators.OpenBrace (punctuator punctuators.CloseBrace ∷ other), has_it punctuators.CloseBrace other)));
+          fits = record { each = (empty k [] (λ three. omega arith), tt); functions = λ four. absurd (omega arith); bytes = λ five. w; funclets = λ six. omega arith };
+        };
+      };
+    }
+
+no_tail : (counts : Counts) (k : ℕ) (text : List ℕ) (base : Base) (n : ℕ) (called : Identifier) (ts d rest inner : List Token) → IsHead base n called ts d rest → HasPunctuator punctuators.OpenParenthesis rest inner → NoTail counts.funclets k text inner → NoExternalDeclaration counts k text ts
+no_tail counts k text base n called ts d rest inner h o none (Globals b gs) end g w = not_globals text b base n called gs ts d rest inner end h o g
+no_tail counts k text base n called ts d rest inner h o none (Function t again ps body) end g w =
+    let r = head_once base t.base n t.pointers called again ts d g.5.0 rest g.1 h (g.0, g.5.1, g.5.2, g.6) in
+    let i = has_same punctuators.OpenParenthesis rest g.1 inner g.2 r o g.7 in
+    let b = length-append (funclets_of_all text body) [] in
+    none ps body end (g.3, g.4, subst (λ (x : List Token). AreParameters ps x g.3) (sym i) g.8, g.9, g.10) w.each.0 (λ six. let a = w.funclets six in omega arith)
+
+pub in_tail : (text : List ℕ) (counts : Counts) (base : Base) (n : ℕ) (called : Identifier) (ts d rest inner : List Token) → counts.bytes ≤ 1048576 → IsHead base n called ts d rest → HasPunctuator punctuators.OpenParenthesis rest inner → (counts.functions ≡ 0 → ⊥) → Wraps (NoTail counts.funclets) (HasTail counts.funclets) (NoExternalDeclaration counts) (HasExternalDeclaration counts) text inner ts
+in_tail text counts base n called ts d rest inner w h o z =
+    let m = headed text base n called ts d rest h in
+    let t = token (kinds.Punctuator punctuators.OpenParenthesis) o.0 o.1.0 in record {
+      before = (m.front ++ m.declared) ++ t ∷ [];
+      split = whole_split base n called ts d rest m ∙ ap (λ (x : List Token). (m.front ++ m.declared) ++ x) o.1.1 ∙ sym (append_append (m.front ++ m.declared) (t ∷ []) inner);
+      no = λ k text' other a s x.
+          following (λ y. NoExternalDeclaration counts k text' y) (m.front ++ m.declared) (t ∷ []) other
+          (following (λ y. NoExternalDeclaration counts k text' y) m.front m.declared (t ∷ other)
+          (no_tail counts k text' base n called (m.front ++ (m.declared ++ t ∷ other)) (m.declared ++ t ∷ other) (t ∷ other) other (is_head base n called ts d rest m (t ∷ other)) (o.0, (o.1.0, refl)) x));
+      has = λ k text' more a s g.
+          let x = Function (typed base n) called g.parameters g.body in
+          let e = length-append (funclets_of_all text' g.body) [] in record {
+            more = [];
+            has = record {
+              tree = x;
+              is = λ other.
+                  let u = t ∷ (more ++ other) in
+                  following (λ y. IsExternalDeclaration text' x y other) ((m.front ++ m.declared) ++ t ∷ [] ++ more) [] other
+                  (following (λ y. IsExternalDeclaration text' x y other) ((m.front ++ m.declared) ++ t ∷ []) more other
+                  (following (λ y. IsExternalDeclaration text' x y other) (m.front ++ m.declared) (t ∷ []) (more ++ other)
+                  (following (λ y. IsExternalDeclaration text' x y other) m.front m.declared u
+                  (function text' base n called g.parameters g.body (m.front ++ (m.declared ++ u)) (m.declared ++ u) u (more ++ other) other (is_head base n called ts d rest m u) (o.0, (o.1.0, refl)) (g.is other)))));
+              fits = record { each = (g.within, tt); functions = λ four. grind arith; bytes = λ five. w; funclets = λ six. let b = g.numbered six in omega arith };
+            };
+          };
+    }
+
+pub function_taken : (text : List ℕ) (counts after : Counts) (type : CType) (called : Identifier) (ps : List Parameter) (body : Statements) → after.functions + 1 ≡ counts.functions → after.bytes ≡ counts.bytes → counts.bytes ≤ 1048576 → FunctionWithin ps body → after.funclets + length (funclets_of_all text body) ≡ counts.funclets → Taken text counts after (Function type called ps body)
+function_taken text counts after type called ps body f b low w n =
+    let a = length-append (funclets_of_all text body) [] in
+    record { each = (w, tt); functions = f; bytes = b; low = omega arith; funclets = omega arith }
+
+-- ---- globals
+
+no_globals : (counts : Counts) (k : ℕ) (text : List ℕ) (base : Base) (n : ℕ) (called : Identifier) (ts d rest : List Token) → IsHead base n called ts d rest → Lacks punctuators.OpenParenthesis rest → NoGlobals base counts.bytes k text d → NoExternalDeclaration counts k text ts
+no_globals counts k text base n called ts d rest h l none (Globals b gs) end g w =
+    let q = base_once base b ts ts d g.0 refl (declarators_type n called d h.0 rest h.2 h.3) (globals_type gs g.0 end g.2) h.1 g.1 in
+    none gs end (subst (λ (x : List Token). AreGlobals gs x end) (sym q.1) g.2) (λ five. subst (λ (x : Base). end_of_globals x gs counts.bytes ≤ 1048576) (sym q.0) (w.bytes five))
+no_globals counts k text base n called ts d rest h l none (Function t again ps body) end g w =
+    let r = head_once base t.base n t.pointers called again ts d g.5.0 rest g.1 h (g.0, g.5.1, g.5.2, g.6) in
+    l g.2 (subst (λ (x : List Token). HasPunctuator punctuators.OpenParenthesis x g.2) (sym r) g.7)
+
+-- of two ways to cut a list one goes further
+abbrev Cuts : List Token → List Token → List Token → List Token → Type 0
+Cuts xs ys us vs = ((g : List Token) × (us ≡ xs ++ g) × (ys ≡ g ++ vs)) ⊎ ((t : Token) × (g : List Token) × (xs ≡ us ++ t ∷ g) × (vs ≡ t ∷ (g ++ ys)))
+
+further : (x : Token) (xs ys us vs : List Token) → Cuts xs ys us vs → Cuts (x ∷ xs) ys (x ∷ us) vs
+further x xs ys us vs (inl (g, p, q)) = inl (g, ap (λ (z : List Token). x ∷ z) p, q)
+further x xs ys us vs (inr (t, g, p, q)) = inr (t, g, ap (λ (z : List Token). x ∷ z) p, q)
+
+cut : (xs ys us vs : List Token) → xs ++ ys ≡ us ++ vs → Cuts xs ys us vs
+cut [] ys us vs p = inl (us, refl, p)
+cut (x ∷ xs) ys [] vs p = inr (x, xs, refl, sym p)
+cut (x ∷ xs) ys (u ∷ us) vs p =
+    let e : x ≡ u = cc in
+    let q : xs ++ ys ≡ us ++ vs = cc in
+    subst (λ (z : Token). Cuts (x ∷ xs) ys (z ∷ us) vs) e (further x xs ys us vs (cut xs ys us vs q))
+
+against : (counts : Counts) (k : ℕ) (text : List ℕ) (base : Base) (n : ℕ) (called : Identifier) (ts d rest front fault other : List Token) (m : Headed base n called ts d rest) → counts.bytes ≤ 1048576 → Lacks punctuators.OpenParenthesis rest → SameFirst fault other
+    → ((o : List Token) → SameFirst fault o → NoGlobals base counts.bytes k text (front ++ o)) → Cuts m.declared rest front fault → NoExternalDeclaration counts k text (m.front ++ (front ++ other))
+against counts k text base n called ts d rest front fault other m w l s f (inl (g, p, q)) =
+    let e : front ++ other ≡ m.declared ++ (g ++ other) = ap (λ (z : List Token). z ++ other) p ∙ append_append m.declared g other in
+    let lacks = firsts.no_punctuator punctuators.OpenParenthesis rest (g ++ other) (subst (λ (z : List Token). SameFirst z (g ++ other)) (sym q) (first_behind g fault other s)) l in
+    subst (λ (z : List Token). NoExternalDeclaration counts k text (m.front ++ z)) (sym e)
+    (no_globals counts k text base n called (m.front ++ (m.declared ++ (g ++ other))) (m.declared ++ (g ++ other)) (g ++ other) (is_head base n called ts d rest m (g ++ other)) lacks (subst (λ (z : List Token). NoGlobals base counts.bytes k text z) e (f other s)))
+against counts k text base n called ts d rest front fault other m w l s f (inr (t, g, p, q)) =
+    let o = t ∷ (g ++ array) in
+    let e : m.declared ++ array ≡ front ++ o = ap (λ (z : List Token). z ++ array) p ∙ append_append front (t ∷ g) array in
+    let x : Global = record { pointers = n; name = called; length = Some (record { at = 0; value = 0 }); initialiser = None } in
+    let h = m.declares array in
+    let rest' = punctuator punctuators.Semicolon ∷ [] in
+    let are : AreGlobals (x ∷ []) (m.declared ++ array) [] = (rest', (h.0, array, rest', h.1, h.2, is_array [], refl), has_it punctuators.Semicolon []) in
+    absurd (f o (subst (λ (z : List Token). SameFirst z o) (sym q) (g ++ array, refl)) (x ∷ []) [] (subst (λ (z : List Token). AreGlobals (x ∷ []) z []) e are) (λ five. no_elements base n counts.bytes w))
+
+globals_has : (counts : Counts) (k : ℕ) (text : List ℕ) (base : Base) (front inner : List Token) → ((other : List Token) → IsBase base (front ++ other) other) → HasGlobals base counts.bytes k text inner → HasExternalDeclaration counts k text (front ++ inner)
+globals_has counts k text base front inner b h = record {
+  tree = Globals base h.trees;
+  is = λ other. following (λ z. IsExternalDeclaration text (Globals base h.trees) z other) front inner other (inner ++ other, b (inner ++ other), h.are other);
+  fits = record { each = tt; functions = λ four. omega arith; bytes = h.low; funclets = λ six. omega arith };
+}
+
+-- What fails as globals fails as an external declaration: it fails after the head, which no parenthesis follows.
+pub as_globals : (text : List ℕ) (counts : Counts) (base : Base) (n : ℕ) (called : Identifier) (ts d rest : List Token) → counts.bytes ≤ 1048576 → IsHead base n called ts d rest → Lacks punctuators.OpenParenthesis rest
+    → (kind at : ℕ) → Failed kind at (NoGlobals base counts.bytes) (HasGlobals base counts.bytes) text d → Failed kind at (NoExternalDeclaration counts) (HasExternalDeclaration counts) text ts
+as_globals text counts base n called ts d rest w h l kind at f =
+    let m = headed text base n called ts d rest h in record {
+      front = m.front ++ f.front;
+      fault = f.fault;
+      split = m.split ∙ ap (λ (x : List Token). m.front ++ x) f.split ∙ sym (append_append m.front f.front f.fault);
+      located = f.located;
+      against = λ text' other a s.
+          following (λ z. NoExternalDeclaration counts kind text' z) m.front f.front other
+          (against counts kind text' base n called ts d rest f.front f.fault other m w l s (λ o q. f.against text' o (alike_inner text text' m.front d ts m.split a) q) (cut m.declared rest f.front f.fault (sym m.split_declared ∙ f.split)));
+      able = λ text' a k.
+          let o = f.able text' (alike_inner text text' m.front d ts m.split a) k in
+          record { more = o.more; has = subst (λ (z : List Token). HasExternalDeclaration counts 6 text' z) (sym (append_append m.front f.front o.more)) (globals_has counts 6 text' base m.front (f.front ++ o.more) m.again o.has) };
+      further = λ text' k a s e.
+          let o = f.further text' k (alike_inner text text' m.front d ts m.split a) s e in
+          record { token = o.token; rest = o.rest; more = o.more; is = o.is; has = subst (λ (z : List Token). HasExternalDeclaration counts k text' z) (sym (append_append m.front f.front (o.token ∷ o.more))) (globals_has counts k text' base m.front (f.front ++ o.token ∷ o.more) m.again o.has) };
+    }
+
+pub globals_taken : (text : List ℕ) (counts after : Counts) (base : Base) (gs : List Global) → after.functions ≡ counts.functions → after.bytes ≡ end_of_globals base gs counts.bytes → after.bytes ≤ 1048576 → after.funclets ≡ counts.funclets → Taken text counts after (Globals base gs)
+globals_taken text counts after base gs f b low n = record { each = tt; functions = omega arith; bytes = b; low = low; funclets = omega arith }
+
+-- ---- what is read takes tokens
+
+more_globals : (gs : List Global) (ts end : List Token) → AreMoreGlobals gs ts end → length end < length ts
+more_globals [] ts end h = let a = ap length h.1.1 in omega arith
+more_globals (g ∷ gs) ts end h = let a = ap length h.2.1.1 in let b = global_shorter g h.0 h.1 h.3 in let c = more_globals gs h.1 end h.4 in omega arith
+
+globals : (gs : List Global) (ts end : List Token) → AreGlobals gs ts end → length end < length ts
+globals [] ts end h = absurd h
+globals (g ∷ gs) ts end h = let b = global_shorter g ts h.0 h.1 in let c = more_globals gs h.0 end h.2 in omega arith
+
+more_parameters : (ps : List Parameter) (ts end : List Token) → AreMoreParameters ps ts end → length end ≤ length ts
+more_parameters [] ts end h = let a = ap length h.1.1 in omega arith
+more_parameters (p ∷ ps) ts end h =
+    let a = ap length h.2.1.1 in let b = base p.«of».base h.0 h.3.1.0 h.3.1.1 in let c = stars p.«of».pointers h.3.1.0 h.3.0 h.3.1.2 in let d = ap length h.3.2 in let e = more_parameters ps h.1 end h.4 in omega arith
+
+parameters : (ps : List Parameter) (ts end : List Token) → AreParameters ps ts end → length end ≤ length ts
+parameters [] ts end (inl h) = let a = ap length h.1.1 in omega arith
+parameters [] ts end (inr h) = let a = ap length h.1.1.1 in let b = ap length h.2.1.1 in omega arith
+parameters (p ∷ ps) ts end h =
+    let b = base p.«of».base ts h.1.1.0 h.1.1.1 in let c = stars p.«of».pointers h.1.1.0 h.1.0 h.1.1.2 in let d = ap length h.1.2 in let e = more_parameters ps h.0 end h.2 in omega arith
+
+pub shorter : (text : List ℕ) (x : ExternalDeclaration) (ts end : List Token) → IsExternalDeclaration text x ts end → length end < length ts
+shorter text (Globals b gs) ts end h = let a = base b ts h.0 h.1 in let c = globals gs h.0 end h.2 in omega arith
+shorter text (Function t name ps body) ts end h =
+    let a = base t.base ts h.5.0 h.5.1 in let b = stars t.pointers h.5.0 h.0 h.5.2 in let c = ap length h.6 in let d = ap length h.7.1.1 in
+    let e = parameters ps h.2 h.3 h.8 in let f = ap length h.9.1.1 in let g = items text body h.4 end h.10 in omega arith

@@ -1,0 +1,247 @@
+-- Operators and their punctuators.
+use Rattle.std.proofs.Common.{◌≡◌, Option, Some, None, refl, ap}
+use Rattle.c_lex.specs.declared.punctuator.Punctuator.{Punctuator}
+use Rattle.c_lex.specs.declared.punctuator.Punctuator.TheVariants as punctuators
+use Rattle.c_syntax.specs.declared.operator.Arithmetic.{Arithmetic}
+use Rattle.c_syntax.specs.declared.operator.Arithmetic.TheVariants as arithmetic
+use Rattle.c_syntax.specs.declared.operator.Comparison.TheVariants as comparisons
+use Rattle.c_syntax.specs.declared.operator.BinaryOperator.{BinaryOperator}
+use Rattle.c_syntax.specs.declared.operator.BinaryOperator.TheVariants as binary
+use Rattle.c_syntax.specs.declared.operator.UnaryOperator.{UnaryOperator}
+use Rattle.c_syntax.specs.declared.operator.UnaryOperator.TheVariants as unary_operators
+use Rattle.c_syntax.specs.declared.operator.Increment.{Increment}
+use Rattle.c_syntax.specs.declared.operator.Increment.TheVariants as increments
+use Rattle.c_syntax.specs.Operators.{binary_punctuator, assignment_punctuator, unary_punctuator, increment_punctuator}
+use Rattle.c_syntax.specs.PunctuatorReaders.{binary_of, assignment_of, unary_of, increment_of}
+
+some_same : {A : Type 0} (a b : A) → Some a ≡ Some b → a ≡ b
+some_same a b e = cc
+
+pub binary_again : (op : BinaryOperator) → binary_of (binary_punctuator op) ≡ Some op
+binary_again (binary.Arithmetic arithmetic.Multiply) = refl
+binary_again (binary.Arithmetic arithmetic.Divide) = refl
+binary_again (binary.Arithmetic arithmetic.Remainder) = refl
+binary_again (binary.Arithmetic arithmetic.Add) = refl
+binary_again (binary.Arithmetic arithmetic.Subtract) = refl
+binary_again (binary.Arithmetic arithmetic.ShiftLeft) = refl
+binary_again (binary.Arithmetic arithmetic.ShiftRight) = refl
+binary_again (binary.Arithmetic arithmetic.And) = refl
+binary_again (binary.Arithmetic arithmetic.ExclusiveOr) = refl
+binary_again (binary.Arithmetic arithmetic.Or) = refl
+binary_again (binary.Comparison comparisons.Less) = refl
+binary_again (binary.Comparison comparisons.Greater) = refl
+binary_again (binary.Comparison comparisons.LessEqual) = refl
+binary_again (binary.Comparison comparisons.GreaterEqual) = refl
+binary_again (binary.Comparison comparisons.Equal) = refl
+binary_again (binary.Comparison comparisons.NotEqual) = refl
+binary_again binary.LogicalAnd = refl
+binary_again binary.LogicalOr = refl
+
+pub binary_only : (op : BinaryOperator) (s : Punctuator) → binary_of s ≡ Some op → s ≡ binary_punctuator op
+binary_only op punctuators.OpenParenthesis e = absurd cc
+binary_only op punctuators.CloseParenthesis e = absurd cc
+binary_only op punctuators.OpenBracket e = absurd cc
+binary_only op punctuators.CloseBracket e = absurd cc
+binary_only op punctuators.OpenBrace e = absurd cc
+binary_only op punctuators.CloseBrace e = absurd cc
+binary_only op punctuators.Semicolon e = absurd cc
+binary_only op punctuators.Comma e = absurd cc
+binary_only op punctuators.Question e = absurd cc
+binary_only op punctuators.Colon e = absurd cc
+binary_only op punctuators.Arrow e = absurd cc
+binary_only op punctuators.Assign e = absurd cc
+binary_only op punctuators.PlusAssign e = absurd cc
+binary_only op punctuators.MinusAssign e = absurd cc
+binary_only op punctuators.StarAssign e = absurd cc
+binary_only op punctuators.SlashAssign e = absurd cc
+binary_only op punctuators.PercentAssign e = absurd cc
+binary_only op punctuators.AmpersandAssign e = absurd cc
+binary_only op punctuators.BarAssign e = absurd cc
+binary_only op punctuators.CaretAssign e = absurd cc
+binary_only op punctuators.ShiftLeftAssign e = absurd cc
+binary_only op punctuators.ShiftRightAssign e = absurd cc
+binary_only op punctuators.BarBar e = ap binary_punctuator (some_same binary.LogicalOr op e)
+binary_only op punctuators.AmpersandAmpersand e = ap binary_punctuator (some_same binary.LogicalAnd op e)
+binary_only op punctuators.Bar e = ap binary_punctuator (some_same (binary.Arithmetic arithmetic.Or) op e)
+binary_only op punctuators.Caret e = ap binary_punctuator (some_same (binary.Arithmetic arithmetic.ExclusiveOr) op e)
+binary_only op punctuators.Ampersand e = ap binary_punctuator (some_same (binary.Arithmetic arithmetic.And) op e)
+binary_only op punctuators.Equal e = ap binary_punctuator (some_same (binary.Comparison comparisons.Equal) op e)
+binary_only op punctuators.NotEqual e = ap binary_punctuator (some_same (binary.Comparison comparisons.NotEqual) op e)
+binary_only op punctuators.Less e = ap binary_punctuator (some_same (binary.Comparison comparisons.Less) op e)
+binary_only op punctuators.Greater e = ap binary_punctuator (some_same (binary.Comparison comparisons.Greater) op e)
+binary_only op punctuators.LessEqual e = ap binary_punctuator (some_same (binary.Comparison comparisons.LessEqual) op e)
+binary_only op punctuators.GreaterEqual e = ap binary_punctuator (some_same (binary.Comparison comparisons.GreaterEqual) op e)
+binary_only op punctuators.ShiftLeft e = ap binary_punctuator (some_same (binary.Arithmetic arithmetic.ShiftLeft) op e)
+binary_only op punctuators.ShiftRight e = ap binary_punctuator (some_same (binary.Arithmetic arithmetic.ShiftRight) op e)
+binary_only op punctuators.Plus e = ap binary_punctuator (some_same (binary.Arithmetic arithmetic.Add) op e)
+binary_only op punctuators.Minus e = ap binary_punctuator (some_same (binary.Arithmetic arithmetic.Subtract) op e)
+binary_only op punctuators.Star e = ap binary_punctuator (some_same (binary.Arithmetic arithmetic.Multiply) op e)
+binary_only op punctuators.Slash e = ap binary_punctuator (some_same (binary.Arithmetic arithmetic.Divide) op e)
+binary_only op punctuators.Percent e = ap binary_punctuator (some_same (binary.Arithmetic arithmetic.Remainder) op e)
+binary_only op punctuators.Exclamation e = absurd cc
+binary_only op punctuators.Tilde e = absurd cc
+binary_only op punctuators.PlusPlus e = absurd cc
+binary_only op punctuators.MinusMinus e = absurd cc
+
+pub assignment_again : (op : Option Arithmetic) → assignment_of (assignment_punctuator op) ≡ Some op
+assignment_again None = refl
+assignment_again (Some arithmetic.Multiply) = refl
+assignment_again (Some arithmetic.Divide) = refl
+assignment_again (Some arithmetic.Remainder) = refl
+assignment_again (Some arithmetic.Add) = refl
+assignment_again (Some arithmetic.Subtract) = refl
+assignment_again (Some arithmetic.ShiftLeft) = refl
+assignment_again (Some arithmetic.ShiftRight) = refl
+assignment_again (Some arithmetic.And) = refl
+assignment_again (Some arithmetic.ExclusiveOr) = refl
+assignment_again (Some arithmetic.Or) = refl
+
+pub assignment_only : (op : Option Arithmetic) (s : Punctuator) → assignment_of s ≡ Some op → s ≡ assignment_punctuator op
+assignment_only op punctuators.OpenParenthesis e = absurd cc
+assignment_only op punctuators.CloseParenthesis e = absurd cc
+assignment_only op punctuators.OpenBracket e = absurd cc
+assignment_only op punctuators.CloseBracket e = absurd cc
+assignment_only op punctuators.OpenBrace e = absurd cc
+assignment_only op punctuators.CloseBrace e = absurd cc
+assignment_only op punctuators.Semicolon e = absurd cc
+assignment_only op punctuators.Comma e = absurd cc
+assignment_only op punctuators.Question e = absurd cc
+assignment_only op punctuators.Colon e = absurd cc
+assignment_only op punctuators.Arrow e = absurd cc
+assignment_only op punctuators.Assign e = ap assignment_punctuator (some_same None op e)
+assignment_only op punctuators.PlusAssign e = ap assignment_punctuator (some_same (Some arithmetic.Add) op e)
+assignment_only op punctuators.MinusAssign e = ap assignment_punctuator (some_same (Some arithmetic.Subtract) op e)
+assignment_only op punctuators.StarAssign e = ap assignment_punctuator (some_same (Some arithmetic.Multiply) op e)
+assignment_only op punctuators.SlashAssign e = ap assignment_punctuator (some_same (Some arithmetic.Divide) op e)
+assignment_only op punctuators.PercentAssign e = ap assignment_punctuator (some_same (Some arithmetic.Remainder) op e)
+assignment_only op punctuators.AmpersandAssign e = ap assignment_punctuator (some_same (Some arithmetic.And) op e)
+assignment_only op punctuators.BarAssign e = ap assignment_punctuator (some_same (Some arithmetic.Or) op e)
+assignment_only op punctuators.CaretAssign e = ap assignment_punctuator (some_same (Some arithmetic.ExclusiveOr) op e)
+assignment_only op punctuators.ShiftLeftAssign e = ap assignment_punctuator (some_same (Some arithmetic.ShiftLeft) op e)
+assignment_only op punctuators.ShiftRightAssign e = ap assignment_punctuator (some_same (Some arithmetic.ShiftRight) op e)
+assignment_only op punctuators.BarBar e = absurd cc
+assignment_only op punctuators.AmpersandAmpersand e = absurd cc
+assignment_only op punctuators.Bar e = absurd cc
+assignment_only op punctuators.Caret e = absurd cc
+assignment_only op punctuators.Ampersand e = absurd cc
+assignment_only op punctuators.Equal e = absurd cc
+assignment_only op punctuators.NotEqual e = absurd cc
+assignment_only op punctuators.Less e = absurd cc
+assignment_only op punctuators.Greater e = absurd cc
+assignment_only op punctuators.LessEqual e = absurd cc
+assignment_only op punctuators.GreaterEqual e = absurd cc
+assignment_only op punctuators.ShiftLeft e = absurd cc
+assignment_only op punctuators.ShiftRight e = absurd cc
+assignment_only op punctuators.Plus e = absurd cc
+assignment_only op punctuators.Minus e = absurd cc
+assignment_only op punctuators.Star e = absurd cc
+assignment_only op punctuators.Slash e = absurd cc
+assignment_only op punctuators.Percent e = absurd cc
+assignment_only op punctuators.Exclamation e = absurd cc
+assignment_only op punctuators.Tilde e = absurd cc
+assignment_only op punctuators.PlusPlus e = absurd cc
+assignment_only op punctuators.MinusMinus e = absurd cc
+
+pub unary_again : (op : UnaryOperator) → unary_of (unary_punctuator op) ≡ Some op
+unary_again unary_operators.Plus = refl
+unary_again unary_operators.Minus = refl
+unary_again unary_operators.LogicalNot = refl
+unary_again unary_operators.Complement = refl
+unary_again unary_operators.Indirection = refl
+unary_again unary_operators.AddressOf = refl
+
+pub unary_only : (op : UnaryOperator) (s : Punctuator) → unary_of s ≡ Some op → s ≡ unary_punctuator op
+unary_only op punctuators.OpenParenthesis e = absurd cc
+unary_only op punctuators.CloseParenthesis e = absurd cc
+unary_only op punctuators.OpenBracket e = absurd cc
+unary_only op punctuators.CloseBracket e = absurd cc
+unary_only op punctuators.OpenBrace e = absurd cc
+unary_only op punctuators.CloseBrace e = absurd cc
+unary_only op punctuators.Semicolon e = absurd cc
+unary_only op punctuators.Comma e = absurd cc
+unary_only op punctuators.Question e = absurd cc
+unary_only op punctuators.Colon e = absurd cc
+unary_only op punctuators.Arrow e = absurd cc
+unary_only op punctuators.Assign e = absurd cc
+unary_only op punctuators.PlusAssign e = absurd cc
+unary_only op punctuators.MinusAssign e = absurd cc
+unary_only op punctuators.StarAssign e = absurd cc
+unary_only op punctuators.SlashAssign e = absurd cc
+unary_only op punctuators.PercentAssign e = absurd cc
+unary_only op punctuators.AmpersandAssign e = absurd cc
+unary_only op punctuators.BarAssign e = absurd cc
+unary_only op punctuators.CaretAssign e = absurd cc
+unary_only op punctuators.ShiftLeftAssign e = absurd cc
+unary_only op punctuators.ShiftRightAssign e = absurd cc
+unary_only op punctuators.BarBar e = absurd cc
+unary_only op punctuators.AmpersandAmpersand e = absurd cc
+unary_only op punctuators.Bar e = absurd cc
+unary_only op punctuators.Caret e = absurd cc
+unary_only op punctuators.Ampersand e = ap unary_punctuator (some_same unary_operators.AddressOf op e)
+unary_only op punctuators.Equal e = absurd cc
+unary_only op punctuators.NotEqual e = absurd cc
+unary_only op punctuators.Less e = absurd cc
+unary_only op punctuators.Greater e = absurd cc
+unary_only op punctuators.LessEqual e = absurd cc
+unary_only op punctuators.GreaterEqual e = absurd cc
+unary_only op punctuators.ShiftLeft e = absurd cc
+unary_only op punctuators.ShiftRight e = absurd cc
+unary_only op punctuators.Plus e = ap unary_punctuator (some_same unary_operators.Plus op e)
+unary_only op punctuators.Minus e = ap unary_punctuator (some_same unary_operators.Minus op e)
+unary_only op punctuators.Star e = ap unary_punctuator (some_same unary_operators.Indirection op e)
+unary_only op punctuators.Slash e = absurd cc
+unary_only op punctuators.Percent e = absurd cc
+unary_only op punctuators.Exclamation e = ap unary_punctuator (some_same unary_operators.LogicalNot op e)
+unary_only op punctuators.Tilde e = ap unary_punctuator (some_same unary_operators.Complement op e)
+unary_only op punctuators.PlusPlus e = absurd cc
+unary_only op punctuators.MinusMinus e = absurd cc
+
+pub increment_again : (op : Increment) → increment_of (increment_punctuator op) ≡ Some op
+increment_again increments.Increment = refl
+increment_again increments.Decrement = refl
+
+pub increment_only : (op : Increment) (s : Punctuator) → increment_of s ≡ Some op → s ≡ increment_punctuator op
+increment_only op punctuators.OpenParenthesis e = absurd cc
+increment_only op punctuators.CloseParenthesis e = absurd cc
+increment_only op punctuators.OpenBracket e = absurd cc
+increment_only op punctuators.CloseBracket e = absurd cc
+increment_only op punctuators.OpenBrace e = absurd cc
+increment_only op punctuators.CloseBrace e = absurd cc
+increment_only op punctuators.Semicolon e = absurd cc
+increment_only op punctuators.Comma e = absurd cc
+increment_only op punctuators.Question e = absurd cc
+increment_only op punctuators.Colon e = absurd cc
+increment_only op punctuators.Arrow e = absurd cc
+increment_only op punctuators.Assign e = absurd cc
+increment_only op punctuators.PlusAssign e = absurd cc
+increment_only op punctuators.MinusAssign e = absurd cc
+increment_only op punctuators.StarAssign e = absurd cc
+increment_only op punctuators.SlashAssign e = absurd cc
+increment_only op punctuators.PercentAssign e = absurd cc
+increment_only op punctuators.AmpersandAssign e = absurd cc
+increment_only op punctuators.BarAssign e = absurd cc
+increment_only op punctuators.CaretAssign e = absurd cc
+increment_only op punctuators.ShiftLeftAssign e = absurd cc
+increment_only op punctuators.ShiftRightAssign e = absurd cc
+increment_only op punctuators.BarBar e = absurd cc
+increment_only op punctuators.AmpersandAmpersand e = absurd cc
+increment_only op punctuators.Bar e = absurd cc
+increment_only op punctuators.Caret e = absurd cc
+increment_only op punctuators.Ampersand e = absurd cc
+increment_only op punctuators.Equal e = absurd cc
+increment_only op punctuators.NotEqual e = absurd cc
+increment_only op punctuators.Less e = absurd cc
+increment_only op punctuators.Greater e = absurd cc
+increment_only op punctuators.LessEqual e = absurd cc
+increment_only op punctuators.GreaterEqual e = absurd cc
+increment_only op punctuators.ShiftLeft e = absurd cc
+increment_only op punctuators.ShiftRight e = absurd cc
+increment_only op punctuators.Plus e = absurd cc
+increment_only op punctuators.Minus e = absurd cc
+increment_only op punctuators.Star e = absurd cc
+increment_only op punctuators.Slash e = absurd cc
+increment_only op punctuators.Percent e = absurd cc
+increment_only op punctuators.Exclamation e = absurd cc
+increment_only op punctuators.Tilde e = absurd cc
+increment_only op punctuators.PlusPlus e = ap increment_punctuator (some_same increments.Increment op e)
+increment_only op punctuators.MinusMinus e = ap increment_punctuator (some_same increments.Decrement op e)

@@ -1,0 +1,11 @@
+pub mod Rows
+pub mod Conversions
+pub mod TypeFacts
+pub mod Operands
+pub mod Results
+pub mod ResolvedExpressions
+pub mod Numbers
+pub mod SoundStatements
+pub mod Globals
+pub mod Sound
+pub mod Least

@@ -1,0 +1,263 @@
+-- Expressions: the type and the node of each, or the rules that it breaks (C11, 6.5; Microsoft C reference, "try-except statement"). An expression that holds a fault has no type, and no rule on types fails for it.
+use Rattle.std.specs.Prelude.{ℕ, Bool, true, false, nat_eq, nat_le, if◌then◌else◌, List, [], ◌∷◌, ◌++◌, length, map, Option, Some, None}
+use Rattle.seh_num.specs.declared.width.Width.TheVariants.{W32}
+use Rattle.seh_num.specs.Widths.{low, wrapped}
+use Rattle.c_lex.specs.declared.token.IntegerType.{IntegerType}
+use Rattle.c_lex.specs.declared.token.IntegerType.TheVariants as integers
+use Rattle.c_operations.specs.declared.field.Field.TheVariants as fields
+use Rattle.c_operations.specs.declared.built_in.BuiltIn.{BuiltIn}
+use Rattle.c_operations.specs.declared.built_in.BuiltIn.TheVariants.{Put, Protect, RaiseException}
+use Rattle.c_operations.specs.Numbers.{width}
+use Rattle.c_checked.specs.declared.expression.Fixity.TheVariants.{Postfix, Prefix}
+use Rattle.c_checked.specs.Expression as nodes
+use Rattle.c_checked.specs.Expression.{Arguments, Done, Next}
+use Rattle.c_syntax.specs.declared.expression.Base.{Base}
+use Rattle.c_syntax.specs.declared.expression.Base.TheVariants.{Void, Int, Unsigned, LongLong, UnsignedLongLong}
+use Rattle.c_syntax.specs.declared.expression.CType.{CType}
+use Rattle.c_syntax.specs.declared.expression.Field.{Field}
+use Rattle.c_syntax.specs.declared.expression.Field.TheVariants as record_fields
+use Rattle.c_syntax.specs.declared.expression.Literal.{Literal}
+use Rattle.c_syntax.specs.declared.expression.Literal.TheVariants as literals
+use Rattle.c_syntax.specs.declared.expression.Identifier.{Identifier}
+use Rattle.c_syntax.specs.declared.operator.Arithmetic.{Arithmetic}
+use Rattle.c_syntax.specs.declared.operator.UnaryOperator.{UnaryOperator}
+use Rattle.c_syntax.specs.declared.operator.UnaryOperator.TheVariants as unary
+use Rattle.c_syntax.specs.Expression as trees
+use Rattle.c_syntax.specs.Expression.{Expression, start}
+use Rattle.c_resolved.specs.declared.fault.Fault.{Fault}
+use Rattle.c_resolved.specs.declared.fault.Fault.TheVariants.{UnknownName, NotLvalue, TypeClash, ArgCount, CodeOutsideFilter, InfoOutsideFilter, AbnormalOutsideFinally}
+use Rattle.c_resolved.specs.Types.{plain, pointer_to, access_of, size_of}
+use Rattle.c_resolved.specs.Operators.{TypedNode, typed, int, void_pointer, can_become, as_type, binary_of, unary_of, cast_of, element_of, assigned, compound_assigned, incremented, conditional_of, comma_of}
+
+-- ---- names
+
+-- what a name means
+pub data Entity : Type 0 where
+  LocalVariable : ℕ → CType → Entity
+  GlobalVariable : ℕ → CType → Entity
+  -- its address, and the type of its elements
+  GlobalArray : ℕ → CType → Entity
+  -- its number, its result, its parameters
+  UserFunction : ℕ → CType → List CType → Entity
+  BuiltInFunction : BuiltIn → Entity
+  CodeFunction : Entity
+  AbnormalFunction : Entity
+  -- as a number of 32 bits
+  BuiltInConstant : ℕ → Entity
+
+-- what the names mean where an expression stands, and whether it stands where an exception's code and fields, and AbnormalTermination, mean something
+pub record Names : Type 0 where
+  pub entity : Identifier → Option Entity
+  pub code : Bool
+  pub information : Bool
+  pub abnormal : Bool
+
+-- ---- faults
+
+pub record FaultAt : Type 0 where
+  pub at : ℕ
+  pub fault : Fault
+
+abbrev pub fault_at : ℕ → Fault → List FaultAt
+fault_at at f = record { at = at; fault = f } ∷ []
+
+pub record ResolvedExpression : Type 0 where
+  pub found : Option TypedNode
+  pub faults : List FaultAt
+
+abbrev pub good : TypedNode → ResolvedExpression
+good t = record { found = Some t; faults = [] }
+
+abbrev pub bad : List FaultAt → ResolvedExpression
+bad fs = record { found = None; faults = fs }
+
+-- a rule, which breaks where it gives nothing
+abbrev pub ruled : ℕ → Fault → List FaultAt → Option TypedNode → ResolvedExpression
+ruled at f fs None = bad (fs ++ fault_at at f)
+ruled at f fs (Some t) = record { found = Some t; faults = fs }
+
+abbrev pub rule_1 : ℕ → (TypedNode → Option TypedNode) → List FaultAt → Option TypedNode → ResolvedExpression
+rule_1 at rule fs None = bad fs
+rule_1 at rule fs (Some a) = ruled at TypeClash fs (rule a)
+
+abbrev pub rule_2 : ℕ → (TypedNode → TypedNode → Option TypedNode) → List FaultAt → Option TypedNode → Option TypedNode → ResolvedExpression
+rule_2 at rule fs None b = bad fs
+rule_2 at rule fs (Some a) b = rule_1 at (rule a) fs b
+
+abbrev pub rule_3 : ℕ → (TypedNode → TypedNode → TypedNode → Option TypedNode) → List FaultAt → Option TypedNode → Option TypedNode → Option TypedNode → ResolvedExpression
+rule_3 at rule fs None b c = bad fs
+rule_3 at rule fs (Some a) b c = rule_2 at (rule a) fs b c
+
+-- a rule that stands before the rules on types
+abbrev pub unless : Bool → ℕ → Fault → List FaultAt → ResolvedExpression → ResolvedExpression
+unless true at f fs j = j
+unless false at f fs j = bad (fs ++ fault_at at f)
+
+-- ---- literals and names
+
+abbrev pub integer_base : IntegerType → Base
+integer_base integers.Int = Int
+integer_base integers.Unsigned = Unsigned
+integer_base integers.LongLong = LongLong
+integer_base integers.UnsignedLongLong = UnsignedLongLong
+
+-- a number as one of a type: the low bits of its size, which a literal of the type never exceeds
+abbrev pub constant : CType → ℕ → TypedNode
+constant t n = typed t (nodes.Constant (size_of t) (low (width (size_of t)) n))
+
+-- an integer literal of value 0 is one in any base and with any suffix; a character is none
+abbrev pub literal : Literal → TypedNode
+literal (literals.Integer n of) = record (constant (plain (integer_base of)) n) { zero = nat_eq n 0 }
+literal (literals.CharacterConstant c) = constant int (wrapped W32 c)
+
+abbrev pub variable : CType → nodes.Lvalue → TypedNode
+variable t p = typed t (nodes.Read p)
+
+abbrev pub name : ℕ → Option Entity → ResolvedExpression
+name at (Some (LocalVariable x t)) = good (variable t (nodes.Local x))
+name at (Some (GlobalVariable a t)) = good (variable t (nodes.Global (access_of t) a))
+name at (Some (GlobalArray a t)) = good (constant (pointer_to t) a)
+name at (Some (BuiltInConstant n)) = good (constant int n)
+name at other = bad (fault_at at UnknownName)
+
+-- ---- places
+
+abbrev pub is_variable : Option Entity → Bool
+is_variable None = true
+is_variable (Some (LocalVariable x t)) = true
+is_variable (Some (GlobalVariable a t)) = true
+is_variable other = false
+
+abbrev pub is_global : Option Entity → Bool
+is_global None = true
+is_global (Some (GlobalVariable a t)) = true
+is_global other = false
+
+abbrev pub is_indirection : UnaryOperator → Bool
+is_indirection unary.Indirection = true
+is_indirection other = false
+
+-- variables, `*e` and `a[i]`, parentheses aside; an unknown name breaks no further rule
+abbrev pub is_lvalue_where : (Option Entity → Bool) → Names → Expression → Bool
+is_lvalue_where test s (trees.Variable n) = test (s.entity n)
+is_lvalue_where test s (trees.Parentheses at e) = is_lvalue_where test s e
+is_lvalue_where test s (trees.Index a at i) = true
+is_lvalue_where test s (trees.Unary at o e) = is_indirection o
+is_lvalue_where test s other = false
+
+abbrev pub is_lvalue : Names → Expression → Bool
+is_lvalue = is_lvalue_where is_variable
+
+abbrev pub is_addressable : Names → Expression → Bool
+is_addressable = is_lvalue_where is_global
+
+-- `&` has a rule of its own
+abbrev pub operand_is_lvalue : UnaryOperator → Names → Expression → Bool
+operand_is_lvalue unary.AddressOf s e = is_addressable s e
+operand_is_lvalue other s e = true
+
+-- ---- what a filter reads
+
+abbrev pub unsigned : CType
+unsigned = plain Unsigned
+
+abbrev pub field : Field → ResolvedExpression
+field record_fields.Code = good (typed unsigned (nodes.Information fields.ExceptionCode))
+field record_fields.Flags = good (typed unsigned (nodes.Information fields.ExceptionFlags))
+field record_fields.Count = good (typed unsigned (nodes.Information fields.NumberParameters))
+field (record_fields.Information k at) =
+    unless (nat_le k 14) at TypeClash [] (good (typed (plain UnsignedLongLong) (nodes.Information (fields.ExceptionInformation k))))
+
+-- ---- calls
+
+-- what an argument has to be
+pub data Wanted : Type 0 where
+  OfType : CType → Wanted
+  ZeroLiteral : Wanted
+
+abbrev pub built_in_wants : BuiltIn → List Wanted
+built_in_wants Put = OfType (plain LongLong) ∷ []
+built_in_wants Protect = OfType void_pointer ∷ OfType int ∷ []
+built_in_wants RaiseException = OfType unsigned ∷ OfType unsigned ∷ ZeroLiteral ∷ ZeroLiteral ∷ []
+
+abbrev pub built_in_result : BuiltIn → CType
+built_in_result Put = plain Void
+built_in_result Protect = int
+built_in_result RaiseException = plain Void
+
+abbrev pub fits : Wanted → TypedNode → Bool
+fits (OfType t) a = can_become t a
+fits ZeroLiteral a = a.zero
+
+abbrev pub passed : Wanted → TypedNode → nodes.Expression
+passed (OfType t) a = as_type t a
+passed ZeroLiteral a = as_type int a
+
+-- an argument, with the place of its first token
+pub record Argument : Type 0 where
+  pub at : ℕ
+  pub resolved : ResolvedExpression
+
+pub record Passed : Type 0 where
+  pub found : Option Arguments
+  pub faults : List FaultAt
+
+abbrev pub before : List FaultAt → nodes.Expression → Passed → Passed
+before fs e rest = record { found = elim rest.found [ Some es ↦ Some (Next e es) | None ↦ None ]; faults = fs ++ rest.faults }
+
+abbrev pub spoiled : List FaultAt → Passed → Passed
+spoiled fs rest = record { found = None; faults = fs ++ rest.faults }
+
+abbrev pub pass : Wanted → ℕ → List FaultAt → Option TypedNode → Passed → Passed
+pass w at fs None rest = spoiled fs rest
+pass w at fs (Some a) rest = if fits w a then before fs (passed w a) rest else spoiled (fs ++ fault_at at TypeClash) rest
+
+abbrev pub pass_all : List Wanted → List Argument → Passed
+pass_all (w ∷ ws) (a ∷ more) = pass w a.at a.resolved.faults a.resolved.found (pass_all ws more)
+pass_all ws more = record { found = Some Done; faults = [] }
+
+abbrev pub faults_of : List Argument → List FaultAt
+faults_of [] = []
+faults_of (a ∷ more) = a.resolved.faults ++ faults_of more
+
+abbrev pub called : CType → (Arguments → nodes.Node) → Passed → ResolvedExpression
+called t make p = record { found = elim p.found [ Some es ↦ Some (typed t (make es)) | None ↦ None ]; faults = p.faults }
+
+abbrev pub call_with : ℕ → List Wanted → CType → (Arguments → nodes.Node) → List Argument → ResolvedExpression
+call_with at ws t make args = unless (nat_eq (length ws) (length args)) at ArgCount (faults_of args) (called t make (pass_all ws args))
+
+abbrev pub call : Names → ℕ → Option Entity → List Argument → ResolvedExpression
+call s at (Some (UserFunction f t ps)) args = call_with at (map OfType ps) t (nodes.Call f) args
+call s at (Some (BuiltInFunction k)) args = call_with at (built_in_wants k) (built_in_result k) (nodes.CallBuiltIn k) args
+call s at (Some CodeFunction) args = unless s.code at CodeOutsideFilter (faults_of args) (call_with at [] unsigned (λ es. nodes.ExceptionCode) args)
+call s at (Some AbnormalFunction) args = unless s.abnormal at AbnormalOutsideFinally (faults_of args) (call_with at [] int (λ es. nodes.AbnormalTermination) args)
+call s at other args = bad (fault_at at UnknownName ++ faults_of args)
+
+-- ---- expressions
+
+abbrev pub changed : Option Arithmetic → ℕ → ℕ → ResolvedExpression → ResolvedExpression → ResolvedExpression
+changed None at value_at a b = rule_2 value_at assigned (a.faults ++ b.faults) a.found b.found
+changed (Some o) at value_at a b = rule_2 at (compound_assigned o) (a.faults ++ b.faults) a.found b.found
+
+abbrev mutual
+  pub resolve_expression : Names → Expression → ResolvedExpression
+  resolve_expression s (trees.Constant at l) = good (literal l)
+  resolve_expression s (trees.Variable n) = name n.start (s.entity n)
+  resolve_expression s (trees.Information at f) = unless s.information at InfoOutsideFilter [] (field f)
+  resolve_expression s (trees.Call n es) = call s n.start (s.entity n) (resolve_arguments s es)
+  resolve_expression s (trees.Parentheses at e) = resolve_expression s e
+  resolve_expression s (trees.Index a at i) = rule_2 at element_of ((resolve_expression s a).faults ++ (resolve_expression s i).faults) (resolve_expression s a).found (resolve_expression s i).found
+  resolve_expression s (trees.Postfix e o at) = unless (is_lvalue s e) (start e) NotLvalue (resolve_expression s e).faults (rule_1 at (incremented Postfix o) (resolve_expression s e).faults (resolve_expression s e).found)
+  resolve_expression s (trees.Prefix at o e) = unless (is_lvalue s e) (start e) NotLvalue (resolve_expression s e).faults (rule_1 at (incremented Prefix o) (resolve_expression s e).faults (resolve_expression s e).found)
+  resolve_expression s (trees.Unary at o e) = unless (operand_is_lvalue o s e) (start e) NotLvalue (resolve_expression s e).faults (rule_1 at (unary_of o) (resolve_expression s e).faults (resolve_expression s e).found)
+  resolve_expression s (trees.Cast at t e) = rule_1 at (cast_of t) (resolve_expression s e).faults (resolve_expression s e).found
+  resolve_expression s (trees.Binary a at o b) = rule_2 at (binary_of o) ((resolve_expression s a).faults ++ (resolve_expression s b).faults) (resolve_expression s a).found (resolve_expression s b).found
+  resolve_expression s (trees.Conditional c at a b) =
+      rule_3 at conditional_of ((resolve_expression s c).faults ++ (resolve_expression s a).faults ++ (resolve_expression s b).faults) (resolve_expression s c).found (resolve_expression s a).found (resolve_expression s b).found
+  resolve_expression s (trees.Assign a at o b) =
+      unless (is_lvalue s a) (start a) NotLvalue ((resolve_expression s a).faults ++ (resolve_expression s b).faults) (changed o at (start b) (resolve_expression s a) (resolve_expression s b))
+  resolve_expression s (trees.Comma a at b) = rule_2 at comma_of ((resolve_expression s a).faults ++ (resolve_expression s b).faults) (resolve_expression s a).found (resolve_expression s b).found
+
+  pub resolve_arguments : Names → trees.Arguments → List Argument
+  resolve_arguments s trees.Done = []
+  resolve_arguments s (trees.Next e es) = record { at = start e; resolved = resolve_expression s e } ∷ resolve_arguments s es

@@ -1,0 +1,9 @@
+pub mod Types
+pub mod Operators
+pub mod Expressions
+pub mod Scopes
+pub mod Statements
+pub mod Program
+pub mod Accepted
+pub mod Rows
+pub mod Laws

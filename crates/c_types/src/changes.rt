@@ -1,0 +1,121 @@
+//! Assignments, `++` and `--` (C11, 6.5.16, 6.5.2.4 and 6.5.3.1).
+
+ghost use Rattle.std.specs.Prelude.{◌≡◌, IfOk, option_map};
+ghost use Rattle.c_resolved.specs.Operators.{assigned, is_additive, compound_assigned, increment_operator, incremented};
+ghost use Rattle.c_types.specs.Views.{typed_node};
+
+use crate::nodes::{assign, compound_assign, increment, lvalue_of};
+use crate::operators::{operation_in, right_operand, working_type};
+use crate::pointers::long_operation;
+use crate::typed::{TypedNode, as_index, as_type, can_become, typed};
+use crate::types::{
+    bytes_in, conversion, is_integer, is_pointer, is_sized_pointer, pointed, promoted,
+};
+use c_checked::expression::{Conversion, Fixity};
+use c_syntax::operator::{Arithmetic, Increment};
+use std::alloc::{AllocError, Global};
+
+/// `a = b`
+pub fn assigned(alloc: Global, a: TypedNode, b: TypedNode) -> Result<Option<TypedNode>, AllocError>
+    ensures { IfOk result (λ r. option_map typed_node r ≡ assigned (typed_node a) (typed_node b)) }
+{
+    let t = a.of;
+    if !can_become(t, &b) {
+        return Ok(None);
+    }
+    match lvalue_of(a.node) {
+        None => Ok(None),
+        Some(target) => {
+            let made = assign(alloc, target, as_type(t, b))?;
+            Ok(Some(typed(t, made)))
+        }
+    }
+}
+
+fn is_additive(operator: Arithmetic) -> bool
+    ensures { result ≡ is_additive operator }
+{
+    match operator {
+        Arithmetic::Add | Arithmetic::Subtract => true,
+        _ => false,
+    }
+}
+
+/// `a operator= b`
+pub fn compound_assigned(
+    alloc: Global,
+    operator: Arithmetic,
+    a: TypedNode,
+    b: TypedNode,
+) -> Result<Option<TypedNode>, AllocError>
+    ensures { IfOk result (λ r. option_map typed_node r ≡ compound_assigned operator (typed_node a) (typed_node b)) }
+{
+    let t = a.of;
+    if is_pointer(t) {
+        if !(is_additive(operator) && is_sized_pointer(t) && is_integer(b.of)) {
+            return Ok(None);
+        }
+        let Some(target) = lvalue_of(a.node) else {
+            return Ok(None);
+        };
+        let operation = long_operation(operator);
+        let index = as_index(t, b);
+        let made = compound_assign(
+            alloc,
+            target,
+            Conversion::Kept,
+            operation,
+            index,
+            Conversion::Kept,
+        )?;
+        return Ok(Some(typed(t, made)));
+    }
+    if !(is_integer(t) && is_integer(b.of)) {
+        return Ok(None);
+    }
+    let w = working_type(operator, t, b.of);
+    let Some(target) = lvalue_of(a.node) else {
+        return Ok(None);
+    };
+    let operation = operation_in(operator, w);
+    let value = right_operand(operator, w, b);
+    let before = conversion(t, w);
+    let after = conversion(w, t);
+    let made = compound_assign(alloc, target, before, operation, value, after)?;
+    Ok(Some(typed(t, made)))
+}
+
+fn increment_operator(operator: Increment) -> Arithmetic
+    ensures { result ≡ increment_operator operator }
+{
+    match operator {
+        Increment::Increment => Arithmetic::Add,
+        Increment::Decrement => Arithmetic::Subtract,
+    }
+}
+
+/// `++a`, `--a`, `a++` and `a--`.
+pub fn incremented(fixity: Fixity, operator: Increment, a: TypedNode) -> Option<TypedNode>
+    ensures { option_map typed_node result ≡ incremented fixity operator (typed_node a) }
+{
+    let t = a.of;
+    let operator = increment_operator(operator);
+    if is_pointer(t) {
+        if !is_sized_pointer(t) {
+            return None;
+        }
+        let target = lvalue_of(a.node)?;
+        let amount = bytes_in(pointed(t));
+        let operation = long_operation(operator);
+        let made = increment(fixity, target, operation, amount, Conversion::Kept);
+        return Some(typed(t, made));
+    }
+    if !is_integer(t) {
+        return None;
+    }
+    let target = lvalue_of(a.node)?;
+    let p = promoted(t);
+    let operation = operation_in(operator, p);
+    let made = increment(fixity, target, operation, 1, conversion(p, t));
+    Some(typed(t, made))
+}

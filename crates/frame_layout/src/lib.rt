@@ -1,0 +1,12 @@
+//! The frames of compiled functions (Microsoft x64 ABI, "x64 stack usage" and "Prolog and epilog").
+//!
+//! [`plan`] lays out a [`Frame`] by what a function needs of it; [`prologue`] and [`epilogue`] are the
+//! instructions that take it and give it back, and [`unwind_of`] what unwinding needs to know of them.
+//! No call takes memory.
+#![tactic(auto)]
+
+mod frame;
+mod instructions;
+
+pub use frame::{Facts, Frame, plan};
+pub use instructions::{epilogue, prologue, unwind_of};

@@ -1,0 +1,107 @@
+-- The rules for a function with an entry, and the states in which they promise its caller.
+use Rattle.std.specs.Prelude.{◌≡◌, ◌≢◌, ◌⊎◌, ℕ, ◌+◌, ◌^◌, ◌<◌, true, List, [], ◌∷◌, ◌++◌, Some, Ok}
+use Rattle.x64_machine.specs.Effect.{State}
+use Rattle.x64_machine.specs.declared.context.Context.{Context}
+use Rattle.eh_tables.specs.declared.code.UnwindOperation.{UnwindOperation}
+use Rattle.eh_tables.specs.Infos.{Info}
+use Rattle.virtual_unwind.specs.Contexts.{rsp}
+use Rattle.virtual_unwind.specs.Undone.{Answer, operations}
+use Rattle.virtual_unwind.specs.declared.tail.Role.TheVariants.{Other}
+use Rattle.virtual_unwind.specs.Tail.{FetchedInstr, role_of}
+use Rattle.virtual_unwind.specs.CallerOf.{CallerFrame, sets_frame}
+use Rattle.frame_rules.specs.Codes.{are_allowed, is_ordered}
+use Rattle.frame_rules.specs.Prologue.{bytes, Step, items, codes_onto, AreSteps}
+use Rattle.frame_rules.specs.Body.{Mode, Body, behind, is_body}
+use Rattle.frame_rules.specs.States.{Runs, InBody, all_leave}
+
+-- a function: its unwind info, the steps of its prologue, and the instructions behind it
+pub record Function : Type 0 where
+  pub info : Info
+  pub steps : List Step
+  pub rest : List FetchedInstr
+
+abbrev pub ops : Function → List UnwindOperation
+ops f = operations f.info.codes
+
+abbrev pub size : Function → ℕ
+size f = bytes (items f.steps) + bytes f.rest
+
+pub record IsRight (f : Function) : Type 0 where
+  pub offset : f.info.frame_offset < 2 ^ 16
+  pub codes : f.info.codes ≡ codes_onto [] f.steps
+  pub prologue_size : f.info.prologue_size ≡ bytes (items f.steps)
+  pub steps : AreSteps f.info.frame_register f.info.frame_offset 0 f.steps
+  pub ordered : is_ordered (ops f) ≡ true
+  pub allowed : are_allowed f.info.frame_register (ops f) ≡ true
+  pub frame : f.info.frame_register ≢ 0 → sets_frame (ops f) ≡ true
+  pub body : is_body (behind f.info.frame_register f.info.frame_offset (ops f) f.rest (Body [])) ≡ true
+
+-- the mode at a place
+abbrev pub mode_behind : Function → List FetchedInstr → Mode → Mode → Type 0
+mode_behind f xs from to = behind f.info.frame_register f.info.frame_offset (ops f) xs from ≡ Some to
+
+-- ---- the states, e at the first byte, so far from it
+
+-- on the way through the prologue
+pub record InPrologue (f : Function) (e s : State) (distance : ℕ) : Type 0 where
+  pub done : List FetchedInstr
+  pub left : List FetchedInstr
+  pub parts : items f.steps ≡ done ++ left
+  pub before : bytes done < f.info.prologue_size
+  pub here : distance ≡ bytes done
+  pub runs : Runs e done s
+
+-- in the body, at an instruction that belongs to no epilogue
+pub record IsBody (f : Function) (e s : State) (distance : ℕ) : Type 0 where
+  pub behind : State  -- the prologue
+  pub runs : Runs e (items f.steps) behind
+  pub done : List FetchedInstr
+  pub item : FetchedInstr
+  pub left : List FetchedInstr
+  pub loaded : List ℕ
+  pub parts : f.rest ≡ done ++ (item ∷ left)
+  pub mode : mode_behind f done (Body []) (Body loaded)
+  pub other : role_of f.info.frame_register item.plain item.instr ≡ Other
+  pub here : distance ≡ f.info.prologue_size + bytes done
+  pub in_body : InBody f.info.frame_register (ops f) f.rest e behind s
+
+-- reached from a state of the body by the loads of saved registers and the epilogue's instructions before it
+pub record IsLeaving (f : Function) (e s : State) (distance : ℕ) : Type 0 where
+  pub behind : State  -- the prologue
+  pub runs : Runs e (items f.steps) behind
+  pub from : State
+  pub done : List FetchedInstr
+  pub run : List FetchedInstr
+  pub left : List FetchedInstr
+  pub to : Mode
+  pub parts : f.rest ≡ done ++ (run ++ left)
+  pub mode : mode_behind f done (Body []) (Body [])
+  pub mode_here : mode_behind f run (Body []) to
+  pub leave : all_leave f.info.frame_register f.info.frame_offset (ops f) run ≡ true
+  pub here : distance ≡ f.info.prologue_size + (bytes done + bytes run)
+  pub in_body : InBody f.info.frame_register (ops f) f.rest e behind from
+  pub runs_on : Runs from run s
+  pub goes_on : left ≢ []
+
+abbrev pub Stands : Function → State → State → ℕ → Type 0
+Stands f e s distance = InPrologue f e s distance ⊎ (IsBody f e s distance ⊎ IsLeaving f e s distance)
+
+-- ---- what is promised
+
+-- a caller is found, with this context, and above this RSP
+pub record Finds (a : Answer CallerFrame) (c : Context) (stack : ℕ) : Type 0 where
+  pub found : CallerFrame
+  pub is : a ≡ Ok found
+  pub context : found.context ≡ c
+  pub rises : stack < rsp c
+
+pub record IsFound (a : Answer CallerFrame) (c : Context) : Type 0 where
+  pub found : CallerFrame
+  pub is : a ≡ Ok found
+  pub context : found.context ≡ c
+
+-- a function of these instructions in its prologue and behind it
+pub record HasForm (i : Info) (xs ys : List FetchedInstr) : Type 0 where
+  pub steps : List Step
+  pub spelled : items steps ≡ xs
+  pub right : IsRight (record { info = i; steps = steps; rest = ys })

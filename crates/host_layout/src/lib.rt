@@ -1,0 +1,10 @@
+//! Where the memory of a run lies, and where its host's services are.
+//!
+//! Every range and every service of the product is written here, once; the other crates cite it.
+//! Begin with `range` and `service`. Proved: each function of `service` is its definition, and the
+//! service at a service's address is that service.
+#![tactic(auto)]
+
+pub mod name;
+pub mod range;
+pub mod service;

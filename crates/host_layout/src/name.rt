@@ -1,0 +1,12 @@
+//! The names by which images import the services of their host.
+
+/// Raises an exception.
+pub const RAISE_EXCEPTION: &[u8] = b"RaiseException";
+/// The language handler of C.
+pub const C_SPECIFIC_HANDLER: &[u8] = b"__C_specific_handler";
+/// Unwinds within a function.
+pub const LOCAL_UNWIND: &[u8] = b"_local_unwind";
+/// Sets the rights of a page of the arena.
+pub const PROTECT: &[u8] = b"protect";
+/// Writes a number.
+pub const PUT: &[u8] = b"put";

@@ -1,0 +1,3 @@
+pub mod BodyState
+pub mod Meaning
+pub mod Program

@@ -1,0 +1,46 @@
+-- Linear code of programs, wherever it lies in memory.
+use Rattle.std.specs.Prelude.{ℕ, List, map, Option}
+use Rattle.linear_code.specs.declared.instruction.Instruction.{Instruction}
+use Rattle.linear_code.specs.declared.program.Region.{Region}
+use Rattle.linear_code.specs.declared.program.FuncletKind.{FuncletKind}
+use Rattle.linear_code.specs.declared.program.IrBody.{IrBody}
+use Rattle.linear_code.specs.declared.program.IrFunction.{IrFunction}
+use Rattle.linear_code.specs.declared.program.IrFunclet.{IrFunclet}
+use Rattle.linear_code.specs.declared.program.IrProgram.{IrProgram}
+
+pub record LinearBody : Type 0 where
+  pub locals : ℕ
+  pub temporaries : ℕ
+  pub passed : ℕ
+  pub code : List Instruction
+  pub regions : List Region
+
+pub record LinearFunction : Type 0 where
+  pub parameters : ℕ
+  pub body : LinearBody
+
+pub record LinearFunclet : Type 0 where
+  pub kind : FuncletKind
+  pub function : ℕ
+  pub parent : Option ℕ
+  pub body : LinearBody
+
+pub record LinearProgram : Type 0 where
+  pub globals : List ℕ
+  pub main : ℕ
+  pub functions : List LinearFunction
+  pub funclets : List LinearFunclet
+
+-- ---- the code's programs
+
+abbrev pub linear_body : IrBody → LinearBody
+linear_body b = record { locals = b.locals; temporaries = b.temporaries; passed = b.passed; code = b.code.items; regions = b.regions.items }
+
+abbrev pub linear_function : IrFunction → LinearFunction
+linear_function f = record { parameters = f.parameters; body = linear_body f.body }
+
+abbrev pub linear_funclet : IrFunclet → LinearFunclet
+linear_funclet f = record { kind = f.kind; function = f.function; parent = f.parent; body = linear_body f.body }
+
+abbrev pub linear_program : IrProgram → LinearProgram
+linear_program p = record { globals = p.globals.items; main = p.main; functions = map linear_function p.functions.items; funclets = map linear_funclet p.funclets.items }

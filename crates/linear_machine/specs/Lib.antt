@@ -1,0 +1,6 @@
+pub mod Frames
+pub mod Regions
+pub mod Unwinding
+pub mod Searching
+pub mod Instructions
+pub mod Run

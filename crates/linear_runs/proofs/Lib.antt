@@ -1,0 +1,5 @@
+pub mod Longer
+pub mod Stretch
+pub mod Walks
+pub mod Ranges
+pub mod MoreTurns

@@ -1,0 +1,4 @@
+//! What runs of linear code show: with more turns at least as much, and an end stays.
+#![tactic(auto)]
+
+pub mod laws;

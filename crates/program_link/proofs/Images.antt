@@ -1,0 +1,146 @@
+-- The image of routines that have room can be written.
+use Rattle.std.proofs.Common.{◌≡◌, ℕ, zero, suc, ◌+◌, ◌-◌, ◌^◌, ◌<◌, ◌≤◌, ◌==◌, Bool, true, false, not, List, [], ◌∷◌, ◌++◌, length, get_or, take, drop, map, None, Result, Ok, Err, refl, sym, ap, subst, ◌∙◌, arith, length-append}
+use Rattle.std.specs.Prelude.{◌&&◌, IfOk}
+use Rattle.std.specs.List.{AllByRecursion}
+use Rattle.std.proofs.lemmas.Bool.{eq-eqb}
+use Rattle.linear_code.specs.Program.{LinearBody, LinearFunction, LinearFunclet, LinearProgram}
+use Rattle.pe_write.specs.Program.{IsProgram, rdata_at, xdata_at}
+use Rattle.pe_write.specs.declared.sizes.Sizes.{Sizes}
+use Rattle.program_link.specs.declared.routine.Entry.TheVariants as entries
+use Rattle.program_link.specs.Routines.{RoutineView, is_leaf, framed, leaf_if, functions_from, funclet, routines}
+use Rattle.program_link.specs.Near.{IsRoutineNear, IsSiteNear, HasPlaces}
+use Rattle.program_link.specs.Text.{routine_size, bounds}
+use Rattle.program_link.specs.Tables.{infos_room}
+use Rattle.program_link.specs.Linked.{data_size, first, total, front_sizes, site, image_of}
+use Rattle.program_link.specs.Fits.{FitsProgram, tables_room, function_bodies, funclet_bodies}
+use Rattle.program_link.proofs.Entries.{framed_some}
+use Rattle.program_link.proofs.Nearness.{routines_room}
+use Rattle.program_link.proofs.Bounds.{bounds_length, bounds_end, bounds_least, bounds_below, total_small, bounds_near, take_near, drop_near, text_length, infos_length, tables_small, count_small}
+
+pub if_ok : {A E : Type 0} (P Q : A → Type 0) (r : Result A E) → ((x : A) → P x → Q x) → IfOk r P → IfOk r Q
+if_ok P Q (Ok x) f p = f x p
+if_ok P Q (Err e) f p = tt
+
+-- ---- bounds
+
+pub there : (b : List ℕ) (at : ℕ) (rs : List RoutineView) (i : ℕ) → b ≡ bounds at rs → i ≤ length rs → i < length b
+there b at rs i e le = let l = ap length e in omega (arith, bounds_length at rs)
+
+pub past : (b : List ℕ) (at : ℕ) (rs : List RoutineView) (i text : ℕ) → b ≡ bounds at rs → i ≤ length rs → text ≤ at → text ≤ get_or b i 0
+past b at rs i text e le lt = let l = bounds_least at rs i 0 le in let s = ap (λ (xs : List ℕ). get_or xs i 0) e in omega arith
+
+pub text_size : (b : List ℕ) (at text : ℕ) (rs : List RoutineView) → b ≡ bounds at rs → at ≡ text + 51 → get_or b (length rs) 0 - text ≡ 51 + total rs
+text_size b at text rs e is = let l = bounds_end at rs 0 in let s = ap (λ (xs : List ℕ). get_or xs (length rs) 0) e in omega arith
+
+pub site_near : (g : List ℕ) (rs : List RoutineView) (functions main : ℕ) → length g ≤ 2 ^ 20 → AllByRecursion IsRoutineNear rs → HasPlaces rs functions main → IsSiteNear (site g rs functions)
+site_near g rs functions main few near places =
+    let t = total_small rs near in
+    let r = places.room in
+    let b = bounds_near (first g) rs near (omega arith) in
+    record { text = omega arith; rdata = omega arith; functions = take_near functions (bounds (first g) rs) b; funclets = drop_near functions (bounds (first g) rs) b }
+
+pub tables_fit : (g : List ℕ) (rs : List RoutineView) (functions main : ℕ) → length g ≤ 2 ^ 20 → AllByRecursion IsRoutineNear rs → HasPlaces rs functions main → xdata_at (front_sizes g rs) + infos_room rs < 2 ^ 31
+tables_fit g rs functions main few near places = let t = total_small rs near in let r = places.room in let s = places.tables in omega arith
+
+pub rdata_fits : (g : List ℕ) (rs : List RoutineView) (functions main : ℕ) → length g ≤ 2 ^ 20 → AllByRecursion IsRoutineNear rs → HasPlaces rs functions main → xdata_at (front_sizes g rs) < 2 ^ 31
+rdata_fits g rs functions main few near places = let t = total_small rs near in let r = places.room in omega arith
+
+pub is_program : (g : List ℕ) (rs : List RoutineView) (functions main : ℕ) → length g ≤ 2 ^ 20 → AllByRecursion IsRoutineNear rs → HasPlaces rs functions main → (d : RoutineView) → IsProgram (image_of g rs functions main)
+is_program g rs functions main few near places d =
+    let s = site g rs functions in
+    let t = total_small rs near in
+    let r = places.room in
+    let u = places.tables in
+    let n = count_small rs in
+    let text = text_length s rs near in
+    let xdata = infos_length s (first g) rs in
+    let pdata = tables_small s (xdata_at (front_sizes g rs)) (first g) rs in
+    let some = places.some d in
+    let below = bounds_below (first g) rs main 0 d places.there in
+    record { whole = omega arith; some = omega arith; stored = omega arith; entry = omega arith; end = omega arith }
+
+-- ---- what the code has computed
+
+abbrev pub got_sizes : ℕ → ℕ → Sizes
+got_sizes size_of_data t = record { data_size = size_of_data; text_size = t; xdata_size = 0; pdata_size = 0 }
+
+pub sizes_is : (g b : List ℕ) (rs : List RoutineView) (size_of_data t : ℕ) → size_of_data ≡ data_size g → b ≡ bounds (first g) rs → t ≡ get_or b (length rs) 0 - (4096 + size_of_data) → got_sizes size_of_data t ≡ front_sizes g rs
+sizes_is g b rs size_of_data t d e is =
+    let begin : first g ≡ (4096 + size_of_data) + 51 = omega arith in
+    let same : t ≡ 51 + total rs = is ∙ text_size b (first g) (4096 + size_of_data) rs e begin in
+    λ i. record { data_size = d i; text_size = same i; xdata_size = 0; pdata_size = 0 }
+
+pub site_is : (g b : List ℕ) (rs : List RoutineView) (functions size_of_data t rdata : ℕ) → size_of_data ≡ data_size g → b ≡ bounds (first g) rs → t ≡ get_or b (length rs) 0 - (4096 + size_of_data) → rdata ≡ rdata_at (got_sizes size_of_data t)
+    → record { text = 4096 + size_of_data; rdata = rdata; functions = take functions b; funclets = drop functions b } ≡ site g rs functions
+site_is g b rs functions size_of_data t rdata d e is r =
+    let same : rdata ≡ rdata_at (front_sizes g rs) = r ∙ ap rdata_at (sizes_is g b rs size_of_data t d e is) in
+    λ i. record { text = 4096 + d i; rdata = same i; functions = take functions (e i); funclets = drop functions (e i) }
+
+pub same_image : (g : List ℕ) (rs : List RoutineView) (functions main size_of_data entry : ℕ) (text xdata pdata : List ℕ)
+    → size_of_data ≡ (image_of g rs functions main).data_size → text ≡ (image_of g rs functions main).text → entry ≡ (image_of g rs functions main).entry → xdata ≡ (image_of g rs functions main).xdata → pdata ≡ (image_of g rs functions main).pdata
+    → record { data_size = size_of_data; data_bytes = g; text = text; entry = entry; xdata = xdata; pdata = pdata } ≡ image_of g rs functions main
+same_image g rs functions main size_of_data entry text xdata pdata e1 e2 e3 e4 e5 = λ i. record { data_size = e1 i; data_bytes = g; text = e2 i; entry = e3 i; xdata = e4 i; pdata = e5 i }
+
+abbrev pub no_routine : RoutineView
+no_routine = record { entry = entries.Function 0; frame = None; layout = record { base = None; pointers = 0; locals = 0; temporaries = 0; frame = 0 }; body = record { locals = 0; temporaries = 0; passed = 0; code = []; regions = [] } }
+
+-- ---- programs
+
+functions_count : (main index : ℕ) (fs : List LinearFunction) → length (functions_from main index fs) ≡ length fs
+functions_count main index [] = refl
+functions_count main index (f ∷ fs) = let c = functions_count main (suc index) fs in omega arith
+
+functions_main : (main index i : ℕ) (fs : List LinearFunction) (d : RoutineView) (e : LinearFunction) → i < length fs → index + i ≡ main → get_or (functions_from main index fs) i d ≡ framed (get_or fs i e)
+functions_main main index i [] d e lt is = absurd (omega arith)
+functions_main main index zero (f ∷ fs) d e lt is = ap (λ (b : Bool). leaf_if (not b && is_leaf f.body) f) (eq-eqb index main (let z : index ≡ main = omega arith in z))
+functions_main main index (suc i) (f ∷ fs) d e lt is = functions_main main (suc index) i fs d e (omega arith) (let z : suc index + i ≡ main = omega arith in z)
+
+get_first : (a b : List RoutineView) (i : ℕ) (d : RoutineView) → i < length a → get_or (a ++ b) i d ≡ get_or a i d
+get_first [] b i d lt = absurd (omega arith)
+get_first (r ∷ a) b zero d lt = refl
+get_first (r ∷ a) b (suc i) d lt = get_first a b i d (omega arith)
+
+abbrev no_function : LinearFunction
+no_function = record { parameters = 0; body = record { locals = 0; temporaries = 0; passed = 0; code = []; regions = [] } }
+
+main_is : (p : LinearProgram) → FitsProgram p → (d : RoutineView) → get_or (routines p) p.main d ≡ framed (get_or p.functions p.main no_function)
+main_is p fits d =
+    let lt = fits.main in
+    let c = functions_count p.main 0 p.functions in
+    get_first (functions_from p.main 0 p.functions) (map (funclet p) p.funclets) p.main d (omega arith) ∙ functions_main p.main 0 p.main p.functions d no_function lt (let z : 0 + p.main ≡ p.main = omega arith in z)
+
+same_body : (b : Bool) (f : LinearFunction) → (leaf_if b f).body ≡ f.body
+same_body true f = refl
+same_body false f = refl
+
+functions_tables : (main index : ℕ) (fs : List LinearFunction) → infos_room (functions_from main index fs) ≡ tables_room (function_bodies fs)
+functions_tables main index [] = refl
+functions_tables main index (f ∷ fs) =
+    let r = functions_tables main (suc index) fs in
+    let s = ap (λ (b : LinearBody). length b.regions) (same_body (not (index == main) && is_leaf f.body) f) in
+    omega arith
+
+funclets_tables : (p : LinearProgram) (fs : List LinearFunclet) → infos_room (map (funclet p) fs) ≡ tables_room (funclet_bodies fs)
+funclets_tables p [] = refl
+funclets_tables p (f ∷ fs) = let r = funclets_tables p fs in omega arith
+
+both_tables : (a b : List RoutineView) → infos_room (a ++ b) ≡ infos_room a + infos_room b
+both_tables [] b = omega arith
+both_tables (r ∷ a) b = let s = both_tables a b in omega arith
+
+pub has_places : (p : LinearProgram) → FitsProgram p → HasPlaces (routines p) (length p.functions) p.main
+has_places p fits =
+    let c = functions_count p.main 0 p.functions in
+    let a = functions_from p.main 0 p.functions in
+    let b = map (funclet p) p.funclets in
+    let lt = fits.main in
+    let t = fits.tables in
+    let u = functions_tables p.main 0 p.functions in
+    let v = funclets_tables p p.funclets in
+    record {
+      room = routines_room p fits;
+      tables = omega (arith, both_tables a b);
+      fewer = omega (arith, length-append a b);
+      there = omega (arith, length-append a b);
+      some = λ d. subst (λ (r : RoutineView). 0 < routine_size r) (sym (main_is p fits d)) (framed_some (get_or p.functions p.main no_function));
+    }

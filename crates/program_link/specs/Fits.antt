@@ -1,0 +1,77 @@
+-- Programs that can be linked: the limits that keep every frame within 8,192 bytes and every address of the image below 1 GiB (own).
+use Rattle.std.specs.Prelude.{ℕ, ◌+◌, ◌*◌, ◌^◌, ◌<◌, ◌≤◌, List, [], ◌∷◌, length}
+use Rattle.std.specs.List.{AllByRecursion}
+use Rattle.linear_code.specs.declared.slot.Slot.{Slot}
+use Rattle.linear_code.specs.declared.slot.Slot.TheVariants.{Local, Temporary}
+use Rattle.linear_code.specs.declared.instruction.Instruction.{Instruction}
+use Rattle.linear_code.specs.declared.instruction.Instruction.TheVariants as instructions
+use Rattle.linear_code.specs.declared.program.FuncletKind.{FuncletKind}
+use Rattle.linear_code.specs.declared.program.FuncletKind.TheVariants.{Filter, Finally}
+use Rattle.linear_code.specs.Program.{LinearBody, LinearFunction, LinearFunclet, LinearProgram}
+use Rattle.x64_code.specs.Near.{IsFieldNear}
+use Rattle.program_link.specs.Routines.{HasParent}
+
+-- ---- instructions
+
+abbrev pub FitsSlot : LinearBody → Slot → Type 0
+FitsSlot b (Local i) = i < b.locals
+FitsSlot b (Temporary i) = i < b.temporaries
+
+abbrev pub FitsInstruction : LinearBody → Instruction → Type 0
+FitsInstruction b (instructions.Compute to o first second) = FitsSlot b to × FitsSlot b first × FitsSlot b second
+FitsInstruction b (instructions.Information to field) = FitsSlot b to × IsFieldNear field
+FitsInstruction b (instructions.Landing to) = FitsSlot b to
+FitsInstruction b (instructions.JumpIfZero slot label) = FitsSlot b slot
+FitsInstruction b (instructions.Call function first count) = (first < b.temporaries) × (count ≤ 8)
+FitsInstruction b (instructions.CallBuiltIn function first) = first < b.temporaries
+FitsInstruction b (instructions.Return from) = FitsSlot b from
+FitsInstruction b other = Unit {0}
+
+-- ---- bodies
+
+pub record FitsBody (b : LinearBody) : Type 0 where
+  pub words : b.passed + b.temporaries + b.locals ≤ 1000
+  pub code : AllByRecursion (FitsInstruction b) b.code
+  pub regions : length b.regions ≤ 2 ^ 20
+
+pub record FitsFunction (f : LinearFunction) : Type 0 where
+  pub parameters : f.parameters ≤ 8
+  pub body : FitsBody f.body
+
+abbrev pub FitsKind : LinearBody → FuncletKind → Type 0
+FitsKind b Filter = Unit {0}
+FitsKind b (Finally flag) = flag < b.locals
+
+pub record FitsFunclet (p : LinearProgram) (f : LinearFunclet) : Type 0 where
+  pub kind : FitsKind f.body f.kind
+  pub function : f.function < length p.functions
+  pub parent : HasParent p f.parent
+  pub body : FitsBody f.body
+
+-- ---- programs
+
+-- how many bytes bodies take at most, each with what comes before it
+abbrev pub room : List LinearBody → ℕ
+room [] = 0
+room (b ∷ bs) = 512 + 256 * length b.code + room bs
+
+abbrev pub function_bodies : List LinearFunction → List LinearBody
+function_bodies [] = []
+function_bodies (f ∷ fs) = f.body ∷ function_bodies fs
+
+abbrev pub funclet_bodies : List LinearFunclet → List LinearBody
+funclet_bodies [] = []
+funclet_bodies (f ∷ fs) = f.body ∷ funclet_bodies fs
+
+-- how many bytes their unwind infos and scope tables take at most
+abbrev pub tables_room : List LinearBody → ℕ
+tables_room [] = 0
+tables_room (b ∷ bs) = 32 + 16 * length b.regions + tables_room bs
+
+pub record FitsProgram (p : LinearProgram) : Type 0 where
+  pub globals : length p.globals ≤ 2 ^ 20
+  pub main : p.main < length p.functions
+  pub functions : AllByRecursion FitsFunction p.functions
+  pub funclets : AllByRecursion (FitsFunclet p) p.funclets
+  pub small : room (function_bodies p.functions) + room (funclet_bodies p.funclets) < 2 ^ 29 + 2 ^ 28
+  pub tables : tables_room (function_bodies p.functions) + tables_room (funclet_bodies p.funclets) < 2 ^ 29

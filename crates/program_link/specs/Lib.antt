@@ -1,0 +1,6 @@
+pub mod Routines
+pub mod Text
+pub mod Tables
+pub mod Linked
+pub mod Near
+pub mod Fits

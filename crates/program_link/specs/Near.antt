@@ -1,0 +1,43 @@
+-- Routines whose slots and frames 32-bit displacements reach.
+use Rattle.std.specs.Prelude.{ℕ, ◌+◌, ◌^◌, ◌<◌, ◌≤◌, List, length, get_or, Option, Some, None}
+use Rattle.std.specs.List.{AllByRecursion}
+use Rattle.linear_code.specs.declared.slot.Slot.TheVariants.{Local}
+use Rattle.frame_layout.specs.declared.frame.Frame.{Frame}
+use Rattle.template_code.specs.declared.layout.Layout.{Layout}
+use Rattle.x64_code.specs.Near.{AreNear, IsSlotNear, AreParametersNear, ArePointersNear, IsInstructionNear}
+use Rattle.x64_code.specs.Entries.{IsKeptNear}
+use Rattle.program_link.specs.declared.routine.Entry.{Entry}
+use Rattle.program_link.specs.declared.routine.Entry.TheVariants as entries
+use Rattle.program_link.specs.Routines.{RoutineView}
+use Rattle.program_link.specs.Text.{SiteView, base_of, room, routine_size}
+use Rattle.program_link.specs.Tables.{infos_room}
+
+abbrev pub IsFrameNear : Option Frame → Type 0
+IsFrameNear None = Unit {0}
+IsFrameNear (Some f) = (0 < f.size) × (f.size ≤ 8184)
+
+abbrev pub IsEntryNear : Layout → Entry → Type 0
+IsEntryNear y (entries.Function count) = (count ≤ 8) × AreParametersNear y count
+IsEntryNear y (entries.Filter parent) = IsKeptNear parent (base_of y y.base) × ArePointersNear y
+IsEntryNear y (entries.Finally parent flag) = IsKeptNear parent (base_of y y.base) × IsSlotNear y (Local flag)
+
+pub record IsRoutineNear (r : RoutineView) : Type 0 where
+  pub frame : IsFrameNear r.frame
+  pub entry : IsEntryNear r.layout r.entry
+  pub code : AllByRecursion (IsInstructionNear r.layout) r.body.code
+  pub regions : length r.body.regions ≤ 2 ^ 20
+
+-- the addresses that routines refer to
+pub record IsSiteNear (s : SiteView) : Type 0 where
+  pub text : s.text < 2 ^ 29
+  pub rdata : s.rdata < 2 ^ 29 + 2 ^ 28 + 2 ^ 27
+  pub functions : AreNear s.functions
+  pub funclets : AreNear s.funclets
+
+-- all routines have room in an image, whose first routine is a function and which begins at one that isn't empty
+pub record HasPlaces (rs : List RoutineView) (functions main : ℕ) : Type 0 where
+  pub room : room rs < 2 ^ 29 + 2 ^ 28
+  pub tables : infos_room rs < 2 ^ 29
+  pub fewer : functions ≤ length rs
+  pub there : main < length rs
+  pub some : (d : RoutineView) → 0 < routine_size (get_or rs main d)

@@ -1,0 +1,28 @@
+-- A run with more turns than a program's steps need shows what the program means.
+use Rattle.std.proofs.Common.{◌≡◌, ◌+◌, ◌*◌, ◌-◌, ◌≤◌, ℕ, ℤ, pos, ap, sym, subst, arith}
+use Rattle.seh_io.specs.Text.{text}
+use Rattle.host_model.specs.Laws.{Covers}
+use Rattle.host_model.specs.Machine.{Shown, machine}
+use Rattle.host_model.proofs.Longer.{covers_then, images_cover}
+use Rattle.seh_host.specs.Turns.{end_within}
+use Rattle.c_meaning.specs.Meaning.{meaning}
+use Rattle.seh.specs.Answers.{shown_by}
+use Rattle.seh.specs.Headline.{Headline}
+
+pub headline : Headline
+headline source image compiled options arg n low enough =
+    let real = compiled.realises in
+    let k = 256 * n + 256 in
+    let j = options.turns - k in
+    let meant = meaning compiled.program (pos arg) n in
+    let le = enough.turns in
+    let same : k + j ≡ options.turns = omega arith in
+    let covers : Covers meant.events meant.end (shown_by options image) =
+    subst (λ (m : ℕ). Covers meant.events meant.end (machine image options.argument m)) same
+    (subst (λ (a : ℤ). Covers meant.events meant.end (machine image a (k + j))) (sym enough.argument)
+    (covers_then meant.events meant.end (machine image (pos arg) k) (machine image (pos arg) (k + j)) (real.shows arg n low) (images_cover image (pos arg) k j))) in
+    record {
+      covers = covers;
+      ended = λ e is. ap (λ (x : Shown). end_within options.turns x.end) (covers.ends e is);
+      whole = λ e is. ap (λ (x : Shown). text x.events (end_within options.turns x.end) options.trace) (covers.ends e is);
+    }

@@ -1,0 +1,273 @@
+-- How long the code of statements is, and the code of each kind of statement, made piece by piece.
+use Rattle.std.proofs.Common.{◌≡◌, ℕ, zero, suc, ◌+◌, ◌<◌, List, [], ◌∷◌, ◌++◌, length, map, take, get_or, Option, None, Some, refl, sym, ap, subst, ◌∙◌, arith, append_assoc, length-append}
+use Rattle.std.specs.Prelude.{◌-◌, option_map}
+use Rattle.std.proofs.lemmas.List.{append-nil}
+use Rattle.c_checked.specs.declared.statement.Declared.{Declared as Declared'}
+use Rattle.c_checked.specs.declared.statement.Stmt.{Stmt}
+use Rattle.c_checked.specs.Expression.{Expression}
+use Rattle.c_checked.specs.Statement as tree
+use Rattle.c_checked.specs.Statement.{Declared, Filter, Statement, Declare, Block, Evaluate, If, IfElse, For, DoWhile, Return, Break, Continue, Leave, TryExcept, TryFinally, Statements, Empty, Then, statement, statements, declared}
+use Rattle.linear_code.specs.declared.slot.Slot.TheVariants.{Local, Temporary}
+use Rattle.linear_code.specs.declared.instruction.Instruction.{Instruction}
+use Rattle.linear_code.specs.declared.instruction.Instruction.TheVariants.{Jump, JumpIfZero, CallFinally, Separator}
+use Rattle.seh_ir.specs.declared.scope.Names.{Names}
+use Rattle.seh_ir.specs.declared.scope.Way.{Way}
+use Rattle.seh_ir.specs.declared.scope.Way.TheVariants.{Nowhere, Jumps, Unwinds}
+use Rattle.seh_ir.specs.declared.scope.Scope.{Scope}
+use Rattle.seh_ir.specs.Scope.{in_loop, in_try, in_except, in_guarded}
+use Rattle.seh_ir.specs.Sizes.{expression_size, discarded_size, condition_size, returned_size, declared_size, all_declared_size, statement_size, statements_size}
+use Rattle.seh_ir.specs.Expressions.{copy, constant, expression_code}
+use Rattle.seh_ir.specs.Statements.{jump_code, return_code, leave_code, discarded_code, returned_code, condition_code, initialiser_code, declared_code, all_declared_code, landed, repeated, statement_code, statements_code}
+use Rattle.seh_ir.proofs.Codes.{joined, longer, more, two, expression_length}
+use Rattle.seh_ir.proofs.Arms.{after, after_one, after_expression}
+
+-- ---- lengths
+
+jump_length : (w : Way) → length (jump_code w) ≡ 2
+jump_length Nowhere = refl
+jump_length (Jumps l) = refl
+jump_length (Unwinds l) = refl
+
+return_length : (w : Way) → length (return_code w) ≡ 2
+return_length Nowhere = refl
+return_length (Jumps l) = refl
+return_length (Unwinds l) = refl
+
+discarded_length : (names : Names) (e : Option Expression) (at : ℕ) → length (discarded_code names e at) ≡ discarded_size e
+discarded_length names None at = refl
+discarded_length names (Some e) at = two (expression_code names e 0 at) (Separator ∷ []) (expression_size e) 1 (expression_length names e 0 at) refl
+
+returned_length : (names : Names) (e : Option Expression) (at : ℕ) → length (returned_code names e at) ≡ returned_size e
+returned_length names None at = refl
+returned_length names (Some e) at = expression_length names e 0 at
+
+condition_length : (names : Names) (e : Option Expression) (label at : ℕ) → length (condition_code names e label at) ≡ condition_size e
+condition_length names None label at = refl
+condition_length names (Some e) label at = two (expression_code names e 0 at) (JumpIfZero (Temporary 0) label ∷ []) (expression_size e) 1 (expression_length names e 0 at) refl
+
+initialiser_length : (names : Names) (x : ℕ) (e : Option Expression) (at : ℕ) → length (initialiser_code names x e at) ≡ elim e [ None ↦ 0 | Some f ↦ expression_size f + 2 ]
+initialiser_length names x None at = refl
+initialiser_length names x (Some e) at = two (expression_code names e 0 at) (copy (Local x) (Temporary 0) ∷ Separator ∷ []) (expression_size e) 2 (expression_length names e 0 at) refl
+
+declared_length : (names : Names) (d : Declared) (at : ℕ) → length (declared_code names d at) ≡ declared_size d
+declared_length names d at = let i = initialiser_length names d.local d.value (at + 1) in omega arith
+
+all_declared_length : (names : Names) (ds : List Declared) (at : ℕ) → length (all_declared_code names ds at) ≡ all_declared_size ds
+all_declared_length names [] at = refl
+all_declared_length names (d ∷ ds) at = two (declared_code names d at) (all_declared_code names ds (at + declared_size d)) (declared_size d) (all_declared_size ds) (declared_length names d at) (all_declared_length names ds (at + declared_size d))
+
+mutual
+  pub statement_length : (scope : Scope) (s : Statement) (at : ℕ) → length (statement_code scope s at) ≡ statement_size s
+  statement_length scope (Declare d) at = declared_length scope.names d at
+  statement_length scope (Block ss) at = statements_length scope ss at
+  statement_length scope (Evaluate e) at = discarded_length scope.names e at
+  statement_length scope (If c s) at =
+      let then = at + expression_size c + 1 in
+      two (expression_code scope.names c 0 at) (JumpIfZero (Temporary 0) (then + statement_size s) ∷ statement_code scope s then) (expression_size c) (1 + statement_size s) (expression_length scope.names c 0 at)
+      (more (JumpIfZero (Temporary 0) (then + statement_size s)) (statement_code scope s then) (statement_size s) (statement_length scope s then))
+  statement_length scope (IfElse c s t) at =
+      let then = at + expression_size c + 1 in
+      let otherwise = then + statement_size s + 1 in
+      let jump = Jump (otherwise + statement_size t) in
+      two (expression_code scope.names c 0 at) (JumpIfZero (Temporary 0) otherwise ∷ (statement_code scope s then ++ jump ∷ statement_code scope t otherwise)) (expression_size c) (1 + (statement_size s + (1 + statement_size t))) (expression_length scope.names c 0 at)
+      (more (JumpIfZero (Temporary 0) otherwise) (statement_code scope s then ++ jump ∷ statement_code scope t otherwise) (statement_size s + (1 + statement_size t))
+      (two (statement_code scope s then) (jump ∷ statement_code scope t otherwise) (statement_size s) (1 + statement_size t) (statement_length scope s then)
+      (more jump (statement_code scope t otherwise) (statement_size t) (statement_length scope t otherwise))))
+  statement_length scope (For ds first c next s) at =
+      let begin = at + all_declared_size ds in
+      let iteration = begin + discarded_size first in
+      let body = iteration + condition_size c in
+      let again = body + statement_size s in
+      let end = again + 1 + discarded_size next + 1 in
+      let inner = in_loop end again scope in
+      let last = discarded_code scope.names next (again + 1) ++ Jump iteration ∷ [] in
+      let turned = statement_code inner s body ++ Separator ∷ last in
+      two (all_declared_code scope.names ds at) (discarded_code scope.names first begin ++ (condition_code scope.names c end iteration ++ turned)) (all_declared_size ds) (discarded_size first + (condition_size c + (statement_size s + (1 + (discarded_size next + 1))))) (all_declared_length scope.names ds at)
+      (two (discarded_code scope.names first begin) (condition_code scope.names c end iteration ++ turned) (discarded_size first) (condition_size c + (statement_size s + (1 + (discarded_size next + 1)))) (discarded_length scope.names first begin)
+      (two (condition_code scope.names c end iteration) turned (condition_size c) (statement_size s + (1 + (discarded_size next + 1))) (condition_length scope.names c end iteration)
+      (two (statement_code inner s body) (Separator ∷ last) (statement_size s) (1 + (discarded_size next + 1)) (statement_length inner s body)
+      (more Separator last (discarded_size next + 1)
+      (two (discarded_code scope.names next (again + 1)) (Jump iteration ∷ []) (discarded_size next) 1 (discarded_length scope.names next (again + 1)) refl)))))
+  statement_length scope (DoWhile s c) at =
+      let again = at + statement_size s in
+      let end = again + 1 + expression_size c + 2 in
+      let inner = in_loop end again scope in
+      let last = expression_code scope.names c 0 (again + 1) ++ repeated end at in
+      two (statement_code inner s at) (Separator ∷ last) (statement_size s) (1 + (expression_size c + 2)) (statement_length inner s at)
+      (more Separator last (expression_size c + 2)
+      (two (expression_code scope.names c 0 (again + 1)) (repeated end at) (expression_size c) 2 (expression_length scope.names c 0 (again + 1)) refl))
+  statement_length scope (Return e) at = two (returned_code scope.names e at) (return_code scope.exit) (returned_size e) 2 (returned_length scope.names e at) (return_length scope.exit)
+  statement_length scope Break at = jump_length scope.loop_end
+  statement_length scope Continue at = jump_length scope.loop_next
+  statement_length scope Leave at = refl
+  statement_length scope (TryExcept body filter block) at =
+      let target = at + statements_size body + 1 in
+      let end = target + 1 + statements_size block in
+      two (statements_code (in_try end scope) body at) (landed end scope.names.free ++ statements_code (in_except scope) block (target + 1)) (statements_size body) (2 + statements_size block) (statements_length (in_try end scope) body at)
+      (two (landed end scope.names.free) (statements_code (in_except scope) block (target + 1)) 2 (statements_size block) refl (statements_length (in_except scope) block (target + 1)))
+  statement_length scope (TryFinally body k last) at =
+      let inner = in_guarded (at + statements_size body) scope in
+      two (statements_code inner body at) (Separator ∷ CallFinally (k - 1) ∷ Separator ∷ []) (statements_size body) 3 (statements_length inner body at) refl
+
+  pub statements_length : (scope : Scope) (ss : Statements) (at : ℕ) → length (statements_code scope ss at) ≡ statements_size ss
+  statements_length scope Empty at = refl
+  statements_length scope (Then s ss) at = two (statement_code scope s at) (statements_code scope ss (at + statement_size s)) (statement_size s) (statements_size ss) (statement_length scope s at) (statements_length scope ss (at + statement_size s))
+
+-- ---- code after code
+
+after_statement : (scope : Scope) (s : Statement) (old mid new : List Instruction) (more : ℕ → List Instruction) → mid ≡ old ++ statement_code scope s (length old) → new ≡ mid ++ more (length mid) → new ≡ old ++ (statement_code scope s (length old) ++ more (length old + statement_size s))
+after_statement scope s old mid new more h k = after (statement_code scope s (length old)) (statement_size s) old mid new more (statement_length scope s (length old)) h k
+
+after_statements : (scope : Scope) (ss : Statements) (old mid new : List Instruction) (more : ℕ → List Instruction) → mid ≡ old ++ statements_code scope ss (length old) → new ≡ mid ++ more (length mid) → new ≡ old ++ (statements_code scope ss (length old) ++ more (length old + statements_size ss))
+after_statements scope ss old mid new more h k = after (statements_code scope ss (length old)) (statements_size ss) old mid new more (statements_length scope ss (length old)) h k
+
+-- ---- statements
+
+abbrev Run : Scope → Statement → List Instruction → List Instruction → Type 0
+Run scope s old new = new ≡ old ++ statement_code scope s (length old)
+
+of : (scope : Scope) (s t : Statement) (old new : List Instruction) → s ≡ t → Run scope t old new → Run scope s old new
+of scope s t old new e h = subst (λ x. Run scope x old new) (sym e) h
+
+pub if_is : (scope : Scope) (c : Expression) (s : Statement) (x : Statement) (size : ℕ) (old one two three : List Instruction) → x ≡ If c s → size ≡ statement_size s → one ≡ old ++ expression_code scope.names c 0 (length old) → two ≡ one ++ JumpIfZero (Temporary 0) (length one + (size + 1)) ∷ [] → three ≡ two ++ statement_code scope s (length two) → Run scope x old three
+if_is scope c s x size old one two three is z a b k =
+    let n = statement_size s in
+    let label = length one + (size + 1) in
+    let h = after_one (JumpIfZero (Temporary 0) label) one two three (λ at. statement_code scope s at) b k in
+    let e : label ≡ length one + 1 + n = omega arith in
+    of scope x (If c s) old three is
+    (after_expression scope.names c 0 old one three (λ at. JumpIfZero (Temporary 0) (at + 1 + n) ∷ statement_code scope s (at + 1)) a
+    (h ∙ ap (λ k. one ++ JumpIfZero (Temporary 0) k ∷ statement_code scope s (length one + 1)) e))
+
+pub if_else_is : (scope : Scope) (c : Expression) (s t : Statement) (x : Statement) (size other : ℕ) (old one two three four five : List Instruction) → x ≡ IfElse c s t → size ≡ statement_size s → other ≡ statement_size t → one ≡ old ++ expression_code scope.names c 0 (length old) → two ≡ one ++ JumpIfZero (Temporary 0) (length one + (size + 2)) ∷ [] → three ≡ two ++ statement_code scope s (length two) → four ≡ three ++ Jump (length three + (other + 1)) ∷ [] → five ≡ four ++ statement_code scope t (length four) → Run scope x old five
+if_else_is scope c s t x size other old one two three four five is y z a b k l m =
+    let i = statement_size s in
+    let j = statement_size t in
+    let label = length one + (size + 2) in
+    let end = length three + (other + 1) in
+    let g = after_one (Jump end) three four five (λ at. statement_code scope t at) l m in
+    let h = after_statement scope s two three five (λ at. Jump end ∷ statement_code scope t (at + 1)) k g in
+    let o = after_one (JumpIfZero (Temporary 0) label) one two five (λ at. statement_code scope s at ++ Jump end ∷ statement_code scope t (at + i + 1)) b h in
+    let u : length two ≡ length one + 1 = longer one two (JumpIfZero (Temporary 0) label ∷ []) 1 refl b in
+    let v : length three ≡ length two + i = longer two three (statement_code scope s (length two)) i (statement_length scope s (length two)) k in
+    let e : label ≡ length one + 1 + i + 1 = omega arith in
+    let f : end ≡ length one + 1 + i + 1 + j = omega arith in
+    of scope x (IfElse c s t) old five is
+    (after_expression scope.names c 0 old one five (λ at. JumpIfZero (Temporary 0) (at + 1 + i + 1) ∷ (statement_code scope s (at + 1) ++ Jump (at + 1 + i + 1 + j) ∷ statement_code scope t (at + 1 + i + 1))) a
+    (o ∙ ap (λ k. one ++ JumpIfZero (Temporary 0) label ∷ (statement_code scope s (length one + 1) ++ Jump k ∷ statement_code scope t (length one + 1 + i + 1))) f
+    ∙ ap (λ k. one ++ JumpIfZero (Temporary 0) k ∷ (statement_code scope s (length one + 1) ++ Jump (length one + 1 + i + 1 + j) ∷ statement_code scope t (length one + 1 + i + 1))) e))
+
+pub for_is : (scope : Scope) (ds : List Declared) (first c next : Option Expression) (s : Statement) (x : Statement) (nc ns nn turn last again end : ℕ) (old l0 l1 l2 l3 l4 l5 l6 : List Instruction) → x ≡ For ds first c next s → nc ≡ condition_size c → ns ≡ statement_size s → nn ≡ discarded_size next → turn ≡ nc + ns → last ≡ nn + 2 → again ≡ length l1 + turn → end ≡ again + last → l0 ≡ old ++ all_declared_code scope.names ds (length old) → l1 ≡ l0 ++ discarded_code scope.names first (length l0) → l2 ≡ l1 ++ condition_code scope.names c end (length l1) → l3 ≡ l2 ++ statement_code (in_loop end again scope) s (length l2) → l4 ≡ l3 ++ Separator ∷ [] → l5 ≡ l4 ++ discarded_code scope.names next (length l4) → l6 ≡ l5 ++ Jump (length l1) ∷ [] → Run scope x old l6
+for_is scope ds first c next s x nc0 ns0 nn0 turn last again end old l0 l1 l2 l3 l4 l5 l6 is zc zs zn t l a e h0 h1 h2 h3 h4 h5 h6 =
+    let names = scope.names in
+    let nd = all_declared_size ds in
+    let nf = discarded_size first in
+    let nc = condition_size c in
+    let ns = statement_size s in
+    let nn = discarded_size next in
+    let iteration = length l1 in
+    let n0 : length l0 ≡ length old + nd = longer old l0 (all_declared_code names ds (length old)) nd (all_declared_length names ds (length old)) h0 in
+    let n1 : length l1 ≡ length l0 + nf = longer l0 l1 (discarded_code names first (length l0)) nf (discarded_length names first (length l0)) h1 in
+    let inner = in_loop end again scope in
+    let g5 = after (discarded_code names next (length l4)) nn l4 l5 l6 (λ at. Jump iteration ∷ []) (discarded_length names next (length l4)) h5 h6 in
+    let g4 = after_one Separator l3 l4 l6 (λ at. discarded_code names next at ++ Jump iteration ∷ []) h4 g5 in
+    let g3 = after_statement inner s l2 l3 l6 (λ at. Separator ∷ (discarded_code names next (at + 1) ++ Jump iteration ∷ [])) h3 g4 in
+    let g2 = after (condition_code names c end (length l1)) nc l1 l2 l6 (λ at. statement_code inner s at ++ Separator ∷ (discarded_code names next (at + ns + 1) ++ Jump iteration ∷ [])) (condition_length names c end (length l1)) h2 g3 in
+    let whole = λ (i b r z : ℕ). condition_code names c z i ++ (statement_code (in_loop z r scope) s b ++ Separator ∷ (discarded_code names next (r + 1) ++ Jump i ∷ [])) in
+    let p : length l1 + nc + ns ≡ again = omega arith in
+    let g2' : l6 ≡ l1 ++ whole (length l1) (length l1 + nc) again end = g2 ∙ ap (λ r. l1 ++ (condition_code names c end (length l1) ++ (statement_code inner s (length l1 + nc) ++ Separator ∷ (discarded_code names next (r + 1) ++ Jump iteration ∷ [])))) p in
+    let q : again ≡ length l1 + nc + ns = omega arith in
+    let r : end ≡ length l1 + nc + ns + 1 + nn + 1 = omega arith in
+    let g2'' : l6 ≡ l1 ++ whole (length l1) (length l1 + nc) (length l1 + nc + ns) (length l1 + nc + ns + 1 + nn + 1) = g2' ∙ ap (λ k. l1 ++ whole (length l1) (length l1 + nc) k end) q ∙ ap (λ k. l1 ++ whole (length l1) (length l1 + nc) (length l1 + nc + ns) k) r in
+    let g1 = after (discarded_code names first (length l0)) nf l0 l1 l6 (λ at. whole at (at + nc) (at + nc + ns) (at + nc + ns + 1 + nn + 1)) (discarded_length names first (length l0)) h1 g2'' in
+    of scope x (For ds first c next s) old l6 is
+    (after (all_declared_code names ds (length old)) nd old l0 l6 (λ at. discarded_code names first at ++ whole (at + nf) (at + nf + nc) (at + nf + nc + ns) (at + nf + nc + ns + 1 + nn + 1)) (all_declared_length names ds (length old)) h0 g1)
+
+pub do_is : (scope : Scope) (s : Statement) (c : Expression) (x : Statement) (size nc0 last again end : ℕ) (old l1 l2 l3 l4 : List Instruction) → x ≡ DoWhile s c → size ≡ statement_size s → nc0 ≡ expression_size c → last ≡ nc0 + 3 → again ≡ length old + size → end ≡ again + last → l1 ≡ old ++ statement_code (in_loop end again scope) s (length old) → l2 ≡ l1 ++ Separator ∷ [] → l3 ≡ l2 ++ expression_code scope.names c 0 (length l2) → l4 ≡ l3 ++ repeated end (length old) → Run scope x old l4
+do_is scope s c x size nc0 last again end old l1 l2 l3 l4 is z y l a e h1 h2 h3 h4 =
+    let names = scope.names in
+    let ns = statement_size s in
+    let nc = expression_size c in
+    let at = length old in
+    let g3 = after_expression names c 0 l2 l3 l4 (λ k. repeated end at) h3 h4 in
+    let g2 = after_one Separator l1 l2 l4 (λ k. expression_code names c 0 k ++ repeated end at) h2 g3 in
+    let g1 = after_statement (in_loop end again scope) s old l1 l4 (λ k. Separator ∷ (expression_code names c 0 (k + 1) ++ repeated end at)) h1 g2 in
+    let p : again ≡ at + ns = omega arith in
+    let q : end ≡ at + ns + 1 + nc + 2 = omega arith in
+    let whole = λ (r t : ℕ). statement_code (in_loop t r scope) s at ++ Separator ∷ (expression_code names c 0 (at + ns + 1) ++ repeated t at) in
+    of scope x (DoWhile s c) old l4 is (g1 ∙ ap (λ k. old ++ whole k end) p ∙ ap (λ k. old ++ whole (at + ns) k) q)
+
+pub return_is : (scope : Scope) (e : Option Expression) (x : Statement) (old one two : List Instruction) → x ≡ Return e → one ≡ old ++ returned_code scope.names e (length old) → two ≡ one ++ return_code scope.exit → Run scope x old two
+return_is scope e x old one two is a b = of scope x (Return e) old two is (joined old one two (returned_code scope.names e (length old)) (return_code scope.exit) a b)
+
+pub except_is : (scope inner : Scope) (body : Statements) (filter : Filter) (block : Statements) (x : Statement) (size other rest both end : ℕ) (old l1 l2 l3 : List Instruction) → x ≡ TryExcept body filter block → size ≡ statements_size body → other ≡ statements_size block → rest ≡ other + 2 → both ≡ size + rest → inner ≡ in_except scope → end ≡ length old + both → l1 ≡ old ++ statements_code (in_try end scope) body (length old) → l2 ≡ l1 ++ landed end scope.names.free → l3 ≡ l2 ++ statements_code inner block (length l2) → Run scope x old l3
+except_is scope inner body filter block x size other rest both end old l1 l2 l3 is z y w v i e h1 h2 h3 =
+    let nb = statements_size body in
+    let nh = statements_size block in
+    let at = length old in
+    let free = scope.names.free in
+    let h3' = h3 ∙ ap (λ (k : Scope). l2 ++ statements_code k block (length l2)) i in
+    let g2 = after (landed end free) 2 l1 l2 l3 (λ k. statements_code (in_except scope) block k) refl h2 h3' in
+    let g1 = after_statements (in_try end scope) body old l1 l3 (λ k. landed end free ++ statements_code (in_except scope) block (k + 2)) h1 g2 in
+    let p : end ≡ at + nb + 1 + 1 + nh = omega arith in
+    let q : at + nb + 2 ≡ at + nb + 1 + 1 = omega arith in
+    let whole = λ (t k : ℕ). statements_code (in_try t scope) body at ++ (landed t free ++ statements_code (in_except scope) block k) in
+    of scope x (TryExcept body filter block) old l3 is (g1 ∙ ap (λ t. old ++ whole t (at + nb + 2)) p ∙ ap (λ k. old ++ whole (at + nb + 1 + 1 + nh) k) q)
+
+pub finally_is : (scope : Scope) (body : Statements) (k : ℕ) (last : Statements) (x : Statement) (size end : ℕ) (old one two : List Instruction) → x ≡ TryFinally body k last → size ≡ statements_size body → end ≡ length old + size → one ≡ old ++ statements_code (in_guarded end scope) body (length old) → two ≡ one ++ Separator ∷ CallFinally (k - 1) ∷ Separator ∷ [] → Run scope x old two
+finally_is scope body k last x size end old one two is z e a b =
+    let p : end ≡ length old + statements_size body = omega arith in
+    let tail = Separator ∷ CallFinally (k - 1) ∷ Separator ∷ [] in
+    of scope x (TryFinally body k last) old two is
+    (joined old one two (statements_code (in_guarded end scope) body (length old)) tail a b
+    ∙ ap (λ t. old ++ (statements_code (in_guarded t scope) body (length old) ++ tail)) p)
+
+-- ---- lists, one element after another
+
+more_statements : (scope : Scope) (items : List Stmt) (i : ℕ) (x : Stmt) (at : ℕ) → i < length items → statements_code scope (statements (map statement (take (suc i) items))) at ≡ statements_code scope (statements (map statement (take i items))) at ++ statement_code scope (statement (get_or items i x)) (at + length (statements_code scope (statements (map statement (take i items))) at))
+more_statements scope [] i x at lt = absurd (omega arith)
+more_statements scope (y ∷ ys) zero x at lt =
+    let e : at ≡ at + 0 = omega arith in
+    append-nil (statement_code scope (statement y) at) ∙ ap (λ k. statement_code scope (statement y) k) e
+more_statements scope (y ∷ ys) (suc i) x at lt =
+    let s = statement_size (statement y) in
+    let front = statement_code scope (statement y) at in
+    let made = statements_code scope (statements (map statement (take i ys))) (at + s) in
+    let h = more_statements scope ys i x (at + s) (omega arith) in
+    let l : at + s + length made ≡ at + length (front ++ made) = omega (arith, length-append front made, statement_length scope (statement y) at) in
+    ap (λ t. front ++ t) h ∙ sym (append_assoc front made (statement_code scope (statement (get_or ys i x)) (at + s + length made)))
+    ∙ ap (λ k. (front ++ made) ++ statement_code scope (statement (get_or ys i x)) k) l
+
+pub statements_next : (scope : Scope) (items : List Stmt) (i : ℕ) (x : Stmt) (old mid new : List Instruction) → i < length items → x ≡ get_or items i x → mid ≡ old ++ statements_code scope (statements (map statement (take i items))) (length old) → new ≡ mid ++ statement_code scope (statement x) (length mid) → new ≡ old ++ statements_code scope (statements (map statement (take (i + 1) items))) (length old)
+statements_next scope items i x old mid new lt is h k =
+    let made = statements_code scope (statements (map statement (take i items))) (length old) in
+    let l : length mid ≡ length old + length made = longer old mid made (length made) refl h in
+    let one : suc i ≡ i + 1 = omega arith in
+    let k' : new ≡ mid ++ statement_code scope (statement (get_or items i x)) (length old + length made) = k ∙ ap (λ y. mid ++ statement_code scope (statement y) (length mid)) is ∙ ap (λ y. mid ++ statement_code scope (statement (get_or items i x)) y) l in
+    joined old mid new made (statement_code scope (statement (get_or items i x)) (length old + length made)) h k'
+    ∙ ap (λ t. old ++ t) (sym (more_statements scope items i x (length old) lt))
+    ∙ ap (λ j. old ++ statements_code scope (statements (map statement (take j items))) (length old)) one
+
+more_declared : (names : Names) (items : List Declared') (i : ℕ) (x : Declared') (at : ℕ) → i < length items → all_declared_code names (map declared (take (suc i) items)) at ≡ all_declared_code names (map declared (take i items)) at ++ declared_code names (declared (get_or items i x)) (at + length (all_declared_code names (map declared (take i items)) at))
+more_declared names [] i x at lt = absurd (omega arith)
+more_declared names (y ∷ ys) zero x at lt =
+    let e : at ≡ at + 0 = omega arith in
+    append-nil (declared_code names (declared y) at) ∙ ap (λ k. declared_code names (declared y) k) e
+more_declared names (y ∷ ys) (suc i) x at lt =
+    let s = declared_size (declared y) in
+    let front = declared_code names (declared y) at in
+    let made = all_declared_code names (map declared (take i ys)) (at + s) in
+    let h = more_declared names ys i x (at + s) (omega arith) in
+    let l : at + s + length made ≡ at + length (front ++ made) = omega (arith, length-append front made, declared_length names (declared y) at) in
+    ap (λ t. front ++ t) h ∙ sym (append_assoc front made (declared_code names (declared (get_or ys i x)) (at + s + length made)))
+    ∙ ap (λ k. (front ++ made) ++ declared_code names (declared (get_or ys i x)) k) l
+
+pub declared_next : (names : Names) (items : List Declared') (i : ℕ) (x : Declared') (old mid new : List Instruction) → i < length items → x ≡ get_or items i x → mid ≡ old ++ all_declared_code names (map declared (take i items)) (length old) → new ≡ mid ++ declared_code names (declared x) (length mid) → new ≡ old ++ all_declared_code names (map declared (take (i + 1) items)) (length old)
+declared_next names items i x old mid new lt is h k =
+    let made = all_declared_code names (map declared (take i items)) (length old) in
+    let l : length mid ≡ length old + length made = longer old mid made (length made) refl h in
+    let one : suc i ≡ i + 1 = omega arith in
+    let k' : new ≡ mid ++ declared_code names (declared (get_or items i x)) (length old + length made) = k ∙ ap (λ y. mid ++ declared_code names (declared y) (length mid)) is ∙ ap (λ y. mid ++ declared_code names (declared (get_or items i x)) y) l in
+    joined old mid new made (declared_code names (declared (get_or items i x)) (length old + length made)) h k'
+    ∙ ap (λ t. old ++ t) (sym (more_declared names items i x (length old) lt))
+    ∙ ap (λ j. old ++ all_declared_code names (map declared (take j items)) (length old)) one

@@ -1,0 +1,68 @@
+use Rattle.std.proofs.Common.{◌≡◌, ◌+◌, arith, ap, ◌∙◌, refl, map, length}
+use Rattle.c_checked.specs.Expression as tree
+use Rattle.seh_ir.specs.Views as views
+use Rattle.seh_ir.proofs.ExpressionTrees as made
+use Rattle.seh_ir.proofs.Arms.{element_is, assign_is, compound_is, increment_is, unary_is, binary_is, difference_is, not_is, and_is, or_is, conditional_is, comma_is, call_is, call_built_in_is, arguments_next}
+use Rattle.seh_ir.proofs.expressions.+expressions.Goals as goal
+
+pub locate-returns-in_ok-operate-in-Element : goal.locate-returns-in_ok-operate-in-Element
+locate-returns-in_ok-operate-in-Element t c =
+    element_is _ _ _ _ _ _ _ _ _ _ _ (ap views.lvalue c.in-Element.is ∙ made.element_is c.in-Element.access c.in-Element.array c.in-Element.index) c.in_ok-next-in-Element.ensures (rw c.deref-in-Element.ensures at c.in_ok-expression-in-Element.ensures) (rw c.deref-in-Element-2.ensures at c.in_ok-expression-in-Element-2.ensures) c.in_ok-operate-in-Element.ensures
+
+pub node-returns-in_ok-assign-in-Assign : goal.node-returns-in_ok-assign-in-Assign
+node-returns-in_ok-assign-in-Assign t c =
+    assign_is _ _ _ _ _ _ _ _ _ _ (ap tree.node c.in-Assign.is ∙ made.assign_is c.in-Assign.target c.in-Assign.value) c.in_ok-from-in-Assign.ensures c.in_ok-locate-in-Assign.ensures (rw c.deref.ensures at c.in_ok-expression-in-Assign.ensures) c.in_ok-assign-in-Assign.ensures
+
+pub node-returns-in_ok-end_compound-in-CompoundAssign : goal.node-returns-in_ok-end_compound-in-CompoundAssign
+node-returns-in_ok-end_compound-in-CompoundAssign t c =
+    compound_is _ _ _ _ _ _ _ _ _ _ _ _ _ _ _ (ap tree.node c.in-CompoundAssign.is ∙ made.compound_is c.in-CompoundAssign.target c.in-CompoundAssign.before c.in-CompoundAssign.operation c.in-CompoundAssign.value c.in-CompoundAssign.after) c.in_ok-old-in-CompoundAssign.ensures c.in_ok-next-in-CompoundAssign.ensures c.in_ok-locate-in-CompoundAssign.ensures c.in_ok-begin_compound-in-CompoundAssign.ensures (rw c.deref-in-CompoundAssign.ensures at c.in_ok-expression-in-CompoundAssign.ensures) c.in_ok-end_compound-in-CompoundAssign.ensures
+
+pub node-returns-in_ok-increment-in-Increment : goal.node-returns-in_ok-increment-in-Increment
+node-returns-in_ok-increment-in-Increment t c =
+    increment_is _ _ _ _ _ _ _ _ _ _ _ _ (ap tree.node c.in-Increment.is ∙ made.increment_is c.in-Increment.fixity c.in-Increment.target c.in-Increment.before c.in-Increment.operation c.in-Increment.amount c.in-Increment.after) c.in_ok-locate-in-Increment.ensures c.in_ok-increment-in-Increment.ensures
+
+pub node-returns-in_ok-unary-in-Unary : goal.node-returns-in_ok-unary-in-Unary
+node-returns-in_ok-unary-in-Unary t c =
+    unary_is _ _ _ _ _ _ _ _ (ap tree.node c.in-Unary.is ∙ made.unary_is c.in-Unary.operation c.in-Unary.operand) (rw c.deref-in-Unary.ensures at c.in_ok-expression-in-Unary.ensures) c.in_ok-unary-in-Unary.ensures
+
+pub node-returns-in_ok-operate-in-Binary : goal.node-returns-in_ok-operate-in-Binary
+node-returns-in_ok-operate-in-Binary t c =
+    binary_is _ _ _ _ _ _ _ _ _ _ _ (ap tree.node c.in-Binary.is ∙ made.binary_is c.in-Binary.operation c.in-Binary.left c.in-Binary.right) c.in_ok-next-in-Binary.ensures (rw c.deref-in-Binary.ensures at c.in_ok-expression-in-Binary.ensures) (rw c.deref-in-Binary-2.ensures at c.in_ok-expression-in-Binary-2.ensures) c.in_ok-operate-in-Binary.ensures
+
+pub node-returns-in_ok-end_difference-in-PointerDifference : goal.node-returns-in_ok-end_difference-in-PointerDifference
+node-returns-in_ok-end_difference-in-PointerDifference t c =
+    difference_is _ _ _ _ _ _ _ _ _ _ _ (ap tree.node c.in-PointerDifference.is ∙ made.difference_is c.in-PointerDifference.size c.in-PointerDifference.left c.in-PointerDifference.right) c.in_ok-next-in-PointerDifference.ensures (rw c.deref-in-PointerDifference.ensures at c.in_ok-expression-in-PointerDifference.ensures) (rw c.deref-in-PointerDifference-2.ensures at c.in_ok-expression-in-PointerDifference-2.ensures) c.in_ok-end_difference-in-PointerDifference.ensures
+
+pub node-returns-in_ok-choose-in-Not : goal.node-returns-in_ok-choose-in-Not
+node-returns-in_ok-choose-in-Not t c =
+    not_is _ _ _ _ _ _ _ (ap tree.node c.in-Not.is ∙ made.not_is c.in-Not.operand) (rw c.deref-in-Not.ensures at c.in_ok-expression-in-Not.ensures) c.in_ok-choose-in-Not.ensures
+
+pub node-returns-in_ok-choose-in-And : goal.node-returns-in_ok-choose-in-And
+node-returns-in_ok-choose-in-And t c =
+    and_is _ _ _ _ _ _ _ _ _ _ _ (ap tree.node c.in-And.is ∙ made.and_is c.in-And.left c.in-And.right) (rw c.deref-in-And.ensures at c.in_ok-size-in-And.ensures) (rw c.deref-in-And-2.ensures at c.in_ok-expression-in-And.ensures) c.in_ok-test-in-And.ensures (rw c.deref-in-And-3.ensures at c.in_ok-expression-in-And-2.ensures) c.in_ok-choose-in-And.ensures
+
+pub node-returns-in_ok-choose-in-Or : goal.node-returns-in_ok-choose-in-Or
+node-returns-in_ok-choose-in-Or t c =
+    or_is _ _ _ _ _ _ _ _ _ _ _ _ _ (ap tree.node c.in-Or.is ∙ made.or_is c.in-Or.left c.in-Or.right) (rw c.deref-in-Or.ensures at c.in_ok-size-in-Or.ensures) (rw c.deref-in-Or-2.ensures at c.in_ok-expression-in-Or.ensures) c.in_ok-test-in-Or.ensures (rw c.constant-in-Or.ensures at c.in_ok-push-in-Or.ensures.items) c.in_ok-skip-in-Or.ensures (rw c.deref-in-Or-3.ensures at c.in_ok-expression-in-Or-2.ensures) c.in_ok-choose-in-Or.ensures
+
+pub node-returns-in_ok-expression-in-Conditional-3 : goal.node-returns-in_ok-expression-in-Conditional-3
+node-returns-in_ok-expression-in-Conditional-3 t c =
+    conditional_is _ _ _ _ _ _ _ _ _ _ _ _ _ _ (ap tree.node c.in-Conditional.is ∙ made.conditional_is c.in-Conditional.condition c.in-Conditional.yes c.in-Conditional.no) (rw c.deref-in-Conditional.ensures at c.in_ok-first-in-Conditional.ensures) (rw c.deref-in-Conditional-2.ensures at c.in_ok-other-in-Conditional.ensures) (rw c.deref-in-Conditional-3.ensures at c.in_ok-expression-in-Conditional.ensures) c.in_ok-test-in-Conditional.ensures (rw c.deref-in-Conditional-4.ensures at c.in_ok-expression-in-Conditional-2.ensures) c.in_ok-skip-in-Conditional.ensures (rw c.deref-in-Conditional-5.ensures at c.in_ok-expression-in-Conditional-3.ensures)
+
+pub node-returns-in_ok-copy_down-in-Comma : goal.node-returns-in_ok-copy_down-in-Comma
+node-returns-in_ok-copy_down-in-Comma t c =
+    comma_is _ _ _ _ _ _ _ _ _ _ (ap tree.node c.in-Comma.is ∙ made.comma_is c.in-Comma.left c.in-Comma.right) c.in_ok-next-in-Comma.ensures (rw c.deref-in-Comma.ensures at c.in_ok-expression-in-Comma.ensures) (rw c.deref-in-Comma-2.ensures at c.in_ok-expression-in-Comma-2.ensures) c.in_ok-copy_down-in-Comma.ensures
+
+pub arguments-loop-arg-preserved : goal.arguments-loop-arg-preserved
+arguments-loop-arg-preserved t c =
+    let e : c.in_ok-next.next ≡ c.loop-arg.next + 1 = c.in_ok-next.ensures in
+    let f = c.loop-arg.invariant.0 in
+    (omega arith, arguments_next c.args.names c.args.args.now c.loop-arg.arg-index c.args.d c.loop-arg.next c.arg-item.result c.args.code.now.items c.loop-arg.code.items c.expression.new.code.items c.loop-arg-test.true c.arg-item.is f c.loop-arg.invariant.1 c.in_ok-expression.ensures)
+
+pub node-returns-in_ok-push-in-Call : goal.node-returns-in_ok-push-in-Call
+node-returns-in_ok-push-in-Call t c =
+    call_is _ _ _ _ _ _ _ _ _ (ap tree.node c.in-Call.is ∙ made.call_is c.in-Call.function c.in-Call.args) (c.count_of.ensures ∙ ap (λ xs. length xs) c.deref-in-Call-2.ensures.value) (rw c.deref-in-Call.ensures.value at c.in_ok-arguments-in-Call.ensures) c.in_ok-push-in-Call.ensures.items
+
+pub node-returns-in_ok-push-in-CallBuiltIn : goal.node-returns-in_ok-push-in-CallBuiltIn
+node-returns-in_ok-push-in-CallBuiltIn t c =
+    call_built_in_is _ _ _ _ _ _ _ _ (ap tree.node c.in-CallBuiltIn.is ∙ made.call_built_in_is c.in-CallBuiltIn.function c.in-CallBuiltIn.args) (rw c.deref-in-CallBuiltIn.ensures.value at c.in_ok-arguments-in-CallBuiltIn.ensures) c.in_ok-push-in-CallBuiltIn.ensures.items

@@ -1,0 +1,10 @@
+pub mod Views
+pub mod Scope
+pub mod Sizes
+pub mod Slots
+pub mod Expressions
+pub mod Pieces
+pub mod Statements
+pub mod Regions
+pub mod Funclets
+pub mod Lowered

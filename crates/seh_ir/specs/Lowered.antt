@@ -1,0 +1,43 @@
+-- The linear code of a program.
+use Rattle.std.specs.Prelude.{ℕ, ◌+◌, List, [], ◌∷◌, ◌++◌, length, map, Option, None}
+use Rattle.c_checked.specs.Program.{Program, Function}
+use Rattle.linear_code.specs.declared.slot.Slot.TheVariants.{Temporary}
+use Rattle.linear_code.specs.declared.instruction.Instruction.TheVariants.{Return}
+use Rattle.linear_code.specs.Program.{LinearFunction, LinearFunclet, LinearProgram}
+use Rattle.seh_ir.specs.declared.scope.Scope.{Scope}
+use Rattle.seh_ir.specs.Scope.{function_scope}
+use Rattle.seh_ir.specs.Sizes.{statements_size, statements_notes}
+use Rattle.seh_ir.specs.Slots.{body_with}
+use Rattle.seh_ir.specs.Expressions.{constant}
+use Rattle.seh_ir.specs.Statements.{statements_code}
+use Rattle.seh_ir.specs.Regions.{statements_regions}
+use Rattle.seh_ir.specs.declared.funclets.Owner.{Owner}
+use Rattle.seh_ir.specs.Funclets.{statements_funclets}
+
+-- parameters and locals, and after them codes and flags
+abbrev pub own_locals : Function → ℕ
+own_locals f = length f.parameters + length f.locals
+
+abbrev pub all_locals : Function → ℕ
+all_locals f = own_locals f + statements_notes f.body
+
+-- a function returns 0 at its end, and what its first temporary holds at its exit
+abbrev pub scope_of : Function → Scope
+scope_of f = function_scope (own_locals f) (statements_size f.body + 1)
+
+abbrev pub lowered_function : Function → LinearFunction
+lowered_function f = record {
+  parameters = length f.parameters;
+  body = body_with (all_locals f) (statements_code (scope_of f) f.body 0 ++ constant 0 0 ∷ Return (Temporary 0) ∷ []) (statements_regions f.body 0);
+}
+
+-- the funclets of a function of this number
+abbrev pub lowered_funclets : ℕ → Function → List LinearFunclet
+lowered_funclets number f = statements_funclets (record { function = number; locals = all_locals f; parent = None }) (scope_of f).names f.body
+
+abbrev pub all_funclets : ℕ → List Function → List LinearFunclet
+all_funclets number [] = []
+all_funclets number (f ∷ fs) = lowered_funclets number f ++ all_funclets (number + 1) fs
+
+abbrev pub lowered : Program → LinearProgram
+lowered p = record { globals = p.globals; main = p.main; functions = map lowered_function p.functions; funclets = all_funclets 0 p.functions }

@@ -1,0 +1,129 @@
+-- The code of statements. No temporary is used across them.
+use Rattle.std.specs.Prelude.{ℕ, ◌+◌, ◌-◌, List, [], ◌∷◌, ◌++◌, Option, None, Some}
+use Rattle.c_operations.specs.declared.operation.Operation.TheVariants.{Pure}
+use Rattle.c_operations.specs.declared.operation.Pure.TheVariants.{Constant}
+use Rattle.c_checked.specs.Expression.{Expression}
+use Rattle.c_checked.specs.Statement.{Declared, Filter, Statement, Declare, Block, Evaluate, If, IfElse, For, DoWhile, Break, Continue, Leave, TryExcept, TryFinally, Statements, Empty, Then}
+use Rattle.c_checked.specs.Statement as statements
+use Rattle.linear_code.specs.declared.slot.Slot.TheVariants.{Local, Temporary}
+use Rattle.linear_code.specs.declared.instruction.Instruction.{Instruction}
+use Rattle.linear_code.specs.declared.instruction.Instruction.TheVariants.{Compute, Jump, JumpIfZero, CallFinally, LocalUnwind, Landing, Separator, Return}
+use Rattle.seh_ir.specs.declared.scope.Names.{Names}
+use Rattle.seh_ir.specs.declared.scope.Way.{Way}
+use Rattle.seh_ir.specs.declared.scope.Scope.{Scope}
+use Rattle.seh_ir.specs.declared.scope.Way.TheVariants.{Nowhere, Jumps, Unwinds}
+use Rattle.seh_ir.specs.Scope.{in_loop, in_try, in_except, in_guarded}
+use Rattle.seh_ir.specs.Sizes.{expression_size, discarded_size, condition_size, declared_size, all_declared_size, statement_size, statements_size}
+use Rattle.seh_ir.specs.Expressions.{constant, copy, expression_code}
+
+-- ---- ways out; each takes two instructions, so that no size depends on where it leads
+
+abbrev pub jump_code : Way → List Instruction
+jump_code Nowhere = Separator ∷ Separator ∷ []
+jump_code (Jumps label) = Jump label ∷ Separator ∷ []
+jump_code (Unwinds label) = LocalUnwind label ∷ Separator ∷ []
+
+-- with the number in the first temporary
+abbrev pub return_code : Way → List Instruction
+return_code Nowhere = Separator ∷ Separator ∷ []
+return_code (Jumps label) = Return (Temporary 0) ∷ Separator ∷ []
+return_code (Unwinds label) = LocalUnwind label ∷ Separator ∷ []
+
+abbrev pub leave_code : Option ℕ → Instruction
+leave_code None = Separator
+leave_code (Some label) = Jump label
+
+-- ---- expressions in statements
+
+abbrev pub discarded_code : Names → Option Expression → ℕ → List Instruction
+discarded_code names None at = []
+discarded_code names (Some e) at = expression_code names e 0 at ++ Separator ∷ []
+
+abbrev pub returned_code : Names → Option Expression → ℕ → List Instruction
+returned_code names None at = constant 0 0 ∷ []
+returned_code names (Some e) at = expression_code names e 0 at
+
+-- to a label where the condition is 0
+abbrev pub condition_code : Names → Option Expression → ℕ → ℕ → List Instruction
+condition_code names None label at = []
+condition_code names (Some e) label at = expression_code names e 0 at ++ JumpIfZero (Temporary 0) label ∷ []
+
+abbrev pub initialiser_code : Names → ℕ → Option Expression → ℕ → List Instruction
+initialiser_code names x None at = []
+initialiser_code names x (Some e) at = expression_code names e 0 at ++ copy (Local x) (Temporary 0) ∷ Separator ∷ []
+
+-- a declared local is 0 first
+abbrev pub declared_code : Names → Declared → ℕ → List Instruction
+declared_code names d at = Compute (Local d.local) (Pure (Constant 0)) (Local d.local) (Local d.local) ∷ initialiser_code names d.local d.value (at + 1)
+
+abbrev pub all_declared_code : Names → List Declared → ℕ → List Instruction
+all_declared_code names [] at = []
+all_declared_code names (d ∷ ds) at = declared_code names d at ++ all_declared_code names ds (at + declared_size d)
+
+-- ---- ends of parts
+
+-- of the body of a `__try`, with the beginning of its `__except` block
+abbrev pub landed : ℕ → ℕ → List Instruction
+landed end x = Jump end ∷ Landing (Local x) ∷ []
+
+-- of a `do`, whose condition was evaluated
+abbrev pub repeated : ℕ → ℕ → List Instruction
+repeated end begin = JumpIfZero (Temporary 0) end ∷ Jump begin ∷ []
+
+-- ---- statements, placed at an instruction
+
+abbrev mutual
+  pub statement_code : Scope → Statement → ℕ → List Instruction
+  statement_code scope (Declare d) at = declared_code scope.names d at
+  statement_code scope (Block ss) at = statements_code scope ss at
+  statement_code scope (Evaluate e) at = discarded_code scope.names e at
+  statement_code scope (If c s) at =
+      let then = at + expression_size c + 1 in
+      expression_code scope.names c 0 at
+      ++ (JumpIfZero (Temporary 0) (then + statement_size s)
+      ∷ statement_code scope s then)
+  statement_code scope (IfElse c s t) at =
+      let then = at + expression_size c + 1 in
+      let otherwise = then + statement_size s + 1 in
+      expression_code scope.names c 0 at
+      ++ (JumpIfZero (Temporary 0) otherwise
+      ∷ (statement_code scope s then
+      ++ (Jump (otherwise + statement_size t)
+      ∷ statement_code scope t otherwise)))
+  statement_code scope (For ds first c next s) at =
+      let begin = at + all_declared_size ds in
+      let iteration = begin + discarded_size first in
+      let body = iteration + condition_size c in
+      let again = body + statement_size s in
+      let end = again + 1 + discarded_size next + 1 in
+      all_declared_code scope.names ds at
+      ++ (discarded_code scope.names first begin
+      ++ (condition_code scope.names c end iteration
+      ++ (statement_code (in_loop end again scope) s body
+      ++ (Separator
+      ∷ (discarded_code scope.names next (again + 1)
+      ++ Jump iteration ∷ [])))))
+  statement_code scope (DoWhile s c) at =
+      let again = at + statement_size s in
+      let end = again + 1 + expression_size c + 2 in
+      statement_code (in_loop end again scope) s at
+      ++ (Separator
+      ∷ (expression_code scope.names c 0 (again + 1)
+      ++ repeated end at))
+  statement_code scope (statements.Return e) at = returned_code scope.names e at ++ return_code scope.exit
+  statement_code scope Break at = jump_code scope.loop_end
+  statement_code scope Continue at = jump_code scope.loop_next
+  statement_code scope Leave at = leave_code scope.leave ∷ []
+  statement_code scope (TryExcept body filter block) at =
+      let target = at + statements_size body + 1 in
+      let end = target + 1 + statements_size block in
+      statements_code (in_try end scope) body at
+      ++ (landed end scope.names.free
+      ++ statements_code (in_except scope) block (target + 1))
+  statement_code scope (TryFinally body k last) at =
+      statements_code (in_guarded (at + statements_size body) scope) body at
+      ++ Separator ∷ CallFinally (k - 1) ∷ Separator ∷ []
+
+  pub statements_code : Scope → Statements → ℕ → List Instruction
+  statements_code scope Empty at = []
+  statements_code scope (Then s ss) at = statement_code scope s at ++ statements_code scope ss (at + statement_size s)

@@ -1,0 +1,268 @@
+//! The code of expressions.
+
+ghost use Rattle.std.specs.Prelude.{◌≡◌, ◌+◌, ◌++◌, [], ◌∷◌, map, length, OnOk};
+ghost use Rattle.c_checked.specs.Expression as tree;
+ghost use Rattle.seh_ir.specs.Views as views;
+ghost use Rattle.seh_ir.specs.Expressions as spec;
+
+use crate::instructions::{abnormal, choose, constant, convert, exception_code, read, unary};
+use crate::pieces::{
+    after_place, assign, begin_compound, copy_down, end_compound, end_difference, increment,
+    operate, skip, test,
+};
+use crate::scope::{Names, sum};
+use crate::sizes::expression_size;
+use c_checked::expression::{Expr, Lvalue, Node};
+use c_operations::operation::{Operation, Pure, Size};
+use linear_code::instruction::Instruction;
+use linear_code::slot::Slot;
+use std::alloc::AllocError;
+
+fn count_of(args: &[Expr]) -> u64
+    ensures { result ≡ length args.now }
+{
+    args.len() as u64
+}
+
+/// The code of an expression, with its value to the temporary `d`.
+#[cycle(expressions)]
+pub fn expression(
+    code: &mut Vec<Instruction>,
+    names: Names,
+    expr: &Expr,
+    d: u64,
+) -> Result<(), AllocError>
+    ensures { OnOk result (code.new.items ≡ code.old.items ++ spec.expression_code names (tree.expression expr.now) d (length code.old.items)) }
+{
+    node(code, names, &expr.node, d)?;
+    convert(code, expr.conversion, d)
+}
+
+/// The address of a place to the temporary `d`, and of a local nothing.
+#[cycle(expressions)]
+fn locate(
+    code: &mut Vec<Instruction>,
+    names: Names,
+    place: &Lvalue,
+    d: u64,
+) -> Result<(), AllocError>
+    ensures { OnOk result (code.new.items ≡ code.old.items ++ spec.locate_code names (views.lvalue place.now) d (length code.old.items)) }
+{
+    match place {
+        Lvalue::Local(_) => Ok(()),
+        Lvalue::Global { address, .. } => {
+            code.push(constant(d, *address))?;
+            Ok(())
+        }
+        Lvalue::Indirection { pointer, .. } => expression(code, names, pointer, d),
+        Lvalue::Element { array, index, .. } => {
+            let next = sum(d, 1)?;
+            expression(code, names, array, d)?;
+            expression(code, names, index, next)?;
+            operate(code, d, Operation::Pure(Pure::Add(Size::Long)))?;
+            Ok(())
+        }
+    }
+}
+
+#[cycle(expressions)]
+fn read_node(
+    code: &mut Vec<Instruction>,
+    names: Names,
+    place: &Lvalue,
+    d: u64,
+) -> Result<(), AllocError>
+    ensures { OnOk result (code.new.items ≡ code.old.items ++ (spec.locate_code names (views.lvalue place.now) d (length code.old.items) ++ spec.read_code (views.lvalue place.now) d d)) }
+{
+    locate(code, names, place, d)?;
+    read(code, place, d, d)
+}
+
+#[cycle(expressions)]
+fn address(
+    code: &mut Vec<Instruction>,
+    names: Names,
+    place: &Lvalue,
+    d: u64,
+) -> Result<(), AllocError>
+    ensures { OnOk result (code.new.items ≡ code.old.items ++ spec.address_code (views.lvalue place.now) d (spec.locate_code names (views.lvalue place.now) d (length code.old.items))) }
+{
+    match place {
+        Lvalue::Local(_) => {
+            code.push(constant(d, 0))?;
+            Ok(())
+        }
+        Lvalue::Global { .. } => locate(code, names, place, d),
+        Lvalue::Indirection { .. } => locate(code, names, place, d),
+        Lvalue::Element { .. } => locate(code, names, place, d),
+    }
+}
+
+/// The arguments of a call to the temporaries from `d` on.
+#[cycle(expressions)]
+fn arguments(
+    code: &mut Vec<Instruction>,
+    names: Names,
+    args: &[Expr],
+    d: u64,
+) -> Result<(), AllocError>
+    ensures { OnOk result (code.new.items ≡ code.old.items ++ spec.arguments_code names (tree.arguments (map tree.expression args.now)) d (length code.old.items)) }
+{
+    let mut next = d;
+    for arg in args {
+        expression(code, names, arg, next)?;
+        next = sum(next, 1)?;
+    }
+    Ok(())
+}
+
+#[cycle(expressions)]
+fn node(code: &mut Vec<Instruction>, names: Names, node: &Node, d: u64) -> Result<(), AllocError>
+    ensures { OnOk result (code.new.items ≡ code.old.items ++ spec.node_code names (tree.node node.now) d (length code.old.items)) }
+{
+    match node {
+        Node::Constant { value, .. } => {
+            code.push(constant(d, *value))?;
+            Ok(())
+        }
+        Node::Read(place) => read_node(code, names, place, d),
+        Node::AddressOf(place) => address(code, names, place, d),
+        Node::Assign { target, value } => {
+            let from = after_place(target, d)?;
+            locate(code, names, target, d)?;
+            expression(code, names, value, from)?;
+            assign(code, target, d)?;
+            Ok(())
+        }
+        Node::CompoundAssign {
+            target,
+            before,
+            operation,
+            value,
+            after,
+        } => {
+            let old = after_place(target, d)?;
+            let next = sum(old, 1)?;
+            locate(code, names, target, d)?;
+            begin_compound(code, target, *before, d)?;
+            expression(code, names, value, next)?;
+            end_compound(code, target, *operation, *after, d)?;
+            Ok(())
+        }
+        Node::Increment {
+            fixity,
+            target,
+            before,
+            operation,
+            amount,
+            after,
+        } => {
+            locate(code, names, target, d)?;
+            increment(
+                code, target, *fixity, *before, *operation, *amount, *after, d,
+            )?;
+            Ok(())
+        }
+        Node::Unary { operation, operand } => {
+            expression(code, names, operand, d)?;
+            unary(code, *operation, d)?;
+            Ok(())
+        }
+        Node::Binary {
+            operation,
+            left,
+            right,
+        } => {
+            let next = sum(d, 1)?;
+            expression(code, names, left, d)?;
+            expression(code, names, right, next)?;
+            operate(code, d, *operation)?;
+            Ok(())
+        }
+        Node::PointerDifference { size, left, right } => {
+            let next = sum(d, 1)?;
+            expression(code, names, left, d)?;
+            expression(code, names, right, next)?;
+            end_difference(code, *size, d)?;
+            Ok(())
+        }
+        Node::Not(operand) => {
+            expression(code, names, operand, d)?;
+            choose(code, d, 1, 0)?;
+            Ok(())
+        }
+        Node::And(left, right) => {
+            let size = expression_size(right)?;
+            expression(code, names, left, d)?;
+            test(code, d, size, 4)?;
+            expression(code, names, right, d)?;
+            choose(code, d, 0, 1)?;
+            Ok(())
+        }
+        Node::Or(left, right) => {
+            let size = expression_size(right)?;
+            expression(code, names, left, d)?;
+            test(code, d, 0, 3)?;
+            code.push(constant(d, 1))?;
+            skip(code, size, 5)?;
+            expression(code, names, right, d)?;
+            choose(code, d, 0, 1)?;
+            Ok(())
+        }
+        Node::Conditional { condition, yes, no } => {
+            let first = expression_size(yes)?;
+            let other = expression_size(no)?;
+            expression(code, names, condition, d)?;
+            test(code, d, first, 2)?;
+            expression(code, names, yes, d)?;
+            skip(code, other, 1)?;
+            expression(code, names, no, d)?;
+            Ok(())
+        }
+        Node::Comma(left, right) => {
+            let next = sum(d, 1)?;
+            expression(code, names, left, d)?;
+            expression(code, names, right, next)?;
+            copy_down(code, d)?;
+            Ok(())
+        }
+        Node::Call {
+            function,
+            arguments: args,
+        } => {
+            arguments(code, names, args, d)?;
+            code.push(Instruction::Call {
+                function: *function,
+                first: d,
+                count: count_of(args),
+            })?;
+            Ok(())
+        }
+        Node::CallBuiltIn {
+            function,
+            arguments: args,
+        } => {
+            arguments(code, names, args, d)?;
+            code.push(Instruction::CallBuiltIn {
+                function: *function,
+                first: d,
+            })?;
+            Ok(())
+        }
+        Node::ExceptionCode => {
+            code.push(exception_code(names.exception, d))?;
+            Ok(())
+        }
+        Node::Information(field) => {
+            code.push(Instruction::Information {
+                to: Slot::Temporary(d),
+                field: *field,
+            })?;
+            Ok(())
+        }
+        Node::AbnormalTermination => {
+            code.push(abnormal(names.abnormal, d))?;
+            Ok(())
+        }
+    }
+}

@@ -1,0 +1,247 @@
+//! Single instructions, and those of conversions, names and places.
+
+ghost use Rattle.std.specs.Prelude.{◌≡◌, ◌+◌, ◌++◌, [], ◌∷◌, length, OnOk, IfOk};
+ghost use Rattle.seh_ir.specs.Views as views;
+ghost use Rattle.seh_ir.specs.Expressions as spec;
+
+use crate::scope::{ExceptionSource, sum};
+use c_checked::expression::{Access, Conversion, Fixity, Lvalue};
+use c_operations::field::Field;
+use c_operations::operation::{Operation, Pure, Size};
+use linear_code::instruction::Instruction;
+use linear_code::slot::Slot;
+use seh_num::width::Width;
+use std::alloc::AllocError;
+
+pub fn constant(d: u64, n: u64) -> Instruction
+    ensures { result ≡ spec.constant d n }
+{
+    change(d, Operation::Pure(Pure::Constant(n)))
+}
+
+pub fn copy(to: Slot, from: Slot) -> Instruction
+    ensures { result ≡ spec.copy to from }
+{
+    Instruction::Compute {
+        to,
+        operation: Operation::Pure(Pure::First),
+        first: from,
+        second: from,
+    }
+}
+
+/// The number of the instruction that is so many after those that are there.
+pub fn ahead(code: &Vec<Instruction>, by: u64) -> Result<u64, AllocError>
+    ensures { IfOk result (λ n. n ≡ length code.now.items + by) }
+{
+    sum(code.len() as u64, by)
+}
+
+/// An operation on one temporary.
+pub fn change(d: u64, operation: Operation) -> Instruction
+    ensures { result ≡ spec.change d operation }
+{
+    Instruction::Compute {
+        to: Slot::Temporary(d),
+        operation,
+        first: Slot::Temporary(d),
+        second: Slot::Temporary(d),
+    }
+}
+
+/// An operation on a temporary and the next one.
+pub fn combine(d: u64, operation: Operation) -> Result<Instruction, AllocError>
+    ensures { IfOk result (λ i. i ≡ spec.combine d operation) }
+{
+    let next = sum(d, 1)?;
+    Ok(Instruction::Compute {
+        to: Slot::Temporary(d),
+        operation,
+        first: Slot::Temporary(d),
+        second: Slot::Temporary(next),
+    })
+}
+
+pub fn convert(
+    code: &mut Vec<Instruction>,
+    conversion: Conversion,
+    d: u64,
+) -> Result<(), AllocError>
+    ensures { OnOk result (code.new.items ≡ code.old.items ++ spec.conversion_code conversion d) }
+{
+    match conversion {
+        Conversion::Kept => Ok(()),
+        Conversion::Extend {
+            signedness,
+            from,
+            size,
+        } => {
+            code.push(change(
+                d,
+                Operation::Pure(Pure::Extend {
+                    signedness,
+                    from,
+                    size,
+                }),
+            ))?;
+            Ok(())
+        }
+        Conversion::Scale {
+            signedness,
+            from,
+            by,
+        } => {
+            code.push(change(
+                d,
+                Operation::Pure(Pure::Extend {
+                    signedness,
+                    from,
+                    size: Size::Long,
+                }),
+            ))?;
+            code.push(constant(sum(d, 1)?, by))?;
+            code.push(combine(d, Operation::Pure(Pure::Multiply(Size::Long)))?)?;
+            Ok(())
+        }
+    }
+}
+
+fn size_of(width: Width) -> Size
+    ensures { result ≡ spec.size_of width }
+{
+    match width {
+        Width::W8 => Size::Int,
+        Width::W16 => Size::Int,
+        Width::W32 => Size::Int,
+        Width::W64 => Size::Long,
+    }
+}
+
+pub fn unary(code: &mut Vec<Instruction>, operation: Pure, d: u64) -> Result<(), AllocError>
+    ensures { OnOk result (code.new.items ≡ code.old.items ++ spec.unary_code operation d) }
+{
+    match operation {
+        Pure::First => Ok(()),
+        _ => {
+            code.push(constant(sum(d, 1)?, 0))?;
+            code.push(combine(d, Operation::Pure(operation))?)?;
+            Ok(())
+        }
+    }
+}
+
+/// One number where the temporary is 0, and another where it isn't.
+pub fn choose(code: &mut Vec<Instruction>, d: u64, zero: u64, other: u64) -> Result<(), AllocError>
+    ensures { OnOk result (code.new.items ≡ code.old.items ++ spec.choice_code d (length code.old.items) zero other) }
+{
+    let at = code.len() as u64;
+    code.push(Instruction::JumpIfZero {
+        slot: Slot::Temporary(d),
+        label: at + 3,
+    })?;
+    code.push(constant(d, other))?;
+    code.push(Instruction::Jump { label: at + 4 })?;
+    code.push(constant(d, zero))?;
+    Ok(())
+}
+
+/// The code of the exception that GetExceptionCode means.
+pub fn exception_code(source: ExceptionSource, d: u64) -> Instruction
+    ensures { result ≡ spec.code_code source d }
+{
+    match source {
+        ExceptionSource::NoException => constant(d, 0),
+        ExceptionSource::OfFilter => Instruction::Information {
+            to: Slot::Temporary(d),
+            field: Field::ExceptionCode,
+        },
+        ExceptionSource::KeptIn(local) => copy(Slot::Temporary(d), Slot::Local(local)),
+    }
+}
+
+pub fn abnormal(flag: Option<u64>, d: u64) -> Instruction
+    ensures { result ≡ spec.abnormal_code flag d }
+{
+    match flag {
+        None => constant(d, 0),
+        Some(local) => copy(Slot::Temporary(d), Slot::Local(local)),
+    }
+}
+
+fn load(
+    code: &mut Vec<Instruction>,
+    access: Access,
+    address: u64,
+    to: u64,
+) -> Result<(), AllocError>
+    ensures { OnOk result (code.new.items ≡ code.old.items ++ spec.load_code access address to) }
+{
+    code.push(Instruction::Compute {
+        to: Slot::Temporary(to),
+        operation: Operation::Load(access.width),
+        first: Slot::Temporary(address),
+        second: Slot::Temporary(address),
+    })?;
+    code.push(change(
+        to,
+        Operation::Pure(Pure::Extend {
+            signedness: access.signedness,
+            from: access.width,
+            size: size_of(access.width),
+        }),
+    ))?;
+    Ok(())
+}
+
+/// What is at a place that was located, to a temporary.
+pub fn read(
+    code: &mut Vec<Instruction>,
+    place: &Lvalue,
+    address: u64,
+    to: u64,
+) -> Result<(), AllocError>
+    ensures { OnOk result (code.new.items ≡ code.old.items ++ spec.read_code (views.lvalue place.now) address to) }
+{
+    match place {
+        Lvalue::Local(local) => {
+            code.push(copy(Slot::Temporary(to), Slot::Local(*local)))?;
+            Ok(())
+        }
+        Lvalue::Global { access, .. } => load(code, *access, address, to),
+        Lvalue::Indirection { access, .. } => load(code, *access, address, to),
+        Lvalue::Element { access, .. } => load(code, *access, address, to),
+    }
+}
+
+fn store(access: Access, address: u64, from: u64, to: u64) -> Instruction
+    ensures { result ≡ spec.store_code access address from to }
+{
+    Instruction::Compute {
+        to: Slot::Temporary(to),
+        operation: Operation::Store(access.width),
+        first: Slot::Temporary(address),
+        second: Slot::Temporary(from),
+    }
+}
+
+/// A temporary to a place that was located.
+pub fn write(place: &Lvalue, address: u64, from: u64, to: u64) -> Instruction
+    ensures { result ≡ spec.write_code (views.lvalue place.now) address from to }
+{
+    match place {
+        Lvalue::Local(local) => copy(Slot::Local(*local), Slot::Temporary(from)),
+        Lvalue::Global { access, .. } => store(*access, address, from, to),
+        Lvalue::Indirection { access, .. } => store(*access, address, from, to),
+        Lvalue::Element { access, .. } => store(*access, address, from, to),
+    }
+}
+
+/// Which of two temporaries is the value of `++` or `--`: that of the old value, or the next one.
+pub fn chosen(fixity: Fixity, old: u64) -> Result<u64, AllocError>
+    ensures { IfOk result (λ n. n ≡ spec.chosen_of fixity old) }
+{
+    match fixity {
+        Fixity::Postfix => Ok(old),
+        Fixity::Prefix => sum(old, 1),
+    }
+}

@@ -1,0 +1,17 @@
+//! From checked programs to linear code.
+//!
+//! `lower::lower` makes the linear code that `specs/Lowered` defines by recursion on the program. Begin
+//! reading there.
+#![tactic(auto)]
+
+pub mod bodies;
+pub mod expressions;
+pub mod funclets;
+pub mod instructions;
+pub mod lower;
+pub mod pieces;
+pub mod regions;
+pub mod scope;
+pub mod sizes;
+pub mod statement_sizes;
+pub mod statements;

@@ -1,0 +1,112 @@
+//! Whole programs.
+
+ghost use Rattle.std.specs.Prelude.{◌≡◌, ◌++◌, map, OnOk, IfOk};
+ghost use Rattle.linear_code.specs.Program.{linear_function, linear_funclet, linear_program};
+ghost use Rattle.c_checked.specs.Program as programs;
+ghost use Rattle.c_checked.specs.Whole.{program};
+ghost use Rattle.seh_ir.specs.Lowered as spec;
+
+use crate::bodies::body_with;
+use crate::funclets::{Owner, statements_funclets};
+use crate::instructions::constant;
+use crate::regions::statements_regions;
+use crate::scope::{ExceptionSource, Names, Scope, Way, sum};
+use crate::statement_sizes::{statements_notes, statements_size};
+use crate::statements::statements;
+use c_checked::checked::Checked;
+use c_checked::function::Function;
+use linear_code::instruction::Instruction;
+use linear_code::program::{IrFunclet, IrFunction, IrProgram};
+use linear_code::slot::Slot;
+use std::alloc::{AllocError, Global};
+
+fn own_locals(f: &Function) -> Result<u64, AllocError>
+    ensures { IfOk result (λ n. n ≡ spec.own_locals (programs.function f.now)) }
+{
+    sum(f.parameters.len() as u64, f.locals.len() as u64)
+}
+
+fn all_locals(f: &Function) -> Result<u64, AllocError>
+    ensures { IfOk result (λ n. n ≡ spec.all_locals (programs.function f.now)) }
+{
+    sum(own_locals(f)?, statements_notes(&f.body)?)
+}
+
+fn scope_of(f: &Function) -> Result<Scope, AllocError>
+    ensures { IfOk result (λ s. s ≡ spec.scope_of (programs.function f.now)) }
+{
+    let free = own_locals(f)?;
+    let exit = sum(statements_size(&f.body)?, 1)?;
+    Ok(Scope {
+        names: Names {
+            exception: ExceptionSource::NoException,
+            abnormal: None,
+            free,
+        },
+        exit: Way::Jumps(exit),
+        loop_end: Way::Nowhere,
+        loop_next: Way::Nowhere,
+        leave: None,
+    })
+}
+
+fn lower_function(alloc: Global, f: &Function) -> Result<IrFunction, AllocError>
+    ensures { IfOk result (λ r. linear_function r ≡ spec.lowered_function (programs.function f.now)) }
+{
+    let scope = scope_of(f)?;
+    let locals = all_locals(f)?;
+    let mut code = Vec::new(alloc);
+    statements(&mut code, &scope, &f.body)?;
+    code.push(constant(0, 0))?;
+    code.push(Instruction::Return {
+        from: Slot::Temporary(0),
+    })?;
+    let mut regions = Vec::new(alloc);
+    statements_regions(&mut regions, &f.body, 0)?;
+    let body = body_with(locals, code, regions)?;
+    Ok(IrFunction {
+        parameters: f.parameters.len() as u64,
+        body,
+    })
+}
+
+/// Adds the funclets of a function of this number.
+fn lower_funclets(
+    funclets: &mut Vec<IrFunclet>,
+    alloc: Global,
+    number: u64,
+    f: &Function,
+) -> Result<(), AllocError>
+    ensures { OnOk result (map linear_funclet funclets.new.items ≡ map linear_funclet funclets.old.items ++ spec.lowered_funclets number (programs.function f.now)) }
+{
+    let scope = scope_of(f)?;
+    let owner = Owner {
+        function: number,
+        locals: all_locals(f)?,
+        parent: None,
+    };
+    statements_funclets(funclets, alloc, owner, scope.names, &f.body)
+}
+
+/// The linear code of a checked program. Nothing but want of memory keeps it from being made.
+pub fn lower(alloc: Global, checked: &Checked) -> Result<IrProgram, AllocError>
+    ensures lowered { IfOk result (λ p. linear_program p ≡ spec.lowered (program checked.now)) }
+{
+    let mut functions = Vec::new(alloc);
+    let mut funclets = Vec::new(alloc);
+    let mut number = 0;
+    for f in &checked.functions {
+        let function = lower_function(alloc, f)?;
+        functions.push(function)?;
+        lower_funclets(&mut funclets, alloc, number, f)?;
+        number = sum(number, 1)?;
+    }
+    let mut globals = Vec::new(alloc);
+    globals.extend_from_slice(&checked.globals)?;
+    Ok(IrProgram {
+        globals,
+        main: checked.main,
+        functions,
+        funclets,
+    })
+}

@@ -1,0 +1,164 @@
+//! What stands between and after the operands of a node.
+
+ghost use Rattle.std.specs.Prelude.{◌≡◌, ◌+◌, ◌++◌, [], ◌∷◌, length, OnOk, IfOk};
+ghost use Rattle.linear_code.specs.declared.slot.Slot.TheVariants.{Temporary};
+ghost use Rattle.linear_code.specs.declared.instruction.Instruction.TheVariants.{Jump, JumpIfZero};
+ghost use Rattle.seh_ir.specs.Views as views;
+ghost use Rattle.seh_ir.specs.Sizes as sizes;
+ghost use Rattle.seh_ir.specs.Expressions as spec;
+ghost use Rattle.seh_ir.specs.Pieces as pieces;
+
+use crate::instructions::{chosen, combine, constant, convert, copy, read, write};
+use crate::scope::sum;
+use crate::sizes::address_count;
+use c_checked::expression::{Conversion, Fixity, Lvalue};
+use c_operations::operation::{Operation, Pure, Signedness, Size};
+use linear_code::instruction::Instruction;
+use linear_code::slot::Slot;
+use std::alloc::AllocError;
+
+/// The temporary after the address of a place that was located to `d`.
+pub fn after_place(place: &Lvalue, d: u64) -> Result<u64, AllocError>
+    ensures { IfOk result (λ n. n ≡ d + sizes.address_count (views.lvalue place.now)) }
+{
+    sum(d, address_count(place))
+}
+
+pub fn operate(code: &mut Vec<Instruction>, d: u64, operation: Operation) -> Result<(), AllocError>
+    ensures { OnOk result (code.new.items ≡ code.old.items ++ spec.combine d operation ∷ []) }
+{
+    code.push(combine(d, operation)?)?;
+    Ok(())
+}
+
+pub fn assign(code: &mut Vec<Instruction>, place: &Lvalue, d: u64) -> Result<(), AllocError>
+    ensures { OnOk result (code.new.items ≡ code.old.items ++ pieces.assigned (views.lvalue place.now) d) }
+{
+    let from = after_place(place, d)?;
+    code.push(write(place, d, from, d))?;
+    Ok(())
+}
+
+pub fn begin_compound(
+    code: &mut Vec<Instruction>,
+    place: &Lvalue,
+    before: Conversion,
+    d: u64,
+) -> Result<(), AllocError>
+    ensures { OnOk result (code.new.items ≡ code.old.items ++ pieces.compound_begun (views.lvalue place.now) before d) }
+{
+    let old = after_place(place, d)?;
+    read(code, place, d, old)?;
+    convert(code, before, old)
+}
+
+pub fn end_compound(
+    code: &mut Vec<Instruction>,
+    place: &Lvalue,
+    operation: Operation,
+    after: Conversion,
+    d: u64,
+) -> Result<(), AllocError>
+    ensures { OnOk result (code.new.items ≡ code.old.items ++ pieces.compound_ended (views.lvalue place.now) operation after d) }
+{
+    let old = after_place(place, d)?;
+    operate(code, old, operation)?;
+    convert(code, after, old)?;
+    code.push(write(place, d, old, d))?;
+    Ok(())
+}
+
+pub fn end_difference(code: &mut Vec<Instruction>, size: u64, d: u64) -> Result<(), AllocError>
+    ensures { OnOk result (code.new.items ≡ code.old.items ++ pieces.difference_ended size d) }
+{
+    let next = sum(d, 1)?;
+    operate(code, d, Operation::Pure(Pure::Subtract(Size::Long)))?;
+    code.push(constant(next, size))?;
+    operate(code, d, Operation::Divide(Signedness::Signed, Size::Long))
+}
+
+/// A jump over so many instructions, itself among them, where the temporary is 0.
+pub fn test(code: &mut Vec<Instruction>, d: u64, size: u64, more: u64) -> Result<(), AllocError>
+    ensures { OnOk result (code.new.items ≡ code.old.items ++ JumpIfZero (Temporary d) (length code.old.items + (size + more)) ∷ []) }
+{
+    let over = sum(size, more)?;
+    let label = sum(code.len() as u64, over)?;
+    code.push(Instruction::JumpIfZero {
+        slot: Slot::Temporary(d),
+        label,
+    })?;
+    Ok(())
+}
+
+/// A jump over so many instructions, itself among them.
+pub fn skip(code: &mut Vec<Instruction>, size: u64, more: u64) -> Result<(), AllocError>
+    ensures { OnOk result (code.new.items ≡ code.old.items ++ Jump (length code.old.items + (size + more)) ∷ []) }
+{
+    let over = sum(size, more)?;
+    let label = sum(code.len() as u64, over)?;
+    code.push(Instruction::Jump { label })?;
+    Ok(())
+}
+
+pub fn copy_down(code: &mut Vec<Instruction>, d: u64) -> Result<(), AllocError>
+    ensures { OnOk result (code.new.items ≡ code.old.items ++ spec.copy (Temporary d) (Temporary (d + 1)) ∷ []) }
+{
+    let next = sum(d, 1)?;
+    code.push(copy(Slot::Temporary(d), Slot::Temporary(next)))?;
+    Ok(())
+}
+
+/// The end of `++` and `--`, with the new value converted: it goes to the place, and the value of the
+/// expression to the temporary `d`.
+fn end_increment(
+    code: &mut Vec<Instruction>,
+    place: &Lvalue,
+    fixity: Fixity,
+    old: u64,
+    d: u64,
+) -> Result<(), AllocError>
+    ensures { OnOk result (code.new.items ≡ code.old.items ++ pieces.increment_ended (views.lvalue place.now) fixity old d) }
+{
+    let new = sum(old, 1)?;
+    code.push(write(place, d, new, new))?;
+    code.push(copy(Slot::Temporary(d), Slot::Temporary(chosen(fixity, old)?)))?;
+    Ok(())
+}
+
+/// The new value of `++` and `--`, in the temporary after the old one.
+fn next_value(
+    code: &mut Vec<Instruction>,
+    before: Conversion,
+    operation: Operation,
+    amount: u64,
+    after: Conversion,
+    old: u64,
+) -> Result<(), AllocError>
+    ensures { OnOk result (code.new.items ≡ code.old.items ++ pieces.next_value before operation amount after old) }
+{
+    let new = sum(old, 1)?;
+    code.push(copy(Slot::Temporary(new), Slot::Temporary(old)))?;
+    convert(code, before, new)?;
+    code.push(constant(sum(old, 2)?, amount))?;
+    operate(code, new, operation)?;
+    convert(code, after, new)
+}
+
+/// `++` and `--` at a place that was located.
+pub fn increment(
+    code: &mut Vec<Instruction>,
+    place: &Lvalue,
+    fixity: Fixity,
+    before: Conversion,
+    operation: Operation,
+    amount: u64,
+    after: Conversion,
+    d: u64,
+) -> Result<(), AllocError>
+    ensures { OnOk result (code.new.items ≡ code.old.items ++ pieces.incremented (views.lvalue place.now) fixity before operation amount after d) }
+{
+    let old = after_place(place, d)?;
+    read(code, place, d, old)?;
+    next_value(code, before, operation, amount, after, old)?;
+    end_increment(code, place, fixity, old, d)
+}

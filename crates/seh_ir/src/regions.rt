@@ -1,0 +1,135 @@
+//! The regions of a body.
+
+ghost use Rattle.std.specs.Prelude.{◌≡◌, ◌+◌, ◌-◌, ◌++◌, [], ◌∷◌, map, OnOk, IfOk};
+ghost use Rattle.linear_code.specs.declared.program.RegionKind.TheVariants as kinds;
+ghost use Rattle.c_checked.specs.Statement as statements;
+ghost use Rattle.seh_ir.specs.Sizes as sizes;
+ghost use Rattle.seh_ir.specs.Regions as spec;
+
+use crate::scope::sum;
+use crate::sizes::expression_size;
+use crate::statement_sizes::{
+    all_declared_size, condition_size, discarded_size, statement_size, statements_size,
+};
+use c_checked::statement::{Filter, Stmt};
+use linear_code::program::{Region, RegionKind};
+use std::alloc::AllocError;
+
+fn except_kind(filter: &Filter, target: u64) -> RegionKind
+    ensures { result ≡ spec.except_kind (statements.filter filter.now) target }
+{
+    match filter {
+        Filter::Always => RegionKind::Always { target },
+        Filter::Funclet { number, .. } => RegionKind::Filter {
+            funclet: number.saturating_sub(1) as u64,
+            target,
+        },
+    }
+}
+
+fn finally_kind(number: u32) -> RegionKind
+    ensures { result ≡ kinds.Finally (number - 1) }
+{
+    RegionKind::Finally {
+        funclet: number.saturating_sub(1) as u64,
+    }
+}
+
+/// The place after so many instructions.
+fn shifted(at: u64, size: u64, more: u64) -> Result<u64, AllocError>
+    ensures { IfOk result (λ n. n ≡ at + size + more) }
+{
+    sum(sum(at, size)?, more)
+}
+
+/// Those of statements that are placed at an instruction.
+#[cycle(regions)]
+pub fn statements_regions(
+    regions: &mut Vec<Region>,
+    stmts: &[Stmt],
+    at: u64,
+) -> Result<(), AllocError>
+    ensures { OnOk result (regions.new.items ≡ regions.old.items ++ spec.statements_regions (statements.statements (map statements.statement stmts.now)) at) }
+{
+    let mut place = at;
+    for stmt in stmts {
+        let size = statement_size(stmt)?;
+        statement_regions(regions, stmt, place)?;
+        place = sum(place, size)?;
+    }
+    Ok(())
+}
+
+#[cycle(regions)]
+fn statement_regions(regions: &mut Vec<Region>, stmt: &Stmt, at: u64) -> Result<(), AllocError>
+    ensures { OnOk result (regions.new.items ≡ regions.old.items ++ spec.statement_regions (statements.statement stmt.now) at) }
+{
+    match stmt {
+        Stmt::Declare(_) => Ok(()),
+        Stmt::Block(stmts) => statements_regions(regions, stmts, at),
+        Stmt::Evaluate(_) => Ok(()),
+        Stmt::If {
+            condition,
+            then,
+            otherwise: None,
+        } => {
+            let first = shifted(at, expression_size(condition)?, 1)?;
+            statement_regions(regions, then, first)?;
+            Ok(())
+        }
+        Stmt::If {
+            condition,
+            then,
+            otherwise: Some(otherwise),
+        } => {
+            let first = shifted(at, expression_size(condition)?, 1)?;
+            let second = shifted(first, statement_size(then)?, 1)?;
+            statement_regions(regions, then, first)?;
+            statement_regions(regions, otherwise, second)?;
+            Ok(())
+        }
+        Stmt::For {
+            declared,
+            first,
+            condition,
+            body,
+            ..
+        } => {
+            let begun = shifted(at, all_declared_size(declared)?, discarded_size(first)?)?;
+            let place = sum(begun, condition_size(condition)?)?;
+            statement_regions(regions, body, place)?;
+            Ok(())
+        }
+        Stmt::Do { body, .. } => statement_regions(regions, body, at),
+        Stmt::Return(_) => Ok(()),
+        Stmt::Break => Ok(()),
+        Stmt::Continue => Ok(()),
+        Stmt::Leave => Ok(()),
+        Stmt::TryExcept {
+            body,
+            filter,
+            handler,
+        } => {
+            let target = shifted(at, statements_size(body)?, 1)?;
+            let block = sum(target, 1)?;
+            statements_regions(regions, body, at)?;
+            regions.push(Region {
+                begin: at,
+                end: target,
+                kind: except_kind(filter, target),
+            })?;
+            statements_regions(regions, handler, block)?;
+            Ok(())
+        }
+        Stmt::TryFinally { body, number, .. } => {
+            let end = shifted(at, statements_size(body)?, 1)?;
+            statements_regions(regions, body, at)?;
+            regions.push(Region {
+                begin: at,
+                end,
+                kind: finally_kind(*number),
+            })?;
+            Ok(())
+        }
+    }
+}

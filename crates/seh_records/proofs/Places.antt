@@ -1,0 +1,31 @@
+-- Where a record may be placed.
+use Rattle.std.proofs.Common.{◌≡◌, ℕ, ◌+◌, ◌*◌, ◌%◌, ◌^◌, ◌<◌, ◌≤◌, Bool, true, false, cond, Some, None, sym, ap, ◌∙◌, arith, refl}
+use Rattle.std.specs.Prelude.{nat_lt}
+use Rattle.std.proofs.lemmas.Bool.{ltb-false}
+use Rattle.flat_memory.specs.Memory.{Memory, first_refused, may_write}
+use Rattle.seh_records.specs.Record.{misplaced, return_address_at}
+use Rattle.seh_records.proofs.Runs.{none_within}
+
+-- then all its words may be written
+pub writable : (m : Memory) (at : ℕ) → misplaced m at ≡ None → first_refused (may_write m) 1576 (return_address_at at) ≡ None
+unfolding misplaced
+writable m at e = go (nat_lt (2 ^ 64) (return_address_at at + 1576)) (nat_lt (return_address_at at) 0x70000000) e
+  where
+    go : (a b : Bool) → cond a (Some 0) (cond b (Some (return_address_at at)) (first_refused (may_write m) 1576 (return_address_at at))) ≡ None → first_refused (may_write m) 1576 (return_address_at at) ≡ None
+    go true b e = absurd cc
+    go false true e = absurd cc
+    go false false e = e
+
+pub writable_words : (m : Memory) (at : ℕ) → at < 2 ^ 64 → misplaced m at ≡ None → first_refused (may_write m) (8 * 192) ((at + 32) % 2 ^ 64) ≡ None
+writable_words m at lt e =
+    let same : (return_address_at at + 40) % 2 ^ 64 ≡ (at + 32) % 2 ^ 64 = omega arith in
+    ap (first_refused (may_write m) 1536) (sym same) ∙ none_within (may_write m) 1576 40 1536 (return_address_at at) (omega arith) (omega arith) (writable m at e)
+
+-- and they don't wrap
+pub no_wrap : (m : Memory) (at : ℕ) → at < 2 ^ 64 → misplaced m at ≡ None → (at + 32) % 2 ^ 64 + 8 * 192 ≤ 2 ^ 64
+unfolding misplaced
+no_wrap m at lt e = go (nat_lt (2 ^ 64) (return_address_at at + 1576)) refl e
+  where
+    go : (b : Bool) → nat_lt (2 ^ 64) (return_address_at at + 1576) ≡ b → cond b (Some 0) (cond (nat_lt (return_address_at at) 0x70000000) (Some (return_address_at at)) (first_refused (may_write m) 1576 (return_address_at at))) ≡ None → (at + 32) % 2 ^ 64 + 8 * 192 ≤ 2 ^ 64
+    go true h e = absurd cc
+    go false h e = let f : return_address_at at + 1576 ≤ 2 ^ 64 = ltb-false _ _ h in omega arith

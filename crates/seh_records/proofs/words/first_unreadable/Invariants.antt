@@ -1,0 +1,8 @@
+use Rattle.std.proofs.Common.{◌≡◌, ◌-◌, ◌*◌}
+use Rattle.flat_memory.specs.Memory.{may_read, first_refused}
+use Rattle.seh_records.proofs.words.first_unreadable.Given as goal
+
+abbrev pub invariant-loop-i : goal.invariant-loop-i
+invariant-loop-i g l =
+    let may = may_read (g.S.AddressSpace.memory l.space) in
+    first_refused may (8 * (l.count - l._i)) l.here ≡ first_refused may (8 * l.count) l.at

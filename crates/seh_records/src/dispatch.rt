@@ -1,0 +1,36 @@
+use seh_num::event::Code;
+use x64_machine::context::Context;
+use x64_machine::cpu::Cpu;
+
+/// What a record is kept for.
+#[derive(Clone, Copy, Debug, PartialEq, Eq)]
+pub enum Kind {
+    /// A search for a handler of an exception.
+    Search,
+    /// The unwinding to the frame that has accepted an exception.
+    ExceptionUnwind,
+    /// A local unwind.
+    LocalUnwind,
+}
+
+/// A suspended search or unwinding.
+#[derive(Clone, Copy, Debug, PartialEq, Eq)]
+pub struct DispatchRecord {
+    pub kind: Kind,
+    /// The establisher frame in hand.
+    pub frame: u64,
+    /// The next scope record at the walk's frame.
+    pub row: u64,
+    /// The frame that an unwinding goes to, and the address there.
+    pub target_frame: u64,
+    pub target: u64,
+    pub code: Code,
+    pub flags: u32,
+    /// How many of the parameters say something.
+    pub count: u32,
+    pub parameters: [u64; 15],
+    /// The state that search and unwinding begin from.
+    pub saved: Cpu,
+    /// The state at the frame in hand.
+    pub walk: Context,
+}

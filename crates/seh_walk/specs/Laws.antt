@@ -1,0 +1,23 @@
+-- What holds of every walk.
+use Rattle.std.specs.Prelude.{◌≡◌, ◌^◌, ◌<◌}
+use Rattle.flat_memory.specs.Memory.{Memory}
+use Rattle.virtual_unwind.specs.Contexts.{rsp}
+use Rattle.virtual_unwind.specs.CallerOf.{Functions}
+use Rattle.seh_records.specs.Laws.{AreBytes}
+use Rattle.seh_walk.specs.declared.walk.WalkState.{WalkState}
+use Rattle.seh_walk.specs.Walk.{Visited, Over, Past, Frame, Broken, visited}
+
+-- a walk can continue from there
+abbrev pub LeadsTo : Visited → WalkState → Type 0
+LeadsTo Over u = ⊥
+LeadsTo (Past v) u = v ≡ u
+LeadsTo (Frame f v) u = v ≡ u
+LeadsTo (Broken y) u = ⊥
+
+-- RSP rises in each step
+abbrev pub WalksRise : Type 0
+WalksRise = (t : Functions) (m : Memory) (w u : WalkState) → LeadsTo (visited t m w) u → rsp w.context < rsp u.context
+
+-- and stays an address, so that no walk has more steps than there are addresses
+abbrev pub WalksStayBelow : Type 0
+WalksStayBelow = (t : Functions) (m : Memory) (w u : WalkState) → AreBytes m.byte → rsp w.context < 2 ^ 64 → LeadsTo (visited t m w) u → rsp u.context < 2 ^ 64

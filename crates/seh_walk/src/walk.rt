@@ -1,0 +1,135 @@
+//! What a walk finds.
+
+ghost use Rattle.std.specs.Prelude.{◌≡◌};
+ghost use Rattle.eh_tables.specs.Tables.{IsWhole};
+ghost use Rattle.virtual_unwind.specs.CallerOf.{functions_of};
+ghost use Rattle.seh_records.specs.Record.{fetched, fetch_answer};
+ghost use Rattle.seh_walk.specs.Walk as spec;
+ghost use Rattle.seh_walk.specs.Seen.{seen, met_of, bad_met, above_met, filter_met, finally_met};
+
+use crate::stop_cause::StopCause;
+use eh_tables::Tables;
+use host_layout::service::{FILTER_RETURN_AT, FINALLY_RETURN_AT};
+use seh_num::end::Reason;
+use seh_records::dispatch::Kind;
+use seh_records::{BadRecord, DispatchRecord, fetch};
+use virtual_unwind::UnwindErr;
+use virtual_unwind::frame::Caller;
+use virtual_unwind::unwinding::caller;
+use x64_machine::context::Context;
+use x64_memory::space::AddressSpace;
+
+/// The state of a walk: a context, and the index of the next scope record there.
+#[derive(Clone, Copy, Debug, PartialEq, Eq)]
+pub struct WalkState {
+    pub context: Context,
+    pub row: u64,
+}
+
+/// What a walk finds.
+#[derive(Clone, Copy, Debug, PartialEq, Eq)]
+pub enum WalkItem {
+    /// The end: RIP is 0.
+    Over,
+    /// A return address of the host, and the state that the walk continues from.
+    Past(WalkState),
+    /// A frame, and the state that the walk continues from after it.
+    Frame(Caller, WalkState),
+    /// Nothing that a walk can continue from.
+    Broken(StopCause),
+}
+
+fn bad(at: u64) -> WalkItem
+    ensures { result ≡ bad_met at }
+{
+    WalkItem::Broken(StopCause {
+        reason: Reason::BadRecord,
+        address: at,
+    })
+}
+
+fn above(at: u64, to: WalkState) -> WalkItem
+    ensures { result ≡ above_met at to }
+{
+    if at < to.context.kept[0] {
+        WalkItem::Past(to)
+    } else {
+        WalkItem::Broken(StopCause {
+            reason: Reason::Backward,
+            address: at,
+        })
+    }
+}
+
+fn past_filter(at: u64, answer: Result<DispatchRecord, BadRecord>) -> WalkItem
+    ensures { result ≡ filter_met at answer }
+{
+    match answer {
+        Err(_) => bad(at),
+        Ok(dispatch) => match dispatch.kind {
+            Kind::Search => above(
+                at,
+                WalkState {
+                    context: Context::of(&dispatch.saved),
+                    row: 0,
+                },
+            ),
+            _ => bad(at),
+        },
+    }
+}
+
+fn past_finally(at: u64, answer: Result<DispatchRecord, BadRecord>) -> WalkItem
+    ensures { result ≡ finally_met at answer }
+{
+    match answer {
+        Err(_) => bad(at),
+        Ok(dispatch) => match dispatch.kind {
+            Kind::Search => bad(at),
+            _ => above(
+                at,
+                WalkState {
+                    context: dispatch.walk,
+                    row: dispatch.row,
+                },
+            ),
+        },
+    }
+}
+
+fn framed(answer: Result<Caller, UnwindErr>) -> WalkItem
+    ensures { result ≡ met_of answer }
+{
+    match answer {
+        Ok(caller) => WalkItem::Frame(
+            caller,
+            WalkState {
+                context: caller.context,
+                row: 0,
+            },
+        ),
+        Err(UnwindErr::Unreadable { address }) => WalkItem::Broken(StopCause {
+            reason: Reason::Unreadable,
+            address,
+        }),
+        Err(UnwindErr::Backward { rsp }) => WalkItem::Broken(StopCause {
+            reason: Reason::Backward,
+            address: rsp,
+        }),
+    }
+}
+
+/// What a walk finds at its state.
+#[tactic(auto, using(crate::proofs::Meeting::met), unfolding(crate::specs::Walk::visited))]
+pub fn visit<S: AddressSpace>(tables: &Tables, space: &S, at: &WalkState) -> WalkItem
+    requires { IsWhole tables.now }
+    ensures { seen (functions_of tables.now) at.now result ≡ spec.visited (functions_of tables.now) (S.memory space.now) at.now }
+{
+    let rsp = at.context.kept[0];
+    match at.context.rip {
+        0 => WalkItem::Over,
+        FILTER_RETURN_AT => past_filter(rsp, fetch(space, rsp)),
+        FINALLY_RETURN_AT => past_finally(rsp, fetch(space, rsp)),
+        _ => framed(caller(tables, space, &at.context)),
+    }
+}

@@ -1,0 +1,144 @@
+-- How many instructions a template has.
+use Rattle.std.proofs.Common.{ℕ, zero, suc, ◌+◌, ◌-◌, ◌*◌, ◌≤◌, List, [], ◌∷◌, ◌++◌, length, Option, Some, None, arith, length-append}
+use Rattle.seh_num.specs.declared.width.Width.{Width}
+use Rattle.seh_num.specs.declared.width.Width.TheVariants.{W8, W16, W32, W64}
+use Rattle.x64_instr.specs.declared.register.Reg.{Reg}
+use Rattle.x64_instr.specs.declared.register.Reg.TheVariants.{Rax, Rcx}
+use Rattle.x64_instr.specs.declared.instruction.Instr.{Instr}
+use Rattle.x64_encode.proofs.Lengths.{longest}
+use Rattle.c_operations.specs.declared.operation.Size.{Size}
+use Rattle.c_operations.specs.declared.operation.Size.TheVariants.{Int, Long}
+use Rattle.c_operations.specs.declared.operation.Signedness.{Signedness}
+use Rattle.c_operations.specs.declared.operation.Signedness.TheVariants.{Unsigned, Signed}
+use Rattle.c_operations.specs.declared.operation.Relation.{Relation}
+use Rattle.c_operations.specs.declared.operation.Relation.TheVariants as relations
+use Rattle.c_operations.specs.declared.operation.Pure.{Pure}
+use Rattle.c_operations.specs.declared.operation.Pure.TheVariants as pures
+use Rattle.c_operations.specs.declared.operation.Operation.{Operation}
+use Rattle.c_operations.specs.declared.operation.Operation.TheVariants as operations
+use Rattle.c_operations.specs.Numbers.{width}
+use Rattle.linear_code.specs.declared.slot.Slot.{Slot}
+use Rattle.linear_code.specs.declared.slot.Slot.TheVariants.{Local, Temporary}
+use Rattle.linear_code.specs.declared.instruction.Instruction.{Instruction}
+use Rattle.linear_code.specs.declared.instruction.Instruction.TheVariants as instructions
+use Rattle.template_code.specs.declared.layout.Layout.{Layout}
+use Rattle.template_code.specs.Bytes.{size, sizes}
+use Rattle.template_code.specs.Operations.{compare, extended, pure_code, before, work}
+use Rattle.template_code.specs.Slots.{local_at, fetch_local, keep_local, fetch, keep, operands_code, finish_code, compute_code}
+use Rattle.template_code.specs.Jumps.{compare_zero, jump_equal, test_code}
+use Rattle.template_code.specs.Calls.{begin_call, call_code, passing_code, epilogue}
+use Rattle.template_code.specs.Template.{Links, nowhere, template, template_size}
+
+fetch_local_length : (o : Option ℕ) (r : Reg) (d : ℕ) → length (fetch_local o r d) ≤ 2
+fetch_local_length None r d = omega arith
+fetch_local_length (Some b) r d = omega arith
+
+keep_local_length : (o : Option ℕ) (d : ℕ) → length (keep_local o d) ≤ 2
+keep_local_length None d = omega arith
+keep_local_length (Some b) d = omega arith
+
+pub fetch_length : (y : Layout) (r : Reg) (x : Slot) → length (fetch y r x) ≤ 2
+fetch_length y r (Temporary i) = omega arith
+fetch_length y r (Local i) = fetch_local_length y.base r (local_at y i)
+
+pub keep_length : (y : Layout) (x : Slot) → length (keep y x) ≤ 2
+keep_length y (Temporary i) = omega arith
+keep_length y (Local i) = keep_local_length y.base (local_at y i)
+
+pub before_length : (o : Operation) → length (before o) ≤ 1
+before_length (operations.Pure p) = omega arith
+before_length (operations.Divide s z) = omega arith
+before_length (operations.Remainder s z) = omega arith
+before_length (operations.Load w) = omega arith
+before_length (operations.Store w) = omega arith
+
+extended_length : (s : Signedness) (n : Width) (z : Size) → length (extended s n z) ≤ 3
+extended_length Unsigned W8 z = omega arith
+extended_length Unsigned W16 z = omega arith
+extended_length Unsigned W32 z = omega arith
+extended_length Unsigned W64 z = omega arith
+extended_length Signed W8 z = omega arith
+extended_length Signed W16 z = omega arith
+extended_length Signed W32 Int = omega arith
+extended_length Signed W32 Long = omega arith
+extended_length Signed W64 z = omega arith
+
+compare_length : (r : Relation) (s : Signedness) (w : Width) → length (compare r s w) ≤ 3
+compare_length relations.Equal s w = omega arith
+compare_length relations.NotEqual s w = omega arith
+compare_length relations.Less s w = omega arith
+compare_length relations.LessOrEqual s w = omega arith
+compare_length relations.Greater s w = omega arith
+compare_length relations.GreaterOrEqual s w = omega arith
+
+pure_length : (p : Pure) → length (pure_code p) ≤ 3
+pure_length (pures.Extend s n z) = extended_length s n z
+pure_length (pures.Compare r s z) = compare_length r s (width z)
+pure_length (pures.Constant v) = omega arith
+pure_length pures.First = omega arith
+pure_length (pures.Not z) = omega arith
+pure_length (pures.Negate z) = omega arith
+pure_length (pures.Add z) = omega arith
+pure_length (pures.Subtract z) = omega arith
+pure_length (pures.Multiply z) = omega arith
+pure_length (pures.And z) = omega arith
+pure_length (pures.Or z) = omega arith
+pure_length (pures.Xor z) = omega arith
+pure_length (pures.ShiftLeft z) = omega arith
+pure_length (pures.ShiftRight s z) = omega arith
+
+pub work_length : (o : Operation) → length (work o) ≤ 3
+work_length (operations.Pure p) = pure_length p
+work_length (operations.Divide s z) = omega arith
+work_length (operations.Remainder s z) = omega arith
+work_length (operations.Load w) = omega arith
+work_length (operations.Store w) = omega arith
+
+pub compute_length : (y : Layout) (to : Slot) (o : Operation) (first second : Slot) → length (compute_code y to o first second) ≤ 10
+compute_length y to o first second =
+    let a = fetch_length y Rax first in
+    let b = fetch_length y Rcx second in
+    let c = before_length o in
+    let d = work_length o in
+    let e = keep_length y to in
+    omega (arith, length-append (operands_code y o first second) (finish_code y o to), length-append (fetch y Rax first) (fetch y Rcx second ++ before o), length-append (fetch y Rcx second) (before o), length-append (work o) (keep y to))
+
+epilogue_length : (n : ℕ) → length (epilogue n) ≤ 2
+epilogue_length zero = omega arith
+epilogue_length (suc n) = omega arith
+
+passing_length : (y : Layout) (first i n : ℕ) → length (passing_code y first i n) ≤ 2 * n
+passing_length y first i zero = omega arith
+passing_length y first i (suc n) = let r = passing_length y first (i + 1) n in omega arith
+
+-- a call passes at most eight arguments
+abbrev pub PassesFew : Instruction → Type 0
+PassesFew (instructions.Call function first count) = count ≤ 8
+PassesFew i = Unit {0}
+
+pub template_length : (k : Links) (y : Layout) (at : ℕ) (i : Instruction) → PassesFew i → length (template k y at i) ≤ 15
+template_length k y at (instructions.Compute to o first second) few = let l = compute_length y to o first second in omega arith
+template_length k y at (instructions.Information to field) few = let l = keep_length y to in omega arith
+template_length k y at (instructions.Landing to) few = let l = keep_length y to in omega arith
+template_length k y at (instructions.Jump label) few = omega arith
+template_length k y at (instructions.JumpIfZero slot label) few = let l = fetch_length y Rax slot in omega (arith, length-append (fetch y Rax slot) (compare_zero ∷ jump_equal (at + sizes (test_code y slot) + 6) (k.label label) ∷ []))
+template_length k y at (instructions.Call function first count) few =
+    let l = passing_length y first 4 (count - 4) in
+    omega (arith, length-append (passing_code y first 4 (count - 4)) (call_code y (Temporary first) first (at + sizes (passing_code y first 4 (count - 4))) (k.function function)))
+template_length k y at (instructions.CallBuiltIn function first) few = omega arith
+template_length k y at (instructions.CallFinally funclet) few = omega arith
+template_length k y at (instructions.LocalUnwind label) few = omega arith
+template_length k y at instructions.Separator few = omega arith
+template_length k y at (instructions.Return from) few =
+    let l = fetch_length y Rax from in
+    let e = epilogue_length y.frame in
+    omega (arith, length-append (fetch y Rax from) (epilogue y.frame))
+
+pub sizes_small : (is : List Instr) → sizes is ≤ 15 * length is
+unfolding size
+sizes_small [] = omega arith
+sizes_small (i ∷ is) = let r = sizes_small is in let l = longest i in omega arith
+
+pub template_small : (y : Layout) (i : Instruction) → PassesFew i → template_size y i ≤ 225
+unfolding template_size
+template_small y i few = let l = template_length nowhere y 0 i few in omega (arith, sizes_small (template nowhere y 0 i))

@@ -1,0 +1,113 @@
+//! Images with function tables, built by the product's own writers.
+
+ghost use Rattle.std.specs.Prelude.{◌≡◌};
+ghost use Rattle.arrayvec.specs.ArrayVec.{array_vec_len};
+ghost use Rattle.eh_tables.specs.Written.{IsTrailer, CanBeWritten};
+
+use arrayvec::ArrayVec;
+use eh_tables::{
+    RuntimeFunction, ScopeRecord, Trailer, UnwindCode, UnwindInfo, UnwindOperation, write_pdata,
+    write_scopes, write_unwind,
+};
+use pe_write::{Image, write};
+use std::alloc::{AllocError, Global};
+
+/// A page; no part of an image takes more.
+const PAGE: usize = 4096;
+
+/// Where the unwind infos begin: `.data`, `.text` and `.rdata` take a page each.
+const INFOS: u32 = 0x4000;
+
+/// A function: its code from `begin` to before `end`, relative to the image base, and its scope
+/// records.
+#[derive(Clone, Copy, Debug)]
+pub struct Function<'a> {
+    pub begin: u32,
+    pub end: u32,
+    pub scopes: &'a [ScopeRecord],
+}
+
+/// An image: its data and its code, at 0x1000 and 0x2000; where the thunk of the language handler
+/// is; and its functions, each of which takes 40 bytes of stack by its first instruction.
+#[derive(Clone, Copy, Debug)]
+pub struct Parts<'a> {
+    pub data: &'a [u8],
+    pub text: &'a [u8],
+    pub handler: u32,
+    pub functions: &'a [Function<'a>],
+}
+
+/// A handler, where a scope record asks for one: for searching by one with a jump target, for
+/// unwinding by one without.
+fn trailer(handler: u32, scopes: &[ScopeRecord]) -> Trailer
+    ensures { IsTrailer result }
+{
+    let searching = scopes.iter().any(|scope| scope.jump_target != 0);
+    let unwinding = scopes.iter().any(|scope| scope.jump_target == 0);
+    match (searching, unwinding) {
+        (false, false) => Trailer::Nothing,
+        _ => Trailer::Handler {
+            searching,
+            unwinding,
+            rva: handler,
+        },
+    }
+}
+
+/// The info of a function that takes 40 bytes of stack by its first instruction, of four bytes.
+fn info(trailer: Trailer) -> UnwindInfo
+    requires { IsTrailer trailer }
+    ensures { CanBeWritten result }
+{
+    let mut codes = ArrayVec::new();
+    codes.push(UnwindCode {
+        offset: 4,
+        operation: UnwindOperation::Allocate { size: 40 },
+    });
+    UnwindInfo {
+        prologue_size: 4,
+        frame_register: 0,
+        frame_offset: 0,
+        codes,
+        trailer,
+    }
+}
+
+/// The infos of functions, with their scope tables, and the function table.
+fn tables(alloc: Global, parts: Parts<'_>) -> Result<(Vec<u8>, Vec<u8>), AllocError> {
+    let mut infos = Vec::new(alloc);
+    let mut ranges = Vec::new(alloc);
+    for function in parts.functions {
+        if function.scopes.len() > PAGE || infos.len() > PAGE {
+            return Err(AllocError);
+        }
+        ranges.push(RuntimeFunction {
+            begin: function.begin,
+            end: function.end,
+            unwind_info: INFOS + infos.len() as u32,
+        })?;
+        write_unwind(&info(trailer(parts.handler, function.scopes)), &mut infos)?;
+        if !function.scopes.is_empty() {
+            write_scopes(function.scopes, &mut infos)?;
+        }
+    }
+    let mut table = Vec::new(alloc);
+    write_pdata(&ranges, &mut table)?;
+    Ok((infos, table))
+}
+
+/// The bytes of an image. There is no memory for a part of more than a page, nor for an image
+/// without code.
+pub fn built(alloc: Global, parts: Parts<'_>) -> Result<Vec<u8>, AllocError> {
+    let (infos, table) = tables(alloc, parts)?;
+    let data = parts.data.to_vec(alloc)?;
+    let text = parts.text.to_vec(alloc)?;
+    if data.len() > PAGE || text.len() > PAGE || infos.len() > PAGE || table.len() > PAGE {
+        return Err(AllocError);
+    }
+    if text.is_empty() {
+        return Err(AllocError);
+    }
+    let image = Image::new(PAGE as u32, data, text, 0, infos, table);
+    write(alloc, &image)
+}

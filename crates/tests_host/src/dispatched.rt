@@ -1,0 +1,374 @@
+//! Images with handlers, run turn by turn.
+
+use eh_tables::ScopeRecord;
+use pe_image::ImageView;
+use seh_host::loading::load;
+use seh_host::run::run;
+use seh_io::plain::VecSink;
+use std::alloc::Global;
+use std::process::Abort;
+use std::test::Fail;
+use test_images::code::{
+    ACCEPTED_FAULT, CONTINUED_ACCESS, CONTINUED_IN_VAIN, CONTINUED_RAISE, FILTER_AND_FINALLY,
+    LOCAL_UNWIND, RAISE_IN_FILTER, RAISE_IN_FINALLY,
+};
+use test_images::{Function, Parts, built};
+
+fn scope(begin: u32, end: u32, handler_address: u32, jump_target: u32) -> ScopeRecord {
+    ScopeRecord {
+        begin,
+        end,
+        handler_address,
+        jump_target,
+    }
+}
+
+/// Runs an image with its trace, and compares the text.
+fn shows(rt: &impl Abort, alloc: Global, parts: Parts<'_>, text: &str) -> Result<(), Fail> {
+    let bytes = built(alloc, parts)?;
+    let view = ImageView::read(alloc, &bytes)?;
+    let mut host = load(alloc, &view, 0)?;
+    let mut out = VecSink::new(alloc);
+    let _end = run(&mut host, 100, true, &mut out)?;
+    assert_eq!(rt; out.bytes.as_slice(), text.as_bytes());
+    Ok(())
+}
+
+/// Runs an image of one function with one scope record, and of one funclet behind it, if there is one.
+fn shows_one(
+    rt: &impl Abort,
+    alloc: Global,
+    data: &[u8],
+    text: &[u8],
+    scope: ScopeRecord,
+    ends: [u32; 3],
+    lines: &str,
+) -> Result<(), Fail> {
+    let functions = [
+        Function {
+            begin: 0x2000,
+            end: ends[0],
+            scopes: &[scope],
+        },
+        Function {
+            begin: ends[1],
+            end: ends[2],
+            scopes: &[],
+        },
+    ];
+    let parts = Parts {
+        data,
+        text,
+        handler: ends[2],
+        functions: &functions,
+    };
+    shows(rt, alloc, parts, lines)
+}
+
+#[test]
+fn a_filter_accepts_and_a_finally_block_runs(rt: HostRuntime) -> Result<(), Fail> {
+    let functions = [
+        Function {
+            begin: 0x2000,
+            end: 0x2039,
+            scopes: &[
+                scope(0x2004, 0x2019, 0x2039, 0),
+                scope(0x2004, 0x2019, 0x2052, 0x2024),
+            ],
+        },
+        Function {
+            begin: 0x2039,
+            end: 0x2052,
+            scopes: &[],
+        },
+        Function {
+            begin: 0x2052,
+            end: 0x2060,
+            scopes: &[],
+        },
+    ];
+    let parts = Parts {
+        data: &[],
+        text: FILTER_AND_FINALLY,
+        handler: 0x2060,
+        functions: &functions,
+    };
+    let lines =
+        "raise E0000001 0\nfilter 2\nanswer 2\nfinally 1 1\n1\nexcept E0000001\n3\nexit 0\n";
+    shows(&rt, rt.alloc(), parts, lines)
+}
+
+#[test]
+fn unwindings_collide(rt: HostRuntime) -> Result<(), Fail> {
+    let functions = [
+        Function {
+            begin: 0x2000,
+            end: 0x202E,
+            scopes: &[
+                scope(0x2004, 0x2019, 0x2033, 0),
+                scope(0x2004, 0x2019, 0x205C, 0x2019),
+            ],
+        },
+        Function {
+            begin: 0x2033,
+            end: 0x205C,
+            scopes: &[],
+        },
+        Function {
+            begin: 0x205C,
+            end: 0x206A,
+            scopes: &[],
+        },
+    ];
+    let parts = Parts {
+        data: &[],
+        text: RAISE_IN_FINALLY,
+        handler: 0x206A,
+        functions: &functions,
+    };
+    let lines = "raise E0000001 0\nfilter 2\nanswer 1\nfinally 1 1\n1\nraise E0000002 0\nfilter 2\n\
+                 answer 1\nexcept E0000002\n5\nexit 7\n";
+    shows(&rt, rt.alloc(), parts, lines)
+}
+
+#[test]
+fn a_raise_is_continued(rt: HostRuntime) -> Result<(), Fail> {
+    let record = scope(0x2004, 0x2024, 0x2033, 0x202E);
+    let lines = "raise E0000001 0\nfilter 1\nanswer -1\n1\nexit 7\n";
+    shows_one(
+        &rt,
+        rt.alloc(),
+        &[],
+        CONTINUED_RAISE,
+        record,
+        [0x202E, 0x2033, 0x2041],
+        lines,
+    )
+}
+
+#[test]
+fn a_noncontinuable_exception_is_not(rt: HostRuntime) -> Result<(), Fail> {
+    let record = scope(0x2004, 0x2019, 0x2023, 0x2019);
+    let lines = "raise E0000001 1\nfilter 1\nanswer -1\nraise C0000025 1\nfilter 1\nanswer 0\n\
+                 unhandled C0000025\n";
+    shows_one(
+        &rt,
+        rt.alloc(),
+        &[0xFF; 8],
+        CONTINUED_IN_VAIN,
+        record,
+        [0x2023, 0x2023, 0x203B],
+        lines,
+    )
+}
+
+#[test]
+fn an_access_is_made_again(rt: HostRuntime) -> Result<(), Fail> {
+    let record = scope(0x2013, 0x2016, 0x2029, 0x201F);
+    let lines = "raise C0000005 0 write 0000000020000000\nfilter 1\nanswer -1\n5\nexit 7\n";
+    shows_one(
+        &rt,
+        rt.alloc(),
+        &[],
+        CONTINUED_ACCESS,
+        record,
+        [0x2029, 0x2029, 0x2047],
+        lines,
+    )
+}
+
+#[test]
+fn a_local_unwind_runs_finally_blocks(rt: HostRuntime) -> Result<(), Fail> {
+    let record = scope(0x2004, 0x2019, 0x202E, 0);
+    let lines = "finally 1 1\n1\n5\nexit 7\n";
+    shows_one(
+        &rt,
+        rt.alloc(),
+        &[],
+        LOCAL_UNWIND,
+        record,
+        [0x202E, 0x202E, 0x2042],
+        lines,
+    )
+}
+
+#[test]
+fn a_filter_raises(rt: HostRuntime) -> Result<(), Fail> {
+    let data = [
+        0, 0, 0, 0, 0, 0, 0, 0, 0, 0, 0, 0, 0, 0, 0, 0, 0x4B, 0x20, 0, 0x40, 1, 0, 0, 0, 0x6A,
+        0x20, 0, 0x40, 1, 0, 0, 0,
+    ];
+    let record = scope(0x2004, 0x2019, 0x202E, 0x2019);
+    let lines =
+        "raise E0000001 0\nfilter 1\nraise E0000002 0\nfilter 1\nanswer 1\nexcept E0000002\n\
+                 5\nexit 7\n";
+    shows_one(
+        &rt,
+        rt.alloc(),
+        &data,
+        RAISE_IN_FILTER,
+        record,
+        [0x202E, 0x202E, 0x2074],
+        lines,
+    )
+}
+
+#[test]
+fn a_handler_accepts_a_fault_at_once(rt: HostRuntime) -> Result<(), Fail> {
+    let functions = [Function {
+        begin: 0x2000,
+        end: 0x2026,
+        scopes: &[scope(0x2004, 0x2011, 1, 0x2011)],
+    }];
+    let parts = Parts {
+        data: &[],
+        text: ACCEPTED_FAULT,
+        handler: 0x2026,
+        functions: &functions,
+    };
+    let lines = "raise C0000005 0 read 0000000000000010\nexcept C0000005\n5\nexit 7\n";
+    shows(&rt, rt.alloc(), parts, lines)
+}
+
+/// What a function of this code and no scope records shows; the code ends with the handler's thunk.
+fn shows_plain(rt: &impl Abort, alloc: Global, text: &[u8], lines: &str) -> Result<(), Fail> {
+    let functions = [Function {
+        begin: 0x2000,
+        end: 0x2020,
+        scopes: &[],
+    }];
+    let parts = Parts {
+        data: &[],
+        text,
+        handler: 0x2020,
+        functions: &functions,
+    };
+    shows(rt, alloc, parts, lines)
+}
+
+#[test]
+fn no_record_is_at_the_returns(rt: HostRuntime) -> Result<(), Fail> {
+    // mov eax, the filter return, then the finally return; jmp rax
+    for text in [
+        [0xB8, 0x60, 0, 0xF0, 0x7F, 0xFF, 0xE0],
+        [0xB8, 0x70, 0, 0xF0, 0x7F, 0xFF, 0xE0],
+    ] {
+        let lines = "stopped BadRecord 00000000707FFFD8\n";
+        shows_plain(&rt, rt.alloc(), &text, lines)?;
+    }
+    Ok(())
+}
+
+#[test]
+fn no_record_is_placed_past_the_stack(rt: HostRuntime) -> Result<(), Fail> {
+    // mov esp,0x70000600; mov ecx,0xe0000001; xor edx,edx; call [RaiseException]
+    let text = [
+        0xBC, 0, 6, 0, 0x70, 0xB9, 1, 0, 0, 0xE0, 0x31, 0xD2, 0xFF, 0x15, 0x46, 0x10, 0, 0,
+    ];
+    let lines = "raise E0000001 0\nstack limit 000000006FFFFFD8\n";
+    shows_plain(&rt, rt.alloc(), &text, lines)
+}
+
+#[test]
+fn an_exception_is_unhandled(rt: HostRuntime) -> Result<(), Fail> {
+    // sub rsp,40; mov ecx,0xe0000001; xor edx,edx; call [RaiseException]
+    let text = [
+        0x48, 0x83, 0xEC, 0x28, 0xB9, 1, 0, 0, 0xE0, 0x31, 0xD2, 0xFF, 0x15, 0x47, 0x10, 0, 0,
+    ];
+    let lines = "raise E0000001 0\nunhandled E0000001\n";
+    shows_plain(&rt, rt.alloc(), &text, lines)
+}
+
+#[test]
+fn an_unwinding_loses_its_frame(rt: HostRuntime) -> Result<(), Fail> {
+    // sub rsp,40; xor ecx,ecx; xor edx,edx; call [_local_unwind]
+    let text = [
+        0x48, 0x83, 0xEC, 0x28, 0x31, 0xC9, 0x31, 0xD2, 0xFF, 0x15, 0x5A, 0x10, 0, 0,
+    ];
+    let lines = "stopped LostFrame 0000000000000000\n";
+    shows_plain(&rt, rt.alloc(), &text, lines)
+}
+
+/// What a raise shows to whose record the filter does harm. The code is that of `main`, which raises
+/// E0000001 in a `__try`, from 0x2000 to 0x2012; the filter; and the handler's thunk.
+fn harms(rt: &impl Abort, alloc: Global, filter: &[u8], lines: &str) -> Result<(), Fail> {
+    let mut text = Vec::new(alloc);
+    // sub rsp,40; mov ecx,0xe0000001; xor edx,edx; call [RaiseException]; int3
+    text.extend_from_slice(&[
+        0x48, 0x83, 0xEC, 0x28, 0xB9, 1, 0, 0, 0xE0, 0x31, 0xD2, 0xFF, 0x15, 0x47, 0x10, 0, 0, 0xCC,
+    ])?;
+    text.extend_from_slice(filter)?;
+    let thunk = 0x2000 + (text.len() % 256) as u32;
+    text.extend_from_slice(&[0xFF, 0x25])?;
+    text.extend_from_slice(&(0x305A - thunk).to_le_bytes())?;
+    let record = scope(0x2004, 0x2012, 0x2012, 0x2011);
+    shows_one(
+        rt,
+        alloc,
+        &[],
+        &text,
+        record,
+        [0x2012, 0x2012, thunk],
+        lines,
+    )
+}
+
+// The record is at 0x707FF990, and RCX is 80 bytes above it.
+#[test]
+fn harmed_records_are_refused(rt: HostRuntime) -> Result<(), Fail> {
+    // mov qword [rcx-40],2; mov eax,1; ret: the kind
+    let kind = [0x48, 0xC7, 0x41, 0xD8, 2, 0, 0, 0, 0xB8, 1, 0, 0, 0, 0xC3];
+    let lines = "raise E0000001 0\nfilter 1\nstopped BadRecord 00000000707FF990\n";
+    harms(&rt, rt.alloc(), &kind, lines)?;
+    // mov byte [rcx-48],0; mov eax,1; ret: the mark
+    let mark = [0xC6, 0x41, 0xD0, 0, 0xB8, 1, 0, 0, 0, 0xC3];
+    harms(&rt, rt.alloc(), &mark, lines)?;
+    // mov qword [rcx-24],0; mov eax,1; ret: the next record of the scope table
+    let row = [0x48, 0xC7, 0x41, 0xE8, 0, 0, 0, 0, 0xB8, 1, 0, 0, 0, 0xC3];
+    let lines = "raise E0000001 0\nfilter 1\nanswer 1\nstopped BadRecord 00000000707FF990\n";
+    harms(&rt, rt.alloc(), &row, lines)
+}
+
+#[test]
+fn a_walk_does_not_go_back(rt: HostRuntime) -> Result<(), Fail> {
+    // sub rsp,40; mov rax,[rcx+8]; lea rdx,[rcx-80]; mov [rax+0x98],rdx: RSP of the saved state is
+    // the record's own address; mov ecx,0xe0000002; xor edx,edx; call [RaiseException]
+    let filter = [
+        0x48, 0x83, 0xEC, 0x28, 0x48, 0x8B, 0x41, 8, 0x48, 0x8D, 0x51, 0xB0, 0x48, 0x89, 0x90,
+        0x98, 0, 0, 0, 0xB9, 2, 0, 0, 0xE0, 0x31, 0xD2, 0xFF, 0x15, 0x26, 0x10, 0, 0, 0xCC,
+    ];
+    let lines = "raise E0000001 0\nfilter 1\nraise E0000002 0\nstopped Backward 00000000707FF990\n";
+    harms(&rt, rt.alloc(), &filter, lines)
+}
+
+#[test]
+fn a_landing_is_no_code(rt: HostRuntime) -> Result<(), Fail> {
+    let functions = [Function {
+        begin: 0x2000,
+        end: 0x2026,
+        scopes: &[scope(0x2004, 0x2011, 1, 0x1000)],
+    }];
+    let parts = Parts {
+        data: &[],
+        text: ACCEPTED_FAULT,
+        handler: 0x2026,
+        functions: &functions,
+    };
+    let lines = "raise C0000005 0 read 0000000000000010\nexcept C0000005\n\
+                 stopped Illegal 0000000140001000\n";
+    shows(&rt, rt.alloc(), parts, lines)
+}
+
+#[test]
+fn a_stack_ends_below_address_0(rt: HostRuntime) -> Result<(), Fail> {
+    // mov rsp,8; push rax
+    let text = [0x48, 0xC7, 0xC4, 8, 0, 0, 0, 0x50];
+    let parts = Parts {
+        data: &[],
+        text: &text,
+        handler: 0x2020,
+        functions: &[],
+    };
+    let lines = "raise C0000005 0 write 0000000000000000\nstack limit FFFFFFFFFFFFF9D8\n";
+    shows(&rt, rt.alloc(), parts, lines)
+}

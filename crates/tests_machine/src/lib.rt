@@ -1,0 +1,16 @@
+//! Tests of the crates of numbers, streams, memory and the processor: what no clause of theirs
+//! says. Expected values are from the Intel manual and from GNU as.
+#![tactic(auto)]
+
+#[cfg(test)]
+mod lines;
+#[cfg(test)]
+mod machine;
+#[cfg(test)]
+mod memory;
+#[cfg(test)]
+mod numbers;
+#[cfg(test)]
+mod spelling;
+#[cfg(test)]
+mod streams;

@@ -1,0 +1,374 @@
+use super::*;
+
+// From 40000000h, which is the next instruction's address.
+#[test]
+fn jumps(rt: HostRuntime) -> Result<(), Fail> {
+    let mut space = PageMap::new(rt.alloc(), &REGIONS)?;
+    for (code, zero, rip) in [
+        ([0xE9, 0x10, 0, 0, 0, 0], false, 0x4000_0010),
+        ([0xE9, 0xF0, 0xFF, 0xFF, 0xFF, 0], false, 0x3FFF_FFF0),
+        ([0xEB, 0xFE, 0, 0, 0, 0], false, 0x3FFF_FFFE),
+        ([0x74, 0x10, 0, 0, 0, 0], true, 0x4000_0010),
+        ([0x74, 0x10, 0, 0, 0, 0], false, 0x4000_0000),
+        ([0x0F, 0x85, 0x80, 0, 0, 0], false, 0x4000_0080),
+        ([0x0F, 0x85, 0x80, 0, 0, 0], true, 0x4000_0000),
+        ([0xFF, 0xE1, 0, 0, 0, 0], false, 0x1234),
+        // The address at 40001000h, which is 0 there.
+        ([0xFF, 0x22, 0, 0, 0, 0], false, 0),
+    ] {
+        let mut before = cpu();
+        before.flags.zero = zero;
+        before.registers[1] = 0x1234;
+        before.registers[2] = 0x4000_1000;
+        let mut after = before;
+        after.rip = rip;
+        assert_eq!(rt;
+            effect_of(before, &mut space, &code),
+            Some(Ok(after)),
+            "{code:?}"
+        );
+    }
+    let mut called = cpu();
+    called.rip = 0x4000_0100;
+    called.registers[4] = 0x7000_0FF8;
+    let code = [0xE8, 0, 1, 0, 0];
+    assert_eq!(rt; effect_of(cpu(), &mut space, &code), Some(Ok(called)));
+    assert_eq!(rt; space.load(0x7000_0FF8, Width::W64), Ok(0x4000_0000));
+    Ok(())
+}
+
+// Microsoft x64 ABI: RBX, RBP, RDI, RSI, RSP and R12 to R15 are nonvolatile; RIP beside them.
+#[test]
+fn contexts(rt: HostRuntime) {
+    let cpu = Cpu {
+        registers: [
+            100, 101, 102, 103, 104, 105, 106, 107, 108, 109, 110, 111, 112, 113, 114, 115,
+        ],
+        rip: 77,
+        flags: flags(true, false, true, false),
+    };
+    let want = Context {
+        rip: 77,
+        kept: [104, 103, 105, 106, 107, 112, 113, 114, 115],
+    };
+    assert_eq!(rt; Context::of(&cpu), want);
+}
+
+#[test]
+fn services(rt: HostRuntime) {
+    for (service, address) in [
+        (Service::Put, 0x7FF0_0010),
+        (Service::Protect, 0x7FF0_0020),
+        (Service::RaiseException, 0x7FF0_0030),
+        (Service::CSpecificHandler, 0x7FF0_0040),
+        (Service::LocalUnwind, 0x7FF0_0050),
+        (Service::FilterReturn, 0x7FF0_0060),
+        (Service::FinallyReturn, 0x7FF0_0070),
+    ] {
+        assert_eq!(rt; service.address(), address, "{service:?}");
+        assert_eq!(rt; Service::at(address), Some(service), "at {address}");
+        assert_eq!(rt; Service::at(address + 1), None, "after {address}");
+    }
+    assert_eq!(rt; Service::at(0x7FF0_0000), None);
+    assert_eq!(rt; Service::at(0x7FF0_0080), None);
+}
+
+/// A routine that calls the second of two returns, and a number after them.
+fn with_routine(alloc: Global) -> Result<PageMap, AllocError> {
+    let mut space = PageMap::new(alloc, &REGIONS)?;
+    space.fill(
+        0x4000_0000,
+        &[
+            0x48, 0xB8, 0x88, 0x77, 0x66, 0x55, 0x44, 0x33, 0x22, 0x11, // mov rax, number
+            0xB9, 0x03, 0x00, 0x00, 0x80, // mov ecx, 80000003h
+            0x66, 0xBA, 0x34, 0x12, // mov dx, 1234h
+            0x48, 0x89, 0x0B, // mov [rbx], rcx
+            0x48, 0x63, 0x33, // movsxd rsi, dword ptr [rbx]
+            0x48, 0x01, 0xC8, // add rax, rcx
+            0x29, 0xC8, // sub eax, ecx
+            0x83, 0x03, 0xFD, // add dword ptr [rbx], -3
+            0x48, 0x0F, 0xAF, 0x03, // imul rax, [rbx]
+            0x50, // push rax
+            0x41, 0x5F, // pop r15
+            0x48, 0x8B, 0x0D, 0x05, 0x00, 0x00, 0x00, // mov rcx, [rip + 5]
+            0xFF, 0xD7, // call rdi
+            0xC3, // ret
+            0xC3, // ret
+            0xCC, 0x08, 0x07, 0x06, 0x05, 0x04, 0x03, 0x02, 0x01,
+        ],
+    );
+    Ok(space)
+}
+
+#[test]
+fn steps_through_a_routine(rt: HostRuntime) -> Result<(), Fail> {
+    let mut space = with_routine(rt.alloc())?;
+    let mut cpu = cpu();
+    cpu.set_register(Width::W64, Reg::Rbx, 0x4000_1000);
+    cpu.set_register(Width::W64, Reg::Rdi, 0x4000_0032);
+    for (rip, register, want) in [
+        (0x4000_000A, Reg::Rax, 0x1122_3344_5566_7788),
+        (0x4000_000F, Reg::Rcx, 0x8000_0003),
+        (0x4000_0013, Reg::Rdx, 0xFFFF_FFFF_FFFF_1234),
+        (0x4000_0016, Reg::Rbx, 0x4000_1000),
+        (0x4000_0019, Reg::Rsi, 0xFFFF_FFFF_8000_0003),
+        (0x4000_001C, Reg::Rax, 0x1122_3344_D566_778B),
+        (0x4000_001E, Reg::Rax, 0x5566_7788),
+        (0x4000_0021, Reg::Rbx, 0x4000_1000),
+        (0x4000_0025, Reg::Rax, 0x2AB3_3BC4_0000_0000),
+        (0x4000_0026, Reg::Rsp, 0x7000_0FF8),
+        (0x4000_0028, Reg::R15, 0x2AB3_3BC4_0000_0000),
+        (0x4000_002F, Reg::Rcx, 0x0102_0304_0506_0708),
+        (0x4000_0032, Reg::Rsp, 0x7000_0FF8),
+        (0x4000_0031, Reg::Rsp, 0x7000_1000),
+    ] {
+        assert_eq!(rt; step(&mut cpu, &mut space), StepOutcome::Next, "to {rip}");
+        assert_eq!(rt; cpu.rip, rip);
+        assert_eq!(rt; cpu.register(register), want, "before {rip}");
+    }
+    assert_eq!(rt; space.load(0x4000_1000, Width::W64), Ok(0x8000_0000));
+    assert_eq!(rt; space.load(0x7000_0FF8, Width::W64), Ok(0x4000_0031));
+    // 80000003h + FFFFFFFDh carries; the product after it fits.
+    assert_eq!(rt; cpu.flags, flags(false, false, true, false));
+    // The stack is empty.
+    let want = violation(false, 0x7000_1000);
+    assert_eq!(rt; step(&mut cpu, &mut space), want);
+    assert_eq!(rt; cpu.rip, 0x4000_0031);
+    Ok(())
+}
+
+/// Instructions that are refused by what the registers hold, and one at the end of what is executed.
+fn with_pieces(alloc: Global) -> Result<PageMap, AllocError> {
+    let mut space = PageMap::new(alloc, &REGIONS)?;
+    space.fill(
+        0x4000_0000,
+        &[
+            0x50, // push rax
+            0x48, 0x8B, 0x00, // mov rax, [rax]
+            0x48, 0x89, 0x00, // mov [rax], rax
+            0xFF, 0x10, // call [rax]
+            0x83, 0x00, 0x01, // add dword ptr [rax], 1
+            0x06, // no instruction in 64-bit mode
+            0xF7, 0x10, // not dword ptr [rax]
+            0x39, 0x00, // cmp [rax], eax
+            0xC1, 0x20, 0x00, // shl dword ptr [rax], 0
+            0x0F, 0x94, 0x00, // sete byte ptr [rax]
+            0xF7, 0x30, // div dword ptr [rax]
+            0xCC, // int3
+            0x0F, 0x0B, // ud2
+            0x41, 0xCC, // int3
+            0xFF, 0x20, // jmp [rax]
+        ],
+    );
+    // A mov whose number isn't executable, and a ret that isn't.
+    space.fill(0x4000_0FFF, &[0xB8, 0xC3]);
+    Ok(space)
+}
+
+#[test]
+fn refused_steps_change_nothing(rt: HostRuntime) -> Result<(), Fail> {
+    let mut space = with_pieces(rt.alloc())?;
+    for (rip, rax, rsp, want) in [
+        (
+            0x4000_0000,
+            1,
+            0x7000_0000,
+            StepOutcome::Guard {
+                address: 0x6FFF_FFF8,
+            },
+        ),
+        (0x4000_0000, 1, 0x7000_1008, violation(true, 0x7000_1000)),
+        (0x4000_0000, 1, 0, violation(true, 0xFFFF_FFFF_FFFF_FFF8)),
+        (0x4000_0001, 0x10, 0x7000_1000, violation(false, 0x10)),
+        (
+            0x4000_0001,
+            0x6FFF_0000,
+            0x7000_1000,
+            StepOutcome::Guard {
+                address: 0x6FFF_0000,
+            },
+        ),
+        (
+            0x4000_0004,
+            0x4000_0000,
+            0x7000_1000,
+            violation(true, 0x4000_0000),
+        ),
+        (
+            0x4000_0004,
+            0x4000_1FFC,
+            0x7000_1000,
+            violation(true, 0x4000_2000),
+        ),
+        (
+            0x4000_0007,
+            0x4000_1FFC,
+            0x7000_1000,
+            violation(false, 0x4000_2000),
+        ),
+        (
+            0x4000_0007,
+            0x4000_1000,
+            0x4000_0008,
+            violation(true, 0x4000_0000),
+        ),
+        // A place that is read and written is refused as a write.
+        (
+            0x4000_0009,
+            0x4000_0000,
+            0x7000_1000,
+            violation(true, 0x4000_0000),
+        ),
+        (
+            0x4000_000C,
+            1,
+            0x7000_1000,
+            StepOutcome::Illegal { rip: 0x4000_000C },
+        ),
+        (
+            0x4000_000D,
+            0x4000_0000,
+            0x7000_1000,
+            violation(true, 0x4000_0000),
+        ),
+        (
+            0x4000_000F,
+            0x4000_1FFD,
+            0x7000_1000,
+            violation(false, 0x4000_2000),
+        ),
+        (
+            0x4000_0011,
+            0x4000_0000,
+            0x7000_1000,
+            violation(true, 0x4000_0000),
+        ),
+        (
+            0x4000_0014,
+            0x4000_0000,
+            0x7000_1000,
+            violation(true, 0x4000_0000),
+        ),
+        // The number there is 0.
+        (
+            0x4000_0017,
+            0x4000_1800,
+            0x7000_1000,
+            StepOutcome::Fault {
+                code: Code(0xC000_0094),
+                access: None,
+            },
+        ),
+        (
+            0x4000_0019,
+            1,
+            0x7000_1000,
+            StepOutcome::Illegal { rip: 0x4000_0019 },
+        ),
+        (
+            0x4000_001A,
+            1,
+            0x7000_1000,
+            StepOutcome::Illegal { rip: 0x4000_001A },
+        ),
+        (
+            0x4000_001C,
+            1,
+            0x7000_1000,
+            StepOutcome::Illegal { rip: 0x4000_001C },
+        ),
+        (
+            0x4000_001E,
+            0x4000_1FF9,
+            0x7000_1000,
+            violation(false, 0x4000_2000),
+        ),
+        (
+            0x4000_0FFF,
+            1,
+            0x7000_1000,
+            StepOutcome::Illegal { rip: 0x4000_0FFF },
+        ),
+        (
+            0x4000_1000,
+            1,
+            0x7000_0000,
+            StepOutcome::Illegal { rip: 0x4000_1000 },
+        ),
+        (0, 1, 0x7000_0000, StepOutcome::Illegal { rip: 0 }),
+        (
+            0x7FF0_0010,
+            1,
+            0x7000_1000,
+            StepOutcome::Host {
+                address: 0x7FF0_0010,
+            },
+        ),
+        (
+            0x7FF0_0070,
+            1,
+            0x7000_1000,
+            StepOutcome::Host {
+                address: 0x7FF0_0070,
+            },
+        ),
+        // The language handler isn't run as code, and between the services there is none.
+        (
+            0x7FF0_0040,
+            1,
+            0x7000_1000,
+            StepOutcome::Illegal { rip: 0x7FF0_0040 },
+        ),
+        (
+            0x7FF0_0011,
+            1,
+            0x7000_1000,
+            StepOutcome::Illegal { rip: 0x7FF0_0011 },
+        ),
+    ] {
+        let mut before = cpu();
+        before.rip = rip;
+        before.set_register(Width::W64, Reg::Rax, rax);
+        before.set_register(Width::W64, Reg::Rsp, rsp);
+        let mut after = before;
+        assert_eq!(rt; step(&mut after, &mut space), want, "{rax} at {rip}");
+        assert_eq!(rt; after, before, "{rax} at {rip}");
+    }
+    assert_eq!(rt; space.load(0x4000_1000, Width::W64), Ok(0xC3));
+    assert_eq!(rt; space.load(0x4000_1FF8, Width::W64), Ok(0));
+    Ok(())
+}
+
+#[test]
+fn pushes_and_pops(rt: HostRuntime) -> Result<(), Fail> {
+    let mut space = PageMap::new(rt.alloc(), &REGIONS)?;
+    let before = cpu();
+    // The old RSP is stored.
+    // push rsp
+    let pushed = effect_of(before, &mut space, &[0x54]);
+    let mut below = before;
+    below.registers[4] = 0x7000_0FF8;
+    assert_eq!(rt; pushed, Some(Ok(below)));
+    assert_eq!(rt; space.load(0x7000_0FF8, Width::W64), Ok(0x7000_1000));
+    assert_eq!(rt; pop(below, &space), Ok((0x7000_1000, before)));
+    // POP RSP leaves what was popped.
+    assert_eq!(rt; space.store(0x7000_0FF8, Width::W64, 0x1234), Ok(()));
+    let mut popped = below;
+    popped.registers[4] = 0x1234;
+    // pop rsp
+    assert_eq!(rt; effect_of(below, &mut space, &[0x5C]), Some(Ok(popped)));
+    let stop = Stop::Fault {
+        code: Code(0xC000_0005),
+        access: Some((false, 0x7000_1000)),
+    };
+    assert_eq!(rt; pop(before, &space), Err(stop));
+    // int3 and ud2, each at its own address.
+    for (code, rip) in [
+        ([0xCC].as_slice(), 0x3FFF_FFFF),
+        ([0x0F, 0x0B].as_slice(), 0x3FFF_FFFE),
+    ] {
+        let stop = Stop::Illegal { rip };
+        assert_eq!(rt; effect_of(cpu(), &mut space, code), Some(Err(stop)));
+    }
+    Ok(())
+}

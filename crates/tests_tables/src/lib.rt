@@ -1,0 +1,15 @@
+//! Tests of images and tables: what is written, read and shown, with values from outside.
+#![tactic(auto)]
+
+#[cfg(test)]
+mod callers;
+#[cfg(test)]
+mod headers;
+#[cfg(test)]
+mod table_image;
+#[cfg(test)]
+mod tables;
+#[cfg(test)]
+mod views;
+#[cfg(test)]
+mod written_images;

@@ -1,0 +1,214 @@
+//! The caller of a frame.
+
+ghost use Rattle.std.specs.Prelude.{◌≡◌, option_map};
+ghost use Rattle.eh_tables.specs.Tables.{IsWhole};
+ghost use Rattle.virtual_unwind.specs.CallerOf as spec;
+ghost use Rattle.virtual_unwind.specs.Shown.{shown, raised_caller};
+ghost use Rattle.virtual_unwind.specs.Undone as undone;
+ghost use Rattle.virtual_unwind.specs.Views.{undo_of};
+
+use crate::frame::Caller;
+use crate::kept::rsp;
+use crate::refusal::UnwindErr;
+use crate::tail::epilogue;
+use crate::undo::{Undo, all_undone, below_frame, sets_frame_by, undone, undone_by};
+use crate::word::pop;
+use eh_tables::{Entry, Info, Tables};
+use x64_machine::context::Context;
+use x64_memory::space::AddressSpace;
+
+fn returned<S: AddressSpace>(space: &S, undo: Undo) -> Result<Context, UnwindErr>
+    ensures { result ≡ undone.returned (S.memory space.now) (undo_of undo) }
+{
+    if undo.is_returned {
+        Ok(undo.context)
+    } else {
+        pop(space, &undo.context)
+    }
+}
+
+fn base_if(info: &Info, context: &Context, is_set: bool) -> u64
+    ensures { result ≡ spec.base_if info.now context.now is_set }
+{
+    if is_set {
+        below_frame(info, context)
+    } else {
+        rsp(context)
+    }
+}
+
+fn unwound<S: AddressSpace>(
+    space: &S,
+    base: u64,
+    info: &Info,
+    parents: &[Info],
+    context: &Context,
+) -> Result<Context, UnwindErr>
+    ensures { result ≡ spec.unwound (S.memory space.now) base info.now parents.now (undone.operations info.now.codes) context.now }
+{
+    let start = Undo {
+        context: *context,
+        is_returned: false,
+    };
+    let own = undone(space, base, info, info.codes(), start)?;
+    let all = all_undone(space, base, parents, own)?;
+    returned(space, all)
+}
+
+fn unwound_by<S: AddressSpace>(
+    space: &S,
+    base: u64,
+    info: &Info,
+    parents: &[Info],
+    distance: u64,
+    context: &Context,
+) -> Result<Context, UnwindErr>
+    ensures { result ≡ spec.unwound (S.memory space.now) base info.now parents.now (undone.operations (spec.run_by distance info.now.codes)) context.now }
+{
+    let start = Undo {
+        context: *context,
+        is_returned: false,
+    };
+    let own = undone_by(space, base, info, distance, info.codes(), start)?;
+    let all = all_undone(space, base, parents, own)?;
+    returned(space, all)
+}
+
+fn leaf<S: AddressSpace>(space: &S, context: &Context) -> Result<Caller, UnwindErr>
+    ensures { result ≡ shown (spec.leaf (S.memory space.now) context.now) }
+{
+    match pop(space, context) {
+        Ok(after) => Ok(Caller {
+            frame: rsp(context),
+            context: after,
+            handler: None,
+            in_body: false,
+        }),
+        Err(e) => Err(e),
+    }
+}
+
+fn in_prologue<S: AddressSpace>(
+    space: &S,
+    info: &Info,
+    parents: &[Info],
+    distance: u64,
+    context: &Context,
+) -> Result<Caller, UnwindErr>
+    ensures { result ≡ shown (spec.in_prologue (S.memory space.now) info.now parents.now (undone.operations (spec.run_by distance info.now.codes)) context.now) }
+{
+    let is_set = info.frame_register() != 0 && sets_frame_by(distance, info.codes());
+    let base = base_if(info, context, is_set);
+    match unwound_by(space, base, info, parents, distance, context) {
+        Ok(after) => Ok(Caller {
+            frame: base,
+            context: after,
+            handler: None,
+            in_body: false,
+        }),
+        Err(e) => Err(e),
+    }
+}
+
+fn in_body<S: AddressSpace>(
+    space: &S,
+    info: &Info,
+    parents: &[Info],
+    context: &Context,
+) -> Result<Caller, UnwindErr>
+    ensures { result ≡ shown (spec.in_body (S.memory space.now) info.now parents.now context.now) }
+{
+    let base = base_if(info, context, info.frame_register() != 0);
+    match unwound(space, base, info, parents, context) {
+        Ok(after) => Ok(Caller {
+            frame: base,
+            context: after,
+            handler: info.handler(),
+            in_body: true,
+        }),
+        Err(e) => Err(e),
+    }
+}
+
+#[tactic(auto, using(crate::proofs::Past::in_tail, crate::proofs::Past::no_tail))]
+fn past_prologue<S: AddressSpace>(
+    space: &S,
+    info: &Info,
+    parents: &[Info],
+    context: &Context,
+) -> Result<Caller, UnwindErr>
+    ensures { result ≡ shown (spec.past (S.memory space.now) info.now parents.now context.now) }
+{
+    match epilogue(space, info.frame_register(), context.rip, context) {
+        Some(Ok(after)) => Ok(Caller {
+            frame: rsp(context),
+            context: after,
+            handler: None,
+            in_body: false,
+        }),
+        Some(Err(e)) => Err(e),
+        None => in_body(space, info, parents, context),
+    }
+}
+
+fn in_entry<S: AddressSpace>(
+    space: &S,
+    info: &Info,
+    parents: &[Info],
+    distance: u64,
+    context: &Context,
+) -> Result<Caller, UnwindErr>
+    ensures { result ≡ shown (spec.in_entry (S.memory space.now) info.now parents.now context.now distance) }
+{
+    if distance < info.prologue_size() as u64 {
+        in_prologue(space, info, parents, distance, context)
+    } else {
+        past_prologue(space, info, parents, context)
+    }
+}
+
+fn of_entry<S: AddressSpace>(
+    space: &S,
+    entry: Option<&Entry>,
+    rva: u64,
+    context: &Context,
+) -> Result<Caller, UnwindErr>
+    ensures { result ≡ shown (spec.of_entry (S.memory space.now) context.now rva (option_map (λ e. e.now) entry.entry)) }
+{
+    match entry {
+        None => leaf(space, context),
+        Some(entry) => {
+            let distance = rva.saturating_sub(entry.range().begin as u64);
+            in_entry(space, entry.info(), entry.parents(), distance, context)
+        }
+    }
+}
+
+#[tactic(auto, using(crate::proofs::Past::risen_shown))]
+fn rising(context: &Context, answer: Result<Caller, UnwindErr>) -> Result<Caller, UnwindErr>
+    ensures { result ≡ raised_caller context.now answer }
+{
+    let caller = answer?;
+    if rsp(context) < rsp(&caller.context) {
+        Ok(caller)
+    } else {
+        Err(UnwindErr::Backward { rsp: rsp(context) })
+    }
+}
+
+/// The caller of the frame of a context. `Unreadable` is answered exactly where a word of the stack
+/// that is needed may not be read, with the first one's address; else `Backward` exactly where RSP
+/// wouldn't rise.
+#[tactic(auto, using(crate::proofs::Past::risen_shown), unfolding(crate::specs::CallerOf::caller_of, crate::specs::CallerOf::caller_in))]
+pub fn caller<S: AddressSpace>(
+    tables: &Tables,
+    space: &S,
+    context: &Context,
+) -> Result<Caller, UnwindErr>
+    requires { IsWhole tables.now }
+    ensures { result ≡ shown (spec.caller_of tables.now (S.memory space.now) context.now) }
+{
+    let rva = context.rip.wrapping_sub(tables.base());
+    let entry = tables.lookup(rva);
+    rising(context, of_entry(space, entry.as_ref(), rva, context))
+}

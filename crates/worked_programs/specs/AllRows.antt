@@ -1,0 +1,40 @@
+-- All texts together.
+use Rattle.worked_programs.specs.Rows.{sum_and_return_row, empty_text_row, null_store_caught_traced_row, null_store_caught_row, filter_then_finally_row, continue_same_operand_row, return_and_leave_flags_return_row, return_and_leave_flags_leave_row, division_faults_unhandled_overflow_row, division_faults_unhandled_zero_row, call_last_in_try_row, try_last_in_function_row, leaf_fault_caught_row, raise_in_filter_row, raise_in_finally_row, continue_noncontinuable_row, registers_restored_at_landing_row, deep_recursion_deep_row, deep_recursion_row, store_across_pages_row, fault_address_in_filter_row, sum_to_argument_0_row, sum_to_argument_9_row, misplaced_jumps_leave_row, misplaced_jumps_return_row, undefined_reserved_access_row, conversions_and_shifts_row, division_by_zero_traced_row, address_of_local_refused_row, six_arguments_row, two_filters_of_one_fault_row, break_through_finally_row, return_through_two_finallys_row, target_in_outer_activation_row, filter_asked_once_under_collision_row, collided_twice_row}
+
+pub record AllRows : Type 0 where
+  pub sum_and_return : sum_and_return_row
+  pub empty_text : empty_text_row
+  pub null_store_caught_traced : null_store_caught_traced_row
+  pub null_store_caught : null_store_caught_row
+  pub filter_then_finally : filter_then_finally_row
+  pub continue_same_operand : continue_same_operand_row
+  pub return_and_leave_flags_return : return_and_leave_flags_return_row
+  pub return_and_leave_flags_leave : return_and_leave_flags_leave_row
+  pub division_faults_unhandled_overflow : division_faults_unhandled_overflow_row
+  pub division_faults_unhandled_zero : division_faults_unhandled_zero_row
+  pub call_last_in_try : call_last_in_try_row
+  pub try_last_in_function : try_last_in_function_row
+  pub leaf_fault_caught : leaf_fault_caught_row
+  pub raise_in_filter : raise_in_filter_row
+  pub raise_in_finally : raise_in_finally_row
+  pub continue_noncontinuable : continue_noncontinuable_row
+  pub registers_restored_at_landing : registers_restored_at_landing_row
+  pub deep_recursion_deep : deep_recursion_deep_row
+  pub deep_recursion : deep_recursion_row
+  pub store_across_pages : store_across_pages_row
+  pub fault_address_in_filter : fault_address_in_filter_row
+  pub sum_to_argument_0 : sum_to_argument_0_row
+  pub sum_to_argument_9 : sum_to_argument_9_row
+  pub misplaced_jumps_leave : misplaced_jumps_leave_row
+  pub misplaced_jumps_return : misplaced_jumps_return_row
+  pub undefined_reserved_access : undefined_reserved_access_row
+  pub conversions_and_shifts : conversions_and_shifts_row
+  pub division_by_zero_traced : division_by_zero_traced_row
+  pub address_of_local_refused : address_of_local_refused_row
+  pub six_arguments : six_arguments_row
+  pub two_filters_of_one_fault : two_filters_of_one_fault_row
+  pub break_through_finally : break_through_finally_row
+  pub return_through_two_finallys : return_through_two_finallys_row
+  pub target_in_outer_activation : target_in_outer_activation_row
+  pub filter_asked_once_under_collision : filter_asked_once_under_collision_row
+  pub collided_twice : collided_twice_row

@@ -1,0 +1,4 @@
+pub mod Near
+pub mod Linking
+pub mod Entries
+pub mod Bodies

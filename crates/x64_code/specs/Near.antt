@@ -1,0 +1,60 @@
+-- What an instruction of 32-bit displacements reaches.
+use Rattle.std.specs.Prelude.{ℕ, ◌+◌, ◌*◌, ◌^◌, ◌<◌, ◌≤◌, List, Option, Some, None}
+use Rattle.std.specs.List.{AllByRecursion}
+use Rattle.c_operations.specs.declared.field.Field.{Field}
+use Rattle.c_operations.specs.declared.field.Field.TheVariants.{ExceptionInformation}
+use Rattle.linear_code.specs.declared.slot.Slot.{Slot}
+use Rattle.linear_code.specs.declared.slot.Slot.TheVariants.{Local, Temporary}
+use Rattle.linear_code.specs.declared.instruction.Instruction.{Instruction}
+use Rattle.linear_code.specs.declared.instruction.Instruction.TheVariants as instructions
+use Rattle.template_code.specs.declared.layout.Layout.{Layout}
+use Rattle.template_code.specs.Slots.{temporary_at, local_at}
+
+-- an address in the image, relative to its base: the image is smaller than 1 GiB
+abbrev pub IsNear : ℕ → Type 0
+IsNear a = a < 2 ^ 30
+
+abbrev pub AreNear : List ℕ → Type 0
+AreNear addresses = AllByRecursion IsNear addresses
+
+-- ---- slots
+
+abbrev pub IsBaseNear : Option ℕ → Type 0
+IsBaseNear None = Unit {0}
+IsBaseNear (Some b) = b < 2 ^ 30
+
+abbrev pub IsSlotNear : Layout → Slot → Type 0
+IsSlotNear y (Temporary i) = temporary_at y i < 2 ^ 30
+IsSlotNear y (Local i) = (local_at y i < 2 ^ 30) × IsBaseNear y.base
+
+-- at most eight arguments, and at least the four temporaries from the first on
+pub record AreArgumentsNear (y : Layout) (first count : ℕ) : Type 0 where
+  pub few : count ≤ 8
+  pub temporaries : temporary_at y (first + 8) < 2 ^ 30
+
+abbrev pub IsFrameNear : Layout → Type 0
+IsFrameNear y = y.frame < 2 ^ 30
+
+-- so many parameters, in their locals and above the frame
+pub record AreParametersNear (y : Layout) (count : ℕ) : Type 0 where
+  pub locals : local_at y count < 2 ^ 30
+  pub stack : y.frame + (8 + 8 * count) < 2 ^ 30
+
+abbrev pub ArePointersNear : Layout → Type 0
+ArePointersNear y = y.pointers < 2 ^ 30
+
+-- ---- instructions
+
+abbrev pub IsFieldNear : Field → Type 0
+IsFieldNear (ExceptionInformation k) = k < 15
+IsFieldNear f = Unit {0}
+
+abbrev pub IsInstructionNear : Layout → Instruction → Type 0
+IsInstructionNear y (instructions.Compute to o first second) = IsSlotNear y to × IsSlotNear y first × IsSlotNear y second
+IsInstructionNear y (instructions.Information to field) = IsSlotNear y to × ArePointersNear y × IsFieldNear field
+IsInstructionNear y (instructions.Landing to) = IsSlotNear y to
+IsInstructionNear y (instructions.JumpIfZero slot label) = IsSlotNear y slot
+IsInstructionNear y (instructions.Call function first count) = AreArgumentsNear y first count
+IsInstructionNear y (instructions.CallBuiltIn function first) = AreArgumentsNear y first 4
+IsInstructionNear y (instructions.Return from) = IsSlotNear y from × IsFrameNear y
+IsInstructionNear y other = Unit {0}

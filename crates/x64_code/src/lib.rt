@@ -1,0 +1,15 @@
+//! The machine code of bodies of linear code.
+//!
+//! [`template::put_instruction`] adds the template of one instruction, [`body::put_body`] those of a
+//! whole body, [`body::label_offsets`] says where each begins, and [`entry`] has what comes before a
+//! body. All addresses are relative to the image base.
+#![tactic(auto)]
+
+pub mod body;
+pub mod calls;
+pub mod entry;
+pub mod links;
+pub mod operations;
+pub mod put;
+pub mod slots;
+pub mod template;

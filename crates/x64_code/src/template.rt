@@ -1,0 +1,63 @@
+//! The template of an instruction of linear code.
+
+ghost use Rattle.std.specs.Prelude.{◌≡◌, ◌++◌, OnOk};
+ghost use Rattle.x64_code.specs.Linking.{links_of};
+ghost use Rattle.x64_code.specs.Near.{IsNear, IsInstructionNear};
+ghost use Rattle.template_code.specs.Bytes.{spelled};
+ghost use Rattle.template_code.specs.Template.{template};
+
+use crate::calls::{
+    put_call, put_call_finally, put_information, put_jump, put_jump_if_zero, put_local_unwind,
+    put_passing_call, put_return,
+};
+use crate::links::Links;
+use crate::put::put;
+use crate::slots::{put_compute, put_keep};
+use linear_code::instruction::Instruction;
+use std::alloc::AllocError;
+use template_code::layout::Layout;
+use x64_instr::instruction::Instr;
+
+/// Adds the template of an instruction that begins at an address.
+pub fn put_instruction(
+    code: &mut Vec<u8>,
+    links: &Links<'_>,
+    layout: &Layout,
+    at: u64,
+    instruction: &Instruction,
+) -> Result<(), AllocError>
+    requires near { IsInstructionNear layout.now instruction.now }
+    requires at { IsNear at }
+    ensures { OnOk result (code.new.items ≡ code.old.items ++ spelled (template (links_of links.now) layout.now at instruction.now)) }
+{
+    match *instruction {
+        Instruction::Compute {
+            to,
+            operation,
+            first,
+            second,
+        } => put_compute(code, layout, to, operation, first, second),
+        Instruction::Information { to, field } => put_information(code, layout, to, field),
+        Instruction::Landing { to } => put_keep(code, layout, to),
+        Instruction::Jump { label } => put_jump(code, at, links.label(label)),
+        Instruction::JumpIfZero { slot, label } => {
+            put_jump_if_zero(code, layout, slot, at, links.label(label))
+        }
+        Instruction::Call {
+            function,
+            first,
+            count,
+        } => put_passing_call(code, layout, first, count, at, links.function(function)),
+        Instruction::CallBuiltIn { function, first } => {
+            put_call(code, layout, first, at, links.built_in(function))
+        }
+        Instruction::CallFinally { funclet } => {
+            put_call_finally(code, at, links.funclet(funclet))
+        }
+        Instruction::LocalUnwind { label } => {
+            put_local_unwind(code, at, links.label(label), links.local_unwind())
+        }
+        Instruction::Separator => put(code, &Instr::NoOperation),
+        Instruction::Return { from } => put_return(code, layout, from),
+    }
+}

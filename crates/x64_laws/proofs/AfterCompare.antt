@@ -1,0 +1,204 @@
+-- The comparison of two numbers that each condition is after CMP.
+use Rattle.std.proofs.Common.{◌≡◌, ◌≢◌, ℕ, ◌+◌, ◌-◌, ◌<◌, ◌≤◌, Bool, true, false, ltb, leb, eqb, ℤ, pos, negsuc, ◌-ℤ◌, refl, sym, ap, ◌∙◌, arith, inl, inr}
+use Rattle.std.specs.Prelude.{not, ◌||◌, int_lt, int_le}
+use Rattle.std.proofs.lemmas.Bool.{cases_lt, cases_eq, lt-ltb, le-ltb, le-leb, lt-leb, eq-eqb, ne_eqb}
+use Rattle.std.proofs.lemmas.Int.{ints}
+use Rattle.seh_num.specs.declared.width.Width.{Width}
+use Rattle.seh_num.specs.Widths.{limit, half, low, signed, wrapped}
+use Rattle.seh_num.specs.Division.{is_signed}
+use Rattle.x64_instr.specs.declared.instruction.Condition.TheVariants as conditions
+use Rattle.x64_machine.specs.Words.{subtracted}
+use Rattle.x64_machine.specs.Shifts.{differ}
+use Rattle.x64_laws.specs.Comparing.{CmpDecides}
+use Rattle.x64_laws.proofs.Numbers.{wrapped_signed, limits, low_is, low_below, low_over, signed_low, signed_high}
+use Rattle.x64_laws.proofs.Results.{difference_bits}
+
+-- ---- less: the sign and the overflow of a difference differ
+
+Less : Width → ℕ → ℕ → Type 0
+Less w a b = differ (leb (half w) (low w (a + (limit w - b)))) (not (is_signed w (signed w a -ℤ signed w b))) ≡ int_lt (signed w a) (signed w b)
+
+less_by : (w : Width) (a b r : ℕ) (x y d : ℤ) (s t l : Bool) → signed w a ≡ x → signed w b ≡ y → x -ℤ y ≡ d → low w (a + (limit w - b)) ≡ r → leb (half w) r ≡ s → is_signed w d ≡ t → int_lt x y ≡ l → differ s (not t) ≡ l → Less w a b
+unfolding Less
+less_by w a b r x y d s t l ex ey ed er es et el e =
+    let diff : signed w a -ℤ signed w b ≡ d = ap (λ (z : ℤ). z -ℤ signed w b) ex ∙ ap (λ (z : ℤ). x -ℤ z) ey ∙ ed in
+    ap (λ (n : ℕ). differ (leb (half w) n) (not (is_signed w (signed w a -ℤ signed w b)))) er
+    ∙ ap (λ (c : Bool). differ c (not (is_signed w (signed w a -ℤ signed w b)))) es
+    ∙ ap (λ (z : ℤ). differ s (not (is_signed w z))) diff
+    ∙ ap (λ (c : Bool). differ s (not c)) et
+    ∙ e
+    ∙ sym (ap (λ (z : ℤ). int_lt z (signed w b)) ex ∙ ap (λ (z : ℤ). int_lt x z) ey ∙ el)
+
+both_low : (w : Width) (a b : ℕ) → a < half w → b < half w → Less w a b
+both_low w a b la lb =
+    let two = limits w in
+    elim (cases_lt a b) [
+      | inl lt ↦ less_by w a b (a + (limit w - b)) (pos a) (pos b) (negsuc (b - a - 1)) true true true (signed_low w a la) (signed_low w b lb) (omega (arith, ints)) (low_is w (a + (limit w - b)) (omega arith)) (le-leb (half w) (a + (limit w - b)) (omega arith)) (lt-ltb (b - a - 1) (half w) (omega arith)) (lt-ltb a b lt) refl
+      | inr ge ↦ less_by w a b (a - b) (pos a) (pos b) (pos (a - b)) false true false (signed_low w a la) (signed_low w b lb) (omega (arith, ints)) (low_over w (a + (limit w - b)) (omega arith) (omega arith) ∙ (let q : a + (limit w - b) - limit w ≡ a - b = omega arith in q)) (lt-leb (half w) (a - b) (omega arith)) (lt-ltb (a - b) (half w) (omega arith)) (le-ltb a b ge) refl
+    ]
+
+both_high : (w : Width) (a b : ℕ) → half w ≤ a → a < limit w → half w ≤ b → b < limit w → Less w a b
+both_high w a b ga la gb lb =
+    let two = limits w in
+    elim (cases_lt a b) [
+      | inl lt ↦ less_by w a b (a + (limit w - b)) (negsuc (limit w - 1 - a)) (negsuc (limit w - 1 - b)) (negsuc (b - a - 1)) true true true (signed_high w a ga la) (signed_high w b gb lb) (omega (arith, ints)) (low_is w (a + (limit w - b)) (omega arith)) (le-leb (half w) (a + (limit w - b)) (omega arith)) (lt-ltb (b - a - 1) (half w) (omega arith)) (lt-ltb (limit w - 1 - b) (limit w - 1 - a) (omega arith)) refl
+      | inr ge ↦ less_by w a b (a - b) (negsuc (limit w - 1 - a)) (negsuc (limit w - 1 - b)) (pos (a - b)) false true false (signed_high w a ga la) (signed_high w b gb lb) (omega (arith, ints)) (low_over w (a + (limit w - b)) (omega arith) (omega arith) ∙ (let q : a + (limit w - b) - limit w ≡ a - b = omega arith in q)) (lt-leb (half w) (a - b) (omega arith)) (lt-ltb (a - b) (half w) (omega arith)) (le-ltb (limit w - 1 - b) (limit w - 1 - a) (omega arith)) refl
+    ]
+
+low_high : (w : Width) (a b : ℕ) → a < half w → half w ≤ b → b < limit w → Less w a b
+low_high w a b la gb lb =
+    let two = limits w in
+    let n : ℕ = a + (limit w - b) in
+    elim (cases_lt n (half w)) [
+      | inl lt ↦ less_by w a b n (pos a) (negsuc (limit w - 1 - b)) (pos n) false true false (signed_low w a la) (signed_high w b gb lb) (omega (arith, ints)) (low_is w n (omega arith)) (lt-leb (half w) n lt) (lt-ltb n (half w) lt) refl refl
+      | inr ge ↦ less_by w a b n (pos a) (negsuc (limit w - 1 - b)) (pos n) true false false (signed_low w a la) (signed_high w b gb lb) (omega (arith, ints)) (low_is w n (omega arith)) (le-leb (half w) n ge) (le-ltb n (half w) ge) refl refl
+    ]
+
+high_low : (w : Width) (a b : ℕ) → half w ≤ a → a < limit w → b < half w → Less w a b
+high_low w a b ga la lb =
+    let two = limits w in
+    let m : ℕ = limit w - 1 - a + b in
+    elim (cases_lt (a - b) (half w)) [
+      | inl lt ↦ less_by w a b (a - b) (negsuc (limit w - 1 - a)) (pos b) (negsuc m) false false true (signed_high w a ga la) (signed_low w b lb) (omega (arith, ints)) (low_over w (a + (limit w - b)) (omega arith) (omega arith) ∙ (let q : a + (limit w - b) - limit w ≡ a - b = omega arith in q)) (lt-leb (half w) (a - b) lt) (le-ltb m (half w) (omega arith)) refl refl
+      | inr ge ↦ less_by w a b (a - b) (negsuc (limit w - 1 - a)) (pos b) (negsuc m) true true true (signed_high w a ga la) (signed_low w b lb) (omega (arith, ints)) (low_over w (a + (limit w - b)) (omega arith) (omega arith) ∙ (let q : a + (limit w - b) - limit w ≡ a - b = omega arith in q)) (le-leb (half w) (a - b) ge) (lt-ltb m (half w) (omega arith)) refl refl
+    ]
+
+pub signed_less : (w : Width) (a b : ℕ) → a < limit w → b < limit w → differ (leb (half w) (low w (a + (limit w - b)))) (not (is_signed w (signed w a -ℤ signed w b))) ≡ int_lt (signed w a) (signed w b)
+unfolding Less
+signed_less w a b la lb = elim (cases_lt a (half w)) [
+  | inl ha ↦ elim (cases_lt b (half w)) [ inl hb ↦ both_low w a b ha hb | inr hb ↦ low_high w a b ha hb lb ]
+  | inr ha ↦ elim (cases_lt b (half w)) [ inl hb ↦ high_low w a b ha la hb | inr hb ↦ both_high w a b ha la hb lb ]
+]
+
+-- ---- equality, and its union with an order
+
+zero_is : (w : Width) (a b : ℕ) → a < limit w → b < limit w → eqb (low w (a + (limit w - b))) 0 ≡ eqb a b
+zero_is w a b la lb = elim (cases_lt a b) [
+  | inl lt ↦
+      let n : ℕ = a + (limit w - b) in
+      let some : low w n ≢ 0 = λ e. let k = low_is w n (omega arith) in absurd (omega arith) in
+      ne_eqb (low w n) 0 some ∙ sym (ne_eqb a b (λ e. absurd (omega arith)))
+  | inr ge ↦
+      let n : ℕ = a + (limit w - b) in
+      let r : low w n ≡ a - b = low_over w n (omega arith) (omega arith) ∙ (let q : n - limit w ≡ a - b = omega arith in q) in
+      ap (λ (k : ℕ). eqb k 0) r ∙ difference_zero a b ge
+]
+  where
+    difference_zero : (a b : ℕ) → b ≤ a → eqb (a - b) 0 ≡ eqb a b
+    difference_zero a b ge = elim (cases_eq a b) [
+      | inl e ↦ eq-eqb (a - b) 0 (omega arith) ∙ sym (eq-eqb a b e)
+      | inr n ↦ ne_eqb (a - b) 0 (λ z. n (omega arith)) ∙ sym (ne_eqb a b n)
+    ]
+
+not_below : (a b : ℕ) → not (ltb a b) ≡ leb b a
+not_below a b = elim (cases_lt a b) [
+  | inl lt ↦ ap not (lt-ltb a b lt) ∙ sym (lt-leb b a lt)
+  | inr ge ↦ ap not (le-ltb a b ge) ∙ sym (le-leb b a ge)
+]
+
+below_or_equal : (a b : ℕ) → (ltb a b || eqb a b) ≡ leb a b
+below_or_equal a b = elim (cases_lt a b) [
+  | inl lt ↦ ap (λ (t : Bool). t || eqb a b) (lt-ltb a b lt) ∙ sym (le-leb a b (omega arith))
+  | inr ge ↦ ap (λ (t : Bool). t || eqb a b) (le-ltb a b ge) ∙ elim (cases_eq a b) [
+    | inl e ↦ eq-eqb a b e ∙ sym (le-leb a b (omega arith))
+    | inr n ↦ ne_eqb a b n ∙ sym (lt-leb a b (let o : b < a = omega arith in o))
+  ]
+]
+
+not_below_or_equal : (a b : ℕ) → not (leb a b) ≡ ltb b a
+not_below_or_equal a b = elim (cases_lt b a) [
+  | inl lt ↦ ap not (lt-leb a b lt) ∙ sym (lt-ltb b a lt)
+  | inr ge ↦ ap not (le-leb a b ge) ∙ sym (le-ltb b a ge)
+]
+
+not_less : (x y : ℤ) → not (int_lt x y) ≡ int_le y x
+not_less (pos a) (pos b) = not_below a b
+not_less (pos a) (negsuc b) = refl
+not_less (negsuc a) (pos b) = refl
+not_less (negsuc a) (negsuc b) = not_below b a
+
+-- two numbers are equal where what they represent is
+equal_signed : (w : Width) (a b : ℕ) → a < limit w → b < limit w → (x y : ℤ) → signed w a ≡ x → signed w b ≡ y → (eqb a b || int_lt x y) ≡ int_le x y
+equal_signed w a b la lb x y ex ey = elim (cases_eq a b) [
+  | inl e ↦
+      let same : x ≡ y = sym ex ∙ ap (signed w) e ∙ ey in
+      ap (λ (t : Bool). t || int_lt x y) (eq-eqb a b e) ∙ sym (ap (λ (z : ℤ). int_le x z) (sym same) ∙ self x)
+  | inr n ↦ ap (λ (t : Bool). t || int_lt x y) (ne_eqb a b n) ∙ strict x y (λ e. n (signed_once w a b la lb (ex ∙ e ∙ sym ey)))
+]
+  where
+    self : (x : ℤ) → int_le x x ≡ true
+    self (pos a) = le-leb a a (omega arith)
+    self (negsuc a) = le-leb a a (omega arith)
+
+    strict_nat : (a b : ℕ) → a ≢ b → ltb a b ≡ leb a b
+    strict_nat a b n = elim (cases_lt a b) [
+      | inl lt ↦ lt-ltb a b lt ∙ sym (le-leb a b (omega arith))
+      | inr ge ↦ le-ltb a b ge ∙ sym (lt-leb a b (let o : b < a = omega arith in o))
+    ]
+
+    strict : (x y : ℤ) → x ≢ y → int_lt x y ≡ int_le x y
+    strict (pos a) (pos b) n = strict_nat a b (λ e. n (ap pos e))
+    strict (pos a) (negsuc b) n = refl
+    strict (negsuc a) (pos b) n = refl
+    strict (negsuc a) (negsuc b) n = strict_nat b a (λ e. n (ap negsuc (sym e)))
+
+    signed_once : (w : Width) (a b : ℕ) → a < limit w → b < limit w → signed w a ≡ signed w b → a ≡ b
+    signed_once w a b la lb e = sym (wrapped_signed w a la) ∙ ap (wrapped w) e ∙ wrapped_signed w b lb
+
+-- ---- the sign of the difference
+
+sign_is : (w : Width) (r : ℕ) (z : ℤ) → r < limit w → r ≡ wrapped w z → leb (half w) r ≡ int_lt (signed w (wrapped w z)) (pos 0)
+sign_is w r z lt e = elim (cases_lt r (half w)) [
+  | inl l ↦ lt-leb (half w) r l ∙ sym (ap (λ (k : ℕ). int_lt (signed w k) (pos 0)) (sym e) ∙ ap (λ (x : ℤ). int_lt x (pos 0)) (signed_low w r l) ∙ le-ltb r 0 (omega arith))
+  | inr g ↦ le-leb (half w) r g ∙ sym (ap (λ (k : ℕ). int_lt (signed w k) (pos 0)) (sym e) ∙ ap (λ (x : ℤ). int_lt x (pos 0)) (signed_high w r g lt))
+]
+
+-- ---- the flags of a difference, each as a comparison
+
+module _ (w : Width) (a b : ℕ) (la : a < limit w) (lb : b < limit w) where
+  abbrev r : ℕ
+  r = low w (a + (limit w - b))
+
+  abbrev d : ℤ
+  d = signed w a -ℤ signed w b
+
+  zero_flag : eqb r 0 ≡ eqb a b
+  zero_flag = zero_is w a b la lb
+
+  sign_flag : leb (half w) r ≡ int_lt (signed w (wrapped w d)) (pos 0)
+  sign_flag = sign_is w r d (low_below w (a + (limit w - b))) (difference_bits w a b la lb)
+
+  less_flags : differ (leb (half w) r) (not (is_signed w d)) ≡ int_lt (signed w a) (signed w b)
+  less_flags = signed_less w a b la lb
+
+  less_or_equal : (eqb r 0 || differ (leb (half w) r) (not (is_signed w d))) ≡ int_le (signed w a) (signed w b)
+  less_or_equal =
+      ap (λ (t : Bool). t || differ (leb (half w) r) (not (is_signed w d))) zero_flag ∙ ap (λ (t : Bool). eqb a b || t) less_flags
+      ∙ equal_signed w a b la lb (signed w a) (signed w b) refl refl
+
+not_not : (b : Bool) → not (not b) ≡ b
+not_not true = refl
+not_not false = refl
+
+not_less_or_equal : (x y : ℤ) → not (int_le x y) ≡ int_lt y x
+not_less_or_equal (pos a) (pos b) = not_below_or_equal a b
+not_less_or_equal (pos a) (negsuc b) = refl
+not_less_or_equal (negsuc a) (pos b) = refl
+not_less_or_equal (negsuc a) (negsuc b) = not_below_or_equal b a
+
+pub cmp_decides : CmpDecides
+unfolding subtracted
+cmp_decides w a b conditions.Overflow la lb = refl
+cmp_decides w a b conditions.NotOverflow la lb = not_not (is_signed w (signed w a -ℤ signed w b))
+cmp_decides w a b conditions.Below la lb = refl
+cmp_decides w a b conditions.AboveOrEqual la lb = not_below a b
+cmp_decides w a b conditions.Equal la lb = zero_flag w a b la lb
+cmp_decides w a b conditions.NotEqual la lb = ap not (zero_flag w a b la lb)
+cmp_decides w a b conditions.BelowOrEqual la lb = ap (λ (t : Bool). ltb a b || t) (zero_flag w a b la lb) ∙ below_or_equal a b
+cmp_decides w a b conditions.Above la lb = ap (λ (t : Bool). not (ltb a b || t)) (zero_flag w a b la lb) ∙ ap not (below_or_equal a b) ∙ not_below_or_equal a b
+cmp_decides w a b conditions.Sign la lb = sign_flag w a b la lb
+cmp_decides w a b conditions.NotSign la lb = ap not (sign_flag w a b la lb) ∙ not_less (signed w (wrapped w (signed w a -ℤ signed w b))) (pos 0)
+cmp_decides w a b conditions.Less la lb = less_flags w a b la lb
+cmp_decides w a b conditions.GreaterOrEqual la lb = ap not (less_flags w a b la lb) ∙ not_less (signed w a) (signed w b)
+cmp_decides w a b conditions.LessOrEqual la lb = less_or_equal w a b la lb
+cmp_decides w a b conditions.Greater la lb = ap not (less_or_equal w a b la lb) ∙ not_less_or_equal (signed w a) (signed w b)

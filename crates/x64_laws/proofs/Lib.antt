@@ -1,0 +1,6 @@
+pub mod Numbers
+pub mod Results
+pub mod AfterCompare
+pub mod Floors
+pub mod Giving
+pub mod Spelled

@@ -1,0 +1,5 @@
+use Rattle.x64_laws.proofs.Floors.{sar_is_floor}
+use Rattle.x64_laws.proofs.arithmetic.floors.Goals as goal
+
+pub returns : goal.returns
+returns c = sar_is_floor

@@ -1,0 +1,5 @@
+use Rattle.x64_laws.proofs.AfterCompare.{cmp_decides}
+use Rattle.x64_laws.proofs.comparing.comparisons.Goals as goal
+
+pub returns : goal.returns
+returns c = cmp_decides

@@ -1,0 +1,11 @@
+//! Laws of the processor and of its instruction table, in the words of the Intel manual, above the
+//! definitions that the processor is proved to follow.
+//!
+//! `arithmetic` says what sums, differences, products, negatives, extensions and shifts are as
+//! equations on whole numbers; `comparing` that each condition after CMP is the comparison of the
+//! two numbers; `spelling` that all that is spelled can be encoded, in at most 15 bytes.
+#![tactic(auto)]
+
+pub mod arithmetic;
+pub mod comparing;
+pub mod spelling;

@@ -1,0 +1,81 @@
+//! The stack, jumps, calls and conditions (Intel manual, volume 1, "Control Transfer Instructions").
+
+ghost use Rattle.std.specs.Prelude.{◌≡◌, ◌<◌, ℕ, IfOk};
+ghost use Rattle.seh_num.specs.Widths.{limit};
+ghost use Rattle.x64_machine.specs.Effect as spec;
+ghost use Rattle.x64_machine.specs.Effect.{State};
+
+use crate::cpu::{Cpu, Flags};
+use crate::operands::{load, read, store};
+use crate::outcome::Stop;
+use seh_num::width::Width;
+use x64_instr::instruction::{Condition, Target};
+use x64_instr::register::Reg;
+use x64_memory::space::AddressSpace;
+
+pub(crate) fn push<S: AddressSpace>(mut cpu: Cpu, space: &mut S, value: u64) -> Result<Cpu, Stop>
+    ensures answer { result ≡ spec.cpu_of (spec.push (spec.state cpu (S.memory space.old)) value) }
+    ensures memory { S.memory space.new ≡ spec.memory_after (S.memory space.old) (spec.push (spec.state cpu (S.memory space.old)) value) }
+{
+    let at = cpu.register(Reg::Rsp).wrapping_sub(8);
+    cpu.set_register(Width::W64, Reg::Rsp, at);
+    store(cpu, space, at, Width::W64, value)
+}
+
+/// The number at RSP, and the registers with RSP risen by 8.
+pub fn pop<S: AddressSpace>(mut cpu: Cpu, space: &S) -> Result<(u64, Cpu), Stop>
+    ensures { result ≡ spec.popped (spec.pop (spec.state cpu (S.memory space.now))) }
+{
+    let at = cpu.register(Reg::Rsp);
+    let value = load(space, at, Width::W64)?;
+    cpu.set_register(Width::W64, Reg::Rsp, at.wrapping_add(8));
+    Ok((value, cpu))
+}
+
+pub(crate) fn relative(cpu: &Cpu, displacement: u64) -> u64
+    ensures { result ≡ spec.relative cpu.now displacement }
+{
+    cpu.rip.wrapping_add(displacement)
+}
+
+pub(crate) fn target_of<S: AddressSpace>(cpu: &Cpu, space: &S, to: &Target) -> Result<u64, Stop>
+    ensures { result ≡ spec.target_of (spec.state cpu.now (S.memory space.now)) to.now }
+{
+    match to {
+        Target::Relative(displacement) => Ok(relative(cpu, *displacement)),
+        Target::Indirect(at) => read(cpu, space, Width::W64, at),
+    }
+}
+
+pub(crate) fn jump<S: AddressSpace>(mut cpu: Cpu, space: &S, to: &Target) -> Result<Cpu, Stop>
+    ensures { result ≡ spec.cpu_of (spec.jump (spec.state cpu (S.memory space.now)) to.now) }
+{
+    let target = target_of(&cpu, space, to)?;
+    cpu.rip = target;
+    Ok(cpu)
+}
+
+pub(crate) fn jump_if(mut cpu: Cpu, condition: Condition, displacement: u64) -> Cpu
+    ensures { result ≡ spec.jumped cpu condition displacement }
+{
+    if cpu.flags.holds(condition) {
+        cpu.rip = relative(&cpu, displacement);
+    }
+    cpu
+}
+
+pub(crate) fn condition_byte(flags: Flags, condition: Condition) -> u64
+    ensures { result ≡ spec.condition_byte flags condition }
+{
+    if flags.holds(condition) { 1 } else { 0 }
+}
+
+pub(crate) fn call<S: AddressSpace>(cpu: Cpu, space: &mut S, to: &Target) -> Result<Cpu, Stop>
+    ensures answer { result ≡ spec.cpu_of (spec.call (spec.state cpu (S.memory space.old)) to.now) }
+    ensures memory { S.memory space.new ≡ spec.memory_after (S.memory space.old) (spec.call (spec.state cpu (S.memory space.old)) to.now) }
+{
+    let target = target_of(&cpu, space, to)?;
+    let mut after = push(cpu, space, cpu.rip)?;
+    after.rip = target;
+    Ok(after)
+}

@@ -1,9 +1,0 @@
-use Rattle.std.proofs.Common.{◌≡◌, ◌/◌, ◌^◌, ℕ, get_or}
-use Rattle.x64_memory.specs.Pages.{put_in_page}
-use Rattle.x64_memory.proofs.map_space.put_number.Given as goal
-
-abbrev pub invariant-loop-i : goal.invariant-loop-i
-invariant-loop-i l = record {
-  places : (j : ℕ) → get_or l.bytes j 0 ≡ put_in_page l.fn.bytes l.from l.i l.value j;
-  rest : l.rest ≡ l.value / 256 ^ l.i;
-}

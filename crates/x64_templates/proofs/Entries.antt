@@ -1,0 +1,85 @@
+-- A function's frame where it begins, and a call's return address.
+use Rattle.std.proofs.Common.{◌≡◌, ℕ, zero, suc, ◌+◌, ◌-◌, ◌*◌, ◌%◌, ◌^◌, ◌<◌, ◌≤◌, Bool, true, false, refl, sym, subst, ◌∙◌, arith, inl, inr}
+use Rattle.std.specs.Prelude.{◌⊎◌}
+use Rattle.std.proofs.Math.Nat.{pow-suc}
+use Rattle.std.proofs.lemmas.Bool.{cases_lt}
+use Rattle.flat_memory.specs.Memory.{Memory, next, may_write, number_at, with_number}
+use Rattle.flat_memory.proofs.Stores.{untouched, stored_is_loaded}
+use Rattle.flat_memory.specs.declared.protection.Rights.{Rights}
+use Rattle.flat_memory.specs.declared.protection.Rights.TheVariants.{Nothing, Read, ReadWrite}
+use Rattle.flat_memory.specs.Protections.{is_readable, is_writable}
+use Rattle.linear_code.specs.BodyState.{BodyState, Counts}
+use Rattle.template_code.specs.declared.layout.Layout.{Layout}
+use Rattle.x64_templates.specs.Straight.{MachineView}
+use Rattle.x64_templates.specs.Frames.{slot_at, InTemporaries, InLocals, KeepsBase, KeepsReserved, Agrees, HoldsBody, IsBytes}
+use Rattle.x64_templates.specs.CallStates.{pushed, HasBelow, HasBack}
+use Rattle.x64_templates.proofs.Accesses.{digits}
+use Rattle.x64_templates.proofs.Returns.{Outlasts}
+use Rattle.x64_templates.specs.EntryStates.{body_in_memory}
+
+-- ---- numbers in memory
+
+digit_more : (x p n : ℕ) → x < 256 → n < p → x + 256 * n < p * 256
+digit_more x p n lx ln = omega arith
+
+pub number_small : (m : Memory) (n at : ℕ) → IsBytes m → number_at m.byte n at < 256 ^ n
+unfolding number_at
+number_small m zero at h = omega arith
+number_small m (suc n) at h =
+    let r = number_small m n (next at) h in
+    let e : 256 ^ suc n ≡ 256 ^ n * 256 = pow-suc 256 n in
+    subst (λ p. m.byte at + 256 * number_at m.byte n (next at) < p) (sym e) (digit_more (m.byte at) (256 ^ n) (number_at m.byte n (next at)) (h at) r)
+
+-- wherever a frame has its room, it holds a body
+pub holds_body_in_memory : (y : Layout) (n : Counts) (reserved : ℕ → Bool) (sp base : ℕ) (m source : Memory) → IsBytes m → KeepsBase y.base sp base m → ((a : ℕ) → InTemporaries y n sp a ⊎ InLocals y n base a → may_write m a ≡ true) → ((a : ℕ) → InTemporaries y n sp a ⊎ InLocals y n base a → reserved a ≡ true) → KeepsReserved y.base sp reserved → Agrees reserved m source → HoldsBody y n reserved sp base m (body_in_memory y sp base m source)
+holds_body_in_memory y n reserved sp base m source bytes base_kept writable own own_base agrees = record {
+  slot = λ x is. refl;
+  small = λ x is. number_small m 8 (slot_at y sp base x) bytes;
+  kept_base = base_kept;
+  writable = writable;
+  own = own;
+  own_base = own_base;
+  source = agrees;
+}
+
+-- ---- the return address of a call
+
+pub beside : (m : Memory) (sp back a : ℕ) → 8 ≤ sp → sp < 2 ^ 63 → (a + 8 < sp) ⊎ (sp ≤ a) → with_number m.byte 8 (sp - 8) back a ≡ m.byte a
+beside m sp back a le high out = untouched m.byte 8 (sp - 8) back a (λ i lt e. absurd (elim out [ inl l ↦ omega arith | inr r ↦ omega arith ])) (omega arith)
+
+pub pushed_outlasts : (reserved : ℕ → Bool) (v : MachineView) (sp back : ℕ) → HasBelow v.memory sp 8 → Outlasts reserved sp v.memory (pushed v sp back).memory
+pushed_outlasts reserved v sp back below = record { byte = λ a own up. beside v.memory sp back a below.enough below.high (inr up); protection = λ a own. refl }
+
+free_beside : (reserved : ℕ → Bool) (sp a : ℕ) → ((x : ℕ) → sp ≤ x + 8 → x < sp → reserved x ≡ true) → reserved a ≡ false → (a + 8 < sp) ⊎ (sp ≤ a)
+free_beside reserved sp a own r = elim (cases_lt (a + 8) sp) [
+  | inl lt ↦ inl lt
+  | inr le ↦ elim (cases_lt a sp) [
+    | inl lt ↦ let x : true ≡ false = sym (own a le lt) ∙ r in absurd cc
+    | inr ge ↦ inr ge
+  ]
+]
+
+pub pushed_agrees : (reserved : ℕ → Bool) (v : MachineView) (source : Memory) (sp back : ℕ) → HasBelow v.memory sp 8 → ((a : ℕ) → sp ≤ a + 8 → a < sp → reserved a ≡ true) → Agrees reserved v.memory source → Agrees reserved (pushed v sp back).memory source
+pushed_agrees reserved v source sp back below own agrees = record {
+  byte = λ a r. beside v.memory sp back a below.enough below.high (free_beside reserved sp a own r) ∙ agrees.byte a r;
+  protection = agrees.protection;
+  guard = agrees.guard;
+}
+
+readable : (r : Rights) → is_writable r ≡ true → is_readable r ≡ true
+readable Nothing e = absurd cc
+readable Read e = absurd cc
+readable ReadWrite e = refl
+
+pub pushed_back : (v : MachineView) (sp back : ℕ) → HasBelow v.memory sp 8 → back < 2 ^ 64 → HasBack (pushed v sp back).memory (sp - 8) back
+pushed_back v sp back below small =
+    let le = below.enough in
+    let high = below.high in
+    record {
+      number = stored_is_loaded v.memory.byte 8 (sp - 8) back (omega arith) (omega arith) ∙ (let q : back % 256 ^ 8 ≡ back = omega arith in q);
+      readable = λ a p q. readable (v.memory.protection a).rights (below.writable a (omega arith) (omega arith));
+      small = small;
+    }
+
+pub pushed_bytes : (v : MachineView) (sp back : ℕ) → IsBytes v.memory → IsBytes (pushed v sp back).memory
+pushed_bytes v sp back h a = digits v.memory.byte 8 (sp - 8) back a (h a)

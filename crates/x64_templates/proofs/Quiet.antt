@@ -1,0 +1,79 @@
+-- No template but that of a return has an instruction that could stand in an epilogue, and sizes of slots are fixed where they stand 128 bytes or more above their base.
+use Rattle.std.proofs.Common.{◌≡◌, ℕ, zero, suc, ◌+◌, ◌-◌, ◌^◌, ◌<◌, ◌≤◌, Bool, true, false, ltb, leb, List, [], ◌∷◌, ◌++◌, refl, ap, ◌∙◌, arith}
+use Rattle.std.specs.Prelude.{◌&&◌, ◌||◌}
+use Rattle.std.proofs.lemmas.Bool.{lt-leb, le-ltb}
+use Rattle.seh_num.specs.declared.width.Width.TheVariants.{W8, W64}
+use Rattle.x64_instr.specs.declared.register.Reg.TheVariants.{Rax, Rsp}
+use Rattle.x64_instr.specs.declared.instruction.Instr.{Instr}
+use Rattle.x64_encode.specs.Chosen.{is_signed, modrm}
+use Rattle.linear_code.specs.declared.slot.Slot.{Slot}
+use Rattle.linear_code.specs.declared.slot.Slot.TheVariants.{Temporary}
+use Rattle.c_operations.specs.declared.field.Field.{Field}
+use Rattle.c_operations.specs.declared.field.Field.TheVariants.{ExceptionCode, ExceptionFlags, NumberParameters, ExceptionInformation}
+use Rattle.linear_code.specs.declared.instruction.Instruction.{Instruction}
+use Rattle.linear_code.specs.declared.instruction.Instruction.TheVariants as instructions
+use Rattle.linear_code.specs.BodyState.{Counts}
+use Rattle.linear_code.specs.Meaning.{IsSlot, HasSlots}
+use Rattle.template_code.specs.declared.layout.Layout.{Layout}
+use Rattle.x64_templates.specs.Straight.{begins_epilogue}
+use Rattle.template_code.specs.Bytes.{size, sizes}
+use Rattle.template_code.specs.Slots.{fetched, put_back, fetch, keep, operands_code, finish_code}
+use Rattle.template_code.specs.Jumps.{compare_zero, jump_equal, test_code}
+use Rattle.template_code.specs.Calls.{begin_call, call_code, passing_code, field_load}
+use Rattle.template_code.specs.Template.{Links, template}
+use Rattle.x64_templates.specs.Frames.{HasRoom}
+use Rattle.x64_templates.proofs.Encoded.{Fine, fine_both, fetch_fine, keep_fine, operands_fine, finish_fine}
+use Rattle.x64_templates.specs.Quiet.{AllQuiet, IsReturn}
+
+quiet_of : (is : List Instr) → Fine is → AllQuiet is
+quiet_of [] f = tt
+quiet_of (i ∷ is) f = (f.2, quiet_of is f.3)
+
+quiet_both : (a b : List Instr) → AllQuiet a → AllQuiet b → AllQuiet (a ++ b)
+quiet_both [] b p q = q
+quiet_both (i ∷ a) b p q = (p.0, quiet_both a b p.1 q)
+
+call_quiet : (y : Layout) (n : Counts) (sp base : ℕ) (to : Slot) (first at target : ℕ) → HasRoom y n sp base → IsSlot n to → AllQuiet (call_code y to first at target)
+call_quiet y n sp base to first at target room is = quiet_both (begin_call y first at target) (keep y to) (refl, (refl, (refl, (refl, (refl, tt))))) (quiet_of (keep y to) (keep_fine y n sp base to room is))
+
+passing_quiet : (y : Layout) (first i n : ℕ) → AllQuiet (passing_code y first i n)
+passing_quiet y first i zero = tt
+passing_quiet y first i (suc n) = (refl, (refl, passing_quiet y first (i + 1) n))
+
+field_quiet : (field : Field) → begins_epilogue (field_load field) ≡ false
+field_quiet ExceptionCode = refl
+field_quiet ExceptionFlags = refl
+field_quiet NumberParameters = refl
+field_quiet (ExceptionInformation k) = refl
+
+pub template_quiet : (k : Links) (y : Layout) (n : Counts) (sp base : ℕ) (at : ℕ) (instruction : Instruction) → HasRoom y n sp base → HasSlots n instruction → (IsReturn instruction → ⊥) → AllQuiet (template k y at instruction)
+template_quiet k y n sp base at (instructions.Compute to o first second) room has plain = quiet_of (operands_code y o first second ++ finish_code y o to) (fine_both (operands_code y o first second) (finish_code y o to) (operands_fine y n sp base o first second room has.1 has.2) (finish_fine y n sp base o to room has.0))
+template_quiet k y n sp base at (instructions.Information to field) room has plain = (refl, (refl, (field_quiet field, quiet_of (keep y to) (keep_fine y n sp base to room has))))
+template_quiet k y n sp base at (instructions.Jump label) room has plain = (refl, tt)
+template_quiet k y n sp base at (instructions.JumpIfZero slot label) room has plain = quiet_both (fetch y Rax slot) (compare_zero ∷ jump_equal (at + sizes (test_code y slot) + 6) (k.label label) ∷ []) (quiet_of (fetch y Rax slot) (fetch_fine y n sp base true slot room has)) (refl, (refl, tt))
+template_quiet k y n sp base at (instructions.Landing to) room has plain = quiet_of (keep y to) (keep_fine y n sp base to room has)
+template_quiet k y n sp base at (instructions.Call function first count) room has plain =
+    let passing = passing_code y first 4 (count - 4) in
+    quiet_both passing (call_code y (Temporary first) first (at + sizes passing) (k.function function)) (passing_quiet y first 4 (count - 4)) (call_quiet y n sp base (Temporary first) first (at + sizes passing) (k.function function) room (let few = has.0 in omega arith))
+template_quiet k y n sp base at (instructions.CallBuiltIn function first) room has plain = call_quiet y n sp base (Temporary first) first at (k.known function) room (omega arith)
+template_quiet k y n sp base at (instructions.CallFinally funclet) room has plain = (refl, (refl, (refl, tt)))
+template_quiet k y n sp base at (instructions.LocalUnwind label) room has plain = (refl, (refl, (refl, tt)))
+template_quiet k y n sp base at instructions.Separator room has plain = (refl, tt)
+template_quiet k y n sp base at (instructions.Return from) room has plain = absurd (plain tt)
+
+-- ---- sizes
+
+-- no displacement of a byte
+far : (d : ℕ) → 128 ≤ d → d < 2 ^ 31 → is_signed W8 W64 d ≡ false
+far d le lt =
+    let e : ltb d 128 ≡ false = le-ltb d 128 le in
+    let f : leb (2 ^ 64 - 128) d ≡ false = lt-leb (2 ^ 64 - 128) d (omega arith) in
+    ap (λ (b : Bool). b || (leb (2 ^ 64 - 128) d && ltb d (2 ^ 64))) e ∙ ap (λ (b : Bool). b && ltb d (2 ^ 64)) f
+
+pub fetched_size : (d : ℕ) → 128 ≤ d → d < 2 ^ 31 → size (fetched Rax Rsp d) ≡ 8
+unfolding size modrm
+fetched_size d le lt = let e = far d le lt in rw e refl
+
+pub put_back_size : (d : ℕ) → 128 ≤ d → d < 2 ^ 31 → size (put_back Rsp d) ≡ 8
+unfolding size modrm
+put_back_size d le lt = let e = far d le lt in rw e refl

@@ -1,0 +1,50 @@
+-- Worked templates, computed down to bytes.
+use Rattle.std.proofs.Common.{◌≡◌, List, [], ◌∷◌, length, None, Some, refl}
+use Rattle.x64_encode.specs.Chosen.{modrm}
+use Rattle.template_code.specs.Bytes.{spelled}
+use Rattle.c_operations.specs.declared.operation.Size.TheVariants.{Int}
+use Rattle.c_operations.specs.declared.operation.Signedness.TheVariants.{Signed}
+use Rattle.c_operations.specs.declared.operation.Pure.TheVariants as pures
+use Rattle.c_operations.specs.declared.operation.Operation.TheVariants as operations
+use Rattle.linear_code.specs.declared.slot.Slot.TheVariants.{Local, Temporary}
+use Rattle.linear_code.specs.declared.instruction.Instruction.{Instruction}
+use Rattle.linear_code.specs.declared.instruction.Instruction.TheVariants as instructions
+use Rattle.template_code.specs.declared.layout.Layout.{Layout}
+use Rattle.template_code.specs.Bytes.{size}
+use Rattle.template_code.specs.Slots.{compute_code}
+use Rattle.template_code.specs.Jumps.{jump_code}
+use Rattle.template_code.specs.Template.{template_size, offset_of}
+
+-- a function with temporaries from 128 and locals from 256 above RSP, and a block of it that keeps the base 32 above its own
+function_layout : Layout
+function_layout = record { base = None; pointers = 0; locals = 256; temporaries = 128; frame = 312 }
+
+block_layout : Layout
+block_layout = record { base = Some 32; pointers = 40; locals = 256; temporaries = 128; frame = 152 }
+
+-- mov rax,[rsp+256] ; mov rcx,[rsp+128] ; add eax,ecx ; mov [rsp+264],rax
+sum_of_slots : spelled (compute_code function_layout (Local 1) (operations.Pure (pures.Add Int)) (Local 0) (Temporary 0)) ≡ 0x48 ∷ 0x8B ∷ 0x84 ∷ 0x24 ∷ 0x00 ∷ 0x01 ∷ 0x00 ∷ 0x00 ∷ 0x48 ∷ 0x8B ∷ 0x8C ∷ 0x24 ∷ 0x80 ∷ 0x00 ∷ 0x00 ∷ 0x00 ∷ 0x01 ∷ 0xC8 ∷ 0x48 ∷ 0x89 ∷ 0x84 ∷ 0x24 ∷ 0x08 ∷ 0x01 ∷ 0x00 ∷ 0x00 ∷ []
+unfolding function_layout modrm
+sum_of_slots = refl
+
+-- mov rax,[rsp+128] twice ; cdq ; idiv ecx ; mov [rsp+128],rax
+quotient_of_slots : spelled (compute_code block_layout (Temporary 0) (operations.Divide Signed Int) (Temporary 0) (Temporary 1)) ≡ 0x48 ∷ 0x8B ∷ 0x84 ∷ 0x24 ∷ 0x80 ∷ 0x00 ∷ 0x00 ∷ 0x00 ∷ 0x48 ∷ 0x8B ∷ 0x8C ∷ 0x24 ∷ 0x88 ∷ 0x00 ∷ 0x00 ∷ 0x00 ∷ 0x99 ∷ 0xF7 ∷ 0xF9 ∷ 0x48 ∷ 0x89 ∷ 0x84 ∷ 0x24 ∷ 0x80 ∷ 0x00 ∷ 0x00 ∷ 0x00 ∷ []
+unfolding block_layout modrm
+quotient_of_slots = refl
+
+-- in a block a local is reached through the base: mov rax,[rsp+32] ; mov rax,[rax+256], and so for each slot
+local_of_a_block : length (compute_code block_layout (Local 0) (operations.Pure pures.First) (Local 0) (Local 1)) ≡ 6
+unfolding block_layout
+local_of_a_block = refl
+
+-- jmp to itself
+jump_to_itself : spelled (jump_code 0x140000000 0x140000000) ≡ 0xE9 ∷ 0xFB ∷ 0xFF ∷ 0xFF ∷ 0xFF ∷ []
+jump_to_itself = refl
+
+-- a body of three instructions, and where the third is placed
+some_code : List Instruction
+some_code = instructions.Separator ∷ instructions.Jump 0 ∷ instructions.Separator ∷ []
+
+third_at : offset_of function_layout some_code 2 ≡ 6
+unfolding some_code template_size size
+third_at = refl

@@ -1,0 +1,157 @@
+-- Several instructions of a body, one after another.
+use Rattle.std.proofs.Common.{◌≡◌, ℕ, zero, suc, ◌+◌, ◌<◌, ◌≤◌, Bool, true, false, cond, List, [], ◌∷◌, length, get_or, Option, Some, None, refl, sym, ap, subst, ◌∙◌, arith, inl, inr, zero-add}
+use Rattle.std.specs.Prelude.{◌⊎◌}
+use Rattle.std.proofs.lemmas.Bool.{cases_lt, lt-ltb, le-ltb}
+use Rattle.flat_memory.specs.declared.protection.Protection.{Protection}
+use Rattle.flat_memory.specs.Protections.{is_writable}
+use Rattle.flat_memory.specs.Memory.{Memory}
+use Rattle.x64_instr.specs.declared.instruction.Instr.{Instr}
+use Rattle.x64_machine.specs.declared.cpu.Flags.{Flags}
+use Rattle.x64_machine.specs.Effect.{State}
+use Rattle.host_model.specs.HostStep.{host}
+use Rattle.host_model.specs.Machine as machines
+use Rattle.x64_templates.specs.Placed.{IsCodeAt}
+use Rattle.template_code.specs.Bytes.{spelled}
+use Rattle.x64_templates.proofs.PlacedCode.{reaches_then}
+use Rattle.linear_code.specs.declared.instruction.Instruction.{Instruction}
+use Rattle.linear_code.specs.declared.instruction.Instruction.TheVariants as instructions
+use Rattle.linear_code.specs.BodyState.{BodyState}
+use Rattle.linear_code.specs.Meaning.{Step, Next, JumpsTo, Faults, ReservedAccess, NeedsDispatcher, step, BodyPoint, continued, run}
+use Rattle.x64_templates.specs.Straight.{MachineView, machine}
+use Rattle.template_code.specs.Bytes.{sizes}
+use Rattle.template_code.specs.Template.{Links, template_size, offset_of, code_from}
+use Rattle.x64_templates.specs.Frames.{InTemporaries, InLocals}
+use Rattle.x64_templates.specs.Runs.{HasCode, Frame, Roomy, Holds, ChangesOwn, ReachesBody}
+use Rattle.x64_templates.specs.InstructionRuns.{RunsTo, InstructionDone, RunsAllTo, IsLinked}
+use Rattle.template_code.proofs.Sizes.{sizes_spelled}
+use Rattle.x64_templates.proofs.Cells.{sp_of}
+use Rattle.x64_templates.proofs.Bodies.{changes_then}
+use Rattle.template_code.proofs.Sizes.{body_sizes, offset_next}
+use Rattle.x64_templates.proofs.InstructionRuns.{body_instruction_run}
+
+-- ---- code stays where it is
+
+stands_stays : (p : Frame) (m m' : Memory) (b : BodyState) (at : ℕ) (bytes : List ℕ) → ChangesOwn p m m' → Holds p m b → ((a : ℕ) → at ≤ a → a < at + length bytes → p.reserved a ≡ true) → IsCodeAt m at bytes → IsCodeAt m' at bytes
+stands_stays p m m' b at [] c h own s = tt
+stands_stays p m m' b at (x ∷ bytes) c h own s =
+    let off = λ (is : InTemporaries p.layout p.counts p.sp at ⊎ InLocals p.layout p.counts p.base at). let q : true ≡ false = sym (h.writable at is) ∙ s.2 in let z : ⊥ = absurd cc in z in (
+      c.byte at (own at (omega arith) (omega arith)) off ∙ s.0,
+      ap (λ (f : ℕ → Protection). (f at).execute) c.protection ∙ s.1,
+      ap (λ (f : ℕ → Protection). is_writable (f at).rights) c.protection ∙ s.2,
+      stands_stays p m m' b (at + 1) bytes c h (λ a l u. own a (omega arith) (omega arith)) s.3,
+    )
+
+pub code_stays : (p : Frame) (m m' : Memory) (b : BodyState) (at : ℕ) (code : List Instr) → ChangesOwn p m m' → Holds p m b → ((a : ℕ) → at ≤ a → a < at + sizes code → p.reserved a ≡ true) → HasCode m at code → HasCode m' at code
+code_stays p m m' b at code c h own s =
+    let e = sizes_spelled code in
+    record { stands = stands_stays p m m' b at (spelled code) c h (λ a l u. own a l (omega arith)) s.stands; placed = s.placed }
+
+pub linked_stays : (p : Frame) (k : Links) (m m' : Memory) (start : ℕ) (body : List Instruction) (b : BodyState) → ChangesOwn p m m' → Holds p m b → IsLinked p k m start body → IsLinked p k m' start body
+linked_stays p k m m' start body b c h l =
+    let e = body_sizes k p.layout start body in
+    record {
+      code = code_stays p m m' b start (code_from k p.layout start body) c h (λ a lo hi. l.own a lo (omega arith)) l.code;
+      labels = l.labels;
+      small = l.small;
+      high = l.high;
+      own = l.own;
+      slots = l.slots;
+    }
+
+-- ---- one stretch after another
+
+pub follows_then : (p : Frame) (m n : ℕ) (s : State) (mid to : ℕ) (others : List ℕ) (b c : BodyState) → (g : ReachesBody p m s mid others b) → ReachesBody p n (machine g.after mid g.flags) to others c → ReachesBody p (m + n) s to others c
+follows_then p m n s mid to others b c g r = record {
+  after = r.after;
+  flags = r.flags;
+  comes = reaches_then m n s (machine g.after mid g.flags) (machine r.after to r.flags) g.comes r.comes;
+  rest = r.rest;
+  holds = r.holds;
+  changes = changes_then p.layout p.counts p.reserved p.sp p.base s.memory g.after.memory r.after.memory g.changes r.changes;
+}
+
+nothing_made : (p : Frame) (v : MachineView) (at : ℕ) (f : Flags) (b : BodyState) → Holds p v.memory b → RunsAllTo p 0 (machine v at f) at v.rest b
+nothing_made p v at f b h = record {
+  turns = 0;
+  least = omega arith;
+  most = omega arith;
+  follows = record {
+    after = v;
+    flags = f;
+    comes = λ functions more shown. ap (λ j. machines.run functions [] j (host (machine v at f)) shown) (zero-add more);
+    rest = refl;
+    holds = h;
+    changes = record { protection = refl; byte = λ a own out. refl; bytes = λ x. x };
+  };
+}
+
+made_then : (p : Frame) (n : ℕ) (v : MachineView) (at : ℕ) (f : Flags) (mid to : ℕ) (b c : BodyState) → (g : RunsTo p (machine v at f) mid v.rest b) → RunsAllTo p n (machine g.follows.after mid g.follows.flags) to v.rest c → RunsAllTo p (suc n) (machine v at f) to v.rest c
+made_then p n v at f mid to b c g r =
+    let l1 = g.least in let m1 = g.most in let l2 = r.least in let m2 = r.most in
+    record { turns = g.turns + r.turns; least = omega arith; most = omega arith; follows = follows_then p g.turns r.turns (machine v at f) mid to v.rest b c g.follows r.follows }
+
+-- ---- the body
+
+abbrev Runs : Frame → Links → ℕ → List Instruction → ℕ → Type 0
+Runs p k start body n = (number : ℕ) (v : MachineView) (f : Flags) (b : BodyState) (last : ℕ) (c : BodyState) → IsLinked p k v.memory start body → sp_of v ≡ p.sp → Holds p v.memory b → run p.reserved body n number b ≡ Some (last, c) → RunsAllTo p n (machine v (start + offset_of p.layout body number) f) (start + offset_of p.layout body last) v.rest c
+
+same_point : (x y : ℕ) (b c : BodyState) → ◌≡◌ {A = Option BodyPoint} (Some (x, b)) (Some (y, c)) → (x ≡ y) × (b ≡ c)
+same_point x y b c e = (ap (number_of x) e, ap (body_of b) e)
+  where
+    number_of : ℕ → Option BodyPoint → ℕ
+    number_of d None = d
+    number_of d (Some q) = q.0
+
+    body_of : BodyState → Option BodyPoint → BodyState
+    body_of d None = d
+    body_of d (Some q) = q.1
+
+after_line : (p : Frame) (k : Links) (start : ℕ) (body : List Instruction) (n number : ℕ) (v : MachineView) (f : Flags) (b : BodyState) (last : ℕ) (c : BodyState) (instruction : Instruction) (s : Step) → Runs p k start body n → IsLinked p k v.memory start body → sp_of v ≡ p.sp → Holds p v.memory b → number < length body → instruction ≡ get_or body number instructions.Separator → InstructionDone p k v (start + offset_of p.layout body number) f b instruction s → continued (run p.reserved body n) number s ≡ Some (last, c) → RunsAllTo p (suc n) (machine v (start + offset_of p.layout body number) f) (start + offset_of p.layout body last) v.rest c
+after_line p k start body n number v f b last c instruction (Next d) rec l at h lt is done e =
+    let y = p.layout in
+    let here = start + offset_of y body number in
+    let next : here + template_size y instruction ≡ start + offset_of y body (number + 1) = step_to (number + 1) (omega arith) in
+    let g : RunsTo p (machine v here f) (start + offset_of y body (number + 1)) v.rest d = subst (λ a. RunsTo p (machine v here f) a v.rest d) next done in
+    go g e
+  where
+    step_to : (j : ℕ) → j ≡ suc number → start + offset_of p.layout body number + template_size p.layout instruction ≡ start + offset_of p.layout body j
+    step_to j q =
+        let o = offset_next p.layout body number instructions.Separator lt in
+        let t : template_size p.layout instruction ≡ template_size p.layout (get_or body number instructions.Separator) = ap (template_size p.layout) is in
+        let z : offset_of p.layout body j ≡ offset_of p.layout body (suc number) = ap (offset_of p.layout body) q in
+        omega arith
+
+    go : (g : RunsTo p (machine v (start + offset_of p.layout body number) f) (start + offset_of p.layout body (number + 1)) v.rest d) → run p.reserved body n (number + 1) d ≡ Some (last, c) → RunsAllTo p (suc n) (machine v (start + offset_of p.layout body number) f) (start + offset_of p.layout body last) v.rest c
+    go g e = made_then p n v (start + offset_of p.layout body number) f (start + offset_of p.layout body (number + 1)) (start + offset_of p.layout body last) d c g
+        (subst (λ r. RunsAllTo p n (machine g.follows.after (start + offset_of p.layout body (number + 1)) g.follows.flags) (start + offset_of p.layout body last) r c) g.follows.rest
+        (rec (number + 1) g.follows.after g.follows.flags d last c (linked_stays p k v.memory g.follows.after.memory start body b g.follows.changes h l) (ap (λ (r : List ℕ). get_or r 1 0) g.follows.rest ∙ at) g.follows.holds e))
+after_line p k start body n number v f b last c instruction (JumpsTo d label) rec l at h lt is done e = go (subst (λ a. RunsTo p (machine v (start + offset_of p.layout body number) f) a v.rest d) (l.labels label) done) e
+  where
+    go : (g : RunsTo p (machine v (start + offset_of p.layout body number) f) (start + offset_of p.layout body label) v.rest d) → run p.reserved body n label d ≡ Some (last, c) → RunsAllTo p (suc n) (machine v (start + offset_of p.layout body number) f) (start + offset_of p.layout body last) v.rest c
+    go g e = made_then p n v (start + offset_of p.layout body number) f (start + offset_of p.layout body label) (start + offset_of p.layout body last) d c g
+        (subst (λ r. RunsAllTo p n (machine g.follows.after (start + offset_of p.layout body label) g.follows.flags) (start + offset_of p.layout body last) r c) g.follows.rest
+        (rec label g.follows.after g.follows.flags d last c (linked_stays p k v.memory g.follows.after.memory start body b g.follows.changes h l) (ap (λ (r : List ℕ). get_or r 1 0) g.follows.rest ∙ at) g.follows.holds e))
+after_line p k start body n number v f b last c instruction (Faults code access) rec l at h lt is done e = absurd cc
+after_line p k start body n number v f b last c instruction (ReservedAccess a) rec l at h lt is done e = absurd cc
+after_line p k start body n number v f b last c instruction NeedsDispatcher rec l at h lt is done e = absurd cc
+
+-- n instructions of a body take n to 16 n turns, and lead where they lead
+pub body_runs : (p : Frame) (k : Links) (start : ℕ) (body : List Instruction) (n : ℕ) → Roomy p → (number : ℕ) (v : MachineView) (f : Flags) (b : BodyState) (last : ℕ) (c : BodyState) → IsLinked p k v.memory start body → sp_of v ≡ p.sp → Holds p v.memory b → run p.reserved body n number b ≡ Some (last, c) → RunsAllTo p n (machine v (start + offset_of p.layout body number) f) (start + offset_of p.layout body last) v.rest c
+unfolding run
+body_runs p k start body zero room number v f b last c l at h e =
+    let q = same_point number last b c e in
+    subst (λ x. RunsAllTo p 0 (machine v (start + offset_of p.layout body number) f) (start + offset_of p.layout body x) v.rest c) q.0
+    (subst (λ d. RunsAllTo p 0 (machine v (start + offset_of p.layout body number) f) (start + offset_of p.layout body number) v.rest d) q.1
+    (nothing_made p v (start + offset_of p.layout body number) f b h))
+body_runs p k start body (suc n) room number v f b last c l at h e =
+    let instruction = get_or body number instructions.Separator in
+    let s = step p.reserved instruction b in
+    elim (cases_lt number (length body)) [
+      | inl lt ↦
+          let there : continued (run p.reserved body n) number s ≡ Some (last, c) = sym (ap (λ (t : Bool). cond t (continued (run p.reserved body n) number s) None) (lt-ltb number (length body) lt)) ∙ e in
+          after_line p k start body n number v f b last c instruction s (body_runs p k start body n room) l at h lt refl
+          (body_instruction_run p k start body number v f b room l.labels l.small l.high lt (l.slots number lt) at h l.code) there
+      | inr ge ↦
+          let never : ◌≡◌ {A = Option BodyPoint} None (Some (last, c)) = sym (ap (λ (t : Bool). cond t (continued (run p.reserved body n) number s) None) (le-ltb number (length body) ge)) ∙ e in
+          absurd cc
+    ]

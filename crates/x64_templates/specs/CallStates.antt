@@ -1,0 +1,43 @@
+-- What a call, an entry and a return come to.
+use Rattle.std.specs.Prelude.{◌≡◌, ℕ, ◌+◌, ◌-◌, ◌^◌, ◌<◌, ◌≤◌, true, List, [], ◌++◌, set, get_or}
+use Rattle.seh_num.specs.declared.event.Event.{Event}
+use Rattle.flat_memory.specs.Memory.{Memory, may_read, may_write, number_at, with_number, with_bytes}
+use Rattle.x64_machine.specs.Effect.{State}
+use Rattle.virtual_unwind.specs.CallerOf.{Functions}
+use Rattle.host_model.specs.HostStep.{host}
+use Rattle.host_model.specs.Machine.{run}
+use Rattle.x64_templates.specs.Straight.{MachineView}
+
+-- RSP
+abbrev pub sp_of : MachineView → ℕ
+sp_of v = get_or v.rest 1 0
+
+abbrev pub with_sp : List ℕ → ℕ → List ℕ
+with_sp rest sp = set rest 1 sp
+
+-- R8 and R9 stand sixth and seventh of the registers from RBX on
+abbrev pub with_four : MachineView → ℕ → ℕ → ℕ → ℕ → MachineView
+with_four v a b c d = record { rax = v.rax; rcx = a; rdx = b; rest = set (set v.rest 5 c) 6 d; memory = v.memory }
+
+-- the return address is below what was RSP
+abbrev pub pushed : MachineView → ℕ → ℕ → MachineView
+pushed v sp back = record { rax = v.rax; rcx = v.rcx; rdx = v.rdx; rest = with_sp v.rest (sp - 8); memory = with_bytes v.memory (with_number v.memory.byte 8 (sp - 8) back) }
+
+-- n bytes below RSP may be written
+pub record HasBelow (m : Memory) (sp n : ℕ) : Type 0 where
+  pub enough : n ≤ sp
+  pub high : sp < 2 ^ 63
+  pub writable : (a : ℕ) → sp ≤ a + n → a < sp → may_write m a ≡ true
+
+-- where a function begins: the return address is at RSP
+pub record HasBack (m : Memory) (sp back : ℕ) : Type 0 where
+  pub number : number_at m.byte 8 sp ≡ back
+  pub readable : (a : ℕ) → sp ≤ a → a < sp + 8 → may_read m a ≡ true
+  pub small : back < 2 ^ 64
+
+-- the run continues as from the other state, and shows these events on the way
+abbrev pub ReachesShowing : ℕ → State → State → List Event → Type 0
+ReachesShowing turns s t events = (f : Functions) (more : ℕ) (shown : List Event) → run f [] (turns + more) (host s) shown ≡ run f [] more (host t) (shown ++ events)
+
+abbrev pub moved : MachineView → ℕ → MachineView
+moved v sp = record { rax = v.rax; rcx = v.rcx; rdx = v.rdx; rest = with_sp v.rest sp; memory = v.memory }

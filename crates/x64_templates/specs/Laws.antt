@@ -1,0 +1,113 @@
+-- What holds of templates wherever they are placed.
+use Rattle.std.specs.Prelude.{◌≡◌, ℕ, suc, ◌+◌, ◌^◌, ◌<◌, ◌≤◌, Bool, List, ◌++◌, length, get_or, Option, Some}
+use Rattle.seh_num.specs.declared.event.Code.{Code}
+use Rattle.flat_memory.specs.Memory.{Memory}
+use Rattle.x64_machine.specs.declared.cpu.Flags.{Flags}
+use Rattle.c_operations.specs.declared.operation.Operation.{Operation}
+use Rattle.c_operations.specs.Performed.{performed}
+use Rattle.linear_code.specs.declared.slot.Slot.{Slot}
+use Rattle.linear_code.specs.declared.instruction.Instruction.{Instruction}
+use Rattle.linear_code.specs.declared.instruction.Instruction.TheVariants as instructions
+use Rattle.linear_code.specs.BodyState.{BodyState, Counts}
+use Rattle.linear_code.specs.Meaning.{Faults, HasSlots, step, run}
+use Rattle.template_code.specs.declared.layout.Layout.{Layout}
+use Rattle.x64_templates.specs.Straight.{MachineView, machine}
+use Rattle.template_code.specs.Bytes.{sizes}
+use Rattle.template_code.specs.Slots.{operands_code, finish_code, compute_code}
+use Rattle.template_code.specs.Jumps.{IsNear}
+use Rattle.template_code.specs.Calls.{return_at, begin_call, return_code, function_entry}
+use Rattle.template_code.specs.Template.{Links, template, template_size, body_size, code_from, offset_of}
+use Rattle.x64_templates.specs.Frames.{HasRoom}
+use Rattle.x64_templates.specs.Implements.{HasOperands}
+use Rattle.x64_templates.specs.CallStates.{sp_of, with_sp, HasBelow, HasBack}
+use Rattle.x64_templates.specs.Runs.{HasCode, Frame, Roomy, Holds, IsThere, ReachesBody, Finished, Computed}
+use Rattle.x64_templates.specs.InstructionRuns.{RunsAllTo, IsLinked}
+use Rattle.x64_templates.specs.EntryStates.{with_arguments, InRegisters, OnStack, IsFunction, body_in_memory, FreshFrame}
+use Rattle.x64_templates.specs.Returned.{CallBegun, Returned}
+use Rattle.x64_templates.specs.Retries.{FaultsAfter, Retried}
+use Rattle.x64_templates.specs.Quiet.{AllQuiet, IsReturn}
+
+-- ---- operations and bodies
+
+-- an operation's code does what the operation means: the result is in its slot, or its machine instruction faults
+abbrev pub OperationsRun : Type 0
+OperationsRun =
+    (p : Frame) (to : Slot) (o : Operation) (first second : Slot) (v : MachineView) (rip : ℕ) (f : Flags) (b : BodyState)
+    → Roomy p → IsThere p to → IsThere p first → IsThere p second → sp_of v ≡ p.sp → Holds p v.memory b
+    → HasCode v.memory rip (compute_code p.layout to o first second)
+    → Computed p to o first second v rip f b (step p.reserved (instructions.Compute to o first second) b)
+
+-- so many instructions of a body, none of which needs the dispatcher, are run in at least as many and at most 16 times as many turns
+abbrev pub BodiesRun : Type 0
+BodiesRun =
+    (p : Frame) (k : Links) (start : ℕ) (body : List Instruction) (n : ℕ) → Roomy p
+    → (number : ℕ) (v : MachineView) (f : Flags) (b : BodyState) (last : ℕ) (c : BodyState)
+    → IsLinked p k v.memory start body → sp_of v ≡ p.sp → Holds p v.memory b
+    → run p.reserved body n number b ≡ Some (last, c)
+    → RunsAllTo p n (machine v (start + offset_of p.layout body number) f) (start + offset_of p.layout body last) v.rest c
+
+-- ---- faults
+
+-- where a body's instruction faults, so does the machine's, with both operands in their registers
+abbrev pub BodiesFault : Type 0
+BodiesFault =
+    (p : Frame) (k : Links) (start : ℕ) (body : List Instruction) (n number : ℕ) (v : MachineView) (f : Flags) (b : BodyState) (last : ℕ) (c : BodyState)
+    (to first second : Slot) (o : Operation) (code : Code) (access : Option (Bool × ℕ))
+    → Roomy p → IsLinked p k v.memory start body → sp_of v ≡ p.sp → Holds p v.memory b
+    → run p.reserved body n number b ≡ Some (last, c) → last < length body
+    → get_or body last instructions.Separator ≡ instructions.Compute to o first second
+    → step p.reserved (instructions.Compute to o first second) c ≡ Faults code access
+    → FaultsAfter p n v (start + offset_of p.layout body number) f
+    (start + offset_of p.layout body last + sizes (operands_code p.layout o first second))
+    o (c.slots first) (c.slots second) code access c
+
+-- the operation is made again with the same operands, in whatever memory there is by then
+abbrev pub FaultsAreRetried : Type 0
+FaultsAreRetried =
+    (p : Frame) (k : Links) (start : ℕ) (body : List Instruction) (number : ℕ) (v : MachineView) (f : Flags) (b : BodyState)
+    (to first second : Slot) (o : Operation) (x y : ℕ)
+    → Roomy p → IsLinked p k v.memory start body → number < length body
+    → get_or body number instructions.Separator ≡ instructions.Compute to o first second
+    → x < 2 ^ 64 → y < 2 ^ 64 → HasOperands o x y v → sp_of v ≡ p.sp → Holds p v.memory b
+    → Retried p (start + offset_of p.layout body (suc number)) to o v
+    (start + offset_of p.layout body number + sizes (operands_code p.layout o first second)) f b
+    (performed p.reserved o x y b.memory)
+
+-- ---- calls
+
+-- a call comes to the callee's first byte, with the first four arguments in their registers and the return address at RSP
+abbrev pub CallsBegin : Type 0
+CallsBegin =
+    (p : Frame) (first : ℕ) (v : MachineView) (rip to : ℕ) (f : Flags) (b : BodyState)
+    → Roomy p → first + 4 ≤ p.counts.temporaries → sp_of v ≡ p.sp → Holds p v.memory b → HasBelow v.memory p.sp 8
+    → IsNear (return_at p.layout first rip) to → HasCode v.memory rip (begin_call p.layout first rip to)
+    → CallBegun p first v rip to f b
+
+-- a function's entry makes its frame and brings its arguments to the locals of their numbers
+abbrev pub FunctionsEnter : Type 0
+FunctionsEnter =
+    (p : Frame) (count : ℕ) (arguments : ℕ → ℕ) (v : MachineView) (source : Memory) (rip : ℕ) (f : Flags)
+    → Roomy p → IsFunction p → count ≤ p.counts.locals → length v.rest ≡ 13
+    → sp_of v ≡ p.sp + p.layout.frame → p.layout.frame < 2 ^ 31
+    → FreshFrame p v.memory source → InRegisters v arguments → OnStack p v.memory count arguments
+    → HasCode v.memory rip (function_entry p.layout count)
+    → ReachesBody p (length (function_entry p.layout count)) (machine v rip f)
+    (rip + sizes (function_entry p.layout count)) (with_sp v.rest p.sp)
+    (record { slots = with_arguments (body_in_memory p.layout p.sp p.base v.memory source).slots arguments 0 count; memory = source })
+
+-- a return leaves the number in RAX and gives the frame back
+abbrev pub BodiesReturn : Type 0
+BodiesReturn =
+    (p : Frame) (from : Slot) (v : MachineView) (back rip : ℕ) (f : Flags) (b : BodyState)
+    → Roomy p → IsThere p from → length v.rest ≡ 13 → sp_of v ≡ p.sp → p.layout.frame < 2 ^ 31
+    → Holds p v.memory b → HasBack v.memory (p.sp + p.layout.frame) back
+    → HasCode v.memory rip (return_code p.layout from)
+    → Returned (length (return_code p.layout from)) v (p.sp + p.layout.frame + 8) back (b.slots from) rip f
+
+-- ---- bytes
+
+-- no template but that of a return has an instruction with which an epilogue could begin
+abbrev pub TemplatesAreQuiet : Type 0
+TemplatesAreQuiet =
+    (k : Links) (y : Layout) (n : Counts) (sp base : ℕ) (at : ℕ) (instruction : Instruction)
+    → HasRoom y n sp base → HasSlots n instruction → (IsReturn instruction → ⊥) → AllQuiet (template k y at instruction)

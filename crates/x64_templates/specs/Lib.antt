@@ -1,0 +1,13 @@
+pub mod Straight
+pub mod Frames
+pub mod Placed
+pub mod CallStates
+pub mod Implements
+pub mod Runs
+pub mod InstructionRuns
+pub mod EntryStates
+pub mod Exceptions
+pub mod Returned
+pub mod Retries
+pub mod Quiet
+pub mod Laws

@@ -1,0 +1,88 @@
+-- What a run comes to where the code of an operation is placed.
+use Rattle.std.specs.Prelude.{◌≡◌, ℕ, ◌+◌, Bool, List, [], Option, Err, length}
+use Rattle.seh_num.specs.declared.event.Code.{Code}
+use Rattle.seh_num.specs.declared.event.Event.{Event}
+use Rattle.flat_memory.specs.Memory.{Memory}
+use Rattle.x64_instr.specs.declared.instruction.Instr.{Instr}
+use Rattle.x64_machine.specs.declared.cpu.Flags.{Flags}
+use Rattle.x64_machine.specs.declared.outcome.Stop.TheVariants as stops
+use Rattle.x64_machine.specs.Effect.{State}
+use Rattle.x64_machine.specs.Effect as machines
+use Rattle.virtual_unwind.specs.CallerOf.{Functions}
+use Rattle.host_model.specs.HostStep.{host}
+use Rattle.host_model.specs.Machine.{run}
+use Rattle.x64_templates.specs.Placed.{IsCodeAt, IsPlaced}
+use Rattle.template_code.specs.Bytes.{spelled}
+use Rattle.linear_code.specs.declared.slot.Slot.{Slot}
+use Rattle.c_operations.specs.declared.operation.Operation.{Operation}
+use Rattle.linear_code.specs.BodyState.{BodyState, Counts, with_slot}
+use Rattle.c_operations.specs.Performed.{Outcome, Gives, Raises, Undefined}
+use Rattle.linear_code.specs.Meaning.{Step, Next, Faults, IsSlot}
+use Rattle.template_code.specs.declared.layout.Layout.{Layout}
+use Rattle.x64_templates.specs.Straight.{MachineView, machine}
+use Rattle.template_code.specs.Bytes.{sizes}
+use Rattle.template_code.specs.Slots.{operands_code, finish_code, compute_code}
+use Rattle.x64_templates.specs.Frames.{HasRoom, HoldsBody, Changes}
+use Rattle.x64_templates.specs.Implements.{HasOperands}
+
+-- after this many turns the run continues as from the other state, whatever was shown and however many turns follow
+abbrev pub Reaches : ℕ → State → State → Type 0
+Reaches turns s t = (f : Functions) (more : ℕ) (shown : List Event) → run f [] (turns + more) (host s) shown ≡ run f [] more (host t) shown
+
+-- the code is placed here
+pub record HasCode (m : Memory) (at : ℕ) (code : List Instr) : Type 0 where
+  pub stands : IsCodeAt m at (spelled code)
+  pub placed : IsPlaced at (at + sizes code)
+
+-- where a frame is, and what its memory is agreed on
+pub record Frame : Type 0 where
+  pub layout : Layout
+  pub counts : Counts
+  pub reserved : ℕ → Bool
+  pub sp : ℕ
+  pub base : ℕ
+
+abbrev pub Roomy : Frame → Type 0
+Roomy p = HasRoom p.layout p.counts p.sp p.base
+
+abbrev pub Holds : Frame → Memory → BodyState → Type 0
+Holds p m b = HoldsBody p.layout p.counts p.reserved p.sp p.base m b
+
+abbrev pub ChangesOwn : Frame → Memory → Memory → Type 0
+ChangesOwn p old new = Changes p.layout p.counts p.reserved p.sp p.base old new
+
+abbrev pub IsThere : Frame → Slot → Type 0
+IsThere p x = IsSlot p.counts x
+
+-- the run comes to this address, with this body in the frame and all registers but RAX, RCX and RDX as they were
+pub record ReachesBody (p : Frame) (turns : ℕ) (s : State) (to : ℕ) (others : List ℕ) (b : BodyState) : Type 0 where
+  pub after : MachineView
+  pub flags : Flags
+  pub comes : Reaches turns s (machine after to flags)
+  pub rest : after.rest ≡ others
+  pub holds : Holds p after.memory b
+  pub changes : ChangesOwn p s.memory after.memory
+
+-- the run comes to an instruction that faults, with both operands in their registers and nothing in memory changed
+pub record ReachesFault (turns : ℕ) (v : MachineView) (rip : ℕ) (flags : Flags) (at : ℕ) (o : Operation) (first second : ℕ) (code : Code) (access : Option (Bool × ℕ)) : Type 0 where
+  pub stopped : MachineView
+  pub left : Flags
+  pub comes : Reaches turns (machine v rip flags) (machine stopped at left)
+  pub waits : HasOperands o first second stopped
+  pub rest : stopped.rest ≡ v.rest
+  pub memory : stopped.memory ≡ v.memory
+  pub fault : machines.step (machine stopped at left) ≡ Err (stops.Fault code access)
+
+-- ---- the second half: with its operands in their registers an operation is made, or refused; it is made so when it is made again too, whatever the memory is by then
+
+abbrev pub Finished : Frame → Operation → Slot → MachineView → ℕ → Flags → BodyState → Outcome → Type 0
+Finished p o to v at flags b (Gives x m) = ReachesBody p (length (finish_code p.layout o to)) (machine v at flags) (at + sizes (finish_code p.layout o to)) v.rest (record { slots = with_slot b.slots to x; memory = m })
+Finished p o to v at flags b (Raises code access) = machines.step (machine v at flags) ≡ Err (stops.Fault code access)
+Finished p o to v at flags b (Undefined a) = Unit {0}
+
+-- ---- a whole operation
+
+abbrev pub Computed : Frame → Slot → Operation → Slot → Slot → MachineView → ℕ → Flags → BodyState → Step → Type 0
+Computed p to o first second v rip flags b (Next c) = ReachesBody p (length (compute_code p.layout to o first second)) (machine v rip flags) (rip + sizes (compute_code p.layout to o first second)) v.rest c
+Computed p to o first second v rip flags b (Faults code access) = ReachesFault (length (operands_code p.layout o first second)) v rip flags (rip + sizes (operands_code p.layout o first second)) o (b.slots first) (b.slots second) code access
+Computed p to o first second v rip flags b _ = Unit {0}

@@ -1,0 +1,72 @@
+-- Instructions one after another.
+use Rattle.std.specs.Prelude.{◌≡◌, ℕ, ◌+◌, Bool, true, false, nat_eq, List, [], ◌∷◌, Ok}
+use Rattle.flat_memory.specs.Memory.{Memory}
+use Rattle.x64_instr.specs.declared.register.Reg.{Reg}
+use Rattle.x64_instr.specs.declared.operand.RegisterOrMemory.{RegisterOrMemory}
+use Rattle.x64_instr.specs.declared.operand.RegisterOrMemory.TheVariants as places
+use Rattle.x64_instr.specs.declared.instruction.Target.{Target}
+use Rattle.x64_instr.specs.declared.instruction.Target.TheVariants.{Relative, Indirect}
+use Rattle.x64_instr.specs.declared.instruction.Instr.{Instr}
+use Rattle.x64_instr.specs.declared.instruction.Instr.TheVariants as instrs
+use Rattle.x64_instr.specs.Registers.{number}
+use Rattle.template_code.specs.Bytes.{size, sizes}
+use Rattle.x64_machine.specs.declared.cpu.Flags.{Flags}
+use Rattle.x64_machine.specs.Effect.{State, Answer, ◌>>=◌, with_rip, effect}
+
+-- an instruction after which the next one is run
+abbrev pub is_straight : Instr → Bool
+is_straight (instrs.JumpIf c d) = false
+is_straight (instrs.Jump to) = false
+is_straight (instrs.Call to) = false
+is_straight instrs.Return = false
+is_straight i = true
+
+abbrev pub AllStraight : List Instr → Type 0
+AllStraight [] = Unit {0}
+AllStraight (i ∷ is) = (is_straight i ≡ true) × AllStraight is
+
+-- what could stand in an epilogue (Microsoft x64 ABI, "Prolog and epilog"): a change of RSP by arithmetic or LEA, a POP, a return, a jump through memory or a register
+abbrev pub is_rsp : Reg → Bool
+is_rsp r = nat_eq (number r) 4
+
+abbrev pub is_rsp_place : RegisterOrMemory → Bool
+is_rsp_place (places.Register r) = is_rsp r
+is_rsp_place (places.Memory m) = false
+
+abbrev pub is_indirect : Target → Bool
+is_indirect (Relative d) = false
+is_indirect (Indirect at) = true
+
+abbrev pub begins_epilogue : Instr → Bool
+begins_epilogue (instrs.Arithmetic o w to from) = is_rsp_place to
+begins_epilogue (instrs.LoadAddress w to m) = is_rsp to
+begins_epilogue (instrs.Jump to) = is_indirect to
+begins_epilogue (instrs.Pop r) = true
+begins_epilogue instrs.Return = true
+begins_epilogue i = false
+
+-- what instructions do, one after another
+unfoldable pub effects : List Instr → State → Answer State
+effects [] s = Ok s
+effects (i ∷ is) s = effect (with_rip s (s.cpu.rip + size i)) i >>= effects is
+
+-- what templates work on: RAX, RCX, RDX, the other registers by their numbers from RBX on, and the memory
+pub record MachineView : Type 0 where
+  pub rax : ℕ
+  pub rcx : ℕ
+  pub rdx : ℕ
+  pub rest : List ℕ
+  pub memory : Memory
+
+abbrev pub machine : MachineView → ℕ → Flags → State
+machine v rip flags = record { cpu = record { registers = v.rax ∷ v.rcx ∷ v.rdx ∷ v.rest; rip = rip; flags = flags }; memory = v.memory }
+
+-- from any place, with any flags, the instructions lead from one view to another
+abbrev pub Executes : List Instr → MachineView → MachineView → Type 0
+Executes is v w = (rip : ℕ) (flags : Flags) → (after : Flags) × (effects is (machine v rip flags) ≡ Ok (machine w (rip + sizes is) after))
+
+-- the instructions leave this number in RAX and this memory, and change no register but RAX, RCX and RDX
+pub record Yields (is : List Instr) (v : MachineView) (x : ℕ) (m : Memory) : Type 0 where
+  pub rcx : ℕ
+  pub rdx : ℕ
+  pub does : Executes is v (record { rax = x; rcx = rcx; rdx = rdx; rest = v.rest; memory = m })
