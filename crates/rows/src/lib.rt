@@ -16,4 +16,6 @@ mod runs;
 #[cfg(test)]
 mod streams;
 #[cfg(test)]
+mod texts;
+#[cfg(test)]
 mod views;

@@ -1,4 +1,4 @@
 pub mod Shown
 pub mod Inputs
-pub mod Texts
+pub mod Images
 pub mod Headline

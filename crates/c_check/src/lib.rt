@@ -1,0 +1,4 @@
+//! Whole programs checked.
+#![tactic(auto)]
+
+pub mod check;
