@@ -6,6 +6,8 @@ mod compiles;
 #[cfg(test)]
 mod dispatches;
 #[cfg(test)]
+mod handlers;
+#[cfg(test)]
 mod image;
 #[cfg(test)]
 mod linked;
