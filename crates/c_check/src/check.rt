@@ -1,4 +1,4 @@
-//! Programs checked.
+//! Which programs are accepted, and what each is.
 
 ghost use Rattle.std.specs.Prelude.{◌≡◌, IfOk, IfErr, map};
 ghost use Rattle.c_check.specs.Refusals.{IsRefusal};
@@ -11,30 +11,36 @@ ghost use Rattle.c_syntax.specs.Program.{external_declaration};
 use c_checked::checked::Checked;
 use c_expressions::least::Broken;
 use c_syntax::declaration::ExternalDeclaration;
-use std::alloc::Global;
+use std::alloc::{AllocError, Global};
 
 /// Why a program isn't accepted.
 #[derive(Clone, Copy, Drop)]
 pub enum CheckErr {
-    /// It breaks this rule, the least of those that it breaks.
+    /// The least fault: a rule that it breaks, and the place in bytes from the text's begin.
     Broken(Broken),
-    /// There was too little memory.
+    /// Memory ran out.
     Memory,
 }
 
-/// The checked program that a program within the limits is; names are read from its text.
-pub fn check(
-    alloc: Global,
-    text: &[u8],
-    external_declarations: &[ExternalDeclaration],
-) -> Result<Checked, CheckErr>
-    requires within { Within text.now (map external_declaration external_declarations.now) }
-    ensures accepted { IfOk result (λ p. Accepted text.now (map external_declaration external_declarations.now)) }
-    ensures resolved { IfOk result (λ p. program p ≡ (resolve text.now (map external_declaration external_declarations.now)).program) }
-    ensures refused { IfErr result (λ e. IsRefusal e text.now (map external_declaration external_declarations.now)) }
+impl From<AllocError> for CheckErr {
+    fn from(_e: AllocError) -> CheckErr {
+        CheckErr::Memory
+    }
+}
+
+/// The checked program that a program is: names resolved, types and conversions explicit, with the proof
+/// that it is sound.
+pub fn check(alloc: Global, text: &[u8], xs: &[ExternalDeclaration]) -> Result<Checked, CheckErr>
+    requires { Within text.now (map external_declaration xs.now) }
+    // It breaks no rule.
+    ensures accepted { IfOk result (λ p. Accepted text.now (map external_declaration xs.now)) }
+    // It is what the text is resolved to.
+    ensures resolved { IfOk result (λ p. program p ≡ (resolve text.now (map external_declaration xs.now)).program) }
+    // A refusal names the least fault; or memory runs out.
+    ensures refused { IfErr result (λ e. IsRefusal e text.now (map external_declaration xs.now)) }
 {
     let _alloc = alloc;
     let _text = text;
-    let _list = external_declarations;
+    let _list = xs;
     Err(CheckErr::Memory)
 }

@@ -1,5 +1,5 @@
 -- The refusal of a text by its characters, and by its tokens.
-use Rattle.std.proofs.Common.{◌≡◌, ◌×◌, ◌⊎◌, inl, inr, ℕ, List, subst, refl}
+use Rattle.std.proofs.Common.{◌≡◌, ◌⊎◌, inl, inr, ℕ, List, subst, sym}
 use Rattle.c_lex.specs.declared.lexing.LexErr.{LexErr}
 use Rattle.c_lex.specs.declared.lexing.LexErr.TheVariants as lexes
 use Rattle.c_lex.specs.declared.token.Token.{Token}
