@@ -1,0 +1,171 @@
+//! Raises, filters, `__finally` blocks and handlers.
+
+ghost use Rattle.std.specs.Prelude.{◌≡◌, ◌++◌, [], ◌∷◌, List, IfOk, map};
+ghost use Rattle.seh_num.specs.declared.event.Event.{Event as Event'};
+ghost use Rattle.c_checked.specs.Expression as tree;
+ghost use Rattle.c_checked.specs.Statement as trees;
+ghost use Rattle.c_model.specs.Tasks as tasks;
+ghost use Rattle.source_machine.specs.Frames as frames;
+ghost use Rattle.source_machine.specs.Machine as model;
+ghost use Rattle.c_interpret.specs.Views as views;
+ghost use Rattle.c_interpret.specs.Views.{place_of};
+ghost use Rattle.c_interpret.specs.Machines.{machine_of, shown_after};
+
+use crate::calls::low_signed;
+use crate::expressions::evaluates;
+use crate::frame::{Finish, Frame, Next, Outcome, SequelFrame, StatementFrame};
+use crate::machine::{Machine, Step, quiet, showing, too_deep};
+use crate::place::{Exception, Handler, Place};
+use crate::task::Task;
+use c_checked::expression::Expr;
+use c_checked::statement::{Filter, Stmt};
+use c_model::ended::Ended;
+use seh_num::event::{Code, Event};
+use std::alloc::AllocError;
+
+fn unhandled<'p>(exception: Exception) -> Next<'p>
+    ensures { (m : model.Machine) → model.unhandled m (views.exception_of exception) ≡ model.go_on m (views.next_of result) }
+{
+    Next::Over(Finish::Ended(Ended::Unhandled(Code(exception.code))))
+}
+
+impl<'p> Machine<'p> {
+    /// An exception is raised: the handlers are asked, the innermost first.
+    pub fn raise(&self, exception: Exception, place: Place) -> Step<'p>
+        ensures { (x : frames.Next) (es : List Event') → model.begun (machine_of self.now x es) (tasks.Raise (views.exception_of exception)) (place_of place) ≡ machine_of self.now (views.next_of result.next) (shown_after es result.shown) }
+    {
+        let event = Event::Raise {
+            code: Code(exception.code),
+            flag: exception.flag,
+            access: exception.access,
+        };
+        showing(event, Next::Search(self.handlers.len(), exception, place))
+    }
+
+    /// A filter begins, in the activation of its `__try`.
+    pub fn run_filter(
+        &mut self,
+        number: u32,
+        value: &'p Expr,
+        handler: Handler<'p>,
+        exception: Exception,
+        place: Place,
+    ) -> Result<Step<'p>, AllocError>
+        ensures { IfOk result (λ step. (x : frames.Next) (es : List Event') → model.begun (machine_of self.old x es) (tasks.RunFilter number (tree.expression value.now) (views.handler_of handler.entry) (views.exception_of exception)) (place_of place) ≡ machine_of self.new (views.next_of step.next) (shown_after es step.shown)) }
+    {
+        let _ = place;
+        if self.is_deep(2) {
+            return Ok(quiet(too_deep()));
+        }
+        self.held = self.held.saturating_add(1);
+        self.push(Frame::Statement(StatementFrame::EndsFilter))?;
+        let inside = Place {
+            activation: handler.activation,
+            exception,
+            abnormal: handler.abnormal,
+        };
+        Ok(showing(Event::Filter(number), evaluates(value, inside)))
+    }
+
+    /// A `__finally` block begins.
+    pub fn run_finally(
+        &mut self,
+        number: u32,
+        last: &'p [Stmt],
+        abnormal: bool,
+        place: Place,
+    ) -> Result<Step<'p>, AllocError>
+        ensures { IfOk result (λ step. (x : frames.Next) (es : List Event') → model.begun (machine_of self.old x es) (tasks.RunFinally number (trees.statements (map trees.statement last.now)) abnormal) (place_of place) ≡ machine_of self.new (views.next_of step.next) (shown_after es step.shown)) }
+    {
+        if self.is_deep(2) {
+            return Ok(quiet(too_deep()));
+        }
+        self.held = self.held.saturating_add(1);
+        self.push(Frame::Sequel(SequelFrame::EndsFinally))?;
+        let inside = Place {
+            activation: place.activation,
+            exception: place.exception,
+            abnormal,
+        };
+        Ok(showing(
+            Event::Finally { number, abnormal },
+            Next::Proceed(last, inside),
+        ))
+    }
+
+    /// A `__try` with an `__except` is entered.
+    pub fn guard(
+        &mut self,
+        body: &'p [Stmt],
+        filter: &'p Filter,
+        block: &'p [Stmt],
+        place: Place,
+    ) -> Result<Next<'p>, AllocError>
+        ensures { IfOk result (λ next. (x : frames.Next) (es : List Event') → model.guarded (machine_of self.old x es) (trees.statements (map trees.statement body.now)) (trees.filter filter.now) (trees.statements (map trees.statement block.now)) (place_of place) ≡ machine_of self.new (views.next_of next) es) }
+    {
+        self.handlers.push(Handler {
+            filter,
+            activation: place.activation,
+            abnormal: place.abnormal,
+        })?;
+        self.stack.push(Frame::Lands(self.held, block, place))?;
+        Ok(Next::Start(Task::TryBody(body), place))
+    }
+
+    /// The handlers below a number are asked, the highest first.
+    pub fn search(
+        &mut self,
+        level: usize,
+        exception: Exception,
+        place: Place,
+    ) -> Result<Next<'p>, AllocError>
+        ensures { IfOk result (λ next. (x : frames.Next) (es : List Event') → model.searched (machine_of self.old x es) level (views.exception_of exception) (place_of place) ≡ machine_of self.new (views.next_of next) es) }
+    {
+        if level == 0 {
+            return Ok(unhandled(exception));
+        }
+        let level = level - 1;
+        match self.handlers.get(level).copied() {
+            None => Ok(unhandled(exception)),
+            Some(handler) => self.ask(handler, level, exception, place),
+        }
+    }
+
+    /// A handler is asked.
+    fn ask(
+        &mut self,
+        handler: Handler<'p>,
+        level: usize,
+        exception: Exception,
+        place: Place,
+    ) -> Result<Next<'p>, AllocError>
+        ensures { IfOk result (λ next. (x : frames.Next) (es : List Event') → model.asked_by (machine_of self.old x es) (views.handler_of handler.entry).filter (views.handler_of handler.entry) level (views.exception_of exception) (place_of place) ≡ machine_of self.new (views.next_of next) es) }
+    {
+        match handler.filter {
+            Filter::Always => Ok(Next::Give(Outcome::Target(level, exception))),
+            Filter::Funclet { number, value } => {
+                self.push(Frame::Statement(StatementFrame::IsAnswered(
+                    level, exception, place,
+                )))?;
+                let task = Task::RunFilter {
+                    number: *number,
+                    value,
+                    handler,
+                    exception,
+                };
+                Ok(Next::Start(task, place))
+            }
+        }
+    }
+
+    /// A filter has answered.
+    pub fn answer(&mut self, value: u64) -> Step<'p>
+        ensures { (p : Rattle.c_checked.specs.Program.Program) (x : frames.Next) (es : List Event') → model.done p (machine_of self.old x es) (frames.Answer value) ≡ machine_of self.new (views.next_of result.next) (shown_after es result.shown) }
+    {
+        self.held = self.held.saturating_sub(1);
+        showing(
+            Event::Answer(low_signed(value)),
+            Next::Give(Outcome::Value(value)),
+        )
+    }
+}
