@@ -1,6 +1,9 @@
 //! Calls.
 
 ghost use Rattle.std.specs.Prelude.{◌≡◌, ◌++◌, [], ◌∷◌, List, IfOk, slice_get, option_map, get_or};
+ghost use Rattle.seh_num.specs.declared.width.Width.TheVariants.{W32};
+ghost use Rattle.seh_num.specs.Widths.{signed};
+ghost use Rattle.c_model.specs.Expressions.{raised};
 ghost use Rattle.seh_num.specs.declared.event.Event.{Event as Event'};
 ghost use Rattle.c_checked.specs.Program as programs;
 ghost use Rattle.c_checked.specs.Whole as whole;
@@ -8,7 +11,7 @@ ghost use Rattle.source_machine.specs.Frames as frames;
 ghost use Rattle.source_machine.specs.Machine as model;
 ghost use Rattle.c_interpret.specs.Views as views;
 ghost use Rattle.c_interpret.specs.Views.{place_of};
-ghost use Rattle.c_interpret.specs.Machines.{machine_of, shown_after};
+ghost use Rattle.c_interpret.specs.Machines.{machine_of, shown_after, Moved, Showed};
 
 use crate::activations::with_zeros;
 use crate::frame::{Callee, Frame, Next, Outcome, SequelFrame};
@@ -37,14 +40,14 @@ fn value_at(values: &[u64], index: usize) -> u64
 
 /// The low 32 bits, as a signed number.
 pub fn low_signed(value: u64) -> i32
-    ensures { result ≡ Rattle.seh_num.specs.Widths.signed Rattle.seh_num.specs.declared.width.Width.TheVariants.W32 value }
+    ensures { result ≡ signed W32 value }
 {
     ((value % (1 << 32)) as u32).cast_signed()
 }
 
 /// What a call of RaiseException raises.
 fn raised(code: u64, flags: u64) -> Exception
-    ensures { views.exception_of result ≡ Rattle.c_model.specs.Expressions.raised code flags }
+    ensures { views.exception_of result ≡ raised code flags }
 {
     Exception {
         code: (code % (1 << 32)) as u32,
@@ -56,7 +59,7 @@ fn raised(code: u64, flags: u64) -> Exception
 impl<'p> Machine<'p> {
     /// A function's body in an activation of its own.
     fn enter(&mut self, function: &'p Function, values: Vec<u64>) -> Result<Next<'p>, AllocError>
-        ensures { IfOk result (λ next. (x : frames.Next) (es : List Event') → model.entered (machine_of self.old x es) (Rattle.std.specs.Prelude.Some (programs.function function.now)) values.items ≡ machine_of self.new (views.next_of next) es) }
+        ensures { IfOk result (Moved self.old self.new (λ m. model.entered m (Some (programs.function function.now)) values.items)) }
     {
         if self.is_deep(1) {
             return Ok(too_deep());
@@ -80,7 +83,7 @@ impl<'p> Machine<'p> {
         values: &[u64],
         place: Place,
     ) -> Result<Step<'p>, AllocError>
-        ensures { IfOk result (λ step. (x : frames.Next) (es : List Event') → model.built_in (machine_of self.old x es) function values.now (place_of place) ≡ machine_of self.new (views.next_of step.next) (shown_after es step.shown)) }
+        ensures { IfOk result (Showed self.old self.new (λ m. model.built_in m function values.now (place_of place))) }
     {
         let first = value_at(values, 0);
         let second = value_at(values, 1);
@@ -109,7 +112,7 @@ impl<'p> Machine<'p> {
         values: Vec<u64>,
         place: Place,
     ) -> Result<Step<'p>, AllocError>
-        ensures { IfOk result (λ step. (x : frames.Next) (es : List Event') → model.called (whole.program program.now) (machine_of self.old x es) (views.callee_of callee) values.items (place_of place) ≡ machine_of self.new (views.next_of step.next) (shown_after es step.shown)) }
+        ensures { IfOk result (Showed self.old self.new (λ m. model.called (whole.program program.now) m (views.callee_of callee) values.items (place_of place))) }
     {
         match callee {
             Callee::BuiltIn(function) => self.call_built_in(function, &values, place),

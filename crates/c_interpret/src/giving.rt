@@ -1,13 +1,15 @@
 //! Results go to what waits for them.
 
 ghost use Rattle.std.specs.Prelude.{◌≡◌, ◌++◌, [], ◌∷◌, List, IfOk, map, nat_eq};
+ghost use Rattle.c_model.specs.State as states;
+ghost use Rattle.c_model.specs.Tasks as tasks;
 ghost use Rattle.seh_num.specs.declared.event.Event.{Event as Event'};
 ghost use Rattle.c_checked.specs.Statement as trees;
 ghost use Rattle.source_machine.specs.Frames as frames;
 ghost use Rattle.source_machine.specs.Machine as model;
 ghost use Rattle.c_interpret.specs.Views as views;
 ghost use Rattle.c_interpret.specs.Views.{place_of, plan_of};
-ghost use Rattle.c_interpret.specs.Machines.{machine_of, shown_after};
+ghost use Rattle.c_interpret.specs.Machines.{machine_of, shown_after, Moved, Showed};
 ghost use Rattle.c_interpret.specs.Finished.{resumed_from};
 
 use crate::frame::{
@@ -16,9 +18,7 @@ use crate::frame::{
 };
 use crate::machine::{Machine, Step, quiet, showing};
 use crate::place::{Exception, Place};
-use crate::results::{
-    assignment_plan, body_plan, in_statement_plan, operand_plan, sequel_plan,
-};
+use crate::results::{assignment_plan, body_plan, in_statement_plan, operand_plan, sequel_plan};
 use crate::task::Task;
 use c_checked::statement::Stmt;
 use seh_num::event::{Code, Event};
@@ -26,7 +26,7 @@ use std::alloc::AllocError;
 
 /// A `__finally` block is to run.
 fn finally<'p>(number: u32, last: &'p [Stmt], abnormal: bool, place: Place) -> Next<'p>
-    ensures { views.next_of result ≡ frames.Start (Rattle.c_model.specs.Tasks.RunFinally number (trees.statements (map trees.statement last.now)) abnormal) (place_of place) }
+    ensures { views.next_of result ≡ frames.Start (tasks.RunFinally number (trees.statements (map trees.statement last.now)) abnormal) (place_of place) }
 {
     Next::Start(
         Task::RunFinally {
@@ -41,7 +41,7 @@ fn finally<'p>(number: u32, last: &'p [Stmt], abnormal: bool, place: Place) -> N
 impl<'p> Machine<'p> {
     /// The end of a call.
     fn leave_call(&mut self, count: usize, how: Outcome) -> Next<'p>
-        ensures { (x : frames.Next) (es : List Event') → model.left_call (machine_of self.old x es) count (views.result_of how) ≡ machine_of self.new (views.next_of result) es }
+        ensures { Moved self.old self.new (λ m. model.left_call m count (views.result_of how)) result }
     {
         self.activations.truncate(count);
         match how {
@@ -60,7 +60,7 @@ impl<'p> Machine<'p> {
         level: usize,
         exception: Exception,
     ) -> Step<'p>
-        ensures { (x : frames.Next) (es : List Event') → model.landed (machine_of self.old x es) held (trees.statements (map trees.statement block.now)) (place_of place) (Rattle.c_model.specs.State.Target level (views.exception_of exception)) ≡ machine_of self.new (views.next_of result.next) (shown_after es result.shown) }
+        ensures { Showed self.old self.new (λ m. model.landed m held (trees.statements (map trees.statement block.now)) (place_of place) (states.Target level (views.exception_of exception))) result }
     {
         if level != self.handlers.len() {
             return quiet(Next::Give(Outcome::Target(level, exception)));
@@ -85,7 +85,7 @@ impl<'p> Machine<'p> {
         place: Place,
         how: Outcome,
     ) -> Result<Next<'p>, AllocError>
-        ensures { IfOk result (λ next. (x : frames.Next) (es : List Event') → model.finished (machine_of self.old x es) number (trees.statements (map trees.statement last.now)) (place_of place) (views.result_of how) ≡ machine_of self.new (views.next_of next) es) }
+        ensures { IfOk result (Moved self.old self.new (λ m. model.finished m number (trees.statements (map trees.statement last.now)) (place_of place) (views.result_of how))) }
     {
         match how {
             Outcome::Normal => Ok(finally(number, last, false, place)),
@@ -103,7 +103,7 @@ impl<'p> Machine<'p> {
         frame: OperandFrame<'p>,
         how: Outcome,
     ) -> Result<Next<'p>, AllocError>
-        ensures { IfOk result (λ next. (x : frames.Next) (es : List Event') → model.resumed (machine_of self.old x es) (frames.Operand (views.operand_frame_of frame.entry)) (views.result_of how) ≡ machine_of self.new (views.next_of next) es) }
+        ensures { IfOk result (Moved self.old self.new (λ m. model.resumed m (frames.Operand (views.operand_frame_of frame.entry)) (views.result_of how))) }
     {
         match how {
             Outcome::Value(value) => {
@@ -120,7 +120,7 @@ impl<'p> Machine<'p> {
         frame: AssignmentFrame<'p>,
         how: Outcome,
     ) -> Result<Next<'p>, AllocError>
-        ensures { IfOk result (λ next. (x : frames.Next) (es : List Event') → model.resumed (machine_of self.old x es) (frames.Assignment (views.assignment_frame_of frame.entry)) (views.result_of how) ≡ machine_of self.new (views.next_of next) es) }
+        ensures { IfOk result (Moved self.old self.new (λ m. model.resumed m (frames.Assignment (views.assignment_frame_of frame.entry)) (views.result_of how))) }
     {
         match how {
             Outcome::Value(value) => self.follow(assignment_plan(frame, value)),
@@ -134,7 +134,7 @@ impl<'p> Machine<'p> {
         frame: StatementFrame<'p>,
         how: Outcome,
     ) -> Result<Next<'p>, AllocError>
-        ensures { IfOk result (λ next. (x : frames.Next) (es : List Event') → model.resumed (machine_of self.old x es) (frames.InStatement (views.statement_frame_of frame.entry)) (views.result_of how) ≡ machine_of self.new (views.next_of next) es) }
+        ensures { IfOk result (Moved self.old self.new (λ m. model.resumed m (frames.InStatement (views.statement_frame_of frame.entry)) (views.result_of how))) }
     {
         match how {
             Outcome::Value(value) => self.follow(in_statement_plan(frame, value)),
@@ -148,7 +148,7 @@ impl<'p> Machine<'p> {
         frame: SequelFrame<'p>,
         how: Outcome,
     ) -> Result<Next<'p>, AllocError>
-        ensures { IfOk result (λ next. (x : frames.Next) (es : List Event') → model.resumed (machine_of self.old x es) (frames.Sequel (views.sequel_frame_of frame.entry)) (views.result_of how) ≡ machine_of self.new (views.next_of next) es) }
+        ensures { IfOk result (Moved self.old self.new (λ m. model.resumed m (frames.Sequel (views.sequel_frame_of frame.entry)) (views.result_of how))) }
     {
         match how {
             Outcome::Normal => self.follow(sequel_plan(frame)),
@@ -157,12 +157,8 @@ impl<'p> Machine<'p> {
     }
 
     /// A result goes to the end of a loop's body.
-    fn resume_body(
-        &mut self,
-        frame: BodyFrame<'p>,
-        how: Outcome,
-    ) -> Result<Next<'p>, AllocError>
-        ensures { IfOk result (λ next. (x : frames.Next) (es : List Event') → model.resumed (machine_of self.old x es) (frames.Body (views.body_frame_of frame.entry)) (views.result_of how) ≡ machine_of self.new (views.next_of next) es) }
+    fn resume_body(&mut self, frame: BodyFrame<'p>, how: Outcome) -> Result<Next<'p>, AllocError>
+        ensures { IfOk result (Moved self.old self.new (λ m. model.resumed m (frames.Body (views.body_frame_of frame.entry)) (views.result_of how))) }
     {
         match how {
             Outcome::Normal => self.follow(body_plan(frame)),
@@ -180,7 +176,7 @@ impl<'p> Machine<'p> {
         place: Place,
         how: Outcome,
     ) -> Step<'p>
-        ensures { (x : frames.Next) (es : List Event') → model.landed (machine_of self.old x es) held (trees.statements (map trees.statement block.now)) (place_of place) (views.result_of how) ≡ machine_of self.new (views.next_of result.next) (shown_after es result.shown) }
+        ensures { Showed self.old self.new (λ m. model.landed m held (trees.statements (map trees.statement block.now)) (place_of place) (views.result_of how)) result }
     {
         match how {
             Outcome::LeftTry => quiet(Next::Give(Outcome::Normal)),
@@ -191,7 +187,7 @@ impl<'p> Machine<'p> {
 
     /// A result goes to a frame that isn't a landing.
     fn resume(&mut self, frame: Frame<'p>, how: Outcome) -> Result<Step<'p>, AllocError>
-        ensures { IfOk result (λ step. (x : frames.Next) (es : List Event') → resumed_from (machine_of self.old x es) (views.frame_of frame.entry) (views.result_of how) ≡ machine_of self.new (views.next_of step.next) (shown_after es step.shown)) }
+        ensures { IfOk result (Showed self.old self.new (λ m. resumed_from m (views.frame_of frame.entry) (views.result_of how))) }
     {
         match frame {
             Frame::Operand(frame) => Ok(quiet(self.resume_operand(frame, how)?)),
@@ -212,7 +208,7 @@ impl<'p> Machine<'p> {
 
     /// A result goes to the newest frame; without one the run is over.
     pub fn give(&mut self, how: Outcome) -> Result<Step<'p>, AllocError>
-        ensures { IfOk result (λ step. (x : frames.Next) (es : List Event') → let m = machine_of self.old x es in model.given m (views.result_of how) m.stack ≡ machine_of self.new (views.next_of step.next) (shown_after es step.shown)) }
+        ensures { IfOk result (Showed self.old self.new (λ m. model.given m (views.result_of how) m.stack)) }
     {
         match self.stack.pop() {
             None => Ok(quiet(Next::Over(Finish::Gave(how)))),

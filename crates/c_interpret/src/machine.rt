@@ -1,12 +1,14 @@
 //! The machine, and what changes it.
 
 ghost use Rattle.std.specs.Prelude.{◌≡◌, ◌++◌, [], ◌∷◌, List, IfOk, OnOk, nat_lt};
+ghost use Rattle.c_model.specs.State as states;
+ghost use Rattle.c_model.specs.declared.ended.Ended.TheVariants as ends;
 ghost use Rattle.seh_num.specs.declared.event.Event.{Event as Event'};
 ghost use Rattle.source_machine.specs.Frames as frames;
 ghost use Rattle.source_machine.specs.Machine as model;
 ghost use Rattle.c_interpret.specs.Views as views;
 ghost use Rattle.c_interpret.specs.Views.{place_of};
-ghost use Rattle.c_interpret.specs.Machines.{machine_of, state_of, shown_after};
+ghost use Rattle.c_interpret.specs.Machines.{machine_of, state_of, shown_after, Moved, Showed};
 
 use crate::activations::Activations;
 use crate::frame::{Finish, Frame, Next, Plan};
@@ -63,7 +65,7 @@ pub fn showing<'p>(event: Event, next: Next<'p>) -> Step<'p>
 
 /// The run is over, since the depth would rise above 1,000: to this depth.
 pub fn too_deep<'p>() -> Next<'p>
-    ensures { views.next_of result ≡ frames.Over (Rattle.c_model.specs.State.End (Rattle.std.specs.Prelude.Some (Rattle.c_model.specs.declared.ended.Ended.TheVariants.Deep 1001))) }
+    ensures { views.next_of result ≡ frames.Over (states.End (Some (ends.Deep 1001))) }
 {
     Next::Over(Finish::Ended(Ended::Deep {
         depth: GREATEST_DEPTH + 1,
@@ -89,7 +91,7 @@ impl<'p> Machine<'p> {
 
     /// What a plan does.
     pub fn follow(&mut self, plan: Plan<'p>) -> Result<Next<'p>, AllocError>
-        ensures { IfOk result (λ next. (x : frames.Next) (es : List Event') → model.follow (machine_of self.old x es) (views.plan_of plan.entry) ≡ machine_of self.new (views.next_of next) es) }
+        ensures { IfOk result (Moved self.old self.new (λ m. model.follow m (views.plan_of plan.entry))) }
     {
         match plan {
             Plan::Then(next) => Ok(next),
@@ -102,7 +104,7 @@ impl<'p> Machine<'p> {
 
     /// A task's step.
     pub fn start(&mut self, task: Task<'p>, place: Place) -> Next<'p>
-        ensures { (x : frames.Next) (es : List Event') → model.started (machine_of self.old x es) (views.task_of task.entry) (place_of place) self.old.steps_left ≡ machine_of self.new (views.next_of result) es }
+        ensures { Moved self.old self.new (λ m. model.started m (views.task_of task.entry) (place_of place) self.old.steps_left) result }
     {
         if self.steps_left == 0 {
             return Next::Over(Finish::OutOfSteps);

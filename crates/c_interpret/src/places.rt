@@ -9,7 +9,7 @@ ghost use Rattle.source_machine.specs.Machine as model;
 ghost use Rattle.source_machine.specs.Plans as plans;
 ghost use Rattle.c_interpret.specs.Views as views;
 ghost use Rattle.c_interpret.specs.Views.{place_of};
-ghost use Rattle.c_interpret.specs.Machines.{machine_of, state_of};
+ghost use Rattle.c_interpret.specs.Machines.{machine_of, state_of, Moved, Showed};
 ghost use Rattle.c_interpret.specs.Finished.{finished};
 
 use crate::frame::{AssignmentFrame, Finish, Frame, Next, Outcome, Plan, SequelFrame};
@@ -36,23 +36,13 @@ fn load_plan<'p>(access: Access, address: u64, place: Place) -> Plan<'p>
 fn store_plan<'p>(access: Access, address: u64, value: u64, place: Place) -> Plan<'p>
     ensures { views.plan_of result ≡ plans.store_plan access address value (place_of place) }
 {
-    Plan::Then(Next::Operate(
-        Operation::Store(access.width),
-        address,
-        value,
-        place,
-    ))
+    Plan::Then(Next::Operate(Operation::Store(access.width), address, value, place))
 }
 
 impl<'p> Machine<'p> {
     /// The memory of a place that was located is read.
-    fn load(
-        &mut self,
-        access: Access,
-        address: u64,
-        place: Place,
-    ) -> Result<Next<'p>, AllocError>
-        ensures { IfOk result (λ next. (x : frames.Next) (es : List Event') → model.follow (machine_of self.old x es) (plans.load_plan access address (place_of place)) ≡ machine_of self.new (views.next_of next) es) }
+    fn load(&mut self, access: Access, address: u64, place: Place) -> Result<Next<'p>, AllocError>
+        ensures { IfOk result (Moved self.old self.new (λ m. model.follow m (plans.load_plan access address (place_of place)))) }
     {
         self.follow(load_plan(access, address, place))
     }
@@ -64,7 +54,7 @@ impl<'p> Machine<'p> {
         address: u64,
         place: Place,
     ) -> Result<Next<'p>, AllocError>
-        ensures { IfOk result (λ next. (x : frames.Next) (es : List Event') → model.fetched (machine_of self.old x es) (views.lvalue target.now) address (place_of place) ≡ machine_of self.new (views.next_of next) es) }
+        ensures { IfOk result (Moved self.old self.new (λ m. model.fetched m (views.lvalue target.now) address (place_of place))) }
     {
         match target {
             Lvalue::Local(local) => {
@@ -86,7 +76,7 @@ impl<'p> Machine<'p> {
 
     /// A value goes to a place that was located.
     pub fn put(&mut self, target: &'p Lvalue, address: u64, value: u64, place: Place) -> Next<'p>
-        ensures { (x : frames.Next) (es : List Event') → model.put (machine_of self.old x es) (views.lvalue target.now) address value (place_of place) ≡ machine_of self.new (views.next_of result) es }
+        ensures { Moved self.old self.new (λ m. model.put m (views.lvalue target.now) address value (place_of place)) result }
     {
         match target {
             Lvalue::Local(local) => {
@@ -114,14 +104,12 @@ impl<'p> Machine<'p> {
         place: Place,
         outcome: Performed,
     ) -> Result<Next<'p>, AllocError>
-        ensures { IfOk result (λ next. (x : frames.Next) (es : List Event') → finished (machine_of self.old x es) operation first second (place_of place) outcome ≡ machine_of self.new (views.next_of next) es) }
+        ensures { IfOk result (Moved self.old self.new (λ m. finished m operation first second (place_of place) outcome)) }
     {
         match outcome {
             Performed::Gives(value) => Ok(Next::Give(Outcome::Value(value))),
             Performed::Raises { code, access } => {
-                self.push(Frame::Sequel(SequelFrame::Retries(
-                    operation, first, second, place,
-                )))?;
+                self.push(Frame::Sequel(SequelFrame::Retries(operation, first, second, place)))?;
                 let exception = Exception {
                     code: code.0,
                     flag: false,
@@ -145,7 +133,7 @@ impl<'p> Machine<'p> {
         second: u64,
         place: Place,
     ) -> Result<Next<'p>, AllocError>
-        ensures { IfOk result (λ next. (x : frames.Next) (es : List Event') → model.operated (machine_of self.old x es) operation first second (place_of place) (performed (reserved_below data_end) operation first second (state_of self.old es).memory) ≡ machine_of self.new (views.next_of next) es) }
+        ensures { IfOk result (Moved self.old self.new (λ m. model.operated m operation first second (place_of place) (performed (reserved_below data_end) operation first second (state_of self.old es).memory))) }
     {
         let outcome = perform(&mut self.memory, data_end, operation, first, second);
         self.finish(operation, first, second, place, outcome)

@@ -1,6 +1,7 @@
 //! Raises, filters, `__finally` blocks and handlers.
 
 ghost use Rattle.std.specs.Prelude.{◌≡◌, ◌++◌, [], ◌∷◌, List, IfOk, map};
+ghost use Rattle.c_checked.specs.Program.{Program};
 ghost use Rattle.seh_num.specs.declared.event.Event.{Event as Event'};
 ghost use Rattle.c_checked.specs.Expression as tree;
 ghost use Rattle.c_checked.specs.Statement as trees;
@@ -9,7 +10,7 @@ ghost use Rattle.source_machine.specs.Frames as frames;
 ghost use Rattle.source_machine.specs.Machine as model;
 ghost use Rattle.c_interpret.specs.Views as views;
 ghost use Rattle.c_interpret.specs.Views.{place_of};
-ghost use Rattle.c_interpret.specs.Machines.{machine_of, shown_after};
+ghost use Rattle.c_interpret.specs.Machines.{machine_of, shown_after, Moved, Showed};
 
 use crate::calls::low_signed;
 use crate::expressions::evaluates;
@@ -32,7 +33,7 @@ fn unhandled<'p>(exception: Exception) -> Next<'p>
 impl<'p> Machine<'p> {
     /// An exception is raised: the handlers are asked, the innermost first.
     pub fn raise(&self, exception: Exception, place: Place) -> Step<'p>
-        ensures { (x : frames.Next) (es : List Event') → model.begun (machine_of self.now x es) (tasks.Raise (views.exception_of exception)) (place_of place) ≡ machine_of self.now (views.next_of result.next) (shown_after es result.shown) }
+        ensures { Showed self.now self.now (λ m. model.begun m (tasks.Raise (views.exception_of exception)) (place_of place)) result }
     {
         let event = Event::Raise {
             code: Code(exception.code),
@@ -51,7 +52,7 @@ impl<'p> Machine<'p> {
         exception: Exception,
         place: Place,
     ) -> Result<Step<'p>, AllocError>
-        ensures { IfOk result (λ step. (x : frames.Next) (es : List Event') → model.begun (machine_of self.old x es) (tasks.RunFilter number (tree.expression value.now) (views.handler_of handler.entry) (views.exception_of exception)) (place_of place) ≡ machine_of self.new (views.next_of step.next) (shown_after es step.shown)) }
+        ensures { IfOk result (Showed self.old self.new (λ m. model.begun m (tasks.RunFilter number (tree.expression value.now) (views.handler_of handler.entry) (views.exception_of exception)) (place_of place))) }
     {
         let _ = place;
         if self.is_deep(2) {
@@ -75,7 +76,7 @@ impl<'p> Machine<'p> {
         abnormal: bool,
         place: Place,
     ) -> Result<Step<'p>, AllocError>
-        ensures { IfOk result (λ step. (x : frames.Next) (es : List Event') → model.begun (machine_of self.old x es) (tasks.RunFinally number (trees.statements (map trees.statement last.now)) abnormal) (place_of place) ≡ machine_of self.new (views.next_of step.next) (shown_after es step.shown)) }
+        ensures { IfOk result (Showed self.old self.new (λ m. model.begun m (tasks.RunFinally number (trees.statements (map trees.statement last.now)) abnormal) (place_of place))) }
     {
         if self.is_deep(2) {
             return Ok(quiet(too_deep()));
@@ -101,7 +102,7 @@ impl<'p> Machine<'p> {
         block: &'p [Stmt],
         place: Place,
     ) -> Result<Next<'p>, AllocError>
-        ensures { IfOk result (λ next. (x : frames.Next) (es : List Event') → model.guarded (machine_of self.old x es) (trees.statements (map trees.statement body.now)) (trees.filter filter.now) (trees.statements (map trees.statement block.now)) (place_of place) ≡ machine_of self.new (views.next_of next) es) }
+        ensures { IfOk result (Moved self.old self.new (λ m. model.guarded m (trees.statements (map trees.statement body.now)) (trees.filter filter.now) (trees.statements (map trees.statement block.now)) (place_of place))) }
     {
         self.handlers.push(Handler {
             filter,
@@ -119,7 +120,7 @@ impl<'p> Machine<'p> {
         exception: Exception,
         place: Place,
     ) -> Result<Next<'p>, AllocError>
-        ensures { IfOk result (λ next. (x : frames.Next) (es : List Event') → model.searched (machine_of self.old x es) level (views.exception_of exception) (place_of place) ≡ machine_of self.new (views.next_of next) es) }
+        ensures { IfOk result (Moved self.old self.new (λ m. model.searched m level (views.exception_of exception) (place_of place))) }
     {
         if level == 0 {
             return Ok(unhandled(exception));
@@ -139,14 +140,12 @@ impl<'p> Machine<'p> {
         exception: Exception,
         place: Place,
     ) -> Result<Next<'p>, AllocError>
-        ensures { IfOk result (λ next. (x : frames.Next) (es : List Event') → model.asked_by (machine_of self.old x es) (views.handler_of handler.entry).filter (views.handler_of handler.entry) level (views.exception_of exception) (place_of place) ≡ machine_of self.new (views.next_of next) es) }
+        ensures { IfOk result (Moved self.old self.new (λ m. model.asked_by m (views.handler_of handler.entry).filter (views.handler_of handler.entry) level (views.exception_of exception) (place_of place))) }
     {
         match handler.filter {
             Filter::Always => Ok(Next::Give(Outcome::Target(level, exception))),
             Filter::Funclet { number, value } => {
-                self.push(Frame::Statement(StatementFrame::IsAnswered(
-                    level, exception, place,
-                )))?;
+                self.push(Frame::Statement(StatementFrame::IsAnswered(level, exception, place)))?;
                 let task = Task::RunFilter {
                     number: *number,
                     value,
@@ -160,7 +159,7 @@ impl<'p> Machine<'p> {
 
     /// A filter has answered.
     pub fn answer(&mut self, value: u64) -> Step<'p>
-        ensures { (p : Rattle.c_checked.specs.Program.Program) (x : frames.Next) (es : List Event') → model.done p (machine_of self.old x es) (frames.Answer value) ≡ machine_of self.new (views.next_of result.next) (shown_after es result.shown) }
+        ensures { (p : Program) → Showed self.old self.new (λ m. model.done p m (frames.Answer value)) result }
     {
         self.held = self.held.saturating_sub(1);
         showing(

@@ -9,6 +9,7 @@ ghost use Rattle.source_machine.specs.Frames as frames;
 ghost use Rattle.source_machine.specs.Laws.{is_over};
 ghost use Rattle.c_interpret.specs.Views as views;
 ghost use Rattle.c_interpret.specs.Machines.{machine_of, state_of};
+ghost use Rattle.c_interpret.specs.Runs as runs;
 ghost use Rattle.c_interpret.specs.Runs.{Turned, Ran, ShownPart, Means, MeansPart};
 
 use crate::activations::Activations;
@@ -82,7 +83,7 @@ fn first_machine<'p>(
     program: &'p Checked,
     budget: u64,
 ) -> Result<Machine<'p>, AllocError>
-    ensures { IfOk result (λ m. (next : frames.Next) → machine_of m next [] ≡ Rattle.c_interpret.specs.Runs.beginning (whole.program program.now) budget next) }
+    ensures { IfOk result (λ m. (next : frames.Next) → machine_of m next [] ≡ runs.beginning (whole.program program.now) budget next) }
 {
     Ok(Machine {
         steps_left: budget,
@@ -109,7 +110,7 @@ fn main_arguments(alloc: Global, program: &Checked, arg: i64) -> Result<Vec<u64>
 
 /// How a program ended, by what its `main` came to.
 fn end_of(finish: Finish) -> Option<Ended>
-    ensures { result ≡ Rattle.c_interpret.specs.Runs.end_of (views.finish_of finish) }
+    ensures { result ≡ runs.end_of (views.finish_of finish) }
 {
     match finish {
         Finish::Gave(Outcome::Value(value)) => Some(Ended::Exit(low_signed(value))),

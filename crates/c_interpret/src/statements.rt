@@ -1,6 +1,7 @@
 //! What is done next for a statement.
 
 ghost use Rattle.std.specs.Prelude.{◌≡◌, map, option_map};
+ghost use Rattle.c_model.specs.Tasks as tasks;
 ghost use Rattle.c_checked.specs.Expression as tree;
 ghost use Rattle.c_checked.specs.Statement as trees;
 ghost use Rattle.source_machine.specs.Frames as frames;
@@ -29,7 +30,7 @@ fn leaves<'p>(how: Outcome) -> Plan<'p>
 }
 
 fn runs<'p>(stmt: &'p Stmt, place: Place) -> Next<'p>
-    ensures { views.next_of result ≡ frames.Start (Rattle.c_model.specs.Tasks.Run (trees.statement stmt.now)) (place_of place) }
+    ensures { views.next_of result ≡ frames.Start (tasks.Run (trees.statement stmt.now)) (place_of place) }
 {
     Next::Start(Task::Run(stmt), place)
 }
@@ -125,7 +126,7 @@ pub fn for_plan<'p>(of: ForLoop<'p>, place: Place) -> Plan<'p>
 
 /// For an iteration of `do`.
 pub fn do_plan<'p>(body: &'p Stmt, condition: &'p Expr, place: Place) -> Plan<'p>
-    ensures { plan_of result ≡ frames.Push (frames.Body (frames.EndsDoBody (trees.statement body.now) (tree.expression condition.now) (place_of place))) (frames.Start (Rattle.c_model.specs.Tasks.Run (trees.statement body.now)) (place_of place)) }
+    ensures { plan_of result ≡ frames.Push (frames.Body (frames.EndsDoBody (trees.statement body.now) (tree.expression condition.now) (place_of place))) (frames.Start (tasks.Run (trees.statement body.now)) (place_of place)) }
 {
     Plan::Push(
         Frame::Body(BodyFrame::EndsDoBody(body, condition, place)),

@@ -10,7 +10,7 @@ ghost use Rattle.source_machine.specs.Machine as model;
 ghost use Rattle.c_model.specs.Source.{data_end as model_data_end};
 ghost use Rattle.c_interpret.specs.Views as views;
 ghost use Rattle.c_interpret.specs.Views.{place_of};
-ghost use Rattle.c_interpret.specs.Machines.{machine_of, shown_after};
+ghost use Rattle.c_interpret.specs.Machines.{machine_of, shown_after, Moved, Showed};
 
 use crate::expressions::{expression_plan, find_plan, node_plan, pass_plan};
 use crate::frame::{Next, Outcome, Plan};
@@ -27,7 +27,7 @@ use std::alloc::{AllocError, Global};
 impl<'p> Machine<'p> {
     /// A task's beginning, after its step.
     fn begin(&mut self, task: Task<'p>, place: Place) -> Result<Step<'p>, AllocError>
-        ensures { IfOk result (λ step. (x : frames.Next) (es : List Event') → model.begun (machine_of self.old x es) (views.task_of task.entry) (place_of place) ≡ machine_of self.new (views.next_of step.next) (shown_after es step.shown)) }
+        ensures { IfOk result (Showed self.old self.new (λ m. model.begun m (views.task_of task.entry) (place_of place))) }
     {
         match task {
             Task::Eval(expr) => self.planned(expression_plan(expr, place)),
@@ -61,14 +61,14 @@ impl<'p> Machine<'p> {
 
     /// What a plan does, which shows nothing.
     fn planned(&mut self, plan: Plan<'p>) -> Result<Step<'p>, AllocError>
-        ensures { IfOk result (λ step. (x : frames.Next) (es : List Event') → model.follow (machine_of self.old x es) (views.plan_of plan.entry) ≡ machine_of self.new (views.next_of step.next) (shown_after es step.shown)) }
+        ensures { IfOk result (Showed self.old self.new (λ m. model.follow m (views.plan_of plan.entry))) }
     {
         Ok(quiet(self.follow(plan)?))
     }
 
     /// A declared name is 0 first, in its own initialiser too.
     fn declare(&mut self, declared: &'p Declared, place: Place) -> Result<Step<'p>, AllocError>
-        ensures { IfOk result (λ step. (x : frames.Next) (es : List Event') → model.declared (machine_of self.old x es) (trees.declared declared.now) (place_of place) ≡ machine_of self.new (views.next_of step.next) (shown_after es step.shown)) }
+        ensures { IfOk result (Showed self.old self.new (λ m. model.declared m (trees.declared declared.now) (place_of place))) }
     {
         self.set_local(declared.local, 0, place);
         self.planned(initialise_plan(declared, place))
@@ -83,7 +83,7 @@ impl<'p> Machine<'p> {
         next: Next<'p>,
     ) -> Result<Step<'p>, AllocError>
         requires { data_end ≡ model_data_end program.now.globals.items }
-        ensures { IfOk result (λ step. (x : frames.Next) (es : List Event') → model.done (whole.program program.now) (machine_of self.old x es) (views.next_of next.entry) ≡ machine_of self.new (views.next_of step.next) (shown_after es step.shown)) }
+        ensures { IfOk result (Showed self.old self.new (λ m. model.done (whole.program program.now) m (views.next_of next.entry))) }
     {
         match next {
             Next::Over(how) => Ok(quiet(Next::Over(how))),

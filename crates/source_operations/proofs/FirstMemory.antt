@@ -1,7 +1,8 @@
 -- The pages that are mapped, with the globals in them, are the memory that a program begins with.
 use Rattle.std.proofs.Common.{◌≡◌, ℕ, ◌+◌, ◌-◌, ◌<◌, ◌≤◌, Bool, true, false, cond, List, length, refl, sym, ap, ◌∙◌, arith, inl, inr}
-use Rattle.std.specs.Prelude.{◌&&◌, nat_le, nat_lt, get_or, slice_index}
-use Rattle.std.proofs.lemmas.Bool.{cases_Bool, ltb-true, ltb-false, lt-ltb, le-ltb, leb-true, le-leb, leb_tells}
+use Rattle.std.specs.Prelude.{◌&&◌, ◌⊎◌, nat_le, nat_lt, get_or, slice_index}
+use Rattle.std.proofs.lemmas.Bool.{cases_Bool, ltb-true, ltb-false, lt-ltb, le-ltb, leb-true, le-leb}
+use Rattle.std.proofs.lemmas.Bool.Decides.{leb_tells}
 use Rattle.std.proofs.lemmas.List.{get_or_past}
 use Rattle.flat_memory.specs.declared.protection.Protection.{Protection}
 use Rattle.flat_memory.specs.declared.protection.Rights.TheVariants.{Nothing, ReadWrite}
@@ -15,7 +16,7 @@ same_mode true c = refl
 same_mode false true = refl
 same_mode false false = refl
 
-always_zero : (b c : Bool) → cond b 0 (cond c 0 0) ≡ 0
+always_zero : (b c : Bool) → ◌≡◌ {A = ℕ} (cond b 0 (cond c 0 0)) 0
 always_zero true c = refl
 always_zero false true = refl
 always_zero false false = refl

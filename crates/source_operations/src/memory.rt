@@ -3,6 +3,7 @@
 ghost use Rattle.std.specs.Prelude.{◌≡◌, ◌≤◌, length, IfOk};
 ghost use Rattle.c_model.specs.Source as model;
 ghost use Rattle.x64_memory.specs.PageMaps.{memory_of};
+ghost use Rattle.source_operations.specs.Regions as specs;
 
 use crate::reserved::FIRST_DATA;
 use host_layout::range::{ARENA_END, ARENA_START, PAGE};
@@ -20,7 +21,7 @@ pub fn data_end(globals: &[u8]) -> u64
 
 /// The arena, whose pages have no rights, and the globals, which may be read and written.
 fn regions(data_end: u64) -> [Region; 2]
-    ensures { result ≡ Rattle.source_operations.specs.Regions.regions data_end }
+    ensures { result ≡ specs.regions data_end }
 {
     let arena = Region {
         start: ARENA_START,

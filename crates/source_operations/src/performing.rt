@@ -1,9 +1,10 @@
 //! Operations that may fault.
 
-ghost use Rattle.std.specs.Prelude.{◌≡◌, ◌⊎◌, false};
-ghost use Rattle.seh_num.specs.Widths as widths;
+ghost use Rattle.std.specs.Prelude.{◌≡◌, false};
+ghost use Rattle.flat_memory.specs.Memory.{Memory};
 ghost use Rattle.c_operations.specs.Performed as spec;
 ghost use Rattle.source_operations.specs.Reserved.{reserved_below};
+ghost use Rattle.source_operations.specs.Outcomes as outcomes;
 ghost use Rattle.source_operations.specs.Outcomes.{outcome_of, is_given};
 
 use crate::pure::{result_of, width};
@@ -37,7 +38,7 @@ pub enum Performed {
 }
 
 fn fault(fault: DivFault) -> Performed
-    ensures { (m : Rattle.flat_memory.specs.Memory.Memory) → outcome_of result m ≡ spec.fault_of fault }
+    ensures { (m : Memory) → outcome_of result m ≡ spec.fault_of fault }
 {
     let code = match fault {
         DivFault::Zero => DIVIDE_BY_ZERO,
@@ -48,7 +49,7 @@ fn fault(fault: DivFault) -> Performed
 
 /// The quotient (C11, 6.5.5).
 fn quotient(signedness: Signedness, width: Width, first: u64, second: u64) -> Performed
-    ensures { (m : Rattle.flat_memory.specs.Memory.Memory) → outcome_of result m ≡ spec.quotient signedness width first second m }
+    ensures { (m : Memory) → outcome_of result m ≡ spec.quotient signedness width first second m }
 {
     match signedness {
         Signedness::Signed => {
@@ -70,7 +71,7 @@ fn quotient(signedness: Signedness, width: Width, first: u64, second: u64) -> Pe
 
 /// The remainder of that division.
 fn remainder(signedness: Signedness, width: Width, first: u64, second: u64) -> Performed
-    ensures { (m : Rattle.flat_memory.specs.Memory.Memory) → outcome_of result m ≡ spec.remainder signedness width first second m }
+    ensures { (m : Memory) → outcome_of result m ≡ spec.remainder signedness width first second m }
 {
     match signedness {
         Signedness::Signed => {
@@ -92,7 +93,7 @@ fn remainder(signedness: Signedness, width: Width, first: u64, second: u64) -> P
 
 /// The fault of a refused access.
 fn violation(write: bool, refused: RefusedAccess) -> Performed
-    ensures { (m : Rattle.flat_memory.specs.Memory.Memory) → outcome_of result m ≡ Rattle.source_operations.specs.Outcomes.violation write refused }
+    ensures { (m : Memory) → outcome_of result m ≡ outcomes.violation write refused }
 {
     let address = match refused {
         RefusedAccess::Fault { address, .. } => address,
@@ -104,16 +105,24 @@ fn violation(write: bool, refused: RefusedAccess) -> Performed
     }
 }
 
-/// A load.
-fn load<S: AddressSpace>(space: &S, data_end: u64, width: Width, at: u64) -> Performed
-    ensures { outcome_of result (S.memory space.now) ≡ spec.load (reserved_below data_end) width at (S.memory space.now) }
+/// A load of bytes that aren't reserved.
+fn load_number<S: AddressSpace>(space: &S, width: Width, at: u64) -> Performed
+    ensures { outcome_of result (S.memory space.now) ≡ outcomes.loaded width at (S.memory space.now) }
 {
-    if let Some(address) = first_reserved(data_end, at, width.bytes()) {
-        return Performed::Undefined(address);
-    }
     match space.load(at, width) {
         Ok(number) => Performed::Gives(number),
         Err(refused) => violation(false, refused),
+    }
+}
+
+/// A load.
+fn load<S: AddressSpace>(space: &S, data_end: u64, width: Width, at: u64) -> Performed
+    ensures { outcome_of result (S.memory space.now)
+        ≡ spec.load (reserved_below data_end) width at (S.memory space.now) }
+{
+    match first_reserved(data_end, at, width.bytes()) {
+        Some(address) => Performed::Undefined(address),
+        None => load_number(space, width, at),
     }
 }
 

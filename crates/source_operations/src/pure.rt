@@ -183,12 +183,6 @@ pub fn result_of(operation: Pure, first: u64, second: u64) -> u64
             relation,
             signedness,
             size,
-        } => u64::from(are_related(
-            relation,
-            signedness,
-            width(size),
-            first,
-            second,
-        )),
+        } => u64::from(are_related(relation, signedness, width(size), first, second)),
     }
 }
