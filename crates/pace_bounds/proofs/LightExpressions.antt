@@ -1,5 +1,5 @@
 -- An expression is resolved to one that begins at most as many steps as it has nodes.
-use Rattle.std.proofs.Common.{◌≡◌, ℕ, ◌+◌, ◌≤◌, refl, arith}
+use Rattle.std.proofs.Common.{◌≡◌, ℕ, ◌+◌, ◌≤◌, refl, sym, subst, arith}
 use Rattle.std.specs.Prelude.{Bool, true, false, nat_le, nat_eq, if◌then◌else◌, List, [], ◌∷◌, ◌++◌, length, map, Option, Some, None}
 use Rattle.c_checked.specs.Expression as nodes
 use Rattle.c_checked.specs.Expression.{Node}
@@ -15,7 +15,7 @@ use Rattle.c_syntax.specs.Expression.{Expression, start}
 use Rattle.c_parse.specs.Nodes as counted
 use Rattle.c_parse.specs.Nodes.{nodes_of_arguments}
 use Rattle.c_resolved.specs.declared.fault.Fault.{Fault}
-use Rattle.c_resolved.specs.Operators.{TypedNode, compound_assigned, assigned}
+use Rattle.c_resolved.specs.Operators.{TypedNode, compound_assigned, assigned, comma_of}
 use Rattle.c_resolved.specs.Expressions.{Entity, LocalVariable, GlobalVariable, GlobalArray, UserFunction, BuiltInFunction, CodeFunction, AbnormalFunction, BuiltInConstant, Names, FaultAt, ResolvedExpression, bad, ruled, rule_1, rule_2, rule_3, unless, literal, name, field, Wanted, built_in_wants, fits, passed, Argument, Passed, before, spoiled, pass, pass_all, called, call_with, call, changed, resolve_expression, resolve_arguments, OfType, ZeroLiteral}
 use Rattle.ir_follows.specs.Weights.{expression_weight, node_weight, arguments_weight}
 use Rattle.pace_bounds.proofs.LightOperators.{weight, LightIf, lighter, binary_light, element_light, incremented_light, assigned_light, compound_light, unary_light, cast_light, conditional_light, comma_light}
@@ -83,7 +83,7 @@ passed_weight ZeroLiteral a = refl
 
 fit_light : (n : ℕ) (b : Bool) (x y : Passed) → AreLight n x.found → y.found ≡ None → AreLight n (if b then x else y).found
 fit_light n true x y h e = h
-fit_light n false x y h e = rw e in tt
+fit_light n false x y h e = subst (λ o. AreLight n o) (sym e) tt
 
 pass_light : (w : Wanted) (at m k n : ℕ) (fs : List FaultAt) (o : Option TypedNode) (rest : Passed) → LightIf m o → AreLight k rest.found → m + k ≤ n → AreLight n (pass w at fs o rest).found
 pass_light w at m k n fs None rest h l le = tt
@@ -161,8 +161,8 @@ mutual
   resolved_light s (trees.Comma a at b) =
       let k = counted.nodes a in
       let m = counted.nodes b in
-      rule_2_light k m (1 + (k + m)) at _ _ (resolve_expression s a).found (resolve_expression s b).found (resolved_light s a) (resolved_light s b)
-      (λ x y p q. lighter (1 + (weight x + weight y)) (1 + (k + m)) _ (omega arith) (comma_light x y))
+      rule_2_light k m (1 + (k + m)) at comma_of _ (resolve_expression s a).found (resolve_expression s b).found (resolved_light s a) (resolved_light s b)
+      (λ x y p q. lighter (1 + (weight x + weight y)) (1 + (k + m)) (comma_of x y) (omega arith) (comma_light x y))
 
   arguments_light : (s : Names) (es : trees.Arguments) → ArgumentsLight (resolve_arguments s es) (nodes_of_arguments es)
   arguments_light s trees.Done = tt

@@ -13,7 +13,7 @@ use Rattle.c_syntax.specs.declared.operator.BinaryOperator.TheVariants as binary
 use Rattle.c_syntax.specs.declared.operator.UnaryOperator.{UnaryOperator}
 use Rattle.c_syntax.specs.declared.operator.UnaryOperator.TheVariants as unary
 use Rattle.c_syntax.specs.declared.operator.Increment.{Increment}
-use Rattle.c_resolved.specs.Operators.{TypedNode, typed, only_if, as_is, as_type, right_operand, on_integers, sum, difference, arithmetic_of, comparison_of, binary_of, lvalue_of, with_lvalue, address, unary_of, cast_of, element_of, assigned, compound_assigned, incremented, branch_type, as_branch, chosen, conditional_of, comma_of, is_shift, working_type}
+use Rattle.c_resolved.specs.Operators.{TypedNode, typed, only_if, as_is, as_type, can_become, is_additive, right_operand, on_integers, sum, difference, arithmetic_of, comparison_of, binary_of, lvalue_of, with_lvalue, address, unary_of, cast_of, element_of, assigned, compound_assigned, incremented, branch_type, as_branch, chosen, conditional_of, comma_of, is_shift, working_type}
 use Rattle.c_resolved.specs.Types.{is_pointer, is_integer, is_void, is_sized_pointer, is_scalar}
 use Rattle.ir_follows.specs.Weights.{expression_weight, lvalue_weight, node_weight}
 
@@ -101,15 +101,15 @@ incremented_light m i a =
 pub assigned_light : (a b : TypedNode) → LightIf (1 + (weight a + weight b)) (assigned a b)
 assigned_light a b =
     let n = 1 + (weight a + weight b) in
-    light_if n _ _ _ (place_light a.node _ n (λ p e. omega arith)) tt
+    light_if n (can_become a.type b) _ _ (place_light a.node _ n (λ p e. omega arith)) tt
 
 pub compound_light : (o : Arithmetic) (a b : TypedNode) → LightIf (1 + (weight a + weight b)) (compound_assigned o a b)
 compound_light o a b =
     let n = 1 + (weight a + weight b) in
     let r = right_weight o (working_type o a.type b.type) b in
     light_if n (is_pointer a.type) _ _
-    (light_if n _ _ _ (place_light a.node _ n (λ p e. omega arith)) tt)
-    (light_if n _ _ _ (place_light a.node _ n (λ p e. omega arith)) tt)
+    (light_if n (is_additive o && is_sized_pointer a.type && is_integer b.type) _ _ (place_light a.node _ n (λ p e. omega arith)) tt)
+    (light_if n (is_integer a.type && is_integer b.type) _ _ (place_light a.node _ n (λ p e. omega arith)) tt)
 
 address_light : (t : CType) (n : Node) → LightIf (2 + node_weight n) (address t (lvalue_of n))
 address_light t (nodes.Read p) = omega arith

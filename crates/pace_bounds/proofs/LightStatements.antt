@@ -100,12 +100,15 @@ abbrev all_weight : List checked.Statement → ℕ
 all_weight ss = statements_weight (checked.statements ss)
 
 weight_append : (ss ts : List checked.Statement) → all_weight (ss ++ ts) ≡ all_weight ss + all_weight ts
-weight_append [] ts = refl
+weight_append [] ts = omega arith
 weight_append (s ∷ ss) ts = let i = weight_append ss ts in omega arith
 
 only_light : (ss : List checked.Statement) (n : ℕ) → all_weight ss ≤ n → 1 ≤ n → statement_weight (only ss) ≤ n
 only_light [] n h p = omega arith
 only_light (s ∷ ss) n h p = omega arith
+
+part_light : (s : Statement) (ss : List checked.Statement) → all_weight ss ≤ 3 * nodes_of_statement s → statement_weight (only ss) ≤ 3 * nodes_of_statement s
+part_light s ss h = let p = some_statement s in only_light ss (3 * nodes_of_statement s) h (omega arith)
 
 -- ---- declarations
 
@@ -156,20 +159,20 @@ mutual
   statement_light (statements.Evaluate e) a block n = let v = optional_light (λ e. any (resolve_expression (names_at a block) e)) (λ e. any_light (names_at a block) e) e in omega arith
   statement_light (statements.If at c s) a block n =
       let v = condition_light (names_at a block) at c in
-      let m = part_light s (inside a block) [] n in
+      let m = part_light s (resolve_statement s (inside a block) [] n).done (statement_light s (inside a block) [] n) in
       omega arith
   statement_light (statements.IfElse at c s t) a block n =
       let v = condition_light (names_at a block) at c in
-      let m = part_light s (inside a block) [] n in
-      let k = part_light t (inside a block) [] (resolve_statement s (inside a block) [] n).counts in
+      let m = part_light s (resolve_statement s (inside a block) [] n).done (statement_light s (inside a block) [] n) in
+      let k = part_light t (resolve_statement t (inside a block) [] (resolve_statement s (inside a block) [] n).counts).done (statement_light t (inside a block) [] (resolve_statement s (inside a block) [] n).counts) in
       omega arith
   statement_light (statements.While at c s) a block n =
       let v = condition_light (names_at a block) at c in
-      let m = part_light s (record (inside a block) { loop = Near }) [] n in
+      let m = part_light s (resolve_statement s (record (inside a block) { loop = Near }) [] n).done (statement_light s (record (inside a block) { loop = Near }) [] n) in
       omega arith
   statement_light (statements.DoWhile s at c) a block n =
       let v = condition_light (names_at a block) at c in
-      let m = part_light s (record (inside a block) { loop = Near }) [] n in
+      let m = part_light s (resolve_statement s (record (inside a block) { loop = Near }) [] n).done (statement_light s (record (inside a block) { loop = Near }) [] n) in
       omega arith
   statement_light (statements.For at f c next s) a block n =
       let b = resolve_for_initialiser (inside a block) f n in
@@ -177,7 +180,7 @@ mutual
       let u = begins_light here f n in
       let v = optional_light (λ e. condition at (resolve_expression (names_at here b.resolved.block) e)) (λ e. condition_light (names_at here b.resolved.block) at e) c in
       let w = optional_light (λ e. any (resolve_expression (names_at here b.resolved.block) e)) (λ e. any_light (names_at here b.resolved.block) e) next in
-      let m = part_light s (record (inside here b.resolved.block) { loop = Near }) [] b.resolved.counts in
+      let m = part_light s (resolve_statement s (record (inside here b.resolved.block) { loop = Near }) [] b.resolved.counts).done (statement_light s (record (inside here b.resolved.block) { loop = Near }) [] b.resolved.counts) in
       omega arith
   statement_light (statements.Return at e) a block n = let v = returned_light a block at e in omega arith
   statement_light (statements.Break at) a block n = omega arith
@@ -196,11 +199,6 @@ mutual
       let m = statements_light body (record here { body = Near }) [] n in
       let k = statements_light last (record here { loop = past_finally a.loop; body = past_finally a.body; function = Beyond; abnormal = true }) [] (with_number counts (counts.number + 1)) in
       omega arith
-
-  part_light : (s : Statement) (a : Environment) (block : Scope) (n : Numbering) → statement_weight (only (resolve_statement s a block n).done) ≤ 3 * nodes_of_statement s
-  part_light s a block n =
-      let p = some_statement s in
-      only_light (resolve_statement s a block n).done (3 * nodes_of_statement s) (statement_light s a block n) (omega arith)
 
   statements_light : (ss : Statements) (a : Environment) (block : Scope) (n : Numbering) → all_weight (resolve_statements ss a block n).done ≤ 3 * nodes_of_statements ss
   statements_light statements.Empty a block n = omega arith

@@ -6,6 +6,7 @@ use Rattle.c_syntax.specs.Program.{ExternalDeclaration}
 use Rattle.c_resolved.specs.Program.{resolve}
 use Rattle.c_resolved.proofs.Sound.{accepted_is_sound}
 use Rattle.linear_code.specs.Program.{LinearProgram}
+use Rattle.seh_ir.specs.Lowered.{lowered}
 use Rattle.ir_follows.specs.Laws.{NoMore}
 use Rattle.ir_linked.specs.Pace.{pace_of}
 use Rattle.ir_linked.proofs.Lowered.{lowered_follows, lowered_shows_no_more}
@@ -30,4 +31,4 @@ accepted_follows text xs within accepted = lowered_follows (program_of text xs) 
 
 pub accepted_shows_no_more : AcceptedShowsNoMore
 accepted_shows_no_more text xs bytes within accepted few =
-    slower _ _ (pace_of (program_of text xs)) (pace_in bytes) (pace_is_bounded text xs bytes few) (lowered_shows_no_more (program_of text xs) (accepted_is_sound text xs within accepted))
+    slower (program_of text xs) (lowered (program_of text xs)) (pace_of (program_of text xs)) (pace_in bytes) (pace_is_bounded text xs bytes few) (lowered_shows_no_more (program_of text xs) (accepted_is_sound text xs within accepted))
