@@ -1,5 +1,5 @@
 -- The linear code of a sound program is linked, and follows the program.
-use Rattle.std.proofs.Common.{◌≡◌, inr, ℕ, zero, suc, ◌+◌, ◌*◌, ◌≤◌, List, [], ◌∷◌, ◌++◌, length, refl, sym, ap, subst, ◌∙◌, arith, length-append}
+use Rattle.std.proofs.Common.{◌≡◌, inr, ℕ, zero, suc, ◌+◌, ◌≤◌, List, [], ◌∷◌, ◌++◌, length, refl, ap, subst, ◌∙◌, arith, length-append}
 use Rattle.std.proofs.lemmas.Option.{slice_get-map}
 use Rattle.std.specs.Prelude.{true, false, ◌||◌, slice_get, option_map, Option, Some, None}
 use Rattle.c_operations.specs.declared.operation.Size.{Size}
@@ -9,7 +9,6 @@ use Rattle.c_checked.specs.Sound as sound
 use Rattle.c_checked.specs.Sound.{Inside, IsSound, are_sizes, some_sizes, funclets, count_up, function_sound, functions_sound, main_sound, statements_sound}
 use Rattle.linear_code.specs.declared.slot.Slot.TheVariants.{Temporary}
 use Rattle.linear_code.specs.declared.instruction.Instruction.TheVariants as instructions
-use Rattle.linear_code.specs.Program.{LinearBody, LinearFunction}
 use Rattle.linear_machine.specs.Frames.{FunctionBody, function_body, body_of}
 use Rattle.seh_ir.specs.declared.funclets.Owner.{Owner}
 use Rattle.seh_ir.specs.Sizes.{statements_size}
@@ -19,7 +18,7 @@ use Rattle.seh_ir.specs.Regions.{statements_regions}
 use Rattle.seh_ir.specs.Funclets.{statements_funclets}
 use Rattle.seh_ir.specs.Lowered.{own_locals, all_locals, scope_of, lowered_function, lowered_funclets, all_funclets, lowered}
 use Rattle.seh_ir.proofs.StatementCodes.{statements_length}
-use Rattle.ir_follows.specs.Placed.{FunctionPlaced, IsLinked}
+use Rattle.ir_follows.specs.Placed.{FunctionPlaced}
 use Rattle.ir_follows.specs.Weights.{statements_weight}
 use Rattle.ir_follows.proofs.Whole.{linked_follows}
 use Rattle.ir_linked.specs.Pace.{weight_of, pace_of}
@@ -109,9 +108,9 @@ module _ (program : Program) where
         parameters = refl;
         locals = refl;
         placed = place_all program linear pace most (own_locals fn) quick fn.body (FunctionBody k) lb home (inside fn) (scope_of fn) (whole_alike fn) g.owner [] 0 g.begin (both_left _ _ (both_left _ _ g.sound)) light
-        (front lb.code 0 code ends whole) (λ q lo hi. cover q lo (omega arith)) g.stands g.numbered;
+            (front lb.code 0 code ends whole) (λ q lo hi. cover q lo (omega arith)) g.stands g.numbered;
         ends = code_stands program linear pace most (own_locals fn) (FunctionBody k) lb home [] (statements_size fn.body) ends (back lb.code 0 (statements_size fn.body) code ends (omega arith) whole)
-        (λ q lo hi. bare program linear pace most (own_locals fn) (FunctionBody k) [] (statements_regions fn.body 0) q (all_outside fn.body 0 q (inr (omega arith))) (cover q (omega arith) (omega arith)));
+            (λ q lo hi. bare program linear pace most (own_locals fn) (FunctionBody k) [] (statements_regions fn.body 0) q (all_outside fn.body 0 q (inr (omega arith))) (cover q (omega arith) (omega arith)));
         light = light;
         quick = omega arith;
       }
@@ -126,8 +125,8 @@ lowered_is_linked program h =
       main = refl;
       least = omega arith;
       functions = λ k fn e.
-      let there = slice_get-map lowered_function program.functions k ∙ ap (option_map lowered_function) e in
-      (lowered_function fn, there, function_placed program k fn there (find program program.functions 0 0 (both_left _ _ starts) (omega arith) (stands_itself (lowered program).funclets) (both_right _ _ counts) k fn e));
+          let there = slice_get-map lowered_function program.functions k ∙ ap (option_map lowered_function) e in
+          (lowered_function fn, there, function_placed program k fn there (find program program.functions 0 0 (both_left _ _ starts) (omega arith) (stands_itself (lowered program).funclets) (both_right _ _ counts) k fn e));
       begins = begin.0;
       is_main = begin.1;
       few = begin.2;

@@ -1,17 +1,13 @@
 -- The funclets of statements stand at their numbers.
 use Rattle.std.proofs.Common.{◌≡◌, ℕ, suc, ◌+◌, ◌-◌, List, [], ◌∷◌, ◌++◌, length, refl, sym, ap, subst, ◌∙◌, arith, length-append}
 use Rattle.std.proofs.lemmas.Bool.{eqb-true}
-use Rattle.std.specs.Prelude.{Bool, true, ◌&&◌, nat_eq}
-use Rattle.c_checked.specs.Program.{Function}
-use Rattle.c_checked.specs.Sound as sound
+use Rattle.std.specs.Prelude.{Bool, true, ◌&&◌}
 use Rattle.c_checked.specs.Sound.{funclets_in, funclets, filter_funclet, count_up}
 use Rattle.c_checked.specs.Statement.{Filter, Always, Funclet, Statement, Declare, Block, Evaluate, If, IfElse, For, DoWhile, Return, Break, Continue, Leave, TryExcept, TryFinally, Statements, Empty, Then}
-use Rattle.linear_code.specs.Program.{LinearFunclet}
 use Rattle.seh_ir.specs.declared.funclets.Owner.{Owner}
 use Rattle.seh_ir.specs.declared.scope.Names.{Names}
 use Rattle.seh_ir.specs.Scope.{except_names, filter_names, finally_names}
 use Rattle.seh_ir.specs.Funclets.{filter_funclets, finally_funclet, in_funclet, statement_funclets, statements_funclets}
-use Rattle.seh_ir.specs.Lowered.{lowered_funclets, all_funclets}
 use Rattle.ir_linked.proofs.SoundExpressions.{both_left, both_right}
 
 -- ---- counting

@@ -1,10 +1,10 @@
 -- Code of sound statements that stands in a body, with its regions and its funclets, is placed.
-use Rattle.std.proofs.Common.{◌≡◌, inl, inr, ℕ, suc, ◌+◌, ◌-◌, ◌<◌, ◌≤◌, List, [], ◌∷◌, ◌++◌, length, refl, sym, ap, subst, ◌∙◌, arith, append-nil, append_assoc, length-append}
+use Rattle.std.proofs.Common.{◌≡◌, inl, inr, ℕ, ◌+◌, ◌-◌, ◌<◌, ◌≤◌, List, [], ◌∷◌, ◌++◌, length, refl, sym, ap, subst, ◌∙◌, arith, append-nil, append_assoc, length-append}
 use Rattle.std.proofs.lemmas.Bool.{ltb-true}
-use Rattle.std.specs.Prelude.{Bool, true, false, slice_get, Option, Some, None}
+use Rattle.std.specs.Prelude.{true, false, slice_get, Option, Some, None}
 use Rattle.c_operations.specs.declared.operation.Size.{Size}
 use Rattle.c_checked.specs.Expression.{Expression}
-use Rattle.c_checked.specs.Program.{Program, Function}
+use Rattle.c_checked.specs.Program.{Program}
 use Rattle.c_checked.specs.Sound.{Inside, funclets_in, funclets, filter_funclet, count_up, optional_sound, condition_sound, test_sound, value_fits, declared_sound, all_declared_sound, result_sound, filter_sound, statement_sound, statements_sound}
 use Rattle.c_checked.specs.Sound as sound
 use Rattle.c_checked.specs.Statement.{Declared, Filter, Always, Funclet, Statement, Declare, Block, Evaluate, If, IfElse, For, DoWhile, Return, Break, Continue, Leave, TryExcept, TryFinally, Statements, Empty, Then}
@@ -14,8 +14,8 @@ use Rattle.linear_code.specs.declared.instruction.Instruction.TheVariants.{Jump,
 use Rattle.linear_code.specs.declared.instruction.Instruction.TheVariants as instructions
 use Rattle.linear_code.specs.declared.program.Region.{Region}
 use Rattle.linear_code.specs.declared.program.RegionKind.TheVariants as regions
-use Rattle.linear_code.specs.Program.{LinearProgram, LinearBody, LinearFunclet}
-use Rattle.linear_machine.specs.Frames.{BodyName, FunctionBody, FuncletBody, funclet_body, body_of}
+use Rattle.linear_code.specs.Program.{LinearProgram, LinearBody}
+use Rattle.linear_machine.specs.Frames.{BodyName, FuncletBody, funclet_body, body_of}
 use Rattle.linear_machine.specs.Regions.{regions_of, regions_at}
 use Rattle.linear_machine.specs.Run.{instruction_in}
 use Rattle.seh_ir.specs.declared.funclets.Owner.{Owner}
@@ -33,9 +33,9 @@ use Rattle.seh_ir.specs.Funclets.{filter_funclets, finally_funclet, in_funclet, 
 use Rattle.seh_ir.proofs.Codes.{expression_length}
 use Rattle.seh_ir.proofs.StatementCodes.{jump_length, return_length, discarded_length, returned_length, condition_length, declared_length, all_declared_length, statement_length, statements_length}
 use Rattle.ir_follows.specs.Places.{HasAt}
-use Rattle.ir_follows.specs.Placed.{IsWay, IsPlace, OptionalFits, DeclaredPlaced, AllDeclaredPlaced, FilterPlaced, FinallyPlaced, Placed, AllPlaced}
-use Rattle.ir_follows.specs.Weights.{expression_weight, filter_weight, statement_weight, statements_weight}
-use Rattle.ir_linked.proofs.Segments.{StandsAt, moved, front, back, with_next, stands_itself}
+use Rattle.ir_follows.specs.Placed.{IsWay, IsPlace, OptionalFits, DeclaredPlaced, AllDeclaredPlaced, FilterPlaced, Placed, AllPlaced}
+use Rattle.ir_follows.specs.Weights.{filter_weight, statement_weight, statements_weight}
+use Rattle.ir_linked.proofs.Segments.{StandsAt, front, back, with_next, stands_itself}
 use Rattle.ir_linked.proofs.SoundExpressions.{both_left, both_right, Knows, expression_fits}
 use Rattle.ir_linked.proofs.Numbers.{count_front, count_back, counted, filter_count, statement_count, statements_count}
 use Rattle.ir_linked.proofs.Regions.{held, own_out, own_in, left_only, right_only, held_append, outside, all_outside}

@@ -3,7 +3,7 @@ use Rattle.std.proofs.Common.{◌≡◌, ◌⊎◌, inl, inr, ℕ, ◌+◌, ◌-
 use Rattle.std.proofs.lemmas.Bool.{lt-ltb, le-ltb, le-leb}
 use Rattle.std.proofs.lemmas.List.Elements.{filter-append}
 use Rattle.std.specs.Prelude.{Bool, true, false, cond, ◌&&◌, nat_lt, nat_le}
-use Rattle.c_checked.specs.Statement.{Filter, Statement, Declare, Block, Evaluate, If, IfElse, For, DoWhile, Return, Break, Continue, Leave, TryExcept, TryFinally, Statements, Empty, Then}
+use Rattle.c_checked.specs.Statement.{Statement, Declare, Block, Evaluate, If, IfElse, For, DoWhile, Return, Break, Continue, Leave, TryExcept, TryFinally, Statements, Empty, Then}
 use Rattle.linear_code.specs.declared.program.Region.{Region}
 use Rattle.linear_code.specs.declared.program.RegionKind.TheVariants as kinds
 use Rattle.linear_machine.specs.Regions.{holds}

@@ -1,7 +1,7 @@
 -- What is sound has numbers that mean something in linear code.
-use Rattle.std.proofs.Common.{◌≡◌, ◌<◌, ℕ, suc, ◌+◌, ◌^◌, List, [], ◌∷◌, length, refl, sym, ap, subst, ◌∙◌, arith}
+use Rattle.std.proofs.Common.{◌≡◌, ◌<◌, ℕ, suc, ◌^◌, List, [], ◌∷◌, length, refl, sym, ap, subst, ◌∙◌, arith}
 use Rattle.std.proofs.lemmas.Bool.{ltb-true}
-use Rattle.std.specs.Prelude.{Bool, true, false, ◌&&◌, nat_lt, slice_get, Option, Some, None}
+use Rattle.std.specs.Prelude.{Bool, true, false, ◌&&◌, slice_get, Option, Some, None}
 use Rattle.c_operations.specs.declared.built_in.BuiltIn.{BuiltIn}
 use Rattle.c_operations.specs.declared.built_in.BuiltIn.TheVariants.{Put, Protect, RaiseException}
 use Rattle.c_operations.specs.declared.operation.Operation.{Operation}
@@ -14,7 +14,7 @@ use Rattle.c_checked.specs.declared.expression.Conversion.{Conversion}
 use Rattle.c_checked.specs.Expression as nodes
 use Rattle.c_checked.specs.Expression.{Expression, On, Node, Lvalue, Local, Global, Indirection, Element, Arguments, Done, Next}
 use Rattle.c_checked.specs.Program.{Program, Function}
-use Rattle.c_checked.specs.Sound.{Scope, is_number, same_sizes, is_size, are_sizes, both, can_convert, size_after, unary_takes, takes, built_in_takes, is_in_memory, is_divisor, constant_fits, amount_fits, change_fits, call_fits, expression_size, node_size, lvalue_size, argument_sizes, expression_sound, node_sound, lvalue_sound, arguments_sound}
+use Rattle.c_checked.specs.Sound.{Scope, is_number, are_sizes, size_after, unary_takes, takes, built_in_takes, constant_fits, amount_fits, change_fits, call_fits, expression_size, lvalue_size, argument_sizes, expression_sound, node_sound, lvalue_sound, arguments_sound}
 use Rattle.linear_machine.specs.Instructions.{is_constant, count_of}
 use Rattle.seh_ir.specs.Expressions.{argument_count}
 use Rattle.ir_follows.specs.Fits.{IsCalled, ExpressionFits, LvalueFits, ArgumentsFit, NodeFits}

@@ -1,13 +1,9 @@
 -- Statements are resolved to such that begin at most three steps for each node.
-use Rattle.std.proofs.Common.{◌≡◌, ℕ, ◌+◌, ◌*◌, ◌≤◌, refl, arith}
-use Rattle.std.specs.Prelude.{Bool, true, false, if◌then◌else◌, List, [], ◌∷◌, ◌++◌, length, map, drop, Option, Some, None}
-use Rattle.c_checked.specs.Expression as nodes
-use Rattle.c_checked.specs.Program as checked_program
+use Rattle.std.proofs.Common.{◌≡◌, ℕ, ◌+◌, ◌*◌, ◌≤◌, arith}
+use Rattle.std.specs.Prelude.{Bool, true, false, if◌then◌else◌, List, [], ◌∷◌, ◌++◌, map, Option, Some, None}
 use Rattle.c_checked.specs.Statement as checked
-use Rattle.c_syntax.specs.declared.declaration.Parameter.{Parameter}
 use Rattle.c_syntax.specs.declared.expression.Base.{Base}
 use Rattle.c_syntax.specs.declared.expression.CType.{CType}
-use Rattle.c_syntax.specs.declared.expression.Identifier.{Identifier}
 use Rattle.c_syntax.specs.Expression as trees
 use Rattle.c_syntax.specs.Expression.{Expression, start}
 use Rattle.c_syntax.specs.Program.{ExternalDeclaration, Globals, Function}
@@ -17,13 +13,13 @@ use Rattle.c_parse.specs.Nodes as counted
 use Rattle.c_parse.specs.Nodes.{nodes_of_optional, nodes_of_locals, nodes_of_for_initialiser, nodes_of_statement, nodes_of_statements, nodes_of}
 use Rattle.c_resolved.specs.Types.{is_void, size_of}
 use Rattle.c_resolved.specs.Operators.{TypedNode}
-use Rattle.c_resolved.specs.Expressions.{Names, FaultAt, ResolvedExpression, resolve_expression}
+use Rattle.c_resolved.specs.Expressions.{Names, FaultAt, resolve_expression}
 use Rattle.c_resolved.specs.Program.{file_of, empty_file, with_parameters, around, function_of, functions_of, resolve}
 use Rattle.c_resolved.specs.Scopes.{Scope}
-use Rattle.c_resolved.specs.Statements.{Near, Beyond, past_finally, with_number, Environment, Numbering, ResolvedStatements, names_at, filter_names, inside, any, condition, to_type, to_answer, Value, Optional, optional, declare, declare_all, follow, only, returned, always, ResolvedFilter, resolve_filter, names_only, resolve_for_initialiser, resolve_statement, resolve_statements}
-use Rattle.ir_follows.specs.Weights.{expression_weight, optional_weight, declared_weight, all_declared_weight, filter_weight, statement_weight, statements_weight}
+use Rattle.c_resolved.specs.Statements.{Near, Beyond, past_finally, with_number, Environment, Numbering, names_at, filter_names, inside, any, condition, to_type, to_answer, Value, Optional, optional, declare, declare_all, only, returned, always, ResolvedFilter, resolve_filter, names_only, resolve_for_initialiser, resolve_statement, resolve_statements}
+use Rattle.ir_follows.specs.Weights.{expression_weight, optional_weight, all_declared_weight, filter_weight, statement_weight, statements_weight}
 use Rattle.ir_linked.specs.Pace.{weight_of}
-use Rattle.pace_bounds.proofs.LightOperators.{weight, LightIf}
+use Rattle.pace_bounds.proofs.LightOperators.{LightIf}
 use Rattle.pace_bounds.proofs.LightExpressions.{resolved_light}
 
 -- ---- nodes

@@ -1,9 +1,7 @@
 -- The pace of an accepted text, and its linear code.
-use Rattle.std.proofs.Common.{◌≡◌, ℕ, ◌+◌, ◌*◌, ◌-◌, ◌≤◌, List, refl, sym, ap, ◌∙◌, arith}
+use Rattle.std.proofs.Common.{◌≡◌, ℕ, ◌+◌, ◌*◌, ◌-◌, ◌≤◌, sym, ap, ◌∙◌, arith}
 use native.Mathlib.Nat.{mul-add}
 use Rattle.c_checked.specs.Program.{Program}
-use Rattle.c_syntax.specs.Program.{ExternalDeclaration}
-use Rattle.c_resolved.specs.Program.{resolve}
 use Rattle.c_resolved.proofs.Sound.{accepted_is_sound}
 use Rattle.linear_code.specs.Program.{LinearProgram}
 use Rattle.seh_ir.specs.Lowered.{lowered}

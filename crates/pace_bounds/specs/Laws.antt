@@ -1,5 +1,5 @@
 -- What is claimed of every accepted text within the limits and the linear code of its program.
-use Rattle.std.specs.Prelude.{◌≤◌, ℕ, ◌+◌, ◌*◌, List, length}
+use Rattle.std.specs.Prelude.{◌≤◌, ℕ, ◌+◌, ◌*◌, List}
 use Rattle.c_checked.specs.Program.{Program}
 use Rattle.c_syntax.specs.Limits.{Within}
 use Rattle.c_syntax.specs.Program.{ExternalDeclaration}
