@@ -1,4 +1,3 @@
-pub mod Views
 pub mod Scope
 pub mod Sizes
 pub mod Slots

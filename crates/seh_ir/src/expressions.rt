@@ -2,7 +2,6 @@
 
 ghost use Rattle.std.specs.Prelude.{◌≡◌, ◌+◌, ◌++◌, [], ◌∷◌, map, length, OnOk};
 ghost use Rattle.c_checked.specs.Expression as tree;
-ghost use Rattle.seh_ir.specs.Views as views;
 ghost use Rattle.seh_ir.specs.Expressions as spec;
 
 use crate::instructions::{abnormal, choose, constant, convert, exception_code, read, unary};
@@ -46,7 +45,7 @@ fn locate(
     place: &Lvalue,
     d: u64,
 ) -> Result<(), AllocError>
-    ensures { OnOk result (code.new.items ≡ code.old.items ++ spec.locate_code names (views.lvalue place.now) d (length code.old.items)) }
+    ensures { OnOk result (code.new.items ≡ code.old.items ++ spec.locate_code names (tree.lvalue place.now) d (length code.old.items)) }
 {
     match place {
         Lvalue::Local(_) => Ok(()),
@@ -72,7 +71,7 @@ fn read_node(
     place: &Lvalue,
     d: u64,
 ) -> Result<(), AllocError>
-    ensures { OnOk result (code.new.items ≡ code.old.items ++ (spec.locate_code names (views.lvalue place.now) d (length code.old.items) ++ spec.read_code (views.lvalue place.now) d d)) }
+    ensures { OnOk result (code.new.items ≡ code.old.items ++ (spec.locate_code names (tree.lvalue place.now) d (length code.old.items) ++ spec.read_code (tree.lvalue place.now) d d)) }
 {
     locate(code, names, place, d)?;
     read(code, place, d, d)
@@ -85,7 +84,7 @@ fn address(
     place: &Lvalue,
     d: u64,
 ) -> Result<(), AllocError>
-    ensures { OnOk result (code.new.items ≡ code.old.items ++ spec.address_code (views.lvalue place.now) d (spec.locate_code names (views.lvalue place.now) d (length code.old.items))) }
+    ensures { OnOk result (code.new.items ≡ code.old.items ++ spec.address_code (tree.lvalue place.now) d (spec.locate_code names (tree.lvalue place.now) d (length code.old.items))) }
 {
     match place {
         Lvalue::Local(_) => {

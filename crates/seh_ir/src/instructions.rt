@@ -1,7 +1,7 @@
 //! Single instructions, and those of conversions, names and places.
 
 ghost use Rattle.std.specs.Prelude.{◌≡◌, ◌+◌, ◌++◌, [], ◌∷◌, length, OnOk, IfOk};
-ghost use Rattle.seh_ir.specs.Views as views;
+ghost use Rattle.c_checked.specs.Expression as tree;
 ghost use Rattle.seh_ir.specs.Expressions as spec;
 
 use crate::scope::{ExceptionSource, sum};
@@ -200,7 +200,7 @@ pub fn read(
     address: u64,
     to: u64,
 ) -> Result<(), AllocError>
-    ensures { OnOk result (code.new.items ≡ code.old.items ++ spec.read_code (views.lvalue place.now) address to) }
+    ensures { OnOk result (code.new.items ≡ code.old.items ++ spec.read_code (tree.lvalue place.now) address to) }
 {
     match place {
         Lvalue::Local(local) => {
@@ -226,7 +226,7 @@ fn store(access: Access, address: u64, from: u64, to: u64) -> Instruction
 
 /// A temporary to a place that was located.
 pub fn write(place: &Lvalue, address: u64, from: u64, to: u64) -> Instruction
-    ensures { result ≡ spec.write_code (views.lvalue place.now) address from to }
+    ensures { result ≡ spec.write_code (tree.lvalue place.now) address from to }
 {
     match place {
         Lvalue::Local(local) => copy(Slot::Local(*local), Slot::Temporary(from)),

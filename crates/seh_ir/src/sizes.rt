@@ -2,7 +2,6 @@
 
 ghost use Rattle.std.specs.Prelude.{◌≡◌, ◌+◌, map, IfOk};
 ghost use Rattle.c_checked.specs.Expression as tree;
-ghost use Rattle.seh_ir.specs.Views as views;
 ghost use Rattle.seh_ir.specs.Sizes as spec;
 
 use crate::scope::sum;
@@ -31,7 +30,7 @@ fn unary_size(operation: Pure) -> u64
 
 /// How many temporaries a place that was located takes.
 pub fn address_count(place: &Lvalue) -> u64
-    ensures { result ≡ spec.address_count (views.lvalue place.now) }
+    ensures { result ≡ spec.address_count (tree.lvalue place.now) }
 {
     match place {
         Lvalue::Local(_) => 0,
@@ -42,7 +41,7 @@ pub fn address_count(place: &Lvalue) -> u64
 }
 
 pub fn read_size(place: &Lvalue) -> u64
-    ensures { result ≡ spec.read_size (views.lvalue place.now) }
+    ensures { result ≡ spec.read_size (tree.lvalue place.now) }
 {
     match place {
         Lvalue::Local(_) => 1,
@@ -62,7 +61,7 @@ pub fn expression_size(expr: &Expr) -> Result<u64, AllocError>
 
 #[cycle(sizes)]
 pub fn locate_size(place: &Lvalue) -> Result<u64, AllocError>
-    ensures { IfOk result (λ n. n ≡ spec.locate_size (views.lvalue place.now)) }
+    ensures { IfOk result (λ n. n ≡ spec.locate_size (tree.lvalue place.now)) }
 {
     match place {
         Lvalue::Local(_) => Ok(0),
@@ -96,7 +95,7 @@ fn more_size(expr: &Expr, more: u64) -> Result<u64, AllocError>
 
 #[cycle(sizes)]
 fn read_node_size(place: &Lvalue) -> Result<u64, AllocError>
-    ensures { IfOk result (λ n. n ≡ spec.locate_size (views.lvalue place.now) + spec.read_size (views.lvalue place.now)) }
+    ensures { IfOk result (λ n. n ≡ spec.locate_size (tree.lvalue place.now) + spec.read_size (tree.lvalue place.now)) }
 {
     let located = locate_size(place)?;
     sum(located, read_size(place))
@@ -104,7 +103,7 @@ fn read_node_size(place: &Lvalue) -> Result<u64, AllocError>
 
 #[cycle(sizes)]
 fn address_size(place: &Lvalue) -> Result<u64, AllocError>
-    ensures { IfOk result (λ n. n ≡ spec.address_size (views.lvalue place.now) (spec.locate_size (views.lvalue place.now))) }
+    ensures { IfOk result (λ n. n ≡ spec.address_size (tree.lvalue place.now) (spec.locate_size (tree.lvalue place.now))) }
 {
     let located = locate_size(place)?;
     match place {
@@ -117,7 +116,7 @@ fn address_size(place: &Lvalue) -> Result<u64, AllocError>
 
 #[cycle(sizes)]
 fn increment_size(target: &Lvalue, before: Conversion, after: Conversion) -> Result<u64, AllocError>
-    ensures { IfOk result (λ n. n ≡ spec.locate_size (views.lvalue target.now) + (spec.read_size (views.lvalue target.now) + (1 + (spec.conversion_size before + (2 + (spec.conversion_size after + 2)))))) }
+    ensures { IfOk result (λ n. n ≡ spec.locate_size (tree.lvalue target.now) + (spec.read_size (tree.lvalue target.now) + (1 + (spec.conversion_size before + (2 + (spec.conversion_size after + 2)))))) }
 {
     let located = locate_size(target)?;
     sum(

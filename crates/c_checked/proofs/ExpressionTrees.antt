@@ -17,8 +17,7 @@ use Rattle.c_checked.specs.declared.expression.Lvalue.TheVariants as lvalues
 use Rattle.c_checked.specs.declared.expression.Lvalue.TheOpen as opened
 use Rattle.c_checked.specs.declared.expression.Lvalue.TheFolds.{fold-Lvalue, fold-Node, fold-Expr, fold-roll-Lvalue, fold-roll-Node, fold_out-Expr}
 use Rattle.c_checked.specs.Expression as trees
-use Rattle.c_checked.specs.Expression.{node, expression, arguments, lvalue_layer, node_layer, expression_layer}
-use Rattle.seh_ir.specs.Views.{lvalue}
+use Rattle.c_checked.specs.Expression.{lvalue, node, expression, arguments, lvalue_layer, node_layer, expression_layer}
 
 expression_is : (e : Expr) → fold-Expr trees.Lvalue trees.Node trees.Expression lvalue_layer node_layer expression_layer e ≡ expression e
 expression_is e = fold_out-Expr trees.Lvalue trees.Node trees.Expression lvalue_layer node_layer expression_layer e
