@@ -1,10 +1,7 @@
 -- What the code's frames and tasks stand for.
 use Rattle.std.specs.Prelude.{ℕ, ◌++◌, List, [], ◌∷◌, map, reverse, Option, Some, None, option_map}
 use Rattle.seh_num.specs.declared.event.Event.{Event}
-use Rattle.c_checked.specs.declared.expression.Lvalue.{Lvalue as Lvalue'}
-use Rattle.c_checked.specs.declared.expression.Lvalue.TheFolds.{fold-Lvalue}
-use Rattle.c_checked.specs.Expression as trees
-use Rattle.c_checked.specs.Expression.{Lvalue, node, expression, arguments, lvalue_layer, node_layer, expression_layer}
+use Rattle.c_checked.specs.Expression.{node, expression, lvalue, arguments}
 use Rattle.c_checked.specs.Statement as statements
 use Rattle.c_checked.specs.Statement.{statement, filter}
 use Rattle.c_model.specs.State.{Exception, Result, Value, Normal, Returned, Broke, Continued, LeftTry, Target, End}
@@ -40,9 +37,6 @@ use Rattle.c_interpret.specs.declared.frame.Next.{Next}
 use Rattle.c_interpret.specs.declared.frame.Next.TheVariants as nexts
 use Rattle.c_interpret.specs.declared.frame.Plan.{Plan}
 use Rattle.c_interpret.specs.declared.frame.Plan.TheVariants as plans
-
-abbrev pub lvalue : Lvalue' → Lvalue
-lvalue = fold-Lvalue Lvalue trees.Node trees.Expression lvalue_layer node_layer expression_layer
 
 abbrev pub exception_of : Exception' → Exception
 exception_of e = record { code = e.code; flag = e.flag; access = e.access }

@@ -39,7 +39,7 @@ pub fn operand<'p>(frame: OperandFrame<'p>, expr: &'p Expr, place: Place) -> Pla
 
 /// A place is located, and then a frame goes on.
 fn located<'p>(frame: AssignmentFrame<'p>, lvalue: &'p Lvalue, place: Place) -> Plan<'p>
-    ensures { plan_of result ≡ plans.assignment (views.assignment_frame_of frame.entry) (plans.locates (views.lvalue lvalue.now) (place_of place)) }
+    ensures { plan_of result ≡ plans.assignment (views.assignment_frame_of frame.entry) (plans.locates (tree.lvalue lvalue.now) (place_of place)) }
 {
     Plan::Push(
         Frame::Assignment(frame),
@@ -59,7 +59,7 @@ pub fn expression_plan<'p>(expr: &'p Expr, place: Place) -> Plan<'p>
 
 /// For a place that is found.
 pub fn find_plan<'p>(target: &'p Lvalue, place: Place) -> Plan<'p>
-    ensures { plan_of result ≡ plans.find_plan (views.lvalue target.now) (place_of place) }
+    ensures { plan_of result ≡ plans.find_plan (tree.lvalue target.now) (place_of place) }
 {
     match target {
         Lvalue::Local(_) => gives(0),

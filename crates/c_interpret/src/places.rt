@@ -1,6 +1,7 @@
 //! Places that are read and written, and operations.
 
 ghost use Rattle.std.specs.Prelude.{◌≡◌, List, IfOk};
+ghost use Rattle.c_checked.specs.Expression as tree;
 ghost use Rattle.seh_num.specs.declared.event.Event.{Event as Event'};
 ghost use Rattle.c_operations.specs.Performed.{performed};
 ghost use Rattle.source_operations.specs.Reserved.{reserved_below};
@@ -54,7 +55,7 @@ impl<'p> Machine<'p> {
         address: u64,
         place: Place,
     ) -> Result<Next<'p>, AllocError>
-        ensures { IfOk result (Moved self.old self.new (λ m. model.fetched m (views.lvalue target.now) address (place_of place))) }
+        ensures { IfOk result (Moved self.old self.new (λ m. model.fetched m (tree.lvalue target.now) address (place_of place))) }
     {
         match target {
             Lvalue::Local(local) => {
@@ -76,7 +77,7 @@ impl<'p> Machine<'p> {
 
     /// A value goes to a place that was located.
     pub fn put(&mut self, target: &'p Lvalue, address: u64, value: u64, place: Place) -> Next<'p>
-        ensures { Moved self.old self.new (λ m. model.put m (views.lvalue target.now) address value (place_of place)) result }
+        ensures { Moved self.old self.new (λ m. model.put m (tree.lvalue target.now) address value (place_of place)) result }
     {
         match target {
             Lvalue::Local(local) => {
