@@ -14,6 +14,7 @@ ghost use Rattle.c_interpret.specs.Views.{place_of};
 ghost use Rattle.c_interpret.specs.Machines.{machine_of, shown_after, Moved, Showed};
 
 use crate::activations::with_zeros;
+use crate::expressions::start;
 use crate::frame::{Callee, Frame, Next, Outcome, SequelFrame};
 use crate::machine::{Machine, Step, quiet, showing, too_deep};
 use crate::place::{Exception, NO_EXCEPTION, Place};
@@ -73,7 +74,7 @@ impl<'p> Machine<'p> {
             exception: NO_EXCEPTION,
             abnormal: false,
         };
-        Ok(Next::Proceed(&function.body, place))
+        Ok(Next::Proceed(&function.body, 0, place))
     }
 
     /// A built-in function is called.
@@ -99,7 +100,7 @@ impl<'p> Machine<'p> {
             BuiltIn::RaiseException => {
                 self.push(Frame::Sequel(SequelFrame::GivesZero))?;
                 let task = Task::Raise(raised(first, second));
-                Ok(quiet(Next::Start(task, place)))
+                Ok(quiet(start(task, place)))
             }
         }
     }

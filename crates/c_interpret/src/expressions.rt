@@ -8,7 +8,7 @@ ghost use Rattle.c_interpret.specs.Views as views;
 ghost use Rattle.c_interpret.specs.Views.{place_of, plan_of};
 
 use crate::frame::{
-    AssignmentFrame, Callee, Compound, Frame, Next, OperandFrame, Outcome, Plan, Stepped,
+    AssignmentFrame, Callee, Compound, Frame, Next, OperandFrame, Outcome, Phase, Plan, Stepped,
 };
 use crate::place::Place;
 use crate::task::Task;
@@ -16,42 +16,66 @@ use crate::values::{field_of, of_test};
 use c_checked::expression::{Expr, Lvalue, Node};
 use std::alloc::Global;
 
+/// Something is done next.
+pub fn then<'p>(next: Next<'p>) -> Plan<'p>
+    ensures { plan_of result ≡ frames.Then (views.next_of next.entry) }
+{
+    Plan { pushed: None, next }
+}
+
+/// Something is done next, and then a frame goes on.
+pub fn push<'p>(frame: Frame<'p>, next: Next<'p>) -> Plan<'p>
+    ensures { plan_of result ≡ frames.Push (views.frame_of frame.entry) (views.next_of next.entry) }
+{
+    Plan {
+        pushed: Some(frame),
+        next,
+    }
+}
+
+/// A task is to be done.
+pub fn start<'p>(task: Task<'p>, place: Place) -> Next<'p>
+    ensures { views.next_of result ≡ frames.Start (views.task_of task.entry) (place_of place) }
+{
+    Next::Do(Phase::Before, task, place)
+}
+
 /// A value is given.
 pub fn gives<'p>(value: u64) -> Plan<'p>
     ensures { plan_of result ≡ plans.gives value }
 {
-    Plan::Then(Next::Give(Outcome::Value(value)))
+    then(Next::Give(Outcome::Value(value)))
 }
 
 /// An expression is evaluated.
 pub fn evaluates<'p>(expr: &'p Expr, place: Place) -> Next<'p>
     ensures { views.next_of result ≡ plans.evaluates (tree.expression expr.now) (place_of place) }
 {
-    Next::Start(Task::Eval(expr), place)
+    start(Task::Eval(expr), place)
 }
 
 /// An operand is evaluated, and then a frame goes on.
 pub fn operand<'p>(frame: OperandFrame<'p>, expr: &'p Expr, place: Place) -> Plan<'p>
-    ensures { plan_of result ≡ plans.operand (views.operand_frame_of frame.entry) (tree.expression expr.now) (place_of place) }
+    ensures { plan_of result
+        ≡ plans.operand (views.operand_frame_of frame.entry) (tree.expression expr.now) (place_of place) }
 {
-    Plan::Push(Frame::Operand(frame), evaluates(expr, place))
+    push(Frame::Operand(frame), evaluates(expr, place))
 }
 
 /// A place is located, and then a frame goes on.
-fn located<'p>(frame: AssignmentFrame<'p>, lvalue: &'p Lvalue, place: Place) -> Plan<'p>
-    ensures { plan_of result ≡ plans.assignment (views.assignment_frame_of frame.entry) (plans.locates (tree.lvalue lvalue.now) (place_of place)) }
+fn located<'p>(frame: AssignmentFrame<'p>, target: &'p Lvalue, place: Place) -> Plan<'p>
+    ensures { plan_of result
+        ≡ plans.assignment (views.assignment_frame_of frame.entry)
+        (plans.locates (tree.lvalue target.now) (place_of place)) }
 {
-    Plan::Push(
-        Frame::Assignment(frame),
-        Next::Start(Task::Locate(lvalue), place),
-    )
+    push(Frame::Assignment(frame), start(Task::Locate(target), place))
 }
 
 /// For an expression: its node, and then its conversion.
 pub fn expression_plan<'p>(expr: &'p Expr, place: Place) -> Plan<'p>
     ensures { plan_of result ≡ plans.expression_plan (tree.expression expr.now) (place_of place) }
 {
-    Plan::Push(
+    push(
         Frame::Operand(OperandFrame::Converts(expr.conversion)),
         Next::Evaluate(&expr.node, place),
     )
@@ -64,7 +88,7 @@ pub fn find_plan<'p>(target: &'p Lvalue, place: Place) -> Plan<'p>
     match target {
         Lvalue::Local(_) => gives(0),
         Lvalue::Global { address, .. } => gives(*address),
-        Lvalue::Indirection { pointer, .. } => Plan::Then(evaluates(pointer, place)),
+        Lvalue::Indirection { pointer, .. } => then(evaluates(pointer, place)),
         Lvalue::Element { array, index, .. } => {
             operand(OperandFrame::EvaluatesIndex(index, place), array, place)
         }
@@ -72,10 +96,12 @@ pub fn find_plan<'p>(target: &'p Lvalue, place: Place) -> Plan<'p>
 }
 
 /// For a call, before its first argument.
-fn call_plan<'p>(alloc: Global, callee: Callee, arguments: &'p [Expr], place: Place) -> Plan<'p>
-    ensures { plan_of result ≡ frames.Then (frames.Pass (views.callee_of callee) [] (tree.arguments (map tree.expression arguments.now)) (place_of place)) }
+fn call_plan<'p>(alloc: Global, callee: Callee, arguments: &'p Vec<Expr>, place: Place) -> Plan<'p>
+    ensures { plan_of result
+        ≡ frames.Then (frames.Pass (views.callee_of callee) []
+        (tree.arguments (map tree.expression arguments.now.items)) (place_of place)) }
 {
-    Plan::Then(Next::Pass(callee, Vec::new(alloc), arguments, place))
+    then(Next::Pass(callee, Vec::new(alloc), arguments, 0, place))
 }
 
 /// For an expression without its conversion.
@@ -84,11 +110,11 @@ pub fn node_plan<'p>(alloc: Global, node: &'p Node, place: Place) -> Plan<'p>
 {
     match node {
         Node::Constant { value, .. } => gives(*value),
-        Node::Read(target) => Plan::Push(
+        Node::Read(target) => push(
             Frame::Assignment(AssignmentFrame::Reads(target, place)),
             Next::Find(target, place),
         ),
-        Node::AddressOf(target) => Plan::Then(Next::Start(Task::Locate(target), place)),
+        Node::AddressOf(target) => then(start(Task::Locate(target), place)),
         Node::Assign { target, value } => located(
             AssignmentFrame::EvaluatesAssigned(target, value, place),
             target,
@@ -171,21 +197,24 @@ pub fn node_plan<'p>(alloc: Global, node: &'p Node, place: Place) -> Plan<'p>
     }
 }
 
-/// For the arguments that are left, after the values of those before them.
+/// For the arguments from an index on, after the values of those before them.
 pub fn pass_plan<'p>(
     callee: Callee,
     values: Vec<u64>,
-    arguments: &'p [Expr],
+    arguments: &'p Vec<Expr>,
+    next: usize,
     place: Place,
 ) -> Plan<'p>
-    ensures { plan_of result ≡ plans.pass_plan (views.callee_of callee) values.items (tree.arguments (map tree.expression arguments.now)) (place_of place) }
+    ensures { plan_of result
+        ≡ plans.pass_plan (views.callee_of callee) values.items
+        (views.arguments_from arguments.now.items next) (place_of place) }
 {
-    match arguments {
-        [] => Plan::Then(Next::Call(callee, values, place)),
-        [first, rest @ ..] => operand(
-            OperandFrame::PassesArgument(callee, values, rest, place),
-            first,
-            place,
-        ),
+    if next >= arguments.len() {
+        return then(Next::Call(callee, values, place));
     }
+    operand(
+        OperandFrame::PassesArgument(callee, values, arguments, next + 1, place),
+        &arguments[next],
+        place,
+    )
 }

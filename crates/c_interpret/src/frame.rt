@@ -22,7 +22,7 @@ pub struct Compound<'p> {
     pub target: &'p Lvalue,
     pub before: Conversion,
     pub operation: Operation,
-    pub value: &'p Expr,
+    pub value: &'p Box<Expr>,
     pub after: Conversion,
 }
 
@@ -41,22 +41,22 @@ pub struct Stepped<'p> {
 #[derive(Drop)]
 pub enum OperandFrame<'p> {
     Converts(Conversion),
-    EvaluatesIndex(&'p Expr, Place),
+    EvaluatesIndex(&'p Box<Expr>, Place),
     AddsIndex(u64),
     Applies(Pure),
-    EvaluatesRight(Operation, &'p Expr, Place),
+    EvaluatesRight(Operation, &'p Box<Expr>, Place),
     Operates(Operation, u64, Place),
     /// The size of what the pointers point to, and the pointer that is subtracted.
-    EvaluatesSubtrahend(u64, &'p Expr, Place),
+    EvaluatesSubtrahend(u64, &'p Box<Expr>, Place),
     Measures(u64, u64),
     Inverts,
-    EvaluatesIfTrue(&'p Expr, Place),
-    EvaluatesIfFalse(&'p Expr, Place),
+    EvaluatesIfTrue(&'p Box<Expr>, Place),
+    EvaluatesIfFalse(&'p Box<Expr>, Place),
     Tests,
-    Chooses(&'p Expr, &'p Expr, Place),
-    Discards(&'p Expr, Place),
-    /// The arguments that were evaluated, and those that follow.
-    PassesArgument(Callee, Vec<u64>, &'p [Expr], Place),
+    Chooses(&'p Box<Expr>, &'p Box<Expr>, Place),
+    Discards(&'p Box<Expr>, Place),
+    /// The arguments that were evaluated, and the index of the next.
+    PassesArgument(Callee, Vec<u64>, &'p Vec<Expr>, usize, Place),
 }
 
 /// What waits for a place's address, or for a value on its way from or to a place.
@@ -64,7 +64,7 @@ pub enum OperandFrame<'p> {
 pub enum AssignmentFrame<'p> {
     Reads(&'p Lvalue, Place),
     Extends(Access),
-    EvaluatesAssigned(&'p Lvalue, &'p Expr, Place),
+    EvaluatesAssigned(&'p Lvalue, &'p Box<Expr>, Place),
     Assigns(&'p Lvalue, u64, Place),
     ReadsCompound(Compound<'p>, Place),
     EvaluatesCompound(Compound<'p>, u64, Place),
@@ -76,16 +76,30 @@ pub enum AssignmentFrame<'p> {
     GivesStepped(Fixity, u64),
 }
 
+/// What is done with an iteration of `for` or `while`.
+#[derive(Clone, Copy, Debug, PartialEq, Eq)]
+pub enum ForPart {
+    Begins,
+    Tests,
+}
+
+/// Whether a task's step was counted.
+#[derive(Clone, Copy, Debug, PartialEq, Eq)]
+pub enum Phase {
+    Before,
+    After,
+}
+
 /// What waits for a value in a statement, or for a filter's answer.
 #[derive(Clone, Copy, Drop)]
 pub enum StatementFrame<'p> {
     Initialises(u64, Place),
     EndsEvaluation,
     /// The statement where the condition isn't 0, and the one where it is.
-    Branches(&'p Stmt, Option<&'p Stmt>, Place),
-    Iterates(ForLoop<'p>, Place),
-    TestsFor(ForLoop<'p>, Place),
-    TestsDo(&'p Stmt, &'p Expr, Place),
+    Branches(&'p Box<Stmt>, Option<&'p Box<Stmt>>, Place),
+    /// An iteration begins, or its condition is tested.
+    For(ForPart, ForLoop<'p>, Place),
+    TestsDo(&'p Box<Stmt>, &'p Expr, Place),
     Returns,
     EndsFilter,
     /// The handler's number among the machine's.
@@ -108,8 +122,9 @@ pub enum Outcome {
 /// What waits for a normal end.
 #[derive(Clone, Copy, Drop)]
 pub enum SequelFrame<'p> {
-    Continues(&'p [Stmt], Place),
-    DeclaresRest(&'p [Declared], Place),
+    /// The statements, and the index of the next.
+    Continues(&'p Vec<Stmt>, usize, Place),
+    DeclaresRest(&'p Vec<Declared>, usize, Place),
     EvaluatesFirst(&'p Option<Expr>, ForLoop<'p>, Place),
     Retries(Operation, u64, u64, Place),
     GivesZero,
@@ -121,7 +136,7 @@ pub enum SequelFrame<'p> {
 #[derive(Clone, Copy, Drop)]
 pub enum BodyFrame<'p> {
     EndsForBody(ForLoop<'p>, Place),
-    EndsDoBody(&'p Stmt, &'p Expr, Place),
+    EndsDoBody(&'p Box<Stmt>, &'p Expr, Place),
 }
 
 /// What waits for a result.
@@ -136,9 +151,9 @@ pub enum Frame<'p> {
     EndsCall(usize),
     /// The end of a `__try` with an `__except`, whose handler is the machine's last: what was held where
     /// it was entered, and its block.
-    Lands(u64, &'p [Stmt], Place),
+    Lands(u64, &'p Vec<Stmt>, Place),
     /// The end of a `__try` with a `__finally`.
-    Finishes(u32, &'p [Stmt], Place),
+    Finishes(u32, &'p Vec<Stmt>, Place),
 }
 
 /// How a run ended.
@@ -156,24 +171,23 @@ pub enum Next<'p> {
     /// The run is over.
     Over(Finish),
     Give(Outcome),
-    /// A task, with its step.
-    Start(Task<'p>, Place),
-    /// A task after its step.
-    Begin(Task<'p>, Place),
+    /// A task, before or after its step.
+    Do(Phase, Task<'p>, Place),
     Evaluate(&'p Node, Place),
     Find(&'p Lvalue, Place),
     Fetch(&'p Lvalue, u64, Place),
     Put(&'p Lvalue, u64, u64, Place),
     Operate(Operation, u64, u64, Place),
-    /// Arguments, after those that were evaluated.
-    Pass(Callee, Vec<u64>, &'p [Expr], Place),
+    /// Arguments from an index on, after those that were evaluated.
+    Pass(Callee, Vec<u64>, &'p Vec<Expr>, usize, Place),
     Call(Callee, Vec<u64>, Place),
-    Proceed(&'p [Stmt], Place),
-    DeclareEach(&'p [Declared], Place),
+    /// Statements, or declared names, from an index on.
+    Proceed(&'p Vec<Stmt>, usize, Place),
+    DeclareEach(&'p Vec<Declared>, usize, Place),
     DeclareName(&'p Declared, Place),
     SetLocal(u64, u64, Place),
     /// A `__try` with an `__except` is entered.
-    Guard(&'p [Stmt], &'p Filter, &'p [Stmt], Place),
+    Guard(&'p Vec<Stmt>, &'p Filter, &'p Vec<Stmt>, Place),
     /// A filter's answer.
     Answer(u64),
     /// The end of a `__finally` block.
@@ -184,7 +198,7 @@ pub enum Next<'p> {
 
 /// What is done next, maybe with one more frame on the stack.
 #[derive(Drop)]
-pub enum Plan<'p> {
-    Then(Next<'p>),
-    Push(Frame<'p>, Next<'p>),
+pub struct Plan<'p> {
+    pub pushed: Option<Frame<'p>>,
+    pub next: Next<'p>,
 }

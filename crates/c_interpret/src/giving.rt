@@ -12,6 +12,7 @@ ghost use Rattle.c_interpret.specs.Views.{place_of, plan_of};
 ghost use Rattle.c_interpret.specs.Machines.{machine_of, shown_after, Moved, Showed};
 ghost use Rattle.c_interpret.specs.Finished.{resumed_from};
 
+use crate::expressions::start;
 use crate::frame::{
     AssignmentFrame, BodyFrame, Finish, Frame, Next, OperandFrame, Outcome, SequelFrame,
     StatementFrame,
@@ -25,10 +26,10 @@ use seh_num::event::{Code, Event};
 use std::alloc::AllocError;
 
 /// A `__finally` block is to run.
-fn finally<'p>(number: u32, last: &'p [Stmt], abnormal: bool, place: Place) -> Next<'p>
-    ensures { views.next_of result ≡ frames.Start (tasks.RunFinally number (trees.statements (map trees.statement last.now)) abnormal) (place_of place) }
+fn finally<'p>(number: u32, last: &'p Vec<Stmt>, abnormal: bool, place: Place) -> Next<'p>
+    ensures { views.next_of result ≡ frames.Start (tasks.RunFinally number (views.all_statements last.now.items) abnormal) (place_of place) }
 {
-    Next::Start(
+    start(
         Task::RunFinally {
             number,
             last,
@@ -55,12 +56,12 @@ impl<'p> Machine<'p> {
     fn land(
         &mut self,
         held: u64,
-        block: &'p [Stmt],
+        block: &'p Vec<Stmt>,
         place: Place,
         level: usize,
         exception: Exception,
     ) -> Step<'p>
-        ensures { Showed self.old self.new (λ m. model.landed m held (trees.statements (map trees.statement block.now)) (place_of place) (states.Target level (views.exception_of exception))) result }
+        ensures { Showed self.old self.new (λ m. model.landed m held (views.all_statements block.now.items) (place_of place) (states.Target level (views.exception_of exception))) result }
     {
         if level != self.handlers.len() {
             return quiet(Next::Give(Outcome::Target(level, exception)));
@@ -73,7 +74,7 @@ impl<'p> Machine<'p> {
         };
         showing(
             Event::Except(Code(exception.code)),
-            Next::Proceed(block, inside),
+            Next::Proceed(block, 0, inside),
         )
     }
 
@@ -81,11 +82,11 @@ impl<'p> Machine<'p> {
     fn finish_try(
         &mut self,
         number: u32,
-        last: &'p [Stmt],
+        last: &'p Vec<Stmt>,
         place: Place,
         how: Outcome,
     ) -> Result<Next<'p>, AllocError>
-        ensures { IfOk result (Moved self.old self.new (λ m. model.finished m number (trees.statements (map trees.statement last.now)) (place_of place) (views.result_of how))) }
+        ensures { IfOk result (Moved self.old self.new (λ m. model.finished m number (views.all_statements last.now.items) (place_of place) (views.result_of how))) }
     {
         match how {
             Outcome::Normal => Ok(finally(number, last, false, place)),
@@ -172,11 +173,11 @@ impl<'p> Machine<'p> {
     fn resume_landing(
         &mut self,
         held: u64,
-        block: &'p [Stmt],
+        block: &'p Vec<Stmt>,
         place: Place,
         how: Outcome,
     ) -> Step<'p>
-        ensures { Showed self.old self.new (λ m. model.landed m held (trees.statements (map trees.statement block.now)) (place_of place) (views.result_of how)) result }
+        ensures { Showed self.old self.new (λ m. model.landed m held (views.all_statements block.now.items) (place_of place) (views.result_of how)) result }
     {
         match how {
             Outcome::LeftTry => quiet(Next::Give(Outcome::Normal)),

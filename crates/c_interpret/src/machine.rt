@@ -11,7 +11,7 @@ ghost use Rattle.c_interpret.specs.Views.{place_of};
 ghost use Rattle.c_interpret.specs.Machines.{machine_of, state_of, shown_after, Moved, Showed};
 
 use crate::activations::Activations;
-use crate::frame::{Finish, Frame, Next, Plan};
+use crate::frame::{Finish, Frame, Next, Phase, Plan};
 use crate::place::{Handler, Place};
 use crate::task::Task;
 use c_model::ended::Ended;
@@ -93,13 +93,11 @@ impl<'p> Machine<'p> {
     pub fn follow(&mut self, plan: Plan<'p>) -> Result<Next<'p>, AllocError>
         ensures { IfOk result (Moved self.old self.new (λ m. model.follow m (views.plan_of plan.entry))) }
     {
-        match plan {
-            Plan::Then(next) => Ok(next),
-            Plan::Push(frame, next) => {
-                self.push(frame)?;
-                Ok(next)
-            }
+        let Plan { pushed, next } = plan;
+        if let Some(frame) = pushed {
+            self.push(frame)?;
         }
+        Ok(next)
     }
 
     /// A task's step.
@@ -110,6 +108,6 @@ impl<'p> Machine<'p> {
             return Next::Over(Finish::OutOfSteps);
         }
         self.steps_left -= 1;
-        Next::Begin(task, place)
+        Next::Do(Phase::After, task, place)
     }
 }

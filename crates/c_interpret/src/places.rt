@@ -13,6 +13,7 @@ ghost use Rattle.c_interpret.specs.Views.{place_of};
 ghost use Rattle.c_interpret.specs.Machines.{machine_of, state_of, Moved, Showed};
 ghost use Rattle.c_interpret.specs.Finished.{finished};
 
+use crate::expressions::{push, start, then};
 use crate::frame::{AssignmentFrame, Finish, Frame, Next, Outcome, Plan, SequelFrame};
 use crate::machine::Machine;
 use crate::place::{Exception, Place};
@@ -27,7 +28,7 @@ use std::alloc::AllocError;
 fn load_plan<'p>(access: Access, address: u64, place: Place) -> Plan<'p>
     ensures { views.plan_of result ≡ plans.load_plan access address (place_of place) }
 {
-    Plan::Push(
+    push(
         Frame::Assignment(AssignmentFrame::Extends(access)),
         Next::Operate(Operation::Load(access.width), address, 0, place),
     )
@@ -37,7 +38,7 @@ fn load_plan<'p>(access: Access, address: u64, place: Place) -> Plan<'p>
 fn store_plan<'p>(access: Access, address: u64, value: u64, place: Place) -> Plan<'p>
     ensures { views.plan_of result ≡ plans.store_plan access address value (place_of place) }
 {
-    Plan::Then(Next::Operate(Operation::Store(access.width), address, value, place))
+    then(Next::Operate(Operation::Store(access.width), address, value, place))
 }
 
 impl<'p> Machine<'p> {
@@ -116,7 +117,7 @@ impl<'p> Machine<'p> {
                     flag: false,
                     access,
                 };
-                Ok(Next::Start(Task::Raise(exception), place))
+                Ok(start(Task::Raise(exception), place))
             }
             Performed::Undefined(address) => {
                 Ok(Next::Over(Finish::Ended(Ended::Undefined { address })))

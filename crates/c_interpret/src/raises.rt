@@ -13,7 +13,7 @@ ghost use Rattle.c_interpret.specs.Views.{place_of};
 ghost use Rattle.c_interpret.specs.Machines.{machine_of, shown_after, Moved, Showed};
 
 use crate::calls::low_signed;
-use crate::expressions::evaluates;
+use crate::expressions::{evaluates, start};
 use crate::frame::{Finish, Frame, Next, Outcome, SequelFrame, StatementFrame};
 use crate::machine::{Machine, Step, quiet, showing, too_deep};
 use crate::place::{Exception, Handler, Place};
@@ -72,11 +72,11 @@ impl<'p> Machine<'p> {
     pub fn run_finally(
         &mut self,
         number: u32,
-        last: &'p [Stmt],
+        last: &'p Vec<Stmt>,
         abnormal: bool,
         place: Place,
     ) -> Result<Step<'p>, AllocError>
-        ensures { IfOk result (Showed self.old self.new (λ m. model.begun m (tasks.RunFinally number (trees.statements (map trees.statement last.now)) abnormal) (place_of place))) }
+        ensures { IfOk result (Showed self.old self.new (λ m. model.begun m (tasks.RunFinally number (views.all_statements last.now.items) abnormal) (place_of place))) }
     {
         if self.is_deep(2) {
             return Ok(quiet(too_deep()));
@@ -90,19 +90,19 @@ impl<'p> Machine<'p> {
         };
         Ok(showing(
             Event::Finally { number, abnormal },
-            Next::Proceed(last, inside),
+            Next::Proceed(last, 0, inside),
         ))
     }
 
     /// A `__try` with an `__except` is entered.
     pub fn guard(
         &mut self,
-        body: &'p [Stmt],
+        body: &'p Vec<Stmt>,
         filter: &'p Filter,
-        block: &'p [Stmt],
+        block: &'p Vec<Stmt>,
         place: Place,
     ) -> Result<Next<'p>, AllocError>
-        ensures { IfOk result (Moved self.old self.new (λ m. model.guarded m (trees.statements (map trees.statement body.now)) (trees.filter filter.now) (trees.statements (map trees.statement block.now)) (place_of place))) }
+        ensures { IfOk result (Moved self.old self.new (λ m. model.guarded m (views.all_statements body.now.items) (trees.filter filter.now) (views.all_statements block.now.items) (place_of place))) }
     {
         self.handlers.push(Handler {
             filter,
@@ -110,7 +110,7 @@ impl<'p> Machine<'p> {
             abnormal: place.abnormal,
         })?;
         self.stack.push(Frame::Lands(self.held, block, place))?;
-        Ok(Next::Start(Task::TryBody(body), place))
+        Ok(start(Task::TryBody(body), place))
     }
 
     /// The handlers below a number are asked, the highest first.
@@ -152,7 +152,7 @@ impl<'p> Machine<'p> {
                     handler,
                     exception,
                 };
-                Ok(Next::Start(task, place))
+                Ok(start(task, place))
             }
         }
     }

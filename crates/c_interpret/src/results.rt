@@ -8,9 +8,9 @@ ghost use Rattle.source_machine.specs.Plans as plans;
 ghost use Rattle.c_interpret.specs.Views as views;
 ghost use Rattle.c_interpret.specs.Views.{place_of, plan_of};
 
-use crate::expressions::{evaluates, gives, operand};
+use crate::expressions::{evaluates, gives, operand, push, start, then};
 use crate::frame::{
-    AssignmentFrame, BodyFrame, Frame, Next, OperandFrame, Outcome, Plan, SequelFrame,
+    AssignmentFrame, BodyFrame, ForPart, Frame, Next, OperandFrame, Outcome, Plan, SequelFrame,
     StatementFrame,
 };
 use crate::place::{Exception, NONCONTINUABLE, Place};
@@ -50,9 +50,9 @@ fn choose_plan<'p>(condition: u64, yes: &'p Expr, no: &'p Expr, place: Place) ->
     ensures { plan_of result ≡ plans.operand_plan (frames.Chooses (tree.expression yes.now) (tree.expression no.now) (place_of place)) condition }
 {
     if condition == 0 {
-        Plan::Then(evaluates(no, place))
+        then(evaluates(no, place))
     } else {
-        Plan::Then(evaluates(yes, place))
+        then(evaluates(yes, place))
     }
 }
 
@@ -75,7 +75,7 @@ pub fn operand_plan<'p>(frame: OperandFrame<'p>, value: u64) -> Result<Plan<'p>,
             place,
         ),
         OperandFrame::Operates(operation, left, place) => {
-            Plan::Then(Next::Operate(operation, left, value, place))
+            then(Next::Operate(operation, left, value, place))
         }
         OperandFrame::EvaluatesSubtrahend(size, right, place) => {
             operand(OperandFrame::Measures(size, value), right, place)
@@ -86,11 +86,11 @@ pub fn operand_plan<'p>(frame: OperandFrame<'p>, value: u64) -> Result<Plan<'p>,
         OperandFrame::EvaluatesIfFalse(right, place) => or_plan(value, right, place),
         OperandFrame::Tests => gives(of_test(value != 0)),
         OperandFrame::Chooses(yes, no, place) => choose_plan(value, yes, no, place),
-        OperandFrame::Discards(right, place) => Plan::Then(evaluates(right, place)),
-        OperandFrame::PassesArgument(callee, values, rest, place) => {
+        OperandFrame::Discards(right, place) => then(evaluates(right, place)),
+        OperandFrame::PassesArgument(callee, values, arguments, next, place) => {
             let mut values = values;
             values.push(value)?;
-            Plan::Then(Next::Pass(callee, values, rest, place))
+            then(Next::Pass(callee, values, arguments, next, place))
         }
     })
 }
@@ -98,7 +98,7 @@ pub fn operand_plan<'p>(frame: OperandFrame<'p>, value: u64) -> Result<Plan<'p>,
 fn assignment<'p>(frame: AssignmentFrame<'p>, next: Next<'p>) -> Plan<'p>
     ensures { plan_of result ≡ plans.assignment (views.assignment_frame_of frame.entry) (views.next_of next.entry) }
 {
-    Plan::Push(Frame::Assignment(frame), next)
+    push(Frame::Assignment(frame), next)
 }
 
 /// A place's address is there, or a value on its way from or to a place.
@@ -123,7 +123,7 @@ pub fn assignment_plan<'p>(frame: AssignmentFrame<'p>, value: u64) -> Plan<'p>
         }
         AssignmentFrame::AssignsCompound(of, address, place) => {
             let new = converted(of.after, value);
-            Plan::Then(Next::Put(of.target, address, new, place))
+            then(Next::Put(of.target, address, new, place))
         }
         AssignmentFrame::ReadsStepped(of, place) => assignment(
             AssignmentFrame::OperatesStepped(of, value, place),
@@ -144,14 +144,14 @@ pub fn assignment_plan<'p>(frame: AssignmentFrame<'p>, value: u64) -> Plan<'p>
             )
         }
         AssignmentFrame::GivesStepped(fixity, old) => gives(incremented_value(fixity, old, value)),
-        AssignmentFrame::Reads(target, place) => Plan::Then(Next::Fetch(target, value, place)),
+        AssignmentFrame::Reads(target, place) => then(Next::Fetch(target, value, place)),
         AssignmentFrame::Extends(access) => gives(value_of(access, value)),
         AssignmentFrame::EvaluatesAssigned(target, expr, place) => assignment(
             AssignmentFrame::Assigns(target, value, place),
             evaluates(expr, place),
         ),
         AssignmentFrame::Assigns(target, address, place) => {
-            Plan::Then(Next::Put(target, address, value, place))
+            then(Next::Put(target, address, value, place))
         }
     }
 }
@@ -161,11 +161,11 @@ fn answer_plan<'p>(answer: u64, level: usize, exception: Exception, place: Place
     ensures { plan_of result ≡ plans.in_statement_plan (frames.IsAnswered level (views.exception_of exception) (place_of place)) answer }
 {
     if answer == 0 {
-        Plan::Then(Next::Search(level, exception, place))
+        then(Next::Search(level, exception, place))
     } else if answer < 0x8000_0000 {
-        Plan::Then(Next::Give(Outcome::Target(level, exception)))
+        then(Next::Give(Outcome::Target(level, exception)))
     } else if exception.flag {
-        Plan::Then(Next::Start(Task::Raise(NONCONTINUABLE), place))
+        then(start(Task::Raise(NONCONTINUABLE), place))
     } else {
         ends()
     }
@@ -176,18 +176,14 @@ pub fn in_statement_plan<'p>(frame: StatementFrame<'p>, value: u64) -> Plan<'p>
     ensures { plan_of result ≡ plans.in_statement_plan (views.statement_frame_of frame.entry) value }
 {
     match frame {
-        StatementFrame::Initialises(local, place) => {
-            Plan::Then(Next::SetLocal(local, value, place))
-        }
+        StatementFrame::Initialises(local, place) => { then(Next::SetLocal(local, value, place)) }
         StatementFrame::EndsEvaluation => ends(),
-        StatementFrame::Branches(then, otherwise, place) => {
-            branch(value == 0, then, otherwise, place)
-        }
-        StatementFrame::Iterates(of, place) => Plan::Then(iterate(of, place)),
-        StatementFrame::TestsFor(of, place) => for_test(value, of, place),
+        StatementFrame::Branches(yes, no, place) => branch(value == 0, yes, no, place),
+        StatementFrame::For(ForPart::Begins, of, place) => then(iterate(of, place)),
+        StatementFrame::For(ForPart::Tests, of, place) => for_test(value, of, place),
         StatementFrame::TestsDo(body, condition, place) => do_test(value, body, condition, place),
-        StatementFrame::Returns => Plan::Then(Next::Give(Outcome::Returned(value))),
-        StatementFrame::EndsFilter => Plan::Then(Next::Answer(value)),
+        StatementFrame::Returns => then(Next::Give(Outcome::Returned(value))),
+        StatementFrame::EndsFilter => then(Next::Answer(value)),
         StatementFrame::IsAnswered(level, exception, place) => {
             answer_plan(value, level, exception, place)
         }
@@ -206,13 +202,13 @@ fn for_test<'p>(value: u64, of: ForLoop<'p>, place: Place) -> Plan<'p>
 }
 
 /// A condition of `do` has this value.
-fn do_test<'p>(value: u64, body: &'p Stmt, condition: &'p Expr, place: Place) -> Plan<'p>
-    ensures { plan_of result ≡ plans.in_statement_plan (frames.TestsDo (trees.statement body.now) (tree.expression condition.now) (place_of place)) value }
+fn do_test<'p>(value: u64, body: &'p Box<Stmt>, condition: &'p Expr, place: Place) -> Plan<'p>
+    ensures { plan_of result ≡ plans.in_statement_plan (frames.TestsDo (trees.statement body.now.value) (tree.expression condition.now) (place_of place)) value }
 {
     if value == 0 {
         ends()
     } else {
-        Plan::Then(Next::Start(Task::DoIteration { body, condition }, place))
+        then(start(Task::DoIteration { body, condition }, place))
     }
 }
 
@@ -221,12 +217,12 @@ pub fn sequel_plan<'p>(frame: SequelFrame<'p>) -> Plan<'p>
     ensures { plan_of result ≡ plans.sequel_plan (views.sequel_frame_of frame.entry) }
 {
     match frame {
-        SequelFrame::Continues(stmts, place) => Plan::Then(Next::Proceed(stmts, place)),
-        SequelFrame::DeclaresRest(declared, place) => {
-            Plan::Then(Next::DeclareEach(declared, place))
+        SequelFrame::Continues(stmts, next, place) => then(Next::Proceed(stmts, next, place)),
+        SequelFrame::DeclaresRest(declared, next, place) => {
+            then(Next::DeclareEach(declared, next, place))
         }
         SequelFrame::EvaluatesFirst(first, of, place) => first_plan(first, of, place),
-        SequelFrame::Retries(operation, first, second, place) => Plan::Then(Next::Start(
+        SequelFrame::Retries(operation, first, second, place) => then(start(
             Task::Retry {
                 operation,
                 first,
@@ -235,8 +231,8 @@ pub fn sequel_plan<'p>(frame: SequelFrame<'p>) -> Plan<'p>
             place,
         )),
         SequelFrame::GivesZero => gives(0),
-        SequelFrame::GivesResult(how) => Plan::Then(Next::Give(how)),
-        SequelFrame::EndsFinally => Plan::Then(Next::LetGo),
+        SequelFrame::GivesResult(how) => then(Next::Give(how)),
+        SequelFrame::EndsFinally => then(Next::LetGo),
     }
 }
 

@@ -9,8 +9,8 @@ ghost use Rattle.source_machine.specs.Plans as plans;
 ghost use Rattle.c_interpret.specs.Views as views;
 ghost use Rattle.c_interpret.specs.Views.{place_of, plan_of};
 
-use crate::expressions::evaluates;
-use crate::frame::{BodyFrame, Frame, Next, Outcome, Plan, SequelFrame, StatementFrame};
+use crate::expressions::{evaluates, push, start, then};
+use crate::frame::{BodyFrame, ForPart, Frame, Next, Outcome, Plan, SequelFrame, StatementFrame};
 use crate::place::Place;
 use crate::task::{ForLoop, Task};
 use c_checked::expression::Expr;
@@ -20,26 +20,27 @@ use c_checked::statement::{Declared, Stmt};
 pub fn ends<'p>() -> Plan<'p>
     ensures { plan_of result ≡ plans.ends }
 {
-    Plan::Then(Next::Give(Outcome::Normal))
+    then(Next::Give(Outcome::Normal))
 }
 
 fn leaves<'p>(how: Outcome) -> Plan<'p>
     ensures { plan_of result ≡ frames.Then (frames.Give (views.result_of how)) }
 {
-    Plan::Then(Next::Give(how))
+    then(Next::Give(how))
 }
 
-fn runs<'p>(stmt: &'p Stmt, place: Place) -> Next<'p>
-    ensures { views.next_of result ≡ frames.Start (tasks.Run (trees.statement stmt.now)) (place_of place) }
+fn runs<'p>(stmt: &'p Box<Stmt>, place: Place) -> Next<'p>
+    ensures { views.next_of result
+        ≡ frames.Start (tasks.Run (trees.statement stmt.now.value)) (place_of place) }
 {
-    Next::Start(Task::Run(stmt), place)
+    start(Task::RunBoxed(stmt), place)
 }
 
 /// An expression is evaluated, and then a frame goes on.
 pub fn tested<'p>(frame: StatementFrame<'p>, expr: &'p Expr, place: Place) -> Plan<'p>
     ensures { plan_of result ≡ frames.Push (frames.InStatement (views.statement_frame_of frame.entry)) (plans.evaluates (tree.expression expr.now) (place_of place)) }
 {
-    Plan::Push(Frame::Statement(frame), evaluates(expr, place))
+    push(Frame::Statement(frame), evaluates(expr, place))
 }
 
 /// An expression's value goes to a frame, and without an expression the rest is done at once.
@@ -57,30 +58,32 @@ fn evaluated<'p>(
     }
 }
 
-/// For statements, one after another.
-pub fn proceed_plan<'p>(stmts: &'p [Stmt], place: Place) -> Plan<'p>
-    ensures { plan_of result ≡ plans.proceed_plan (trees.statements (map trees.statement stmts.now)) (place_of place) }
+/// For statements from an index on, one after another.
+pub fn proceed_plan<'p>(stmts: &'p Vec<Stmt>, next: usize, place: Place) -> Plan<'p>
+    ensures { plan_of result
+        ≡ plans.proceed_plan (views.statements_from stmts.now.items next) (place_of place) }
 {
-    match stmts {
-        [] => ends(),
-        [first, rest @ ..] => Plan::Push(
-            Frame::Sequel(SequelFrame::Continues(rest, place)),
-            runs(first, place),
-        ),
+    if next >= stmts.len() {
+        return ends();
     }
+    push(
+        Frame::Sequel(SequelFrame::Continues(stmts, next + 1, place)),
+        start(Task::RunListed(stmts, next), place),
+    )
 }
 
-/// For declared names, one after another.
-pub fn declare_plan<'p>(declared: &'p [Declared], place: Place) -> Plan<'p>
-    ensures { plan_of result ≡ plans.declare_plan (map trees.declared declared.now) (place_of place) }
+/// For declared names from an index on, one after another.
+pub fn declare_plan<'p>(declared: &'p Vec<Declared>, next: usize, place: Place) -> Plan<'p>
+    ensures { plan_of result
+        ≡ plans.declare_plan (views.declared_from declared.now.items next) (place_of place) }
 {
-    match declared {
-        [] => ends(),
-        [first, rest @ ..] => Plan::Push(
-            Frame::Sequel(SequelFrame::DeclaresRest(rest, place)),
-            Next::Start(Task::Declare(first), place),
-        ),
+    if next >= declared.len() {
+        return ends();
     }
+    push(
+        Frame::Sequel(SequelFrame::DeclaresRest(declared, next + 1, place)),
+        start(Task::Declare(&declared[next]), place),
+    )
 }
 
 /// For a declared name, which is 0: its initialiser.
@@ -91,7 +94,7 @@ pub fn initialise_plan<'p>(declared: &'p Declared, place: Place) -> Plan<'p>
         StatementFrame::Initialises(declared.local, place),
         &declared.value,
         place,
-        Plan::Then(Next::SetLocal(declared.local, 0, place)),
+        then(Next::SetLocal(declared.local, 0, place)),
     )
 }
 
@@ -99,14 +102,14 @@ pub fn initialise_plan<'p>(declared: &'p Declared, place: Place) -> Plan<'p>
 pub fn iterate<'p>(of: ForLoop<'p>, place: Place) -> Next<'p>
     ensures { views.next_of result ≡ plans.iterate (views.for_loop_of of.entry) (place_of place) }
 {
-    Next::Start(Task::ForIteration(of), place)
+    start(Task::ForIteration(of), place)
 }
 
 /// The body of `for` or `while`.
 pub fn for_body<'p>(of: ForLoop<'p>, place: Place) -> Plan<'p>
     ensures { plan_of result ≡ plans.for_body (views.for_loop_of of.entry) (place_of place) }
 {
-    Plan::Push(
+    push(
         Frame::Body(BodyFrame::EndsForBody(of, place)),
         runs(of.body, place),
     )
@@ -117,7 +120,7 @@ pub fn for_plan<'p>(of: ForLoop<'p>, place: Place) -> Plan<'p>
     ensures { let k = views.for_loop_of of.entry in let p = place_of place in plan_of result ≡ plans.evaluated (frames.TestsFor k p) k.condition p (plans.for_body k p) }
 {
     evaluated(
-        StatementFrame::TestsFor(of, place),
+        StatementFrame::For(ForPart::Tests, of, place),
         of.condition,
         place,
         for_body(of, place),
@@ -125,10 +128,10 @@ pub fn for_plan<'p>(of: ForLoop<'p>, place: Place) -> Plan<'p>
 }
 
 /// For an iteration of `do`.
-pub fn do_plan<'p>(body: &'p Stmt, condition: &'p Expr, place: Place) -> Plan<'p>
-    ensures { plan_of result ≡ frames.Push (frames.Body (frames.EndsDoBody (trees.statement body.now) (tree.expression condition.now) (place_of place))) (frames.Start (tasks.Run (trees.statement body.now)) (place_of place)) }
+pub fn do_plan<'p>(body: &'p Box<Stmt>, condition: &'p Expr, place: Place) -> Plan<'p>
+    ensures { plan_of result ≡ frames.Push (frames.Body (frames.EndsDoBody (trees.statement body.now.value) (tree.expression condition.now) (place_of place))) (frames.Start (tasks.Run (trees.statement body.now.value)) (place_of place)) }
 {
-    Plan::Push(
+    push(
         Frame::Body(BodyFrame::EndsDoBody(body, condition, place)),
         runs(body, place),
     )
@@ -139,10 +142,10 @@ pub fn first_plan<'p>(first: &'p Option<Expr>, of: ForLoop<'p>, place: Place) ->
     ensures { let k = views.for_loop_of of.entry in let p = place_of place in plan_of result ≡ plans.evaluated (frames.Iterates k p) (option_map tree.expression first.now) p (frames.Then (plans.iterate k p)) }
 {
     evaluated(
-        StatementFrame::Iterates(of, place),
+        StatementFrame::For(ForPart::Begins, of, place),
         first,
         place,
-        Plan::Then(iterate(of, place)),
+        then(iterate(of, place)),
     )
 }
 
@@ -151,24 +154,20 @@ pub fn statement_plan<'p>(stmt: &'p Stmt, place: Place) -> Plan<'p>
     ensures { plan_of result ≡ plans.statement_plan (trees.statement stmt.now) (place_of place) }
 {
     match stmt {
-        Stmt::Declare(declared) => Plan::Then(Next::DeclareName(declared, place)),
-        Stmt::Block(stmts) => Plan::Then(Next::Proceed(stmts, place)),
+        Stmt::Declare(declared) => then(Next::DeclareName(declared, place)),
+        Stmt::Block(stmts) => then(Next::Proceed(stmts, 0, place)),
         Stmt::Evaluate(expr) => evaluated(StatementFrame::EndsEvaluation, expr, place, ends()),
         Stmt::If {
             condition,
-            then,
+            then: yes,
             otherwise: None,
-        } => tested(
-            StatementFrame::Branches(then, None, place),
-            condition,
-            place,
-        ),
+        } => tested(StatementFrame::Branches(yes, None, place), condition, place),
         Stmt::If {
             condition,
-            then,
-            otherwise: Some(otherwise),
+            then: yes,
+            otherwise: Some(no),
         } => tested(
-            StatementFrame::Branches(then, Some(otherwise), place),
+            StatementFrame::Branches(yes, Some(no), place),
             condition,
             place,
         ),
@@ -184,13 +183,13 @@ pub fn statement_plan<'p>(stmt: &'p Stmt, place: Place) -> Plan<'p>
                 next,
                 body,
             };
-            Plan::Push(
+            push(
                 Frame::Sequel(SequelFrame::EvaluatesFirst(first, of, place)),
-                Next::DeclareEach(declared, place),
+                Next::DeclareEach(declared, 0, place),
             )
         }
         Stmt::Do { body, condition } => {
-            Plan::Then(Next::Start(Task::DoIteration { body, condition }, place))
+            then(start(Task::DoIteration { body, condition }, place))
         }
         Stmt::Return(expr) => evaluated(
             StatementFrame::Returns,
@@ -205,28 +204,41 @@ pub fn statement_plan<'p>(stmt: &'p Stmt, place: Place) -> Plan<'p>
             body,
             filter,
             handler,
-        } => Plan::Then(Next::Guard(body, filter, handler, place)),
-        Stmt::TryFinally { body, number, last } => Plan::Push(
+        } => then(Next::Guard(body, filter, handler, place)),
+        Stmt::TryFinally { body, number, last } => push(
             Frame::Finishes(*number, last, place),
-            Next::Start(Task::TryBody(body), place),
+            start(Task::TryBody(body), place),
         ),
+    }
+}
+
+/// For a statement of a list; where there is none, nothing is done.
+pub fn listed_plan<'p>(stmts: &'p Vec<Stmt>, index: usize, place: Place) -> Plan<'p>
+    ensures { plan_of result
+        ≡ plans.statement_plan (views.statement_at stmts.now.items index) (place_of place) }
+{
+    match stmts.get(index) {
+        None => then(Next::Proceed(stmts, stmts.len(), place)),
+        Some(stmt) => statement_plan(stmt, place),
     }
 }
 
 /// What follows a condition of `if`.
 pub fn branch<'p>(
     is_zero: bool,
-    then: &'p Stmt,
-    otherwise: Option<&'p Stmt>,
+    then_runs: &'p Box<Stmt>,
+    otherwise: Option<&'p Box<Stmt>>,
     place: Place,
 ) -> Plan<'p>
-    ensures { plan_of result ≡ plans.branch is_zero (trees.statement then.now) (option_map (λ s. trees.statement s.now) otherwise.entry) (place_of place) }
+    ensures { plan_of result
+        ≡ plans.branch is_zero (trees.statement then_runs.now.value)
+        (option_map (λ s. trees.statement s.now.value) otherwise.entry) (place_of place) }
 {
     if !is_zero {
-        return Plan::Then(runs(then, place));
+        return then(runs(then_runs, place));
     }
     match otherwise {
         None => ends(),
-        Some(stmt) => Plan::Then(runs(stmt, place)),
+        Some(stmt) => then(runs(stmt, place)),
     }
 }

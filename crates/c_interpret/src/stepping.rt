@@ -13,11 +13,11 @@ ghost use Rattle.c_interpret.specs.Views.{place_of};
 ghost use Rattle.c_interpret.specs.Machines.{machine_of, shown_after, Moved, Showed};
 
 use crate::expressions::{expression_plan, find_plan, node_plan, pass_plan};
-use crate::frame::{Next, Outcome, Plan};
+use crate::frame::{Next, Outcome, Phase, Plan};
 use crate::machine::{Machine, Step, quiet};
 use crate::place::Place;
 use crate::statements::{
-    declare_plan, do_plan, for_plan, initialise_plan, proceed_plan, statement_plan,
+    declare_plan, do_plan, for_plan, initialise_plan, listed_plan, proceed_plan, statement_plan,
 };
 use crate::task::Task;
 use c_checked::checked::Checked;
@@ -32,13 +32,14 @@ impl<'p> Machine<'p> {
         match task {
             Task::Eval(expr) => self.planned(expression_plan(expr, place)),
             Task::Locate(target) => Ok(quiet(Next::Find(target, place))),
-            Task::Run(stmt) => self.planned(statement_plan(stmt, place)),
+            Task::RunListed(stmts, index) => self.planned(listed_plan(stmts, index, place)),
+            Task::RunBoxed(stmt) => self.planned(statement_plan(stmt, place)),
             Task::Declare(declared) => Ok(quiet(Next::DeclareName(declared, place))),
             Task::ForIteration(of) => self.planned(for_plan(of, place)),
             Task::DoIteration { body, condition } => {
                 self.planned(do_plan(body, condition, place))
             }
-            Task::TryBody(stmts) => Ok(quiet(Next::Proceed(stmts, place))),
+            Task::TryBody(stmts) => Ok(quiet(Next::Proceed(stmts, 0, place))),
             Task::Raise(exception) => Ok(self.raise(exception, place)),
             Task::RunFilter {
                 number,
@@ -88,8 +89,8 @@ impl<'p> Machine<'p> {
         match next {
             Next::Over(how) => Ok(quiet(Next::Over(how))),
             Next::Give(how) => self.give(how),
-            Next::Start(task, place) => Ok(quiet(self.start(task, place))),
-            Next::Begin(task, place) => self.begin(task, place),
+            Next::Do(Phase::Before, task, place) => Ok(quiet(self.start(task, place))),
+            Next::Do(Phase::After, task, place) => self.begin(task, place),
             Next::Evaluate(node, place) => self.planned(node_plan(alloc, node, place)),
             Next::Find(target, place) => self.planned(find_plan(target, place)),
             Next::Fetch(target, address, place) => Ok(quiet(self.fetch(target, address, place)?)),
@@ -99,12 +100,14 @@ impl<'p> Machine<'p> {
             Next::Operate(operation, first, second, place) => {
                 Ok(quiet(self.operate(data_end, operation, first, second, place)?))
             }
-            Next::Pass(callee, values, rest, place) => {
-                self.planned(pass_plan(callee, values, rest, place))
+            Next::Pass(callee, values, arguments, next, place) => {
+                self.planned(pass_plan(callee, values, arguments, next, place))
             }
             Next::Call(callee, values, place) => self.call(program, callee, values, place),
-            Next::Proceed(stmts, place) => self.planned(proceed_plan(stmts, place)),
-            Next::DeclareEach(declared, place) => self.planned(declare_plan(declared, place)),
+            Next::Proceed(stmts, next, place) => self.planned(proceed_plan(stmts, next, place)),
+            Next::DeclareEach(declared, next, place) => {
+                self.planned(declare_plan(declared, next, place))
+            }
             Next::DeclareName(declared, place) => self.declare(declared, place),
             Next::SetLocal(local, value, place) => {
                 self.set_local(local, value, place);

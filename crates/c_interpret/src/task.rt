@@ -10,7 +10,7 @@ use c_operations::operation::Operation;
 pub struct ForLoop<'p> {
     pub condition: &'p Option<Expr>,
     pub next: &'p Option<Expr>,
-    pub body: &'p Stmt,
+    pub body: &'p Box<Stmt>,
 }
 
 /// What counts one step, where it begins.
@@ -18,16 +18,18 @@ pub struct ForLoop<'p> {
 pub enum Task<'p> {
     Eval(&'p Expr),
     Locate(&'p Lvalue),
-    Run(&'p Stmt),
+    /// A statement of a list, by its index.
+    RunListed(&'p Vec<Stmt>, usize),
+    RunBoxed(&'p Box<Stmt>),
     /// A declared name.
     Declare(&'p Declared),
     ForIteration(ForLoop<'p>),
     DoIteration {
-        body: &'p Stmt,
+        body: &'p Box<Stmt>,
         condition: &'p Expr,
     },
     /// The body of a `__try`.
-    TryBody(&'p [Stmt]),
+    TryBody(&'p Vec<Stmt>),
     Raise(Exception),
     /// A filter, by its number.
     RunFilter {
@@ -39,7 +41,7 @@ pub enum Task<'p> {
     /// A `__finally` block, by its number.
     RunFinally {
         number: u32,
-        last: &'p [Stmt],
+        last: &'p Vec<Stmt>,
         abnormal: bool,
     },
     /// An operation again, on the same operands.
