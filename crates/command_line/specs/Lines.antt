@@ -7,10 +7,10 @@ use Rattle.clap.specs.Words.{App, Row, Rule, Text, fault_of, first_of, new_app, 
 use Rattle.clap.specs.Simple.{on_top}
 use Rattle.clap.specs.declared.builder.action.ArgAction.TheVariants.{Set, SetTrue}
 use Rattle.command_line.specs.declared.command.Command.{Command}
-use Rattle.command_line.specs.declared.command.Command.TheVariants.{Compile, Exec, Run, Show}
+use Rattle.command_line.specs.declared.command.Command.TheVariants.{Compile, Exec, Run, Meaning, Show}
 use Rattle.command_line.specs.declared.command.RunOptions.{RunOptions}
 
--- ---- the commands as `clap` reads them: `compile`, `show`, and `exec` and `run` with `--turns N`, `--arg N` and `--trace`, each at most once and in any order
+-- ---- the commands as `clap` reads them: `compile`, `show`, and `exec`, `run` and `meaning` with `--turns N`, `--arg N` and `--trace`, each at most once and in any order
 
 abbrev pub number_option : Text → Rule
 number_option name = record (new_rule name) { long = Some name; action = Some Set }
@@ -34,6 +34,9 @@ exec_app = run_app_named (codes "exec")
 abbrev pub run_app : App
 run_app = run_app_named (codes "run")
 
+abbrev pub meaning_app : App
+meaning_app = run_app_named (codes "meaning")
+
 -- the words after the program's name are a command, and none of them asks for help or a version
 abbrev pub bare_app : App
 bare_app =
@@ -41,7 +44,7 @@ bare_app =
     (new_app (codes "seh"))
 
 abbrev pub seh_app : App
-seh_app = with_subcommand (with_subcommand (with_subcommand (with_subcommand bare_app compile_app.top) show_app.top) exec_app.top) run_app.top
+seh_app = with_subcommand (with_subcommand (with_subcommand (with_subcommand (with_subcommand bare_app compile_app.top) show_app.top) exec_app.top) run_app.top) meaning_app.top
 
 -- ---- what a line means
 
@@ -60,6 +63,7 @@ Names Compile x = x.0 ≡ codes "compile"
 Names Show x = x.0 ≡ codes "show"
 Names (Exec options) x = (x.0 ≡ codes "exec") × HasOptions options x.1
 Names (Run options) x = (x.0 ≡ codes "run") × HasOptions options x.1
+Names (Meaning options) x = (x.0 ≡ codes "meaning") × HasOptions options x.1
 
 -- the words are a line of the command set, which means the command
 abbrev pub IsLine : List Text → Command → Type 0

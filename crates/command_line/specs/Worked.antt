@@ -1,7 +1,7 @@
 -- Lines that are written out.
 use Rattle.std.specs.Prelude.{true, false, List, [], ◌∷◌, pos, codes}
 use Rattle.clap.specs.Words.{Text}
-use Rattle.command_line.specs.declared.command.Command.TheVariants.{Compile, Exec, Run, Show}
+use Rattle.command_line.specs.declared.command.Command.TheVariants.{Compile, Exec, Run, Meaning, Show}
 use Rattle.command_line.specs.Lines.{IsLine}
 
 abbrev pub CompileAlone : Type 0
@@ -18,3 +18,6 @@ ExecWithAll = IsLine (codes "exec" ∷ codes "--trace" ∷ codes "--arg" ∷ cod
 
 abbrev pub RunWithTurns : Type 0
 RunWithTurns = IsLine (codes "run" ∷ codes "--turns" ∷ codes "7" ∷ []) (Run (record { turns = 7; argument = pos 0; trace = false }))
+
+abbrev pub MeaningWithTrace : Type 0
+MeaningWithTrace = IsLine (codes "meaning" ∷ codes "--trace" ∷ []) (Meaning (record { turns = 10000000; argument = pos 0; trace = true }))

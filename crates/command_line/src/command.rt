@@ -18,6 +18,8 @@ pub enum Command {
     Exec(RunOptions),
     /// Compiles a text, and runs its image.
     Run(RunOptions),
+    /// Runs a text as its meaning says; the turns are the steps of the meaning.
+    Meaning(RunOptions),
     /// Shows the function table of an image.
     Show,
 }

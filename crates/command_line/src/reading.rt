@@ -73,6 +73,7 @@ fn program<'a>(alloc: Global) -> Result<clap::Command<'a>, AllocError>
     let show = clap::Command::new(alloc, "show");
     let exec = run_command(alloc, "exec")?;
     let run = run_command(alloc, "run")?;
+    let meaning = run_command(alloc, "meaning")?;
     clap::Command::new(alloc, "seh")
         .no_binary_name(true)
         .disable_help_flag(true)
@@ -82,7 +83,8 @@ fn program<'a>(alloc: Global) -> Result<clap::Command<'a>, AllocError>
         .subcommand(compile)?
         .subcommand(show)?
         .subcommand(exec)?
-        .subcommand(run)
+        .subcommand(run)?
+        .subcommand(meaning)
 }
 
 /// What `clap` makes of the words.
@@ -158,13 +160,17 @@ fn command_named(name: &str, matches: &ArgMatches<'_>) -> Result<Command, WordsE
             Ok(options) => Ok(Command::Run(options)),
             Err(error) => Err(error),
         },
+        "meaning" => match options_of(matches) {
+            Ok(options) => Ok(Command::Meaning(options)),
+            Err(error) => Err(error),
+        },
         _ => Err(WordsErr::Usage),
     }
 }
 
 /// The command that the words after the program's name are.
 ///
-/// `exec` and `run` take `--turns N`, `--arg N` and `--trace`, each at most once and in any order; a number is
+/// `exec`, `run` and `meaning` take `--turns N`, `--arg N` and `--trace`, each at most once and in any order; a number is
 /// written in decimal digits with no sign and no leading zero, and is at most 2^63 - 1. Words that
 /// ask for help or a version are no line of the command set.
 pub fn command_of(alloc: Global, words: &[String]) -> Result<Command, WordsErr>

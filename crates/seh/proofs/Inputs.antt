@@ -1,5 +1,5 @@
 -- What comes of a text comes of the input that it was.
-use Rattle.std.proofs.Common.{◌≡◌, ◌+◌, ◌<◌, ◌≤◌, ℕ, min, List, [], length, append-nil, ◌∙◌, take, drop, Option, Result, Ok, Err, sym, ap, arith}
+use Rattle.std.proofs.Common.{◌≡◌, ◌+◌, ◌<◌, ◌≤◌, ℕ, min, List, [], length, append-nil, ◌∙◌, take, drop, Option, Result, Ok, Err, sym, ap, arith, inr}
 use Rattle.std.proofs.lemmas.List.{take-append-drop, length-take-le}
 use Rattle.seh_io.specs.Streams.{Grew, last_count}
 use Rattle.seh_io.specs.Writer.{TookPart}
@@ -8,6 +8,7 @@ use Rattle.seh.specs.declared.refusal.Refusal.{Refusal}
 use Rattle.seh.specs.declared.refusal.Refusal.TheVariants as refusals
 use Rattle.seh.specs.Streams.{Stream}
 use Rattle.command_line.specs.declared.command.RunOptions.{RunOptions}
+use Rattle.seh.specs.Meanings.{IsMeaningAnswer, IsMeaningInputAnswer}
 use Rattle.seh.specs.Answers.{text_limit, IsInput, LostFew, IsCompileAnswer, IsTextRunAnswer, IsInputAnswer}
 
 -- what was read whole was lost from the front
@@ -39,6 +40,14 @@ from_run options text source source' out out' (Err refusals.NoMemory) input h = 
 from_run options text source source' out out' (Err refusals.Usage) input h = absurd h.1.1
 from_run options text source source' out out' (Err refusals.ReadFault) input h = absurd h.1.1
 from_run options text source source' out out' (Err (refusals.TooLong most)) input h = absurd h.1.1
+
+-- of a text that was run as its meaning says
+pub from_meaning : (options : RunOptions) (text : List ℕ) (source source' out out' : Stream) (answer : Result Outcome Refusal) → IsInput text_limit source source' text → IsMeaningAnswer options text out out' answer → IsMeaningInputAnswer options source source' out out' answer
+from_meaning options text source source' out out' (Ok done) input h = record { bytes = text; input = input; comes = h }
+from_meaning options text source source' out out' (Err (refusals.Text e)) input h = record { bytes = text; input = input; comes = h }
+from_meaning options text source source' out out' (Err refusals.WriteFault) input h = record { bytes = text; input = input; comes = h }
+from_meaning options text source source' out out' (Err refusals.NoMemory) input h = inr (record { bytes = text; input = input; front = h })
+from_meaning options text source source' out out' (Err r) input h = absurd h
 
 -- a front of a text was taken
 pub took_front : (taken : Option (List ℕ)) (text : List ℕ) (taken' : Option (List ℕ)) (count : ℕ) → count < length text → Grew taken (take count text) taken' → TookPart taken text taken' count

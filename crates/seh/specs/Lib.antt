@@ -4,3 +4,5 @@ pub mod Refusals
 pub mod Images
 pub mod Answers
 pub mod Headline
+pub mod Meanings
+pub mod Commands

@@ -2,8 +2,10 @@
 use Rattle.std.specs.Prelude.{ℕ}
 use Rattle.seh_num.specs.declared.end.RunEnd.{RunEnd}
 use Rattle.seh_num.specs.declared.end.RunEnd.TheVariants as ends
+use Rattle.c_model.specs.declared.ended.Ended.{Ended}
+use Rattle.c_model.specs.declared.ended.Ended.TheVariants as meant
 use Rattle.seh.specs.declared.outcome.Outcome.{Outcome}
-use Rattle.seh.specs.declared.outcome.Outcome.TheVariants.{Compiled, Ran, Viewed}
+use Rattle.seh.specs.declared.outcome.Outcome.TheVariants.{Compiled, Ran, Meant, Viewed}
 use Rattle.seh.specs.declared.status.Status.{Status}
 use Rattle.seh.specs.declared.status.Status.TheVariants as statuses
 
@@ -20,6 +22,8 @@ code_of statuses.Unhandled = 10
 code_of statuses.StackLimit = 11
 code_of statuses.OutOfTurns = 12
 code_of statuses.Stopped = 13
+code_of statuses.Undefined = 14
+code_of statuses.Deep = 15
 
 abbrev pub status_of : RunEnd → Status
 status_of (ends.Exit v) = statuses.Done
@@ -28,7 +32,16 @@ status_of (ends.StackLimit a) = statuses.StackLimit
 status_of (ends.OutOfTurns n) = statuses.OutOfTurns
 status_of (ends.Stopped why a) = statuses.Stopped
 
+-- of the end of a program's meaning
+abbrev pub meaning_status : Ended → Status
+meaning_status (meant.Exit v) = statuses.Done
+meaning_status (meant.Unhandled c) = statuses.Unhandled
+meaning_status (meant.OutOfSteps n) = statuses.OutOfTurns
+meaning_status (meant.Undefined a) = statuses.Undefined
+meaning_status (meant.Deep d) = statuses.Deep
+
 abbrev pub outcome_status : Outcome → Status
 outcome_status Compiled = statuses.Done
 outcome_status Viewed = statuses.Done
 outcome_status (Ran end) = status_of end
+outcome_status (Meant ended) = meaning_status ended

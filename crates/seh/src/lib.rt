@@ -5,6 +5,7 @@ pub mod compile;
 pub mod exec;
 pub mod image;
 pub mod laws;
+pub mod meaning;
 pub mod outcome;
 pub mod refusal;
 pub mod run;

@@ -4,6 +4,7 @@ ghost use Rattle.std.specs.Prelude.{◌≡◌};
 ghost use Rattle.seh.specs.Statuses.{outcome_status};
 
 use crate::status::Status;
+use c_model::ended::Ended;
 use seh_num::end::RunEnd;
 
 /// What a command that was carried out came to.
@@ -13,6 +14,8 @@ pub enum Outcome {
     Compiled,
     /// An image was run, and ended so.
     Ran(RunEnd),
+    /// A text was run as its meaning says, and ended so.
+    Meant(Ended),
     /// The function table of an image was shown.
     Viewed,
 }
@@ -25,6 +28,7 @@ impl Outcome {
         match self {
             Outcome::Compiled | Outcome::Viewed => Status::Done,
             Outcome::Ran(end) => Status::of(end),
+            Outcome::Meant(ended) => Status::of_meaning(ended),
         }
     }
 }

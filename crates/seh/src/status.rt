@@ -1,6 +1,7 @@
 ghost use Rattle.std.specs.Prelude.{◌≡◌};
-ghost use Rattle.seh.specs.Statuses.{code_of, status_of};
+ghost use Rattle.seh.specs.Statuses.{code_of, status_of, meaning_status};
 
+use c_model::ended::Ended;
 use seh_num::end::RunEnd;
 
 /// What the program ended with.
@@ -30,6 +31,10 @@ pub enum Status {
     OutOfTurns,
     /// The run couldn't go on.
     Stopped,
+    /// A byte was accessed of which the language says nothing.
+    Undefined,
+    /// The depth of the meaning would have risen above 1,000.
+    Deep,
 }
 
 impl Status {
@@ -50,6 +55,8 @@ impl Status {
             Status::StackLimit => 11,
             Status::OutOfTurns => 12,
             Status::Stopped => 13,
+            Status::Undefined => 14,
+            Status::Deep => 15,
         }
     }
 
@@ -63,6 +70,19 @@ impl Status {
             RunEnd::StackLimit { .. } => Status::StackLimit,
             RunEnd::OutOfTurns { .. } => Status::OutOfTurns,
             RunEnd::Stopped { .. } => Status::Stopped,
+        }
+    }
+
+    /// The status of the end of a program's meaning.
+    pub fn of_meaning(ended: &Ended) -> Status
+        ensures { result ≡ meaning_status ended.now }
+    {
+        match ended {
+            Ended::Exit(_) => Status::Done,
+            Ended::Unhandled(_) => Status::Unhandled,
+            Ended::OutOfSteps { .. } => Status::OutOfTurns,
+            Ended::Undefined { .. } => Status::Undefined,
+            Ended::Deep { .. } => Status::Deep,
         }
     }
 }

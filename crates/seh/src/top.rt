@@ -2,11 +2,12 @@
 
 ghost use Rattle.std.specs.Prelude.{◌≡◌, ◌≤◌, map};
 ghost use Rattle.std.specs.String.{string_bytes};
-ghost use Rattle.seh.specs.Answers.{Answers, IsAnswer};
+ghost use Rattle.seh.specs.Commands.{Answers, IsAnswer};
 ghost use Rattle.seh.specs.Streams.{stream};
 
 use crate::compile::compile;
 use crate::exec::exec;
+use crate::meaning::meaning;
 use crate::outcome::Outcome;
 use crate::refusal::{Refusal, report};
 use crate::run::run;
@@ -32,6 +33,7 @@ fn answer<S: Source, O: Sink>(
         Ok(Command::Show) => show(alloc, src, out),
         Ok(Command::Exec(options)) => exec(alloc, options, src, out),
         Ok(Command::Run(options)) => run(alloc, options, src, out),
+        Ok(Command::Meaning(options)) => meaning(alloc, options, src, out),
         Err(WordsErr::Usage) => Err(Refusal::Usage),
         Err(WordsErr::Memory) => Err(Refusal::NoMemory),
     }
@@ -47,6 +49,9 @@ fn answer<S: Source, O: Sink>(
 /// turns, 0 and 10,000,000 where they aren't given, and writes the text of its run to `out`, with
 /// `--trace` the lines of all events; the status is that of the run's end. `run`, with the same
 /// options, reads a text and answers as `exec` does for the image that the text is compiled to.
+///
+/// `meaning`, with the same options, reads a text and runs it as its meaning says, for at most `--turns`
+/// steps; after `no memory` `out` may have taken a part of the text from the front.
 ///
 /// `show` reads an image and writes the view of its function table.
 ///

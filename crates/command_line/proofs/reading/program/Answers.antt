@@ -23,4 +23,5 @@ returns c =
     let show_is : app_of c.new-show.result ≡ show_app = c.new-show.ensures.app in
     let second = c.in_ok-subcommand-2.ensures.shape c.new-show.ensures.local ∙ ap₂ with_subcommand first (ap (λ (a : App). a.top) show_is) in
     let third = c.in_ok-subcommand-3.ensures.shape c.in_ok-exec.ensures.local ∙ ap₂ with_subcommand second (ap (λ (a : App). a.top) c.in_ok-exec.ensures.app) in
-    IfOk-weaker c.subcommand-4.result _ _ (λ r h. h.shape c.in_ok-run.ensures.local ∙ ap₂ with_subcommand third (ap (λ (a : App). a.top) c.in_ok-run.ensures.app)) c.subcommand-4.ensures
+    let fourth = c.in_ok-subcommand-4.ensures.shape c.in_ok-run.ensures.local ∙ ap₂ with_subcommand third (ap (λ (a : App). a.top) c.in_ok-run.ensures.app) in
+    IfOk-weaker c.subcommand-5.result _ _ (λ r h. h.shape c.in_ok-meaning.ensures.local ∙ ap₂ with_subcommand fourth (ap (λ (a : App). a.top) c.in_ok-meaning.ensures.app)) c.subcommand-5.ensures

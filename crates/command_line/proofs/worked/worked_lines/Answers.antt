@@ -1,7 +1,7 @@
 use Rattle.std.proofs.Common.{refl, arith}
 use Rattle.std.specs.Fmt.{digits}
 use Rattle.clap.proofs.OnLiterals.{clap_on_literals}
-use Rattle.command_line.specs.Worked.{CompileAlone, ShowAlone, ExecAlone, ExecWithAll, RunWithTurns}
+use Rattle.command_line.specs.Worked.{CompileAlone, ShowAlone, ExecAlone, ExecWithAll, RunWithTurns, MeaningWithTrace}
 use Rattle.command_line.proofs.worked.worked_lines.Goals as goal
 
 compile_alone : CompileAlone
@@ -24,5 +24,9 @@ run_with_turns : RunWithTurns
 unfolding clap_on_literals digits
 run_with_turns = (refl, (_, refl, (refl, record { turns = (refl, omega arith); argument = (0, refl, refl); trace = refl })))
 
+meaning_with_trace : MeaningWithTrace
+unfolding clap_on_literals digits
+meaning_with_trace = (refl, (_, refl, (refl, record { turns = refl; argument = (0, refl, refl); trace = refl })))
+
 pub returns : goal.returns
-returns c = record { compile = compile_alone; show = show_alone; exec = exec_alone; options = exec_with_all; run = run_with_turns }
+returns c = record { compile = compile_alone; show = show_alone; exec = exec_alone; options = exec_with_all; run = run_with_turns; meaning = meaning_with_trace }
