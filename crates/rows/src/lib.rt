@@ -14,10 +14,11 @@ mod linked;
 #[cfg(test)]
 mod loads;
 #[cfg(test)]
+mod meanings;
+#[cfg(test)]
 mod runs;
 #[cfg(test)]
 mod streams;
-#[cfg(test)]
 mod texts;
 #[cfg(test)]
 mod views;

@@ -80,6 +80,8 @@ fn statuses(rt: HostRuntime) {
         (Status::StackLimit, 11),
         (Status::OutOfTurns, 12),
         (Status::Stopped, 13),
+        (Status::Undefined, 14),
+        (Status::Deep, 15),
     ] {
         assert_eq!(rt; status.code(), code, "{status:?}");
     }

@@ -45,7 +45,7 @@ impl Row {
 }
 
 /// What a command with options answers for an input.
-fn answer(
+pub fn answer(
     alloc: Global,
     command: &str,
     options: &str,
