@@ -19,6 +19,7 @@ mod meanings;
 mod runs;
 #[cfg(test)]
 mod streams;
+#[cfg(test)]
 mod texts;
 #[cfg(test)]
 mod views;
