@@ -43,4 +43,4 @@ abbrev pub is_c_name : List ℕ → Bool
 is_c_name name = bytes_eq name C_SPECIFIC_HANDLER.now
 
 unfoldable pub is_c_handler : Image → ℕ → Bool
-is_c_handler image rva = option_map_or is_c_name false (option_and_then (λ slot. bound_name slot (imports_of image)) (jump_slot image rva))
+is_c_handler image rva = option_map_or is_c_name (option_and_then (λ slot. bound_name slot (imports_of image)) (jump_slot image rva)) false
