@@ -1,29 +1,24 @@
 -- A statement by what was made of its parts, one after another.
 use Rattle.std.proofs.Common.{◌≡◌, ℕ, ◌+◌, List, [], ◌∷◌, ◌++◌, map, Option, Some, None, refl, sym, ap, subst, ◌∙◌, append_assoc}
-use Rattle.std.specs.Prelude.{option_map}
 use Rattle.std.specs.Borrow.{Bor}
 use Rattle.c_checked.specs.declared.expression.Expr.{Expr}
-use Rattle.c_checked.specs.declared.statement.Filter.{Filter}
 use Rattle.c_checked.specs.declared.statement.Stmt.{Stmt}
 use Rattle.c_checked.specs.Expression.{expression}
 use Rattle.c_checked.specs.Statement as checked
-use Rattle.c_checked.specs.Statement.{declared}
 use Rattle.c_expressions.proofs.Kept.{kept_append, kept_more}
 use Rattle.c_expressions.specs.declared.scopes.Entity.{Entity}
 use Rattle.c_expressions.specs.Kept.{least_of, kept}
 use Rattle.c_expressions.specs.Views.{block_of}
-use Rattle.c_locals.specs.declared.declarations.Beginning.{Beginning}
 use Rattle.c_locals.specs.declared.environment.Walk.{Walk}
-use Rattle.c_locals.specs.Resolved.{Resolves, Begins}
-use Rattle.c_locals.specs.Values.{MayEvaluate, Answers, filter_with, number_after}
-use Rattle.c_locals.specs.Views.{numbering, resolved_at, in_loop, in_body, in_handler, in_last}
+use Rattle.c_locals.specs.Resolved.{Resolves}
+use Rattle.c_locals.specs.Views.{numbering, resolved_at, in_loop}
 use Rattle.c_resolved.specs.Expressions.{FaultAt}
 use Rattle.c_resolved.specs.Scopes.{Scope}
-use Rattle.c_resolved.specs.Statements.{Environment, Numbering, ResolvedStatements, Value, Optional, inside, condition, any, optional, with_number, resolve_filter, resolve_for_initialiser, resolve_statement, resolve_statements}
+use Rattle.c_resolved.specs.Statements.{Environment, Numbering, ResolvedStatements, Value, inside, condition, only, resolve_statement, resolve_statements}
 use Rattle.c_statements.specs.Made.{MakesOne, MakesPart, MakesBlock, MakesGoverned}
 use Rattle.c_syntax.specs.Expression.{Expression}
 use Rattle.c_syntax.specs.Statement as trees
-use Rattle.c_syntax.specs.Statement.{Statement, Statements, ForInitialiser}
+use Rattle.c_syntax.specs.Statement.{Statement, Statements}
 
 abbrev pub Entries : Type 0
 Entries = List (Bor (List ℕ) × Entity)
@@ -48,6 +43,22 @@ block_at w0 w1 made f n n' e m = subst (λ k. MakesBlock w0 w1 made (f k)) e m
 -- faults of three parts
 three : (first w1 w2 w3 : Option FaultAt) (x y z : List FaultAt) → w1 ≡ kept first x → w2 ≡ kept w1 y → w3 ≡ kept w2 z → w3 ≡ kept first (x ++ (y ++ z))
 three first w1 w2 w3 x y z p q r = kept_more first w1 w3 x (y ++ z) p (kept_more w1 w2 w3 y z q r)
+
+-- ---- in a new block
+
+pub part_is : (es0 es : Entries) (w0 w1 : Walk) (vs : List Stmt) (made : Stmt) (a : Environment) (t : Statement)
+    → es0 ≡ [] → Resolves es w0 w1 (map checked.statement vs) (resolve_statement t a (block_of es0) (numbering w0)) → checked.statement made ≡ only (map checked.statement vs)
+    → MakesPart w0 w1 made (resolve_statement t a [] (numbering w0))
+part_is es0 es w0 w1 vs made a t e r0 p =
+    let r = subst (λ k. Resolves es w0 w1 (map checked.statement vs) (resolve_statement t a (block_of k) (numbering w0))) e r0 in
+    record { done = p ∙ ap only r.done; counts = r.counts; faults = r.faults }
+
+pub items_are : (es0 es : Entries) (w0 w1 : Walk) (vs : List Stmt) (a : Environment) (ss : Statements)
+    → es0 ≡ [] → Resolves es w0 w1 (map checked.statement vs) (resolve_statements ss a (block_of es0) (numbering w0))
+    → MakesBlock w0 w1 vs (resolve_statements ss a [] (numbering w0))
+items_are es0 es w0 w1 vs a ss e r0 =
+    let r = subst (λ k. Resolves es w0 w1 (map checked.statement vs) (resolve_statements ss a (block_of k) (numbering w0))) e r0 in
+    record { done = r.done; counts = r.counts; faults = r.faults }
 
 -- ---- a block
 
