@@ -96,14 +96,8 @@ pub fn within<'t, 's>(
     ensures { environment result ≡ within (environment env.now) (scopes_of scopes.now) }
 {
     Environment {
-        text: env.text,
         outer: scopes,
-        returns: env.returns,
-        loops: env.loops,
-        body: env.body,
-        function: env.function,
-        code: env.code,
-        abnormal: env.abnormal,
+        ..*env
     }
 }
 
@@ -111,39 +105,43 @@ pub fn within<'t, 's>(
 pub fn in_loop<'t, 's>(env: &Environment<'t, 's>) -> Environment<'t, 's>
     ensures { environment result ≡ in_loop (environment env.now) }
 {
-    let mut inner = *env;
-    inner.loops = Reach::Near;
-    inner
+    Environment {
+        loops: Reach::Near,
+        ..*env
+    }
 }
 
 /// Inside the body of a `__try`.
 pub fn in_body<'t, 's>(env: &Environment<'t, 's>) -> Environment<'t, 's>
     ensures { environment result ≡ in_body (environment env.now) }
 {
-    let mut inner = *env;
-    inner.body = Reach::Near;
-    inner
+    Environment {
+        body: Reach::Near,
+        ..*env
+    }
 }
 
 /// Inside the block of an `__except`.
 pub fn in_handler<'t, 's>(env: &Environment<'t, 's>) -> Environment<'t, 's>
     ensures { environment result ≡ in_handler (environment env.now) }
 {
-    let mut inner = *env;
-    inner.code = true;
-    inner
+    Environment {
+        code: true,
+        ..*env
+    }
 }
 
 /// Inside a `__finally` block.
 pub fn in_last<'t, 's>(env: &Environment<'t, 's>) -> Environment<'t, 's>
     ensures { environment result ≡ in_last (environment env.now) }
 {
-    let mut inner = *env;
-    inner.loops = past_finally(env.loops);
-    inner.body = past_finally(env.body);
-    inner.function = Reach::Beyond;
-    inner.abnormal = true;
-    inner
+    Environment {
+        loops: past_finally(env.loops),
+        body: past_finally(env.body),
+        function: Reach::Beyond,
+        abnormal: true,
+        ..*env
+    }
 }
 
 /// Where an expression of a statement is, with these names around.
