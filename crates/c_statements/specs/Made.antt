@@ -1,23 +1,20 @@
 -- What a walk made of a statement, and what it carries on.
-use Rattle.std.specs.Prelude.{◌≡◌, ℕ, ◌+◌, List, [], ◌∷◌, ◌++◌, map, Option, Some, None, option_map}
+use Rattle.std.specs.Prelude.{◌≡◌, List, [], ◌∷◌, ◌++◌, map}
 use Rattle.c_checked.specs.declared.expression.Expr.{Expr}
 use Rattle.c_checked.specs.declared.statement.Stmt.{Stmt}
-use Rattle.c_checked.specs.Expression as nodes
 use Rattle.c_checked.specs.Expression.{expression}
-use Rattle.c_checked.specs.Statement.{Filter, Always, Funclet, statement}
-use Rattle.c_expressions.specs.declared.least.Least.{Least}
+use Rattle.c_checked.specs.Statement.{statement}
 use Rattle.c_expressions.specs.Kept.{least_of, kept}
 use Rattle.c_locals.specs.declared.environment.Walk.{Walk}
 use Rattle.c_locals.specs.Views.{numbering}
 use Rattle.c_resolved.specs.Scopes.{Scope}
-use Rattle.c_resolved.specs.Statements.{Environment, ResolvedFilter, Value, ResolvedStatements, only, resolve_filter}
-use Rattle.c_syntax.specs.Expression.{Expression}
+use Rattle.c_resolved.specs.Statements.{Value, ResolvedStatements, only}
 
 -- one statement, in a block whose names stay the same
-pub record MakesOne (block : Scope) (before after : Walk) (made : Stmt) (r : ResolvedStatements) : Type 0 where
+pub record MakesOne (b : Scope) (before after : Walk) (made : Stmt) (r : ResolvedStatements) : Type 0 where
   pub done : statement made ∷ [] ≡ r.done
   pub counts : numbering after ≡ r.counts
-  pub block : block ≡ r.block
+  pub block : b ≡ r.block
   pub faults : least_of after.worst ≡ kept (least_of before.worst) r.faults
 
 -- the statement that is a part of another one
@@ -33,8 +30,8 @@ pub record MakesBlock (before after : Walk) (made : List Stmt) (r : ResolvedStat
   pub faults : least_of after.worst ≡ kept (least_of before.worst) r.faults
 
 -- a condition, and then the statement that it governs
-pub record MakesGoverned (before after : Walk) (condition : Expr) (made : Stmt) (v : Value) (r : ResolvedStatements) : Type 0 where
-  pub condition : expression condition ≡ v.value
+pub record MakesGoverned (before after : Walk) (e : Expr) (made : Stmt) (v : Value) (r : ResolvedStatements) : Type 0 where
+  pub condition : expression e ≡ v.value
   pub done : statement made ≡ only r.done
   pub counts : numbering after ≡ r.counts
   pub faults : least_of after.worst ≡ kept (least_of before.worst) (v.faults ++ r.faults)
