@@ -104,6 +104,27 @@ pub fn return_of(value: Option<Expr>) -> Stmt
     Stmt::Return(value)
 }
 
+/// A `break`.
+pub fn break_of() -> Stmt
+    ensures { statement result ≡ checked.Break }
+{
+    Stmt::Break
+}
+
+/// A `continue`.
+pub fn continue_of() -> Stmt
+    ensures { statement result ≡ checked.Continue }
+{
+    Stmt::Continue
+}
+
+/// A `__leave`.
+pub fn leave_of() -> Stmt
+    ensures { statement result ≡ checked.Leave }
+{
+    Stmt::Leave
+}
+
 /// A `__try` with a filter.
 pub fn except_of(body: Vec<Stmt>, filter: Filter, handler: Vec<Stmt>) -> Stmt
     ensures { statement result ≡ checked.TryExcept (statements (map statement body.items)) (checked.filter filter) (statements (map statement handler.items)) }

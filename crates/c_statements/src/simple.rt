@@ -9,7 +9,7 @@ ghost use Rattle.c_statements.specs.Made.{MakesOne};
 ghost use Rattle.c_syntax.specs.Expression.{expression};
 ghost use Rattle.c_syntax.specs.Statement as trees;
 
-use crate::build::{evaluate_of, return_of};
+use crate::build::{break_of, continue_of, evaluate_of, leave_of, return_of};
 use c_checked::statement::Stmt;
 use c_expressions::scopes::Entity;
 use c_locals::environment::{Environment, Walk, jump};
@@ -54,7 +54,7 @@ pub fn break_from(env: &Environment<'_, '_>, walk: &mut Walk, at: u64) -> Stmt
     ensures { (block : Scope) → MakesOne block walk.old walk.new result (resolve_statement (trees.Break at) (environment env.now) block (numbering walk.old)) }
 {
     jump(&mut walk.worst, env.loops, Fault::JumpOutsideLoop, at);
-    Stmt::Break
+    break_of()
 }
 
 /// A `continue` (C11, 6.8.6.2).
@@ -62,7 +62,7 @@ pub fn continue_from(env: &Environment<'_, '_>, walk: &mut Walk, at: u64) -> Stm
     ensures { (block : Scope) → MakesOne block walk.old walk.new result (resolve_statement (trees.Continue at) (environment env.now) block (numbering walk.old)) }
 {
     jump(&mut walk.worst, env.loops, Fault::JumpOutsideLoop, at);
-    Stmt::Continue
+    continue_of()
 }
 
 /// A `__leave` (Microsoft C reference, "try-finally statement").
@@ -70,5 +70,5 @@ pub fn leave_from(env: &Environment<'_, '_>, walk: &mut Walk, at: u64) -> Stmt
     ensures { (block : Scope) → MakesOne block walk.old walk.new result (resolve_statement (trees.Leave at) (environment env.now) block (numbering walk.old)) }
 {
     jump(&mut walk.worst, env.body, Fault::LeaveOutsideTry, at);
-    Stmt::Leave
+    leave_of()
 }
