@@ -95,7 +95,7 @@ four first w1 w2 w3 w4 x x' y z u p q r s =
         (kept_more first w1 w3 (x ++ x') (y ++ z) p (kept_more w1 w2 w3 y z q r) ∙ ap (kept first) (append_assoc x x' (y ++ z))) s
 
 -- w1 after what it does first, w2 after the condition, w3 after what follows each iteration, w4 after the body
-pub for_is : (b : Scope) (es : Entries) (w0 w1 w2 w3 w4 : Walk) (beginning : Beginning) (value next : Option Expr) (s made : Stmt) (a : Environment) (at : ℕ) (first : ForInitialiser) (c n : Option Expression) (t : Statement)
+for_is : (b : Scope) (es : Entries) (w0 w1 w2 w3 w4 : Walk) (beginning : Beginning) (value next : Option Expr) (s made : Stmt) (a : Environment) (at : ℕ) (first : ForInitialiser) (c n : Option Expression) (t : Statement)
     → Begins es w0 w1 beginning (resolve_for_initialiser (inside a b) first (numbering w0))
     → MayEvaluate w1.worst w2.worst value (optional (λ x. condition at (resolved_at (inside a b) (block_of es) x)) c)
     → MayEvaluate w2.worst w3.worst next (optional (λ x. any (resolved_at (inside a b) (block_of es) x)) n)
@@ -126,3 +126,22 @@ for_is b es w0 w1 w2 w3 w4 beginning value next s made a at first c n t m v0 u0 
       block = refl;
       faults = four (least_of w0.worst) (least_of w1.worst) (least_of w2.worst) (least_of w3.worst) (least_of w4.worst) i.resolved.faults i.first.faults vs.faults us.faults r.faults m.faults v.faults u.faults k.faults;
     }
+
+-- the same over the environments that the code makes
+pub for_over : (b : Scope) (es : Entries) (w0 w1 w2 w3 w4 : Walk) (beginning : Beginning) (value next : Option Expr) (s made : Stmt) (a here inner : Environment) (at : ℕ) (first : ForInitialiser) (c n : Option Expression) (t : Statement)
+    → here ≡ inside a b → inner ≡ in_loop (inside here (block_of es))
+    → Begins es w0 w1 beginning (resolve_for_initialiser here first (numbering w0))
+    → MayEvaluate w1.worst w2.worst value (optional (λ x. condition at (resolved_at here (block_of es) x)) c)
+    → MayEvaluate w2.worst w3.worst next (optional (λ x. any (resolved_at here (block_of es) x)) n)
+    → numbering w3 ≡ numbering w1
+    → MakesPart w3 w4 s (resolve_statement t inner [] (numbering w3))
+    → checked.statement made ≡ checked.For (map declared beginning.declared.items) (option_map expression beginning.first) (option_map expression value) (option_map expression next) (checked.statement s)
+    → MakesOne b w0 w4 made (resolve_statement (trees.For at first c n t) a b (numbering w0))
+for_over b es w0 w1 w2 w3 w4 beginning value next s made a here inner at first c n t is below m v u same k p =
+    for_is b es w0 w1 w2 w3 w4 beginning value next s made a at first c n t
+    (subst (λ x. Begins es w0 w1 beginning (resolve_for_initialiser x first (numbering w0))) is m)
+    (subst (λ x. MayEvaluate w1.worst w2.worst value (optional (λ e. condition at (resolved_at x (block_of es) e)) c)) is v)
+    (subst (λ x. MayEvaluate w2.worst w3.worst next (optional (λ e. any (resolved_at x (block_of es) e)) n)) is u)
+    same
+    (subst (λ x. MakesPart w3 w4 s (resolve_statement t x [] (numbering w3))) (below ∙ ap (λ x. in_loop (inside x (block_of es))) is) k)
+    p

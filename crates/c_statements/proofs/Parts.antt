@@ -18,7 +18,8 @@ use Rattle.c_resolved.specs.Statements.{Environment, Numbering, ResolvedStatemen
 use Rattle.c_statements.specs.Made.{MakesOne, MakesPart, MakesBlock, MakesGoverned}
 use Rattle.c_syntax.specs.Expression.{Expression}
 use Rattle.c_syntax.specs.Statement as trees
-use Rattle.c_syntax.specs.Statement.{Statement, Statements}
+use Rattle.c_syntax.specs.declared.statement.Stmt.{Stmt as Read}
+use Rattle.c_syntax.specs.Statement.{Statement, Statements, statement, statements}
 
 abbrev pub Entries : Type 0
 Entries = List (Bor (List ℕ) × Entity)
@@ -34,15 +35,29 @@ one_is es w0 w1 made out t t' a e m o =
 
 -- ---- parts at another numbering that is the same
 
-part_at : (w0 w1 : Walk) (made : Stmt) (f : Numbering → ResolvedStatements) (n n' : Numbering) → n ≡ n' → MakesPart w0 w1 made (f n) → MakesPart w0 w1 made (f n')
+pub part_at : (w0 w1 : Walk) (made : Stmt) (f : Numbering → ResolvedStatements) (n n' : Numbering) → n ≡ n' → MakesPart w0 w1 made (f n) → MakesPart w0 w1 made (f n')
 part_at w0 w1 made f n n' e m = subst (λ k. MakesPart w0 w1 made (f k)) e m
 
-block_at : (w0 w1 : Walk) (made : List Stmt) (f : Numbering → ResolvedStatements) (n n' : Numbering) → n ≡ n' → MakesBlock w0 w1 made (f n) → MakesBlock w0 w1 made (f n')
+pub block_at : (w0 w1 : Walk) (made : List Stmt) (f : Numbering → ResolvedStatements) (n n' : Numbering) → n ≡ n' → MakesBlock w0 w1 made (f n) → MakesBlock w0 w1 made (f n')
 block_at w0 w1 made f n n' e m = subst (λ k. MakesBlock w0 w1 made (f k)) e m
 
--- faults of three parts
-three : (first w1 w2 w3 : Option FaultAt) (x y z : List FaultAt) → w1 ≡ kept first x → w2 ≡ kept w1 y → w3 ≡ kept w2 z → w3 ≡ kept first (x ++ (y ++ z))
-three first w1 w2 w3 x y z p q r = kept_more first w1 w3 x (y ++ z) p (kept_more w1 w2 w3 y z q r)
+-- ---- parts of the same statements in the same environment
+
+pub part_in : (w0 w1 : Walk) (made : Stmt) (t' t : Statement) (a' a : Environment) (n : Numbering) → t' ≡ t → a' ≡ a
+    → MakesPart w0 w1 made (resolve_statement t' a' [] n) → MakesPart w0 w1 made (resolve_statement t a [] n)
+part_in w0 w1 made t' t a' a n p q m =
+    subst (λ k. MakesPart w0 w1 made (resolve_statement t k [] n)) q (subst (λ k. MakesPart w0 w1 made (resolve_statement k a' [] n)) p m)
+
+pub block_in : (w0 w1 : Walk) (made : List Stmt) (list' list : List Read) (a' a : Environment) (n : Numbering) → list' ≡ list → a' ≡ a
+    → MakesBlock w0 w1 made (resolve_statements (statements (map statement list')) a' [] n) → MakesBlock w0 w1 made (resolve_statements (statements (map statement list)) a [] n)
+block_in w0 w1 made list' list a' a n p q m =
+    subst (λ k. MakesBlock w0 w1 made (resolve_statements (statements (map statement list)) k [] n)) q
+    (subst (λ k. MakesBlock w0 w1 made (resolve_statements (statements (map statement k)) a' [] n)) p m)
+
+pub governed_in : (w0 w1 : Walk) (e : Expr) (made : Stmt) (v : Value) (t' t : Statement) (a' a : Environment) (n : Numbering) → t' ≡ t → a' ≡ a
+    → MakesGoverned w0 w1 e made v (resolve_statement t' a' [] n) → MakesGoverned w0 w1 e made v (resolve_statement t a [] n)
+governed_in w0 w1 e made v t' t a' a n p q m =
+    subst (λ k. MakesGoverned w0 w1 e made v (resolve_statement t k [] n)) q (subst (λ k. MakesGoverned w0 w1 e made v (resolve_statement k a' [] n)) p m)
 
 -- ---- in a new block
 
