@@ -1,5 +1,5 @@
 -- A `for` and a `__try` by what was made of their parts, one after another.
-use Rattle.std.proofs.Common.{◌≡◌, ℕ, ◌+◌, List, [], ◌∷◌, ◌++◌, map, Option, Some, None, refl, sym, ap, subst, ◌∙◌, append_assoc}
+use Rattle.std.proofs.Common.{◌≡◌, ℕ, ◌+◌, List, [], ◌∷◌, ◌++◌, map, Option, Some, None, refl, sym, ap, subst, ◌∙◌}
 use Rattle.std.specs.Prelude.{option_map}
 use Rattle.c_checked.specs.declared.expression.Expr.{Expr}
 use Rattle.c_checked.specs.declared.statement.Filter.{Filter}
@@ -87,12 +87,9 @@ except_is b w0 w1 w2 w3 w4 answer filter vs ks made a ss at e hs same v m0 is n 
 
 -- ---- `for`
 
--- faults of four parts, the first of which are two
-four : (first w1 w2 w3 w4 : Option FaultAt) (x x' y z u : List FaultAt) → w1 ≡ kept first (x ++ x') → w2 ≡ kept w1 y → w3 ≡ kept w2 z → w4 ≡ kept w3 u
-    → w4 ≡ kept first ((x ++ (x' ++ (y ++ z))) ++ u)
-four first w1 w2 w3 w4 x x' y z u p q r s =
-    kept_more first w3 w4 (x ++ (x' ++ (y ++ z))) u
-        (kept_more first w1 w3 (x ++ x') (y ++ z) p (kept_more w1 w2 w3 y z q r) ∙ ap (kept first) (append_assoc x x' (y ++ z))) s
+-- faults of four parts, one after another
+four : (first w1 w2 w3 w4 : Option FaultAt) (x y z u : List FaultAt) → w1 ≡ kept first x → w2 ≡ kept w1 y → w3 ≡ kept w2 z → w4 ≡ kept w3 u → w4 ≡ kept first (((x ++ y) ++ z) ++ u)
+four first w1 w2 w3 w4 x y z u p q r s = kept_more first w3 w4 ((x ++ y) ++ z) u (kept_more first w2 w3 (x ++ y) z (kept_more first w1 w2 x y p q) r) s
 
 -- w1 after what it does first, w2 after the condition, w3 after what follows each iteration, w4 after the body
 for_is : (b : Scope) (es : Entries) (w0 w1 w2 w3 w4 : Walk) (beginning : Beginning) (value next : Option Expr) (s made : Stmt) (a : Environment) (at : ℕ) (first : ForInitialiser) (c n : Option Expression) (t : Statement)
@@ -124,7 +121,7 @@ for_is b es w0 w1 w2 w3 w4 beginning value next s made a at first c n t m v0 u0 
           ∙ ap (λ x. checked.For i.declared i.first.value vs.value us.value x) k.done);
       counts = k.counts;
       block = refl;
-      faults = four (least_of w0.worst) (least_of w1.worst) (least_of w2.worst) (least_of w3.worst) (least_of w4.worst) i.resolved.faults i.first.faults vs.faults us.faults r.faults m.faults v.faults u.faults k.faults;
+      faults = four (least_of w0.worst) (least_of w1.worst) (least_of w2.worst) (least_of w3.worst) (least_of w4.worst) (i.resolved.faults ++ i.first.faults) vs.faults us.faults r.faults m.faults v.faults u.faults k.faults;
     }
 
 -- the same over the environments that the code makes

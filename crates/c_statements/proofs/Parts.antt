@@ -153,7 +153,7 @@ if_else_is b w0 w1 w2 e s o made a at c t u m k p =
       done =
           ap (λ x. x ∷ [])
           (p ∙ ap (λ x. checked.IfElse x (checked.statement s) (checked.statement o)) m.condition ∙ ap (λ x. checked.IfElse v.value x (checked.statement o)) m.done
-          ∙ ap (checked.IfElse v.value _) j.done);
+          ∙ ap (checked.IfElse v.value (only r.done)) j.done);
       counts = j.counts;
       block = refl;
       faults =
