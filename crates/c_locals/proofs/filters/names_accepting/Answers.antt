@@ -1,4 +1,4 @@
-use Rattle.std.proofs.Common.{◌≡◌, ◌∙◌, ap}
+use Rattle.std.proofs.Common.{◌∙◌, ap}
 use Rattle.c_locals.proofs.filters.names_accepting.Goals as goal
 use Rattle.c_resolved.specs.Expressions.{Names}
 use Rattle.c_resolved.specs.Statements.{is_accepting}
