@@ -26,7 +26,7 @@ pub declaring : (a : Environment) (base : Base) (ls slice : List Local') (old bl
 declaring a base ls slice old block w w' b empty same none h =
     let m = declare_all a base (map local ls) [] (numbering w) in
     let own : Resolves block w w' (map declares b.declared.items) m = subst (λ es. Resolves block w w' (map declares b.declared.items) (declare_all a base (map local ls) (block_of es) (numbering w))) empty
-        (subst (λ k. Resolves block w w' (map declares b.declared.items) (declare_all a base (map local k) (block_of old) (numbering w))) same h) in
+    (subst (λ k. Resolves block w w' (map declares b.declared.items) (declare_all a base (map local k) (block_of old) (numbering w))) same h) in
     record {
       declared = sym (only_declared b.declared.items) ∙ ap names_only own.done;
       first = ap (option_map expression) none;

@@ -80,14 +80,7 @@ fn declare<'t>(
         block,
     )?;
     walk.sizes.push(size_of(of))?;
-    let value = to_type_or_none(
-        alloc,
-        env,
-        block,
-        &mut walk.worst,
-        of,
-        &local.initialiser,
-    )?;
+    let value = to_type_or_none(alloc, env, block, &mut walk.worst, of, &local.initialiser)?;
     Ok(Declared {
         local: number,
         value,
@@ -116,9 +109,7 @@ fn declare_each<'t>(
 fn as_statements(alloc: Global, made: Vec<Declared>) -> Result<Vec<Stmt>, AllocError>
     ensures { IfOk result (λ v. v.items ≡ map (λ d. statements.Declare d) made.items) }
 {
-    made.into_iter()
-        .map(|d| Stmt::Declare(d))
-        .collect(alloc)
+    made.into_iter().map(|d| Stmt::Declare(d)).collect(alloc)
 }
 
 /// The locals of a declaration.
