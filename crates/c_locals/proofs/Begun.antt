@@ -1,5 +1,5 @@
 -- What a `for` does first.
-use Rattle.std.proofs.Common.{◌≡◌, ℕ, List, [], map, append-nil, Option, None, refl, sym, ap, ◌∙◌, subst}
+use Rattle.std.proofs.Common.{◌≡◌, ℕ, List, [], map, append-nil, Option, None, sym, ap, ◌∙◌, subst}
 use Rattle.std.specs.Borrow.{Bor}
 use Rattle.std.specs.Prelude.{option_map}
 use Rattle.c_checked.specs.Expression.{expression}
@@ -13,7 +13,6 @@ use Rattle.c_locals.specs.declared.environment.Walk.{Walk}
 use Rattle.c_locals.specs.Resolved.{Resolves, Begins, declares}
 use Rattle.c_locals.specs.Values.{MayEvaluate}
 use Rattle.c_locals.specs.Views.{numbering, resolved_at}
-use Rattle.c_resolved.specs.Scopes.{Scope}
 use Rattle.c_resolved.specs.Statements.{Environment, any, declare_all, names_only, optional, resolve_for_initialiser}
 use Rattle.c_syntax.specs.declared.expression.Base.{Base}
 use Rattle.c_syntax.specs.declared.expression.Expr.{Expr}
@@ -21,12 +20,13 @@ use Rattle.c_syntax.specs.declared.statement.Local.{Local as Local'}
 use Rattle.c_syntax.specs.Expression.{expression as tree}
 use Rattle.c_syntax.specs.Statement.{Declaring, Evaluating, local}
 
-pub declaring : (a : Environment) (base : Base) (ls : List Local') (old block : List (Bor (List ℕ) × Entity')) (w w' : Walk) (b : Beginning)
-    → old ≡ [] → b.first ≡ None → Resolves block w w' (map declares b.declared.items) (declare_all a base (map local ls) (block_of old) (numbering w))
+pub declaring : (a : Environment) (base : Base) (ls slice : List Local') (old block : List (Bor (List ℕ) × Entity')) (w w' : Walk) (b : Beginning)
+    → old ≡ [] → slice ≡ ls → b.first ≡ None → Resolves block w w' (map declares b.declared.items) (declare_all a base (map local slice) (block_of old) (numbering w))
     → Begins block w w' b (resolve_for_initialiser a (Declaring base (map local ls)) (numbering w))
-declaring a base ls old block w w' b empty none h =
+declaring a base ls slice old block w w' b empty same none h =
     let m = declare_all a base (map local ls) [] (numbering w) in
-    let own : Resolves block w w' (map declares b.declared.items) m = subst (λ es. Resolves block w w' (map declares b.declared.items) (declare_all a base (map local ls) (block_of es) (numbering w))) empty h in
+    let own : Resolves block w w' (map declares b.declared.items) m = subst (λ es. Resolves block w w' (map declares b.declared.items) (declare_all a base (map local ls) (block_of es) (numbering w))) empty
+    (subst (λ k. Resolves block w w' (map declares b.declared.items) (declare_all a base (map local k) (block_of old) (numbering w))) same h) in
     record {
       declared = sym (only_declared b.declared.items) ∙ ap names_only own.done;
       first = ap (option_map expression) none;

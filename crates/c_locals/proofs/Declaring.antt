@@ -17,7 +17,7 @@ use Rattle.c_expressions.specs.declared.least.Least.{Least}
 use Rattle.c_expressions.specs.declared.scopes.Entity.{Entity as Entity'}
 use Rattle.c_expressions.specs.Kept.{least_of, kept}
 use Rattle.c_expressions.specs.Views.{block_of}
-use Rattle.c_locals.proofs.Walking.{StillToMake, nothing_made, one_made}
+use Rattle.c_locals.proofs.Walking.{StillToMake, one_made}
 use Rattle.c_locals.specs.declared.environment.Walk.{Walk}
 use Rattle.c_locals.specs.Resolved.{Resolves, declares}
 use Rattle.c_locals.specs.Values.{MayEvaluate}

@@ -1,5 +1,5 @@
 -- The filter of an `__except`, by whether it is always the same.
-use Rattle.std.proofs.Common.{◌≡◌, ℕ, ◌+◌, Bool, true, false, cond, [], Option, Some, None, refl, sym, ap, subst}
+use Rattle.std.proofs.Common.{◌≡◌, ℕ, ◌+◌, Bool, true, false, cond, [], Some, None, refl, sym, ap, subst}
 use Rattle.c_checked.specs.declared.expression.Expr.{Expr}
 use Rattle.c_checked.specs.Statement.{Always, Funclet}
 use Rattle.c_expressions.specs.declared.least.Least.{Least}

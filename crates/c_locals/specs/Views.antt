@@ -1,5 +1,5 @@
 -- Where a statement stands, wherever that lies in memory.
-use Rattle.std.specs.Prelude.{ℕ, true, false, ◌++◌}
+use Rattle.std.specs.Prelude.{true, false, ◌++◌}
 use Rattle.c_expressions.specs.Views.{scopes_of}
 use Rattle.c_locals.specs.declared.environment.Environment.{Environment as Environment'}
 use Rattle.c_locals.specs.declared.environment.Reach.{Reach as Reach'}

@@ -1,6 +1,7 @@
 //! The locals of a block (C11, 6.7 and 6.8.5.3).
 
 ghost use Rattle.std.specs.Prelude.{◌≡◌, ◌++◌, ◌∷◌, [], length, not, IfOk, OnOk, map};
+ghost use Rattle.c_checked.specs.declared.statement.Stmt.TheVariants as statements;
 ghost use Rattle.c_checked.specs.Statement.{statement};
 ghost use Rattle.c_resolved.specs.declared.fault.Fault.TheVariants.{Duplicate, TypeClash};
 ghost use Rattle.c_resolved.specs.Scopes.{spelled};
@@ -79,14 +80,7 @@ fn declare<'t>(
         block,
     )?;
     walk.sizes.push(size_of(of))?;
-    let value = to_type_or_none(
-        alloc,
-        env,
-        block,
-        &mut walk.worst,
-        of,
-        &local.initialiser,
-    )?;
+    let value = to_type_or_none(alloc, env, block, &mut walk.worst, of, &local.initialiser)?;
     Ok(Declared {
         local: number,
         value,
@@ -113,11 +107,9 @@ fn declare_each<'t>(
 
 /// Each declared local as a statement of its own.
 fn as_statements(alloc: Global, made: Vec<Declared>) -> Result<Vec<Stmt>, AllocError>
-    ensures { IfOk result (λ v. map statement v.items ≡ map declares made.items) }
+    ensures { IfOk result (λ v. v.items ≡ map (λ d. statements.Declare d) made.items) }
 {
-    made.into_iter()
-        .map(|d| Stmt::Declare(d))
-        .collect(alloc)
+    made.into_iter().map(|d| Stmt::Declare(d)).collect(alloc)
 }
 
 /// The locals of a declaration.

@@ -89,10 +89,7 @@ pub fn jump(worst: &mut Least, found: Reach, fault: Fault, at: u64)
 }
 
 /// Inside a block, with these names around.
-pub fn within<'t, 's>(
-    env: &Environment<'t, '_>,
-    scopes: &'s Scopes<'t, 's>,
-) -> Environment<'t, 's>
+pub fn within<'t, 's>(env: &Environment<'t, '_>, scopes: &'s Scopes<'t, 's>) -> Environment<'t, 's>
     ensures { environment result ≡ within (environment env.now) (scopes_of scopes.now) }
 {
     Environment {
@@ -125,10 +122,7 @@ pub fn in_body<'t, 's>(env: &Environment<'t, 's>) -> Environment<'t, 's>
 pub fn in_handler<'t, 's>(env: &Environment<'t, 's>) -> Environment<'t, 's>
     ensures { environment result ≡ in_handler (environment env.now) }
 {
-    Environment {
-        code: true,
-        ..*env
-    }
+    Environment { code: true, ..*env }
 }
 
 /// Inside a `__finally` block.

@@ -36,7 +36,7 @@ fn is_one(literal: Literal) -> bool
 
 /// Whether a name means EXCEPTION_EXECUTE_HANDLER.
 fn is_accepting(meaning: Option<Entity<'_>>) -> bool
-    ensures { result ≡ definitions.is_accepting (option_map entity meaning) }
+    ensures { result ≡ definitions.is_accepting (option_map entity meaning.entry) }
 {
     match meaning {
         Some(Entity::BuiltInConstant(value)) => value == 1,

@@ -1,4 +1,4 @@
-use Rattle.std.proofs.Common.{◌≡◌, ◌∙◌, ◌++◌, ◌∷◌, [], refl, ap}
+use Rattle.std.proofs.Common.{◌∙◌, ◌++◌, ◌∷◌, [], refl, ap}
 use Rattle.c_expressions.specs.Views.{block_of}
 use Rattle.c_locals.proofs.Declaring.{declared_local}
 use Rattle.c_locals.proofs.declarations.declare.Goals as goal

@@ -1,12 +1,16 @@
-use Rattle.std.proofs.Common.{◌≤◌, length, arith}
+use Rattle.std.proofs.Common.{◌≤◌, length, map, sym, subst, arith}
 use Rattle.c_expressions.specs.Kept.{least_of}
 use Rattle.c_locals.proofs.Declaring.{rest_of, one_declared, all_declared}
-use Rattle.c_locals.proofs.Walking.{nothing_made}
+use Rattle.c_locals.proofs.Walking.{StillToMake, nothing_made}
 use Rattle.c_locals.proofs.declarations.declare_each.Goals as goal
+use Rattle.c_locals.specs.Resolved.{declares}
 use Rattle.c_locals.specs.Views.{environment}
 
 pub loop-local-init : goal.loop-local-init
-loop-local-init c = nothing_made (rest_of (environment c.args.env.now) c.args.base c.args.locals.now c.args.block.now.entries c.args.walk.now) (least_of c.args.walk.now.worst)
+loop-local-init c =
+    let whole = rest_of (environment c.args.env.now) c.args.base c.args.locals.now c.args.block.now.entries c.args.walk.now in
+    let first = least_of c.args.walk.now.worst in
+    subst (λ k. StillToMake whole first (map declares k) first whole) (sym c.new-made.ensures.items) (nothing_made whole first)
 
 pub loop-local-preserved : goal.loop-local-preserved
 loop-local-preserved c =

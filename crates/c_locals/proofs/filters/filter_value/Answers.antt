@@ -8,5 +8,5 @@ use Rattle.c_syntax.specs.Expression.{expression}
 pub returns-then-always : goal.returns-then-always
 returns-then-always c = always_same (environment c.args.env.now) (block_of c.args.block.now.entries) (expression c.args.e.now) c.args.worst.now (sym c.always.ensures ∙ c.if-always.true)
 
-pub returns-else-always : goal.returns-else-always
-returns-else-always c = answered (environment c.args.env.now) (block_of c.args.block.now.entries) (expression c.args.e.now) c.args.worst.now _ _ (sym c.always.ensures ∙ c.if-always.false) c.in_ok-answer.ensures
+pub returns : goal.returns
+returns c = answered (environment c.args.env.now) (block_of c.args.block.now.entries) (expression c.args.e.now) c.args.worst.now _ _ (sym c.always.ensures ∙ c.if-always.false) c.in_ok-answer.ensures
