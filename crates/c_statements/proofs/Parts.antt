@@ -59,36 +59,6 @@ pub governed_in : (w0 w1 : Walk) (e : Expr) (made : Stmt) (v : Value) (t' t : St
 governed_in w0 w1 e made v t' t a' a n p q m =
     subst (λ k. MakesGoverned w0 w1 e made v (resolve_statement t k [] n)) q (subst (λ k. MakesGoverned w0 w1 e made v (resolve_statement k a' [] n)) p m)
 
--- ---- in a new block
-
-pub part_is : (es0 es : Entries) (w0 w1 : Walk) (vs : List Stmt) (made : Stmt) (a : Environment) (t : Statement)
-    → es0 ≡ [] → Resolves es w0 w1 (map checked.statement vs) (resolve_statement t a (block_of es0) (numbering w0)) → checked.statement made ≡ only (map checked.statement vs)
-    → MakesPart w0 w1 made (resolve_statement t a [] (numbering w0))
-part_is es0 es w0 w1 vs made a t e r0 p =
-    let r = subst (λ k. Resolves es w0 w1 (map checked.statement vs) (resolve_statement t a (block_of k) (numbering w0))) e r0 in
-    record { done = p ∙ ap only r.done; counts = r.counts; faults = r.faults }
-
-pub items_are : (es0 es : Entries) (w0 w1 : Walk) (vs : List Stmt) (a : Environment) (ss : Statements)
-    → es0 ≡ [] → Resolves es w0 w1 (map checked.statement vs) (resolve_statements ss a (block_of es0) (numbering w0))
-    → MakesBlock w0 w1 vs (resolve_statements ss a [] (numbering w0))
-items_are es0 es w0 w1 vs a ss e r0 =
-    let r = subst (λ k. Resolves es w0 w1 (map checked.statement vs) (resolve_statements ss a (block_of k) (numbering w0))) e r0 in
-    record { done = r.done; counts = r.counts; faults = r.faults }
-
--- ---- a block
-
-pub block_is : (b : Scope) (w0 w1 : Walk) (vs : List Stmt) (made : Stmt) (a : Environment) (ss : Statements)
-    → MakesBlock w0 w1 vs (resolve_statements ss (inside a b) [] (numbering w0))
-    → checked.statement made ≡ checked.Block (checked.statements (map checked.statement vs))
-    → MakesOne b w0 w1 made (resolve_statement (trees.Block ss) a b (numbering w0))
-block_is b w0 w1 vs made a ss m p =
-    record {
-      done = ap (λ s. s ∷ []) (p ∙ ap (λ ks. checked.Block (checked.statements ks)) m.done);
-      counts = m.counts;
-      block = refl;
-      faults = m.faults;
-    }
-
 -- ---- a condition and what it governs
 
 pub governed_is : (w0 w1 w2 : Walk) (e : Expr) (s : Stmt) (v : Value) (f : Numbering → ResolvedStatements)
@@ -101,42 +71,6 @@ governed_is w0 w1 w2 e s v f value faults n m =
       done = k.done;
       counts = k.counts;
       faults = kept_more (least_of w0.worst) (least_of w1.worst) (least_of w2.worst) v.faults (f (numbering w0)).faults faults k.faults;
-    }
-
-pub if_is : (b : Scope) (w0 w1 : Walk) (e : Expr) (s made : Stmt) (a : Environment) (at : ℕ) (c : Expression) (t : Statement)
-    → MakesGoverned w0 w1 e s (condition at (resolved_at a b c)) (resolve_statement t (inside a b) [] (numbering w0))
-    → checked.statement made ≡ checked.If (expression e) (checked.statement s)
-    → MakesOne b w0 w1 made (resolve_statement (trees.If at c t) a b (numbering w0))
-if_is b w0 w1 e s made a at c t m p =
-    record {
-      done = ap (λ k. k ∷ []) (p ∙ ap (λ x. checked.If x (checked.statement s)) m.condition ∙ ap (checked.If (condition at (resolved_at a b c)).value) m.done);
-      counts = m.counts;
-      block = refl;
-      faults = m.faults;
-    }
-
-pub while_is : (b : Scope) (w0 w1 : Walk) (e : Expr) (s made : Stmt) (a : Environment) (at : ℕ) (c : Expression) (t : Statement)
-    → MakesGoverned w0 w1 e s (condition at (resolved_at a b c)) (resolve_statement t (in_loop (inside a b)) [] (numbering w0))
-    → checked.statement made ≡ checked.For [] None (Some (expression e)) None (checked.statement s)
-    → MakesOne b w0 w1 made (resolve_statement (trees.While at c t) a b (numbering w0))
-while_is b w0 w1 e s made a at c t m p =
-    record {
-      done = ap (λ k. k ∷ []) (p ∙ ap (λ x. checked.For [] None (Some x) None (checked.statement s)) m.condition ∙ ap (checked.For [] None (Some (condition at (resolved_at a b c)).value) None) m.done);
-      counts = m.counts;
-      block = refl;
-      faults = m.faults;
-    }
-
-pub do_is : (b : Scope) (w0 w1 : Walk) (e : Expr) (s made : Stmt) (a : Environment) (at : ℕ) (c : Expression) (t : Statement)
-    → MakesGoverned w0 w1 e s (condition at (resolved_at a b c)) (resolve_statement t (in_loop (inside a b)) [] (numbering w0))
-    → checked.statement made ≡ checked.DoWhile (checked.statement s) (expression e)
-    → MakesOne b w0 w1 made (resolve_statement (trees.DoWhile t at c) a b (numbering w0))
-do_is b w0 w1 e s made a at c t m p =
-    record {
-      done = ap (λ k. k ∷ []) (p ∙ ap (checked.DoWhile (checked.statement s)) m.condition ∙ ap (λ x. checked.DoWhile x (condition at (resolved_at a b c)).value) m.done);
-      counts = m.counts;
-      block = refl;
-      faults = m.faults;
     }
 
 pub if_else_is : (b : Scope) (w0 w1 w2 : Walk) (e : Expr) (s o made : Stmt) (a : Environment) (at : ℕ) (c : Expression) (t u : Statement)
