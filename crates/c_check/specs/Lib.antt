@@ -1,0 +1,3 @@
+pub mod Parameters
+pub mod Functions
+pub mod Refusals

@@ -1,0 +1,57 @@
+//! Which programs are accepted, and what each is.
+
+ghost use Rattle.std.specs.Prelude.{◌≡◌, IfOk, IfErr, map};
+ghost use Rattle.c_check.specs.Refusals.{IsRefusal};
+ghost use Rattle.c_checked.specs.Whole.{program};
+ghost use Rattle.c_resolved.specs.Accepted.{Accepted};
+ghost use Rattle.c_resolved.specs.Program.{resolve};
+ghost use Rattle.c_syntax.specs.Limits.{Within};
+ghost use Rattle.c_syntax.specs.Program.{external_declaration};
+
+use crate::declarations::file;
+use crate::entry::main_of;
+use crate::functions::functions;
+use c_checked::checked::Checked;
+use c_expressions::least::Broken;
+use c_syntax::declaration::ExternalDeclaration;
+use std::alloc::{AllocError, Global};
+
+/// Why a program isn't accepted.
+#[derive(Clone, Copy, Drop)]
+pub enum CheckErr {
+    /// The least fault: a rule that it breaks, and the place in bytes from the text's begin.
+    Broken(Broken),
+    /// Memory ran out.
+    Memory,
+}
+
+impl From<AllocError> for CheckErr {
+    fn from(_e: AllocError) -> CheckErr {
+        CheckErr::Memory
+    }
+}
+
+/// The checked program that a program is: names resolved, types and conversions explicit, with the proof
+/// that it is sound.
+pub fn check(alloc: Global, text: &[u8], xs: &[ExternalDeclaration]) -> Result<Checked, CheckErr>
+    requires { Within text.now (map external_declaration xs.now) }
+    // It breaks no rule.
+    ensures accepted { IfOk result (λ p. Accepted text.now (map external_declaration xs.now)) }
+    // It is what the text is resolved to.
+    ensures resolved { IfOk result (λ p. program p ≡ (resolve text.now (map external_declaration xs.now)).program) }
+    // A refusal names the least fault; or memory runs out.
+    ensures refused { IfErr result (λ e. IsRefusal e text.now (map external_declaration xs.now)) }
+{
+    let file = file(alloc, text, xs)?;
+    let mut worst = file.worst;
+    let main = main_of(&file.names, xs, &mut worst);
+    let made = functions(alloc, text, &file.names, worst, xs)?;
+    match made.worst.found {
+        Some(least) => Err(CheckErr::Broken(least)),
+        None => Ok(Checked {
+            functions: made.done,
+            main,
+            globals: file.bytes,
+        }),
+    }
+}

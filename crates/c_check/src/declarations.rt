@@ -1,0 +1,72 @@
+//! The names of the file, and the bytes of its globals (C11, 6.9).
+
+ghost use Rattle.std.specs.Prelude.{IfOk, OnOk, map};
+ghost use Rattle.c_globals.specs.Files.{IsFile};
+ghost use Rattle.c_resolved.specs.Program as definitions;
+ghost use Rattle.c_syntax.specs.Program as syntax;
+
+use c_expressions::least::Least;
+use c_expressions::scopes::Entity;
+use c_globals::globals::{File, globals, name};
+use c_syntax::declaration::ExternalDeclaration;
+use indexmap::IndexMap;
+use std::alloc::{AllocError, Global};
+
+/// The names that an external declaration declares. A function has the next number.
+fn declare<'a>(
+    alloc: Global,
+    text: &'a [u8],
+    file: &mut File<'a>,
+    x: &'a ExternalDeclaration,
+) -> Result<(), AllocError>
+    ensures { OnOk result ((d : definitions.File) → IsFile file.old d → IsFile file.new (definitions.with_external_declaration text.now (syntax.external_declaration x.now) d)) }
+{
+    match x {
+        ExternalDeclaration::Globals { base, globals: list } => {
+            globals(alloc, text, file, *base, list)
+        }
+        ExternalDeclaration::Function {
+            returns,
+            name: n,
+            parameters,
+            ..
+        } => {
+            let number = file.functions;
+            let meaning = Entity::UserFunction {
+                number,
+                returns: *returns,
+                parameters,
+            };
+            name(text, file, *n, meaning)?;
+            file.functions = number.checked_add(1).ok_or(AllocError)?;
+            Ok(())
+        }
+    }
+}
+
+/// The file before its first declaration.
+fn empty<'a>(alloc: Global) -> File<'a>
+    ensures { IsFile result definitions.empty_file }
+{
+    File {
+        names: IndexMap::new(alloc),
+        bytes: Vec::new(alloc),
+        functions: 0,
+        worst: Least { found: None },
+    }
+}
+
+/// All names of the file, the bytes of its globals and the least fault of its declarations.
+pub fn file<'a>(
+    alloc: Global,
+    text: &'a [u8],
+    xs: &'a [ExternalDeclaration],
+) -> Result<File<'a>, AllocError>
+    ensures { IfOk result (λ f. IsFile f (definitions.file_of text.now (map syntax.external_declaration xs.now) definitions.empty_file)) }
+{
+    let mut file = empty(alloc);
+    for x in xs {
+        declare(alloc, text, &mut file, x)?;
+    }
+    Ok(file)
+}
