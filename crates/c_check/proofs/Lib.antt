@@ -1,6 +1,6 @@
 pub mod Swapped
-pub mod Parameters
-pub mod Functions
-pub mod Files
-pub mod Entry
+pub mod ParametersInOrder
+pub mod FunctionsInOrder
+pub mod FileInOrder
+pub mod PlaceOfMain
 pub mod Programs

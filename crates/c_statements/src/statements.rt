@@ -2,7 +2,9 @@
 
 ghost use Rattle.std.specs.Prelude.{map, IfOk};
 ghost use Rattle.c_expressions.specs.Views.{block_of};
-ghost use Rattle.c_locals.specs.Views.{numbering, Resolves};
+ghost use Rattle.c_checked.specs.Statement as checked;
+ghost use Rattle.c_locals.specs.Resolved.{Resolves};
+ghost use Rattle.c_locals.specs.Views.{numbering};
 ghost use Rattle.c_resolved.specs.Program.{around};
 ghost use Rattle.c_resolved.specs.Statements.{resolve_statements};
 ghost use Rattle.c_syntax.specs.Statement.{statement, statements};
@@ -25,7 +27,7 @@ pub fn body<'t>(
     walk: &mut Walk,
     list: &[Stmt],
 ) -> Result<Vec<Checked>, AllocError>
-    ensures { IfOk result (λ v. Resolves block.new.entries walk.old walk.new v.items (resolve_statements (statements (map statement list.now)) (around text.now (block_of file.now.entries) returns) (block_of block.old.entries) (numbering walk.old))) }
+    ensures { IfOk result (λ v. Resolves block.new.entries walk.old walk.new (map checked.statement v.items) (resolve_statements (statements (map statement list.now)) (around text.now (block_of file.now.entries) returns) (block_of block.old.entries) (numbering walk.old))) }
 {
     Err(AllocError)
 }

@@ -1,6 +1,6 @@
 use Rattle.std.proofs.Common.{map}
 use Rattle.c_check.proofs.declarations.file.Given as goal
-use Rattle.c_check.proofs.Files.{StillFile}
+use Rattle.c_check.proofs.FileInOrder.{StillFile}
 use Rattle.c_resolved.specs.Program.{file_of, empty_file}
 use Rattle.c_syntax.specs.Program.{external_declaration}
 

@@ -1,5 +1,5 @@
 use Rattle.c_check.proofs.functions.functions.Given as goal
-use Rattle.c_check.proofs.Functions.{StillFunctions}
+use Rattle.c_check.proofs.FunctionsInOrder.{StillFunctions}
 use Rattle.c_expressions.specs.Kept.{least_of}
 use Rattle.c_expressions.specs.Views.{block_of}
 

@@ -1,5 +1,5 @@
 use Rattle.c_check.proofs.parameters.block_of.Given as goal
-use Rattle.c_check.proofs.Parameters.{StillParameters}
+use Rattle.c_check.proofs.ParametersInOrder.{StillParameters}
 use Rattle.c_expressions.specs.Kept.{least_of}
 use Rattle.c_expressions.specs.Views.{block_of}
 use Rattle.std.proofs.Common.{length}

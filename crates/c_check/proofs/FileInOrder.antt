@@ -1,7 +1,7 @@
 -- Declarations of the file, one after another.
 use Rattle.std.proofs.Common.{◌≡◌, ℕ, ◌+◌, ◌<◌, ◌≤◌, List, map, length, drop, get_or, sym, ap, ◌∙◌, subst}
 use Rattle.std.proofs.lemmas.List.{drop_all}
-use Rattle.c_check.proofs.Parameters.{next_of}
+use Rattle.c_check.proofs.ParametersInOrder.{next_of}
 use Rattle.c_globals.specs.declared.globals.File.{File as File'}
 use Rattle.c_globals.specs.Files.{IsFile}
 use Rattle.c_resolved.specs.Program.{File, with_external_declaration, file_of}

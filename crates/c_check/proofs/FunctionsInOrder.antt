@@ -1,7 +1,7 @@
 -- Functions, one after another.
 use Rattle.std.proofs.Common.{◌≡◌, ℕ, ◌+◌, ◌<◌, ◌≤◌, List, [], ◌∷◌, ◌++◌, map, length, drop, get_or, append-nil, append_assoc, Option, refl, sym, ap, ◌∙◌}
 use Rattle.std.proofs.lemmas.List.{drop_all}
-use Rattle.c_check.proofs.Parameters.{next_of}
+use Rattle.c_check.proofs.ParametersInOrder.{next_of}
 use Rattle.c_check.specs.declared.functions.Progress.{Progress}
 use Rattle.c_check.specs.Functions.{AddsFunctions}
 use Rattle.c_checked.specs.Program as checked_program
