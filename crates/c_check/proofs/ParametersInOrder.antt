@@ -1,5 +1,5 @@
 -- Parameters, one after another.
-use Rattle.std.proofs.Common.{◌≡◌, ℕ, ◌+◌, ◌<◌, ◌≤◌, Bool, true, false, cond, List, [], ◌∷◌, ◌++◌, map, length, drop, suc, get_or, add-one, append-nil, append_assoc, Option, Some, None, refl, sym, ap, ◌∙◌}
+use Rattle.std.proofs.Common.{◌≡◌, ℕ, ◌+◌, ◌<◌, ◌≤◌, Bool, true, false, cond, List, [], ◌∷◌, ◌++◌, map, length, drop, suc, get_or, add-one, append-nil, append_assoc, Option, Some, refl, sym, ap, ◌∙◌}
 use Rattle.std.specs.Prelude.{not}
 use Rattle.std.proofs.Math.Seq.{drop-cons}
 use Rattle.std.proofs.lemmas.List.{drop_all}
@@ -17,34 +17,34 @@ use Rattle.c_syntax.specs.declared.declaration.Parameter.{Parameter}
 
 -- ---- whether a name is taken says its scope's names alone
 
-abbrev pub names : Scope → List (List ℕ)
-names s = map (λ x. x.0) s
+abbrev pub names_in : Scope → List (List ℕ)
+names_in s = map (λ x. x.0) s
 
 abbrev has : List (List ℕ) → List ℕ → Bool
 has [] n = false
 has (k ∷ ks) n = cond (same_bytes k n) true (has ks n)
 
-has_is : (s : Scope) (n : List ℕ) → is_some (meaning_in s n) ≡ has (names s) n
+has_is : (s : Scope) (n : List ℕ) → is_some (meaning_in s n) ≡ has (names_in s) n
 has_is [] n = refl
-has_is (x ∷ rest) n = by (same_bytes x.0 n)
+has_is (x ∷ rest) n = by (same_bytes x.0 n) (has_is rest n)
   where
-    by : (b : Bool) → is_some (cond b (Some x.1) (meaning_in rest n)) ≡ cond b true (has (names rest) n)
-    by true = refl
-    by false = has_is rest n
+    by : (b : Bool) → is_some (meaning_in rest n) ≡ has (names_in rest) n → is_some (cond b (Some x.1) (meaning_in rest n)) ≡ cond b true (has (names_in rest) n)
+    by true h = refl
+    by false h = h
 
-taken_same : (s t : Scope) (n : List ℕ) → names s ≡ names t → is_taken s n ≡ is_taken t n
-taken_same s t n e = has_is (built_ins ++ s) n ∙ ap (λ ks. has (names built_ins ++ ks) n) e ∙ sym (has_is (built_ins ++ t) n)
+taken_same : (s t : Scope) (n : List ℕ) → names_in s ≡ names_in t → is_taken s n ≡ is_taken t n
+taken_same s t n e = has_is (built_ins ++ s) n ∙ ap (λ ks. has (names_in built_ins ++ ks) n) e ∙ sym (has_is (built_ins ++ t) n)
 
-with_same : (s t : Scope) (n : List ℕ) (d e : Entity) → names s ≡ names t → names (with_name s n d) ≡ names (with_name t n e)
+with_same : (s t : Scope) (n : List ℕ) (d e : Entity) → names_in s ≡ names_in t → names_in (with_name s n d) ≡ names_in (with_name t n e)
 with_same s t n d e p = by (is_taken s n) (is_taken t n) (taken_same s t n p)
   where
-    by : (a b : Bool) → a ≡ b → names (cond a s ((n, d) ∷ s)) ≡ names (cond b t ((n, e) ∷ t))
+    by : (a b : Bool) → a ≡ b → names_in (cond a s ((n, d) ∷ s)) ≡ names_in (cond b t ((n, e) ∷ t))
     by true true h = p
     by true false h = absurd (cc)
     by false true h = absurd (cc)
     by false false h = ap (λ ks. n ∷ ks) p
 
-faults_same : (text : List ℕ) (ps : List Parameter) (s t : Scope) → names s ≡ names t → parameter_faults text ps s ≡ parameter_faults text ps t
+faults_same : (text : List ℕ) (ps : List Parameter) (s t : Scope) → names_in s ≡ names_in t → parameter_faults text ps s ≡ parameter_faults text ps t
 faults_same text [] s t e = refl
 faults_same text (p ∷ ps) s t e =
     let n = spelled text p.name in
@@ -61,22 +61,24 @@ faults_numbered text p ps block k =
 
 -- ---- the loop over parameters
 
+pub next_at : {A : Type 0} (xs : List A) (i : ℕ) (d : A) → i < length xs → drop i xs ≡ get_or xs i d ∷ drop (i + 1) xs
+next_at xs i d lt = drop-cons xs i d lt ∙ ap (λ k. get_or xs i d ∷ drop k xs) (sym (add-one i))
+
 pub next_of : {A : Type 0} (xs : List A) (i : ℕ) (x : A) → i < length xs → x ≡ get_or xs i x → drop i xs ≡ x ∷ drop (i + 1) xs
 next_of xs i x lt is = drop-cons xs i x lt ∙ ap (λ y. y ∷ drop (suc i) xs) (sym is) ∙ ap (λ k. x ∷ drop k xs) (sym (add-one i))
 
 pub record StillParameters (text : List ℕ) (list : List Parameter) (i : ℕ) (block : Scope) (first w : Option FaultAt) : Type 0 where
-  pub block : with_parameters text (drop i list) block i ≡ with_parameters text list [] 0
+  pub names : with_parameters text (drop i list) block i ≡ with_parameters text list [] 0
   pub faults : kept w (parameter_faults text (drop i list) block) ≡ kept first (parameter_faults text list [])
 
-pub parameters_on : (text : List ℕ) (list : List Parameter) (i : ℕ) (p : Parameter) (block block' : Scope) (first w w' : Option FaultAt) → i < length list → p ≡ get_or list i p
+pub parameters_on : (text : List ℕ) (list : List Parameter) (i : ℕ) (p : Parameter) (block block' : Scope) (first w w' : Option FaultAt) → drop i list ≡ p ∷ drop (i + 1) list
     → block' ≡ with_name block (spelled text p.name) (LocalVariable i p.of) → w' ≡ kept w (parameter_fault text p block)
     → StillParameters text list i block first w → StillParameters text list (i + 1) block' first w'
-parameters_on text list i p block block' first w w' lt is e q h =
+parameters_on text list i p block block' first w w' next e q h =
     let rest = drop (i + 1) list in
-    let next = next_of list i p lt is in
     let made = with_name block (spelled text p.name) (LocalVariable i p.of) in
     record {
-      block = ap (λ b. with_parameters text rest b (i + 1)) e ∙ ap (λ l. with_parameters text l block i) (sym next) ∙ h.block;
+      names = ap (λ b. with_parameters text rest b (i + 1)) e ∙ ap (λ l. with_parameters text l block i) (sym next) ∙ h.names;
       faults =
           ap (λ b. kept w' (parameter_faults text rest b)) e ∙ ap (λ k. kept k (parameter_faults text rest made)) q
           ∙ sym (kept_append w (parameter_fault text p block) (parameter_faults text rest made)) ∙ ap (kept w) (sym (faults_numbered text p rest block i))
@@ -84,14 +86,14 @@ parameters_on text list i p block block' first w w' lt is e q h =
     }
 
 pub record AreParameters (text : List ℕ) (list : List Parameter) (block : Scope) (first w : Option FaultAt) : Type 0 where
-  pub block : block ≡ with_parameters text list [] 0
+  pub names : block ≡ with_parameters text list [] 0
   pub faults : w ≡ kept first (parameter_faults text list [])
 
 pub parameters_end : (text : List ℕ) (list : List Parameter) (i : ℕ) (block : Scope) (first w : Option FaultAt) → length list ≤ i → StillParameters text list i block first w → AreParameters text list block first w
 parameters_end text list i block first w past h =
     let none = drop_all i list past in
     record {
-      block = ap (λ l. with_parameters text l block i) (sym none) ∙ h.block;
+      names = ap (λ l. with_parameters text l block i) (sym none) ∙ h.names;
       faults = ap (λ l. kept w (parameter_faults text l block)) (sym none) ∙ h.faults;
     }
 

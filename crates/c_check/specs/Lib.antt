@@ -1,3 +1,4 @@
 pub mod Parameters
 pub mod Functions
+pub mod Programs
 pub mod Refusals

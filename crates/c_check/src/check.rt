@@ -1,10 +1,12 @@
 //! Which programs are accepted, and what each is.
 
 ghost use Rattle.std.specs.Prelude.{◌≡◌, IfOk, IfErr, map};
+ghost use Rattle.c_check.specs.declared.check.CheckErr.TheVariants.{Memory};
+ghost use Rattle.c_check.specs.Programs.{IsResolved};
 ghost use Rattle.c_check.specs.Refusals.{IsRefusal};
 ghost use Rattle.c_checked.specs.Whole.{program};
 ghost use Rattle.c_resolved.specs.Accepted.{Accepted};
-ghost use Rattle.c_resolved.specs.Program.{resolve};
+ghost use Rattle.c_resolved.specs.Program as definitions;
 ghost use Rattle.c_syntax.specs.Limits.{Within};
 ghost use Rattle.c_syntax.specs.Program.{external_declaration};
 
@@ -12,7 +14,8 @@ use crate::declarations::file;
 use crate::entry::main_of;
 use crate::functions::functions;
 use c_checked::checked::Checked;
-use c_expressions::least::Broken;
+use c_checked::function::Function;
+use c_expressions::least::{Broken, Least};
 use c_syntax::declaration::ExternalDeclaration;
 use std::alloc::{AllocError, Global};
 
@@ -26,9 +29,36 @@ pub enum CheckErr {
 }
 
 impl From<AllocError> for CheckErr {
+    ghost from_gives = { λ _ e. e ≡ Memory };
+
     fn from(_e: AllocError) -> CheckErr {
         CheckErr::Memory
     }
+}
+
+/// What a program is resolved to, with the least fault. Where there is one, the rest means nothing.
+#[derive(Drop)]
+struct Resolved {
+    functions: Vec<Function>,
+    main: u64,
+    globals: Vec<u8>,
+    worst: Least,
+}
+
+/// What a program is resolved to.
+fn resolve(alloc: Global, text: &[u8], xs: &[ExternalDeclaration]) -> Result<Resolved, AllocError>
+    ensures { IfOk result (λ p. IsResolved p (definitions.resolve text.now (map external_declaration xs.now))) }
+{
+    let file = file(alloc, text, xs)?;
+    let mut worst = file.worst;
+    let main = main_of(&file.names, xs, &mut worst);
+    let made = functions(alloc, text, &file.names, worst, xs)?;
+    Ok(Resolved {
+        functions: made.done,
+        main,
+        globals: file.bytes,
+        worst: made.worst,
+    })
 }
 
 /// The checked program that a program is: each name resolved and each conversion explicit, with the proof
@@ -50,20 +80,17 @@ pub fn check(alloc: Global, text: &[u8], xs: &[ExternalDeclaration]) -> Result<C
     // It breaks no rule.
     ensures accepted { IfOk result (λ p. Accepted text.now (map external_declaration xs.now)) }
     // It is what the text is resolved to.
-    ensures resolved { IfOk result (λ p. program p ≡ (resolve text.now (map external_declaration xs.now)).program) }
+    ensures resolved { IfOk result (λ p. program p ≡ (definitions.resolve text.now (map external_declaration xs.now)).program) }
     // A refusal names the least fault; or memory runs out.
     ensures refused { IfErr result (λ e. IsRefusal e text.now (map external_declaration xs.now)) }
 {
-    let file = file(alloc, text, xs)?;
-    let mut worst = file.worst;
-    let main = main_of(&file.names, xs, &mut worst);
-    let made = functions(alloc, text, &file.names, worst, xs)?;
-    match made.worst.found {
+    let program = resolve(alloc, text, xs)?;
+    match program.worst.found {
         Some(least) => Err(CheckErr::Broken(least)),
         None => Ok(Checked {
-            functions: made.done,
-            main,
-            globals: file.bytes,
+            functions: program.functions,
+            main: program.main,
+            globals: program.globals,
         }),
     }
 }

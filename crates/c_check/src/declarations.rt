@@ -1,6 +1,6 @@
 //! The names of the file, and the bytes of its globals (C11, 6.9).
 
-ghost use Rattle.std.specs.Prelude.{IfOk, OnOk, map};
+ghost use Rattle.std.specs.Prelude.{◌≡◌, ◌+◌, IfOk, OnOk, map};
 ghost use Rattle.c_globals.specs.Files.{IsFile};
 ghost use Rattle.c_resolved.specs.Program as definitions;
 ghost use Rattle.c_syntax.specs.Program as syntax;
@@ -12,6 +12,16 @@ use c_syntax::declaration::ExternalDeclaration;
 use indexmap::IndexMap;
 use std::alloc::{AllocError, Global};
 
+/// One more function. As many as 2^64 would need a text of more bytes, so they count as want of memory.
+fn next(number: u64) -> Result<u64, AllocError>
+    ensures { IfOk result (λ count. count ≡ number + 1) }
+{
+    match number.checked_add(1) {
+        Some(count) => Ok(count),
+        None => Err(AllocError),
+    }
+}
+
 /// The names that an external declaration declares. A function has the next number.
 fn declare<'a>(
     alloc: Global,
@@ -22,9 +32,10 @@ fn declare<'a>(
     ensures { OnOk result ((d : definitions.File) → IsFile file.old d → IsFile file.new (definitions.with_external_declaration text.now (syntax.external_declaration x.now) d)) }
 {
     match x {
-        ExternalDeclaration::Globals { base, globals: list } => {
-            globals(alloc, text, file, *base, list)
-        }
+        ExternalDeclaration::Globals {
+            base,
+            globals: list,
+        } => { globals(alloc, text, file, *base, list) }
         ExternalDeclaration::Function {
             returns,
             name: n,
@@ -32,13 +43,14 @@ fn declare<'a>(
             ..
         } => {
             let number = file.functions;
+            let count = next(number)?;
             let meaning = Entity::UserFunction {
                 number,
                 returns: *returns,
                 parameters,
             };
             name(text, file, *n, meaning)?;
-            file.functions = number.checked_add(1).ok_or(AllocError)?;
+            file.functions = count;
             Ok(())
         }
     }

@@ -98,7 +98,9 @@ fn one<'t>(
             name,
             parameters,
             body,
-        } => function(alloc, text, file, progress, *returns, *name, parameters, body),
+        } => function(
+            alloc, text, file, progress, *returns, *name, parameters, body,
+        ),
     }
 }
 

@@ -42,7 +42,12 @@ fn parameter<'t>(
     ensures faults { OnOk result (least_of worst.new ≡ kept (least_of worst.old) (parameter_fault text.now p (block_of block.old.entries))) }
 {
     let name = spelled(text, p.name);
-    unless_holds(worst, !is_taken(name, block), p.name.start, Fault::Duplicate);
+    unless_holds(
+        worst,
+        !is_taken(name, block),
+        p.name.start,
+        Fault::Duplicate,
+    );
     unless_holds(worst, is_scalar(p.of), p.name.start, Fault::TypeClash);
     declare(name, Entity::LocalVariable { number, of: p.of }, block)
 }
