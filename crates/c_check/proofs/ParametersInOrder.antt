@@ -3,7 +3,7 @@ use Rattle.std.proofs.Common.{◌≡◌, ℕ, ◌+◌, ◌<◌, ◌≤◌, Bool,
 use Rattle.std.specs.Prelude.{not}
 use Rattle.std.proofs.Math.Seq.{drop-cons}
 use Rattle.std.proofs.lemmas.List.{drop_all}
-use Rattle.c_check.specs.Parameters.{sizes_of, parameter_fault}
+use Rattle.c_check.specs.Parameters.{sizes_of, faults_of_parameter}
 use Rattle.c_expressions.proofs.Kept.{kept_append}
 use Rattle.c_expressions.specs.Kept.{kept}
 use Rattle.c_operations.specs.declared.operation.Size.{Size}
@@ -50,14 +50,14 @@ faults_same text (p ∷ ps) s t e =
     let n = spelled text p.name in
     let scalar = unless_holds (is_scalar p.of) p.name.start TypeClash in
     ap (λ b. unless_holds (not b) p.name.start Duplicate ++ scalar ++ parameter_faults text ps (with_name s n (LocalVariable 0 p.of))) (taken_same s t n e)
-    ∙ ap (λ fs. parameter_fault text p t ++ fs) (faults_same text ps (with_name s n (LocalVariable 0 p.of)) (with_name t n (LocalVariable 0 p.of)) (with_same s t n (LocalVariable 0 p.of) (LocalVariable 0 p.of) e))
+    ∙ ap (λ fs. faults_of_parameter text p t ++ fs) (faults_same text ps (with_name s n (LocalVariable 0 p.of)) (with_name t n (LocalVariable 0 p.of)) (with_same s t n (LocalVariable 0 p.of) (LocalVariable 0 p.of) e))
 
 -- the faults of parameters where the block has the first one under another number
 faults_numbered : (text : List ℕ) (p : Parameter) (ps : List Parameter) (block : Scope) (k : ℕ)
-    → parameter_faults text (p ∷ ps) block ≡ parameter_fault text p block ++ parameter_faults text ps (with_name block (spelled text p.name) (LocalVariable k p.of))
+    → parameter_faults text (p ∷ ps) block ≡ faults_of_parameter text p block ++ parameter_faults text ps (with_name block (spelled text p.name) (LocalVariable k p.of))
 faults_numbered text p ps block k =
     let n = spelled text p.name in
-    ap (λ fs. parameter_fault text p block ++ fs) (faults_same text ps (with_name block n (LocalVariable 0 p.of)) (with_name block n (LocalVariable k p.of)) (with_same block block n (LocalVariable 0 p.of) (LocalVariable k p.of) refl))
+    ap (λ fs. faults_of_parameter text p block ++ fs) (faults_same text ps (with_name block n (LocalVariable 0 p.of)) (with_name block n (LocalVariable k p.of)) (with_same block block n (LocalVariable 0 p.of) (LocalVariable k p.of) refl))
 
 -- ---- the loop over parameters
 
@@ -72,7 +72,7 @@ pub record StillParameters (text : List ℕ) (list : List Parameter) (i : ℕ) (
   pub faults : kept w (parameter_faults text (drop i list) block) ≡ kept first (parameter_faults text list [])
 
 pub parameters_on : (text : List ℕ) (list : List Parameter) (i : ℕ) (p : Parameter) (block block' : Scope) (first w w' : Option FaultAt) → drop i list ≡ p ∷ drop (i + 1) list
-    → block' ≡ with_name block (spelled text p.name) (LocalVariable i p.of) → w' ≡ kept w (parameter_fault text p block)
+    → block' ≡ with_name block (spelled text p.name) (LocalVariable i p.of) → w' ≡ kept w (faults_of_parameter text p block)
     → StillParameters text list i block first w → StillParameters text list (i + 1) block' first w'
 parameters_on text list i p block block' first w w' next e q h =
     let rest = drop (i + 1) list in
@@ -81,7 +81,7 @@ parameters_on text list i p block block' first w w' next e q h =
       names = ap (λ b. with_parameters text rest b (i + 1)) e ∙ ap (λ l. with_parameters text l block i) (sym next) ∙ h.names;
       faults =
           ap (λ b. kept w' (parameter_faults text rest b)) e ∙ ap (λ k. kept k (parameter_faults text rest made)) q
-          ∙ sym (kept_append w (parameter_fault text p block) (parameter_faults text rest made)) ∙ ap (kept w) (sym (faults_numbered text p rest block i))
+          ∙ sym (kept_append w (faults_of_parameter text p block) (parameter_faults text rest made)) ∙ ap (kept w) (sym (faults_numbered text p rest block i))
           ∙ ap (λ l. kept w (parameter_faults text l block)) (sym next) ∙ h.faults;
     }
 

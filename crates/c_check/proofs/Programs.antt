@@ -4,6 +4,7 @@ use Rattle.std.specs.Prelude.{option_map}
 use Rattle.c_check.proofs.Swapped.{kept_after_other}
 use Rattle.c_check.specs.declared.check.Resolved.{Resolved as Resolved'}
 use Rattle.c_check.specs.declared.functions.Progress.{Progress}
+use Rattle.c_check.specs.Entry.{main_in}
 use Rattle.c_check.specs.Programs.{IsResolved}
 use Rattle.c_checked.specs.Program.{function}
 use Rattle.c_expressions.proofs.Kept.{kept_append}
@@ -16,17 +17,13 @@ use Rattle.c_globals.specs.declared.globals.File.{File as File'}
 use Rattle.c_globals.specs.Files.{IsFile}
 use Rattle.c_resolved.specs.Accepted.{Accepted, reported}
 use Rattle.c_resolved.specs.Expressions.{FaultAt}
-use Rattle.c_resolved.specs.Program.{Main, main_name, main_of, functions_of, file_of, empty_file, resolve}
-use Rattle.c_resolved.specs.Scopes.{Scope, meaning_in}
+use Rattle.c_resolved.specs.Program.{functions_of, file_of, empty_file, resolve}
 use Rattle.c_syntax.specs.Program.{ExternalDeclaration}
 
 -- the faults of `main` are found after the file's, and stand before them
 all_kept : (a b c : Option FaultAt) (main file functions : List FaultAt) → a ≡ kept None file → b ≡ kept a main → c ≡ kept b functions → c ≡ kept None (main ++ file ++ functions)
 all_kept a b c main file functions p q r =
     r ∙ ap (λ k. kept k functions) (q ∙ ap (λ k. kept k main) p ∙ sym (kept_after_other None main file)) ∙ sym (kept_append None (main ++ file) functions)
-
-abbrev main_in : List ExternalDeclaration → Scope → Main
-main_in xs names = main_of xs (meaning_in names main_name)
 
 -- what is resolved with the names that the code has is what is resolved with those of the definition
 pub program_resolved : (text : List ℕ) (xs : List ExternalDeclaration) (file : File') (worst : Least) (main : ℕ) (made : Progress) (p : Resolved')

@@ -1,3 +1,5 @@
+pub mod Declarations
+pub mod Entry
 pub mod Parameters
 pub mod Functions
 pub mod Programs

@@ -47,7 +47,8 @@ struct Resolved {
 
 /// What a program is resolved to.
 fn resolve(alloc: Global, text: &[u8], xs: &[ExternalDeclaration]) -> Result<Resolved, AllocError>
-    ensures { IfOk result (λ p. IsResolved p (definitions.resolve text.now (map external_declaration xs.now))) }
+    ensures { let program = map external_declaration xs.now in
+        IfOk result (λ p. IsResolved p (definitions.resolve text.now program)) }
 {
     let file = file(alloc, text, xs)?;
     let mut worst = file.worst;
@@ -61,26 +62,27 @@ fn resolve(alloc: Global, text: &[u8], xs: &[ExternalDeclaration]) -> Result<Res
     })
 }
 
-/// The checked program that a program is: each name resolved and each conversion explicit, with the proof
-/// that it is sound.
+/// The checked program that a program is: each name resolved and each conversion explicit, with the
+/// proof that it is sound.
 ///
 /// The rules are those of scopes (C11, 6.2.1) and of one declaration of a name in a scope (6.7), of
-/// conversions and lvalues (6.3), of operators and calls (6.5), of initialisers (6.7.9), of conditions and
-/// jumps (6.8), of functions (6.9.1) and of `main` (5.1.2.2.1), and of what filters, `__except` blocks and
-/// `__finally` blocks alone may name (Microsoft C reference, "try-except statement" and "try-finally
-/// statement"). Every function and global is visible in the whole text, and no jump leaves a `__finally`
-/// block (own).
+/// conversions and lvalues (6.3), of operators and calls (6.5), of initialisers (6.7.9), of
+/// conditions and jumps (6.8), of functions (6.9.1) and of `main` (5.1.2.2.1), and of what filters,
+/// `__except` blocks and `__finally` blocks alone may name (Microsoft C reference, "try-except
+/// statement" and "try-finally statement"). Every function and global is visible in the whole text,
+/// and no jump leaves a `__finally` block (own).
 ///
 /// # Errors
 ///
-/// `Broken` names the broken rule at the least place, in bytes from the text's begin, and at one place the
-/// first rule in the order of `Fault`. `Memory` says that memory ran out.
+/// `Broken` names the broken rule at the least place, in bytes from the text's begin, and at one
+/// place the first rule in the order of `Fault`. `Memory` says that memory ran out.
 pub fn check(alloc: Global, text: &[u8], xs: &[ExternalDeclaration]) -> Result<Checked, CheckErr>
     requires { Within text.now (map external_declaration xs.now) }
     // It breaks no rule.
     ensures accepted { IfOk result (λ p. Accepted text.now (map external_declaration xs.now)) }
     // It is what the text is resolved to.
-    ensures resolved { IfOk result (λ p. program p ≡ (definitions.resolve text.now (map external_declaration xs.now)).program) }
+    ensures resolved { let made = definitions.resolve text.now (map external_declaration xs.now) in
+        IfOk result (λ p. program p ≡ made.program) }
     // A refusal names the least fault; or memory runs out.
     ensures refused { IfErr result (λ e. IsRefusal e text.now (map external_declaration xs.now)) }
 {

@@ -1,6 +1,7 @@
 //! The names of the file, and the bytes of its globals (C11, 6.9).
 
 ghost use Rattle.std.specs.Prelude.{◌≡◌, ◌+◌, IfOk, OnOk, map};
+ghost use Rattle.c_check.specs.Declarations.{Declares};
 ghost use Rattle.c_globals.specs.Files.{IsFile};
 ghost use Rattle.c_resolved.specs.Program as definitions;
 ghost use Rattle.c_syntax.specs.Program as syntax;
@@ -12,7 +13,8 @@ use c_syntax::declaration::ExternalDeclaration;
 use indexmap::IndexMap;
 use std::alloc::{AllocError, Global};
 
-/// One more function. As many as 2^64 would need a text of more bytes, so they count as want of memory.
+/// One more function. As many as 2^64 would need a text of more bytes, so they count as want of
+/// memory.
 fn next(number: u64) -> Result<u64, AllocError>
     ensures { IfOk result (λ count. count ≡ number + 1) }
 {
@@ -29,7 +31,8 @@ fn declare<'a>(
     file: &mut File<'a>,
     x: &'a ExternalDeclaration,
 ) -> Result<(), AllocError>
-    ensures { OnOk result ((d : definitions.File) → IsFile file.old d → IsFile file.new (definitions.with_external_declaration text.now (syntax.external_declaration x.now) d)) }
+    ensures { let declaration = syntax.external_declaration x.now in
+        OnOk result (Declares text.now declaration file.old file.new) }
 {
     match x {
         ExternalDeclaration::Globals {
@@ -74,7 +77,8 @@ pub fn file<'a>(
     text: &'a [u8],
     xs: &'a [ExternalDeclaration],
 ) -> Result<File<'a>, AllocError>
-    ensures { IfOk result (λ f. IsFile f (definitions.file_of text.now (map syntax.external_declaration xs.now) definitions.empty_file)) }
+    ensures { let program = map syntax.external_declaration xs.now in
+        IfOk result (λ f. IsFile f (definitions.file_of text.now program definitions.empty_file)) }
 {
     let mut file = empty(alloc);
     for x in xs {

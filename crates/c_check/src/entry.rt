@@ -1,12 +1,11 @@
 //! The function that a run begins with (C11, 5.1.2.2.1).
 
-ghost use Rattle.std.specs.Prelude.{◌≡◌, ◌&&◌, None, map, option_map};
+ghost use Rattle.std.specs.Prelude.{◌≡◌, map, option_map};
+ghost use Rattle.c_check.specs.Entry.{is_main, main_in};
 ghost use Rattle.c_expressions.specs.Kept.{least_of, kept};
 ghost use Rattle.c_expressions.specs.Views.{block_of, entity};
-ghost use Rattle.c_resolved.specs.Operators.{int};
 ghost use Rattle.c_resolved.specs.Program as definitions;
 ghost use Rattle.c_resolved.specs.Scopes.{meaning_in};
-ghost use Rattle.c_resolved.specs.Types.{same_type};
 ghost use Rattle.c_syntax.specs.Program as syntax;
 
 use c_expressions::least::Least;
@@ -20,7 +19,8 @@ use indexmap::IndexMap;
 
 /// The place of the name of the function of this number; 0 if there is none.
 fn place_of_function(xs: &[ExternalDeclaration], number: u64) -> u64
-    ensures { result ≡ definitions.place_of_function (map syntax.external_declaration xs.now) number }
+    ensures { let program = map syntax.external_declaration xs.now in
+        result ≡ definitions.place_of_function program number }
 {
     let mut left = number;
     for x in xs {
@@ -46,7 +46,7 @@ fn are_main_parameters(list: &[Parameter]) -> bool
 }
 
 fn is_main(returns: CType, list: &[Parameter]) -> bool
-    ensures { result ≡ (same_type returns int && definitions.are_main_parameters (definitions.parameter_types list.now)) }
+    ensures { result ≡ is_main returns list.now }
 {
     same_type(returns, plain(Base::Int)) && are_main_parameters(list)
 }
@@ -65,8 +65,10 @@ pub fn main_of(
     xs: &[ExternalDeclaration],
     worst: &mut Least,
 ) -> u64
-    ensures number { result ≡ (definitions.main_of (map syntax.external_declaration xs.now) (meaning_in (block_of names.now.entries) definitions.main_name)).number }
-    ensures faults { least_of worst.new ≡ kept (least_of worst.old) (definitions.main_of (map syntax.external_declaration xs.now) (meaning_in (block_of names.now.entries) definitions.main_name)).faults }
+    ensures number { let program = map syntax.external_declaration xs.now in
+        result ≡ (main_in program (block_of names.now.entries)).number }
+    ensures faults { let main = main_in (map syntax.external_declaration xs.now) (block_of names.now.entries) in
+        least_of worst.new ≡ kept (least_of worst.old) main.faults }
 {
     match meaning_of_main(names) {
         Some(

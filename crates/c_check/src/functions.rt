@@ -23,8 +23,8 @@ use c_types::types::{is_void, size_of};
 use indexmap::IndexMap;
 use std::alloc::{AllocError, Global};
 
-/// The functions so far; the number of the next filter or `__finally` block, which are numbered through
-/// the whole program; and the least fault.
+/// The functions so far; the number of the next filter or `__finally` block, which are numbered
+/// through the whole program; and the least fault.
 #[derive(Drop)]
 pub struct Progress {
     pub done: Vec<Function>,
@@ -60,7 +60,11 @@ fn function<'t>(
     list: &[Parameter],
     body: &[Stmt],
 ) -> Result<(), AllocError>
-    ensures { OnOk result (AddsFunctions progress.old progress.new (definitions.function_of text.now (block_of file.now.entries) returns name list.now (trees.statements (map trees.statement body.now)) progress.old.number)) }
+    ensures { let names = block_of file.now.entries in
+        let made = trees.statements (map trees.statement body.now) in
+        let number = progress.old.number in
+        let f = definitions.function_of text.now names returns name list.now made number in
+        OnOk result (AddsFunctions progress.old progress.new f) }
 {
     let mut block = parameters::block_of(alloc, text, &mut progress.worst, list)?;
     let mut walk = Walk {
@@ -89,7 +93,10 @@ fn one<'t>(
     progress: &mut Progress,
     x: &ExternalDeclaration,
 ) -> Result<(), AllocError>
-    ensures { OnOk result (AddsFunctions progress.old progress.new (definitions.functions_of text.now (block_of file.now.entries) (syntax.external_declaration x.now ∷ []) progress.old.number)) }
+    ensures { let names = block_of file.now.entries in
+        let one = syntax.external_declaration x.now ∷ [] in
+        let f = definitions.functions_of text.now names one progress.old.number in
+        OnOk result (AddsFunctions progress.old progress.new f) }
 {
     match x {
         ExternalDeclaration::Globals { .. } => Ok(()),
@@ -104,8 +111,8 @@ fn one<'t>(
     }
 }
 
-/// The functions of a program, in their order, whose filters and `__finally` blocks are numbered from 1
-/// on; the least fault of those before and of theirs is kept.
+/// The functions of a program, in their order, whose filters and `__finally` blocks are numbered
+/// from 1 on; the least fault of those before and of theirs is kept.
 pub fn functions<'t>(
     alloc: Global,
     text: &'t [u8],
@@ -113,8 +120,12 @@ pub fn functions<'t>(
     worst: Least,
     xs: &[ExternalDeclaration],
 ) -> Result<Progress, AllocError>
-    ensures done { IfOk result (λ p. map function p.done.items ≡ (definitions.functions_of text.now (block_of file.now.entries) (map syntax.external_declaration xs.now) 1).done) }
-    ensures faults { IfOk result (λ p. least_of p.worst ≡ kept (least_of worst) (definitions.functions_of text.now (block_of file.now.entries) (map syntax.external_declaration xs.now) 1).faults) }
+    ensures done { let program = map syntax.external_declaration xs.now in
+        let f = definitions.functions_of text.now (block_of file.now.entries) program 1 in
+        IfOk result (λ p. map function p.done.items ≡ f.done) }
+    ensures faults { let program = map syntax.external_declaration xs.now in
+        let f = definitions.functions_of text.now (block_of file.now.entries) program 1 in
+        IfOk result (λ p. least_of p.worst ≡ kept (least_of worst) f.faults) }
 {
     let mut progress = Progress {
         done: Vec::new(alloc),

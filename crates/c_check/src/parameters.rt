@@ -1,7 +1,8 @@
-//! Parameters: the first locals of a function, in the outermost block of its body (C11, 6.2.1 p4 and 6.9.1).
+//! Parameters: the first locals of a function, in the outermost block of its body (C11, 6.2.1 p4
+//! and 6.9.1).
 
 ghost use Rattle.std.specs.Prelude.{◌≡◌, ◌∷◌, ◌++◌, [], IfOk, OnOk, map};
-ghost use Rattle.c_check.specs.Parameters.{parameter_fault, sizes_of};
+ghost use Rattle.c_check.specs.Parameters.{faults_of_parameter, sizes_of};
 ghost use Rattle.c_expressions.specs.Kept.{least_of, kept};
 ghost use Rattle.c_expressions.specs.Views.{block_of};
 ghost use Rattle.c_resolved.specs.Expressions.{LocalVariable};
@@ -38,8 +39,11 @@ fn parameter<'t>(
     block: &mut IndexMap<&'t [u8], Entity<'t>>,
     worst: &mut Least,
 ) -> Result<(), AllocError>
-    ensures block { OnOk result (block_of block.new.entries ≡ with_name (block_of block.old.entries) (spelled text.now p.name) (LocalVariable number p.«of»)) }
-    ensures faults { OnOk result (least_of worst.new ≡ kept (least_of worst.old) (parameter_fault text.now p (block_of block.old.entries))) }
+    ensures block { let names = block_of block.old.entries in
+        let with_it = with_name names (spelled text.now p.name) (LocalVariable number p.«of») in
+        OnOk result (block_of block.new.entries ≡ with_it) }
+    ensures faults { let faults = faults_of_parameter text.now p (block_of block.old.entries) in
+        OnOk result (least_of worst.new ≡ kept (least_of worst.old) faults) }
 {
     let name = spelled(text, p.name);
     unless_holds(
@@ -59,8 +63,10 @@ pub fn block_of<'t>(
     worst: &mut Least,
     list: &[Parameter],
 ) -> Result<IndexMap<&'t [u8], Entity<'t>>, AllocError>
-    ensures block { IfOk result (λ block. block_of block.entries ≡ definitions.with_parameters text.now list.now [] 0) }
-    ensures faults { OnOk result (least_of worst.new ≡ kept (least_of worst.old) (definitions.parameter_faults text.now list.now [])) }
+    ensures block { let names = definitions.with_parameters text.now list.now [] 0 in
+        IfOk result (λ block. block_of block.entries ≡ names) }
+    ensures faults { let faults = definitions.parameter_faults text.now list.now [] in
+        OnOk result (least_of worst.new ≡ kept (least_of worst.old) faults) }
 {
     let mut block = IndexMap::new(alloc);
     for (i, p) in list.iter().enumerate() {
