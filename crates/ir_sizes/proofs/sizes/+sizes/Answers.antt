@@ -1,5 +1,5 @@
-use Rattle.seh_ir.proofs.Lists.{call_size_next}
-use Rattle.seh_ir.proofs.sizes.+sizes.Goals as goal
+use Rattle.ir_sizes.proofs.Lists.{call_size_next}
+use Rattle.ir_sizes.proofs.sizes.+sizes.Goals as goal
 
 pub call_size-loop-argument-preserved : goal.call_size-loop-argument-preserved
 call_size-loop-argument-preserved t c =

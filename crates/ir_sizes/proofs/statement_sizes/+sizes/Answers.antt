@@ -1,5 +1,5 @@
-use Rattle.seh_ir.proofs.Lists.{statements_size_next}
-use Rattle.seh_ir.proofs.statement_sizes.+sizes.Goals as goal
+use Rattle.ir_sizes.proofs.Lists.{statements_size_next}
+use Rattle.ir_sizes.proofs.statement_sizes.+sizes.Goals as goal
 
 pub statements_size-loop-stmt-preserved : goal.statements_size-loop-stmt-preserved
 statements_size-loop-stmt-preserved t c =

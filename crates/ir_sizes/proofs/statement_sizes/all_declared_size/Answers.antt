@@ -1,5 +1,5 @@
-use Rattle.seh_ir.proofs.Lists.{declared_size_next}
-use Rattle.seh_ir.proofs.statement_sizes.all_declared_size.Goals as goal
+use Rattle.ir_sizes.proofs.Lists.{declared_size_next}
+use Rattle.ir_sizes.proofs.statement_sizes.all_declared_size.Goals as goal
 
 pub loop-one-preserved : goal.loop-one-preserved
 loop-one-preserved c =

@@ -2,9 +2,9 @@
 
 ghost use Rattle.std.specs.Prelude.{◌≡◌, ◌+◌, map, IfOk};
 ghost use Rattle.c_checked.specs.Expression as tree;
-ghost use Rattle.seh_ir.specs.Sizes as spec;
+ghost use Rattle.ir_sizes.specs.Sizes as spec;
 
-use crate::scope::sum;
+use crate::sums::sum;
 use c_checked::expression::{Conversion, Expr, Lvalue, Node};
 use c_operations::operation::Pure;
 use std::alloc::AllocError;

@@ -1,5 +1,5 @@
-use Rattle.seh_ir.proofs.Lists.{notes_next}
-use Rattle.seh_ir.proofs.statement_sizes.+notes.Goals as goal
+use Rattle.ir_sizes.proofs.Lists.{notes_next}
+use Rattle.ir_sizes.proofs.statement_sizes.+notes.Goals as goal
 
 pub statements_notes-loop-stmt-preserved : goal.statements_notes-loop-stmt-preserved
 statements_notes-loop-stmt-preserved t c =

@@ -3,10 +3,10 @@
 ghost use Rattle.std.specs.Prelude.{◌≡◌, ◌+◌, map, IfOk, option_map};
 ghost use Rattle.c_checked.specs.Expression as tree;
 ghost use Rattle.c_checked.specs.Statement as statements;
-ghost use Rattle.seh_ir.specs.Sizes as spec;
+ghost use Rattle.ir_sizes.specs.Sizes as spec;
 
-use crate::scope::{larger, sum};
 use crate::sizes::expression_size;
+use crate::sums::{larger, sum};
 use c_checked::expression::Expr;
 use c_checked::statement::{Declared, Stmt};
 use std::alloc::AllocError;
