@@ -36,9 +36,9 @@ from_run options text source source' out out' (Err (refusals.Image e)) input h =
 from_run options text source source' out out' (Err (refusals.Load e)) input h = record { bytes = text; input = input; comes = h }
 from_run options text source source' out out' (Err refusals.WriteFault) input h = record { bytes = text; input = input; comes = h }
 from_run options text source source' out out' (Err refusals.NoMemory) input h = (lost_all text_limit source source' text input, h)
-from_run options text source source' out out' (Err refusals.Usage) input h = absurd h.1.1
-from_run options text source source' out out' (Err refusals.ReadFault) input h = absurd h.1.1
-from_run options text source source' out out' (Err (refusals.TooLong most)) input h = absurd h.1.1
+from_run options text source source' out out' (Err refusals.Usage) input h = absurd h.2
+from_run options text source source' out out' (Err refusals.ReadFault) input h = absurd h.2
+from_run options text source source' out out' (Err (refusals.TooLong most)) input h = absurd h.2
 
 -- a front of a text was taken
 pub took_front : (taken : Option (List ℕ)) (text : List ℕ) (taken' : Option (List ℕ)) (count : ℕ) → count < length text → Grew taken (take count text) taken' → TookPart taken text taken' count
