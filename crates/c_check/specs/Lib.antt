@@ -1,1 +1,6 @@
+pub mod Declarations
+pub mod Entry
+pub mod Parameters
+pub mod Functions
+pub mod Programs
 pub mod Refusals

@@ -1,4 +1,16 @@
-//! Whole programs checked.
+//! Whole programs: the rules of names, types and jumps (C11, 6.7 to 6.9; Microsoft C reference,
+//! "try-except statement" and "try-finally statement"), and the checked program that an accepted
+//! one is.
+//!
+//! `check::check` is what others call. A program goes through it in three parts: `declarations` has
+//! the names of the file and the bytes of its globals, `entry` the function that a run begins with,
+//! and `functions` each function with its parameters (`parameters`) and its body. Every function
+//! and global is visible in the whole text, so the names of the file are all known before the first
+//! body is walked.
 #![tactic(auto)]
 
 pub mod check;
+pub mod declarations;
+pub mod entry;
+pub mod functions;
+pub mod parameters;

@@ -3,10 +3,7 @@ use Rattle.std.proofs.Common.{◌≡◌, ◌⊎◌, inl, inr, ℕ, List, subst, 
 use Rattle.c_lex.specs.declared.lexing.LexErr.{LexErr}
 use Rattle.c_lex.specs.declared.lexing.LexErr.TheVariants as lexes
 use Rattle.c_lex.specs.declared.token.Token.{Token}
-use Rattle.c_lex.specs.declared.word.Fault.{Fault}
-use Rattle.c_lex.specs.declared.word.Fault.TheVariants as faults
-use Rattle.c_lex.specs.Answers.{refused}
-use Rattle.c_lex.specs.Text.{IsTokens, IsLexicalFault}
+use Rattle.c_lex.specs.Text.{IsTokens}
 use Rattle.c_parse_expr.specs.declared.refusal.ParseErr.{ParseErr}
 use Rattle.c_parse_expr.specs.declared.refusal.ParseErr.TheVariants as parses
 use Rattle.c_parse_expr.specs.Refusals.{Refuses}

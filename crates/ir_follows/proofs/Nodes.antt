@@ -23,7 +23,7 @@ use Rattle.linear_machine.specs.Frames.{Store, with_temporary}
 use Rattle.linear_machine.specs.Instructions.{is_constant}
 use Rattle.linear_runs.proofs.Stretch.{Part, at, Site, conf, price, value_ways, more, chosen}
 use Rattle.seh_ir.specs.declared.scope.Names.{Names}
-use Rattle.seh_ir.specs.Sizes.{unary_size, expression_size, node_size}
+use Rattle.ir_sizes.specs.Sizes.{unary_size, expression_size, node_size}
 use Rattle.seh_ir.specs.Expressions.{constant, combine, copy, unary_code, choice_code, expression_code, node_code}
 use Rattle.ir_follows.specs.Fits.{ExpressionFits, NodeFits}
 use Rattle.ir_follows.specs.Weights.{expression_weight, node_weight}

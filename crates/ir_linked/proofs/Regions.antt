@@ -7,7 +7,7 @@ use Rattle.c_checked.specs.Statement.{Statement, Declare, Block, Evaluate, If, I
 use Rattle.linear_code.specs.declared.program.Region.{Region}
 use Rattle.linear_code.specs.declared.program.RegionKind.TheVariants as kinds
 use Rattle.linear_machine.specs.Regions.{holds}
-use Rattle.seh_ir.specs.Sizes.{expression_size, discarded_size, condition_size, all_declared_size, statement_size, statements_size}
+use Rattle.ir_sizes.specs.Sizes.{expression_size, discarded_size, condition_size, all_declared_size, statement_size, statements_size}
 use Rattle.seh_ir.specs.Regions.{except_kind, region, statement_regions, statements_regions}
 
 abbrev pub held : ℕ → List Region → List Region

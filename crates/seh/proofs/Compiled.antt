@@ -32,11 +32,11 @@ of_first text image whole p accepted is real = record {
 
 -- of each other program
 pub of_other : (text image : List ℕ) (whole : List ExternalDeclaration) (p : Program) → IsCheckedAs text whole p → first text whole ≡ None → IsLinkedTo p image → IsCompiled text image
-of_other text image whole p checked none linked = record {
+of_other text image whole p checked none link = record {
   whole = whole;
   accepted = checked.accepted;
   realises = λ q that. let e : None ≡ Some q = sym none ∙ that in absurd (cc);
-  linked = λ other. subst (λ (r : Program). IsLinkedTo r image) checked.resolved linked;
+  linked = λ other. subst (λ (r : Program). IsLinkedTo r image) checked.resolved link;
 }
 
 pub of_refusal : (text : List ℕ) (whole : List ExternalDeclaration) (p : Program) (e : Refusal) → IsCheckedAs text whole p → first text whole ≡ None → IsLinkRefusal p e → IsTextRefusal text e

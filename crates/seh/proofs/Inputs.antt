@@ -37,9 +37,9 @@ from_run options text source source' out out' (Err (refusals.Image e)) input h =
 from_run options text source source' out out' (Err (refusals.Load e)) input h = record { bytes = text; input = input; comes = h }
 from_run options text source source' out out' (Err refusals.WriteFault) input h = record { bytes = text; input = input; comes = h }
 from_run options text source source' out out' (Err refusals.NoMemory) input h = (lost_all text_limit source source' text input, h)
-from_run options text source source' out out' (Err refusals.Usage) input h = absurd h.1.1
-from_run options text source source' out out' (Err refusals.ReadFault) input h = absurd h.1.1
-from_run options text source source' out out' (Err (refusals.TooLong most)) input h = absurd h.1.1
+from_run options text source source' out out' (Err refusals.Usage) input h = absurd h.2
+from_run options text source source' out out' (Err refusals.ReadFault) input h = absurd h.2
+from_run options text source source' out out' (Err (refusals.TooLong most)) input h = absurd h.2
 
 -- of a text that was run as its meaning says
 pub from_meaning : (options : RunOptions) (text : List ℕ) (source source' out out' : Stream) (answer : Result Outcome Refusal) → IsInput text_limit source source' text → IsMeaningAnswer options text out out' answer → IsMeaningInputAnswer options source source' out out' answer

@@ -14,7 +14,7 @@ use Rattle.host_model.specs.Loading.{load_refusal}
 use Rattle.host_model.specs.Machine.{Shown, machine}
 use Rattle.seh_host.specs.Turns.{end_within}
 use Rattle.seh_host.specs.Hosts.{IsLoadRefusal}
-use Rattle.c_text.specs.Texts.{IsRefused}
+use Rattle.c_text.specs.Texts.{IsRefused as IsRefusedText}
 use Rattle.command_line.specs.declared.command.RunOptions.{RunOptions}
 use Rattle.seh.specs.declared.outcome.Outcome.{Outcome}
 use Rattle.seh.specs.declared.outcome.Outcome.TheVariants.{Compiled, Ran, Viewed}
@@ -90,7 +90,7 @@ IsShowAnswer bytes out out' answer = ⊥
 -- what comes of a text: the whole image; the refusal of the text; or a part of the image, where the sink had a fault
 abbrev pub IsCompileAnswer : Judged
 IsCompileAnswer text out out' (Ok Compiled) = (image : List ℕ) × IsCompiled text image × Grew out.bytes image out'.bytes
-IsCompileAnswer text out out' (Err (refusals.Text e)) = IsRefused text e × Quiet out out'
+IsCompileAnswer text out out' (Err (refusals.Text e)) = IsRefusedText text e × Quiet out out'
 IsCompileAnswer text out out' (Err refusals.TooLarge) = IsTooLarge text × Quiet out out'
 IsCompileAnswer text out out' (Err refusals.WriteFault) = (image : List ℕ) × IsCompiled text image × Rose out.faults out'.faults × ((count : ℕ) × TookPart out.bytes image out'.bytes count)
 IsCompileAnswer text out out' (Err refusals.NoMemory) = Quiet out out'
@@ -100,7 +100,7 @@ IsCompileAnswer text out out' answer = ⊥
 
 -- what comes of a text that is compiled in memory and run: what comes of its image, or the refusal of the text
 abbrev pub IsTextRunAnswer : RunOptions → Judged
-IsTextRunAnswer options text out out' (Err (refusals.Text e)) = IsRefused text e × Quiet out out'
+IsTextRunAnswer options text out out' (Err (refusals.Text e)) = IsRefusedText text e × Quiet out out'
 IsTextRunAnswer options text out out' (Err refusals.TooLarge) = IsTooLarge text × Quiet out out'
 IsTextRunAnswer options text out out' (Err refusals.NoMemory) = Quiet out out'
 IsTextRunAnswer options text out out' answer = (image : List ℕ) × IsCompiled text image × IsRunAnswer options image out out' answer

@@ -24,7 +24,7 @@ use Rattle.linear_code.specs.declared.instruction.Instruction.TheVariants.{Compu
 use Rattle.seh_ir.specs.declared.scope.ExceptionSource.{ExceptionSource}
 use Rattle.seh_ir.specs.declared.scope.Names.{Names}
 use Rattle.seh_ir.specs.declared.scope.ExceptionSource.TheVariants.{NoException, OfFilter, KeptIn}
-use Rattle.seh_ir.specs.Sizes.{address_count, read_size, expression_size, locate_size, conversion_size}
+use Rattle.ir_sizes.specs.Sizes.{address_count, read_size, expression_size, locate_size, conversion_size}
 
 -- ---- single instructions
 

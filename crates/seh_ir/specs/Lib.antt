@@ -1,5 +1,4 @@
 pub mod Scope
-pub mod Sizes
 pub mod Slots
 pub mod Expressions
 pub mod Pieces

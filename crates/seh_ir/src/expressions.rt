@@ -9,10 +9,11 @@ use crate::pieces::{
     after_place, assign, begin_compound, copy_down, end_compound, end_difference, increment,
     operate, skip, test,
 };
-use crate::scope::{Names, sum};
-use crate::sizes::expression_size;
+use crate::scope::Names;
 use c_checked::expression::{Expr, Lvalue, Node};
 use c_operations::operation::{Operation, Pure, Size};
+use ir_sizes::sizes::expression_size;
+use ir_sizes::sums::sum;
 use linear_code::instruction::Instruction;
 use linear_code::slot::Slot;
 use std::alloc::AllocError;

@@ -4,10 +4,11 @@ ghost use Rattle.std.specs.Prelude.{◌≡◌, ◌+◌, ◌++◌, [], ◌∷◌,
 ghost use Rattle.c_checked.specs.Expression as tree;
 ghost use Rattle.seh_ir.specs.Expressions as spec;
 
-use crate::scope::{ExceptionSource, sum};
+use crate::scope::ExceptionSource;
 use c_checked::expression::{Access, Conversion, Fixity, Lvalue};
 use c_operations::field::Field;
 use c_operations::operation::{Operation, Pure, Size};
+use ir_sizes::sums::sum;
 use linear_code::instruction::Instruction;
 use linear_code::slot::Slot;
 use seh_num::width::Width;

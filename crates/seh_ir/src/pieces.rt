@@ -4,15 +4,15 @@ ghost use Rattle.std.specs.Prelude.{◌≡◌, ◌+◌, ◌++◌, [], ◌∷◌,
 ghost use Rattle.linear_code.specs.declared.slot.Slot.TheVariants.{Temporary};
 ghost use Rattle.linear_code.specs.declared.instruction.Instruction.TheVariants.{Jump, JumpIfZero};
 ghost use Rattle.c_checked.specs.Expression as tree;
-ghost use Rattle.seh_ir.specs.Sizes as sizes;
+ghost use Rattle.ir_sizes.specs.Sizes as sizes;
 ghost use Rattle.seh_ir.specs.Expressions as spec;
 ghost use Rattle.seh_ir.specs.Pieces as pieces;
 
 use crate::instructions::{chosen, combine, constant, convert, copy, read, write};
-use crate::scope::sum;
-use crate::sizes::address_count;
 use c_checked::expression::{Conversion, Fixity, Lvalue};
 use c_operations::operation::{Operation, Pure, Signedness, Size};
+use ir_sizes::sizes::address_count;
+use ir_sizes::sums::sum;
 use linear_code::instruction::Instruction;
 use linear_code::slot::Slot;
 use std::alloc::AllocError;

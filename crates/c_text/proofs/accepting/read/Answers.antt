@@ -7,8 +7,8 @@ use Rattle.c_text.proofs.accepting.read.Goals as goal
 pub returns-in-Err : goal.returns-in-Err
 returns-in-Err c = record { found = tt; refused = rw c.lexical.ensures (no_text c.args.text.now c.in-Err.error c.in-Err.ensures.refused) }
 
-pub returns-in-Err-parse : goal.returns-in-Err-parse
-returns-in-Err-parse c = record {
+pub returns : goal.returns
+returns c = record {
   found = tt;
   refused =
       rw c.syntactic.ensures

@@ -1,0 +1,106 @@
+-- Functions, one after another.
+use Rattle.std.proofs.Common.{◌≡◌, ℕ, ◌+◌, ◌<◌, ◌≤◌, List, [], ◌∷◌, ◌++◌, map, length, drop, get_or, append-nil, append_assoc, Option, refl, sym, ap, ◌∙◌, subst}
+use Rattle.std.proofs.lemmas.List.{drop_all, map-append}
+use Rattle.std.specs.Borrow.{Bor}
+use Rattle.c_check.proofs.ParametersInOrder.{next_of}
+use Rattle.c_check.specs.declared.functions.Progress.{Progress}
+use Rattle.c_check.specs.Functions.{AddsFunctions}
+use Rattle.c_check.specs.Parameters.{sizes_of}
+use Rattle.c_checked.specs.declared.function.Function.{Function as Function'}
+use Rattle.c_checked.specs.Program as checked_program
+use Rattle.c_checked.specs.Program.{function}
+use Rattle.c_checked.specs.Statement as checked
+use Rattle.c_expressions.proofs.Kept.{kept_append, kept_more}
+use Rattle.c_expressions.specs.declared.scopes.Entity.{Entity as Entity'}
+use Rattle.c_expressions.specs.Kept.{least_of, kept}
+use Rattle.c_resolved.specs.Expressions.{FaultAt}
+use Rattle.c_resolved.specs.Program as definitions
+use Rattle.c_locals.specs.declared.environment.Walk.{Walk}
+use Rattle.c_locals.specs.Resolved.{Resolves}
+use Rattle.c_locals.specs.Views.{numbering}
+use Rattle.c_resolved.specs.Program.{with_parameters, parameter_faults, result_size, around, function_of, functions_of}
+use Rattle.c_resolved.specs.Scopes.{Scope, spelled}
+use Rattle.c_resolved.specs.Statements.{Numbering, resolve_statements}
+use Rattle.c_syntax.specs.declared.declaration.ExternalDeclaration.{ExternalDeclaration as ExternalDeclaration'}
+use Rattle.c_syntax.specs.declared.declaration.Parameter.{Parameter}
+use Rattle.c_syntax.specs.declared.expression.CType.{CType}
+use Rattle.c_syntax.specs.declared.expression.Identifier.{Identifier}
+use Rattle.c_syntax.specs.Program.{ExternalDeclaration, Globals, Function, external_declaration}
+use Rattle.c_syntax.specs.Statement.{Statements}
+
+-- ---- a function
+
+-- what is made of a function's parts, with the walk over its body
+pub function_added : (before after : Progress) (text : List ℕ) (file : Scope) (t : CType) (n : Identifier) (ps : List Parameter) (body : Statements) (block : Scope) (names : List (Bor (List ℕ) × Entity')) (walk walk' : Walk) (done : List checked.Statement) (made : Function')
+    → block ≡ with_parameters text ps [] 0 → walk.sizes.items ≡ sizes_of ps → walk.number ≡ before.number → least_of walk.worst ≡ kept (least_of before.worst) (parameter_faults text ps [])
+    → Resolves names walk walk' done (resolve_statements body (around text file t) block (numbering walk))
+    → function made ≡ record { name = spelled text n; parameters = sizes_of ps; locals = drop (length ps) walk'.sizes.items; returns = result_size t; body = checked.statements done }
+    → after.done.items ≡ before.done.items ++ made ∷ [] → after.number ≡ walk'.number → after.worst ≡ walk'.worst
+    → AddsFunctions before after (function_of text file t n ps body before.number)
+function_added before after text file t n ps body block names walk walk' done made is sizes number parameters resolves is_made pushed next worst =
+    let start : Numbering = record { sizes = sizes_of ps; number = before.number } in
+    let begun : numbering walk ≡ start = λ i. record { sizes = sizes i; number = number i } in
+    let m = resolve_statements body (around text file t) (with_parameters text ps [] 0) start in
+    let r : Resolves names walk walk' done m =
+    subst (λ b. Resolves names walk walk' done (resolve_statements body (around text file t) b start)) is
+    (subst (λ k. Resolves names walk walk' done (resolve_statements body (around text file t) block k)) begun resolves) in
+    let whole : checked_program.Function = record { name = spelled text n; parameters = sizes_of ps; locals = drop (length ps) m.counts.sizes; returns = result_size t; body = checked.statements m.done } in
+    let same : function made ≡ whole = is_made ∙ (λ i. record { name = spelled text n; parameters = sizes_of ps; locals = drop (length ps) (r.counts i).sizes; returns = result_size t; body = checked.statements (r.done i) }) in
+    record {
+      done = ap (map function) pushed ∙ map-append function before.done.items (made ∷ []) ∙ ap (λ f. map function before.done.items ++ f ∷ []) same;
+      number = next ∙ ap (λ (k : Numbering). k.number) r.counts;
+      faults = kept_more (least_of before.worst) (least_of walk.worst) (least_of after.worst) (parameter_faults text ps []) m.faults parameters (ap least_of worst ∙ r.faults);
+    }
+
+-- ---- the first declaration, and the others
+
+abbrev first_of : List ℕ → Scope → ExternalDeclaration → ℕ → definitions.Functions
+first_of text file x number = functions_of text file (x ∷ []) number
+
+done_parts : (text : List ℕ) (file : Scope) (x : ExternalDeclaration) (xs : List ExternalDeclaration) (number : ℕ)
+    → (functions_of text file (x ∷ xs) number).done ≡ (first_of text file x number).done ++ (functions_of text file xs (first_of text file x number).number).done
+done_parts text file (Globals base gs) xs number = refl
+done_parts text file (Function t n ps body) xs number = refl
+
+faults_parts : (text : List ℕ) (file : Scope) (x : ExternalDeclaration) (xs : List ExternalDeclaration) (number : ℕ)
+    → (functions_of text file (x ∷ xs) number).faults ≡ (first_of text file x number).faults ++ (functions_of text file xs (first_of text file x number).number).faults
+faults_parts text file (Globals base gs) xs number = refl
+faults_parts text file (Function t n ps body) xs number =
+    let f = definitions.function_of text file t n ps body number in
+    ap (λ fs. fs ++ (functions_of text file xs f.number).faults) (sym (append-nil f.faults))
+
+-- ---- the loop over declarations
+
+-- what the functions so far are with the others
+pub record StillFunctions (text : List ℕ) (file : Scope) (list : List ExternalDeclaration') (i : ℕ) (first : Option FaultAt) (p : Progress) : Type 0 where
+  pub done : map function p.done.items ++ (functions_of text file (map external_declaration (drop i list)) p.number).done ≡ (functions_of text file (map external_declaration list) 1).done
+  pub faults : kept (least_of p.worst) (functions_of text file (map external_declaration (drop i list)) p.number).faults ≡ kept first (functions_of text file (map external_declaration list) 1).faults
+
+pub functions_on : (text : List ℕ) (file : Scope) (list : List ExternalDeclaration') (i : ℕ) (x : ExternalDeclaration') (first : Option FaultAt) (p p' : Progress) → i < length list → x ≡ get_or list i x
+    → AddsFunctions p p' (functions_of text file (external_declaration x ∷ []) p.number)
+    → StillFunctions text file list i first p → StillFunctions text file list (i + 1) first p'
+functions_on text file list i x first p p' lt is one h =
+    let y = external_declaration x in
+    let rest = map external_declaration (drop (i + 1) list) in
+    let f = first_of text file y p.number in
+    let others = functions_of text file rest f.number in
+    let next = next_of list i x lt is in
+    record {
+      done =
+          ap (λ k. map function p'.done.items ++ (functions_of text file rest k).done) one.number ∙ ap (λ l. l ++ others.done) one.done
+          ∙ append_assoc (map function p.done.items) f.done others.done ∙ ap (λ l. map function p.done.items ++ l) (sym (done_parts text file y rest p.number))
+          ∙ ap (λ l. map function p.done.items ++ (functions_of text file (map external_declaration l) p.number).done) (sym next) ∙ h.done;
+      faults =
+          ap (λ k. kept (least_of p'.worst) (functions_of text file rest k).faults) one.number ∙ ap (λ w. kept w others.faults) one.faults
+          ∙ sym (kept_append (least_of p.worst) f.faults others.faults) ∙ ap (kept (least_of p.worst)) (sym (faults_parts text file y rest p.number))
+          ∙ ap (λ l. kept (least_of p.worst) (functions_of text file (map external_declaration l) p.number).faults) (sym next) ∙ h.faults;
+    }
+
+pub functions_done : (text : List ℕ) (file : Scope) (list : List ExternalDeclaration') (i : ℕ) (first : Option FaultAt) (p : Progress) → length list ≤ i → StillFunctions text file list i first p
+    → map function p.done.items ≡ (functions_of text file (map external_declaration list) 1).done
+functions_done text file list i first p past h =
+    sym (append-nil (map function p.done.items)) ∙ ap (λ l. map function p.done.items ++ (functions_of text file (map external_declaration l) p.number).done) (sym (drop_all i list past)) ∙ h.done
+
+pub functions_faults : (text : List ℕ) (file : Scope) (list : List ExternalDeclaration') (i : ℕ) (first : Option FaultAt) (p : Progress) → length list ≤ i → StillFunctions text file list i first p
+    → least_of p.worst ≡ kept first (functions_of text file (map external_declaration list) 1).faults
+functions_faults text file list i first p past h = ap (λ l. kept (least_of p.worst) (functions_of text file (map external_declaration l) p.number).faults) (sym (drop_all i list past)) ∙ h.faults

@@ -1,0 +1,90 @@
+//! The function that a run begins with (C11, 5.1.2.2.1).
+
+ghost use Rattle.std.specs.Prelude.{◌≡◌, map, option_map};
+ghost use Rattle.c_check.specs.Entry.{is_main, main_in};
+ghost use Rattle.c_expressions.specs.Kept.{least_of, kept};
+ghost use Rattle.c_expressions.specs.Views.{block_of, entity};
+ghost use Rattle.c_resolved.specs.Program as definitions;
+ghost use Rattle.c_resolved.specs.Scopes.{meaning_in};
+ghost use Rattle.c_syntax.specs.Program as syntax;
+
+use c_expressions::least::Least;
+use c_expressions::scopes::{Entity, Scopes, declared};
+use c_expressions::values::unless_holds;
+use c_resolved::fault::Fault;
+use c_syntax::declaration::{ExternalDeclaration, Parameter};
+use c_syntax::expression::{Base, CType};
+use c_types::types::{plain, same_type};
+use indexmap::IndexMap;
+
+/// The place of the name of the function of this number; 0 if there is none.
+fn place_of_function(xs: &[ExternalDeclaration], number: u64) -> u64
+    ensures { let program = map syntax.external_declaration xs.now in
+        result ≡ definitions.place_of_function program number }
+{
+    let mut left = number;
+    for x in xs {
+        if let ExternalDeclaration::Function { name, .. } = x {
+            if left == 0 {
+                return name.start;
+            }
+            left -= 1;
+        }
+    }
+    0
+}
+
+/// No parameter, or one of type `long long`.
+fn are_main_parameters(list: &[Parameter]) -> bool
+    ensures { result ≡ definitions.are_main_parameters (definitions.parameter_types list.now) }
+{
+    match list {
+        [] => true,
+        [only] => same_type(only.of, plain(Base::LongLong)),
+        _ => false,
+    }
+}
+
+fn is_main(returns: CType, list: &[Parameter]) -> bool
+    ensures { result ≡ is_main returns list.now }
+{
+    same_type(returns, plain(Base::Int)) && are_main_parameters(list)
+}
+
+/// What the file declares `main` as.
+fn meaning_of_main<'a>(names: &IndexMap<&'a [u8], Entity<'a>>) -> Option<Entity<'a>>
+    ensures { option_map entity result ≡ meaning_in (block_of names.now.entries) definitions.main_name }
+{
+    declared(b"main", &Scopes::File(names))
+}
+
+/// The number of `main`. There has to be a function of that name, which returns an `int` and takes
+/// nothing, or a `long long`.
+pub fn main_of(
+    names: &IndexMap<&[u8], Entity<'_>>,
+    xs: &[ExternalDeclaration],
+    worst: &mut Least,
+) -> u64
+    ensures number { let program = map syntax.external_declaration xs.now in
+        result ≡ (main_in program (block_of names.now.entries)).number }
+    ensures faults { let main = main_in (map syntax.external_declaration xs.now) (block_of names.now.entries) in
+        least_of worst.new ≡ kept (least_of worst.old) main.faults }
+{
+    match meaning_of_main(names) {
+        Some(
+            Entity::UserFunction {
+                number,
+                returns,
+                parameters,
+            },
+        ) => {
+            let at = place_of_function(xs, number);
+            unless_holds(worst, is_main(returns, parameters), at, Fault::TypeClash);
+            number
+        }
+        _ => {
+            worst.add(0, Fault::NoMain);
+            0
+        }
+    }
+}

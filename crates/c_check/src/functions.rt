@@ -1,0 +1,139 @@
+//! Functions (C11, 6.9.1).
+
+ghost use Rattle.std.specs.Prelude.{◌≡◌, ◌∷◌, [], drop, IfOk, OnOk, map};
+ghost use Rattle.c_check.specs.Functions.{AddsFunctions};
+ghost use Rattle.c_checked.specs.Program.{function};
+ghost use Rattle.c_expressions.specs.Kept.{least_of, kept};
+ghost use Rattle.c_expressions.specs.Views.{block_of};
+ghost use Rattle.c_resolved.specs.Program as definitions;
+ghost use Rattle.c_syntax.specs.Program as syntax;
+ghost use Rattle.c_syntax.specs.Statement as trees;
+
+use crate::parameters;
+use c_checked::function::Function;
+use c_expressions::least::Least;
+use c_expressions::scopes::{Entity, spelled};
+use c_locals::environment::Walk;
+use c_operations::operation::Size;
+use c_statements::statements;
+use c_syntax::declaration::{ExternalDeclaration, Parameter};
+use c_syntax::expression::{CType, Identifier};
+use c_syntax::statement::Stmt;
+use c_types::types::{is_void, size_of};
+use indexmap::IndexMap;
+use std::alloc::{AllocError, Global};
+
+/// The functions so far; the number of the next filter or `__finally` block, which are numbered
+/// through the whole program; and the least fault.
+#[derive(Drop)]
+pub struct Progress {
+    pub done: Vec<Function>,
+    pub number: u32,
+    pub worst: Least,
+}
+
+/// The size of a result; none where the function returns nothing.
+fn result_size(t: CType) -> Option<Size>
+    ensures { result ≡ definitions.result_size t }
+{
+    if is_void(t) { None } else { Some(size_of(t)) }
+}
+
+/// The sizes after the first ones.
+fn rest_of(alloc: Global, sizes: &[Size], first: usize) -> Result<Vec<Size>, AllocError>
+    ensures { IfOk result (λ rest. rest.items ≡ drop first sizes.now) }
+{
+    if sizes.len() <= first {
+        return Ok(Vec::new(alloc));
+    }
+    Vec::from_slice(alloc, &sizes[first..])
+}
+
+/// A function: its parameters, and its body with the locals that it declares.
+fn function<'t>(
+    alloc: Global,
+    text: &'t [u8],
+    file: &IndexMap<&'t [u8], Entity<'t>>,
+    progress: &mut Progress,
+    returns: CType,
+    name: Identifier,
+    list: &[Parameter],
+    body: &[Stmt],
+) -> Result<(), AllocError>
+    ensures { let names = block_of file.now.entries in
+        let made = trees.statements (map trees.statement body.now) in
+        let number = progress.old.number in
+        let f = definitions.function_of text.now names returns name list.now made number in
+        OnOk result (AddsFunctions progress.old progress.new f) }
+{
+    let mut block = parameters::block_of(alloc, text, &mut progress.worst, list)?;
+    let mut walk = Walk {
+        sizes: parameters::sizes_of(alloc, list)?,
+        number: progress.number,
+        worst: progress.worst,
+    };
+    let made = statements::body(alloc, text, file, returns, &mut block, &mut walk, body)?;
+    progress.number = walk.number;
+    progress.worst = walk.worst;
+    progress.done.push(Function {
+        name: Vec::from_slice(alloc, spelled(text, name))?,
+        parameters: parameters::sizes_of(alloc, list)?,
+        locals: rest_of(alloc, &walk.sizes, list.len())?,
+        returns: result_size(returns),
+        body: made,
+    })?;
+    Ok(())
+}
+
+/// The function that an external declaration is, if it is one.
+fn one<'t>(
+    alloc: Global,
+    text: &'t [u8],
+    file: &IndexMap<&'t [u8], Entity<'t>>,
+    progress: &mut Progress,
+    x: &ExternalDeclaration,
+) -> Result<(), AllocError>
+    ensures { let names = block_of file.now.entries in
+        let one = syntax.external_declaration x.now ∷ [] in
+        let f = definitions.functions_of text.now names one progress.old.number in
+        OnOk result (AddsFunctions progress.old progress.new f) }
+{
+    match x {
+        ExternalDeclaration::Globals { .. } => Ok(()),
+        ExternalDeclaration::Function {
+            returns,
+            name,
+            parameters,
+            body,
+        } => function(
+            alloc, text, file, progress, *returns, *name, parameters, body,
+        ),
+    }
+}
+
+/// The functions of a program, in their order, whose filters and `__finally` blocks are numbered
+/// from 1 on; the least fault of those before and of theirs is kept.
+pub fn functions<'t>(
+    alloc: Global,
+    text: &'t [u8],
+    file: &IndexMap<&'t [u8], Entity<'t>>,
+    worst: Least,
+    xs: &[ExternalDeclaration],
+) -> Result<Progress, AllocError>
+    ensures done { let program = map syntax.external_declaration xs.now in
+        let f = definitions.functions_of text.now (block_of file.now.entries) program 1 in
+        IfOk result (λ p. map function p.done.items ≡ f.done) }
+    ensures faults { let program = map syntax.external_declaration xs.now in
+        let f = definitions.functions_of text.now (block_of file.now.entries) program 1 in
+        IfOk result (λ p. least_of p.worst ≡ kept (least_of worst) f.faults) }
+{
+    let mut progress = Progress {
+        done: Vec::new(alloc),
+        number: 1,
+        worst,
+    };
+    for x in xs {
+        one(alloc, text, file, &mut progress, x)?;
+    }
+    Ok(progress)
+}

@@ -1,0 +1,76 @@
+//! Parameters: the first locals of a function, in the outermost block of its body (C11, 6.2.1 p4
+//! and 6.9.1).
+
+ghost use Rattle.std.specs.Prelude.{◌≡◌, ◌∷◌, ◌++◌, [], IfOk, OnOk, map};
+ghost use Rattle.c_check.specs.Parameters.{faults_of_parameter, sizes_of};
+ghost use Rattle.c_expressions.specs.Kept.{least_of, kept};
+ghost use Rattle.c_expressions.specs.Views.{block_of};
+ghost use Rattle.c_resolved.specs.Expressions.{LocalVariable};
+ghost use Rattle.c_resolved.specs.Program as definitions;
+ghost use Rattle.c_resolved.specs.Scopes.{spelled};
+ghost use Rattle.c_resolved.specs.Statements.{with_name};
+
+use c_expressions::least::Least;
+use c_expressions::scopes::{Entity, declare, is_taken, spelled};
+use c_expressions::values::unless_holds;
+use c_operations::operation::Size;
+use c_resolved::fault::Fault;
+use c_syntax::declaration::Parameter;
+use c_types::types::{is_scalar, size_of};
+use indexmap::IndexMap;
+use std::alloc::{AllocError, Global};
+
+/// The sizes of parameters.
+pub fn sizes_of(alloc: Global, list: &[Parameter]) -> Result<Vec<Size>, AllocError>
+    ensures { IfOk result (λ sizes. sizes.items ≡ sizes_of list.now) }
+{
+    let mut sizes = Vec::new(alloc);
+    for parameter in list {
+        sizes.push(size_of(parameter.of))?;
+    }
+    Ok(sizes)
+}
+
+/// A parameter of this number: no second one of its name, and an integer or a pointer.
+fn parameter<'t>(
+    text: &'t [u8],
+    number: u64,
+    p: Parameter,
+    block: &mut IndexMap<&'t [u8], Entity<'t>>,
+    worst: &mut Least,
+) -> Result<(), AllocError>
+    ensures block { let names = block_of block.old.entries in
+        let with_it = with_name names (spelled text.now p.name) (LocalVariable number p.«of») in
+        OnOk result (block_of block.new.entries ≡ with_it) }
+    ensures faults { let faults = faults_of_parameter text.now p (block_of block.old.entries) in
+        OnOk result (least_of worst.new ≡ kept (least_of worst.old) faults) }
+{
+    let name = spelled(text, p.name);
+    unless_holds(
+        worst,
+        !is_taken(name, block),
+        p.name.start,
+        Fault::Duplicate,
+    );
+    unless_holds(worst, is_scalar(p.of), p.name.start, Fault::TypeClash);
+    declare(name, Entity::LocalVariable { number, of: p.of }, block)
+}
+
+/// The block of a function's parameters, which are numbered from 0 on.
+pub fn block_of<'t>(
+    alloc: Global,
+    text: &'t [u8],
+    worst: &mut Least,
+    list: &[Parameter],
+) -> Result<IndexMap<&'t [u8], Entity<'t>>, AllocError>
+    ensures block { let names = definitions.with_parameters text.now list.now [] 0 in
+        IfOk result (λ block. block_of block.entries ≡ names) }
+    ensures faults { let faults = definitions.parameter_faults text.now list.now [] in
+        OnOk result (least_of worst.new ≡ kept (least_of worst.old) faults) }
+{
+    let mut block = IndexMap::new(alloc);
+    for (i, p) in list.iter().enumerate() {
+        parameter(text, i as u64, *p, &mut block, worst)?;
+    }
+    Ok(block)
+}
