@@ -1,2 +1,8 @@
 pub mod Stacks
 pub mod Reached
+pub mod Lists
+pub mod LocalsLemmas
+pub mod Handlers
+pub mod Finishing
+pub mod Operating
+pub mod Deep

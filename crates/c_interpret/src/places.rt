@@ -135,7 +135,7 @@ impl<'p> Machine<'p> {
         second: u64,
         place: Place,
     ) -> Result<Next<'p>, AllocError>
-        ensures { IfOk result (Moved self.old self.new (λ m. model.operated m operation first second (place_of place) (performed (reserved_below data_end) operation first second (state_of self.old es).memory))) }
+        ensures { IfOk result (Moved self.old self.new (λ m. model.operated m operation first second (place_of place) (performed (reserved_below data_end) operation first second m.state.memory))) }
     {
         let outcome = perform(&mut self.memory, data_end, operation, first, second);
         self.finish(operation, first, second, place, outcome)

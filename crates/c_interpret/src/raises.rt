@@ -1,6 +1,6 @@
 //! Raises, filters, `__finally` blocks and handlers.
 
-ghost use Rattle.std.specs.Prelude.{◌≡◌, ◌++◌, [], ◌∷◌, List, IfOk, map};
+ghost use Rattle.std.specs.Prelude.{◌≡◌, ◌++◌, [], ◌∷◌, List, IfOk, slice_get};
 ghost use Rattle.c_checked.specs.Program.{Program};
 ghost use Rattle.seh_num.specs.declared.event.Event.{Event as Event'};
 ghost use Rattle.c_checked.specs.Expression as tree;
@@ -120,16 +120,31 @@ impl<'p> Machine<'p> {
         exception: Exception,
         place: Place,
     ) -> Result<Next<'p>, AllocError>
-        ensures { IfOk result (Moved self.old self.new (λ m. model.searched m level (views.exception_of exception) (place_of place))) }
+        ensures { IfOk result (Moved self.old self.new
+            (λ m. model.searched m level (views.exception_of exception) (place_of place))) }
     {
         if level == 0 {
             return Ok(unhandled(exception));
         }
-        let level = level - 1;
-        match self.handlers.get(level).copied() {
-            None => Ok(unhandled(exception)),
-            Some(handler) => self.ask(handler, level, exception, place),
+        self.ask_numbered(level - 1, exception, place)
+    }
+
+    /// The handler of a number is asked, and then those below it.
+    fn ask_numbered(
+        &mut self,
+        number: usize,
+        exception: Exception,
+        place: Place,
+    ) -> Result<Next<'p>, AllocError>
+        ensures { IfOk result (Moved self.old self.new
+            (λ m. model.asked m (slice_get m.handlers number) number (views.exception_of exception)
+            (place_of place))) }
+    {
+        if number >= self.handlers.len() {
+            return Ok(unhandled(exception));
         }
+        let handler = self.handlers[number];
+        self.ask(handler, number, exception, place)
     }
 
     /// A handler is asked.

@@ -179,8 +179,7 @@ pub fn in_statement_plan<'p>(frame: StatementFrame<'p>, value: u64) -> Plan<'p>
         StatementFrame::Initialises(local, place) => { then(Next::SetLocal(local, value, place)) }
         StatementFrame::EndsEvaluation => ends(),
         StatementFrame::Branches(yes, no, place) => branch(value == 0, yes, no, place),
-        StatementFrame::For(ForPart::Begins, of, place) => then(iterate(of, place)),
-        StatementFrame::For(ForPart::Tests, of, place) => for_test(value, of, place),
+        StatementFrame::For(part, of, place) => for_step(part, value, of, place),
         StatementFrame::TestsDo(body, condition, place) => do_test(value, body, condition, place),
         StatementFrame::Returns => then(Next::Give(Outcome::Returned(value))),
         StatementFrame::EndsFilter => then(Next::Answer(value)),
@@ -198,6 +197,17 @@ fn for_test<'p>(value: u64, of: ForLoop<'p>, place: Place) -> Plan<'p>
         ends()
     } else {
         for_body(of, place)
+    }
+}
+
+/// An iteration of `for` or `while` begins, or its condition has this value.
+fn for_step<'p>(part: ForPart, value: u64, of: ForLoop<'p>, place: Place) -> Plan<'p>
+    ensures { plan_of result
+        ≡ plans.in_statement_plan (views.for_frame_of part (views.for_loop_of of.entry) (place_of place)) value }
+{
+    match part {
+        ForPart::Begins => then(iterate(of, place)),
+        ForPart::Tests => for_test(value, of, place),
     }
 }
 

@@ -15,7 +15,7 @@ ghost use Rattle.c_interpret.specs.Runs.{Turned, Ran, ShownPart, Means, MeansPar
 use crate::activations::Activations;
 use crate::calls::low_signed;
 use crate::frame::{Callee, Finish, Next, Outcome};
-use crate::machine::Machine;
+use crate::machine::{Machine, Step};
 use crate::place::{NO_EXCEPTION, Place};
 use c_checked::checked::Checked;
 use c_model::ended::Ended;
@@ -48,11 +48,14 @@ fn turn<'p, V: Events>(
     ensures turned { IfOk result (λ after. Turned V.took (whole.program program.now) machine.old (views.next_of next.entry) to.old machine.new (views.next_of after) to.new) }
     ensures nothing { OnErr result (V.took to.old [] to.new) }
 {
-    let step = machine.step(alloc, program, data_end, next)?;
-    if let Some(event) = step.shown {
-        to.take(&event);
+    let Step { next, shown } = machine.step(alloc, program, data_end, next)?;
+    match shown {
+        None => Ok(next),
+        Some(event) => {
+            to.take(&event);
+            Ok(next)
+        }
     }
-    Ok(step.next)
 }
 
 /// Runs the machine until its run is over; the receiver takes what is shown.

@@ -149,6 +149,28 @@ pub fn first_plan<'p>(first: &'p Option<Expr>, of: ForLoop<'p>, place: Place) ->
     )
 }
 
+/// For `if`.
+fn if_plan<'p>(
+    condition: &'p Expr,
+    yes: &'p Box<Stmt>,
+    otherwise: &'p Option<Box<Stmt>>,
+    place: Place,
+) -> Plan<'p>
+    ensures { plan_of result
+        ≡ plans.statement_plan (trees.choice (tree.expression condition.now)
+        (trees.statement yes.now.value)
+        (option_map (λ s. trees.statement s.value) otherwise.now)) (place_of place) }
+{
+    match otherwise {
+        None => tested(StatementFrame::Branches(yes, None, place), condition, place),
+        Some(no) => tested(
+            StatementFrame::Branches(yes, Some(no), place),
+            condition,
+            place,
+        ),
+    }
+}
+
 /// For a statement.
 pub fn statement_plan<'p>(stmt: &'p Stmt, place: Place) -> Plan<'p>
     ensures { plan_of result ≡ plans.statement_plan (trees.statement stmt.now) (place_of place) }
@@ -160,17 +182,8 @@ pub fn statement_plan<'p>(stmt: &'p Stmt, place: Place) -> Plan<'p>
         Stmt::If {
             condition,
             then: yes,
-            otherwise: None,
-        } => tested(StatementFrame::Branches(yes, None, place), condition, place),
-        Stmt::If {
-            condition,
-            then: yes,
-            otherwise: Some(no),
-        } => tested(
-            StatementFrame::Branches(yes, Some(no), place),
-            condition,
-            place,
-        ),
+            otherwise,
+        } => if_plan(condition, yes, otherwise, place),
         Stmt::For {
             declared,
             first,
@@ -217,10 +230,10 @@ pub fn listed_plan<'p>(stmts: &'p Vec<Stmt>, index: usize, place: Place) -> Plan
     ensures { plan_of result
         ≡ plans.statement_plan (views.statement_at stmts.now.items index) (place_of place) }
 {
-    match stmts.get(index) {
-        None => then(Next::Proceed(stmts, stmts.len(), place)),
-        Some(stmt) => statement_plan(stmt, place),
+    if index >= stmts.len() {
+        return then(Next::Proceed(stmts, stmts.len(), place));
     }
+    statement_plan(&stmts[index], place)
 }
 
 /// What follows a condition of `if`.

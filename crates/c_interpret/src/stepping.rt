@@ -2,6 +2,7 @@
 
 ghost use Rattle.std.specs.Prelude.{◌≡◌, List, IfOk};
 ghost use Rattle.seh_num.specs.declared.event.Event.{Event as Event'};
+ghost use Rattle.c_checked.specs.Program.{Program};
 ghost use Rattle.c_checked.specs.Whole as whole;
 ghost use Rattle.c_checked.specs.Expression as tree;
 ghost use Rattle.c_checked.specs.Statement as trees;
@@ -75,6 +76,21 @@ impl<'p> Machine<'p> {
         self.planned(initialise_plan(declared, place))
     }
 
+    /// A task, before or after its step.
+    fn take_up(
+        &mut self,
+        phase: Phase,
+        task: Task<'p>,
+        place: Place,
+    ) -> Result<Step<'p>, AllocError>
+        ensures { (p : Program) → IfOk result (Showed self.old self.new (λ m. model.done p m (views.phased phase (views.task_of task.entry) (place_of place)))) }
+    {
+        match phase {
+            Phase::Before => Ok(quiet(self.start(task, place))),
+            Phase::After => self.begin(task, place),
+        }
+    }
+
     /// What is done next is done, in memory whose globals' pages end at `data_end`.
     pub fn step(
         &mut self,
@@ -89,8 +105,7 @@ impl<'p> Machine<'p> {
         match next {
             Next::Over(how) => Ok(quiet(Next::Over(how))),
             Next::Give(how) => self.give(how),
-            Next::Do(Phase::Before, task, place) => Ok(quiet(self.start(task, place))),
-            Next::Do(Phase::After, task, place) => self.begin(task, place),
+            Next::Do(phase, task, place) => self.take_up(phase, task, place),
             Next::Evaluate(node, place) => self.planned(node_plan(alloc, node, place)),
             Next::Find(target, place) => self.planned(find_plan(target, place)),
             Next::Fetch(target, address, place) => Ok(quiet(self.fetch(target, address, place)?)),
