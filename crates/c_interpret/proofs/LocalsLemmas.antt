@@ -2,8 +2,7 @@
 use Rattle.std.proofs.Common.{◌≡◌, ℕ, zero, suc, ◌+◌, ◌<◌, ◌≤◌, List, [], ◌∷◌, ◌++◌, length, map, refl, sym, ap, ◌∙◌, subst, Option, Some, None, arith}
 use Rattle.std.specs.Prelude.{slice_get, slice_set, get_or, option_map, replicate}
 use Rattle.std.proofs.lemmas.Option.{slice_get_read, slice_get-map}
-use Rattle.std.proofs.lemmas.List.{map-set, set_past, append_assoc, replicate-append-replicate}
-use Rattle.std.proofs.Math.ListN.{length-map}
+use Rattle.std.proofs.lemmas.List.{length-map, map-set, set_past, append_assoc, replicate-append-replicate}
 use Rattle.c_interpret.specs.Locals.{frame_in, with_local}
 
 set_kept : {X : Type 0} (xs : List X) (k : ℕ) (x : X) → x ≡ get_or xs k x → slice_set xs k x ≡ xs
@@ -20,7 +19,7 @@ module _ {V : Type 0} (f : V → List ℕ) where
   written vs k x v w w' lt e s = map-set f vs k w' ∙ ap (slice_set (map f vs) k) (s ∙ ap (λ l. slice_set l x v) (sym (frame_at vs k w lt e)))
 
   pub past_frames : (vs : List V) (k x v : ℕ) → length vs ≤ k → map f vs ≡ with_local (map f vs) k x v
-  past_frames vs k x v le = sym (set_past (map f vs) k _ (subst (λ (n : ℕ). n ≤ k) (sym (length-map f vs)) le))
+  past_frames vs k x v le = sym (set_past (map f vs) k _ (subst (λ (n : ℕ). n ≤ k) (sym (length-map vs f)) le))
 
   pub past_locals : (vs : List V) (k x v : ℕ) (w : V) → k < length vs → w ≡ get_or vs k w → length (f w) ≤ x → map f vs ≡ with_local (map f vs) k x v
   past_locals vs k x v w lt e le =

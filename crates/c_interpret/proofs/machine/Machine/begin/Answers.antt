@@ -15,4 +15,7 @@ returns-in-Raise c = λ x es.
     ap (λ t. model.begun (machine_of c.args.self.now x es) (views.task_of t) (views.place_of c.args.place)) c.in-Raise.is ∙ c.raise.ensures x es
 
 pub returns-in-DoIteration : goal.returns-in-DoIteration
-returns-in-DoIteration c = ?
+returns-in-DoIteration c =
+    let p = views.place_of c.args.place in
+    subst (λ t. IfOk c.planned-in-DoIteration.result (Showed c.args.self.now c.planned-in-DoIteration.new.self (λ m. model.begun m (views.task_of t) p))) (sym c.in-DoIteration.is)
+    (subst (λ q. IfOk c.planned-in-DoIteration.result (Showed c.args.self.now c.planned-in-DoIteration.new.self (λ m. model.follow m q))) c.do_plan.ensures c.planned-in-DoIteration.ensures)
