@@ -17,4 +17,4 @@ returns c =
     let hs = c.args.self.now.handlers in
     let there : c.args.number < length hs.items = let k = hs.ok.0 in omega arith in
     subst (λ o. IfOk c.ask.result (Moved c.args.self.now c.ask.new.self (λ m. model.asked m o c.args.number (views.exception_of c.args.exception) (views.place_of c.args.place))))
-    (sym (handler_there hs.items c.args.number c.index.result.now there c.index.ensures)) c.ask.ensures
+    (sym (handler_there hs.items c.args.number c.index-handler.result.now there c.index-handler.ensures)) c.ask.ensures
