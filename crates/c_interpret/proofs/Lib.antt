@@ -7,3 +7,4 @@ pub mod Finishing
 pub mod Operating
 pub mod Deep
 pub mod Meanings
+pub mod TextLemmas

@@ -1,15 +1,22 @@
 -- What the machine of a program comes to is what the program means.
 use Rattle.std.proofs.Common.{◌≡◌, ℕ, List, refl, sym, ap, ◌∙◌, subst}
-use Rattle.std.specs.Prelude.{ℤ, Option}
+use Rattle.std.specs.Prelude.{ℤ, Option, slice_get, false}
 use Rattle.seh_num.specs.declared.event.Event.{Event}
 use Rattle.c_checked.specs.Program.{Program}
 use Rattle.c_model.specs.declared.ended.Ended.{Ended}
 use Rattle.c_model.specs.State.{State, Result, Value, End, Outcome, Gives, how_of, state_of}
-use Rattle.c_model.specs.Meaning.{does, ran, shows, meaning}
+use Rattle.c_model.specs.Meaning.{does, start, outside, main_arguments, ran, shows, meaning}
 use Rattle.c_model.specs.Laws.{IsPrefixOf}
+use Rattle.c_model.specs.Expressions.{no_exception, enter}
+use Rattle.source_machine.specs.Frames as frames
 use Rattle.source_machine.specs.Machine.{Machine}
 use Rattle.source_machine.specs.Waiting.{comes_to}
-use Rattle.c_interpret.specs.Runs.{Ran, ShownPart, Means, MeansPart, end_of}
+use Rattle.c_interpret.specs.Runs.{beginning, Ran, ShownPart, Means, MeansPart, end_of}
+
+-- the machine with which a program begins comes to what its run comes to
+pub begins : (p : Program) (arg : ℤ) (n : ℕ) (vs : List ℕ) → vs ≡ main_arguments (slice_get p.functions p.main) arg
+    → comes_to p (does p) (beginning p n (frames.Call (frames.Defined p.main) vs (record { activation = 0; exception = no_exception; abnormal = false }))) ≡ ran p arg n
+begins p arg n vs e = ap (λ vs. enter (does p) (slice_get p.functions p.main) vs outside (start p n)) e
 
 shows_events : (o : Outcome) → (shows o).events ≡ (state_of o).events
 shows_events (Gives (Value v) st) = refl

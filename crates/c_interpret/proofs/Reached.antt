@@ -24,9 +24,9 @@ on_err (Ok x) p = tt
 on_err (Err e) p = p
 
 -- a run that isn't over
-pub not_over : {T P : Type 0} {Q : T → Type 0} (o : Option T) → MatchOption o P Q → ((x : T) → o ≡ Some x → ⊥) → P
-not_over None m n = m
-not_over (Some x) m n = absurd (n x refl)
+pub not_over : {T P : Type 0} (Q : T → Type 0) (o : Option T) → MatchOption o P Q → ((x : T) → o ≡ Some x → ⊥) → P
+not_over Q None m n = m
+not_over Q (Some x) m n = absurd (n x refl)
 
 module _ {X : Type 0} (took : X → List Event → X → Type 0) (program : Program) where
   abbrev comes : Machine → Outcome

@@ -16,7 +16,7 @@ loop-how-preserved g c =
 pub loop-how-smaller : goal.loop-how-smaller
 loop-how-smaller g c =
     nearer g.V.Events.took (whole.program c.args.program.now) c.loop-how.machine (next_of c.loop-how.next) c.loop-how.to c.turn.new.machine (next_of c.in_ok-next.next) c.turn.new.to
-    (not_over c.finish_of.result c.finish_of.ensures c.in_default.not-Some) c.in_ok-next.ensures.turned
+    (not_over _ c.finish_of.result c.finish_of.ensures c.in_default.not-Some) c.in_ok-next.ensures.turned
 
 pub returns-in_err-next-clause-part : goal.returns-in_err-next-clause-part
 returns-in_err-next-clause-part g c =
