@@ -91,7 +91,9 @@ impl<'p> Machine<'p> {
 
     /// One more frame waits.
     pub fn push(&mut self, frame: Frame<'p>) -> Result<(), AllocError>
-        ensures { OnOk result ((next : frames.Next) (x : frames.Next) (es : List Event') → model.follow (machine_of self.old x es) (frames.Push (views.frame_of frame.entry) next) ≡ machine_of self.new next es) }
+        ensures { OnOk result ((next : frames.Next) (x : frames.Next) (es : List Event')
+            → model.follow (machine_of self.old x es) (frames.Push
+            (views.frame_of frame.entry) next) ≡ machine_of self.new next es) }
     {
         self.stack.push(frame)?;
         Ok(())
@@ -99,7 +101,8 @@ impl<'p> Machine<'p> {
 
     /// What a plan does.
     pub fn follow(&mut self, plan: Plan<'p>) -> Result<Next<'p>, AllocError>
-        ensures { IfOk result (Moved self.old self.new (λ m. model.follow m (views.plan_of plan.entry))) }
+        ensures { IfOk result (Moved self.old self.new (λ m. model.follow m
+            (views.plan_of plan.entry))) }
     {
         let Plan { pushed, next } = plan;
         match pushed {
@@ -113,7 +116,8 @@ impl<'p> Machine<'p> {
 
     /// A task's step.
     pub fn start(&mut self, task: Task<'p>, place: Place) -> Next<'p>
-        ensures { Moved self.old self.new (λ m. model.started m (views.task_of task.entry) (place_of place) m.state.steps_left) result }
+        ensures { Moved self.old self.new (λ m. model.started m (views.task_of task.entry)
+            (place_of place) m.state.steps_left) result }
     {
         if self.steps_left == 0 {
             return Next::Over(Finish::OutOfSteps);

@@ -28,7 +28,8 @@ use std::alloc::{AllocError, Global};
 impl<'p> Machine<'p> {
     /// A task's beginning, after its step.
     fn begin(&mut self, task: Task<'p>, place: Place) -> Result<Step<'p>, AllocError>
-        ensures { IfOk result (Showed self.old self.new (λ m. model.begun m (views.task_of task.entry) (place_of place))) }
+        ensures { IfOk result (Showed self.old self.new (λ m. model.begun m
+            (views.task_of task.entry) (place_of place))) }
     {
         match task {
             Task::Eval(expr) => self.planned(expression_plan(expr, place)),
@@ -63,14 +64,16 @@ impl<'p> Machine<'p> {
 
     /// What a plan does, which shows nothing.
     fn planned(&mut self, plan: Plan<'p>) -> Result<Step<'p>, AllocError>
-        ensures { IfOk result (Showed self.old self.new (λ m. model.follow m (views.plan_of plan.entry))) }
+        ensures { IfOk result (Showed self.old self.new (λ m. model.follow m
+            (views.plan_of plan.entry))) }
     {
         Ok(quiet(self.follow(plan)?))
     }
 
     /// A declared name is 0 first, in its own initialiser too.
     fn declare(&mut self, declared: &'p Declared, place: Place) -> Result<Step<'p>, AllocError>
-        ensures { IfOk result (Showed self.old self.new (λ m. model.declared m (trees.declared declared.now) (place_of place))) }
+        ensures { IfOk result (Showed self.old self.new (λ m. model.declared m
+            (trees.declared declared.now) (place_of place))) }
     {
         self.set_local(declared.local, 0, place);
         self.planned(initialise_plan(declared, place))
@@ -83,7 +86,8 @@ impl<'p> Machine<'p> {
         task: Task<'p>,
         place: Place,
     ) -> Result<Step<'p>, AllocError>
-        ensures { (p : Program) → IfOk result (Showed self.old self.new (λ m. model.done p m (views.phased phase (views.task_of task.entry) (place_of place)))) }
+        ensures { (p : Program) → IfOk result (Showed self.old self.new (λ m. model.done p m
+            (views.phased phase (views.task_of task.entry) (place_of place)))) }
     {
         match phase {
             Phase::Before => Ok(quiet(self.start(task, place))),
@@ -100,7 +104,8 @@ impl<'p> Machine<'p> {
         next: Next<'p>,
     ) -> Result<Step<'p>, AllocError>
         requires { data_end ≡ model_data_end program.now.globals.items }
-        ensures { IfOk result (Showed self.old self.new (λ m. model.done (whole.program program.now) m (views.next_of next.entry))) }
+        ensures { IfOk result (Showed self.old self.new (λ m. model.done
+            (whole.program program.now) m (views.next_of next.entry))) }
     {
         match next {
             Next::Over(how) => Ok(quiet(Next::Over(how))),
