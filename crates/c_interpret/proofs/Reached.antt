@@ -1,14 +1,14 @@
 -- Where a run has come, and what it has shown.
 use Rattle.std.proofs.Common.{◌≡◌, ℕ, ◌<◌, List, [], ◌++◌, refl, sym, ap, ◌∙◌, subst}
-use Rattle.std.specs.Prelude.{false}
+use Rattle.std.specs.Prelude.{false, Option, Some, None, MatchOption, OnErr, Result as Result', Ok, Err}
 use Rattle.std.proofs.lemmas.List.{append-nil}
 use Rattle.seh_num.specs.declared.event.Event.{Event}
 use Rattle.c_checked.specs.Program.{Program}
-use Rattle.c_model.specs.State.{State, Result, Outcome, how_of, state_of}
+use Rattle.c_model.specs.State.{Result, Outcome, how_of, state_of}
 use Rattle.c_model.specs.Meaning.{does}
 use Rattle.c_model.specs.Laws.{IsPrefixOf}
 use Rattle.source_machine.specs.Frames.{Next, Over}
-use Rattle.source_machine.specs.Machine.{Machine, step}
+use Rattle.source_machine.specs.Machine.{Machine}
 use Rattle.source_machine.specs.Waiting.{comes_to}
 use Rattle.source_machine.specs.Laws.{is_over, distance}
 use Rattle.source_machine.proofs.KeepingSteps.{keeps_meaning}
@@ -17,6 +17,16 @@ use Rattle.source_machine.proofs.WholeRuns.{shows_before}
 use Rattle.c_interpret.specs.declared.machine.Machine.{Machine as Machine'}
 use Rattle.c_interpret.specs.Machines.{machine_of}
 use Rattle.c_interpret.specs.Runs.{Turned, Ran, ShownPart}
+
+-- a fact holds where there is an error
+pub on_err : {A E P : Type 0} (r : Result' A E) → P → OnErr r P
+on_err (Ok x) p = tt
+on_err (Err e) p = p
+
+-- a run that isn't over
+pub not_over : {T P : Type 0} (Q : T → Type 0) (o : Option T) → MatchOption o P Q → ((x : T) → o ≡ Some x → ⊥) → P
+not_over Q None m n = m
+not_over Q (Some x) m n = absurd (n x refl)
 
 module _ {X : Type 0} (took : X → List Event → X → Type 0) (program : Program) where
   abbrev comes : Machine → Outcome

@@ -59,9 +59,13 @@ impl Activations {
         ensures { frames_of self.new ≡ with_local (frames_of self.old) activation local value }
     {
         let local = local as usize;
-        if activation < self.frames.len() && local < self.frames[activation].len() {
-            self.frames[activation][local] = value;
+        if activation >= self.frames.len() {
+            return;
         }
+        if local >= self.frames[activation].len() {
+            return;
+        }
+        self.frames[activation][local] = value;
     }
 
     /// One more, with its locals.

@@ -60,7 +60,8 @@ fn raised(code: u64, flags: u64) -> Exception
 impl<'p> Machine<'p> {
     /// A function's body in an activation of its own.
     fn enter(&mut self, function: &'p Function, values: Vec<u64>) -> Result<Next<'p>, AllocError>
-        ensures { IfOk result (Moved self.old self.new (λ m. model.entered m (Some (programs.function function.now)) values.items)) }
+        ensures { IfOk result (Moved self.old self.new (λ m. model.entered m (Some
+            (programs.function function.now)) values.items)) }
     {
         if self.is_deep(1) {
             return Ok(too_deep());
@@ -84,7 +85,8 @@ impl<'p> Machine<'p> {
         values: &[u64],
         place: Place,
     ) -> Result<Step<'p>, AllocError>
-        ensures { IfOk result (Showed self.old self.new (λ m. model.built_in m function values.now (place_of place))) }
+        ensures { IfOk result (Showed self.old self.new (λ m. model.built_in m function values.now
+            (place_of place))) }
     {
         let first = value_at(values, 0);
         let second = value_at(values, 1);
@@ -113,7 +115,9 @@ impl<'p> Machine<'p> {
         values: Vec<u64>,
         place: Place,
     ) -> Result<Step<'p>, AllocError>
-        ensures { IfOk result (Showed self.old self.new (λ m. model.called (whole.program program.now) m (views.callee_of callee) values.items (place_of place))) }
+        ensures { IfOk result (Showed self.old self.new (λ m. model.called
+            (whole.program program.now) m (views.callee_of callee) values.items
+            (place_of place))) }
     {
         match callee {
             Callee::BuiltIn(function) => self.call_built_in(function, &values, place),

@@ -27,7 +27,8 @@ use std::alloc::AllocError;
 
 /// A `__finally` block is to run.
 fn finally<'p>(number: u32, last: &'p Vec<Stmt>, abnormal: bool, place: Place) -> Next<'p>
-    ensures { views.next_of result ≡ frames.Start (tasks.RunFinally number (views.all_statements last.now.items) abnormal) (place_of place) }
+    ensures { views.next_of result ≡ frames.Start (tasks.RunFinally number
+        (views.all_statements last.now.items) abnormal) (place_of place) }
 {
     start(
         Task::RunFinally {
@@ -42,7 +43,8 @@ fn finally<'p>(number: u32, last: &'p Vec<Stmt>, abnormal: bool, place: Place) -
 impl<'p> Machine<'p> {
     /// The end of a call.
     fn leave_call(&mut self, count: usize, how: Outcome) -> Next<'p>
-        ensures { Moved self.old self.new (λ m. model.left_call m count (views.result_of how)) result }
+        ensures { Moved self.old self.new (λ m. model.left_call m count
+            (views.result_of how)) result }
     {
         self.activations.truncate(count);
         match how {
@@ -61,7 +63,9 @@ impl<'p> Machine<'p> {
         level: usize,
         exception: Exception,
     ) -> Step<'p>
-        ensures { Showed self.old self.new (λ m. model.landed m held (views.all_statements block.now.items) (place_of place) (states.Target level (views.exception_of exception))) result }
+        ensures { Showed self.old self.new (λ m. model.landed m held
+            (views.all_statements block.now.items) (place_of place) (states.Target level
+            (views.exception_of exception))) result }
     {
         if level != self.handlers.len() {
             return quiet(Next::Give(Outcome::Target(level, exception)));
@@ -86,7 +90,8 @@ impl<'p> Machine<'p> {
         place: Place,
         how: Outcome,
     ) -> Result<Next<'p>, AllocError>
-        ensures { IfOk result (Moved self.old self.new (λ m. model.finished m number (views.all_statements last.now.items) (place_of place) (views.result_of how))) }
+        ensures { IfOk result (Moved self.old self.new (λ m. model.finished m number
+            (views.all_statements last.now.items) (place_of place) (views.result_of how))) }
     {
         match how {
             Outcome::Normal => Ok(finally(number, last, false, place)),
@@ -104,7 +109,8 @@ impl<'p> Machine<'p> {
         frame: OperandFrame<'p>,
         how: Outcome,
     ) -> Result<Next<'p>, AllocError>
-        ensures { IfOk result (Moved self.old self.new (λ m. model.resumed m (frames.Operand (views.operand_frame_of frame.entry)) (views.result_of how))) }
+        ensures { IfOk result (Moved self.old self.new (λ m. model.resumed m (frames.Operand
+            (views.operand_frame_of frame.entry)) (views.result_of how))) }
     {
         match how {
             Outcome::Value(value) => {
@@ -121,7 +127,8 @@ impl<'p> Machine<'p> {
         frame: AssignmentFrame<'p>,
         how: Outcome,
     ) -> Result<Next<'p>, AllocError>
-        ensures { IfOk result (Moved self.old self.new (λ m. model.resumed m (frames.Assignment (views.assignment_frame_of frame.entry)) (views.result_of how))) }
+        ensures { IfOk result (Moved self.old self.new (λ m. model.resumed m (frames.Assignment
+            (views.assignment_frame_of frame.entry)) (views.result_of how))) }
     {
         match how {
             Outcome::Value(value) => self.follow(assignment_plan(frame, value)),
@@ -135,7 +142,8 @@ impl<'p> Machine<'p> {
         frame: StatementFrame<'p>,
         how: Outcome,
     ) -> Result<Next<'p>, AllocError>
-        ensures { IfOk result (Moved self.old self.new (λ m. model.resumed m (frames.InStatement (views.statement_frame_of frame.entry)) (views.result_of how))) }
+        ensures { IfOk result (Moved self.old self.new (λ m. model.resumed m (frames.InStatement
+            (views.statement_frame_of frame.entry)) (views.result_of how))) }
     {
         match how {
             Outcome::Value(value) => self.follow(in_statement_plan(frame, value)),
@@ -149,7 +157,8 @@ impl<'p> Machine<'p> {
         frame: SequelFrame<'p>,
         how: Outcome,
     ) -> Result<Next<'p>, AllocError>
-        ensures { IfOk result (Moved self.old self.new (λ m. model.resumed m (frames.Sequel (views.sequel_frame_of frame.entry)) (views.result_of how))) }
+        ensures { IfOk result (Moved self.old self.new (λ m. model.resumed m (frames.Sequel
+            (views.sequel_frame_of frame.entry)) (views.result_of how))) }
     {
         match how {
             Outcome::Normal => self.follow(sequel_plan(frame)),
@@ -159,7 +168,8 @@ impl<'p> Machine<'p> {
 
     /// A result goes to the end of a loop's body.
     fn resume_body(&mut self, frame: BodyFrame<'p>, how: Outcome) -> Result<Next<'p>, AllocError>
-        ensures { IfOk result (Moved self.old self.new (λ m. model.resumed m (frames.Body (views.body_frame_of frame.entry)) (views.result_of how))) }
+        ensures { IfOk result (Moved self.old self.new (λ m. model.resumed m (frames.Body
+            (views.body_frame_of frame.entry)) (views.result_of how))) }
     {
         match how {
             Outcome::Normal => self.follow(body_plan(frame)),
@@ -177,7 +187,9 @@ impl<'p> Machine<'p> {
         place: Place,
         how: Outcome,
     ) -> Step<'p>
-        ensures { Showed self.old self.new (λ m. model.landed m held (views.all_statements block.now.items) (place_of place) (views.result_of how)) result }
+        ensures { Showed self.old self.new (λ m. model.landed m held
+            (views.all_statements block.now.items) (place_of place)
+            (views.result_of how)) result }
     {
         match how {
             Outcome::LeftTry => quiet(Next::Give(Outcome::Normal)),
@@ -188,7 +200,8 @@ impl<'p> Machine<'p> {
 
     /// A result goes to a frame that isn't a landing.
     fn resume(&mut self, frame: Frame<'p>, how: Outcome) -> Result<Step<'p>, AllocError>
-        ensures { IfOk result (Showed self.old self.new (λ m. resumed_from m (views.frame_of frame.entry) (views.result_of how))) }
+        ensures { IfOk result (Showed self.old self.new (λ m. resumed_from m
+            (views.frame_of frame.entry) (views.result_of how))) }
     {
         match frame {
             Frame::Operand(frame) => Ok(quiet(self.resume_operand(frame, how)?)),
@@ -209,7 +222,8 @@ impl<'p> Machine<'p> {
 
     /// A result goes to the newest frame; without one the run is over.
     pub fn give(&mut self, how: Outcome) -> Result<Step<'p>, AllocError>
-        ensures { IfOk result (Showed self.old self.new (λ m. model.given m (views.result_of how) m.stack)) }
+        ensures { IfOk result (Showed self.old self.new (λ m. model.given m
+            (views.result_of how) m.stack)) }
     {
         match self.stack.pop() {
             None => Ok(quiet(Next::Over(Finish::Gave(how)))),

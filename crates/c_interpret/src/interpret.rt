@@ -67,9 +67,13 @@ pub fn interpret<O: Sink>(
     trace: bool,
     sink: &mut O,
 ) -> Result<Ended, MeanErr>
-    ensures end { IfOk result (λ e. e ≡ texts.ended_within budget (meaning.meaning (whole.program program.now) arg budget).end) }
-    ensures text { IfOk result (λ e. Grew (O.taken sink.old) (texts.text trace budget (meaning.meaning (whole.program program.now) arg budget)) (O.taken sink.new)) }
-    ensures part { IfErr result (λ e. texts.TookFront e (O.taken sink.old) (texts.text trace budget (meaning.meaning (whole.program program.now) arg budget)) (O.taken sink.new)) }
+    ensures end { IfOk result (λ e. e ≡ texts.ended_within budget (meaning.meaning
+        (whole.program program.now) arg budget).end) }
+    ensures text { IfOk result (λ e. Grew (O.taken sink.old) (texts.text trace budget
+        (meaning.meaning (whole.program program.now) arg budget)) (O.taken sink.new)) }
+    ensures part { IfErr result (λ e. texts.TookFront e (O.taken sink.old)
+        (texts.text trace budget (meaning.meaning (whole.program program.now) arg budget))
+        (O.taken sink.new)) }
     ensures cause { IfErr result (λ e. texts.HasCause e (O.faults sink.old) (O.faults sink.new)) }
     ensures faults { O.faults sink.old ≤ O.faults sink.new }
 {

@@ -1,6 +1,6 @@
 //! The machine, and what changes it.
 
-ghost use Rattle.std.specs.Prelude.{◌≡◌, ◌++◌, [], ◌∷◌, List, IfOk, OnOk, nat_lt};
+ghost use Rattle.std.specs.Prelude.{◌≡◌, ◌≤◌, ◌++◌, [], ◌∷◌, List, IfOk, OnOk};
 ghost use Rattle.c_model.specs.State as states;
 ghost use Rattle.c_model.specs.declared.ended.Ended.TheVariants as ends;
 ghost use Rattle.seh_num.specs.declared.event.Event.{Event as Event'};
@@ -75,15 +75,25 @@ pub fn too_deep<'p>() -> Next<'p>
 impl<'p> Machine<'p> {
     /// Whether the depth would rise above the greatest, by so much.
     pub fn is_deep(&self, more: u64) -> bool
+        requires { more ≤ 2 }
         ensures { (es : List Event') → result ≡ model.is_deep (state_of self.now es) more }
     {
-        let depth = self.activations.len() as u128 + 2 * u128::from(self.held) + u128::from(more);
-        depth > u128::from(GREATEST_DEPTH)
+        let live = self.activations.len();
+        let held = self.held;
+        if live > 1000 {
+            return true;
+        }
+        if held > 1000 {
+            return true;
+        }
+        live as u64 + 2 * held + more > GREATEST_DEPTH
     }
 
     /// One more frame waits.
     pub fn push(&mut self, frame: Frame<'p>) -> Result<(), AllocError>
-        ensures { OnOk result ((next : frames.Next) (x : frames.Next) (es : List Event') → model.follow (machine_of self.old x es) (frames.Push (views.frame_of frame.entry) next) ≡ machine_of self.new next es) }
+        ensures { OnOk result ((next : frames.Next) (x : frames.Next) (es : List Event')
+            → model.follow (machine_of self.old x es) (frames.Push
+            (views.frame_of frame.entry) next) ≡ machine_of self.new next es) }
     {
         self.stack.push(frame)?;
         Ok(())
@@ -91,18 +101,23 @@ impl<'p> Machine<'p> {
 
     /// What a plan does.
     pub fn follow(&mut self, plan: Plan<'p>) -> Result<Next<'p>, AllocError>
-        ensures { IfOk result (Moved self.old self.new (λ m. model.follow m (views.plan_of plan.entry))) }
+        ensures { IfOk result (Moved self.old self.new (λ m. model.follow m
+            (views.plan_of plan.entry))) }
     {
         let Plan { pushed, next } = plan;
-        if let Some(frame) = pushed {
-            self.push(frame)?;
+        match pushed {
+            None => Ok(next),
+            Some(frame) => {
+                self.push(frame)?;
+                Ok(next)
+            }
         }
-        Ok(next)
     }
 
     /// A task's step.
     pub fn start(&mut self, task: Task<'p>, place: Place) -> Next<'p>
-        ensures { Moved self.old self.new (λ m. model.started m (views.task_of task.entry) (place_of place) self.old.steps_left) result }
+        ensures { Moved self.old self.new (λ m. model.started m (views.task_of task.entry)
+            (place_of place) m.state.steps_left) result }
     {
         if self.steps_left == 0 {
             return Next::Over(Finish::OutOfSteps);

@@ -44,7 +44,8 @@ fn store_plan<'p>(access: Access, address: u64, value: u64, place: Place) -> Pla
 impl<'p> Machine<'p> {
     /// The memory of a place that was located is read.
     fn load(&mut self, access: Access, address: u64, place: Place) -> Result<Next<'p>, AllocError>
-        ensures { IfOk result (Moved self.old self.new (λ m. model.follow m (plans.load_plan access address (place_of place)))) }
+        ensures { IfOk result (Moved self.old self.new (λ m. model.follow m
+            (plans.load_plan access address (place_of place)))) }
     {
         self.follow(load_plan(access, address, place))
     }
@@ -56,7 +57,8 @@ impl<'p> Machine<'p> {
         address: u64,
         place: Place,
     ) -> Result<Next<'p>, AllocError>
-        ensures { IfOk result (Moved self.old self.new (λ m. model.fetched m (tree.lvalue target.now) address (place_of place))) }
+        ensures { IfOk result (Moved self.old self.new (λ m. model.fetched m
+            (tree.lvalue target.now) address (place_of place))) }
     {
         match target {
             Lvalue::Local(local) => {
@@ -71,14 +73,16 @@ impl<'p> Machine<'p> {
 
     /// A local is set.
     pub fn set_local(&mut self, local: u64, value: u64, place: Place)
-        ensures { (x : frames.Next) (es : List Event') → model.with_local (machine_of self.old x es) (place_of place) local value ≡ machine_of self.new x es }
+        ensures { (x : frames.Next) (es : List Event') → model.with_local
+            (machine_of self.old x es) (place_of place) local value ≡ machine_of self.new x es }
     {
         self.activations.set_local(place.activation, local, value);
     }
 
     /// A value goes to a place that was located.
     pub fn put(&mut self, target: &'p Lvalue, address: u64, value: u64, place: Place) -> Next<'p>
-        ensures { Moved self.old self.new (λ m. model.put m (tree.lvalue target.now) address value (place_of place)) result }
+        ensures { Moved self.old self.new (λ m. model.put m (tree.lvalue target.now) address value
+            (place_of place)) result }
     {
         match target {
             Lvalue::Local(local) => {
@@ -106,7 +110,8 @@ impl<'p> Machine<'p> {
         place: Place,
         outcome: Performed,
     ) -> Result<Next<'p>, AllocError>
-        ensures { IfOk result (Moved self.old self.new (λ m. finished m operation first second (place_of place) outcome)) }
+        ensures { IfOk result (Moved self.old self.new (λ m. finished m operation first second
+            (place_of place) outcome)) }
     {
         match outcome {
             Performed::Gives(value) => Ok(Next::Give(Outcome::Value(value))),
@@ -135,7 +140,9 @@ impl<'p> Machine<'p> {
         second: u64,
         place: Place,
     ) -> Result<Next<'p>, AllocError>
-        ensures { IfOk result (Moved self.old self.new (λ m. model.operated m operation first second (place_of place) (performed (reserved_below data_end) operation first second (state_of self.old es).memory))) }
+        ensures { IfOk result (Moved self.old self.new
+            (λ m. model.operated m operation first second (place_of place) (performed
+            (reserved_below data_end) operation first second m.state.memory))) }
     {
         let outcome = perform(&mut self.memory, data_end, operation, first, second);
         self.finish(operation, first, second, place, outcome)

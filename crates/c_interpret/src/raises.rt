@@ -1,6 +1,6 @@
 //! Raises, filters, `__finally` blocks and handlers.
 
-ghost use Rattle.std.specs.Prelude.{◌≡◌, ◌++◌, [], ◌∷◌, List, IfOk, map};
+ghost use Rattle.std.specs.Prelude.{◌≡◌, ◌++◌, [], ◌∷◌, List, IfOk, slice_get};
 ghost use Rattle.c_checked.specs.Program.{Program};
 ghost use Rattle.seh_num.specs.declared.event.Event.{Event as Event'};
 ghost use Rattle.c_checked.specs.Expression as tree;
@@ -25,7 +25,8 @@ use seh_num::event::{Code, Event};
 use std::alloc::AllocError;
 
 fn unhandled<'p>(exception: Exception) -> Next<'p>
-    ensures { (m : model.Machine) → model.unhandled m (views.exception_of exception) ≡ model.go_on m (views.next_of result) }
+    ensures { (m : model.Machine) → model.unhandled m (views.exception_of exception)
+        ≡ model.go_on m (views.next_of result) }
 {
     Next::Over(Finish::Ended(Ended::Unhandled(Code(exception.code))))
 }
@@ -33,7 +34,8 @@ fn unhandled<'p>(exception: Exception) -> Next<'p>
 impl<'p> Machine<'p> {
     /// An exception is raised: the handlers are asked, the innermost first.
     pub fn raise(&self, exception: Exception, place: Place) -> Step<'p>
-        ensures { Showed self.now self.now (λ m. model.begun m (tasks.Raise (views.exception_of exception)) (place_of place)) result }
+        ensures { Showed self.now self.now (λ m. model.begun m (tasks.Raise
+            (views.exception_of exception)) (place_of place)) result }
     {
         let event = Event::Raise {
             code: Code(exception.code),
@@ -52,7 +54,9 @@ impl<'p> Machine<'p> {
         exception: Exception,
         place: Place,
     ) -> Result<Step<'p>, AllocError>
-        ensures { IfOk result (Showed self.old self.new (λ m. model.begun m (tasks.RunFilter number (tree.expression value.now) (views.handler_of handler.entry) (views.exception_of exception)) (place_of place))) }
+        ensures { IfOk result (Showed self.old self.new (λ m. model.begun m
+            (tasks.RunFilter number (tree.expression value.now) (views.handler_of handler.entry)
+            (views.exception_of exception)) (place_of place))) }
     {
         let _ = place;
         if self.is_deep(2) {
@@ -76,7 +80,9 @@ impl<'p> Machine<'p> {
         abnormal: bool,
         place: Place,
     ) -> Result<Step<'p>, AllocError>
-        ensures { IfOk result (Showed self.old self.new (λ m. model.begun m (tasks.RunFinally number (views.all_statements last.now.items) abnormal) (place_of place))) }
+        ensures { IfOk result (Showed self.old self.new (λ m. model.begun m
+            (tasks.RunFinally number (views.all_statements last.now.items) abnormal)
+            (place_of place))) }
     {
         if self.is_deep(2) {
             return Ok(quiet(too_deep()));
@@ -102,7 +108,9 @@ impl<'p> Machine<'p> {
         block: &'p Vec<Stmt>,
         place: Place,
     ) -> Result<Next<'p>, AllocError>
-        ensures { IfOk result (Moved self.old self.new (λ m. model.guarded m (views.all_statements body.now.items) (trees.filter filter.now) (views.all_statements block.now.items) (place_of place))) }
+        ensures { IfOk result (Moved self.old self.new (λ m. model.guarded m
+            (views.all_statements body.now.items) (trees.filter filter.now)
+            (views.all_statements block.now.items) (place_of place))) }
     {
         self.handlers.push(Handler {
             filter,
@@ -120,16 +128,31 @@ impl<'p> Machine<'p> {
         exception: Exception,
         place: Place,
     ) -> Result<Next<'p>, AllocError>
-        ensures { IfOk result (Moved self.old self.new (λ m. model.searched m level (views.exception_of exception) (place_of place))) }
+        ensures { IfOk result (Moved self.old self.new
+            (λ m. model.searched m level (views.exception_of exception) (place_of place))) }
     {
         if level == 0 {
             return Ok(unhandled(exception));
         }
-        let level = level - 1;
-        match self.handlers.get(level).copied() {
-            None => Ok(unhandled(exception)),
-            Some(handler) => self.ask(handler, level, exception, place),
+        self.ask_numbered(level - 1, exception, place)
+    }
+
+    /// The handler of a number is asked, and then those below it.
+    fn ask_numbered(
+        &mut self,
+        number: usize,
+        exception: Exception,
+        place: Place,
+    ) -> Result<Next<'p>, AllocError>
+        ensures { IfOk result (Moved self.old self.new
+            (λ m. model.asked m (slice_get m.handlers number) number (views.exception_of exception)
+            (place_of place))) }
+    {
+        if number >= self.handlers.len() {
+            return Ok(unhandled(exception));
         }
+        let handler = self.handlers[number];
+        self.ask(handler, number, exception, place)
     }
 
     /// A handler is asked.
@@ -140,7 +163,9 @@ impl<'p> Machine<'p> {
         exception: Exception,
         place: Place,
     ) -> Result<Next<'p>, AllocError>
-        ensures { IfOk result (Moved self.old self.new (λ m. model.asked_by m (views.handler_of handler.entry).filter (views.handler_of handler.entry) level (views.exception_of exception) (place_of place))) }
+        ensures { IfOk result (Moved self.old self.new (λ m. model.asked_by m
+            (views.handler_of handler.entry).filter (views.handler_of handler.entry) level
+            (views.exception_of exception) (place_of place))) }
     {
         match handler.filter {
             Filter::Always => Ok(Next::Give(Outcome::Target(level, exception))),
@@ -159,7 +184,8 @@ impl<'p> Machine<'p> {
 
     /// A filter has answered.
     pub fn answer(&mut self, value: u64) -> Step<'p>
-        ensures { (p : Program) → Showed self.old self.new (λ m. model.done p m (frames.Answer value)) result }
+        ensures { (p : Program) → Showed self.old self.new (λ m. model.done p m
+            (frames.Answer value)) result }
     {
         self.held = self.held.saturating_sub(1);
         showing(

@@ -25,7 +25,8 @@ use std::alloc::AllocError;
 
 /// What `&&` leads to.
 fn and_plan<'p>(left: u64, right: &'p Expr, place: Place) -> Plan<'p>
-    ensures { plan_of result ≡ plans.operand_plan (frames.EvaluatesIfTrue (tree.expression right.now) (place_of place)) left }
+    ensures { plan_of result ≡ plans.operand_plan (frames.EvaluatesIfTrue
+        (tree.expression right.now) (place_of place)) left }
 {
     if left == 0 {
         gives(0)
@@ -36,7 +37,8 @@ fn and_plan<'p>(left: u64, right: &'p Expr, place: Place) -> Plan<'p>
 
 /// What `||` leads to.
 fn or_plan<'p>(left: u64, right: &'p Expr, place: Place) -> Plan<'p>
-    ensures { plan_of result ≡ plans.operand_plan (frames.EvaluatesIfFalse (tree.expression right.now) (place_of place)) left }
+    ensures { plan_of result ≡ plans.operand_plan (frames.EvaluatesIfFalse
+        (tree.expression right.now) (place_of place)) left }
 {
     if left == 0 {
         operand(OperandFrame::Tests, right, place)
@@ -47,7 +49,8 @@ fn or_plan<'p>(left: u64, right: &'p Expr, place: Place) -> Plan<'p>
 
 /// What `?` leads to.
 fn choose_plan<'p>(condition: u64, yes: &'p Expr, no: &'p Expr, place: Place) -> Plan<'p>
-    ensures { plan_of result ≡ plans.operand_plan (frames.Chooses (tree.expression yes.now) (tree.expression no.now) (place_of place)) condition }
+    ensures { plan_of result ≡ plans.operand_plan (frames.Chooses (tree.expression yes.now)
+        (tree.expression no.now) (place_of place)) condition }
 {
     if condition == 0 {
         then(evaluates(no, place))
@@ -58,7 +61,8 @@ fn choose_plan<'p>(condition: u64, yes: &'p Expr, no: &'p Expr, place: Place) ->
 
 /// An operand's value is there.
 pub fn operand_plan<'p>(frame: OperandFrame<'p>, value: u64) -> Result<Plan<'p>, AllocError>
-    ensures { IfOk result (λ plan. plan_of plan ≡ plans.operand_plan (views.operand_frame_of frame.entry) value) }
+    ensures { IfOk result (λ plan. plan_of plan ≡ plans.operand_plan
+        (views.operand_frame_of frame.entry) value) }
 {
     Ok(match frame {
         OperandFrame::Converts(conversion) => gives(converted(conversion, value)),
@@ -96,7 +100,8 @@ pub fn operand_plan<'p>(frame: OperandFrame<'p>, value: u64) -> Result<Plan<'p>,
 }
 
 fn assignment<'p>(frame: AssignmentFrame<'p>, next: Next<'p>) -> Plan<'p>
-    ensures { plan_of result ≡ plans.assignment (views.assignment_frame_of frame.entry) (views.next_of next.entry) }
+    ensures { plan_of result ≡ plans.assignment (views.assignment_frame_of frame.entry)
+        (views.next_of next.entry) }
 {
     push(Frame::Assignment(frame), next)
 }
@@ -158,7 +163,8 @@ pub fn assignment_plan<'p>(frame: AssignmentFrame<'p>, value: u64) -> Plan<'p>
 
 /// A filter's answer: above 0 takes over, 0 asks the next, and below 0 continues.
 fn answer_plan<'p>(answer: u64, level: usize, exception: Exception, place: Place) -> Plan<'p>
-    ensures { plan_of result ≡ plans.in_statement_plan (frames.IsAnswered level (views.exception_of exception) (place_of place)) answer }
+    ensures { plan_of result ≡ plans.in_statement_plan (frames.IsAnswered level
+        (views.exception_of exception) (place_of place)) answer }
 {
     if answer == 0 {
         then(Next::Search(level, exception, place))
@@ -173,14 +179,14 @@ fn answer_plan<'p>(answer: u64, level: usize, exception: Exception, place: Place
 
 /// A value is there in a statement, or as a filter's answer.
 pub fn in_statement_plan<'p>(frame: StatementFrame<'p>, value: u64) -> Plan<'p>
-    ensures { plan_of result ≡ plans.in_statement_plan (views.statement_frame_of frame.entry) value }
+    ensures { plan_of result ≡ plans.in_statement_plan
+        (views.statement_frame_of frame.entry) value }
 {
     match frame {
         StatementFrame::Initialises(local, place) => { then(Next::SetLocal(local, value, place)) }
         StatementFrame::EndsEvaluation => ends(),
         StatementFrame::Branches(yes, no, place) => branch(value == 0, yes, no, place),
-        StatementFrame::For(ForPart::Begins, of, place) => then(iterate(of, place)),
-        StatementFrame::For(ForPart::Tests, of, place) => for_test(value, of, place),
+        StatementFrame::For(part, of, place) => for_step(part, value, of, place),
         StatementFrame::TestsDo(body, condition, place) => do_test(value, body, condition, place),
         StatementFrame::Returns => then(Next::Give(Outcome::Returned(value))),
         StatementFrame::EndsFilter => then(Next::Answer(value)),
@@ -192,7 +198,8 @@ pub fn in_statement_plan<'p>(frame: StatementFrame<'p>, value: u64) -> Plan<'p>
 
 /// A condition of `for` or `while` has this value.
 fn for_test<'p>(value: u64, of: ForLoop<'p>, place: Place) -> Plan<'p>
-    ensures { plan_of result ≡ plans.in_statement_plan (frames.TestsFor (views.for_loop_of of.entry) (place_of place)) value }
+    ensures { plan_of result ≡ plans.in_statement_plan (frames.TestsFor
+        (views.for_loop_of of.entry) (place_of place)) value }
 {
     if value == 0 {
         ends()
@@ -201,9 +208,21 @@ fn for_test<'p>(value: u64, of: ForLoop<'p>, place: Place) -> Plan<'p>
     }
 }
 
+/// An iteration of `for` or `while` begins, or its condition has this value.
+fn for_step<'p>(part: ForPart, value: u64, of: ForLoop<'p>, place: Place) -> Plan<'p>
+    ensures { plan_of result
+        ≡ plans.in_statement_plan (views.for_frame_of part (views.for_loop_of of.entry) (place_of place)) value }
+{
+    match part {
+        ForPart::Begins => then(iterate(of, place)),
+        ForPart::Tests => for_test(value, of, place),
+    }
+}
+
 /// A condition of `do` has this value.
 fn do_test<'p>(value: u64, body: &'p Box<Stmt>, condition: &'p Expr, place: Place) -> Plan<'p>
-    ensures { plan_of result ≡ plans.in_statement_plan (frames.TestsDo (trees.statement body.now.value) (tree.expression condition.now) (place_of place)) value }
+    ensures { plan_of result ≡ plans.in_statement_plan (frames.TestsDo
+        (trees.statement body.now.value) (tree.expression condition.now) (place_of place)) value }
 {
     if value == 0 {
         ends()

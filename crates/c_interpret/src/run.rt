@@ -15,7 +15,7 @@ ghost use Rattle.c_interpret.specs.Runs.{Turned, Ran, ShownPart, Means, MeansPar
 use crate::activations::Activations;
 use crate::calls::low_signed;
 use crate::frame::{Callee, Finish, Next, Outcome};
-use crate::machine::Machine;
+use crate::machine::{Machine, Step};
 use crate::place::{NO_EXCEPTION, Place};
 use c_checked::checked::Checked;
 use c_model::ended::Ended;
@@ -27,7 +27,8 @@ use std::alloc::{AllocError, Global};
 
 /// How the run ended, if it is over.
 fn finish_of(next: &Next<'_>) -> Option<Finish>
-    ensures { MatchOption result (is_over (views.next_of next.now) ≡ false) (λ how. views.next_of next.now ≡ frames.Over (views.finish_of how)) }
+    ensures { MatchOption result (is_over (views.next_of next.now) ≡ false)
+        (λ how. views.next_of next.now ≡ frames.Over (views.finish_of how)) }
 {
     match next {
         Next::Over(how) => Some(*how),
@@ -45,14 +46,18 @@ fn turn<'p, V: Events>(
     to: &mut V,
 ) -> Result<Next<'p>, AllocError>
     requires { data_end ≡ model_data_end program.now.globals.items }
-    ensures turned { IfOk result (λ after. Turned V.took (whole.program program.now) machine.old (views.next_of next.entry) to.old machine.new (views.next_of after) to.new) }
+    ensures turned { IfOk result (λ after. Turned V.took (whole.program program.now) machine.old
+        (views.next_of next.entry) to.old machine.new (views.next_of after) to.new) }
     ensures nothing { OnErr result (V.took to.old [] to.new) }
 {
-    let step = machine.step(alloc, program, data_end, next)?;
-    if let Some(event) = step.shown {
-        to.take(&event);
+    let Step { next, shown } = machine.step(alloc, program, data_end, next)?;
+    match shown {
+        None => Ok(next),
+        Some(event) => {
+            to.take(&event);
+            Ok(next)
+        }
     }
-    Ok(step.next)
 }
 
 /// Runs the machine until its run is over; the receiver takes what is shown.
@@ -65,8 +70,11 @@ fn run<'p, V: Events>(
     to: &mut V,
 ) -> Result<Finish, AllocError>
     requires { data_end ≡ model_data_end program.now.globals.items }
-    ensures ran { IfOk result (λ how. Ran V.took (whole.program program.now) (machine_of machine.old (views.next_of first.entry) []) (views.finish_of how) to.old to.new) }
-    ensures part { OnErr result (ShownPart V.took (whole.program program.now) (machine_of machine.old (views.next_of first.entry) []) to.old to.new) }
+    ensures ran { IfOk result (λ how. Ran V.took (whole.program program.now)
+        (machine_of machine.old (views.next_of first.entry) [])
+        (views.finish_of how) to.old to.new) }
+    ensures part { OnErr result (ShownPart V.took (whole.program program.now)
+        (machine_of machine.old (views.next_of first.entry) []) to.old to.new) }
 {
     let mut next = first;
     loop {
@@ -83,7 +91,8 @@ fn first_machine<'p>(
     program: &'p Checked,
     budget: u64,
 ) -> Result<Machine<'p>, AllocError>
-    ensures { IfOk result (λ m. (next : frames.Next) → machine_of m next [] ≡ runs.beginning (whole.program program.now) budget next) }
+    ensures { IfOk result (λ m. (next : frames.Next) → machine_of m next [] ≡ runs.beginning
+        (whole.program program.now) budget next) }
 {
     Ok(Machine {
         steps_left: budget,
@@ -97,7 +106,8 @@ fn first_machine<'p>(
 
 /// The arguments of `main`: the argument of the run, where `main` has a parameter.
 fn main_arguments(alloc: Global, program: &Checked, arg: i64) -> Result<Vec<u64>, AllocError>
-    ensures { IfOk result (λ vs. let p = whole.program program.now in vs.items ≡ meaning.main_arguments (slice_get p.functions p.main) arg) }
+    ensures { IfOk result (λ vs. let p = whole.program program.now in vs.items
+        ≡ meaning.main_arguments (slice_get p.functions p.main) arg) }
 {
     let mut arguments = Vec::new(alloc);
     if let Some(main) = program.functions.get(program.main as usize) {
@@ -128,8 +138,10 @@ pub fn run_program<V: Events>(
     budget: u64,
     to: &mut V,
 ) -> Result<Option<Ended>, AllocError>
-    ensures means { IfOk result (λ end. Means V.took (meaning.meaning (whole.program program.now) arg budget) end to.old to.new) }
-    ensures part { OnErr result (MeansPart V.took (meaning.meaning (whole.program program.now) arg budget) to.old to.new) }
+    ensures means { IfOk result (λ end. Means V.took (meaning.meaning
+        (whole.program program.now) arg budget) end to.old to.new) }
+    ensures part { OnErr result (MeansPart V.took (meaning.meaning
+        (whole.program program.now) arg budget) to.old to.new) }
 {
     let place = Place {
         activation: 0,

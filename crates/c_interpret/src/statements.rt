@@ -38,7 +38,9 @@ fn runs<'p>(stmt: &'p Box<Stmt>, place: Place) -> Next<'p>
 
 /// An expression is evaluated, and then a frame goes on.
 pub fn tested<'p>(frame: StatementFrame<'p>, expr: &'p Expr, place: Place) -> Plan<'p>
-    ensures { plan_of result ≡ frames.Push (frames.InStatement (views.statement_frame_of frame.entry)) (plans.evaluates (tree.expression expr.now) (place_of place)) }
+    ensures { plan_of result ≡ frames.Push (frames.InStatement
+        (views.statement_frame_of frame.entry)) (plans.evaluates (tree.expression expr.now)
+        (place_of place)) }
 {
     push(Frame::Statement(frame), evaluates(expr, place))
 }
@@ -50,7 +52,8 @@ fn evaluated<'p>(
     place: Place,
     plan: Plan<'p>,
 ) -> Plan<'p>
-    ensures { plan_of result ≡ plans.evaluated (views.statement_frame_of frame.entry) (option_map tree.expression expr.now) (place_of place) (plan_of plan.entry) }
+    ensures { plan_of result ≡ plans.evaluated (views.statement_frame_of frame.entry)
+        (option_map tree.expression expr.now) (place_of place) (plan_of plan.entry) }
 {
     match expr {
         None => plan,
@@ -88,7 +91,9 @@ pub fn declare_plan<'p>(declared: &'p Vec<Declared>, next: usize, place: Place) 
 
 /// For a declared name, which is 0: its initialiser.
 pub fn initialise_plan<'p>(declared: &'p Declared, place: Place) -> Plan<'p>
-    ensures { let d = trees.declared declared.now in let p = place_of place in plan_of result ≡ plans.evaluated (frames.Initialises d.local p) d.value p (frames.Then (frames.SetLocal d.local 0 p)) }
+    ensures { let d = trees.declared declared.now in let p = place_of place in plan_of result
+        ≡ plans.evaluated (frames.Initialises d.local p) d.value p (frames.Then
+        (frames.SetLocal d.local 0 p)) }
 {
     evaluated(
         StatementFrame::Initialises(declared.local, place),
@@ -117,7 +122,8 @@ pub fn for_body<'p>(of: ForLoop<'p>, place: Place) -> Plan<'p>
 
 /// For an iteration of `for` or `while`, whose condition is tested first.
 pub fn for_plan<'p>(of: ForLoop<'p>, place: Place) -> Plan<'p>
-    ensures { let k = views.for_loop_of of.entry in let p = place_of place in plan_of result ≡ plans.evaluated (frames.TestsFor k p) k.condition p (plans.for_body k p) }
+    ensures { let k = views.for_loop_of of.entry in let p = place_of place in plan_of result
+        ≡ plans.evaluated (frames.TestsFor k p) k.condition p (plans.for_body k p) }
 {
     evaluated(
         StatementFrame::For(ForPart::Tests, of, place),
@@ -129,7 +135,9 @@ pub fn for_plan<'p>(of: ForLoop<'p>, place: Place) -> Plan<'p>
 
 /// For an iteration of `do`.
 pub fn do_plan<'p>(body: &'p Box<Stmt>, condition: &'p Expr, place: Place) -> Plan<'p>
-    ensures { plan_of result ≡ frames.Push (frames.Body (frames.EndsDoBody (trees.statement body.now.value) (tree.expression condition.now) (place_of place))) (frames.Start (tasks.Run (trees.statement body.now.value)) (place_of place)) }
+    ensures { plan_of result ≡ frames.Push (frames.Body (frames.EndsDoBody
+        (trees.statement body.now.value) (tree.expression condition.now) (place_of place)))
+        (frames.Start (tasks.Run (trees.statement body.now.value)) (place_of place)) }
 {
     push(
         Frame::Body(BodyFrame::EndsDoBody(body, condition, place)),
@@ -139,7 +147,9 @@ pub fn do_plan<'p>(body: &'p Box<Stmt>, condition: &'p Expr, place: Place) -> Pl
 
 /// For a loop, before its first iteration: its first expression.
 pub fn first_plan<'p>(first: &'p Option<Expr>, of: ForLoop<'p>, place: Place) -> Plan<'p>
-    ensures { let k = views.for_loop_of of.entry in let p = place_of place in plan_of result ≡ plans.evaluated (frames.Iterates k p) (option_map tree.expression first.now) p (frames.Then (plans.iterate k p)) }
+    ensures { let k = views.for_loop_of of.entry in let p = place_of place in plan_of result
+        ≡ plans.evaluated (frames.Iterates k p) (option_map tree.expression first.now) p
+        (frames.Then (plans.iterate k p)) }
 {
     evaluated(
         StatementFrame::For(ForPart::Begins, of, place),
@@ -147,6 +157,28 @@ pub fn first_plan<'p>(first: &'p Option<Expr>, of: ForLoop<'p>, place: Place) ->
         place,
         then(iterate(of, place)),
     )
+}
+
+/// For `if`.
+fn if_plan<'p>(
+    condition: &'p Expr,
+    yes: &'p Box<Stmt>,
+    otherwise: &'p Option<Box<Stmt>>,
+    place: Place,
+) -> Plan<'p>
+    ensures { plan_of result
+        ≡ plans.statement_plan (trees.choice (tree.expression condition.now)
+        (trees.statement yes.now.value)
+        (option_map (λ s. trees.statement s.value) otherwise.now)) (place_of place) }
+{
+    match otherwise {
+        None => tested(StatementFrame::Branches(yes, None, place), condition, place),
+        Some(no) => tested(
+            StatementFrame::Branches(yes, Some(no), place),
+            condition,
+            place,
+        ),
+    }
 }
 
 /// For a statement.
@@ -160,17 +192,8 @@ pub fn statement_plan<'p>(stmt: &'p Stmt, place: Place) -> Plan<'p>
         Stmt::If {
             condition,
             then: yes,
-            otherwise: None,
-        } => tested(StatementFrame::Branches(yes, None, place), condition, place),
-        Stmt::If {
-            condition,
-            then: yes,
-            otherwise: Some(no),
-        } => tested(
-            StatementFrame::Branches(yes, Some(no), place),
-            condition,
-            place,
-        ),
+            otherwise,
+        } => if_plan(condition, yes, otherwise, place),
         Stmt::For {
             declared,
             first,
@@ -217,10 +240,10 @@ pub fn listed_plan<'p>(stmts: &'p Vec<Stmt>, index: usize, place: Place) -> Plan
     ensures { plan_of result
         ≡ plans.statement_plan (views.statement_at stmts.now.items index) (place_of place) }
 {
-    match stmts.get(index) {
-        None => then(Next::Proceed(stmts, stmts.len(), place)),
-        Some(stmt) => statement_plan(stmt, place),
+    if index >= stmts.len() {
+        return then(Next::Proceed(stmts, stmts.len(), place));
     }
+    statement_plan(&stmts[index], place)
 }
 
 /// What follows a condition of `if`.

@@ -2,6 +2,7 @@
 
 ghost use Rattle.std.specs.Prelude.{◌≡◌, List, IfOk};
 ghost use Rattle.seh_num.specs.declared.event.Event.{Event as Event'};
+ghost use Rattle.c_checked.specs.Program.{Program};
 ghost use Rattle.c_checked.specs.Whole as whole;
 ghost use Rattle.c_checked.specs.Expression as tree;
 ghost use Rattle.c_checked.specs.Statement as trees;
@@ -27,7 +28,8 @@ use std::alloc::{AllocError, Global};
 impl<'p> Machine<'p> {
     /// A task's beginning, after its step.
     fn begin(&mut self, task: Task<'p>, place: Place) -> Result<Step<'p>, AllocError>
-        ensures { IfOk result (Showed self.old self.new (λ m. model.begun m (views.task_of task.entry) (place_of place))) }
+        ensures { IfOk result (Showed self.old self.new (λ m. model.begun m
+            (views.task_of task.entry) (place_of place))) }
     {
         match task {
             Task::Eval(expr) => self.planned(expression_plan(expr, place)),
@@ -62,17 +64,35 @@ impl<'p> Machine<'p> {
 
     /// What a plan does, which shows nothing.
     fn planned(&mut self, plan: Plan<'p>) -> Result<Step<'p>, AllocError>
-        ensures { IfOk result (Showed self.old self.new (λ m. model.follow m (views.plan_of plan.entry))) }
+        ensures { IfOk result (Showed self.old self.new (λ m. model.follow m
+            (views.plan_of plan.entry))) }
     {
         Ok(quiet(self.follow(plan)?))
     }
 
     /// A declared name is 0 first, in its own initialiser too.
     fn declare(&mut self, declared: &'p Declared, place: Place) -> Result<Step<'p>, AllocError>
-        ensures { IfOk result (Showed self.old self.new (λ m. model.declared m (trees.declared declared.now) (place_of place))) }
+        ensures { IfOk result (Showed self.old self.new (λ m. model.declared m
+            (trees.declared declared.now) (place_of place))) }
     {
         self.set_local(declared.local, 0, place);
         self.planned(initialise_plan(declared, place))
+    }
+
+    /// A task, before or after its step.
+    fn take_up(
+        &mut self,
+        phase: Phase,
+        task: Task<'p>,
+        place: Place,
+    ) -> Result<Step<'p>, AllocError>
+        ensures { (p : Program) → IfOk result (Showed self.old self.new (λ m. model.done p m
+            (views.phased phase (views.task_of task.entry) (place_of place)))) }
+    {
+        match phase {
+            Phase::Before => Ok(quiet(self.start(task, place))),
+            Phase::After => self.begin(task, place),
+        }
     }
 
     /// What is done next is done, in memory whose globals' pages end at `data_end`.
@@ -84,13 +104,13 @@ impl<'p> Machine<'p> {
         next: Next<'p>,
     ) -> Result<Step<'p>, AllocError>
         requires { data_end ≡ model_data_end program.now.globals.items }
-        ensures { IfOk result (Showed self.old self.new (λ m. model.done (whole.program program.now) m (views.next_of next.entry))) }
+        ensures { IfOk result (Showed self.old self.new (λ m. model.done
+            (whole.program program.now) m (views.next_of next.entry))) }
     {
         match next {
             Next::Over(how) => Ok(quiet(Next::Over(how))),
             Next::Give(how) => self.give(how),
-            Next::Do(Phase::Before, task, place) => Ok(quiet(self.start(task, place))),
-            Next::Do(Phase::After, task, place) => self.begin(task, place),
+            Next::Do(phase, task, place) => self.take_up(phase, task, place),
             Next::Evaluate(node, place) => self.planned(node_plan(alloc, node, place)),
             Next::Find(target, place) => self.planned(find_plan(target, place)),
             Next::Fetch(target, address, place) => Ok(quiet(self.fetch(target, address, place)?)),

@@ -3,3 +3,4 @@ pub mod Inputs
 pub mod Images
 pub mod Compiled
 pub mod Headline
+pub mod Meanings
