@@ -1,6 +1,6 @@
 //! Declarations, scopes and the function that a run begins with.
 
-use crate::verdict::{Verdict, verdict};
+use crate::verdict::{Verdict, verdict_of};
 use c_resolved::fault::Fault;
 use std::process::Abort;
 use std::test::Fail;
@@ -21,7 +21,7 @@ fn initialisers(rt: HostRuntime) -> Result<(), Fail> {
         "void *a = -1; int main(void){  return 0; }",
         "int f(void *b){ return b == 0; } int main(void){ void *x; return 0; }",
     ] {
-        assert_eq!(rt; verdict(rt.alloc(), text), Verdict::Accepted, "of {text:?}");
+        assert_eq!(rt; verdict_of(rt.alloc(), text), Verdict::Accepted, "of {text:?}");
     }
     for (text, fault, at) in [
         ("int a = {5}; int main(void){  return 0; }", Fault::BadInitialiser, 8),
@@ -42,7 +42,7 @@ fn initialisers(rt: HostRuntime) -> Result<(), Fail> {
         ("int f(int a, void b){ return a; } int main(void){  return 0; }", Fault::TypeClash, 18),
     ] {
         let broken = Verdict::Broken(fault, at);
-        assert_eq!(rt; verdict(rt.alloc(), text), broken, "of {text:?}");
+        assert_eq!(rt; verdict_of(rt.alloc(), text), broken, "of {text:?}");
     }
     Ok(())
 }
@@ -59,7 +59,7 @@ fn names(rt: HostRuntime) -> Result<(), Fail> {
         "int main(void){ put(1); protect(0, 1); RaiseException(1, 0, 0, (0)); int x = EXCEPTION_CONTINUE_SEARCH + EXCEPTION_CONTINUE_EXECUTION; return 0; }",
         "int main(void){ if (1) { int x; } else { int x; } while (0) { int x; } int x; return 0; }",
     ] {
-        assert_eq!(rt; verdict(rt.alloc(), text), Verdict::Accepted, "of {text:?}");
+        assert_eq!(rt; verdict_of(rt.alloc(), text), Verdict::Accepted, "of {text:?}");
     }
     for (text, fault, at) in [
         ("int main(void){ x; return 0; }", Fault::UnknownName, 16),
@@ -104,7 +104,7 @@ fn names(rt: HostRuntime) -> Result<(), Fail> {
         ("int main(void){ __try { int x; int x; } __finally { } return 0; }", Fault::Duplicate, 35),
     ] {
         let broken = Verdict::Broken(fault, at);
-        assert_eq!(rt; verdict(rt.alloc(), text), broken, "of {text:?}");
+        assert_eq!(rt; verdict_of(rt.alloc(), text), broken, "of {text:?}");
     }
     Ok(())
 }
@@ -120,7 +120,7 @@ fn entry(rt: HostRuntime) -> Result<(), Fail> {
         "long int main(signed long long int n){ return n; }",
         "int a; int main(void){ return 0; } int b;",
     ] {
-        assert_eq!(rt; verdict(rt.alloc(), text), Verdict::Accepted, "of {text:?}");
+        assert_eq!(rt; verdict_of(rt.alloc(), text), Verdict::Accepted, "of {text:?}");
     }
     for (text, fault, at) in [
         ("", Fault::NoMain, 0),
@@ -141,7 +141,7 @@ fn entry(rt: HostRuntime) -> Result<(), Fail> {
         ("int f(void){ return 0; } char main(void){ return 0; }", Fault::TypeClash, 30),
     ] {
         let broken = Verdict::Broken(fault, at);
-        assert_eq!(rt; verdict(rt.alloc(), text), broken, "of {text:?}");
+        assert_eq!(rt; verdict_of(rt.alloc(), text), broken, "of {text:?}");
     }
     Ok(())
 }

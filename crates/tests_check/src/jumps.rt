@@ -1,6 +1,6 @@
 //! Jumps, and what filters and blocks alone may call.
 
-use crate::verdict::{Verdict, verdict};
+use crate::verdict::{Verdict, verdict_of};
 use c_resolved::fault::Fault;
 use std::process::Abort;
 use std::test::Fail;
@@ -28,7 +28,7 @@ fn jumps(rt: HostRuntime) -> Result<(), Fail> {
         "int main(void){ __try { } __finally { for (;;) continue; } return 0; }",
         "int main(void){ __try { } __finally { __try { } __except (1) { } } return 0; }",
     ] {
-        assert_eq!(rt; verdict(rt.alloc(), text), Verdict::Accepted, "of {text:?}");
+        assert_eq!(rt; verdict_of(rt.alloc(), text), Verdict::Accepted, "of {text:?}");
     }
     for (text, fault, at) in [
         ("int main(void){ break; return 0; }", Fault::JumpOutsideLoop, 16),
@@ -57,7 +57,7 @@ fn jumps(rt: HostRuntime) -> Result<(), Fail> {
         ("int main(void){ __try { } __finally { while (1) return 1; } return 0; }", Fault::JumpOutOfFinally, 48),
     ] {
         let broken = Verdict::Broken(fault, at);
-        assert_eq!(rt; verdict(rt.alloc(), text), broken, "of {text:?}");
+        assert_eq!(rt; verdict_of(rt.alloc(), text), broken, "of {text:?}");
     }
     Ok(())
 }
@@ -72,7 +72,7 @@ fn filters(rt: HostRuntime) -> Result<(), Fail> {
         "int main(void){ __try { } __finally { AbnormalTermination(); if (AbnormalTermination()) put(1); } return 0; }",
         "int main(void){ __try { } __except (1) { __try { GetExceptionCode(); } __finally { GetExceptionCode(); AbnormalTermination(); } } return 0; }",
     ] {
-        assert_eq!(rt; verdict(rt.alloc(), text), Verdict::Accepted, "of {text:?}");
+        assert_eq!(rt; verdict_of(rt.alloc(), text), Verdict::Accepted, "of {text:?}");
     }
     for (text, fault, at) in [
         ("int main(void){ GetExceptionCode(); return 0; }", Fault::CodeOutsideFilter, 16),
@@ -90,7 +90,7 @@ fn filters(rt: HostRuntime) -> Result<(), Fail> {
         ("int main(void){ __try { } __except (GetExceptionInformation()->ExceptionRecord->ExceptionInformation[15]) { } return 0; }", Fault::TypeClash, 101),
     ] {
         let broken = Verdict::Broken(fault, at);
-        assert_eq!(rt; verdict(rt.alloc(), text), broken, "of {text:?}");
+        assert_eq!(rt; verdict_of(rt.alloc(), text), broken, "of {text:?}");
     }
     Ok(())
 }

@@ -1,6 +1,6 @@
 //! Lvalues and addresses.
 
-use crate::verdict::{Verdict, verdict};
+use crate::verdict::{Verdict, verdict_of};
 use c_resolved::fault::Fault;
 use std::process::Abort;
 use std::test::Fail;
@@ -14,7 +14,7 @@ fn lvalues(rt: HostRuntime) -> Result<(), Fail> {
         "int a[3]; int g; int *p; void *v; int main(void){ int x; x = 1; (x) = 2; ((x)) += 3; *p = 4; a[1] = 5; *(a + 1) = 6; return 0; }",
         "int a[3]; int g; int *p; void *v; int main(void){ g = a[0] = 3; p++; (p)--; ++*p; ++a[2]; return 0; }",
     ] {
-        assert_eq!(rt; verdict(rt.alloc(), text), Verdict::Accepted, "of {text:?}");
+        assert_eq!(rt; verdict_of(rt.alloc(), text), Verdict::Accepted, "of {text:?}");
     }
     for (text, fault, at) in [
         ("int a[3]; int g; int *p; void *v; int main(void){ a = p; return 0; }", Fault::NotLvalue, 50),
@@ -45,7 +45,7 @@ fn lvalues(rt: HostRuntime) -> Result<(), Fail> {
         ("int a[3]; int g; int *p; void *v; int main(void){ p = &p; return 0; }", Fault::TypeClash, 54),
     ] {
         let broken = Verdict::Broken(fault, at);
-        assert_eq!(rt; verdict(rt.alloc(), text), broken, "of {text:?}");
+        assert_eq!(rt; verdict_of(rt.alloc(), text), broken, "of {text:?}");
     }
     Ok(())
 }

@@ -1,6 +1,6 @@
 //! Texts with several faults.
 
-use crate::verdict::{Verdict, verdict};
+use crate::verdict::{Verdict, verdict_of};
 use c_resolved::fault::Fault;
 use std::process::Abort;
 use std::test::Fail;
@@ -38,7 +38,7 @@ fn several(rt: HostRuntime) -> Result<(), Fail> {
         ("int main(void){ put(1); return 0; } int put(int a, int b){ return a; }", Fault::Duplicate, 40),
     ] {
         let broken = Verdict::Broken(fault, at);
-        assert_eq!(rt; verdict(rt.alloc(), text), broken, "of {text:?}");
+        assert_eq!(rt; verdict_of(rt.alloc(), text), broken, "of {text:?}");
     }
     Ok(())
 }

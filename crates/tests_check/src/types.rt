@@ -1,6 +1,6 @@
 //! Types of operands, arguments, results and conditions.
 
-use crate::verdict::{Verdict, verdict};
+use crate::verdict::{Verdict, verdict_of};
 use c_resolved::fault::Fault;
 use std::process::Abort;
 use std::test::Fail;
@@ -27,7 +27,7 @@ fn conversions(rt: HostRuntime) -> Result<(), Fail> {
         "int *p; char *q; void *v; int x; int f(int *a, char c, void *b){ return c; } int main(void){ x = f(0, 300, q); x = f(v, x, 0); return 0; }",
         "int main(void){ int *a = 0; void *b = a; int *c = b; long d = 'x'; return 0; }",
     ] {
-        assert_eq!(rt; verdict(rt.alloc(), text), Verdict::Accepted, "of {text:?}");
+        assert_eq!(rt; verdict_of(rt.alloc(), text), Verdict::Accepted, "of {text:?}");
     }
     for (text, at) in [
         ("int *p; char *q; void *v; int x; int main(void){ p = 1; return 0; }", 53),
@@ -52,7 +52,7 @@ fn conversions(rt: HostRuntime) -> Result<(), Fail> {
         ("int *p; char *q; void *v; int x; int main(void){ int **a = p; return 0; }", 59),
     ] {
         let broken = Verdict::Broken(Fault::TypeClash, at);
-        assert_eq!(rt; verdict(rt.alloc(), text), broken, "of {text:?}");
+        assert_eq!(rt; verdict_of(rt.alloc(), text), broken, "of {text:?}");
     }
     Ok(())
 }
@@ -63,7 +63,7 @@ fn casts(rt: HostRuntime) -> Result<(), Fail> {
     for text in [
         "int *p; char *q; void *v; int x; int main(void){ p = (int *)x; q = (char *)p; v = (void *)5; x = (int)q; x = (char)v; x = (signed char)x; p = (int *)'\\0'; return 0; }",
     ] {
-        assert_eq!(rt; verdict(rt.alloc(), text), Verdict::Accepted, "of {text:?}");
+        assert_eq!(rt; verdict_of(rt.alloc(), text), Verdict::Accepted, "of {text:?}");
     }
     for (text, at) in [
         ("int *p; char *q; void *v; int x; int main(void){ (void)x; return 0; }", 49),
@@ -71,7 +71,7 @@ fn casts(rt: HostRuntime) -> Result<(), Fail> {
         ("int *p; char *q; void *v; int x; void g(void){} int main(void){ x = 1 + (int)g(); return 0; }", 72),
     ] {
         let broken = Verdict::Broken(Fault::TypeClash, at);
-        assert_eq!(rt; verdict(rt.alloc(), text), broken, "of {text:?}");
+        assert_eq!(rt; verdict_of(rt.alloc(), text), broken, "of {text:?}");
     }
     Ok(())
 }
@@ -85,7 +85,7 @@ fn pointers(rt: HostRuntime) -> Result<(), Fail> {
         "int *p; char *q; void *v; int x; int main(void){ x = p == 0; x = 0 != p; x = p < p; x = p < v; x = v >= q; x = p == (0); x = 0u == q; x = v == v; x = v == 0; return 0; }",
         "int *p; char *q; void *v; int x; int main(void){ p += 1; p -= x; p++; --q; x = *p++; x = (*p)++; *p += 1; p[1] -= 2; return 0; }",
     ] {
-        assert_eq!(rt; verdict(rt.alloc(), text), Verdict::Accepted, "of {text:?}");
+        assert_eq!(rt; verdict_of(rt.alloc(), text), Verdict::Accepted, "of {text:?}");
     }
     for (text, at) in [
         ("int *p; char *q; void *v; int x; int main(void){ v + 1; return 0; }", 51),
@@ -121,7 +121,7 @@ fn pointers(rt: HostRuntime) -> Result<(), Fail> {
         ("int *p; char *q; void *v; int x; int main(void){ x <<= p; return 0; }", 51),
     ] {
         let broken = Verdict::Broken(Fault::TypeClash, at);
-        assert_eq!(rt; verdict(rt.alloc(), text), broken, "of {text:?}");
+        assert_eq!(rt; verdict_of(rt.alloc(), text), broken, "of {text:?}");
     }
     Ok(())
 }
@@ -132,7 +132,7 @@ fn branches(rt: HostRuntime) -> Result<(), Fail> {
     for text in [
         "int *p; char *q; void *v; int x; void g(void){} int main(void){ x = x ? 1 : 'a'; p = x ? p : 0; p = x ? 0 : p; p = x ? p : p; p = x ? p : v; q = x ? v : p; x ? g() : g(); x = p ? 1 : 2; g(), x = 1; x = (g(), 1); p, g(); return 0; }",
     ] {
-        assert_eq!(rt; verdict(rt.alloc(), text), Verdict::Accepted, "of {text:?}");
+        assert_eq!(rt; verdict_of(rt.alloc(), text), Verdict::Accepted, "of {text:?}");
     }
     for (text, at) in [
         ("int *p; char *q; void *v; int x; void g(void){} int main(void){ x ? p : q; return 0; }", 66),
@@ -148,7 +148,7 @@ fn branches(rt: HostRuntime) -> Result<(), Fail> {
         ("int *p; char *q; void *v; int x; void g(void){} int main(void){ x = (1, p); return 0; }", 68),
     ] {
         let broken = Verdict::Broken(Fault::TypeClash, at);
-        assert_eq!(rt; verdict(rt.alloc(), text), broken, "of {text:?}");
+        assert_eq!(rt; verdict_of(rt.alloc(), text), broken, "of {text:?}");
     }
     Ok(())
 }
@@ -161,7 +161,7 @@ fn conditions(rt: HostRuntime) -> Result<(), Fail> {
         "int *p; char *q; void *v; int x; void g(void){} int main(void){ if (p) ; while (x) break; do ; while (v); for (;p;) break; for (;;) break; x = !p; x = p && x; x = v || q; return 0; }",
         "int *p; char *q; void *v; int x; void g(void){} int main(void){ __try { } __except (x) { } __try { } __except ('a') { } __try { } __except (5000000000) { } return 0; }",
     ] {
-        assert_eq!(rt; verdict(rt.alloc(), text), Verdict::Accepted, "of {text:?}");
+        assert_eq!(rt; verdict_of(rt.alloc(), text), Verdict::Accepted, "of {text:?}");
     }
     for (text, at) in [
         ("int *p; char *q; void *v; int x; void g(void){} int main(void){ if (g()) ; return 0; }", 64),
@@ -178,7 +178,7 @@ fn conditions(rt: HostRuntime) -> Result<(), Fail> {
         ("int *p; char *q; void *v; int x; void g(void){} int main(void){ __try { } __except (v) { } return 0; }", 84),
     ] {
         let broken = Verdict::Broken(Fault::TypeClash, at);
-        assert_eq!(rt; verdict(rt.alloc(), text), broken, "of {text:?}");
+        assert_eq!(rt; verdict_of(rt.alloc(), text), broken, "of {text:?}");
     }
     Ok(())
 }
@@ -191,7 +191,7 @@ fn calls(rt: HostRuntime) -> Result<(), Fail> {
         "int f(void){ return 1; } int h(int a, int b){ return a; } int main(void){ f(); h(1, 2); put(f()); return 0; }",
         "int *p; int main(void){ RaiseException('a', 5000000000, 0x0, 0u); protect(p, 2); protect((void *)16, 'a'); return 0; }",
     ] {
-        assert_eq!(rt; verdict(rt.alloc(), text), Verdict::Accepted, "of {text:?}");
+        assert_eq!(rt; verdict_of(rt.alloc(), text), Verdict::Accepted, "of {text:?}");
     }
     for (text, fault, at) in [
         ("int f(void){ return 1; } int h(int a, int b){ return a; } int main(void){ f(1); return 0; }", Fault::ArgCount, 74),
@@ -218,7 +218,7 @@ fn calls(rt: HostRuntime) -> Result<(), Fail> {
         ("int *p; int main(void){ RaiseException(1, 0, p, 0); return 0; }", Fault::TypeClash, 45),
     ] {
         let broken = Verdict::Broken(fault, at);
-        assert_eq!(rt; verdict(rt.alloc(), text), broken, "of {text:?}");
+        assert_eq!(rt; verdict_of(rt.alloc(), text), broken, "of {text:?}");
     }
     Ok(())
 }
@@ -229,7 +229,7 @@ fn returns(rt: HostRuntime) -> Result<(), Fail> {
     for text in [
         "void f(void){ return; } void g(void){ } int h(void){ } int *k(void){ return 0; } int main(void){ return 'a'; }",
     ] {
-        assert_eq!(rt; verdict(rt.alloc(), text), Verdict::Accepted, "of {text:?}");
+        assert_eq!(rt; verdict_of(rt.alloc(), text), Verdict::Accepted, "of {text:?}");
     }
     for (text, at) in [
         ("void f(void){ return 1; } int main(void){  return 0; }", 14),
@@ -238,7 +238,7 @@ fn returns(rt: HostRuntime) -> Result<(), Fail> {
         ("void g(void){} void f(void){ return g(); } int main(void){  return 0; }", 29),
     ] {
         let broken = Verdict::Broken(Fault::TypeClash, at);
-        assert_eq!(rt; verdict(rt.alloc(), text), broken, "of {text:?}");
+        assert_eq!(rt; verdict_of(rt.alloc(), text), broken, "of {text:?}");
     }
     Ok(())
 }
