@@ -1,12 +1,168 @@
-//! Stub.
+//! Where a statement stands, and what a walk over a function carries along.
 
+ghost use Rattle.std.specs.Prelude.{◌≡◌, ◌+◌, IfOk, OnOk};
+ghost use Rattle.c_resolved.specs.Statements as definitions;
+ghost use Rattle.c_resolved.specs.Statements.{with_number};
+ghost use Rattle.c_expressions.specs.Kept.{least_of, kept};
+ghost use Rattle.c_expressions.specs.Views.{names_of, scopes_of};
+ghost use Rattle.c_locals.specs.Views.{reach, environment, numbering, within, in_loop, in_body, in_handler, in_last, names_within, filter_names_within};
+
+use c_expressions::expressions::Context;
 use c_expressions::least::Least;
+use c_expressions::scopes::Scopes;
 use c_operations::operation::Size;
+use c_resolved::fault::Fault;
+use c_syntax::expression::CType;
+use std::alloc::AllocError;
 
-/// What a walk over a function carries along.
+/// What a jump finds.
+#[derive(Clone, Copy, Drop)]
+pub enum Reach {
+    Nowhere,
+    /// Beyond a `__finally` block that is around the jump.
+    Beyond,
+    Near,
+}
+
+/// Where a statement stands: the text, the names of the blocks around its own and of the file, and the
+/// function's result; what `break` and `continue`, `__leave` and `return` find; whether
+/// GetExceptionCode and AbnormalTermination mean something.
+#[derive(Clone, Copy)]
+pub struct Environment<'t, 's> {
+    pub text: &'t [u8],
+    pub outer: &'s Scopes<'t, 's>,
+    pub returns: CType,
+    pub loops: Reach,
+    pub body: Reach,
+    pub function: Reach,
+    pub code: bool,
+    pub abnormal: bool,
+}
+
+/// What a walk over a function carries along: the sizes of its locals so far, parameters first; the
+/// number of the next filter or `__finally` block; the least fault.
 #[derive(Drop)]
 pub struct Walk {
     pub sizes: Vec<Size>,
     pub number: u32,
     pub worst: Least,
+}
+
+impl Walk {
+    /// The number of a filter or a `__finally` block, each once.
+    pub fn next_number(&mut self) -> Result<u32, AllocError>
+        ensures number { IfOk result (λ n. n ≡ self.old.number) }
+        ensures counts { OnOk result (numbering self.new ≡ with_number (numbering self.old) (self.old.number + 1)) }
+        ensures faults { self.new.worst ≡ self.old.worst }
+    {
+        let number = self.number;
+        match number.checked_add(1) {
+            Some(next) => {
+                self.number = next;
+                Ok(number)
+            }
+            None => Err(AllocError),
+        }
+    }
+}
+
+/// What is found from inside a `__finally` block.
+fn past_finally(found: Reach) -> Reach
+    ensures { reach result ≡ definitions.past_finally (reach found) }
+{
+    match found {
+        Reach::Nowhere => Reach::Nowhere,
+        Reach::Beyond => Reach::Beyond,
+        Reach::Near => Reach::Beyond,
+    }
+}
+
+/// A jump: a fault where it finds nothing, and another where it leaves a `__finally` block.
+pub fn jump(worst: &mut Least, found: Reach, fault: Fault, at: u64)
+    ensures { least_of worst.new ≡ kept (least_of worst.old) (definitions.jump (reach found) fault at) }
+{
+    match found {
+        Reach::Nowhere => worst.add(at, fault),
+        Reach::Beyond => worst.add(at, Fault::JumpOutOfFinally),
+        Reach::Near => {}
+    }
+}
+
+/// Inside a block, with these names around.
+pub fn within<'t, 's>(env: &Environment<'t, '_>, scopes: &'s Scopes<'t, 's>) -> Environment<'t, 's>
+    ensures { environment result ≡ within (environment env.now) (scopes_of scopes.now) }
+{
+    Environment {
+        outer: scopes,
+        ..*env
+    }
+}
+
+/// Inside a loop.
+pub fn in_loop<'t, 's>(env: &Environment<'t, 's>) -> Environment<'t, 's>
+    ensures { environment result ≡ in_loop (environment env.now) }
+{
+    Environment {
+        loops: Reach::Near,
+        ..*env
+    }
+}
+
+/// Inside the body of a `__try`.
+pub fn in_body<'t, 's>(env: &Environment<'t, 's>) -> Environment<'t, 's>
+    ensures { environment result ≡ in_body (environment env.now) }
+{
+    Environment {
+        body: Reach::Near,
+        ..*env
+    }
+}
+
+/// Inside the block of an `__except`.
+pub fn in_handler<'t, 's>(env: &Environment<'t, 's>) -> Environment<'t, 's>
+    ensures { environment result ≡ in_handler (environment env.now) }
+{
+    Environment { code: true, ..*env }
+}
+
+/// Inside a `__finally` block.
+pub fn in_last<'t, 's>(env: &Environment<'t, 's>) -> Environment<'t, 's>
+    ensures { environment result ≡ in_last (environment env.now) }
+{
+    Environment {
+        loops: past_finally(env.loops),
+        body: past_finally(env.body),
+        function: Reach::Beyond,
+        abnormal: true,
+        ..*env
+    }
+}
+
+/// Where an expression of a statement is, with these names around.
+pub fn context<'t, 's>(env: &Environment<'t, '_>, scopes: &'s Scopes<'t, 's>) -> Context<'t, 's>
+    ensures { names_of result ≡ names_within (environment env.now) (scopes_of scopes.now) }
+{
+    Context {
+        text: env.text,
+        scopes,
+        code: env.code,
+        information: false,
+        abnormal: env.abnormal,
+    }
+}
+
+/// Where the expression of a filter is, with these names around.
+pub fn filter_context<'t, 's>(
+    env: &Environment<'t, '_>,
+    scopes: &'s Scopes<'t, 's>,
+) -> Context<'t, 's>
+    ensures { names_of result ≡ filter_names_within (environment env.now) (scopes_of scopes.now) }
+{
+    Context {
+        text: env.text,
+        scopes,
+        code: true,
+        information: true,
+        abnormal: env.abnormal,
+    }
 }

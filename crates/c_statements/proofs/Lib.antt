@@ -1,0 +1,4 @@
+pub mod Trees
+pub mod Parts
+pub mod Guarded
+pub mod Going

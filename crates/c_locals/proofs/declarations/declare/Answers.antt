@@ -1,0 +1,17 @@
+use Rattle.std.proofs.Common.{◌∙◌, ◌++◌, ◌∷◌, [], refl, ap}
+use Rattle.c_expressions.specs.Views.{block_of}
+use Rattle.c_locals.proofs.Declaring.{declared_local}
+use Rattle.c_locals.proofs.declarations.declare.Goals as goal
+use Rattle.c_locals.specs.Views.{environment}
+use Rattle.c_resolved.specs.Expressions.{LocalVariable}
+use Rattle.c_resolved.specs.Statements.{with_name}
+use Rattle.c_syntax.specs.declared.expression.CType.{CType}
+
+pub returns : goal.returns
+returns c =
+    let l = c.args.local.now in
+    let of : CType = record { base = c.args.base; pointers = l.pointers } in
+    let block = c.args.block.now.entries in
+    declared_local (environment c.args.env.now) c.args.base l c.args.walk.now _ _ _ _ block _ c.count_of-number.ensures
+    (c.in_ok-declare.ensures ∙ ap (λ k. with_name (block_of block) k (LocalVariable c.count_of-number.result of)) c.spelled.ensures)
+    (c.in_ok-push.ensures.items ∙ ap (λ k. c.args.walk.now.sizes.items ++ k ∷ []) c.size_of.ensures) refl c.check_local.ensures c.in_ok-value.ensures

@@ -1,0 +1,9 @@
+use Rattle.c_expressions.specs.Views.{block_of}
+use Rattle.c_locals.proofs.evaluated.any.Goals as goal
+use Rattle.c_locals.proofs.Ruled.{ruled}
+use Rattle.c_locals.specs.Views.{environment, resolved_at}
+use Rattle.c_resolved.specs.Statements as definitions
+use Rattle.c_syntax.specs.Expression.{expression}
+
+pub returns : goal.returns
+returns c = ruled c.args.worst.now _ _ _ (resolved_at (environment c.args.env.now) (block_of c.args.block.now.entries) (expression c.args.e.now)) c.any.result definitions.any c.in_ok-found.ensures.found c.in_ok-found.ensures.faults c.any.ensures

@@ -1,0 +1,164 @@
+//! The locals of a block (C11, 6.7 and 6.8.5.3).
+
+ghost use Rattle.std.specs.Prelude.{◌≡◌, ◌++◌, ◌∷◌, [], length, not, IfOk, OnOk, map};
+ghost use Rattle.c_checked.specs.declared.statement.Stmt.TheVariants as statements;
+ghost use Rattle.c_checked.specs.Statement.{statement};
+ghost use Rattle.c_resolved.specs.declared.fault.Fault.TheVariants.{Duplicate, TypeClash};
+ghost use Rattle.c_resolved.specs.Scopes.{spelled};
+ghost use Rattle.c_resolved.specs.Statements as definitions;
+ghost use Rattle.c_resolved.specs.Statements.{is_taken, unless_holds};
+ghost use Rattle.c_resolved.specs.Types.{is_scalar};
+ghost use Rattle.c_expressions.specs.Kept.{least_of, kept};
+ghost use Rattle.c_expressions.specs.Views.{block_of};
+ghost use Rattle.c_locals.specs.Resolved.{Resolves, Begins, declares};
+ghost use Rattle.c_locals.specs.Views.{environment, numbering};
+ghost use Rattle.c_syntax.specs.Statement as trees;
+
+use crate::environment::{Environment, Walk};
+use crate::evaluated::{any_or_none, to_type_or_none};
+use c_checked::expression::Expr as Checked;
+use c_checked::statement::{Declared, Stmt};
+use c_expressions::least::Least;
+use c_expressions::scopes::{self, Entity, is_taken, spelled};
+use c_expressions::values::unless_holds;
+use c_operations::operation::Size;
+use c_resolved::fault::Fault;
+use c_syntax::expression::{Base, CType, Identifier};
+use c_syntax::statement::{ForInitialiser, Local};
+use c_types::types::{is_scalar, size_of};
+use indexmap::IndexMap;
+use std::alloc::{AllocError, Global};
+
+/// What a `for` does first: what it declares, or what it evaluates (C11, 6.8.5.3).
+#[derive(Drop)]
+pub struct Beginning {
+    pub declared: Vec<Declared>,
+    pub first: Option<Checked>,
+}
+
+/// The rules of a declared local: its name is a new one, and its type has values.
+fn check_local<'t>(
+    worst: &mut Least,
+    text: &'t [u8],
+    block: &IndexMap<&'t [u8], Entity<'t>>,
+    name: Identifier,
+    of: CType,
+)
+    ensures { least_of worst.new ≡ kept (least_of worst.old) (unless_holds (not (is_taken (block_of block.now.entries) (spelled text.now name))) name.start Duplicate ++ unless_holds (is_scalar of) name.start TypeClash) }
+{
+    let taken = is_taken(spelled(text, name), block);
+    unless_holds(worst, !taken, name.start, Fault::Duplicate);
+    unless_holds(worst, is_scalar(of), name.start, Fault::TypeClash);
+}
+
+fn count_of(sizes: &Vec<Size>) -> u64
+    ensures { result ≡ length sizes.now.items }
+{
+    sizes.len() as u64
+}
+
+/// A local: its name is visible in its own initialiser (C11, 6.2.1 p7).
+fn declare<'t>(
+    alloc: Global,
+    env: &Environment<'t, '_>,
+    base: Base,
+    local: &Local,
+    block: &mut IndexMap<&'t [u8], Entity<'t>>,
+    walk: &mut Walk,
+) -> Result<Declared, AllocError>
+    ensures { IfOk result (λ d. Resolves block.new.entries walk.old walk.new (declares d ∷ []) (definitions.declare (environment env.now) base (trees.local local.now) (block_of block.old.entries) (numbering walk.old))) }
+{
+    let of = CType {
+        base,
+        pointers: local.pointers,
+    };
+    let number = count_of(&walk.sizes);
+    check_local(&mut walk.worst, env.text, block, local.name, of);
+    scopes::declare(
+        spelled(env.text, local.name),
+        Entity::LocalVariable { number, of },
+        block,
+    )?;
+    walk.sizes.push(size_of(of))?;
+    let value = to_type_or_none(alloc, env, block, &mut walk.worst, of, &local.initialiser)?;
+    Ok(Declared {
+        local: number,
+        value,
+    })
+}
+
+/// Locals in their order.
+fn declare_each<'t>(
+    alloc: Global,
+    env: &Environment<'t, '_>,
+    base: Base,
+    locals: &[Local],
+    block: &mut IndexMap<&'t [u8], Entity<'t>>,
+    walk: &mut Walk,
+) -> Result<Vec<Declared>, AllocError>
+    ensures { IfOk result (λ v. Resolves block.new.entries walk.old walk.new (map declares v.items) (definitions.declare_all (environment env.now) base (map trees.local locals.now) (block_of block.old.entries) (numbering walk.old))) }
+{
+    let mut made = Vec::new(alloc);
+    for local in locals {
+        made.push(declare(alloc, env, base, local, block, walk)?)?;
+    }
+    Ok(made)
+}
+
+/// Each declared local as a statement of its own.
+fn as_statements(alloc: Global, made: Vec<Declared>) -> Result<Vec<Stmt>, AllocError>
+    ensures { IfOk result (λ v. v.items ≡ map (λ d. statements.Declare d) made.items) }
+{
+    made.into_iter().map(|d| Stmt::Declare(d)).collect(alloc)
+}
+
+/// The locals of a declaration.
+pub fn declare_all<'t>(
+    alloc: Global,
+    env: &Environment<'t, '_>,
+    base: Base,
+    locals: &[Local],
+    block: &mut IndexMap<&'t [u8], Entity<'t>>,
+    walk: &mut Walk,
+) -> Result<Vec<Stmt>, AllocError>
+    ensures { IfOk result (λ v. Resolves block.new.entries walk.old walk.new (map statement v.items) (definitions.declare_all (environment env.now) base (map trees.local locals.now) (block_of block.old.entries) (numbering walk.old))) }
+{
+    let made = declare_each(alloc, env, base, locals, block, walk)?;
+    as_statements(alloc, made)
+}
+
+/// What a `for` does first, in a block of its own.
+pub fn for_initialiser<'t>(
+    alloc: Global,
+    env: &Environment<'t, '_>,
+    initialiser: &ForInitialiser,
+    block: &mut IndexMap<&'t [u8], Entity<'t>>,
+    walk: &mut Walk,
+) -> Result<Beginning, AllocError>
+    requires { block.old.entries ≡ [] }
+    ensures { IfOk result (λ b. Begins block.new.entries walk.old walk.new b (definitions.resolve_for_initialiser (environment env.now) (trees.first initialiser.now) (numbering walk.old))) }
+{
+    match initialiser {
+        ForInitialiser::Declaration(declaration) => {
+            let declared = declare_each(
+                alloc,
+                env,
+                declaration.base,
+                &declaration.locals,
+                block,
+                walk,
+            )?;
+            Ok(Beginning {
+                declared,
+                first: None,
+            })
+        }
+        ForInitialiser::Expression(e) => {
+            let first = any_or_none(alloc, env, block, &mut walk.worst, e)?;
+            Ok(Beginning {
+                declared: Vec::new(alloc),
+                first,
+            })
+        }
+    }
+}

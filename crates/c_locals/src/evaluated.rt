@@ -1,0 +1,189 @@
+//! The values of a statement's expressions.
+
+ghost use Rattle.std.specs.Prelude.{◌≡◌, ◌++◌, IfOk, OnOk, Some, option_map};
+ghost use Rattle.c_resolved.specs.declared.fault.Fault.TheVariants.{TypeClash};
+ghost use Rattle.c_resolved.specs.Expressions.{fault_at};
+ghost use Rattle.c_resolved.specs.Statements as definitions;
+ghost use Rattle.c_resolved.specs.Statements.{optional};
+ghost use Rattle.c_expressions.specs.Kept.{least_of, kept};
+ghost use Rattle.c_expressions.specs.Views.{block_of};
+ghost use Rattle.c_locals.specs.Values.{Evaluates, MayEvaluate};
+ghost use Rattle.c_locals.specs.Views.{environment, resolved_at};
+ghost use Rattle.c_syntax.specs.Expression.{expression, start};
+ghost use Rattle.c_types.specs.Views.{typed_node};
+
+use crate::environment::{Environment, context};
+use c_checked::expression::Expr as Checked;
+use c_expressions::expressions::resolve;
+use c_expressions::least::Least;
+use c_expressions::scopes::{Entity, Scopes};
+use c_expressions::values;
+use c_resolved::fault::Fault;
+use c_syntax::expression::{CType, Expr};
+use c_types::typed::TypedNode;
+use c_types::types::is_void;
+use indexmap::IndexMap;
+use std::alloc::{AllocError, Global};
+
+/// The type and the node of an expression in a block.
+fn resolved_at<'t>(
+    alloc: Global,
+    env: &Environment<'t, '_>,
+    block: &IndexMap<&'t [u8], Entity<'t>>,
+    worst: &mut Least,
+    e: &Expr,
+) -> Result<Option<TypedNode>, AllocError>
+    ensures found { IfOk result (λ r. option_map typed_node r ≡ (resolved_at (environment env.now) (block_of block.now.entries) (expression e.now)).found) }
+    ensures faults { OnOk result (least_of worst.new ≡ kept (least_of worst.old) (resolved_at (environment env.now) (block_of block.now.entries) (expression e.now)).faults) }
+{
+    let scopes = Scopes::Inside(block, env.outer);
+    resolve(alloc, &context(env, &scopes), worst, e)
+}
+
+/// Any value, or none.
+pub fn any<'t>(
+    alloc: Global,
+    env: &Environment<'t, '_>,
+    block: &IndexMap<&'t [u8], Entity<'t>>,
+    worst: &mut Least,
+    e: &Expr,
+) -> Result<Checked, AllocError>
+    ensures { IfOk result (λ r. Evaluates worst.old worst.new r (definitions.any (resolved_at (environment env.now) (block_of block.now.entries) (expression e.now)))) }
+{
+    let found = resolved_at(alloc, env, block, worst, e)?;
+    Ok(values::any(worst, found))
+}
+
+/// A condition: an integer or a pointer, else a fault at the keyword.
+pub fn condition<'t>(
+    alloc: Global,
+    env: &Environment<'t, '_>,
+    block: &IndexMap<&'t [u8], Entity<'t>>,
+    worst: &mut Least,
+    at: u64,
+    e: &Expr,
+) -> Result<Checked, AllocError>
+    ensures { IfOk result (λ r. Evaluates worst.old worst.new r (definitions.condition at (resolved_at (environment env.now) (block_of block.now.entries) (expression e.now)))) }
+{
+    let found = resolved_at(alloc, env, block, worst, e)?;
+    Ok(values::condition(worst, at, found))
+}
+
+/// A value that is converted to a type, else a fault at its first token.
+pub fn to_type<'t>(
+    alloc: Global,
+    env: &Environment<'t, '_>,
+    block: &IndexMap<&'t [u8], Entity<'t>>,
+    worst: &mut Least,
+    t: CType,
+    e: &Expr,
+) -> Result<Checked, AllocError>
+    ensures { IfOk result (λ r. Evaluates worst.old worst.new r (definitions.to_type t (start (expression e.now)) (resolved_at (environment env.now) (block_of block.now.entries) (expression e.now)))) }
+{
+    let found = resolved_at(alloc, env, block, worst, e)?;
+    Ok(values::to_type(worst, t, e.start(), found))
+}
+
+/// Any value where there is an expression.
+pub fn any_or_none<'t>(
+    alloc: Global,
+    env: &Environment<'t, '_>,
+    block: &IndexMap<&'t [u8], Entity<'t>>,
+    worst: &mut Least,
+    e: &Option<Expr>,
+) -> Result<Option<Checked>, AllocError>
+    ensures { IfOk result (λ r. MayEvaluate worst.old worst.new r (optional (λ x. definitions.any (resolved_at (environment env.now) (block_of block.now.entries) x)) (option_map expression e.now))) }
+{
+    match e {
+        None => Ok(None),
+        Some(e) => Ok(Some(any(alloc, env, block, worst, e)?)),
+    }
+}
+
+/// A condition where there is an expression.
+pub fn condition_or_none<'t>(
+    alloc: Global,
+    env: &Environment<'t, '_>,
+    block: &IndexMap<&'t [u8], Entity<'t>>,
+    worst: &mut Least,
+    at: u64,
+    e: &Option<Expr>,
+) -> Result<Option<Checked>, AllocError>
+    ensures { IfOk result (λ r. MayEvaluate worst.old worst.new r (optional (λ x. definitions.condition at (resolved_at (environment env.now) (block_of block.now.entries) x)) (option_map expression e.now))) }
+{
+    match e {
+        None => Ok(None),
+        Some(e) => Ok(Some(condition(alloc, env, block, worst, at, e)?)),
+    }
+}
+
+/// A value that is converted to a type, where there is an expression.
+pub fn to_type_or_none<'t>(
+    alloc: Global,
+    env: &Environment<'t, '_>,
+    block: &IndexMap<&'t [u8], Entity<'t>>,
+    worst: &mut Least,
+    t: CType,
+    e: &Option<Expr>,
+) -> Result<Option<Checked>, AllocError>
+    ensures { IfOk result (λ r. MayEvaluate worst.old worst.new r (optional (λ x. definitions.to_type t (start x) (resolved_at (environment env.now) (block_of block.now.entries) x)) (option_map expression e.now))) }
+{
+    match e {
+        None => Ok(None),
+        Some(e) => Ok(Some(to_type(alloc, env, block, worst, t, e)?)),
+    }
+}
+
+/// The value of a `return`: of the function's type, and none where that is void (C11, 6.8.6.4 p1).
+pub fn returned<'t>(
+    alloc: Global,
+    env: &Environment<'t, '_>,
+    block: &IndexMap<&'t [u8], Entity<'t>>,
+    worst: &mut Least,
+    at: u64,
+    e: &Option<Expr>,
+) -> Result<Option<Checked>, AllocError>
+    ensures { IfOk result (λ r. MayEvaluate worst.old worst.new r (definitions.returned (environment env.now) (block_of block.now.entries) at (option_map expression e.now))) }
+{
+    match e {
+        None => {
+            values::unless_holds(worst, is_void(env.returns), at, Fault::TypeClash);
+            Ok(None)
+        }
+        Some(e) => returned_value(alloc, env, block, worst, at, e),
+    }
+}
+
+/// The value of a `return` that has one.
+fn returned_value<'t>(
+    alloc: Global,
+    env: &Environment<'t, '_>,
+    block: &IndexMap<&'t [u8], Entity<'t>>,
+    worst: &mut Least,
+    at: u64,
+    e: &Expr,
+) -> Result<Option<Checked>, AllocError>
+    ensures { IfOk result (λ r. MayEvaluate worst.old worst.new r (definitions.returned (environment env.now) (block_of block.now.entries) at (Some (expression e.now)))) }
+{
+    if is_void(env.returns) {
+        refused_value(alloc, env, block, worst, at, e)?;
+        return Ok(None);
+    }
+    Ok(Some(to_type(alloc, env, block, worst, env.returns, e)?))
+}
+
+/// The faults of a value that a function of type void returns.
+fn refused_value<'t>(
+    alloc: Global,
+    env: &Environment<'t, '_>,
+    block: &IndexMap<&'t [u8], Entity<'t>>,
+    worst: &mut Least,
+    at: u64,
+    e: &Expr,
+) -> Result<(), AllocError>
+    ensures { OnOk result (least_of worst.new ≡ kept (least_of worst.old) ((resolved_at (environment env.now) (block_of block.now.entries) (expression e.now)).faults ++ fault_at at TypeClash)) }
+{
+    resolved_at(alloc, env, block, worst, e)?;
+    worst.add(at, Fault::TypeClash);
+    Ok(())
+}

@@ -1,0 +1,133 @@
+//! The expression of an `__except` (Microsoft C reference, "try-except statement").
+
+ghost use Rattle.std.specs.Prelude.{◌≡◌, IfOk, OnOk, option_map};
+ghost use Rattle.c_checked.specs.Expression.{expression as checked};
+ghost use Rattle.c_checked.specs.Statement.{filter};
+ghost use Rattle.c_resolved.specs.Statements as definitions;
+ghost use Rattle.c_resolved.specs.Statements.{with_number};
+ghost use Rattle.c_expressions.specs.Kept.{least_of, kept};
+ghost use Rattle.c_expressions.specs.Views.{block_of, entity};
+ghost use Rattle.c_locals.specs.Values.{Evaluates, Answers, filter_with, number_after};
+ghost use Rattle.c_locals.specs.Views.{environment, numbering, filter_resolved_at};
+ghost use Rattle.c_syntax.specs.Expression.{expression, start};
+ghost use Rattle.c_types.specs.Views.{typed_node};
+
+use crate::environment::{Environment, Walk, context, filter_context};
+use c_checked::expression::Expr as Checked;
+use c_checked::statement::Filter;
+use c_expressions::expressions::{named, resolve};
+use c_expressions::least::Least;
+use c_expressions::scopes::{Entity, Scopes};
+use c_expressions::values::to_answer;
+use c_syntax::expression::{Expr, Identifier, Literal};
+use c_types::typed::TypedNode;
+use indexmap::IndexMap;
+use std::alloc::{AllocError, Global};
+
+/// Whether a literal is the number 1.
+fn is_one(literal: Literal) -> bool
+    ensures { result ≡ definitions.is_one literal }
+{
+    match literal {
+        Literal::Integer { value, .. } => value == 1,
+        Literal::CharacterConstant(_) => false,
+    }
+}
+
+/// Whether a name means EXCEPTION_EXECUTE_HANDLER.
+fn is_accepting(meaning: Option<Entity<'_>>) -> bool
+    ensures { result ≡ definitions.is_accepting (option_map entity meaning.entry) }
+{
+    match meaning {
+        Some(Entity::BuiltInConstant(value)) => value == 1,
+        _ => false,
+    }
+}
+
+/// Whether a name means EXCEPTION_EXECUTE_HANDLER in a block.
+fn names_accepting<'t>(
+    env: &Environment<'t, '_>,
+    block: &IndexMap<&'t [u8], Entity<'t>>,
+    name: Identifier,
+) -> bool
+    ensures { result ≡ definitions.is_accepting (definitions.entity_at (environment env.now) (block_of block.now.entries) name) }
+{
+    let scopes = Scopes::Inside(block, env.outer);
+    is_accepting(named(&context(env, &scopes), name))
+}
+
+/// Whether a filter is a literal 1 or the accepting constant, parentheses aside.
+pub fn always<'t>(
+    env: &Environment<'t, '_>,
+    block: &IndexMap<&'t [u8], Entity<'t>>,
+    e: &Expr,
+) -> bool
+    ensures { result ≡ definitions.always (environment env.now) (block_of block.now.entries) (expression e.now) }
+{
+    match e {
+        Expr::Literal { literal, .. } => is_one(*literal),
+        Expr::Variable(name) => names_accepting(env, block, *name),
+        Expr::Parentheses { inner, .. } => always(env, block, inner),
+        _ => false,
+    }
+}
+
+/// The type and the node of a filter's expression in a block.
+fn resolved_at<'t>(
+    alloc: Global,
+    env: &Environment<'t, '_>,
+    block: &IndexMap<&'t [u8], Entity<'t>>,
+    worst: &mut Least,
+    e: &Expr,
+) -> Result<Option<TypedNode>, AllocError>
+    ensures found { IfOk result (λ r. option_map typed_node r ≡ (filter_resolved_at (environment env.now) (block_of block.now.entries) (expression e.now)).found) }
+    ensures faults { OnOk result (least_of worst.new ≡ kept (least_of worst.old) (filter_resolved_at (environment env.now) (block_of block.now.entries) (expression e.now)).faults) }
+{
+    let scopes = Scopes::Inside(block, env.outer);
+    resolve(alloc, &filter_context(env, &scopes), worst, e)
+}
+
+/// The answer of a filter's expression.
+fn answer<'t>(
+    alloc: Global,
+    env: &Environment<'t, '_>,
+    block: &IndexMap<&'t [u8], Entity<'t>>,
+    worst: &mut Least,
+    e: &Expr,
+) -> Result<Checked, AllocError>
+    ensures { IfOk result (λ r. Evaluates worst.old worst.new r (definitions.to_answer (start (expression e.now)) (filter_resolved_at (environment env.now) (block_of block.now.entries) (expression e.now)))) }
+{
+    let found = resolved_at(alloc, env, block, worst, e)?;
+    Ok(to_answer(worst, e.start(), found))
+}
+
+/// The answer of a filter, or none where it is always EXCEPTION_EXECUTE_HANDLER.
+pub fn filter_value<'t>(
+    alloc: Global,
+    env: &Environment<'t, '_>,
+    block: &IndexMap<&'t [u8], Entity<'t>>,
+    worst: &mut Least,
+    e: &Expr,
+) -> Result<Option<Checked>, AllocError>
+    ensures { IfOk result (λ r. Answers worst.old worst.new r (definitions.resolve_filter (environment env.now) (block_of block.now.entries) (expression e.now))) }
+{
+    if always(env, block, e) {
+        return Ok(None);
+    }
+    Ok(Some(answer(alloc, env, block, worst, e)?))
+}
+
+/// The filter of an `__except` by its answer, which has the next number.
+pub fn numbered(walk: &mut Walk, answer: Option<Checked>) -> Result<Filter, AllocError>
+    ensures filter { IfOk result (λ f. filter f ≡ filter_with walk.old.number (option_map checked answer)) }
+    ensures counts { OnOk result (numbering walk.new ≡ with_number (numbering walk.old) (number_after walk.old.number (option_map checked answer))) }
+    ensures faults { walk.new.worst ≡ walk.old.worst }
+{
+    match answer {
+        None => Ok(Filter::Always),
+        Some(value) => {
+            let number = walk.next_number()?;
+            Ok(Filter::Funclet { number, value })
+        }
+    }
+}

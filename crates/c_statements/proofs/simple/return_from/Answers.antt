@@ -1,0 +1,24 @@
+use Rattle.std.proofs.Common.{[], ◌∷◌, refl, ap, ◌∙◌}
+use Rattle.std.specs.Prelude.{option_map}
+use Rattle.c_checked.specs.Statement as checked
+use Rattle.c_expressions.proofs.Kept.{kept_more}
+use Rattle.c_expressions.specs.Kept.{least_of}
+use Rattle.c_expressions.specs.Views.{block_of}
+use Rattle.c_locals.specs.Views.{environment, reach}
+use Rattle.c_resolved.specs.declared.fault.Fault.TheVariants.{JumpOutOfFinally}
+use Rattle.c_resolved.specs.Statements.{jump, returned}
+use Rattle.c_statements.proofs.simple.return_from.Goals as goal
+use Rattle.c_syntax.specs.Expression.{expression}
+
+pub returns : goal.returns
+returns c =
+    let v = c.in_ok-value.ensures in
+    let a = c.args in
+    record {
+      done = ap (λ s. s ∷ []) (c.return_of.ensures ∙ ap checked.Return v.value);
+      counts = refl;
+      block = refl;
+      faults =
+          kept_more (least_of a.walk.now.worst) _ _ (jump (reach a.env.now.function) JumpOutOfFinally a.at)
+              (returned (environment a.env.now) (block_of a.block.now.entries) a.at (option_map expression a.e.now)).faults c.jump.ensures v.faults;
+    }

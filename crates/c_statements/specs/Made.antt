@@ -1,0 +1,37 @@
+-- What a walk made of a statement, and what it carries on.
+use Rattle.std.specs.Prelude.{◌≡◌, List, [], ◌∷◌, ◌++◌, map}
+use Rattle.c_checked.specs.declared.expression.Expr.{Expr}
+use Rattle.c_checked.specs.declared.statement.Stmt.{Stmt}
+use Rattle.c_checked.specs.Expression.{expression}
+use Rattle.c_checked.specs.Statement.{statement}
+use Rattle.c_expressions.specs.Kept.{least_of, kept}
+use Rattle.c_locals.specs.declared.environment.Walk.{Walk}
+use Rattle.c_locals.specs.Views.{numbering}
+use Rattle.c_resolved.specs.Scopes.{Scope}
+use Rattle.c_resolved.specs.Statements.{Value, ResolvedStatements, only}
+
+-- one statement, in a block whose names stay the same
+pub record MakesOne (b : Scope) (before after : Walk) (made : Stmt) (r : ResolvedStatements) : Type 0 where
+  pub done : statement made ∷ [] ≡ r.done
+  pub counts : numbering after ≡ r.counts
+  pub block : b ≡ r.block
+  pub faults : least_of after.worst ≡ kept (least_of before.worst) r.faults
+
+-- the statement that is a part of another one
+pub record MakesPart (before after : Walk) (made : Stmt) (r : ResolvedStatements) : Type 0 where
+  pub done : statement made ≡ only r.done
+  pub counts : numbering after ≡ r.counts
+  pub faults : least_of after.worst ≡ kept (least_of before.worst) r.faults
+
+-- the statements of a block within another statement
+pub record MakesBlock (before after : Walk) (made : List Stmt) (r : ResolvedStatements) : Type 0 where
+  pub done : map statement made ≡ r.done
+  pub counts : numbering after ≡ r.counts
+  pub faults : least_of after.worst ≡ kept (least_of before.worst) r.faults
+
+-- a condition, and then the statement that it governs
+pub record MakesGoverned (before after : Walk) (e : Expr) (made : Stmt) (v : Value) (r : ResolvedStatements) : Type 0 where
+  pub condition : expression e ≡ v.value
+  pub done : statement made ≡ only r.done
+  pub counts : numbering after ≡ r.counts
+  pub faults : least_of after.worst ≡ kept (least_of before.worst) (v.faults ++ r.faults)
