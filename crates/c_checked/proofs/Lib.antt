@@ -1,0 +1,2 @@
+pub mod ExpressionTrees
+pub mod StatementTrees

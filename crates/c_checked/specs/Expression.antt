@@ -9,9 +9,10 @@ use Rattle.c_checked.specs.declared.expression.Conversion.{Conversion}
 use Rattle.c_operations.specs.declared.built_in.BuiltIn.{BuiltIn}
 use Rattle.c_checked.specs.declared.expression.Fixity.{Fixity}
 use Rattle.c_checked.specs.declared.expression.Expr.{Expr}
+use Rattle.c_checked.specs.declared.expression.Lvalue.{Lvalue as Lvalue'}
 use Rattle.c_checked.specs.declared.expression.Node.{Node as Node'}
 use Rattle.c_checked.specs.declared.expression.Lvalue.TheOpen as opened
-use Rattle.c_checked.specs.declared.expression.Lvalue.TheFolds.{fold-Node}
+use Rattle.c_checked.specs.declared.expression.Lvalue.TheFolds.{fold-Lvalue, fold-Node}
 
 mutual
   -- a node, and how its value is converted
@@ -84,6 +85,9 @@ lvalue_layer (opened.Element access a i) = Element access a.value i.value
 
 abbrev pub expression_layer : opened.Expr-F Lvalue Node Expression → Expression
 expression_layer e = On e.node e.conversion
+
+abbrev pub lvalue : Lvalue' → Lvalue
+lvalue = fold-Lvalue Lvalue Node Expression lvalue_layer node_layer expression_layer
 
 abbrev pub node : Node' → Node
 node = fold-Node Lvalue Node Expression lvalue_layer node_layer expression_layer

@@ -184,6 +184,11 @@ constant_fits Long n = nat_lt n (2 ^ 64)
 abbrev pub is_divisor : ℕ → Bool
 is_divisor n = nat_lt 0 n && nat_lt n (2 ^ 63)
 
+-- a constant of the size of an operand
+abbrev pub amount_fits : Option Size → ℕ → Bool
+amount_fits None n = false
+amount_fits (Some z) n = constant_fits z n
+
 -- a value of a place is changed so, and is a value of the place again
 abbrev pub change_fits : Option Size → Conversion → Operation → Option Size → Conversion → Bool
 change_fits place before o amount after =
@@ -202,7 +207,9 @@ abbrev mutual
   node_sound s (nodes.AddressOf p) = lvalue_sound s p && is_in_memory p
   node_sound s (nodes.Assign p e) = lvalue_sound s p && expression_sound s e && same_sizes (expression_size s e) (lvalue_size s p)
   node_sound s (nodes.CompoundAssign p before o e after) = lvalue_sound s p && expression_sound s e && change_fits (lvalue_size s p) before o (expression_size s e) after
-  node_sound s (nodes.Increment m p before o n after) = lvalue_sound s p && change_fits (lvalue_size s p) before o (size_after before (lvalue_size s p)) after
+  node_sound s (nodes.Increment m p before o n after) =
+      let operand = size_after before (lvalue_size s p) in
+      lvalue_sound s p && change_fits (lvalue_size s p) before o operand after && amount_fits operand n
   node_sound s (nodes.Unary o e) = expression_sound s e && is_number (node_size s (nodes.Unary o e))
   node_sound s (nodes.Binary o e f) = expression_sound s e && expression_sound s f && is_number (node_size s (nodes.Binary o e f))
   node_sound s (nodes.PointerDifference n e f) = expression_sound s e && expression_sound s f && is_size Long (expression_size s e) && is_size Long (expression_size s f) && is_divisor n

@@ -9,4 +9,5 @@ pub mod Bodies
 pub mod ExternalDeclarations
 pub mod Nodes
 pub mod Beyond
+pub mod ProgramOrFault
 pub mod Programs

@@ -11,6 +11,7 @@ pub mod counts;
 pub mod functions;
 pub mod globals;
 pub mod initialisers;
+pub mod laws;
 pub mod program;
 
 pub use c_parse_expr::refusal::{Count, ParseErr};

@@ -16,7 +16,7 @@ use Rattle.c_checked.specs.declared.expression.Conversion.TheVariants.{Kept}
 use Rattle.c_checked.specs.declared.expression.Fixity.{Fixity}
 use Rattle.c_checked.specs.Expression as nodes
 use Rattle.c_checked.specs.Expression.{Expression, Lvalue}
-use Rattle.c_checked.specs.Sound.{Scope, is_number, both, same_sizes, can_convert, size_after, change_fits, unary_takes, takes, is_in_memory, node_size, node_sound, lvalue_size, expression_size, expression_sound}
+use Rattle.c_checked.specs.Sound.{Scope, is_number, both, same_sizes, can_convert, size_after, constant_fits, amount_fits, change_fits, unary_takes, takes, is_in_memory, node_size, node_sound, lvalue_size, expression_size, expression_sound}
 use Rattle.c_syntax.specs.declared.expression.Base.TheVariants.{LongLong}
 use Rattle.c_syntax.specs.declared.expression.CType.{CType}
 use Rattle.c_syntax.specs.declared.operator.Arithmetic.{Arithmetic}
@@ -30,7 +30,7 @@ use Rattle.c_syntax.specs.declared.operator.UnaryOperator.TheVariants as unary
 use Rattle.c_resolved.specs.Types.{plain, pointer_to, pointed, is_pointer, is_void, is_integer, is_scalar, is_void_pointer, is_sized_pointer, same_base, same_type, sort_of, width_of, access_of, size_of, bytes_in, promoted, common, conversion}
 use Rattle.c_resolved.specs.Operators.{TypedNode, typed, only_if, int, void_pointer, as_is, as_type, as_index, can_become, operation_of, operation_in, is_shift, working_type, right_operand, on_integers, long_operation, moved, sum, difference, arithmetic_of, relation_of, compared, are_comparable, comparison_of, binary_of, lvalue_of, with_lvalue, address, unary_of, cast_of, element_of, assigned, is_additive, compound_assigned, increment_operator, incremented, branch_type, as_branch, chosen, conditional_of, comma_of}
 use Rattle.c_resolved.proofs.Conversions.{and_left, and_right, conversion_makes}
-use Rattle.c_resolved.proofs.TypeFacts.{void_size, size_in_memory_is, bytes_divide, pointer_size, void_not_scalar, pointer_scalar, integer_scalar, pointer_to_pointer, pointed_scalar, promoted_scalar, promoted_size, common_scalar, can_become_scalar, comparable_scalar}
+use Rattle.c_resolved.proofs.TypeFacts.{void_size, size_in_memory_is, bytes_divide, bytes_fit, one_fits, pointer_size, void_not_scalar, pointer_scalar, integer_scalar, pointer_to_pointer, pointed_scalar, promoted_scalar, promoted_size, common_scalar, can_become_scalar, comparable_scalar}
 use Rattle.c_resolved.proofs.Operands.{IsGood, GoodIf, HasSize, and_true, only_if_good, if_good, typed_good, pointer_good, good_size, as_is_has, as_type_has, as_index_has, resized, pointer_has, as_is_sound, has_number, has_size, alike_sizes, binary_has, with_lvalue_good}
 
 -- ---- operators on integers
@@ -316,13 +316,15 @@ compound_assigned_good S o a b g h =
     (λ e. tt))
 
 increment_place_good : (S : Scope) (m : Fixity) (o : Operation) (n : ℕ) (after : Conversion) (y : Size) (a : TypedNode) → IsGood S a → is_scalar a.type ≡ true → size_of a.type ≡ y
-    → takes o (Some y) (Some y) ≡ Some y → can_convert after (Some y) ≡ true → size_after after (Some y) ≡ Some (size_of a.type)
+    → takes o (Some y) (Some y) ≡ Some y → can_convert after (Some y) ≡ true → size_after after (Some y) ≡ Some (size_of a.type) → constant_fits y n ≡ true
     → GoodIf S (with_lvalue (lvalue_of a.node) (λ p. typed a.type (nodes.Increment m p Kept o n after)))
-increment_place_good S m o n after y a g scalar same t c u =
+increment_place_good S m o n after y a g scalar same t c u small =
     with_lvalue_good S a.node (Some (size_of a.type)) (λ p. typed a.type (nodes.Increment m p Kept o n after)) g.sound (good_size S a g scalar)
     (λ p sound sized. typed_good S a.type (nodes.Increment m p Kept o n after) scalar
+    (and_true
     (and_true sound
     (change_has (lvalue_size S p) (lvalue_size S p) Kept after o (size_of a.type) y y sized (sized ∙ ap (λ z. Some z) same) refl (ap (λ z. Some z) same) t c u))
+    (ap (λ z. amount_fits z n) (sized ∙ ap (λ z. Some z) same) ∙ small))
     sized)
 
 pub incremented_good : (S : Scope) (m : Fixity) (i : Increment) (a : TypedNode) → IsGood S a → GoodIf S (incremented m i a)
@@ -330,14 +332,14 @@ incremented_good S m i a g =
     if_good S (is_pointer a.type) _ _
     (λ p. if_good S (is_sized_pointer a.type) _ _
     (λ e. increment_place_good S m (long_operation (increment_operator i)) (bytes_in (pointed a.type)) Kept sizes.Long a g (pointer_scalar a.type p) (pointer_size a.type p)
-    (takes_alike (increment_operator i) signs.Unsigned sizes.Long) refl (ap (λ z. Some z) (sym (pointer_size a.type p))))
+    (takes_alike (increment_operator i) signs.Unsigned sizes.Long) refl (ap (λ z. Some z) (sym (pointer_size a.type p))) (bytes_fit (width_of (pointed a.type))))
     (λ e. tt))
     (λ p. if_good S (is_integer a.type) _ _
     (λ e.
     let t = promoted a.type in
     let back = conversion_makes t a.type in
     increment_place_good S m (operation_in (increment_operator i) t) 1 (conversion t a.type) (size_of t) a g (integer_scalar a.type e) (sym (promoted_size a.type e))
-    (takes_alike (increment_operator i) (sort_of t) (size_of t)) back.0 back.1)
+    (takes_alike (increment_operator i) (sort_of t) (size_of t)) back.0 back.1 (one_fits (size_of t)))
     (λ e. tt))
 
 -- ---- conditional and comma

@@ -7,7 +7,7 @@ use Rattle.seh_num.specs.declared.width.Width.TheVariants.{W8, W16, W32, W64}
 use Rattle.seh_num.specs.Widths.{bytes_of}
 use Rattle.c_operations.specs.declared.operation.Size.{Size}
 use Rattle.c_operations.specs.declared.operation.Size.TheVariants as sizes
-use Rattle.c_checked.specs.Sound.{size_in_memory, is_divisor}
+use Rattle.c_checked.specs.Sound.{size_in_memory, constant_fits, is_divisor}
 use Rattle.c_syntax.specs.declared.expression.Base.{Base}
 use Rattle.c_syntax.specs.declared.expression.Base.TheVariants.{Void, Char, UnsignedChar, Short, UnsignedShort, Int, Unsigned, LongLong, UnsignedLongLong}
 use Rattle.c_syntax.specs.declared.expression.CType.{CType}
@@ -43,6 +43,16 @@ bytes_divide W8 = refl
 bytes_divide W16 = refl
 bytes_divide W32 = refl
 bytes_divide W64 = refl
+
+pub bytes_fit : (w : Width) → constant_fits sizes.Long (bytes_of w) ≡ true
+bytes_fit W8 = refl
+bytes_fit W16 = refl
+bytes_fit W32 = refl
+bytes_fit W64 = refl
+
+pub one_fits : (z : Size) → constant_fits z 1 ≡ true
+one_fits sizes.Int = refl
+one_fits sizes.Long = refl
 
 pub pointer_size : (t : CType) → is_pointer t ≡ true → size_of t ≡ sizes.Long
 pointer_size t h = ap (λ b. size_of_width (if b then W64 else base_width t.base)) h

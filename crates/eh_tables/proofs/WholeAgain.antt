@@ -7,7 +7,8 @@ use Rattle.pe_image.specs.Image.{Image}
 use Rattle.eh_tables.specs.declared.range.RuntimeFunction.{RuntimeFunction}
 use Rattle.eh_tables.specs.declared.scope.ScopeRecord.{ScopeRecord}
 use Rattle.eh_tables.specs.declared.refusal.TableErr.TheVariants as refusals
-use Rattle.eh_tables.specs.Answer.{Table, ◌>>=◌, unless, prepend}
+use Rattle.pe_image.specs.Answer.{◌>>=◌, unless, prepend}
+use Rattle.eh_tables.specs.Answer.{Table}
 use Rattle.eh_tables.specs.Infos.{Info, info}
 use Rattle.eh_tables.specs.Tables.{Entry, entry, entries, parents}
 use Rattle.eh_tables.specs.ReadAgain.{WrittenEntry, HasScopes, IsWritten, AreInOrder, as_read, ranges_of, has_c_handler, parent_of, info_written, TableIsReadAgain}

@@ -1,10 +1,12 @@
 -- Which handler is the C handler: one whose code is a jump through the slot of `__C_specific_handler`.
-use Rattle.std.specs.Prelude.{ℕ, ◌+◌, ◌/◌, ◌%◌, ◌^◌, ◌-◌, Bool, true, false, ◌&&◌, ◌==◌, nat_lt, if◌then◌else◌, List, [], ◌∷◌, drop, slice_index, option_and_then, Option, Some, None}
+use Rattle.std.specs.Prelude.{ℕ, ◌+◌, ◌/◌, ◌%◌, ◌^◌, ◌-◌, Bool, true, false, ◌&&◌, ◌==◌, nat_lt, if◌then◌else◌, List, drop, slice_index, option_and_then, Option, Some, None}
+use Rattle.std.specs.Option.{option_map_or}
 use Rattle.std.specs.Str.{bytes_eq}
 use Rattle.host_layout.specs.declared.name.TheConstants.{C_SPECIFIC_HANDLER}
 use Rattle.pe_image.specs.Field.{field}
 use Rattle.pe_image.specs.Image.{Image, stored}
-use Rattle.pe_image.specs.Imports.{Import, imports_of}
+use Rattle.pe_image.specs.Bound.{bound_name}
+use Rattle.pe_image.specs.Imports.{imports_of}
 
 -- ---- the jump (Intel manual, volume 2, JMP, FF /4, with a displacement from the next instruction)
 
@@ -35,23 +37,10 @@ behind_rex image rva bytes false = plain_slot rva bytes
 abbrev pub jump_slot : Image → ℕ → Option ℕ
 jump_slot image rva = option_and_then (λ bytes. behind_rex image rva bytes (has_rex bytes)) (stored image.sections rva 6)
 
--- ---- the name that a slot is bound to, which is that of its last import
+-- ---- the name that the slot is bound to
 
 abbrev pub is_c_name : List ℕ → Bool
 is_c_name name = bytes_eq name C_SPECIFIC_HANDLER.now
 
-abbrev pub bound_at : ℕ → Bool → Import → Bool → Bool
-bound_at slot others i true = is_c_name i.name
-bound_at slot others i false = others
-
--- whether the imports, behind those that say so far, bind a slot to the C handler
-abbrev pub binds : ℕ → Bool → List Import → Bool
-binds slot found [] = found
-binds slot found (i ∷ is) = binds slot (bound_at slot found i (i.slot == slot)) is
-
-abbrev pub binds_slot : List Import → Option ℕ → Bool
-binds_slot is None = false
-binds_slot is (Some slot) = binds slot false is
-
 unfoldable pub is_c_handler : Image → ℕ → Bool
-is_c_handler image rva = binds_slot (imports_of image) (jump_slot image rva)
+is_c_handler image rva = option_map_or is_c_name (option_and_then (λ slot. bound_name slot (imports_of image)) (jump_slot image rva)) false

@@ -3,7 +3,8 @@ use Rattle.std.specs.Prelude.{ℕ, zero, suc, ◌+◌, ◌/◌, Bool, ◌&&◌, 
 use Rattle.pe_image.specs.Field.{field}
 use Rattle.eh_tables.specs.declared.scope.ScopeRecord.{ScopeRecord}
 use Rattle.eh_tables.specs.declared.refusal.TableErr.TheVariants as refusals
-use Rattle.eh_tables.specs.Answer.{Table, ◌>>=◌, unless}
+use Rattle.pe_image.specs.Answer.{◌>>=◌, unless}
+use Rattle.eh_tables.specs.Answer.{Table}
 
 abbrev pub scope_record : List ℕ → ScopeRecord
 scope_record bytes = record { begin = field 4 bytes 0; end = field 4 bytes 4; handler_address = field 4 bytes 8; jump_target = field 4 bytes 12 }

@@ -6,7 +6,8 @@ use Rattle.pe_image.specs.Image.{Image, stored}
 use Rattle.eh_tables.specs.declared.range.RuntimeFunction.{RuntimeFunction}
 use Rattle.eh_tables.specs.declared.refusal.TableErr.{TableErr}
 use Rattle.eh_tables.specs.declared.refusal.TableErr.TheVariants as refusals
-use Rattle.eh_tables.specs.Answer.{Table, ◌>>=◌, unless, or_refused, prepend}
+use Rattle.pe_image.specs.Answer.{◌>>=◌, unless, or_refused, prepend}
+use Rattle.eh_tables.specs.Answer.{Table}
 use Rattle.eh_tables.specs.Infos.{Info, info, range_at}
 
 -- ---- an entry

@@ -1,6 +1,7 @@
 //! Unwind codes, read from their slots.
 
 ghost use Rattle.std.specs.Prelude.{◌≡◌, ◌≤◌, ◌<◌, ◌+◌, ◌*◌, ◌^◌, length, IfSome};
+ghost use Rattle.eh_tables.specs.declared.code.UnwindOperation.TheVariants.{Allocate, Save, SaveVector};
 ghost use Rattle.eh_tables.specs.Codes as spec;
 
 use crate::code::{UnwindCode, UnwindOperation};
@@ -82,20 +83,32 @@ fn two_slots(rest: &[u8]) -> Option<u32>
     }
 }
 
+fn allocate(size: u32) -> UnwindOperation
+    ensures { result ≡ Allocate size }
+{
+    UnwindOperation::Allocate { size }
+}
+
+fn save(register: u8, offset: u32) -> UnwindOperation
+    ensures { result ≡ Save register offset }
+{
+    UnwindOperation::Save { register, offset }
+}
+
+fn save_vector(register: u8, offset: u32) -> UnwindOperation
+    ensures { result ≡ SaveVector register offset }
+{
+    UnwindOperation::SaveVector { register, offset }
+}
+
 /// UWOP_ALLOC_LARGE.
 fn large(info: u8, rest: &[u8]) -> Option<(UnwindOperation, usize)>
     ensures value { result ≡ spec.large info rest.now }
     ensures fits { IfSome result (λ x. 2 * x.1 ≤ length rest.now) }
 {
     match info {
-        0 => {
-            let n = one_slot(rest)?;
-            Some((UnwindOperation::Allocate { size: 8 * n }, 1))
-        }
-        1 => {
-            let size = two_slots(rest)?;
-            Some((UnwindOperation::Allocate { size }, 2))
-        }
+        0 => Some((allocate(8 * one_slot(rest)?), 1)),
+        1 => Some((allocate(two_slots(rest)?), 2)),
         _ => None,
     }
 }
@@ -110,64 +123,13 @@ fn operation(framed: bool, op: u8, info: u8, rest: &[u8]) -> Option<(UnwindOpera
     match op {
         0 => Some((UnwindOperation::Push { register: info }, 0)),
         1 => large(info, rest),
-        2 => {
-            let size = 8 * info as u32 + 8;
-            Some((UnwindOperation::Allocate { size }, 0))
-        }
-        3 => {
-            if framed {
-                Some((UnwindOperation::SetFrame, 0))
-            } else {
-                None
-            }
-        }
-        4 => {
-            let offset = 8 * one_slot(rest)?;
-            Some((
-                UnwindOperation::Save {
-                    register: info,
-                    offset,
-                },
-                1,
-            ))
-        }
-        5 => {
-            let offset = two_slots(rest)?;
-            Some((
-                UnwindOperation::Save {
-                    register: info,
-                    offset,
-                },
-                2,
-            ))
-        }
-        8 => {
-            let offset = 16 * one_slot(rest)?;
-            Some((
-                UnwindOperation::SaveVector {
-                    register: info,
-                    offset,
-                },
-                1,
-            ))
-        }
-        9 => {
-            let offset = two_slots(rest)?;
-            Some((
-                UnwindOperation::SaveVector {
-                    register: info,
-                    offset,
-                },
-                2,
-            ))
-        }
-        10 => {
-            if info < 2 {
-                Some((UnwindOperation::MachineFrame { info }, 0))
-            } else {
-                None
-            }
-        }
+        2 => Some((allocate(8 * info as u32 + 8), 0)),
+        3 if framed => Some((UnwindOperation::SetFrame, 0)),
+        4 => Some((save(info, 8 * one_slot(rest)?), 1)),
+        5 => Some((save(info, two_slots(rest)?), 2)),
+        8 => Some((save_vector(info, 16 * one_slot(rest)?), 1)),
+        9 => Some((save_vector(info, two_slots(rest)?), 2)),
+        10 if info < 2 => Some((UnwindOperation::MachineFrame { info }, 0)),
         _ => None,
     }
 }

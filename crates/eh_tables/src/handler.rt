@@ -1,12 +1,11 @@
 //! Which handler is the C handler.
 
-ghost use Rattle.std.specs.Prelude.{◌≡◌, ◌≤◌, ◌+◌, ◌<◌, ◌^◌, length, false};
-ghost use Rattle.pe_image.specs.Imports.{Import, imports_of};
+ghost use Rattle.std.specs.Prelude.{◌≡◌, ◌≤◌, ◌+◌, ◌<◌, ◌^◌, length};
 ghost use Rattle.eh_tables.specs.Handler as spec;
 
 use crate::fields::u32_at;
 use host_layout::name::C_SPECIFIC_HANDLER;
-use pe_image::{ImageView, Import};
+use pe_image::ImageView;
 
 /// A number of 32 bits, extended by its sign to 64.
 fn extended(d: u32) -> u64
@@ -51,27 +50,17 @@ fn is_c_name(name: &[u8]) -> bool
     name == C_SPECIFIC_HANDLER
 }
 
-/// Whether the last import that has a slot is the C handler.
-fn binds(imports: &[Import<'_>], slot: u64) -> bool
-    ensures { result ≡ spec.binds slot false imports.now }
-{
-    let mut found = false;
-    for import in imports {
-        if import.slot() == slot {
-            found = is_c_name(import.name());
-        }
-    }
-    found
-}
-
 /// Whether the handler at an address is the C handler: its code is a jump through the slot that is
 /// bound to `__C_specific_handler`.
 #[tactic(auto, unfolding(crate::specs::Handler::is_c_handler))]
 pub fn is_c_handler(image: &ImageView<'_>, rva: u32) -> bool
     ensures { result ≡ spec.is_c_handler image.now rva }
 {
-    match jump_slot(image, rva) {
-        Some(slot) => binds(image.imports(), slot),
+    let Some(slot) = jump_slot(image, rva) else {
+        return false;
+    };
+    match image.bound_name(slot) {
+        Some(name) => is_c_name(name),
         None => false,
     }
 }

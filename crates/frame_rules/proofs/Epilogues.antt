@@ -18,7 +18,8 @@ use Rattle.x64_machine.specs.declared.context.Context.{Context}
 use Rattle.eh_tables.specs.declared.code.UnwindOperation.{UnwindOperation}
 use Rattle.eh_tables.specs.Infos.{Info}
 use Rattle.virtual_unwind.specs.Contexts.{is_nonvolatile, get, set, rsp, with_rsp, rsp_raised}
-use Rattle.virtual_unwind.specs.Undone.{Answer, ◌>>=◌, word, popped}
+use Rattle.pe_image.specs.Answer.{◌>>=◌}
+use Rattle.virtual_unwind.specs.Undone.{Answer, word, popped}
 use Rattle.virtual_unwind.specs.Tail.{is_of, base_value, left_by, left}
 use Rattle.virtual_unwind.specs.CallerOf.{sets_frame}
 use Rattle.virtual_unwind.proofs.Registers.{get-set_same, get-set_other, get-rsp_same, get-rsp_other, length-set}

@@ -8,7 +8,8 @@ use Rattle.eh_tables.specs.declared.code.UnwindOperation.{UnwindOperation}
 use Rattle.eh_tables.specs.declared.code.UnwindOperation.TheVariants.{Push, Allocate, SetFrame, Save, SaveVector, MachineFrame}
 use Rattle.eh_tables.specs.Infos.{Info}
 use Rattle.virtual_unwind.specs.Contexts.{is_nonvolatile, get, set as with_register, rsp, with_rsp, rsp_raised}
-use Rattle.virtual_unwind.specs.Undone.{Answer, readable, word, below_frame, Undo, going, undone_one, undone, all_undone, returned, returned_or, popped, ◌>>=◌}
+use Rattle.pe_image.specs.Answer.{◌>>=◌}
+use Rattle.virtual_unwind.specs.Undone.{Answer, readable, word, below_frame, Undo, going, undone_one, undone, all_undone, returned, returned_or, popped}
 use Rattle.virtual_unwind.specs.CallerOf.{at_start}
 use Rattle.virtual_unwind.proofs.Registers.{get-set_same, get-set_other, get-rsp_same, get-rsp_other, length-set as kept-set}
 use Rattle.frame_rules.specs.Codes.{depth, allocation, are_apart, may_save, is_allowed, are_allowed, is_saved, saves}

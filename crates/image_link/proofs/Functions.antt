@@ -7,7 +7,8 @@ use Rattle.pe_write.proofs.Programs.{xdata_stands, pdata_stands}
 use Rattle.pe_write.proofs.Rows.{four_is}
 use Rattle.eh_tables.specs.declared.range.RuntimeFunction.{RuntimeFunction}
 use Rattle.eh_tables.specs.declared.refusal.TableErr.TheVariants as refusals
-use Rattle.eh_tables.specs.Answer.{Table, ◌>>=◌, unless, or_refused, prepend}
+use Rattle.pe_image.specs.Answer.{◌>>=◌, unless, or_refused, prepend}
+use Rattle.eh_tables.specs.Answer.{Table}
 use Rattle.eh_tables.specs.Codes.{operation}
 use Rattle.eh_tables.specs.Infos.{Info, version, flags, are_flags, is_framed, slots_of, slots_end, trailer_size, stored_info, is_c, stored_scope_records, info_of, info}
 use Rattle.eh_tables.specs.Codes as slots

@@ -26,7 +26,7 @@ use Rattle.seh_ir.specs.declared.scope.Scope.{Scope}
 use Rattle.seh_ir.specs.declared.scope.ExceptionSource.TheVariants.{OfFilter}
 use Rattle.seh_ir.specs.declared.scope.Way.TheVariants.{Nowhere, Jumps, Unwinds}
 use Rattle.seh_ir.specs.declared.scope.Way as jumps
-use Rattle.seh_ir.specs.Sizes.{expression_size, statement_size, statements_size, statement_notes, statements_notes}
+use Rattle.ir_sizes.specs.Sizes.{expression_size, statement_size, statements_size, statement_notes, statements_notes}
 use Rattle.seh_ir.specs.Expressions.{expression_code}
 use Rattle.ir_follows.specs.Fits.{ExpressionFits}
 use Rattle.ir_follows.specs.Weights.{expression_weight, optional_weight, statement_weight, statements_weight}

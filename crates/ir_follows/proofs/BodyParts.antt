@@ -22,7 +22,7 @@ use Rattle.seh_ir.specs.declared.scope.Scope.{Scope}
 use Rattle.seh_ir.specs.declared.scope.Way.TheVariants.{Nowhere, Jumps, Unwinds}
 use Rattle.seh_ir.specs.declared.scope.Way as jumps
 use Rattle.seh_ir.specs.Scope as scopes
-use Rattle.seh_ir.specs.Sizes.{expression_size, discarded_size, declared_size}
+use Rattle.ir_sizes.specs.Sizes.{expression_size, discarded_size, declared_size}
 use Rattle.seh_ir.specs.Expressions.{copy, expression_code}
 use Rattle.seh_ir.specs.Statements.{jump_code, return_code, leave_code, discarded_code}
 use Rattle.ir_follows.specs.Weights.{expression_weight, optional_weight}

@@ -18,7 +18,7 @@ use Rattle.linear_machine.specs.Frames.{BodyName, Store, set_local}
 use Rattle.linear_runs.proofs.Stretch.{at, Site, conf, Ways, Price, price, found, more, chosen, then_normal}
 use Rattle.seh_ir.specs.declared.scope.Scope.{Scope}
 use Rattle.seh_ir.specs.Scope.{except_names, in_try, in_except, in_guarded}
-use Rattle.seh_ir.specs.Sizes.{expression_size, discarded_size, declared_size, all_declared_size, returned_size, statement_size, statements_size, statement_notes, statements_notes}
+use Rattle.ir_sizes.specs.Sizes.{expression_size, discarded_size, declared_size, all_declared_size, returned_size, statement_size, statements_size, statement_notes, statements_notes}
 use Rattle.seh_ir.specs.Regions.{except_kind, region}
 use Rattle.seh_ir.specs.Expressions.{expression_code}
 use Rattle.ir_follows.specs.Weights.{expression_weight, optional_weight, declared_weight, all_declared_weight, statement_weight, statements_weight}

@@ -18,7 +18,7 @@ use Rattle.linear_runs.proofs.Walks.{Around, around_part, holds_yes}
 use Rattle.seh_ir.specs.declared.scope.Scope.{Scope}
 use Rattle.seh_ir.specs.Scope.{except_names, in_try, in_except, in_guarded}
 use Rattle.seh_ir.specs.Scope as scopes
-use Rattle.seh_ir.specs.Sizes.{expression_size, discarded_size, condition_size, statement_size, statement_notes}
+use Rattle.ir_sizes.specs.Sizes.{expression_size, discarded_size, condition_size, statement_size, statement_notes}
 use Rattle.seh_ir.specs.Expressions.{expression_code}
 use Rattle.ir_follows.specs.Weights.{expression_weight, optional_weight, statement_weight}
 use Rattle.ir_follows.proofs.Stores.{Shape}

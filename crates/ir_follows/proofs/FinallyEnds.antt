@@ -31,7 +31,7 @@ use Rattle.seh_ir.specs.Scope.{finally_names, finally_scope, in_guarded}
 use Rattle.seh_ir.specs.declared.scope.Way as jumps
 use Rattle.seh_ir.specs.Scope as scopes
 use Rattle.seh_ir.specs.Regions.{region}
-use Rattle.seh_ir.specs.Sizes.{statements_notes}
+use Rattle.ir_sizes.specs.Sizes.{statements_notes}
 use Rattle.ir_follows.specs.Weights.{statements_weight}
 use Rattle.ir_follows.proofs.Stores.{Shape}
 use Rattle.ir_follows.specs.Places.{HasAt}

@@ -24,7 +24,7 @@ use Rattle.linear_runs.proofs.Walks.{handlers_below, leaves}
 use Rattle.seh_ir.specs.declared.scope.Names.{Names}
 use Rattle.seh_ir.specs.declared.scope.Scope.{Scope}
 use Rattle.seh_ir.specs.declared.scope.Way.TheVariants.{Nowhere, Jumps}
-use Rattle.seh_ir.specs.Sizes.{statements_size, statements_notes}
+use Rattle.ir_sizes.specs.Sizes.{statements_size, statements_notes}
 use Rattle.seh_ir.specs.Expressions.{constant}
 use Rattle.seh_ir.specs.Lowered.{own_locals, scope_of}
 use Rattle.ir_follows.specs.Weights.{statements_weight}

@@ -25,7 +25,7 @@ use Rattle.linear_machine.specs.Instructions.{is_constant}
 use Rattle.linear_machine.specs.Run.{exec}
 use Rattle.linear_runs.proofs.Stretch.{Part, at, Site, conf, Ways, price, Claim, value_ways, more, first, then_value, still, fetch, prefix_self}
 use Rattle.seh_ir.specs.declared.scope.Names.{Names}
-use Rattle.seh_ir.specs.Sizes.{read_size, conversion_size, expression_size, locate_size}
+use Rattle.ir_sizes.specs.Sizes.{read_size, conversion_size, expression_size, locate_size}
 use Rattle.seh_ir.specs.Expressions.{constant, choice_code, conversion_code, expression_code, read_code, locate_code}
 use Rattle.ir_follows.specs.Fits.{ExpressionFits, LvalueFits}
 use Rattle.ir_follows.specs.Weights.{expression_weight, lvalue_weight}
@@ -172,20 +172,20 @@ module _ (program : Program) (linear : LinearProgram) (pace body : ℕ) (same_gl
 
     -- ---- 0 or another number
 
-    pub choice_then : (v zero' other : ℕ) (b : Bool) (ts : List ℕ) (pc : ℕ) (st : State) (store : Store) (t x s o : ℕ) → nat_eq v 0 ≡ b → zero' < 2 ^ 64 → other < 2 ^ 64 → HasAt linear site.body site.regions pc (choice_code (length ts) pc zero' other) → x ≤ s → Kp st store → st.held ≡ site.held
-        → From pc (ts ++ v ∷ []) st store (3 + t) x s o (pushed context site (pc + 4) ts) (Gives (Value (if b then zero' else other)) st)
-    choice_then v zero' other true ts pc st store t x s o e small small' has le kept held =
+    pub choice_then : (v instead other : ℕ) (b : Bool) (ts : List ℕ) (pc : ℕ) (st : State) (store : Store) (t x s o : ℕ) → nat_eq v 0 ≡ b → instead < 2 ^ 64 → other < 2 ^ 64 → HasAt linear site.body site.regions pc (choice_code (length ts) pc instead other) → x ≤ s → Kp st store → st.held ≡ site.held
+        → From pc (ts ++ v ∷ []) st store (3 + t) x s o (pushed context site (pc + 4) ts) (Gives (Value (if b then instead else other)) st)
+    choice_then v instead other true ts pc st store t x s o e small small' has le kept held =
         let d = length ts in
         let target : pc + 1 + 1 + 1 ≡ pc + 3 = omega arith in
-        let last : HasAt linear site.body site.regions (pc + 3) (constant d zero' ∷ []) = has_at linear site.body site.regions (pc + 1 + 1 + 1) (pc + 3) (constant d zero' ∷ []) target has.2.2.2 in
+        let last : HasAt linear site.body site.regions (pc + 3) (constant d instead ∷ []) = has_at linear site.body site.regions (pc + 1 + 1 + 1) (pc + 3) (constant d instead ∷ []) target has.2.2.2 in
         let end : pc + 3 + 1 ≡ pc + 4 = omega arith in
-        more linear pace _ st (price (1 + (1 + t)) x s o) (price (3 + t) x s o) (Wv (pushed context site (pc + 4) ts)) (Gives (Value zero') st) (omega arith, omega arith, omega arith)
-        (turn pc (pc + 3) (ts ++ v ∷ []) ts st store (1 + t) x s o (pushed context site (pc + 4) ts) (Gives (Value zero') st)
+        more linear pace _ st (price (1 + (1 + t)) x s o) (price (3 + t) x s o) (Wv (pushed context site (pc + 4) ts)) (Gives (Value instead) st) (omega arith, omega arith, omega arith)
+        (turn pc (pc + 3) (ts ++ v ∷ []) ts st store (1 + t) x s o (pushed context site (pc + 4) ts) (Gives (Value instead) st)
         (λ k. test_turn linear pace context site (pc + 3) v pc ts st store k (has.0, has.1, tt) ∙ pick_yes (nat_eq v 0) (exec linear k (conf context site (pc + 3) ts st store)) (exec linear k (conf context site (pc + 1) ts st store)) e)
-        (turn (pc + 3) (pc + 3 + 1) ts (ts ++ zero' ∷ []) st store t x s o (pushed context site (pc + 4) ts) (Gives (Value zero') st)
-        (λ k. constant_turn linear pace context site zero' d (ts ++ zero' ∷ []) (pc + 3) ts st store k small last (push_put ts zero'))
-        (here_other (pc + 3 + 1) (pc + 4) ts zero' st store t x s o end le kept held)))
-    choice_then v zero' other false ts pc st store t x s o e small small' has le kept held =
+        (turn (pc + 3) (pc + 3 + 1) ts (ts ++ instead ∷ []) st store t x s o (pushed context site (pc + 4) ts) (Gives (Value instead) st)
+        (λ k. constant_turn linear pace context site instead d (ts ++ instead ∷ []) (pc + 3) ts st store k small last (push_put ts instead))
+        (here_other (pc + 3 + 1) (pc + 4) ts instead st store t x s o end le kept held)))
+    choice_then v instead other false ts pc st store t x s o e small small' has le kept held =
         let d = length ts in
         more linear pace _ st (price (1 + (1 + (1 + t))) x s o) (price (3 + t) x s o) (Wv (pushed context site (pc + 4) ts)) (Gives (Value other) st) (omega arith, omega arith, omega arith)
         (turn pc (pc + 1) (ts ++ v ∷ []) ts st store (1 + (1 + t)) x s o (pushed context site (pc + 4) ts) (Gives (Value other) st)

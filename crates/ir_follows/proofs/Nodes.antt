@@ -23,7 +23,7 @@ use Rattle.linear_machine.specs.Frames.{Store, with_temporary}
 use Rattle.linear_machine.specs.Instructions.{is_constant}
 use Rattle.linear_runs.proofs.Stretch.{Part, at, Site, conf, price, value_ways, more, chosen}
 use Rattle.seh_ir.specs.declared.scope.Names.{Names}
-use Rattle.seh_ir.specs.Sizes.{unary_size, expression_size, node_size}
+use Rattle.ir_sizes.specs.Sizes.{unary_size, expression_size, node_size}
 use Rattle.seh_ir.specs.Expressions.{constant, combine, copy, unary_code, choice_code, expression_code, node_code}
 use Rattle.ir_follows.specs.Fits.{ExpressionFits, NodeFits}
 use Rattle.ir_follows.specs.Weights.{expression_weight, node_weight}
@@ -224,19 +224,19 @@ module _ (program : Program) (linear : LinearProgram) (pace body : ℕ) (same_gl
         let pc1 = pc + expression_size e in
         let last = pc + (expression_size e + (1 + (expression_size f + 4))) in
         let part = pushed context site last temps in
-        let zero' = pc1 + 1 + expression_size f + 3 in
+        let instead = pc1 + 1 + expression_size f + 3 in
         let ce = expression_code names e d pc in
         let cf = expression_code names f d (pc1 + 1) in
         let choice = choice_code d (pc1 + 1 + expression_size f) 0 1 in
-        let rest = JumpIfZero (Temporary d) zero' ∷ (cf ++ choice) in
+        let rest = JumpIfZero (Temporary d) instead ∷ (cf ++ choice) in
         let back = has_after linear site.body site.regions pc (expression_size e) ce rest (expression_length names e d pc) has in
         let at_choice = has_after linear site.body site.regions (pc1 + 1) (expression_size f) cf choice (expression_length names f d (pc1 + 1)) back.2 in
-        let place : pc1 + 1 + expression_size f + 1 + 1 + 1 ≡ zero' = omega arith in
+        let place : pc1 + 1 + expression_size f + 1 + 1 + 1 ≡ instead = omega arith in
         operand_runs e pc temps st store 13 1 w part (λ x st. choose (nat_eq x 0) (λ st. Gives (Value 0) st) (λ st. with_value (within program n (Eval f) context st) (λ y st. Gives (Value (of_test (not (nat_eq y 0)))) st)) st) steps (omega arith) (omega arith) fits.0
         (has_front linear site.body site.regions pc ce rest has) kept held
         (λ x mid after steps kept held.
-        test_runs x zero' pc1 temps mid after 12 debt w part (λ st. Gives (Value 0) st) (λ st. with_value (within program n (Eval f) context st) (λ y st. Gives (Value (of_test (not (nat_eq y 0)))) st)) (back.0, back.1, tt)
-        (number_runs 0 zero' last temps mid after 11 debt w (omega arith) (omega arith) (has_at linear site.body site.regions (pc1 + 1 + expression_size f + 1 + 1 + 1) zero' (constant d 0 ∷ []) place at_choice.2.2.2) (omega arith) kept held)
+        test_runs x instead pc1 temps mid after 12 debt w part (λ st. Gives (Value 0) st) (λ st. with_value (within program n (Eval f) context st) (λ y st. Gives (Value (of_test (not (nat_eq y 0)))) st)) (back.0, back.1, tt)
+        (number_runs 0 instead last temps mid after 11 debt w (omega arith) (omega arith) (has_at linear site.body site.regions (pc1 + 1 + expression_size f + 1 + 1 + 1) instead (constant d 0 ∷ []) place at_choice.2.2.2) (omega arith) kept held)
         (more linear pace _ mid (price 4 debt w w) (price 12 debt w w) (value_ways part Kn context site) (with_value (within program n (Eval f) context mid) (λ y st. Gives (Value (of_test (not (nat_eq y 0)))) st)) (omega arith, omega arith, omega arith)
         (tested_runs f (pc1 + 1) last temps mid after debt w steps (omega arith) (omega arith) fits.1 back.2 kept held (omega arith))))
 

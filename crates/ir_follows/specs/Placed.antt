@@ -17,7 +17,7 @@ use Rattle.seh_ir.specs.declared.scope.Way.{Way}
 use Rattle.seh_ir.specs.declared.scope.Scope.{Scope}
 use Rattle.seh_ir.specs.declared.scope.Way.TheVariants.{Nowhere, Jumps, Unwinds}
 use Rattle.seh_ir.specs.Scope.{filter_names, finally_scope, in_loop, in_try, in_except, in_guarded}
-use Rattle.seh_ir.specs.Sizes.{expression_size, discarded_size, condition_size, declared_size, all_declared_size, returned_size, statement_size, statements_size}
+use Rattle.ir_sizes.specs.Sizes.{expression_size, discarded_size, condition_size, declared_size, all_declared_size, returned_size, statement_size, statements_size}
 use Rattle.seh_ir.specs.Expressions.{constant, expression_code}
 use Rattle.seh_ir.specs.Lowered.{own_locals, all_locals, scope_of}
 use Rattle.seh_ir.specs.Regions.{except_kind, region}

@@ -4,11 +4,11 @@ use Rattle.pe_image.specs.declared.refusal.ImageErr.{ImageErr}
 use Rattle.pe_image.specs.declared.refusal.ImageErr.TheVariants as refusals
 
 infixl 10 ◌>>=◌
-abbrev pub ◌>>=◌ : {A B : Type 0} → Result A ImageErr → (A → Result B ImageErr) → Result B ImageErr
+abbrev pub ◌>>=◌ : {A B E : Type 0} → Result A E → (A → Result B E) → Result B E
 (Ok x) >>= f = f x
 (Err e) >>= f = Err e
 
-abbrev pub unless : Bool → ImageErr → Result Unit ImageErr
+abbrev pub unless : {E : Type 0} → Bool → E → Result Unit E
 unless true e = Ok tt
 unless false e = Err e
 
@@ -21,15 +21,15 @@ abbrev pub Gives : {X Y : Type 0} → (X → Y) → Result X ImageErr → Result
 Gives view (Ok x) given = given ≡ Ok (view x)
 Gives view (Err e) given = Refuses e given
 
-abbrev pub or_refused : {A : Type 0} → Option A → ImageErr → Result A ImageErr
+abbrev pub or_refused : {A E : Type 0} → Option A → E → Result A E
 or_refused (Some x) e = Ok x
 or_refused None e = Err e
 
 -- a list's answer behind one element, and behind others
-abbrev pub prepend : {A : Type 0} → A → Result (List A) ImageErr → Result (List A) ImageErr
+abbrev pub prepend : {A E : Type 0} → A → Result (List A) E → Result (List A) E
 prepend x (Ok xs) = Ok (x ∷ xs)
 prepend x (Err e) = Err e
 
-abbrev pub onto : {A : Type 0} → List A → Result (List A) ImageErr → Result (List A) ImageErr
+abbrev pub onto : {A E : Type 0} → List A → Result (List A) E → Result (List A) E
 onto xs (Ok ys) = Ok (xs ++ ys)
 onto xs (Err e) = Err e

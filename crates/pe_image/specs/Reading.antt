@@ -1,6 +1,7 @@
 -- How an image is read: fields by their places in the PE format, and the checks in their order.
 use Rattle.std.specs.Prelude.{◌≡◌, ℕ, zero, suc, ◌+◌, ◌*◌, ◌/◌, ◌%◌, ◌≤◌, Bool, ◌&&◌, ◌||◌, ◌==◌, nat_lt, nat_le, if◌then◌else◌, List, [], ◌∷◌, length, take, drop, map, min, Result, Ok, Err}
 use Rattle.pe_image.specs.declared.directory.DataDirectory.{DataDirectory}
+use Rattle.pe_image.specs.declared.layout.TheConstants.{DOS_HEADER_SIZE, DOS_SIGNATURE, E_LFANEW, FILE_HEADER_SIZE, PE_SIGNATURE, MACHINE, MACHINE_X64, NUMBER_OF_SECTIONS, SIZE_OF_OPTIONAL_HEADER, MAGIC_PE32_PLUS, ADDRESS_OF_ENTRY_POINT, IMAGE_BASE, SIZE_OF_IMAGE, NUMBER_OF_RVA_AND_SIZES, DIRECTORIES, DIRECTORY_SIZE, IMPORT_DIRECTORY, EXCEPTION_DIRECTORY, SECTION_HEADER_SIZE, VIRTUAL_SIZE, VIRTUAL_ADDRESS, SIZE_OF_RAW_DATA, POINTER_TO_RAW_DATA, CHARACTERISTICS, PAGE_SIZE}
 use Rattle.pe_image.specs.declared.refusal.ImageErr.{ImageErr}
 use Rattle.pe_image.specs.declared.refusal.ImageErr.TheVariants as refusals
 use Rattle.pe_image.specs.declared.table.SectionHeader.{SectionHeader}
@@ -13,68 +14,83 @@ use Rattle.pe_image.specs.Imports.{imports}
 
 -- e_lfanew, where the signature stands
 abbrev pub signature_at : List ℕ → ℕ
-signature_at bytes = field 4 bytes 0x3C
+signature_at bytes = field 4 bytes E_LFANEW
 
 -- the file header, behind the signature
 abbrev pub machine : List ℕ → ℕ
-machine bytes = field 2 bytes (signature_at bytes + 4)
+machine bytes = field 2 bytes (signature_at bytes + MACHINE)
 
 abbrev pub section_count : List ℕ → ℕ
-section_count bytes = field 2 bytes (signature_at bytes + 6)
+section_count bytes = field 2 bytes (signature_at bytes + NUMBER_OF_SECTIONS)
 
 abbrev pub optional_size : List ℕ → ℕ
-optional_size bytes = field 2 bytes (signature_at bytes + 20)
+optional_size bytes = field 2 bytes (signature_at bytes + SIZE_OF_OPTIONAL_HEADER)
 
 -- the optional header, with the directories at its end
 abbrev pub optional_at : List ℕ → ℕ
-optional_at bytes = signature_at bytes + 24
+optional_at bytes = signature_at bytes + FILE_HEADER_SIZE
 
 abbrev pub magic : List ℕ → ℕ
 magic bytes = field 2 bytes (optional_at bytes)
 
 abbrev pub entry_point : List ℕ → ℕ
-entry_point bytes = field 4 bytes (optional_at bytes + 16)
+entry_point bytes = field 4 bytes (optional_at bytes + ADDRESS_OF_ENTRY_POINT)
 
 abbrev pub image_base : List ℕ → ℕ
-image_base bytes = field 8 bytes (optional_at bytes + 24)
+image_base bytes = field 8 bytes (optional_at bytes + IMAGE_BASE)
 
 abbrev pub image_size : List ℕ → ℕ
-image_size bytes = field 4 bytes (optional_at bytes + 56)
+image_size bytes = field 4 bytes (optional_at bytes + SIZE_OF_IMAGE)
 
 abbrev pub directory_count : List ℕ → ℕ
-directory_count bytes = field 4 bytes (optional_at bytes + 108)
+directory_count bytes = field 4 bytes (optional_at bytes + NUMBER_OF_RVA_AND_SIZES)
 
 abbrev pub directories_at : List ℕ → ℕ
-directories_at bytes = optional_at bytes + 112
+directories_at bytes = optional_at bytes + DIRECTORIES
+
+abbrev pub directories_size : List ℕ → ℕ
+directories_size bytes = DIRECTORY_SIZE * directory_count bytes
 
 -- the section table, behind the optional header
 abbrev pub sections_at : List ℕ → ℕ
 sections_at bytes = optional_at bytes + optional_size bytes
 
--- what the headers must hold, checked in this order
+abbrev pub sections_size : List ℕ → ℕ
+sections_size bytes = SECTION_HEADER_SIZE * section_count bytes
+
+-- what the headers must hold, checked in this order: first up to the file header
+abbrev pub file_header : List ℕ → Result Unit ImageErr
+file_header bytes = do
+  _ ← unless (is_there bytes 0 DOS_HEADER_SIZE) (refusals.Truncated 0)
+  _ ← unless (field 2 bytes 0 == DOS_SIGNATURE) (refusals.NotPe 0)
+  _ ← unless (is_there bytes (signature_at bytes) FILE_HEADER_SIZE) (refusals.Truncated (signature_at bytes))
+  _ ← unless (field 4 bytes (signature_at bytes) == PE_SIGNATURE) (refusals.NotPe (signature_at bytes))
+  unless (machine bytes == MACHINE_X64) (refusals.Machine (machine bytes))
+
+-- then the optional header and the section table
+abbrev pub optional_header : List ℕ → Result Unit ImageErr
+optional_header bytes = do
+  _ ← unless (is_there bytes (optional_at bytes) DIRECTORIES && nat_le DIRECTORIES (optional_size bytes)) (refusals.Truncated (optional_at bytes))
+  _ ← unless (magic bytes == MAGIC_PE32_PLUS) (refusals.Magic (magic bytes))
+  _ ← unless (nat_le (DIRECTORIES + directories_size bytes) (optional_size bytes) && is_there bytes (directories_at bytes) (directories_size bytes)) (refusals.Truncated (directories_at bytes))
+  unless (is_there bytes (sections_at bytes) (sections_size bytes)) (refusals.Truncated (sections_at bytes))
+
 unfoldable pub headers : List ℕ → Result Unit ImageErr
 headers bytes = do
-  _ ← unless (is_there bytes 0 64) (refusals.Truncated 0)
-  _ ← unless (field 2 bytes 0 == 0x5A4D) (refusals.NotPe 0)
-  _ ← unless (is_there bytes (signature_at bytes) 24) (refusals.Truncated (signature_at bytes))
-  _ ← unless (field 4 bytes (signature_at bytes) == 0x4550) (refusals.NotPe (signature_at bytes))
-  _ ← unless (machine bytes == 0x8664) (refusals.Machine (machine bytes))
-  _ ← unless (is_there bytes (optional_at bytes) 112 && nat_le 112 (optional_size bytes)) (refusals.Truncated (optional_at bytes))
-  _ ← unless (magic bytes == 0x20B) (refusals.Magic (magic bytes))
-  _ ← unless (nat_le (112 + 8 * directory_count bytes) (optional_size bytes) && is_there bytes (directories_at bytes) (8 * directory_count bytes)) (refusals.Truncated (directories_at bytes))
-  unless (is_there bytes (sections_at bytes) (40 * section_count bytes)) (refusals.Truncated (sections_at bytes))
+  _ ← file_header bytes
+  optional_header bytes
 
 -- the bytes that the checks of the headers find there
 pub record HasHeaders (bytes : List ℕ) : Type 0 where
-  pub optional : optional_at bytes + 112 ≤ length bytes
-  pub directories : directories_at bytes + 8 * directory_count bytes ≤ length bytes
-  pub table : sections_at bytes + 40 * section_count bytes ≤ length bytes
+  pub optional : optional_at bytes + DIRECTORIES ≤ length bytes
+  pub directories : directories_at bytes + directories_size bytes ≤ length bytes
+  pub table : sections_at bytes + sections_size bytes ≤ length bytes
 
 -- a directory by its index; one that isn't counted is empty
 abbrev pub directory : List ℕ → ℕ → DataDirectory
 directory bytes k =
     if nat_lt k (directory_count bytes)
-    then record { rva = field 4 bytes (directories_at bytes + 8 * k); size = field 4 bytes (directories_at bytes + 8 * k + 4) }
+    then record { rva = field 4 bytes (directories_at bytes + DIRECTORY_SIZE * k); size = field 4 bytes (directories_at bytes + DIRECTORY_SIZE * k + 4) }
     else record { rva = 0; size = 0 }
 
 -- ---- the sections
@@ -86,22 +102,22 @@ size_of (suc n) raw_size = suc n
 
 abbrev pub header_at : List ℕ → ℕ → SectionHeader
 header_at bytes at = record {
-  size = size_of (field 4 bytes (at + 8)) (field 4 bytes (at + 16));
-  address = field 4 bytes (at + 12);
-  raw_size = field 4 bytes (at + 16);
-  raw_at = field 4 bytes (at + 20);
-  flags = field 4 bytes (at + 36);
+  size = size_of (field 4 bytes (at + VIRTUAL_SIZE)) (field 4 bytes (at + SIZE_OF_RAW_DATA));
+  address = field 4 bytes (at + VIRTUAL_ADDRESS);
+  raw_size = field 4 bytes (at + SIZE_OF_RAW_DATA);
+  raw_at = field 4 bytes (at + POINTER_TO_RAW_DATA);
+  flags = field 4 bytes (at + CHARACTERISTICS);
 }
 
 -- so many headers from a place on
 abbrev pub headers_from : List ℕ → ℕ → ℕ → List SectionHeader
 headers_from bytes zero at = []
-headers_from bytes (suc n) at = header_at bytes at ∷ headers_from bytes n (at + 40)
+headers_from bytes (suc n) at = header_at bytes at ∷ headers_from bytes n (at + SECTION_HEADER_SIZE)
 
 -- the raw data in the file; pages above the end of the section before and within the image
 abbrev pub is_laid_out : ℕ → ℕ → ℕ → SectionHeader → Bool
 is_laid_out file_size limit end s =
-    ((s.raw_size == 0) || nat_le (s.raw_at + s.raw_size) file_size) && (s.address % 4096 == 0) && nat_le end s.address && nat_le (s.address + s.size) limit
+    ((s.raw_size == 0) || nat_le (s.raw_at + s.raw_size) file_size) && (s.address % PAGE_SIZE == 0) && nat_le end s.address && nat_le (s.address + s.size) limit
 
 -- section by section, from an index on and behind an end
 abbrev pub all_laid_out : ℕ → ℕ → ℕ → ℕ → List SectionHeader → Result Unit ImageErr
@@ -131,8 +147,8 @@ image_with bytes sections = record {
   entry = entry_point bytes;
   size = image_size bytes;
   sections = sections;
-  imports = directory bytes 1;
-  exceptions = directory bytes 3;
+  imports = directory bytes IMPORT_DIRECTORY;
+  exceptions = directory bytes EXCEPTION_DIRECTORY;
 }
 
 -- by its headers and its sections

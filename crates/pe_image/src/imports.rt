@@ -1,16 +1,23 @@
 //! What an image imports.
 
-ghost use Rattle.std.specs.Prelude.{◌≡◌, ◌≤◌, ◌<◌, ◌^◌, length, position, option_map, IfSome, ◌==◌};
+ghost use Rattle.std.specs.Prelude.{◌≡◌, ◌≤◌, ◌<◌, ◌^◌, ℕ, length, option_map, IfOk, OnOk};
+ghost use Rattle.std.specs.Ordering.{nat_cmp};
+ghost use Rattle.std.specs.BTreeMap.{get};
 ghost use Rattle.pe_image.specs.Answer.{Gives, onto};
 ghost use Rattle.pe_image.specs.Field.{field};
 ghost use Rattle.pe_image.specs.Image.{AreAscending, stored};
+ghost use Rattle.pe_image.specs.Bound.{bound_name};
 ghost use Rattle.pe_image.specs.Imports as spec;
+ghost use Rattle.pe_image.specs.Names.{AreEnds};
 
 use crate::directory::DataDirectory;
 use crate::fields::{u32_at, u64_at};
+use crate::layout::{DESCRIPTOR_SIZE, IMPORT_ADDRESS_TABLE, LOOKUP_ENTRY_SIZE};
+use crate::names::read_name;
 use crate::refusal::ImageErr;
 use crate::section::{SectionView, stored_from};
-use std::alloc::Global;
+use std::alloc::{AllocError, Global};
+use std::collections::BTreeMap;
 use std::marker::Model;
 
 /// As many as there are addresses: no lookup table has more entries, and no image more libraries.
@@ -64,48 +71,34 @@ pub fn stored<'a>(sections: &[SectionView<'a>], rva: u64, len: u64) -> Option<&'
     }
 }
 
-/// The place of the first 0.
-fn first_zero(bytes: &[u8]) -> Option<usize>
-    ensures place { result ≡ position (λ b. b == 0) bytes.now }
-    ensures within { IfSome result (λ n. n < length bytes.now) }
-{
-    bytes.iter().position(|b| *b == 0)
-}
-
-/// The bytes up to the first 0.
-fn terminated<'a>(bytes: &'a [u8]) -> Option<&'a [u8]>
-    ensures { option_map (λ b. b.now) result ≡ spec.terminated bytes.now }
-{
-    let end = first_zero(bytes)?;
-    Some(&bytes[..end])
-}
-
-/// The name behind a hint.
-fn hinted<'a>(bytes: &'a [u8]) -> Option<&'a [u8]>
-    ensures { option_map (λ b. b.now) result ≡ spec.hinted bytes.now }
-{
-    if bytes.len() < 2 {
-        return None;
-    }
-    terminated(&bytes[2..])
-}
-
 /// The import of a lookup entry, for that slot.
-fn read_import<'a>(sections: &[SectionView<'a>], slot: u64, entry: u64) -> Option<Import<'a>>
-    requires { AreAscending 0 sections.now }
-    ensures { result ≡ spec.import_at sections.now slot entry }
+fn read_import<'a>(
+    ends: &mut BTreeMap<u64, u64>,
+    sections: &[SectionView<'a>],
+    slot: u64,
+    entry: u64,
+) -> Result<Option<Import<'a>>, AllocError>
+    requires ascending { AreAscending 0 sections.now }
+    requires ends { AreEnds sections.now ends.old }
+    ensures import { IfOk result (λ i. i ≡ spec.import_at sections.now slot entry) }
+    ensures ends { OnOk result (AreEnds sections.now ends.new) }
 {
     if ORDINAL <= entry {
-        return None;
+        return Ok(None);
     }
-    let name = hinted(stored_from(sections, entry))?;
-    let _slot = stored(sections, slot, 8)?;
-    Some(Import { name, slot })
+    let Some(name) = read_name(ends, sections, entry)? else {
+        return Ok(None);
+    };
+    if stored(sections, slot, LOOKUP_ENTRY_SIZE).is_none() {
+        return Ok(None);
+    }
+    Ok(Some(Import { name, slot }))
 }
 
 /// Adds the imports of a library, whose lookup table and slots begin there.
 fn read_library<'a>(
     imports: &mut Vec<Import<'a>>,
+    ends: &mut BTreeMap<u64, u64>,
     sections: &[SectionView<'a>],
     lookups: u64,
     slots: u64,
@@ -113,19 +106,23 @@ fn read_library<'a>(
     requires ascending { AreAscending 0 sections.now }
     requires lookups { lookups < 2 ^ 32 }
     requires slots { slots < 2 ^ 32 }
-    ensures { Gives (λ _. imports.new.items) result
-        (onto imports.old.items (spec.library spec.max_count sections.now (length imports.old.items) lookups slots)) }
+    requires ends { AreEnds sections.now ends.old }
+    ensures imports { Gives (λ _. imports.new.items) result (onto imports.old.items
+        (spec.library spec.max_count sections.now (length imports.old.items) lookups slots)) }
+    ensures ends { OnOk result (AreEnds sections.now ends.new) }
 {
     for n in 0..MOST {
         let index = imports.len() as u64;
-        let Some(entry) = stored(sections, lookups + 8 * n, 8) else {
+        let Some(entry) = stored(sections, lookups + LOOKUP_ENTRY_SIZE * n, LOOKUP_ENTRY_SIZE)
+        else {
             return Err(ImageErr::ImportBad { index });
         };
         let entry = u64_at(entry, 0);
         if entry == 0 {
             return Ok(());
         }
-        let Some(import) = read_import(sections, slots + 8 * n, entry) else {
+        let slot = slots + LOOKUP_ENTRY_SIZE * n;
+        let Some(import) = read_import(ends, sections, slot, entry)? else {
             return Err(ImageErr::ImportBad { index });
         };
         imports.push(import)?;
@@ -145,11 +142,13 @@ pub fn read_imports<'a>(
     ensures { Gives (λ v. v.items) result (spec.imports_in sections.now directory) }
 {
     let mut imports = Vec::new(alloc);
+    let mut ends = BTreeMap::new(alloc);
     if directory.size == 0 {
         return Ok(imports);
     }
     for n in 0..MOST {
-        let Some(descriptor) = stored(sections, directory.rva as u64 + 20 * n, 20) else {
+        let at = directory.rva as u64 + DESCRIPTOR_SIZE * n;
+        let Some(descriptor) = stored(sections, at, DESCRIPTOR_SIZE) else {
             return Err(ImageErr::ImportBad {
                 index: imports.len() as u64,
             });
@@ -157,8 +156,14 @@ pub fn read_imports<'a>(
         if is_zero(descriptor) {
             return Ok(imports);
         }
-        let slots = u32_at(descriptor, 16) as u64;
-        read_library(&mut imports, sections, lookups(descriptor), slots)?;
+        let slots = u32_at(descriptor, IMPORT_ADDRESS_TABLE) as u64;
+        read_library(
+            &mut imports,
+            &mut ends,
+            sections,
+            lookups(descriptor),
+            slots,
+        )?;
     }
     Err(ImageErr::ImportBad {
         index: imports.len() as u64,
@@ -172,7 +177,7 @@ fn lookups(descriptor: &[u8]) -> u64
     ensures fits { result < 2 ^ 32 }
 {
     match u32_at(descriptor, 0) {
-        0 => u32_at(descriptor, 16) as u64,
+        0 => u32_at(descriptor, IMPORT_ADDRESS_TABLE) as u64,
         rva => rva as u64,
     }
 }
@@ -186,5 +191,20 @@ fn is_zero(descriptor: &[u8]) -> bool
         && u32_at(descriptor, 4) == 0
         && u32_at(descriptor, 8) == 0
         && u32_at(descriptor, 12) == 0
-        && u32_at(descriptor, 16) == 0
+        && u32_at(descriptor, IMPORT_ADDRESS_TABLE) == 0
+}
+
+/// Each slot with the name of the last import that has it.
+pub fn bound_names<'a>(
+    alloc: Global,
+    imports: &[Import<'a>],
+) -> Result<BTreeMap<u64, &'a [u8]>, AllocError>
+    ensures { IfOk result (λ names. (slot : ℕ)
+        → option_map (λ b. b.now) (get nat_cmp names slot) ≡ bound_name slot imports.now) }
+{
+    let mut names = BTreeMap::new(alloc);
+    for import in imports {
+        names.insert(import.slot(), import.name())?;
+    }
+    Ok(names)
 }

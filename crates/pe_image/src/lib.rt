@@ -11,6 +11,8 @@
 mod directory;
 mod fields;
 mod imports;
+mod layout;
+mod names;
 mod reading;
 mod refusal;
 mod section;

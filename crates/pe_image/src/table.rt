@@ -6,6 +6,10 @@ ghost use Rattle.pe_image.specs.Image.{AreAscending};
 ghost use Rattle.pe_image.specs.Reading.{headers_from, sections_of};
 
 use crate::fields::u32_at;
+use crate::layout::{
+    CHARACTERISTICS, PAGE_SIZE, POINTER_TO_RAW_DATA, SECTION_HEADER_SIZE, SIZE_OF_RAW_DATA,
+    VIRTUAL_ADDRESS, VIRTUAL_SIZE,
+};
 use crate::refusal::ImageErr;
 use crate::section::SectionView;
 use std::alloc::Global;
@@ -31,18 +35,18 @@ impl SectionHeader {
         requires { at + 40 ≤ length bytes.now }
         ensures { result ≡ spec.header_at bytes.now at }
     {
-        let virtual_size = u32_at(bytes, at + 8);
-        let raw_size = u32_at(bytes, at + 16);
+        let virtual_size = u32_at(bytes, at + VIRTUAL_SIZE);
+        let raw_size = u32_at(bytes, at + SIZE_OF_RAW_DATA);
         SectionHeader {
             size: if virtual_size == 0 {
                 raw_size
             } else {
                 virtual_size
             },
-            address: u32_at(bytes, at + 12),
+            address: u32_at(bytes, at + VIRTUAL_ADDRESS),
             raw_size,
-            raw_at: u32_at(bytes, at + 20),
-            flags: u32_at(bytes, at + 36),
+            raw_at: u32_at(bytes, at + POINTER_TO_RAW_DATA),
+            flags: u32_at(bytes, at + CHARACTERISTICS),
         }
     }
 
@@ -64,7 +68,7 @@ impl SectionHeader {
         ensures { result ≡ spec.is_laid_out file_size limit end self.now }
     {
         (self.raw_size == 0 || self.raw_end() <= file_size)
-            && self.address % 4096 == 0
+            && self.address % PAGE_SIZE == 0
             && end <= self.address as u64
             && self.end() <= limit
     }
@@ -98,7 +102,7 @@ pub fn sections<'a>(
     let mut sections = Vec::with_capacity(alloc, count)?;
     let mut end = 0;
     for index in 0..count {
-        let header = SectionHeader::read(bytes, at + 40 * index);
+        let header = SectionHeader::read(bytes, at + SECTION_HEADER_SIZE * index);
         if !header.is_laid_out(bytes.len() as u64, limit, end) {
             return Err(ImageErr::Layout {
                 section: index as u64,

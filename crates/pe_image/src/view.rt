@@ -2,11 +2,13 @@
 
 ghost use Rattle.std.specs.Prelude.{◌≡◌, ◌<◌, ◌^◌, option_map, IfOk, IfErr};
 ghost use Rattle.pe_image.specs.Image.{AreAscending, stored};
+ghost use Rattle.pe_image.specs.Bound.{bound_name};
 ghost use Rattle.pe_image.specs.Imports.{imports, imports_of};
 ghost use Rattle.pe_image.specs.Reading.{IsImage, IsRefused};
 
 use crate::directory::DataDirectory;
-use crate::imports::{Import, read_imports, stored};
+use crate::imports::{Import, bound_names, read_imports, stored};
+use crate::layout::{EXCEPTION_DIRECTORY, IMPORT_DIRECTORY};
 use crate::reading::{
     check_headers, directory, entry_point, image_base, image_end, image_size, section_count,
     sections_at,
@@ -15,6 +17,7 @@ use crate::refusal::ImageErr;
 use crate::section::SectionView;
 use crate::table::sections;
 use std::alloc::Global;
+use std::collections::BTreeMap;
 use std::marker::Model;
 
 /// An image in a file, with its sections found. A clause sees the image as it is read.
@@ -27,10 +30,14 @@ pub struct ImageView<'a> {
     import_directory: DataDirectory,
     exceptions: DataDirectory,
     imports: Vec<Import<'a>>,
+    names: BTreeMap<u64, &'a [u8]>,
 }
 
 impl<'a> Model for ImageView<'a> {
-    ghost use Rattle.std.specs.Prelude.{◌≡◌, Ok};
+    ghost use Rattle.std.specs.Prelude.{◌≡◌, ℕ, Ok, option_map};
+    ghost use Rattle.std.specs.Ordering.{nat_cmp};
+    ghost use Rattle.std.specs.BTreeMap.{get};
+    ghost use Rattle.pe_image.specs.Bound.{bound_name};
     ghost use Rattle.pe_image.specs.Image.{Image, AreAscending};
     ghost use Rattle.pe_image.specs.Imports.{imports_in};
 
@@ -46,7 +53,9 @@ impl<'a> Model for ImageView<'a> {
     } };
 
     ghost invariant = { λ v. (AreAscending 0 v.sections.items)
-        × (imports_in v.sections.items v.import_directory ≡ Ok v.imports.items) };
+        × (imports_in v.sections.items v.import_directory ≡ Ok v.imports.items)
+        × ((slot : ℕ) → option_map (λ b. b.now) (get nat_cmp v.names slot)
+        ≡ bound_name slot v.imports.items) };
 }
 
 impl<'a> ImageView<'a> {
@@ -64,16 +73,18 @@ impl<'a> ImageView<'a> {
         let count = section_count(bytes);
         let end = image_end(bytes);
         let sections = sections(alloc, bytes, at, count, end)?;
-        let import_directory = directory(bytes, 1);
+        let import_directory = directory(bytes, IMPORT_DIRECTORY);
         let imports = read_imports(alloc, &sections, import_directory)?;
+        let names = bound_names(alloc, &imports)?;
         Ok(ImageView {
             base: image_base(bytes),
             entry: entry_point(bytes),
             size: image_size(bytes),
             sections,
             import_directory,
-            exceptions: directory(bytes, 3),
+            exceptions: directory(bytes, EXCEPTION_DIRECTORY),
             imports,
+            names,
         })
     }
 
@@ -114,6 +125,13 @@ impl<'a> ImageView<'a> {
         ensures read { imports self.now ≡ Ok result.now }
     {
         &self.imports
+    }
+
+    /// The name that a slot is bound to: that of the last import that has the slot.
+    pub fn bound_name(&self, slot: u64) -> Option<&'a [u8]>
+        ensures { option_map (λ b. b.now) result ≡ bound_name slot (imports_of self.now) }
+    {
+        self.names.get(&slot).copied()
     }
 
     /// Where the function table lies.

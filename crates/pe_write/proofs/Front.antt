@@ -78,7 +78,7 @@ module _ (image : ImageParts) (fits : CanBeWritten image) (rest : List ℕ) wher
 
 nine : (t1 t2 t3 t4 t5 t6 t7 t8 t9 : Bool) (e1 e2 e3 e4 e5 e6 e7 e8 e9 : ImageErr)
     → t1 ≡ true → t2 ≡ true → t3 ≡ true → t4 ≡ true → t5 ≡ true → t6 ≡ true → t7 ≡ true → t8 ≡ true → t9 ≡ true
-    → (unless t1 e1 >>= λ _. unless t2 e2 >>= λ _. unless t3 e3 >>= λ _. unless t4 e4 >>= λ _. unless t5 e5 >>= λ _. unless t6 e6 >>= λ _. unless t7 e7 >>= λ _. unless t8 e8 >>= λ _. unless t9 e9) ≡ Ok tt
+    → ((unless t1 e1 >>= λ _. unless t2 e2 >>= λ _. unless t3 e3 >>= λ _. unless t4 e4 >>= λ _. unless t5 e5) >>= λ _. unless t6 e6 >>= λ _. unless t7 e7 >>= λ _. unless t8 e8 >>= λ _. unless t9 e9) ≡ Ok tt
 nine t1 t2 t3 t4 t5 t6 t7 t8 t9 e1 e2 e3 e4 e5 e6 e7 e8 e9 h1 h2 h3 h4 h5 h6 h7 h8 h9 = rw (h1, h2, h3, h4, h5, h6, h7, h8, h9) refl
 
 room : (file at place n : ℕ) → at ≡ place → place + n ≤ file → leb (at + n) file ≡ true

@@ -10,7 +10,7 @@ use Rattle.linear_code.specs.declared.program.IrFunction.{IrFunction}
 use Rattle.linear_code.specs.Program.{LinearFunction, LinearFunclet, LinearProgram, linear_function}
 use Rattle.seh_ir.specs.declared.scope.Names.{Names}
 use Rattle.seh_ir.specs.declared.funclets.Owner.{Owner}
-use Rattle.seh_ir.specs.Sizes.{statement_size, statements_size}
+use Rattle.ir_sizes.specs.Sizes.{statement_size, statements_size}
 use Rattle.seh_ir.specs.Regions.{statement_regions, statements_regions}
 use Rattle.seh_ir.specs.Funclets.{statement_funclets, statements_funclets}
 use Rattle.seh_ir.specs.Lowered.{lowered_function, lowered_funclets, all_funclets, lowered}

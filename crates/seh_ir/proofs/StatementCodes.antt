@@ -15,7 +15,7 @@ use Rattle.seh_ir.specs.declared.scope.Way.{Way}
 use Rattle.seh_ir.specs.declared.scope.Way.TheVariants.{Nowhere, Jumps, Unwinds}
 use Rattle.seh_ir.specs.declared.scope.Scope.{Scope}
 use Rattle.seh_ir.specs.Scope.{in_loop, in_try, in_except, in_guarded}
-use Rattle.seh_ir.specs.Sizes.{expression_size, discarded_size, condition_size, returned_size, declared_size, all_declared_size, statement_size, statements_size}
+use Rattle.ir_sizes.specs.Sizes.{expression_size, discarded_size, condition_size, returned_size, declared_size, all_declared_size, statement_size, statements_size}
 use Rattle.seh_ir.specs.Expressions.{copy, constant, expression_code}
 use Rattle.seh_ir.specs.Statements.{jump_code, return_code, leave_code, discarded_code, returned_code, condition_code, initialiser_code, declared_code, all_declared_code, landed, repeated, statement_code, statements_code}
 use Rattle.seh_ir.proofs.Codes.{joined, longer, more, two, expression_length}
@@ -23,25 +23,25 @@ use Rattle.seh_ir.proofs.Arms.{after, after_one, after_expression}
 
 -- ---- lengths
 
-jump_length : (w : Way) → length (jump_code w) ≡ 2
+pub jump_length : (w : Way) → length (jump_code w) ≡ 2
 jump_length Nowhere = refl
 jump_length (Jumps l) = refl
 jump_length (Unwinds l) = refl
 
-return_length : (w : Way) → length (return_code w) ≡ 2
+pub return_length : (w : Way) → length (return_code w) ≡ 2
 return_length Nowhere = refl
 return_length (Jumps l) = refl
 return_length (Unwinds l) = refl
 
-discarded_length : (names : Names) (e : Option Expression) (at : ℕ) → length (discarded_code names e at) ≡ discarded_size e
+pub discarded_length : (names : Names) (e : Option Expression) (at : ℕ) → length (discarded_code names e at) ≡ discarded_size e
 discarded_length names None at = refl
 discarded_length names (Some e) at = two (expression_code names e 0 at) (Separator ∷ []) (expression_size e) 1 (expression_length names e 0 at) refl
 
-returned_length : (names : Names) (e : Option Expression) (at : ℕ) → length (returned_code names e at) ≡ returned_size e
+pub returned_length : (names : Names) (e : Option Expression) (at : ℕ) → length (returned_code names e at) ≡ returned_size e
 returned_length names None at = refl
 returned_length names (Some e) at = expression_length names e 0 at
 
-condition_length : (names : Names) (e : Option Expression) (label at : ℕ) → length (condition_code names e label at) ≡ condition_size e
+pub condition_length : (names : Names) (e : Option Expression) (label at : ℕ) → length (condition_code names e label at) ≡ condition_size e
 condition_length names None label at = refl
 condition_length names (Some e) label at = two (expression_code names e 0 at) (JumpIfZero (Temporary 0) label ∷ []) (expression_size e) 1 (expression_length names e 0 at) refl
 
@@ -49,10 +49,10 @@ initialiser_length : (names : Names) (x : ℕ) (e : Option Expression) (at : ℕ
 initialiser_length names x None at = refl
 initialiser_length names x (Some e) at = two (expression_code names e 0 at) (copy (Local x) (Temporary 0) ∷ Separator ∷ []) (expression_size e) 2 (expression_length names e 0 at) refl
 
-declared_length : (names : Names) (d : Declared) (at : ℕ) → length (declared_code names d at) ≡ declared_size d
+pub declared_length : (names : Names) (d : Declared) (at : ℕ) → length (declared_code names d at) ≡ declared_size d
 declared_length names d at = let i = initialiser_length names d.local d.value (at + 1) in omega arith
 
-all_declared_length : (names : Names) (ds : List Declared) (at : ℕ) → length (all_declared_code names ds at) ≡ all_declared_size ds
+pub all_declared_length : (names : Names) (ds : List Declared) (at : ℕ) → length (all_declared_code names ds at) ≡ all_declared_size ds
 all_declared_length names [] at = refl
 all_declared_length names (d ∷ ds) at = two (declared_code names d at) (all_declared_code names ds (at + declared_size d)) (declared_size d) (all_declared_size ds) (declared_length names d at) (all_declared_length names ds (at + declared_size d))
 

@@ -24,7 +24,7 @@ use Rattle.linear_code.specs.declared.instruction.Instruction.TheVariants.{Compu
 use Rattle.seh_ir.specs.declared.scope.ExceptionSource.{ExceptionSource}
 use Rattle.seh_ir.specs.declared.scope.Names.{Names}
 use Rattle.seh_ir.specs.declared.scope.ExceptionSource.TheVariants.{NoException, OfFilter, KeptIn}
-use Rattle.seh_ir.specs.Sizes.{address_count, read_size, expression_size, locate_size, conversion_size}
+use Rattle.ir_sizes.specs.Sizes.{address_count, read_size, expression_size, locate_size, conversion_size}
 
 -- ---- single instructions
 
@@ -62,7 +62,7 @@ unary_code o d = constant (d + 1) 0 ∷ combine d (Pure o) ∷ []
 
 -- at a place: one number where the temporary is 0, and another where it isn't
 abbrev pub choice_code : ℕ → ℕ → ℕ → ℕ → List Instruction
-choice_code d at zero other = JumpIfZero (Temporary d) (at + 3) ∷ constant d other ∷ Jump (at + 4) ∷ constant d zero ∷ []
+choice_code d at if_zero otherwise = JumpIfZero (Temporary d) (at + 3) ∷ constant d otherwise ∷ Jump (at + 4) ∷ constant d if_zero ∷ []
 
 -- ---- names
 
@@ -171,9 +171,9 @@ abbrev mutual
   node_code names (nodes.Not e) d at = expression_code names e d at ++ choice_code d (at + expression_size e) 1 0
   node_code names (nodes.And e f) d at =
       let second = at + expression_size e + 1 in
-      let zero = second + expression_size f + 3 in
+      let otherwise = second + expression_size f + 3 in
       expression_code names e d at
-      ++ (JumpIfZero (Temporary d) zero
+      ++ (JumpIfZero (Temporary d) otherwise
       ∷ (expression_code names f d second ++ choice_code d (second + expression_size f) 0 1))
   node_code names (nodes.Or e f) d at =
       let second = at + expression_size e + 3 in

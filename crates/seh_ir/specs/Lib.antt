@@ -1,6 +1,4 @@
-pub mod Views
 pub mod Scope
-pub mod Sizes
 pub mod Slots
 pub mod Expressions
 pub mod Pieces

@@ -6,7 +6,7 @@ use Rattle.linear_code.specs.declared.instruction.Instruction.TheVariants.{Retur
 use Rattle.linear_code.specs.Program.{LinearFunction, LinearFunclet, LinearProgram}
 use Rattle.seh_ir.specs.declared.scope.Scope.{Scope}
 use Rattle.seh_ir.specs.Scope.{function_scope}
-use Rattle.seh_ir.specs.Sizes.{statements_size, statements_notes}
+use Rattle.ir_sizes.specs.Sizes.{statements_size, statements_notes}
 use Rattle.seh_ir.specs.Slots.{body_with}
 use Rattle.seh_ir.specs.Expressions.{constant}
 use Rattle.seh_ir.specs.Statements.{statements_code}

@@ -10,7 +10,7 @@ use Rattle.c_checked.specs.declared.expression.Fixity.{Fixity}
 use Rattle.c_checked.specs.Expression.{Lvalue}
 use Rattle.linear_code.specs.declared.slot.Slot.TheVariants.{Temporary}
 use Rattle.linear_code.specs.declared.instruction.Instruction.{Instruction}
-use Rattle.seh_ir.specs.Sizes.{address_count}
+use Rattle.ir_sizes.specs.Sizes.{address_count}
 use Rattle.seh_ir.specs.Expressions.{constant, copy, combine, conversion_code, read_code, write_code, chosen_of}
 
 abbrev pub assigned : Lvalue → ℕ → List Instruction

@@ -13,7 +13,7 @@ use Rattle.seh_ir.specs.declared.scope.Way.{Way}
 use Rattle.seh_ir.specs.declared.scope.Scope.{Scope}
 use Rattle.seh_ir.specs.declared.scope.Way.TheVariants.{Nowhere, Jumps, Unwinds}
 use Rattle.seh_ir.specs.Scope.{in_loop, in_try, in_except, in_guarded}
-use Rattle.seh_ir.specs.Sizes.{expression_size, discarded_size, condition_size, declared_size, all_declared_size, statement_size, statements_size}
+use Rattle.ir_sizes.specs.Sizes.{expression_size, discarded_size, condition_size, declared_size, all_declared_size, statement_size, statements_size}
 use Rattle.seh_ir.specs.Expressions.{constant, copy, expression_code}
 
 -- ---- ways out; each takes two instructions, so that no size depends on where it leads

@@ -2,7 +2,6 @@
 
 ghost use Rattle.std.specs.Prelude.{◌≡◌, ◌+◌, ◌++◌, [], ◌∷◌, map, length, OnOk};
 ghost use Rattle.c_checked.specs.Expression as tree;
-ghost use Rattle.seh_ir.specs.Views as views;
 ghost use Rattle.seh_ir.specs.Expressions as spec;
 
 use crate::instructions::{abnormal, choose, constant, convert, exception_code, read, unary};
@@ -10,10 +9,11 @@ use crate::pieces::{
     after_place, assign, begin_compound, copy_down, end_compound, end_difference, increment,
     operate, skip, test,
 };
-use crate::scope::{Names, sum};
-use crate::sizes::expression_size;
+use crate::scope::Names;
 use c_checked::expression::{Expr, Lvalue, Node};
 use c_operations::operation::{Operation, Pure, Size};
+use ir_sizes::sizes::expression_size;
+use ir_sizes::sums::sum;
 use linear_code::instruction::Instruction;
 use linear_code::slot::Slot;
 use std::alloc::AllocError;
@@ -46,7 +46,7 @@ fn locate(
     place: &Lvalue,
     d: u64,
 ) -> Result<(), AllocError>
-    ensures { OnOk result (code.new.items ≡ code.old.items ++ spec.locate_code names (views.lvalue place.now) d (length code.old.items)) }
+    ensures { OnOk result (code.new.items ≡ code.old.items ++ spec.locate_code names (tree.lvalue place.now) d (length code.old.items)) }
 {
     match place {
         Lvalue::Local(_) => Ok(()),
@@ -72,7 +72,7 @@ fn read_node(
     place: &Lvalue,
     d: u64,
 ) -> Result<(), AllocError>
-    ensures { OnOk result (code.new.items ≡ code.old.items ++ (spec.locate_code names (views.lvalue place.now) d (length code.old.items) ++ spec.read_code (views.lvalue place.now) d d)) }
+    ensures { OnOk result (code.new.items ≡ code.old.items ++ (spec.locate_code names (tree.lvalue place.now) d (length code.old.items) ++ spec.read_code (tree.lvalue place.now) d d)) }
 {
     locate(code, names, place, d)?;
     read(code, place, d, d)
@@ -85,7 +85,7 @@ fn address(
     place: &Lvalue,
     d: u64,
 ) -> Result<(), AllocError>
-    ensures { OnOk result (code.new.items ≡ code.old.items ++ spec.address_code (views.lvalue place.now) d (spec.locate_code names (views.lvalue place.now) d (length code.old.items))) }
+    ensures { OnOk result (code.new.items ≡ code.old.items ++ spec.address_code (tree.lvalue place.now) d (spec.locate_code names (tree.lvalue place.now) d (length code.old.items))) }
 {
     match place {
         Lvalue::Local(_) => {

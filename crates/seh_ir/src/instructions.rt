@@ -1,13 +1,14 @@
 //! Single instructions, and those of conversions, names and places.
 
 ghost use Rattle.std.specs.Prelude.{◌≡◌, ◌+◌, ◌++◌, [], ◌∷◌, length, OnOk, IfOk};
-ghost use Rattle.seh_ir.specs.Views as views;
+ghost use Rattle.c_checked.specs.Expression as tree;
 ghost use Rattle.seh_ir.specs.Expressions as spec;
 
-use crate::scope::{ExceptionSource, sum};
+use crate::scope::ExceptionSource;
 use c_checked::expression::{Access, Conversion, Fixity, Lvalue};
 use c_operations::field::Field;
 use c_operations::operation::{Operation, Pure, Size};
+use ir_sizes::sums::sum;
 use linear_code::instruction::Instruction;
 use linear_code::slot::Slot;
 use seh_num::width::Width;
@@ -200,7 +201,7 @@ pub fn read(
     address: u64,
     to: u64,
 ) -> Result<(), AllocError>
-    ensures { OnOk result (code.new.items ≡ code.old.items ++ spec.read_code (views.lvalue place.now) address to) }
+    ensures { OnOk result (code.new.items ≡ code.old.items ++ spec.read_code (tree.lvalue place.now) address to) }
 {
     match place {
         Lvalue::Local(local) => {
@@ -226,7 +227,7 @@ fn store(access: Access, address: u64, from: u64, to: u64) -> Instruction
 
 /// A temporary to a place that was located.
 pub fn write(place: &Lvalue, address: u64, from: u64, to: u64) -> Instruction
-    ensures { result ≡ spec.write_code (views.lvalue place.now) address from to }
+    ensures { result ≡ spec.write_code (tree.lvalue place.now) address from to }
 {
     match place {
         Lvalue::Local(local) => copy(Slot::Local(*local), Slot::Temporary(from)),

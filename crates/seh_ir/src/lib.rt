@@ -12,6 +12,4 @@ pub mod lower;
 pub mod pieces;
 pub mod regions;
 pub mod scope;
-pub mod sizes;
-pub mod statement_sizes;
 pub mod statements;

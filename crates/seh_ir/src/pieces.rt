@@ -3,23 +3,23 @@
 ghost use Rattle.std.specs.Prelude.{◌≡◌, ◌+◌, ◌++◌, [], ◌∷◌, length, OnOk, IfOk};
 ghost use Rattle.linear_code.specs.declared.slot.Slot.TheVariants.{Temporary};
 ghost use Rattle.linear_code.specs.declared.instruction.Instruction.TheVariants.{Jump, JumpIfZero};
-ghost use Rattle.seh_ir.specs.Views as views;
-ghost use Rattle.seh_ir.specs.Sizes as sizes;
+ghost use Rattle.c_checked.specs.Expression as tree;
+ghost use Rattle.ir_sizes.specs.Sizes as sizes;
 ghost use Rattle.seh_ir.specs.Expressions as spec;
 ghost use Rattle.seh_ir.specs.Pieces as pieces;
 
 use crate::instructions::{chosen, combine, constant, convert, copy, read, write};
-use crate::scope::sum;
-use crate::sizes::address_count;
 use c_checked::expression::{Conversion, Fixity, Lvalue};
 use c_operations::operation::{Operation, Pure, Signedness, Size};
+use ir_sizes::sizes::address_count;
+use ir_sizes::sums::sum;
 use linear_code::instruction::Instruction;
 use linear_code::slot::Slot;
 use std::alloc::AllocError;
 
 /// The temporary after the address of a place that was located to `d`.
 pub fn after_place(place: &Lvalue, d: u64) -> Result<u64, AllocError>
-    ensures { IfOk result (λ n. n ≡ d + sizes.address_count (views.lvalue place.now)) }
+    ensures { IfOk result (λ n. n ≡ d + sizes.address_count (tree.lvalue place.now)) }
 {
     sum(d, address_count(place))
 }
@@ -32,7 +32,7 @@ pub fn operate(code: &mut Vec<Instruction>, d: u64, operation: Operation) -> Res
 }
 
 pub fn assign(code: &mut Vec<Instruction>, place: &Lvalue, d: u64) -> Result<(), AllocError>
-    ensures { OnOk result (code.new.items ≡ code.old.items ++ pieces.assigned (views.lvalue place.now) d) }
+    ensures { OnOk result (code.new.items ≡ code.old.items ++ pieces.assigned (tree.lvalue place.now) d) }
 {
     let from = after_place(place, d)?;
     code.push(write(place, d, from, d))?;
@@ -45,7 +45,7 @@ pub fn begin_compound(
     before: Conversion,
     d: u64,
 ) -> Result<(), AllocError>
-    ensures { OnOk result (code.new.items ≡ code.old.items ++ pieces.compound_begun (views.lvalue place.now) before d) }
+    ensures { OnOk result (code.new.items ≡ code.old.items ++ pieces.compound_begun (tree.lvalue place.now) before d) }
 {
     let old = after_place(place, d)?;
     read(code, place, d, old)?;
@@ -59,7 +59,7 @@ pub fn end_compound(
     after: Conversion,
     d: u64,
 ) -> Result<(), AllocError>
-    ensures { OnOk result (code.new.items ≡ code.old.items ++ pieces.compound_ended (views.lvalue place.now) operation after d) }
+    ensures { OnOk result (code.new.items ≡ code.old.items ++ pieces.compound_ended (tree.lvalue place.now) operation after d) }
 {
     let old = after_place(place, d)?;
     operate(code, old, operation)?;
@@ -117,7 +117,7 @@ fn end_increment(
     old: u64,
     d: u64,
 ) -> Result<(), AllocError>
-    ensures { OnOk result (code.new.items ≡ code.old.items ++ pieces.increment_ended (views.lvalue place.now) fixity old d) }
+    ensures { OnOk result (code.new.items ≡ code.old.items ++ pieces.increment_ended (tree.lvalue place.now) fixity old d) }
 {
     let new = sum(old, 1)?;
     code.push(write(place, d, new, new))?;
@@ -155,7 +155,7 @@ pub fn increment(
     after: Conversion,
     d: u64,
 ) -> Result<(), AllocError>
-    ensures { OnOk result (code.new.items ≡ code.old.items ++ pieces.incremented (views.lvalue place.now) fixity before operation amount after d) }
+    ensures { OnOk result (code.new.items ≡ code.old.items ++ pieces.incremented (tree.lvalue place.now) fixity before operation amount after d) }
 {
     let old = after_place(place, d)?;
     read(code, place, d, old)?;

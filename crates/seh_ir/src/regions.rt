@@ -3,15 +3,15 @@
 ghost use Rattle.std.specs.Prelude.{◌≡◌, ◌+◌, ◌-◌, ◌++◌, [], ◌∷◌, map, OnOk, IfOk};
 ghost use Rattle.linear_code.specs.declared.program.RegionKind.TheVariants as kinds;
 ghost use Rattle.c_checked.specs.Statement as statements;
-ghost use Rattle.seh_ir.specs.Sizes as sizes;
+ghost use Rattle.ir_sizes.specs.Sizes as sizes;
 ghost use Rattle.seh_ir.specs.Regions as spec;
 
-use crate::scope::sum;
-use crate::sizes::expression_size;
-use crate::statement_sizes::{
+use c_checked::statement::{Filter, Stmt};
+use ir_sizes::sizes::expression_size;
+use ir_sizes::statement_sizes::{
     all_declared_size, condition_size, discarded_size, statement_size, statements_size,
 };
-use c_checked::statement::{Filter, Stmt};
+use ir_sizes::sums::sum;
 use linear_code::program::{Region, RegionKind};
 use std::alloc::AllocError;
 

@@ -1,8 +1,9 @@
 //! What is around a part of a program that is lowered.
 
-ghost use Rattle.std.specs.Prelude.{◌≡◌, ◌+◌, max, IfOk};
+ghost use Rattle.std.specs.Prelude.{◌≡◌, ◌+◌, IfOk};
 ghost use Rattle.seh_ir.specs.Scope as spec;
 
+use ir_sizes::sums::sum;
 use std::alloc::AllocError;
 
 /// Where the code of an exception is found.
@@ -43,13 +44,6 @@ pub struct Scope {
     pub loop_end: Way,
     pub loop_next: Way,
     pub leave: Option<u64>,
-}
-
-/// A sum, which a program that fits in memory keeps below 2^64.
-pub fn sum(a: u64, b: u64) -> Result<u64, AllocError>
-    ensures { IfOk result (λ n. n ≡ a + b) }
-{
-    a.checked_add(b).ok_or(AllocError)
 }
 
 /// The names in an `__except` block.
@@ -155,11 +149,4 @@ pub fn in_guarded(end: u64, scope: &Scope) -> Scope
         loop_next: unwound(scope.loop_next),
         leave: Some(end),
     }
-}
-
-/// The larger of two numbers.
-pub fn larger(a: u64, b: u64) -> u64
-    ensures { result ≡ max a b }
-{
-    a.max(b)
 }

@@ -2,7 +2,7 @@ ghost use Rattle.std.specs.Prelude.{◌≡◌, ℕ, All, IfOk};
 ghost use Rattle.seh_num.specs.declared.width.Width.TheVariants.{W64};
 ghost use Rattle.flat_memory.specs.Memory.{loaded, after_store};
 ghost use Rattle.x64_memory.specs.PageMaps.{memory_of, holds};
-ghost use Rattle.x64_memory.specs.Regions.{IsWhole, HoldsArena, in_regions, mapped};
+ghost use Rattle.x64_memory.specs.Regions.{AreAscending, IsWhole, HoldsArena, in_regions, mapped};
 
 use flat_memory::access::RefusedAccess;
 use seh_num::width::Width;
@@ -285,6 +285,7 @@ fn in_new_memory(
     value: u64,
 ) -> Result<Result<u64, RefusedAccess>, AllocError>
     requires whole { All IsWhole regions.now }
+    requires ascending { AreAscending 0 regions.now }
     requires arena { HoldsArena regions.now }
     ensures { IfOk result (λ r. r ≡ loaded (after_store (mapped regions.now) at W64 value) at W64) }
 {

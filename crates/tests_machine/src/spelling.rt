@@ -4,7 +4,8 @@ use arrayvec::ArrayVec;
 use seh_num::width::Width;
 use seh_num::width::Width::{W8, W16, W32, W64};
 use std::process::Abort;
-use x64_encode::encoding::{encode, is_encodable};
+use x64_encode::encodable::is_encodable;
+use x64_encode::encoding::encode;
 use x64_instr::decoding::decode;
 use x64_instr::instruction::Condition::{
     Above, AboveOrEqual, Below, BelowOrEqual, Equal, Greater, GreaterOrEqual, Less, LessOrEqual,

@@ -19,7 +19,8 @@ use Rattle.x64_machine.specs.declared.context.Context.{Context}
 use Rattle.virtual_unwind.specs.declared.tail.Role.{Role}
 use Rattle.virtual_unwind.specs.declared.tail.Role.TheVariants.{Opens, Restores, Ends, Other}
 use Rattle.virtual_unwind.specs.Contexts.{get, set, rsp, with_rsp, rsp_raised}
-use Rattle.virtual_unwind.specs.Undone.{Answer, ◌>>=◌, word, popped}
+use Rattle.pe_image.specs.Answer.{◌>>=◌}
+use Rattle.virtual_unwind.specs.Undone.{Answer, word, popped}
 
 -- ---- instructions as they are fetched
 

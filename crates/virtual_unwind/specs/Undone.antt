@@ -3,6 +3,7 @@ use Rattle.std.specs.Prelude.{ℕ, ◌+◌, ◌-◌, ◌*◌, ◌%◌, ◌^◌, 
 use Rattle.seh_num.specs.declared.width.Width.TheVariants.{W64}
 use Rattle.flat_memory.specs.declared.access.RefusedAccess.{RefusedAccess}
 use Rattle.flat_memory.specs.Memory.{Memory, loaded}
+use Rattle.pe_image.specs.Answer.{◌>>=◌}
 use Rattle.x64_machine.specs.declared.context.Context.{Context}
 use Rattle.eh_tables.specs.declared.code.UnwindOperation.{UnwindOperation}
 use Rattle.eh_tables.specs.declared.code.UnwindOperation.TheVariants.{Push, Allocate, SetFrame, Save, SaveVector, MachineFrame}
@@ -14,11 +15,6 @@ use Rattle.virtual_unwind.specs.Contexts.{get, set, rsp, with_rsp, rsp_raised}
 
 abbrev pub Answer : Type 0 → Type 0
 Answer A = Result A UnwindErr
-
-infixl 10 ◌>>=◌
-abbrev pub ◌>>=◌ : {A B : Type 0} → Answer A → (A → Answer B) → Answer B
-(Ok x) >>= f = f x
-(Err e) >>= f = Err e
 
 -- a word of the stack
 abbrev pub readable : ℕ → Result ℕ RefusedAccess → Answer ℕ

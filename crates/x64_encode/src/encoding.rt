@@ -6,6 +6,7 @@ ghost use Rattle.seh_num.specs.declared.width.Width.TheVariants.{W32};
 ghost use Rattle.seh_num.specs.Widths.{low};
 ghost use Rattle.x64_encode.specs.Chosen as spec;
 ghost use Rattle.x64_encode.specs.Chosen.{chosen, encoded_len, IsEncodable};
+ghost use Rattle.x64_instr.specs.Families.{IsMove, IsComputation, IsTransfer};
 ghost use Rattle.x64_instr.specs.Spelling.{leading, IsEncoding};
 
 use crate::opcodes::{
@@ -16,163 +17,10 @@ use crate::writing::{Opcode, is_signed, put_modrm, put_number, put_opcode_regist
 use arrayvec::ArrayVec;
 use seh_num::extension::zero_extend;
 use seh_num::width::Width;
-use x64_instr::instruction::{Count, Extension, Instr, Operation, Target};
-use x64_instr::operand::{Base, Index, Operand, RegisterOrMemory};
+use x64_instr::instruction::{Count, Division, Extension, Instr, Operation, Target, Unary};
+use x64_instr::operand::{Operand, RegisterOrMemory};
 use x64_instr::prefixes::immediate_of;
 use x64_instr::register::Reg;
-
-fn is_index(base: Base, index: Option<Index>) -> bool
-    ensures { result ≡ spec.is_index base index }
-{
-    match (base, index) {
-        (_, None) => true,
-        (Base::Rip, Some(_)) => false,
-        (_, Some(index)) => index.register != Reg::Rsp,
-    }
-}
-
-fn is_place(place: RegisterOrMemory) -> bool
-    ensures { result ≡ spec.is_place place }
-{
-    match place {
-        RegisterOrMemory::Register(_) => true,
-        RegisterOrMemory::Memory(memory) => {
-            is_index(memory.base, memory.index)
-                && is_signed(Width::W32, Width::W64, memory.displacement)
-        }
-    }
-}
-
-fn is_wide(width: Width) -> bool
-    ensures { result ≡ spec.is_wide width }
-{
-    match width {
-        Width::W32 | Width::W64 => true,
-        _ => false,
-    }
-}
-
-fn is_immediate(width: Width, value: u64) -> bool
-    ensures { result ≡ spec.is_immediate width value }
-{
-    is_signed(immediate_of(width), width, value)
-}
-
-fn is_widened(extension: Extension, width: Width, narrow: Width) -> bool
-    ensures { result ≡ spec.is_widened extension width narrow }
-{
-    match (extension, width, narrow) {
-        (_, _, Width::W8 | Width::W16) => is_wide(width),
-        (Extension::Sign, Width::W64, Width::W32) => true,
-        _ => false,
-    }
-}
-
-fn is_count(count: Count) -> bool
-    ensures { result ≡ spec.is_count count }
-{
-    match count {
-        Count::Immediate(number) => number < 1 << 8,
-        Count::Cl => true,
-    }
-}
-
-fn is_target(target: Target) -> bool
-    ensures { result ≡ spec.is_target target }
-{
-    match target {
-        Target::Relative(displacement) => is_signed(Width::W32, Width::W64, displacement),
-        Target::Indirect(at) => is_place(at),
-    }
-}
-
-fn is_move(width: Width, to: RegisterOrMemory, from: Operand) -> bool
-    ensures { result ≡ spec.is_encodable (Instr.Move width to from) }
-{
-    match (to, from) {
-        (to, Operand::Register(_)) => is_place(to),
-        (RegisterOrMemory::Register(_), Operand::Memory(memory)) => is_place(
-            RegisterOrMemory::Memory(memory),
-        ),
-        (RegisterOrMemory::Register(_), Operand::Immediate(value)) => u128::from(value)
-            < width.limit(),
-        (RegisterOrMemory::Memory(_), Operand::Immediate(value)) => is_place(to)
-            && is_immediate(width, value),
-        (RegisterOrMemory::Memory(_), Operand::Memory(_)) => false,
-    }
-}
-
-fn is_arithmetic(operation: Operation, width: Width, to: RegisterOrMemory, from: Operand) -> bool
-    ensures { result ≡ spec.is_encodable (Instr.Arithmetic operation width to from) }
-{
-    match (to, from) {
-        (to, Operand::Register(_)) => is_place(to),
-        (to, Operand::Immediate(value)) => is_place(to) && is_immediate(width, value),
-        (RegisterOrMemory::Register(_), Operand::Memory(memory)) => is_place(
-            RegisterOrMemory::Memory(memory),
-        ),
-        (RegisterOrMemory::Memory(_), Operand::Memory(_)) => false,
-    }
-}
-
-fn is_test(width: Width, first: RegisterOrMemory, second: Operand) -> bool
-    ensures { result ≡ spec.is_encodable (Instr.Test width first second) }
-{
-    match second {
-        Operand::Register(_) => is_place(first),
-        Operand::Immediate(value) => is_place(first) && is_immediate(width, value),
-        Operand::Memory(_) => false,
-    }
-}
-
-/// Whether some bytes spell the instruction.
-pub fn is_encodable(instr: &Instr) -> bool
-    ensures { result ≡ spec.is_encodable instr.now }
-{
-    match *instr {
-        Instr::Move { width, to, from } => is_move(width, to, from),
-        Instr::Extend {
-            extension,
-            width,
-            narrow,
-            from,
-            ..
-        } => is_widened(extension, width, narrow) && is_place(from),
-        Instr::LoadAddress { width, from, .. } => is_wide(width)
-            && is_place(RegisterOrMemory::Memory(from)),
-        Instr::Arithmetic {
-            operation,
-            width,
-            to,
-            from,
-        } => is_arithmetic(operation, width, to, from),
-        Instr::Test {
-            width,
-            first,
-            second,
-        } => is_test(width, first, second),
-        Instr::Multiply { width, from, .. } => is_wide(width) && is_place(from),
-        Instr::MultiplyBy {
-            width,
-            from,
-            by,
-            ..
-        } => is_wide(width) && (is_place(from) && is_immediate(width, by)),
-        Instr::Unary { to, .. } => is_place(to),
-        Instr::Divide { width, by, .. } => is_wide(width) && is_place(by),
-        Instr::ExtendRax { width } => is_wide(width),
-        Instr::Shift { width, to, by, .. } => is_wide(width) && (is_place(to) && is_count(by)),
-        Instr::Set { to, .. } => is_place(to),
-        Instr::JumpIf { displacement, .. } => is_signed(Width::W32, Width::W64, displacement),
-        Instr::Jump(to) | Instr::Call(to) => is_target(to),
-        Instr::Push(_)
-        | Instr::Pop(_)
-        | Instr::Return
-        | Instr::NoOperation
-        | Instr::Breakpoint
-        | Instr::Undefined => true,
-    }
-}
 
 /// An immediate, of at most 32 bits.
 fn put_immediate(into: &mut ArrayVec<u8, 15>, width: Width, value: u64)
@@ -394,8 +242,29 @@ fn put_plain(into: &mut ArrayVec<u8, 15>, width: Width, opcode: u8)
     into.push(opcode);
 }
 
-fn put_instr(instr: &Instr, into: &mut ArrayVec<u8, 15>)
-    requires { IsEncodable instr.now }
+fn encode_unary(into: &mut ArrayVec<u8, 15>, operation: Unary, width: Width, to: RegisterOrMemory)
+    ensures { into.new.items ≡ chosen (Instr.Unary operation width to) }
+{
+    let opcode = Opcode::One(sized_opcode(width, 0xF6));
+    put_modrm(into, width, opcode, unary_opcode_extension(operation), to);
+}
+
+fn encode_divide(
+    into: &mut ArrayVec<u8, 15>,
+    division: Division,
+    width: Width,
+    by: RegisterOrMemory,
+)
+    ensures { into.new.items ≡ chosen (Instr.Divide division width by) }
+{
+    let extension = division_opcode_extension(division);
+    put_modrm(into, width, Opcode::One(0xF7), extension, by);
+}
+
+/// An instruction that puts a value into a place.
+fn put_move(instr: &Instr, into: &mut ArrayVec<u8, 15>)
+    requires encodable { IsEncodable instr.now }
+    requires family { IsMove instr.now }
     ensures { into.new.items ≡ chosen instr.now }
 {
     match *instr {
@@ -411,14 +280,25 @@ fn put_instr(instr: &Instr, into: &mut ArrayVec<u8, 15>)
             put_modrm(into, extend_width(width, narrow), opcode, to.number(), from);
         }
         Instr::LoadAddress { width, to, from } => {
-            put_modrm(
-                into,
-                width,
-                Opcode::One(0x8D),
-                to.number(),
-                RegisterOrMemory::Memory(from),
-            );
+            let place = RegisterOrMemory::Memory(from);
+            put_modrm(into, width, Opcode::One(0x8D), to.number(), place);
         }
+        Instr::ExtendRax { width } => put_plain(into, width, 0x99),
+        Instr::Set { condition, to } => {
+            let opcode = Opcode::Two(0x90 + condition_number(condition));
+            put_modrm(into, Width::W8, opcode, 0, to);
+        }
+        _ => unreachable!(),
+    }
+}
+
+/// An instruction that computes with the value of a place.
+fn put_computation(instr: &Instr, into: &mut ArrayVec<u8, 15>)
+    requires encodable { IsEncodable instr.now }
+    requires family { IsComputation instr.now }
+    ensures { into.new.items ≡ chosen instr.now }
+{
+    match *instr {
         Instr::Arithmetic {
             operation,
             width,
@@ -443,32 +323,29 @@ fn put_instr(instr: &Instr, into: &mut ArrayVec<u8, 15>)
             operation,
             width,
             to,
-        } => {
-            let opcode = Opcode::One(sized_opcode(width, 0xF6));
-            put_modrm(into, width, opcode, unary_opcode_extension(operation), to);
-        }
+        } => encode_unary(into, operation, width, to),
         Instr::Divide {
             division,
             width,
             by,
-        } => put_modrm(
-            into,
-            width,
-            Opcode::One(0xF7),
-            division_opcode_extension(division),
-            by,
-        ),
-        Instr::ExtendRax { width } => put_plain(into, width, 0x99),
+        } => encode_divide(into, division, width, by),
         Instr::Shift {
             direction,
             width,
             to,
             by,
         } => encode_shift(into, width, direction_opcode_extension(direction), to, by),
-        Instr::Set { condition, to } => {
-            let opcode = Opcode::Two(0x90 + condition_number(condition));
-            put_modrm(into, Width::W8, opcode, 0, to);
-        }
+        _ => unreachable!(),
+    }
+}
+
+/// An instruction that jumps, or takes the stack's top.
+fn put_transfer(instr: &Instr, into: &mut ArrayVec<u8, 15>)
+    requires encodable { IsEncodable instr.now }
+    requires family { IsTransfer instr.now }
+    ensures { into.new.items ≡ chosen instr.now }
+{
+    match *instr {
         Instr::JumpIf {
             condition,
             displacement,
@@ -483,6 +360,33 @@ fn put_instr(instr: &Instr, into: &mut ArrayVec<u8, 15>)
         Instr::Push(register) => put_opcode_register(into, Width::W32, 0x50, register),
         Instr::Pop(register) => put_opcode_register(into, Width::W32, 0x58, register),
         Instr::Return => put_plain(into, Width::W32, 0xC3),
+        _ => unreachable!(),
+    }
+}
+
+fn put_instr(instr: &Instr, into: &mut ArrayVec<u8, 15>)
+    requires { IsEncodable instr.now }
+    ensures { into.new.items ≡ chosen instr.now }
+{
+    match *instr {
+        Instr::Move { .. }
+        | Instr::Extend { .. }
+        | Instr::LoadAddress { .. }
+        | Instr::ExtendRax { .. }
+        | Instr::Set { .. } => put_move(instr, into),
+        Instr::Arithmetic { .. }
+        | Instr::Test { .. }
+        | Instr::Multiply { .. }
+        | Instr::MultiplyBy { .. }
+        | Instr::Unary { .. }
+        | Instr::Divide { .. }
+        | Instr::Shift { .. } => put_computation(instr, into),
+        Instr::JumpIf { .. }
+        | Instr::Jump(_)
+        | Instr::Call(_)
+        | Instr::Push(_)
+        | Instr::Pop(_)
+        | Instr::Return => put_transfer(instr, into),
         Instr::NoOperation => put_plain(into, Width::W32, 0x90),
         Instr::Breakpoint => put_plain(into, Width::W32, 0xCC),
         Instr::Undefined => {

@@ -5,6 +5,7 @@
 //! takes memory.
 #![tactic(auto)]
 
+pub mod encodable;
 pub mod encoding;
 mod opcodes;
 pub mod writing;

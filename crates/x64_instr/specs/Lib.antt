@@ -1,3 +1,4 @@
+pub mod Families
 pub mod Registers
 pub mod Reading
 pub mod Operands

@@ -2,6 +2,7 @@
 
 ghost use Rattle.std.specs.Prelude.{◌≡◌, ◌<◌, ℕ, IfOk};
 ghost use Rattle.seh_num.specs.Widths.{limit};
+ghost use Rattle.x64_instr.specs.Families.{IsMove, IsComputation, IsTransfer};
 ghost use Rattle.x64_machine.specs.Effect as spec;
 ghost use Rattle.x64_machine.specs.Effect.{State};
 
@@ -160,6 +161,21 @@ fn shift_by<S: AddressSpace>(
     write(cpu, space, width, to, value)
 }
 
+fn shift_by_count<S: AddressSpace>(
+    cpu: Cpu,
+    space: &mut S,
+    direction: Direction,
+    width: Width,
+    to: &RegisterOrMemory,
+    by: Count,
+) -> Result<Cpu, Stop>
+    ensures answer { result ≡ spec.cpu_of (spec.shift (spec.state cpu (S.memory space.old)) direction width to.now by) }
+    ensures memory { S.memory space.new ≡ spec.memory_after (S.memory space.old) (spec.shift (spec.state cpu (S.memory space.old)) direction width to.now by) }
+{
+    let count = count_of(width, amount(&cpu, by));
+    shift_by(cpu, space, direction, width, to, count)
+}
+
 fn product<S: AddressSpace>(
     mut cpu: Cpu,
     space: &S,
@@ -247,13 +263,9 @@ fn widened(extension: Extension, width: Width, narrow: Width, value: u64) -> u64
     }
 }
 
-/// What an instruction does, where RIP is that of the next one. INT3 and UD2 have no effect, and are
-/// stopped before it.
-pub(crate) fn effect<S: AddressSpace>(
-    mut cpu: Cpu,
-    space: &mut S,
-    instr: &Instr,
-) -> Result<Cpu, Stop>
+/// What an instruction does that puts a value into a place.
+fn move_effect<S: AddressSpace>(mut cpu: Cpu, space: &mut S, instr: &Instr) -> Result<Cpu, Stop>
+    requires { IsMove instr.now }
     ensures answer { result ≡ spec.cpu_of (spec.effect (spec.state cpu (S.memory space.old)) instr.now) }
     ensures memory { S.memory space.new ≡ spec.memory_after (S.memory space.old) (spec.effect (spec.state cpu (S.memory space.old)) instr.now) }
 {
@@ -279,6 +291,26 @@ pub(crate) fn effect<S: AddressSpace>(
             cpu.set_register(*width, *to, address);
             Ok(cpu)
         }
+        Instr::ExtendRax { width } => {
+            let sign = sign_of_rax(*width, &cpu);
+            cpu.set_register(*width, Reg::Rdx, sign);
+            Ok(cpu)
+        }
+        Instr::Set { condition, to } => {
+            let value = condition_byte(cpu.flags, *condition);
+            write(cpu, space, Width::W8, to, value)
+        }
+        _ => unreachable!(),
+    }
+}
+
+/// What an instruction does that computes with the value of a place.
+fn computation_effect<S: AddressSpace>(cpu: Cpu, space: &mut S, instr: &Instr) -> Result<Cpu, Stop>
+    requires { IsComputation instr.now }
+    ensures answer { result ≡ spec.cpu_of (spec.effect (spec.state cpu (S.memory space.old)) instr.now) }
+    ensures memory { S.memory space.new ≡ spec.memory_after (S.memory space.old) (spec.effect (spec.state cpu (S.memory space.old)) instr.now) }
+{
+    match instr {
         Instr::Arithmetic {
             operation,
             width,
@@ -307,24 +339,23 @@ pub(crate) fn effect<S: AddressSpace>(
             width,
             by,
         } => quotient(cpu, space, *division, *width, by),
-        Instr::ExtendRax { width } => {
-            let sign = sign_of_rax(*width, &cpu);
-            cpu.set_register(*width, Reg::Rdx, sign);
-            Ok(cpu)
-        }
         Instr::Shift {
             direction,
             width,
             to,
             by,
-        } => {
-            let count = count_of(*width, amount(&cpu, *by));
-            shift_by(cpu, space, *direction, *width, to, count)
-        }
-        Instr::Set { condition, to } => {
-            let value = condition_byte(cpu.flags, *condition);
-            write(cpu, space, Width::W8, to, value)
-        }
+        } => shift_by_count(cpu, space, *direction, *width, to, *by),
+        _ => unreachable!(),
+    }
+}
+
+/// What an instruction does that jumps, or takes the stack's top.
+fn transfer_effect<S: AddressSpace>(cpu: Cpu, space: &mut S, instr: &Instr) -> Result<Cpu, Stop>
+    requires { IsTransfer instr.now }
+    ensures answer { result ≡ spec.cpu_of (spec.effect (spec.state cpu (S.memory space.old)) instr.now) }
+    ensures memory { S.memory space.new ≡ spec.memory_after (S.memory space.old) (spec.effect (spec.state cpu (S.memory space.old)) instr.now) }
+{
+    match instr {
         Instr::JumpIf {
             condition,
             displacement,
@@ -345,6 +376,35 @@ pub(crate) fn effect<S: AddressSpace>(
             after.rip = value;
             Ok(after)
         }
+        _ => unreachable!(),
+    }
+}
+
+/// What an instruction does, where RIP is that of the next one. INT3 and UD2 have no effect, and are
+/// stopped before it.
+pub(crate) fn effect<S: AddressSpace>(cpu: Cpu, space: &mut S, instr: &Instr) -> Result<Cpu, Stop>
+    ensures answer { result ≡ spec.cpu_of (spec.effect (spec.state cpu (S.memory space.old)) instr.now) }
+    ensures memory { S.memory space.new ≡ spec.memory_after (S.memory space.old) (spec.effect (spec.state cpu (S.memory space.old)) instr.now) }
+{
+    match instr {
+        Instr::Move { .. }
+        | Instr::Extend { .. }
+        | Instr::LoadAddress { .. }
+        | Instr::ExtendRax { .. }
+        | Instr::Set { .. } => move_effect(cpu, space, instr),
+        Instr::Arithmetic { .. }
+        | Instr::Test { .. }
+        | Instr::Multiply { .. }
+        | Instr::MultiplyBy { .. }
+        | Instr::Unary { .. }
+        | Instr::Divide { .. }
+        | Instr::Shift { .. } => computation_effect(cpu, space, instr),
+        Instr::JumpIf { .. }
+        | Instr::Jump(_)
+        | Instr::Call(_)
+        | Instr::Push(_)
+        | Instr::Pop(_)
+        | Instr::Return => transfer_effect(cpu, space, instr),
         Instr::NoOperation => Ok(cpu),
         Instr::Breakpoint | Instr::Undefined => Err(Stop::Illegal { rip: cpu.rip }),
     }

@@ -1,25 +1,21 @@
--- Regions mapped page by page, and bytes put piece by piece.
-use Rattle.std.proofs.Common.{◌≡◌, ◌≢◌, ℕ, zero, suc, ◌+◌, ◌-◌, ◌*◌, ◌/◌, ◌%◌, ◌<◌, ◌≤◌, Bool, true, false, cond, eqb, ◌||◌, List, [], ◌++◌, length, take, get_or, Some, is_some, refl, sym, ap, ◌∙◌, arith, inl, inr, eq-eqb, replicate, length-append}
-use Rattle.std.specs.Ordering.{nat_cmp}
-use Rattle.std.specs.BTreeMap as tree
-use Rattle.std.specs.BTreeMap.{BTreeMap, is_at}
-use Rattle.std.specs.Map.{lookup}
+-- Regions mapped one after another, and bytes put piece by piece.
+use Rattle.std.proofs.Common.{◌≡◌, ◌≢◌, ℕ, zero, suc, ◌+◌, ◌-◌, ◌*◌, ◌/◌, ◌%◌, ◌<◌, ◌≤◌, Bool, true, false, cond, eqb, ◌||◌, List, [], ◌++◌, length, take, get_or, Option, Some, is_some, refl, sym, ap, ◌∙◌, arith, inl, inr, eq-eqb, replicate, subst, ◌∷◌, length-append}
 use Rattle.std.proofs.lemmas.Bool.{cases_eq, cases_lt, ne_eqb, lt-ltb, le-ltb, le-leb, lt-leb}
-use Rattle.std.proofs.lemmas.List.{get_or-append-add, get_or_append_left, get_or-take, get_or-drop, length-take-le}
+use Rattle.std.proofs.lemmas.List.{length-replicate, get_or-append-add, get_or_append_left, get_or-take, get_or-drop, length-take-le}
 use borrow.Rule.Slice.PartMut.{put_mid, post_of}
 use Rattle.std.proofs.lemmas.Slice.{drop-put_mid}
 use Rattle.flat_memory.specs.declared.protection.Protection.{Protection}
 use Rattle.flat_memory.specs.Memory.{Memory}
 use Rattle.x64_memory.specs.declared.page.Page.{Page}
 use Rattle.x64_memory.specs.declared.region.Region.{Region}
-use Rattle.x64_memory.specs.Pages.{page_mode, page_byte, paged, has_page, HasArena, with_page, zero_page}
-use Rattle.x64_memory.specs.Regions.{region_mode, covers, with_region, unmapped, in_regions, HoldsArena, filled}
+use Rattle.x64_memory.specs.declared.stretch.Stretch.{Stretch}
+use Rattle.x64_memory.specs.Stretches.{has_number, index_of, page_at, page_numbered, AreLaid, count_from, end_from}
+use Rattle.x64_memory.proofs.Laid.{within, before, past, page_added, laid_more, count_more, end_more}
+use Rattle.x64_memory.specs.Pages.{page_mode, page_byte, paged, has_page, HasArena, zero_page}
+use Rattle.x64_memory.specs.Regions.{IsWhole, region_mode, covers, with_region, unmapped, in_regions, HoldsArena, filled}
 use Rattle.x64_memory.proofs.Paging.{page_changed}
 
--- ---- a region, page by page
-
-abbrev pub up_to : Region → ℕ → Region
-up_to r e = record r { end = e }
+-- ---- a region over others
 
 covered : (r : Region) (a : ℕ) → r.start ≤ a → a < r.end → covers r a ≡ true
 covered r a le lt = rw (le-leb r.start a le, lt-ltb a r.end lt) refl
@@ -27,73 +23,64 @@ covered r a le lt = rw (le-leb r.start a le, lt-ltb a r.end lt) refl
 below : (r : Region) (a : ℕ) → a < r.start → covers r a ≡ false
 below r a lt = rw (lt-leb r.start a lt) refl
 
-past : (r : Region) (a : ℕ) → r.start ≤ a → r.end ≤ a → covers r a ≡ false
-past r a le ge = rw (le-leb r.start a le, le-ltb a r.end ge) refl
-
 outside : (r : Region) (a : ℕ) → r.end ≤ a → covers r a ≡ false
-outside r a ge = elim (cases_lt a r.start) [ inl lt ↦ below r a lt | inr le ↦ past r a le ge ]
-
-none_covered : (r : Region) (a : ℕ) → r.end ≤ r.start → covers r a ≡ false
-none_covered r a e = elim (cases_lt a r.start) [ inl lt ↦ below r a lt | inr le ↦ past r a le (omega arith) ]
-
--- the next page is covered, and all else is as before
-page_covered : (r : Region) (k a : ℕ) → r.start % 4096 ≡ 0 → r.start / 4096 ≤ k → covers (up_to r (4096 * (k + 1))) a ≡ (eqb (a / 4096) k || covers (up_to r (4096 * k)) a)
-page_covered r k a e le = elim (cases_eq (a / 4096) k) [
-  | inl same ↦ covered (up_to r (4096 * (k + 1))) a (omega arith) (omega arith) ∙ sym (ap (λ b. b || covers (up_to r (4096 * k)) a) (eq-eqb (a / 4096) k same))
-  | inr other ↦ rest other ∙ sym (ap (λ b. b || covers (up_to r (4096 * k)) a) (ne_eqb (a / 4096) k other))
-]
-  where
-    rest : a / 4096 ≢ k → covers (up_to r (4096 * (k + 1))) a ≡ covers (up_to r (4096 * k)) a
-    rest n = elim (cases_lt a r.start) [
-      | inl lt ↦ below (up_to r (4096 * (k + 1))) a lt ∙ sym (below (up_to r (4096 * k)) a lt)
-      | inr le' ↦ elim (cases_lt a (4096 * k)) [
-        | inl lt ↦ covered (up_to r (4096 * (k + 1))) a le' (omega arith) ∙ sym (covered (up_to r (4096 * k)) a le' lt)
-        | inr ge ↦ past (up_to r (4096 * (k + 1))) a le' (omega arith) ∙ sym (past (up_to r (4096 * k)) a le' ge)
-      ]
-    ]
-
-either : {A : Type 0} (b c : Bool) (x y : A) → cond b x (cond c x y) ≡ cond (b || c) x y
-either true c x y = refl
-either false c x y = refl
+outside r a ge = elim (cases_lt a r.start) [ inl lt ↦ below r a lt | inr le ↦ rw (le-leb r.start a le, le-ltb a r.end ge) refl ]
 
 zeros : (n i : ℕ) → get_or (replicate {A = ℕ} n 0) i 0 ≡ 0
 zeros zero i = refl
 zeros (suc n) zero = refl
 zeros (suc n) (suc i) = zeros n i
 
--- one page more of a region
-pub region_more : (m : Memory) (r : Region) (k : ℕ) (protection : Protection) → r.start % 4096 ≡ 0 → r.start / 4096 ≤ k → protection ≡ region_mode r → with_page (with_region m (up_to r (4096 * k))) k (zero_page protection) ≡ with_region m (up_to r (4096 * (k + 1)))
-region_more m r k md e le protection = λ i. record {
-  protection = λ a. (ap (λ x. cond (eqb (a / 4096) k) x (cond (covers (up_to r (4096 * k)) a) (region_mode r) (m.protection a))) protection ∙ either (eqb (a / 4096) k) (covers (up_to r (4096 * k)) a) (region_mode r) (m.protection a) ∙ ap (λ b. cond b (region_mode r) (m.protection a)) (sym (page_covered r k a e le))) i;
-  byte = λ a. (ap (λ x. cond (eqb (a / 4096) k) x (cond (covers (up_to r (4096 * k)) a) 0 (m.byte a))) (zeros 4096 (a % 4096)) ∙ either (eqb (a / 4096) k) (covers (up_to r (4096 * k)) a) 0 (m.byte a) ∙ ap (λ b. cond b 0 (m.byte a)) (sym (page_covered r k a e le))) i;
-}
+mode_either : (b : Bool) (z : Page) (o : Option Page) → page_mode (cond b (Some z) o) ≡ cond b z.protection (page_mode o)
+mode_either true z o = refl
+mode_either false z o = refl
 
-pub region_none : (m : Memory) (r : Region) (e : ℕ) → e ≤ r.start → m ≡ with_region m (up_to r e)
-region_none m r e le = λ i. record {
-  protection = λ a. ap (λ b. cond b (region_mode r) (m.protection a)) (sym (none_covered (up_to r e) a le)) i;
-  byte = λ a. ap (λ b. cond b 0 (m.byte a)) (sym (none_covered (up_to r e) a le)) i;
-}
+byte_either : (b : Bool) (z : Page) (o : Option Page) (i : ℕ) → page_byte (cond b (Some z) o) i ≡ cond b (get_or z.bytes i 0) (page_byte o i)
+byte_either true z o i = refl
+byte_either false z o i = refl
 
-or_assoc : (a b c : Bool) → (a || (b || c)) ≡ ((a || b) || c)
-or_assoc true b c = refl
-or_assoc false b c = refl
+has_either : (b : Bool) (z : Page) (o : Option Page) → is_some (cond b (Some z) o) ≡ (b || is_some o)
+has_either true z o = refl
+has_either false z o = refl
 
-pub holds_more : (r : Region) (k a : ℕ) (before : Bool) → r.start % 4096 ≡ 0 → r.start / 4096 ≤ k → (eqb (a / 4096) k || (covers (up_to r (4096 * k)) a || before)) ≡ (covers (up_to r (4096 * (k + 1))) a || before)
-holds_more r k a before e le = or_assoc (eqb (a / 4096) k) (covers (up_to r (4096 * k)) a) before ∙ ap (λ b. b || before) (sym (page_covered r k a e le))
+module _ (r : Region) (s : Stretch) (start : r.start % 4096 ≡ 0) (end : r.end % 4096 ≡ 0) (first_is : s.first ≡ r.start / 4096) (end_is : s.end ≡ r.end / 4096) where
+  -- a stretch of a region's pages has the page of each address that the region covers
+  pub has_covered : (a : ℕ) → has_number s (a / 4096) ≡ covers r a
+  has_covered a = elim (cases_lt a r.start) [
+    | inl lt ↦ before s (a / 4096) (omega arith) ∙ sym (below r a lt)
+    | inr le ↦ elim (cases_lt a r.end) [
+      | inl lt ↦ within s (a / 4096) (omega arith) (omega arith) ∙ sym (covered r a le lt)
+      | inr ge ↦ past s (a / 4096) (omega arith) ∙ sym (outside r a ge)
+    ]
+  ]
+
+  module _ (old new : ℕ → Option Page) (protection : Protection) (mode : protection ≡ region_mode r) (has : (k : ℕ) → new k ≡ cond (has_number s k) (Some (zero_page protection)) (old k)) where
+    mode_over : (a : ℕ) → page_mode (new (a / 4096)) ≡ cond (covers r a) (region_mode r) (page_mode (old (a / 4096)))
+    mode_over a = ap page_mode (has (a / 4096)) ∙ mode_either (has_number s (a / 4096)) (zero_page protection) (old (a / 4096)) ∙ ap (λ b. cond b protection (page_mode (old (a / 4096)))) (has_covered a) ∙ ap (λ m. cond (covers r a) m (page_mode (old (a / 4096)))) mode
+
+    byte_over : (a : ℕ) → page_byte (new (a / 4096)) (a % 4096) ≡ cond (covers r a) 0 (page_byte (old (a / 4096)) (a % 4096))
+    byte_over a = ap (λ o. page_byte o (a % 4096)) (has (a / 4096)) ∙ byte_either (has_number s (a / 4096)) (zero_page protection) (old (a / 4096)) (a % 4096) ∙ ap (λ b. cond b (get_or (zero_page protection).bytes (a % 4096) 0) (page_byte (old (a / 4096)) (a % 4096))) (has_covered a) ∙ ap (λ x. cond (covers r a) x (page_byte (old (a / 4096)) (a % 4096))) (zeros 4096 (a % 4096))
+
+    pub region_over : paged new ≡ with_region (paged old) r
+    unfolding paged
+    region_over = λ i. record { protection = λ a. mode_over a i; byte = λ a. byte_over a i }
+
+    pub holds_over : (a : ℕ) → has_page new a ≡ (covers r a || has_page old a)
+    holds_over a = ap is_some (has (a / 4096)) ∙ has_either (has_number s (a / 4096)) (zero_page protection) (old (a / 4096)) ∙ ap (λ b. b || has_page old a) (has_covered a)
 
 -- ---- all regions
 
-pub empty_map : (pages : BTreeMap ℕ Page) → pages.entries ≡ [] → paged pages ≡ unmapped
+pub empty_memory : (stretches : List Stretch) (pages : List Page) → stretches ≡ [] → paged (page_numbered stretches pages) ≡ unmapped
 unfolding paged
-empty_map pages e = λ i. record { protection = λ a. page_mode (lookup (is_at (nat_cmp (a / 4096))) (e i)); byte = λ a. page_byte (lookup (is_at (nat_cmp (a / 4096))) (e i)) (a % 4096) }
+empty_memory stretches pages e = λ i. record { protection = λ a. page_mode (page_at pages (index_of (e i) (a / 4096))); byte = λ a. page_byte (page_at pages (index_of (e i) (a / 4096))) (a % 4096) }
 
-pub empty_holds : (pages : BTreeMap ℕ Page) (a : ℕ) → pages.entries ≡ [] → has_page pages a ≡ false
-empty_holds pages a e = λ i. is_some (lookup (is_at (nat_cmp (a / 4096))) (e i))
+pub empty_holds : (stretches : List Stretch) (pages : List Page) (a : ℕ) → stretches ≡ [] → has_page (page_numbered stretches pages) a ≡ false
+empty_holds stretches pages a e = λ i. is_some (page_at pages (index_of (e i) (a / 4096)))
 
-pub arena_mapped : (pages : BTreeMap ℕ Page) (rs : List Region) → ((a : ℕ) → has_page pages a ≡ in_regions rs a) → HoldsArena rs → HasArena pages
+pub arena_mapped : (pages : ℕ → Option Page) (rs : List Region) → ((a : ℕ) → has_page pages a ≡ in_regions rs a) → HoldsArena rs → HasArena pages
 arena_mapped pages rs h arena q low high =
     let e : 4096 * q / 4096 ≡ q = omega arith in
-    ap (λ k. is_some (tree.get nat_cmp pages k)) (sym e) ∙ h (4096 * q) ∙ arena (4096 * q) (omega arith) (omega arith)
+    ap (λ k. is_some (pages k)) (sym e) ∙ h (4096 * q) ∙ arena (4096 * q) (omega arith) (omega arith)
 
 -- ---- bytes put
 
@@ -135,14 +122,14 @@ filled_none m at xs e = λ i. record { protection = m.protection; byte = λ a. n
 
 -- ---- bytes put into one page
 
-module _ (pages : BTreeMap ℕ Page) (p q : Page) (at : ℕ) (xs : List ℕ) (had : tree.get nat_cmp pages (at / 4096) ≡ Some p) (within : at % 4096 + length xs ≤ 4096) (protection : q.protection ≡ p.protection) (inside : (j : ℕ) → j < length xs → get_or q.bytes (at % 4096 + j) 0 ≡ get_or xs j 0) (before : (i : ℕ) → i < at % 4096 → get_or q.bytes i 0 ≡ get_or p.bytes i 0) (after : (i : ℕ) → at % 4096 + length xs ≤ i → get_or q.bytes i 0 ≡ get_or p.bytes i 0) where
+module _ (pages : ℕ → Option Page) (p q : Page) (at : ℕ) (xs : List ℕ) (had : pages (at / 4096) ≡ Some p) (within : at % 4096 + length xs ≤ 4096) (protection : q.protection ≡ p.protection) (inside : (j : ℕ) → j < length xs → get_or q.bytes (at % 4096 + j) 0 ≡ get_or xs j 0) (before : (i : ℕ) → i < at % 4096 → get_or q.bytes i 0 ≡ get_or p.bytes i 0) (after : (i : ℕ) → at % 4096 + length xs ≤ i → get_or q.bytes i 0 ≡ get_or p.bytes i 0) where
   mode_had : (a : ℕ) → a / 4096 ≡ at / 4096 → (paged pages).protection a ≡ p.protection
   unfolding paged
-  mode_had a e = ap page_mode (ap (tree.get nat_cmp pages) e ∙ had)
+  mode_had a e = ap page_mode (ap pages e ∙ had)
 
   byte_had : (a : ℕ) → a / 4096 ≡ at / 4096 → (paged pages).byte a ≡ get_or p.bytes (a % 4096) 0
   unfolding paged
-  byte_had a e = ap (λ o. page_byte o (a % 4096)) (ap (tree.get nat_cmp pages) e ∙ had)
+  byte_had a e = ap (λ o. page_byte o (a % 4096)) (ap pages e ∙ had)
 
   in_page : (a : ℕ) → a / 4096 ≡ at / 4096 → get_or q.bytes (a % 4096) 0 ≡ (filled (paged pages) at xs).byte a
   in_page a e = elim (cases_lt a at) [
@@ -173,7 +160,7 @@ module _ (pages : BTreeMap ℕ Page) (p q : Page) (at : ℕ) (xs : List ℕ) (ha
     | inr n ↦ ap (λ b. cond b q.protection ((paged pages).protection a)) (ne_eqb (a / 4096) (at / 4096) n)
   ]
 
-  pub bytes_put : (new : BTreeMap ℕ Page) → ((k : ℕ) → tree.get nat_cmp new k ≡ cond (is_at (nat_cmp (at / 4096)) k) (Some q) (tree.get nat_cmp pages k)) → paged new ≡ filled (paged pages) at xs
+  pub bytes_put : (new : ℕ → Option Page) → ((k : ℕ) → new k ≡ cond (eqb k (at / 4096)) (Some q) (pages k)) → paged new ≡ filled (paged pages) at xs
   bytes_put new has = page_changed pages new (at / 4096) q has ∙ (λ i. record { protection = λ a. each_mode a i; byte = λ a. each_byte a i })
 
 -- ---- the bytes of a page with a piece put in
@@ -191,3 +178,38 @@ pub piece_after : (xs ys : List ℕ) (from k i : ℕ) → from + k ≤ i → fro
 piece_after xs ys from k i ge le e =
     let here : i ≡ i + 0 = omega arith in
     ap (λ j. get_or (put_mid from k xs ys) j 0) here ∙ sym (get_or-drop i (put_mid from k xs ys) 0 0) ∙ ap (λ (zs : List ℕ). get_or zs 0 0) (drop-put_mid from k xs ys i ge le e) ∙ get_or-drop i xs 0 0 ∙ sym (ap (λ j. get_or xs j 0) here)
+
+-- ---- a region put behind others
+
+module _ (r : Region) (s : Stretch) (ss ss' : List Stretch) (ps ps' : List Page) (protection : Protection) (whole : IsWhole r) (laid : AreLaid 0 0 ss) (count : length ps ≡ count_from 0 ss) (above : 4096 * end_from 0 ss ≤ r.start) (first_is : s.first ≡ r.start / 4096) (end_is : s.end ≡ r.end / 4096) (kept : s.index ≡ length ps) (mode : protection ≡ region_mode r) (pushed : ss' ≡ ss ++ s ∷ []) (added : ps' ≡ ps ++ replicate (s.end - s.first) (zero_page protection)) where
+  grows : s.first ≤ s.end
+  grows = let order = whole.order in omega arith
+
+  ends : end_from 0 ss ≤ s.first
+  ends = omega arith
+
+  page_behind : (k : ℕ) → page_numbered ss' ps' k ≡ cond (has_number s k) (Some (zero_page protection)) (page_numbered ss ps k)
+  page_behind k = ap (λ xs. page_numbered xs ps' k) pushed ∙ ap (λ ys. page_numbered (ss ++ s ∷ []) ys k) added ∙ page_added s ss ps (zero_page protection) kept grows laid (sym count) ends k
+
+  pub memory_behind : paged (page_numbered ss' ps') ≡ with_region (paged (page_numbered ss ps)) r
+  memory_behind = region_over r s whole.start whole.end first_is end_is (page_numbered ss ps) (page_numbered ss' ps') protection mode page_behind
+
+  pub holds_behind : (a : ℕ) → has_page (page_numbered ss' ps') a ≡ (covers r a || has_page (page_numbered ss ps) a)
+  holds_behind = holds_over r s whole.start whole.end first_is end_is (page_numbered ss ps) (page_numbered ss' ps') protection mode page_behind
+
+  pub laid_behind : AreLaid 0 0 ss'
+  laid_behind = subst (AreLaid 0 0) (sym pushed) (laid_more s 0 0 ss laid ends grows (kept ∙ count))
+
+  pub count_behind : length ps' ≡ count_from 0 ss'
+  count_behind =
+      let old = length-append ps (replicate (s.end - s.first) (zero_page protection)) in
+      let new = length-replicate (s.end - s.first) (zero_page protection) in
+      let size : length ps' ≡ length ps + (s.end - s.first) = ap length added ∙ old ∙ ap (λ n. length ps + n) new in
+      let counted : count_from 0 ss' ≡ count_from 0 ss + (s.end - s.first) = ap (count_from 0) pushed ∙ count_more s 0 ss in
+      omega arith
+
+  pub end_behind : 4096 * end_from 0 ss' ≡ r.end
+  end_behind =
+      let ended : end_from 0 ss' ≡ s.end = ap (end_from 0) pushed ∙ end_more s 0 ss in
+      let e = whole.end in
+      omega arith

@@ -1,12 +1,7 @@
 -- One page of a map of pages changed, and what lies in one.
-use Rattle.std.proofs.Common.{◌≡◌, ◌≢◌, ℕ, ◌+◌, ◌-◌, ◌/◌, ◌%◌, ◌^◌, ◌<◌, ◌≤◌, true, false, cond, eqb, ◌||◌, List, [], length, drop, get_or, Some, None, is_some, refl, sym, ap, ◌∙◌, arith, inl, inr, eq-eqb, subst, length-drop, suc, set, get_or-set_same, get_or-set_other, ◌⊎◌}
+use Rattle.std.proofs.Common.{◌≡◌, ◌≢◌, ℕ, ◌+◌, ◌-◌, ◌/◌, ◌%◌, ◌^◌, ◌<◌, ◌≤◌, true, false, cond, eqb, ◌||◌, List, [], length, drop, get_or, Option, Some, None, is_some, refl, sym, ap, ◌∙◌, arith, inl, inr, eq-eqb, subst, length-drop, suc, set, get_or-set_same, get_or-set_other, ◌⊎◌}
 use Rattle.std.proofs.Math.Nat.{pow-suc, div-div-eq-div-mul}
-use Rattle.std.specs.Ordering.{nat_cmp, is_eq}
-use Rattle.std.specs.declared.cmp.Ordering.TheVariants.{Less, Equal, Greater}
-use Rattle.std.specs.Cmp.{nat_cmp_is}
-use Rattle.std.specs.BTreeMap as tree
-use Rattle.std.specs.BTreeMap.{BTreeMap, is_at}
-use Rattle.std.proofs.lemmas.Bool.{cases_eq, cases_lt, cases_order, ne_eqb, lt-ltb, le-ltb, le-leb, lt-leb}
+use Rattle.std.proofs.lemmas.Bool.{cases_eq, cases_lt, ne_eqb, lt-ltb, le-ltb, le-leb, lt-leb}
 use Rattle.std.proofs.lemmas.List.{get_or-drop}
 use Rattle.flat_memory.specs.declared.protection.Protection.{Protection}
 use Rattle.flat_memory.specs.declared.protection.TheConstants.{UNMAPPED}
@@ -17,35 +12,23 @@ use Rattle.flat_memory.proofs.Stores.{among, beyond, outside}
 use Rattle.x64_memory.specs.declared.page.Page.{Page}
 use Rattle.x64_memory.specs.Pages.{page_mode, page_byte, paged, page_with_number, IsRestOfPage, HasArena, has_page, with_page}
 
-here : (k q : ℕ) → q ≡ k → is_at (nat_cmp k) q ≡ true
-here k q e = ap is_eq (sym (nat_cmp_is k q Equal (sym e)))
+module _ (old new : ℕ → Option Page) (k : ℕ) (p : Page) (has : (q : ℕ) → new q ≡ cond (eqb q k) (Some p) (old q)) where
+  at_page : (q : ℕ) → q ≡ k → new q ≡ Some p
+  at_page q e = has q ∙ ap (λ b. cond b (Some p) (old q)) (eq-eqb q k e)
 
-elsewhere : (k q : ℕ) → q ≢ k → is_at (nat_cmp k) q ≡ false
-elsewhere k q n = elim (cases_order k q) [
-  | inl e ↦ absurd (n (sym e))
-  | inr h ↦ elim h [
-    | inl lt ↦ ap is_eq (sym (nat_cmp_is k q Less lt))
-    | inr gt ↦ ap is_eq (sym (nat_cmp_is k q Greater gt))
-  ]
-]
+  off_page : (q : ℕ) → q ≢ k → new q ≡ old q
+  off_page q n = has q ∙ ap (λ b. cond b (Some p) (old q)) (ne_eqb q k n)
 
-module _ (old new : BTreeMap ℕ Page) (k : ℕ) (p : Page) (has : (q : ℕ) → tree.get nat_cmp new q ≡ cond (is_at (nat_cmp k) q) (Some p) (tree.get nat_cmp old q)) where
-  at_page : (q : ℕ) → q ≡ k → tree.get nat_cmp new q ≡ Some p
-  at_page q e = has q ∙ ap (λ b. cond b (Some p) (tree.get nat_cmp old q)) (here k q e)
-
-  off_page : (q : ℕ) → q ≢ k → tree.get nat_cmp new q ≡ tree.get nat_cmp old q
-  off_page q n = has q ∙ ap (λ b. cond b (Some p) (tree.get nat_cmp old q)) (elsewhere k q n)
-
-  modes : (a : ℕ) → page_mode (tree.get nat_cmp new (a / 4096)) ≡ cond (eqb (a / 4096) k) p.protection (page_mode (tree.get nat_cmp old (a / 4096)))
+  modes : (a : ℕ) → page_mode (new (a / 4096)) ≡ cond (eqb (a / 4096) k) p.protection (page_mode (old (a / 4096)))
   modes a = elim (cases_eq (a / 4096) k) [
-    | inl e ↦ ap page_mode (at_page (a / 4096) e) ∙ sym (ap (λ b. cond b p.protection (page_mode (tree.get nat_cmp old (a / 4096)))) (eq-eqb (a / 4096) k e))
-    | inr n ↦ ap page_mode (off_page (a / 4096) n) ∙ sym (ap (λ b. cond b p.protection (page_mode (tree.get nat_cmp old (a / 4096)))) (ne_eqb (a / 4096) k n))
+    | inl e ↦ ap page_mode (at_page (a / 4096) e) ∙ sym (ap (λ b. cond b p.protection (page_mode (old (a / 4096)))) (eq-eqb (a / 4096) k e))
+    | inr n ↦ ap page_mode (off_page (a / 4096) n) ∙ sym (ap (λ b. cond b p.protection (page_mode (old (a / 4096)))) (ne_eqb (a / 4096) k n))
   ]
 
-  bytes : (a : ℕ) → page_byte (tree.get nat_cmp new (a / 4096)) (a % 4096) ≡ cond (eqb (a / 4096) k) (get_or p.bytes (a % 4096) 0) (page_byte (tree.get nat_cmp old (a / 4096)) (a % 4096))
+  bytes : (a : ℕ) → page_byte (new (a / 4096)) (a % 4096) ≡ cond (eqb (a / 4096) k) (get_or p.bytes (a % 4096) 0) (page_byte (old (a / 4096)) (a % 4096))
   bytes a = elim (cases_eq (a / 4096) k) [
-    | inl e ↦ ap (λ o. page_byte o (a % 4096)) (at_page (a / 4096) e) ∙ sym (ap (λ b. cond b (get_or p.bytes (a % 4096) 0) (page_byte (tree.get nat_cmp old (a / 4096)) (a % 4096))) (eq-eqb (a / 4096) k e))
-    | inr n ↦ ap (λ o. page_byte o (a % 4096)) (off_page (a / 4096) n) ∙ sym (ap (λ b. cond b (get_or p.bytes (a % 4096) 0) (page_byte (tree.get nat_cmp old (a / 4096)) (a % 4096))) (ne_eqb (a / 4096) k n))
+    | inl e ↦ ap (λ o. page_byte o (a % 4096)) (at_page (a / 4096) e) ∙ sym (ap (λ b. cond b (get_or p.bytes (a % 4096) 0) (page_byte (old (a / 4096)) (a % 4096))) (eq-eqb (a / 4096) k e))
+    | inr n ↦ ap (λ o. page_byte o (a % 4096)) (off_page (a / 4096) n) ∙ sym (ap (λ b. cond b (get_or p.bytes (a % 4096) 0) (page_byte (old (a / 4096)) (a % 4096))) (ne_eqb (a / 4096) k n))
   ]
 
   pub page_changed : paged new ≡ with_page (paged old) k p
@@ -56,6 +39,12 @@ module _ (old new : BTreeMap ℕ Page) (k : ℕ) (p : Page) (has : (q : ℕ) →
   has_changed a = elim (cases_eq (a / 4096) k) [
     | inl e ↦ ap is_some (at_page (a / 4096) e) ∙ sym (ap (λ b. b || has_page old a) (eq-eqb (a / 4096) k e))
     | inr n ↦ ap is_some (off_page (a / 4096) n) ∙ sym (ap (λ b. b || has_page old a) (ne_eqb (a / 4096) k n))
+  ]
+
+  pub has_kept : (o : Page) → old k ≡ Some o → (a : ℕ) → has_page new a ≡ has_page old a
+  has_kept o had a = elim (cases_eq (a / 4096) k) [
+    | inl e ↦ ap is_some (at_page (a / 4096) e) ∙ sym (ap is_some (ap old e ∙ had))
+    | inr n ↦ ap is_some (off_page (a / 4096) n)
   ]
 
   pub arena_kept : HasArena old → HasArena new
@@ -75,14 +64,14 @@ put_before bytes from n v i lt = rw (lt-leb from i lt) refl
 pub put_after : (bytes : List ℕ) (from n v i : ℕ) → from + n ≤ i → page_with_number bytes from n v i ≡ get_or bytes i 0
 put_after bytes from n v i le = rw (le-leb from i (omega arith), le-ltb i (from + n) le) refl
 
-module _ (pages : BTreeMap ℕ Page) (p q : Page) (n at v : ℕ) (had : tree.get nat_cmp pages (at / 4096) ≡ Some p) (lt : at < 2 ^ 64) (within : at % 4096 + n ≤ 4096) (put : (i : ℕ) → get_or q.bytes i 0 ≡ page_with_number p.bytes (at % 4096) n v i) where
+module _ (pages : ℕ → Option Page) (p q : Page) (n at v : ℕ) (had : pages (at / 4096) ≡ Some p) (lt : at < 2 ^ 64) (within : at % 4096 + n ≤ 4096) (put : (i : ℕ) → get_or q.bytes i 0 ≡ page_with_number p.bytes (at % 4096) n v i) where
   old_mode : (a : ℕ) → a / 4096 ≡ at / 4096 → (paged pages).protection a ≡ p.protection
   unfolding paged
-  old_mode a e = ap page_mode (ap (tree.get nat_cmp pages) e ∙ had)
+  old_mode a e = ap page_mode (ap pages e ∙ had)
 
   old_byte : (a : ℕ) → a / 4096 ≡ at / 4096 → (paged pages).byte a ≡ get_or p.bytes (a % 4096) 0
   unfolding paged
-  old_byte a e = ap (λ o. page_byte o (a % 4096)) (ap (tree.get nat_cmp pages) e ∙ had)
+  old_byte a e = ap (λ o. page_byte o (a % 4096)) (ap pages e ∙ had)
 
   below_limit : (a : ℕ) → a / 4096 ≡ at / 4096 → a < 2 ^ 64
   below_limit a e = omega arith
@@ -117,12 +106,12 @@ module _ (pages : BTreeMap ℕ Page) (p q : Page) (n at v : ℕ) (had : tree.get
     | inr ne ↦ ap (λ b. cond b q.protection ((paged pages).protection a)) (ne_eqb (a / 4096) (at / 4096) ne)
   ]
 
-  pub number_put : q.protection ≡ p.protection → (new : BTreeMap ℕ Page) → ((k : ℕ) → tree.get nat_cmp new k ≡ cond (is_at (nat_cmp (at / 4096)) k) (Some q) (tree.get nat_cmp pages k)) → paged new ≡ with_bytes (paged pages) (with_number (paged pages).byte n at v)
+  pub number_put : q.protection ≡ p.protection → (new : ℕ → Option Page) → ((k : ℕ) → new k ≡ cond (eqb k (at / 4096)) (Some q) (pages k)) → paged new ≡ with_bytes (paged pages) (with_number (paged pages).byte n at v)
   number_put m new has = page_changed pages new (at / 4096) q has ∙ (λ i. record { protection = λ a. same_mode m a i; byte = λ a. same_byte a i })
 
 -- ---- stretches
 
-pub stretch_none : (pages : BTreeMap ℕ Page) (at : ℕ) → tree.get nat_cmp pages (at / 4096) ≡ None → at < 2 ^ 64 → IsRestOfPage (paged pages) at UNMAPPED []
+pub stretch_none : (pages : ℕ → Option Page) (at : ℕ) → pages (at / 4096) ≡ None → at < 2 ^ 64 → IsRestOfPage (paged pages) at UNMAPPED []
 unfolding paged
 stretch_none pages at e lt = record {
   mode_is = ap page_mode e;
@@ -133,12 +122,12 @@ stretch_none pages at e lt = record {
   unmapped = λ _. refl;
 }
 
-module _ (pages : BTreeMap ℕ Page) (at : ℕ) (p : Page) (had : tree.get nat_cmp pages (at / 4096) ≡ Some p) (lt : at < 2 ^ 64) (len : length p.bytes ≡ 4096) (fits : (i : ℕ) → get_or p.bytes i 0 < 256) where
+module _ (pages : ℕ → Option Page) (at : ℕ) (p : Page) (had : pages (at / 4096) ≡ Some p) (lt : at < 2 ^ 64) (len : length p.bytes ≡ 4096) (fits : (i : ℕ) → get_or p.bytes i 0 < 256) where
   left : length (drop (at % 4096) p.bytes) ≡ 4096 - at % 4096
   left = length-drop (at % 4096) p.bytes ∙ ap (λ n. n - at % 4096) len
 
-  same_page : (i : ℕ) → i < length (drop (at % 4096) p.bytes) → tree.get nat_cmp pages ((at + i) / 4096) ≡ Some p
-  same_page i l = let e : (at + i) / 4096 ≡ at / 4096 = omega (arith, left) in ap (tree.get nat_cmp pages) e ∙ had
+  same_page : (i : ℕ) → i < length (drop (at % 4096) p.bytes) → pages ((at + i) / 4096) ≡ Some p
+  same_page i l = let e : (at + i) / 4096 ≡ at / 4096 = omega (arith, left) in ap pages e ∙ had
 
   same_place : (i : ℕ) → i < length (drop (at % 4096) p.bytes) → (at + i) % 4096 ≡ at % 4096 + i
   same_place i l = omega (arith, left)
@@ -176,20 +165,20 @@ put_step old bytes from i v rest places digit lt j = elim (cases_eq j (from + i)
     widened n (inr g) = later n g (cases_lt j (from + i))
 
 -- where no page is, nothing may be written
-pub unmapped : (pages : BTreeMap ℕ Page) (at : ℕ) → tree.get nat_cmp pages (at / 4096) ≡ None → may_write (paged pages) at ≡ true → ⊥
+pub unmapped : (pages : ℕ → Option Page) (at : ℕ) → pages (at / 4096) ≡ None → may_write (paged pages) at ≡ true → ⊥
 unfolding paged
 unmapped pages at e h = let f : false ≡ true = sym (ap (λ o. is_writable (page_mode o).rights) e) ∙ h in cc
 
 -- ---- the rights of a page set
 
-module _ (pages : BTreeMap ℕ Page) (p : Page) (at : ℕ) (r : Rights) (had : tree.get nat_cmp pages (at / 4096) ≡ Some p) where
+module _ (pages : ℕ → Option Page) (p : Page) (at : ℕ) (r : Rights) (had : pages (at / 4096) ≡ Some p) where
   mode_there : (a : ℕ) → a / 4096 ≡ at / 4096 → (paged pages).protection a ≡ p.protection
   unfolding paged
-  mode_there a e = ap page_mode (ap (tree.get nat_cmp pages) e ∙ had)
+  mode_there a e = ap page_mode (ap pages e ∙ had)
 
   byte_there : (a : ℕ) → a / 4096 ≡ at / 4096 → (paged pages).byte a ≡ get_or p.bytes (a % 4096) 0
   unfolding paged
-  byte_there a e = ap (λ o. page_byte o (a % 4096)) (ap (tree.get nat_cmp pages) e ∙ had)
+  byte_there a e = ap (λ o. page_byte o (a % 4096)) (ap pages e ∙ had)
 
   mode_set : (a : ℕ) → cond (eqb (a / 4096) (at / 4096)) (record p.protection { rights = r }) ((paged pages).protection a) ≡ cond (eqb (a / 4096) (at / 4096)) (record ((paged pages).protection a) { rights = r }) ((paged pages).protection a)
   mode_set a = elim (cases_eq (a / 4096) (at / 4096)) [
@@ -203,5 +192,5 @@ module _ (pages : BTreeMap ℕ Page) (p : Page) (at : ℕ) (r : Rights) (had : t
     | inr n ↦ ap (λ b. cond b (get_or p.bytes (a % 4096) 0) ((paged pages).byte a)) (ne_eqb (a / 4096) (at / 4096) n)
   ]
 
-  pub rights_set : (new : BTreeMap ℕ Page) → ((k : ℕ) → tree.get nat_cmp new k ≡ cond (is_at (nat_cmp (at / 4096)) k) (Some (record p { protection = record p.protection { rights = r } })) (tree.get nat_cmp pages k)) → paged new ≡ with_rights (paged pages) at (Some r)
+  pub rights_set : (new : ℕ → Option Page) → ((k : ℕ) → new k ≡ cond (eqb k (at / 4096)) (Some (record p { protection = record p.protection { rights = r } })) (pages k)) → paged new ≡ with_rights (paged pages) at (Some r)
   rights_set new has = page_changed pages new (at / 4096) (record p { protection = record p.protection { rights = r } }) has ∙ (λ i. record { protection = λ a. mode_set a i; byte = λ a. byte_stays a i })

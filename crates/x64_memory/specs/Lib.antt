@@ -1,3 +1,4 @@
+pub mod Stretches
 pub mod Pages
 pub mod Regions
 pub mod PageMaps

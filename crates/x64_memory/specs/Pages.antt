@@ -1,8 +1,5 @@
--- Memory that is kept in pages.
+-- Memory that is kept in pages, each found by its number: its address divided by 4,096.
 use Rattle.std.specs.Prelude.{◌≡◌, ℕ, ◌+◌, ◌-◌, ◌*◌, ◌/◌, ◌%◌, ◌^◌, ◌<◌, ◌≤◌, Bool, true, ◌==◌, replicate, ◌&&◌, nat_le, nat_lt, List, length, Option, Some, None, is_some, Result, Ok, Err, slice_index, if◌then◌else◌}
-use Rattle.std.specs.Ordering.{nat_cmp}
-use Rattle.std.specs.BTreeMap as tree
-use Rattle.std.specs.BTreeMap.{BTreeMap}
 use Rattle.host_layout.specs.declared.range.TheConstants.{ARENA_START, ARENA_END}
 use Rattle.flat_memory.specs.declared.protection.Protection.{Protection}
 use Rattle.flat_memory.specs.declared.protection.TheConstants.{UNMAPPED}
@@ -17,15 +14,16 @@ abbrev pub page_byte : Option Page → ℕ → ℕ
 page_byte None i = 0
 page_byte (Some p) i = slice_index p.bytes i
 
-abbrev pub page_of : BTreeMap ℕ Page → ℕ → Option Page
-page_of pages a = tree.get nat_cmp pages (a / 4096)
+-- the page of an address, where pages are found by their numbers
+abbrev pub page_of : (ℕ → Option Page) → ℕ → Option Page
+page_of pages a = pages (a / 4096)
 
 -- a page holds the address
-abbrev pub has_page : BTreeMap ℕ Page → ℕ → Bool
+abbrev pub has_page : (ℕ → Option Page) → ℕ → Bool
 has_page pages a = is_some (page_of pages a)
 
 -- each address has the protection of its page, and there its byte
-unfoldable pub paged : BTreeMap ℕ Page → Memory
+unfoldable pub paged : (ℕ → Option Page) → Memory
 paged pages = record { protection = λ a. page_mode (page_of pages a); byte = λ a. page_byte (page_of pages a) (a % 4096) }
 
 -- memory with one page in the place of another, or of none
@@ -60,5 +58,5 @@ abbrev pub page_with_number : List ℕ → ℕ → ℕ → ℕ → ℕ → ℕ
 page_with_number bytes from count v i = if nat_le from i && nat_lt i (from + count) then v / 256 ^ (i - from) % 256 else slice_index bytes i
 
 -- the pages of the arena are there
-abbrev pub HasArena : BTreeMap ℕ Page → Type 0
-HasArena pages = (q : ℕ) → ARENA_START ≤ 4096 * q → 4096 * q < ARENA_END → is_some (tree.get nat_cmp pages q) ≡ true
+abbrev pub HasArena : (ℕ → Option Page) → Type 0
+HasArena pages = (q : ℕ) → ARENA_START ≤ 4096 * q → 4096 * q < ARENA_END → is_some (pages q) ≡ true

@@ -52,3 +52,8 @@ HoldsArena rs = (a : ℕ) → ARENA_START ≤ a → a < ARENA_END → in_regions
 -- memory with bytes put at a place, whatever the protection there
 abbrev pub filled : Memory → ℕ → List ℕ → Memory
 filled m at xs = record { protection = m.protection; byte = λ a. if nat_le at a && nat_lt a (at + length xs) then slice_index xs (a - at) else m.byte a }
+
+-- each region begins where the one before ends or above, and none below an address
+abbrev pub AreAscending : ℕ → List Region → Type 0
+AreAscending low [] = Unit {0}
+AreAscending low (r ∷ rs) = (low ≤ r.start) × AreAscending r.end rs

@@ -1,5 +1,5 @@
-//! The machine's memory: the trait that the machine asks of it, and memory in an ordered map of
-//! pages.
+//! The machine's memory: the trait that the machine asks of it, and memory in a table
+//! of pages.
 #![tactic(auto)]
 
 pub mod page;
@@ -7,3 +7,4 @@ pub mod page_map;
 pub mod paged;
 pub mod region;
 pub mod space;
+pub mod stretch;

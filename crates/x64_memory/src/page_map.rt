@@ -1,25 +1,30 @@
-ghost use Rattle.std.specs.Prelude.{◌≡◌, ◌+◌, ◌/◌, ◌%◌, ◌<◌, ◌≤◌, ◌^◌, ◌==◌, ◌||◌, ℕ, true, All, IfOk, OnOk, length, slice_index};
+ghost use Rattle.std.specs.Prelude.{◌≡◌, ◌+◌, ◌*◌, ◌/◌, ◌%◌, ◌<◌, ◌≤◌, ◌^◌, ◌++◌, ◌||◌, ℕ, true, All, IfOk, IfSome, OnOk, length, replicate, slice_index};
 ghost use Rattle.seh_num.specs.Widths.{bytes_of};
 ghost use Rattle.flat_memory.specs.Memory.{Memory, with_bytes, rights_asked};
-ghost use Rattle.x64_memory.specs.Pages.{HasArena, has_page, paged, page_with_number, with_page, zero_page};
-ghost use Rattle.x64_memory.specs.Regions.{IsWhole, HoldsArena, covers, filled, in_regions, mapped, with_region};
+ghost use Rattle.x64_memory.specs.Pages.{HasArena, has_page, paged, page_with_number, zero_page};
+ghost use Rattle.x64_memory.specs.Regions.{AreAscending, IsWhole, HoldsArena, covers, filled, in_regions, mapped, with_region};
+ghost use Rattle.x64_memory.specs.Stretches.{AreLaid, AreLaid-prop, count_from, end_from, index_of, page_numbered};
 
 use crate::page::Page;
 use crate::paged::{self, Paged};
 use crate::region::Region;
 use crate::space::AddressSpace;
+use crate::stretch::{self, Stretch};
 use flat_memory::access::RefusedAccess;
 use flat_memory::protection::{Protection, Rights, UNMAPPED};
 use host_layout::range::{ARENA_END, ARENA_START, PAGE};
 use seh_num::width::Width;
 use std::alloc::{AllocError, Global};
-use std::collections::BTreeMap;
 
-/// Memory in an ordered map of pages, which holds those of the arena.
+/// Memory in a table of stretches of pages, which holds those of the arena. A page is found by halves
+/// among the stretches, and by its place in its stretch.
 #[derive(Drop)]
 pub struct PageMap {
-    pages: BTreeMap<u64, Page>,
-    ghost arena: { HasArena pages },
+    stretches: Vec<Stretch>,
+    pages: Vec<Page>,
+    ghost laid: { AreLaid 0 0 stretches.items } by { AreLaid-prop 0 0 stretches.items },
+    ghost count: { length pages.items ≡ count_from 0 stretches.items },
+    ghost arena: { HasArena (page_numbered stretches.items pages.items) },
 }
 
 /// Writes the low bytes of a number into a page, the lowest first.
@@ -35,56 +40,84 @@ fn put_number(bytes: &mut [u8], from: usize, count: usize, value: u64)
     }
 }
 
-/// Maps a page of zeros over what is there.
-fn map_page(
-    pages: &mut BTreeMap<u64, Page>,
-    number: u64,
-    protection: Protection,
-) -> Result<(), AllocError>
-    ensures memory { OnOk result (paged pages.new ≡ with_page (paged pages.old) number (zero_page protection)) }
-    ensures holds { OnOk result ((a : ℕ) → has_page pages.new a ≡ (a / 4096 == number || has_page pages.old a)) }
-{
-    let page = Page {
-        protection,
-        bytes: [0; 4096],
-    };
-    match pages.insert(number, page) {
-        Ok(_) => Ok(()),
-        Err(failed) => {
-            let _ = failed;
-            Err(AllocError)
-        }
+/// How many pages regions have, as far as that can be counted.
+fn count_of_pages(regions: &[Region]) -> usize {
+    let mut count: usize = 0;
+    for region in regions {
+        count = count.saturating_add(
+            (region.end / PAGE).saturating_sub(region.start / PAGE) as usize,
+        );
     }
+    count
 }
 
-/// Maps a region over what is there.
-fn map_region(pages: &mut BTreeMap<u64, Page>, region: &Region) -> Result<(), AllocError>
-    requires { IsWhole region.now }
-    ensures memory { OnOk result (paged pages.new ≡ with_region (paged pages.old) region.now) }
-    ensures holds { OnOk result ((a : ℕ) → has_page pages.new a ≡ (covers region.now a || has_page pages.old a)) }
+/// Puts pages of zeros after others.
+fn add_pages(pages: &mut Vec<Page>, count: u64, protection: Protection) -> Result<(), AllocError>
+    ensures { OnOk result (pages.new.items ≡ pages.old.items ++ replicate count (zero_page protection)) }
 {
-    for number in region.start / PAGE..region.end / PAGE {
-        map_page(pages, number, region.protection())?;
+    for _i in 0..count {
+        pages.push(Page {
+            protection,
+            bytes: [0; 4096],
+        })?;
     }
     Ok(())
 }
 
-impl PageMap {
-    ghost use Rattle.x64_memory.specs.PageMaps.{memory_of, holds};
+/// Maps a region that begins with no lower address than where the last one ended.
+fn map_region(
+    stretches: &mut Vec<Stretch>,
+    pages: &mut Vec<Page>,
+    region: &Region,
+) -> Result<(), AllocError>
+    requires whole { IsWhole region.now }
+    requires laid { AreLaid 0 0 stretches.old.items }
+    requires count { length pages.old.items ≡ count_from 0 stretches.old.items }
+    requires above { 4096 * end_from 0 stretches.old.items ≤ region.now.start }
+    ensures memory { OnOk result (paged (page_numbered stretches.new.items pages.new.items)
+        ≡ with_region (paged (page_numbered stretches.old.items pages.old.items)) region.now) }
+    ensures holds { OnOk result ((a : ℕ) → has_page (page_numbered stretches.new.items pages.new.items) a
+        ≡ (covers region.now a || has_page (page_numbered stretches.old.items pages.old.items) a)) }
+    ensures laid { OnOk result (AreLaid 0 0 stretches.new.items) }
+    ensures count { OnOk result (length pages.new.items ≡ count_from 0 stretches.new.items) }
+    ensures end { OnOk result (4096 * end_from 0 stretches.new.items ≡ region.now.end) }
+{
+    let stretch = Stretch {
+        first: region.start / PAGE,
+        end: region.end / PAGE,
+        index: pages.len(),
+    };
+    add_pages(pages, stretch.end - stretch.first, region.protection())?;
+    stretches.push(stretch)?;
+    Ok(())
+}
 
-    /// Memory in which the regions are mapped one over another, each with its protection, and all bytes
-    /// are 0. Only the system's memory can be wanting.
+impl PageMap {
+    ghost use Rattle.x64_memory.specs.PageMaps.{memory_of, holds, pages_of};
+
+    /// Memory in which the regions are mapped, each with its protection, and all bytes are 0. Only the
+    /// system's memory can be wanting.
     pub fn new(alloc: Global, regions: &[Region]) -> Result<PageMap, AllocError>
         requires whole { All IsWhole regions.now }
+        requires ascending { AreAscending 0 regions.now }
         requires arena { HoldsArena regions.now }
         ensures memory { IfOk result (λ s. memory_of s ≡ mapped regions.now) }
         ensures holds { IfOk result (λ s. (a : ℕ) → holds s a ≡ in_regions regions.now a) }
     {
-        let mut pages = BTreeMap::new(alloc);
+        let mut stretches = Vec::with_capacity(alloc, regions.len())?;
+        let mut pages = Vec::with_capacity(alloc, count_of_pages(regions))?;
         for region in regions {
-            map_region(&mut pages, region)?;
+            map_region(&mut stretches, &mut pages, region)?;
         }
-        Ok(PageMap { pages })
+        Ok(PageMap { stretches, pages })
+    }
+
+    /// Where the page of an address is kept.
+    fn index(&self, at: u64) -> Option<usize>
+        ensures value { result ≡ index_of self.now.stretches.items (at / 4096) }
+        ensures within { IfSome result (λ i. i < length self.now.pages.items) }
+    {
+        stretch::index_of(&self.stretches, at / PAGE)
     }
 
     /// Puts bytes into one page, whatever its protection.
@@ -94,7 +127,8 @@ impl PageMap {
         ensures memory { memory_of self.new ≡ filled (memory_of self.old) at piece.now }
         ensures holds { (a : ℕ) → holds self.new a ≡ holds self.old a }
     {
-        if let Some(page) = self.pages.get_mut(&(at / PAGE)) {
+        if let Some(index) = self.index(at) {
+            let page = &mut self.pages[index];
             let from = (at % PAGE) as usize;
             page.bytes[from..from + piece.len()].copy_from_slice(piece);
         }
@@ -121,17 +155,21 @@ impl PageMap {
 }
 
 impl Paged for PageMap {
-    ghost memory = { λ s. paged s.pages };
+    ghost memory = { λ s. paged (page_numbered s.stretches.items s.pages.items) };
 
     fn rest_of_page(&self, at: u64) -> (Protection, &[u8]) {
-        match self.pages.get(&(at / PAGE)) {
+        match self.index(at) {
             None => (UNMAPPED, &[]),
-            Some(page) => (page.protection, &page.bytes[(at % PAGE) as usize..]),
+            Some(index) => {
+                let page = &self.pages[index];
+                (page.protection, &page.bytes[(at % PAGE) as usize..])
+            }
         }
     }
 
     fn put(&mut self, at: u64, width: Width, value: u64) {
-        if let Some(page) = self.pages.get_mut(&(at / PAGE)) {
+        if let Some(index) = self.index(at) {
+            let page = &mut self.pages[index];
             put_number(
                 &mut page.bytes,
                 (at % PAGE) as usize,
@@ -143,7 +181,7 @@ impl Paged for PageMap {
 }
 
 impl AddressSpace for PageMap {
-    ghost memory = { λ s. paged s.pages };
+    ghost memory = { λ s. paged (page_numbered s.stretches.items s.pages.items) };
 
     fn load(&self, at: u64, width: Width) -> Result<u64, RefusedAccess> {
         paged::load(self, at, width)
@@ -165,8 +203,8 @@ impl AddressSpace for PageMap {
         let Some(asked) = asked(at, protection) else {
             return false;
         };
-        if let Some(page) = self.pages.get_mut(&(at / PAGE)) {
-            page.protection.rights = asked;
+        if let Some(index) = self.index(at) {
+            self.pages[index].protection.rights = asked;
         }
         true
     }

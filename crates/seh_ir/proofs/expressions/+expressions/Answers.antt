@@ -1,13 +1,12 @@
 use Rattle.std.proofs.Common.{◌≡◌, ◌+◌, arith, ap, ◌∙◌, refl, map, length}
 use Rattle.c_checked.specs.Expression as tree
-use Rattle.seh_ir.specs.Views as views
-use Rattle.seh_ir.proofs.ExpressionTrees as made
+use Rattle.c_checked.proofs.ExpressionTrees as made
 use Rattle.seh_ir.proofs.Arms.{element_is, assign_is, compound_is, increment_is, unary_is, binary_is, difference_is, not_is, and_is, or_is, conditional_is, comma_is, call_is, call_built_in_is, arguments_next}
 use Rattle.seh_ir.proofs.expressions.+expressions.Goals as goal
 
 pub locate-returns-in_ok-operate-in-Element : goal.locate-returns-in_ok-operate-in-Element
 locate-returns-in_ok-operate-in-Element t c =
-    element_is _ _ _ _ _ _ _ _ _ _ _ (ap views.lvalue c.in-Element.is ∙ made.element_is c.in-Element.access c.in-Element.array c.in-Element.index) c.in_ok-next-in-Element.ensures (rw c.deref-in-Element.ensures at c.in_ok-expression-in-Element.ensures) (rw c.deref-in-Element-2.ensures at c.in_ok-expression-in-Element-2.ensures) c.in_ok-operate-in-Element.ensures
+    element_is _ _ _ _ _ _ _ _ _ _ _ (ap tree.lvalue c.in-Element.is ∙ made.element_is c.in-Element.access c.in-Element.array c.in-Element.index) c.in_ok-next-in-Element.ensures (rw c.deref-in-Element.ensures at c.in_ok-expression-in-Element.ensures) (rw c.deref-in-Element-2.ensures at c.in_ok-expression-in-Element-2.ensures) c.in_ok-operate-in-Element.ensures
 
 pub node-returns-in_ok-assign-in-Assign : goal.node-returns-in_ok-assign-in-Assign
 node-returns-in_ok-assign-in-Assign t c =

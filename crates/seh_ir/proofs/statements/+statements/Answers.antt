@@ -1,6 +1,6 @@
 use Rattle.std.proofs.Common.{ap, ◌∙◌, refl}
 use Rattle.c_checked.specs.Statement as tree
-use Rattle.seh_ir.proofs.StatementTrees as made
+use Rattle.c_checked.proofs.StatementTrees as made
 use Rattle.seh_ir.proofs.StatementCodes.{if_is, if_else_is, for_is, do_is, return_is, except_is, finally_is, statements_next}
 use Rattle.seh_ir.proofs.statements.+statements.Goals as goal
 

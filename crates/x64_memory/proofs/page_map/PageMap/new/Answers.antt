@@ -1,10 +1,13 @@
-use Rattle.std.proofs.Common.{◌≡◌, List, sym, ap, ◌∙◌, refl, arith, true, false, Bool, drop, []}
+use Rattle.std.proofs.Common.{◌≡◌, ◌*◌, sym, ap, ◌∙◌, refl, arith, true, false, Bool, drop, [], subst, length}
 use Rattle.std.specs.Prelude.{◌||◌}
 use Rattle.std.proofs.Math.ListN.{drop_of_length-le}
+use Rattle.std.proofs.Common.{List}
 use Rattle.x64_memory.specs.declared.region.Region.{Region}
+use Rattle.x64_memory.specs.declared.stretch.Stretch.{Stretch}
 use Rattle.x64_memory.specs.Pages.{has_page}
-use Rattle.x64_memory.specs.Regions.{mapped_over, in_regions}
-use Rattle.x64_memory.proofs.Mapping.{empty_map, empty_holds, arena_mapped}
+use Rattle.x64_memory.specs.Regions.{mapped_over, in_regions, AreAscending}
+use Rattle.x64_memory.specs.Stretches.{AreLaid, count_from, end_from, page_numbered}
+use Rattle.x64_memory.proofs.Mapping.{empty_memory, empty_holds, arena_mapped}
 use Rattle.x64_memory.proofs.page_map.PageMap.new.Goals as goal
 
 or_false : (a b : Bool) → b ≡ false → (a || b) ≡ a
@@ -12,13 +15,27 @@ or_false true b e = refl
 or_false false b e = e
 
 pub loop-region-init : goal.loop-region-init
-loop-region-init c = record {
-  memory = ap (λ m. mapped_over m c.args.regions.now) (empty_map c.new-pages.result c.new-pages.ensures.empty);
-  holds = λ a. or_false (in_regions c.args.regions.now a) (has_page c.new-pages.result a) (empty_holds c.new-pages.result a c.new-pages.ensures.empty);
-}
+loop-region-init c =
+    let rs = c.args.regions.now in
+    let ss = c.in_ok-stretches.stretches.items in
+    let ps = c.in_ok-pages.pages.items in
+    let none : ss ≡ [] = c.in_ok-stretches.ensures.items in
+    let empty : ps ≡ [] = c.in_ok-pages.ensures.items in
+    record {
+      memory = ap (λ m. mapped_over m rs) (empty_memory ss ps none);
+      holds = λ a. or_false (in_regions rs a) (has_page (page_numbered ss ps) a) (empty_holds ss ps a none);
+      laid = subst (AreLaid 0 0) (sym none) tt;
+      count = ap length empty ∙ sym (ap (count_from 0) none);
+      ascending = subst (λ (xs : List Stretch). AreAscending (4096 * end_from 0 xs) rs) (sym none) c.requires.ascending;
+    }
 
 pub invariant_of-result : goal.invariant_of-result
 invariant_of-result c =
     let rs = c.args.regions.now in
+    let pages = page_numbered c.loop-region.stretches.items c.loop-region.pages.items in
     let end : drop c.loop-region.region-index rs ≡ [] = drop_of_length-le rs (omega arith) in
-    record { arena = arena_mapped c.loop-region.pages rs (λ a. ap (λ (t : List Region). in_regions t a || has_page c.loop-region.pages a) (sym end) ∙ c.loop-region.invariant.holds a) c.requires.arena }
+    record {
+      laid = c.loop-region.invariant.laid;
+      count = c.loop-region.invariant.count;
+      arena = arena_mapped pages rs (λ a. ap (λ (t : List Region). in_regions t a || has_page pages a) (sym end) ∙ c.loop-region.invariant.holds a) c.requires.arena;
+    }

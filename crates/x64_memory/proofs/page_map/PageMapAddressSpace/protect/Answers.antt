@@ -1,14 +1,22 @@
-use Rattle.std.proofs.Common.{◌∙◌, sym, ap, ℤ, w32}
+use Rattle.std.proofs.Common.{◌/◌, ◌∙◌, sym, ap, ℤ, w32}
 use Rattle.std.proofs.lemmas.Int.{to_z-of_z}
-use Rattle.std.specs.Prelude.{is_some}
 use Rattle.flat_memory.specs.Memory.{with_rights, protected}
+use Rattle.x64_memory.specs.declared.page.Page.{Page}
 use Rattle.x64_memory.specs.Pages.{paged}
+use Rattle.x64_memory.specs.Stretches.{page_numbered}
+use Rattle.x64_memory.proofs.Laid.{page_set, page_kept}
 use Rattle.x64_memory.proofs.Paging.{rights_set}
 use Rattle.x64_memory.proofs.page_map.PageMapAddressSpace.protect.Goals as goal
 
-pub returns-in-Some-get_mut-clause-after : goal.returns-in-Some-get_mut-clause-after
-returns-in-Some-get_mut-clause-after c =
-    let had = sym c.in-Some-get_mut.ensures.value in
-    rights_set c.args.self.now.pages c.in-Some-get_mut.page.now c.args.at c.in-Some.asked had _ ((c.get_mut.follows.holds _).3 (ap is_some had)).0
-    ∙ ap (with_rights (paged c.args.self.now.pages) c.args.at) c.in-Some.ensures
-    ∙ ap (λ (z : ℤ). protected (paged c.args.self.now.pages) c.args.at z) (to_z-of_z w32 c.args.protection c.ranges.protection)
+pub returns-in-Some-index-clause-after : goal.returns-in-Some-index-clause-after
+returns-in-Some-index-clause-after c =
+    let s = c.args.self.now in
+    let p = c.index_mut.result.now in
+    let i = c.in-Some-index.index in
+    let q : Page = record p { protection = record p.protection { rights = c.in-Some.asked } } in
+    let pages = page_numbered s.stretches.items s.pages.items in
+    let at = sym c.in-Some-index.ensures.value in
+    let had = page_kept s.stretches.items s.pages.items (c.args.at / 4096) i p at c.in-Some-index.ensures.within c.index_mut.ensures.value in
+    rights_set pages p c.args.at c.in-Some.asked had _ (page_set s.stretches.items s.pages.items (c.args.at / 4096) i q s.laid s.count at)
+    ∙ ap (with_rights (paged pages) c.args.at) c.in-Some.ensures
+    ∙ ap (λ (z : ℤ). protected (paged pages) c.args.at z) (to_z-of_z w32 c.args.protection c.ranges.protection)

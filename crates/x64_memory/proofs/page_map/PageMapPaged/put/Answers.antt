@@ -1,17 +1,25 @@
-use Rattle.std.proofs.Common.{◌≡◌, ◌%◌, sym, ap, ◌∙◌, refl, arith}
-use Rattle.std.specs.Prelude.{is_some}
+use Rattle.std.proofs.Common.{◌≡◌, ◌/◌, ◌%◌, sym, ap, ◌∙◌, refl, arith}
 use Rattle.seh_num.specs.Widths.{bytes_of}
+use Rattle.x64_memory.specs.declared.page.Page.{Page}
 use Rattle.x64_memory.specs.Pages.{page_with_number}
+use Rattle.x64_memory.specs.Stretches.{page_at, page_numbered}
+use Rattle.x64_memory.proofs.Laid.{page_set, page_kept}
 use Rattle.x64_memory.proofs.Paging.{number_put, unmapped}
 use Rattle.x64_memory.proofs.page_map.PageMapPaged.put.Goals as goal
 
 pub returns-in-Some : goal.returns-in-Some
 returns-in-Some c =
-    let had = sym c.in-Some.ensures.value in
+    let s = c.args.self.now in
     let n = bytes_of c.args.width in
-    let p = c.in-Some.page.now in
+    let p = c.index_mut-page.result.now in
+    let i = c.in-Some.index in
+    let q : Page = record { protection = p.protection; bytes = c.put_number.new.bytes } in
+    let at = sym c.in-Some.ensures.value in
+    let had = page_kept s.stretches.items s.pages.items (c.args.at / 4096) i p at c.in-Some.ensures.within c.index_mut-page.ensures.value in
     let count : c.bytes.result ≡ n = c.bytes.ensures.value in
-    number_put c.args.self.now.pages p _ n c.args.at c.args.value had (omega arith) (omega arith) (λ i. c.put_number.ensures i ∙ ap (λ m. page_with_number p.bytes (c.args.at % 4096) m c.args.value i) count) refl _ ((c.get_mut.follows.holds _).3 (ap is_some had)).0
+    number_put (page_numbered s.stretches.items s.pages.items) p q n c.args.at c.args.value had (omega arith) (omega arith) (λ j. c.put_number.ensures j ∙ ap (λ m. page_with_number p.bytes (c.args.at % 4096) m c.args.value j) count) refl _ (page_set s.stretches.items s.pages.items (c.args.at / 4096) i q s.laid s.count at)
 
 pub returns-in_default : goal.returns-in_default
-returns-in_default c = absurd (unmapped c.args.self.now.pages c.args.at (sym c.in_default.ensures.value) c.requires.may)
+returns-in_default c =
+    let s = c.args.self.now in
+    absurd (unmapped (page_numbered s.stretches.items s.pages.items) c.args.at (ap (page_at s.pages.items) (sym c.in_default.ensures.value)) c.requires.may)

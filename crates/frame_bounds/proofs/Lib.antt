@@ -1,0 +1,3 @@
+pub mod ShallowOperators
+pub mod ShallowExpressions
+pub mod Frames

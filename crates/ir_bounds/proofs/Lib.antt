@@ -1,0 +1,3 @@
+pub mod PlainExpressions
+pub mod PlainStatements
+pub mod Small

@@ -1,0 +1,64 @@
+-- Linear code whose slots and arguments are within bounds.
+use Rattle.std.specs.Prelude.{ℕ, ◌+◌, ◌<◌, ◌≤◌, List, [], ◌∷◌, length, Option, Some, None}
+use Rattle.std.specs.List.{AllByRecursion}
+use Rattle.c_operations.specs.declared.field.Field.{Field}
+use Rattle.c_operations.specs.declared.field.Field.TheVariants.{ExceptionInformation}
+use Rattle.linear_code.specs.declared.slot.Slot.{Slot}
+use Rattle.linear_code.specs.declared.slot.Slot.TheVariants.{Local, Temporary}
+use Rattle.linear_code.specs.declared.instruction.Instruction.{Instruction}
+use Rattle.linear_code.specs.declared.instruction.Instruction.TheVariants as instructions
+use Rattle.linear_code.specs.declared.program.FuncletKind.{FuncletKind}
+use Rattle.linear_code.specs.declared.program.FuncletKind.TheVariants.{Filter, Finally}
+use Rattle.linear_code.specs.Program.{LinearBody, LinearFunction, LinearFunclet, LinearProgram}
+
+-- among so many locals
+abbrev pub IsAmong : ℕ → Slot → Type 0
+IsAmong n (Local i) = i < n
+IsAmong n (Temporary i) = Unit {0}
+
+-- a parameter of an exception is one of 15 (Windows headers, `winnt.h`)
+abbrev pub IsField : Field → Type 0
+IsField (ExceptionInformation k) = k < 15
+IsField f = Unit {0}
+
+-- the locals of an instruction are among so many, its field is one, and it passes at most eight arguments
+abbrev pub IsPlain : ℕ → Instruction → Type 0
+IsPlain n (instructions.Compute to o first second) = IsAmong n to × IsAmong n first × IsAmong n second
+IsPlain n (instructions.Information to field) = IsAmong n to × IsField field
+IsPlain n (instructions.Landing to) = IsAmong n to
+IsPlain n (instructions.JumpIfZero slot label) = IsAmong n slot
+IsPlain n (instructions.Call function first count) = count ≤ 8
+IsPlain n (instructions.Return from) = IsAmong n from
+IsPlain n other = Unit {0}
+
+-- a body uses at most 1,000 words
+pub record IsSmallBody (b : LinearBody) : Type 0 where
+  pub words : b.passed + b.temporaries + b.locals ≤ 1000
+  pub code : AllByRecursion (IsPlain b.locals) b.code
+
+-- ---- programs
+
+abbrev pub HasFlag : LinearBody → FuncletKind → Type 0
+HasFlag b Filter = Unit {0}
+HasFlag b (Finally flag) = flag < b.locals
+
+abbrev pub HasParent : LinearProgram → Option ℕ → Type 0
+HasParent p None = Unit {0}
+HasParent p (Some index) = index < length p.funclets
+
+pub record IsSmallFunclet (p : LinearProgram) (f : LinearFunclet) : Type 0 where
+  pub kind : HasFlag f.body f.kind
+  pub function : f.function < length p.functions
+  pub parent : HasParent p f.parent
+  pub body : IsSmallBody f.body
+
+pub record IsSmallFunction (f : LinearFunction) : Type 0 where
+  pub parameters : f.parameters ≤ 8
+  pub body : IsSmallBody f.body
+
+-- within the limits of frames
+pub record IsSmall (p : LinearProgram) : Type 0 where
+  pub globals : length p.globals ≤ 1048576
+  pub main : p.main < length p.functions
+  pub functions : AllByRecursion IsSmallFunction p.functions
+  pub funclets : AllByRecursion (IsSmallFunclet p) p.funclets

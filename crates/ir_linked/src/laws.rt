@@ -1,0 +1,20 @@
+//! What holds of every sound program and the linear code that it is lowered to.
+
+ghost use Rattle.ir_linked.specs.Laws.{LoweredIsLinked, LoweredFollows, LoweredShowsNoMore};
+
+/// Each function and each funclet of a sound program stands in its linear code.
+pub fn is_linked()
+    ensures linked { LoweredIsLinked }
+{}
+
+/// From 16 n + 2 turns on the linear code of a sound program has shown the events of n steps, and has
+/// ended as they end.
+pub fn follows()
+    ensures follows { LoweredFollows }
+{}
+
+/// The turns of the linear code show no more than the program's steps, at most a pace of steps for each
+/// turn and for one more; it ends only as they end, and is never stuck.
+pub fn no_more()
+    ensures no_more { LoweredShowsNoMore }
+{}

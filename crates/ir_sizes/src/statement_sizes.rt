@@ -1,0 +1,175 @@
+//! How many instructions statements are lowered to, and how many locals for codes and flags they need.
+
+ghost use Rattle.std.specs.Prelude.{◌≡◌, ◌+◌, map, IfOk, option_map};
+ghost use Rattle.c_checked.specs.Expression as tree;
+ghost use Rattle.c_checked.specs.Statement as statements;
+ghost use Rattle.ir_sizes.specs.Sizes as spec;
+
+use crate::sizes::expression_size;
+use crate::sums::{larger, sum};
+use c_checked::expression::Expr;
+use c_checked::statement::{Declared, Stmt};
+use std::alloc::AllocError;
+
+/// An expression whose value isn't used.
+pub fn discarded_size(expr: &Option<Expr>) -> Result<u64, AllocError>
+    ensures { IfOk result (λ n. n ≡ spec.discarded_size (option_map tree.expression expr.now)) }
+{
+    match expr {
+        None => Ok(0),
+        Some(e) => sum(expression_size(e)?, 1),
+    }
+}
+
+/// A condition, with its jump.
+pub fn condition_size(expr: &Option<Expr>) -> Result<u64, AllocError>
+    ensures { IfOk result (λ n. n ≡ spec.condition_size (option_map tree.expression expr.now)) }
+{
+    match expr {
+        None => Ok(0),
+        Some(e) => sum(expression_size(e)?, 1),
+    }
+}
+
+fn returned_size(expr: &Option<Expr>) -> Result<u64, AllocError>
+    ensures { IfOk result (λ n. n ≡ spec.returned_size (option_map tree.expression expr.now)) }
+{
+    match expr {
+        None => Ok(1),
+        Some(e) => expression_size(e),
+    }
+}
+
+pub fn declared_size(declared: &Declared) -> Result<u64, AllocError>
+    ensures { IfOk result (λ n. n ≡ spec.declared_size (statements.declared declared.now)) }
+{
+    match &declared.value {
+        None => Ok(1),
+        Some(e) => sum(1, sum(expression_size(e)?, 2)?),
+    }
+}
+
+pub fn all_declared_size(declared: &[Declared]) -> Result<u64, AllocError>
+    ensures { IfOk result (λ n. n ≡ spec.all_declared_size (map statements.declared declared.now)) }
+{
+    let mut total = 0;
+    for one in declared {
+        let size = declared_size(one)?;
+        total = sum(total, size)?;
+    }
+    Ok(total)
+}
+
+#[cycle(sizes)]
+pub fn statements_size(stmts: &[Stmt]) -> Result<u64, AllocError>
+    ensures { IfOk result (λ n. n ≡ spec.statements_size (statements.statements (map statements.statement stmts.now))) }
+{
+    let mut total = 0;
+    for stmt in stmts {
+        let size = statement_size(stmt)?;
+        total = sum(total, size)?;
+    }
+    Ok(total)
+}
+
+#[cycle(sizes)]
+pub fn statement_size(stmt: &Stmt) -> Result<u64, AllocError>
+    ensures { IfOk result (λ n. n ≡ spec.statement_size (statements.statement stmt.now)) }
+{
+    match stmt {
+        Stmt::Declare(declared) => declared_size(declared),
+        Stmt::Block(stmts) => statements_size(stmts),
+        Stmt::Evaluate(expr) => discarded_size(expr),
+        Stmt::If {
+            condition,
+            then,
+            otherwise: None,
+        } => { sum(expression_size(condition)?, sum(1, statement_size(then)?)?) }
+        Stmt::If {
+            condition,
+            then,
+            otherwise: Some(otherwise),
+        } => {
+            let rest = sum(1, statement_size(otherwise)?)?;
+            let both = sum(statement_size(then)?, rest)?;
+            sum(expression_size(condition)?, sum(1, both)?)
+        }
+        Stmt::For {
+            declared,
+            first,
+            condition,
+            next,
+            body,
+        } => {
+            let last = sum(1, sum(discarded_size(next)?, 1)?)?;
+            let turn = sum(
+                condition_size(condition)?,
+                sum(statement_size(body)?, last)?,
+            )?;
+            sum(
+                all_declared_size(declared)?,
+                sum(discarded_size(first)?, turn)?,
+            )
+        }
+        Stmt::Do { body, condition } => {
+            let last = sum(1, sum(expression_size(condition)?, 2)?)?;
+            sum(statement_size(body)?, last)
+        }
+        Stmt::Return(expr) => sum(returned_size(expr)?, 2),
+        Stmt::Break => Ok(2),
+        Stmt::Continue => Ok(2),
+        Stmt::Leave => Ok(1),
+        Stmt::TryExcept { body, handler, .. } => {
+            sum(statements_size(body)?, sum(2, statements_size(handler)?)?)
+        }
+        Stmt::TryFinally { body, .. } => sum(statements_size(body)?, 3),
+    }
+}
+
+#[cycle(notes)]
+pub fn statements_notes(stmts: &[Stmt]) -> Result<u64, AllocError>
+    ensures { IfOk result (λ n. n ≡ spec.statements_notes (statements.statements (map statements.statement stmts.now))) }
+{
+    let mut most = 0;
+    for stmt in stmts {
+        let notes = statement_notes(stmt)?;
+        let next = larger(most, notes);
+        most = next;
+    }
+    Ok(most)
+}
+
+#[cycle(notes)]
+fn statement_notes(stmt: &Stmt) -> Result<u64, AllocError>
+    ensures { IfOk result (λ n. n ≡ spec.statement_notes (statements.statement stmt.now)) }
+{
+    match stmt {
+        Stmt::Declare(_) => Ok(0),
+        Stmt::Block(stmts) => statements_notes(stmts),
+        Stmt::Evaluate(_) => Ok(0),
+        Stmt::If {
+            then,
+            otherwise: None,
+            ..
+        } => statement_notes(then),
+        Stmt::If {
+            then,
+            otherwise: Some(otherwise),
+            ..
+        } => { Ok(larger(statement_notes(then)?, statement_notes(otherwise)?)) }
+        Stmt::For { body, .. } => statement_notes(body),
+        Stmt::Do { body, .. } => statement_notes(body),
+        Stmt::Return(_) => Ok(0),
+        Stmt::Break => Ok(0),
+        Stmt::Continue => Ok(0),
+        Stmt::Leave => Ok(0),
+        Stmt::TryExcept { body, handler, .. } => {
+            let inner = sum(1, statements_notes(handler)?)?;
+            Ok(larger(statements_notes(body)?, inner))
+        }
+        Stmt::TryFinally { body, last, .. } => {
+            let inner = sum(1, statements_notes(last)?)?;
+            Ok(larger(statements_notes(body)?, inner))
+        }
+    }
+}

@@ -1,0 +1,4 @@
+pub mod LightOperators
+pub mod LightExpressions
+pub mod LightStatements
+pub mod Pace

@@ -1,0 +1,108 @@
+//! Names that are ended by 0. Bytes that many names share are looked at once.
+
+ghost use Rattle.std.specs.Prelude.{◌≡◌, ◌≤◌, ◌<◌, ◌+◌, ◌-◌, ◌^◌, ◌==◌, Some, length, drop, position, option_map, IfSome, IfOk, OnOk};
+ghost use Rattle.std.specs.Ordering.{nat_cmp};
+ghost use Rattle.std.specs.BTreeMap.{get};
+ghost use Rattle.pe_image.specs.Image.{AreAscending, section_at, stored_in};
+ghost use Rattle.pe_image.specs.Imports as spec;
+ghost use Rattle.pe_image.specs.Names.{AreEnds};
+
+use crate::layout::HINT_SIZE;
+use crate::section::{SectionView, stored_from};
+use std::alloc::AllocError;
+use std::collections::BTreeMap;
+
+/// Bytes other than 0 from an address on, and the address of the 0 behind them.
+#[derive(Clone, Copy)]
+struct Stretch {
+    from: u64,
+    end: u64,
+}
+
+/// The place of the first 0.
+fn first_zero(bytes: &[u8]) -> Option<usize>
+    ensures place { result ≡ position (λ b. b == 0) bytes.now }
+    ensures within { IfSome result (λ n. n < length bytes.now) }
+{
+    bytes.iter().position(|b| *b == 0)
+}
+
+/// The place of the first 0, where the first one at or behind `unread` is known to stand at `end`,
+/// if the bytes go so far.
+fn first_zero_before(bytes: &[u8], unread: u64, end: u64) -> Option<usize>
+    requires ordered { unread ≤ end }
+    requires known { unread < length bytes.now
+        → position (λ b. b == 0) (drop unread bytes.now) ≡ Some (end - unread) }
+    ensures place { result ≡ position (λ b. b == 0) bytes.now }
+    ensures within { IfSome result (λ n. n < length bytes.now) }
+{
+    if bytes.len() as u64 <= unread {
+        return first_zero(bytes);
+    }
+    match first_zero(&bytes[..unread as usize]) {
+        Some(place) => Some(place),
+        None => Some(end as usize),
+    }
+}
+
+/// The first stretch that is known to end at an address or above it.
+fn known_stretch(ends: &BTreeMap<u64, u64>, at: u64) -> Option<Stretch>
+    ensures known { IfSome result (λ s. get nat_cmp ends.now s.end ≡ Some s.from) }
+    ensures above { IfSome result (λ s. at ≤ s.end) }
+{
+    let (end, from) = ends.range(at..).next()?;
+    Some(Stretch {
+        from: *from,
+        end: *end,
+    })
+}
+
+/// How many bytes stand before the first 0 of what is stored from an address on. The stretch that
+/// was read is kept.
+fn name_len(
+    ends: &mut BTreeMap<u64, u64>,
+    sections: &[SectionView<'_>],
+    at: u64,
+) -> Result<Option<usize>, AllocError>
+    requires ascending { AreAscending 0 sections.now }
+    requires ends { AreEnds sections.now ends.old }
+    requires low { at ≤ 2 ^ 63 + 1 }
+    ensures place { IfOk result (λ n. n
+        ≡ position (λ b. b == 0) (stored_in at (section_at at sections.now))) }
+    ensures ends { OnOk result (AreEnds sections.now ends.new) }
+{
+    let bytes = stored_from(sections, at);
+    let found = match known_stretch(ends, at) {
+        Some(known) if known.from <= at => return Ok(Some((known.end - at) as usize)),
+        Some(known) => first_zero_before(bytes, known.from - at, known.end - at),
+        None => first_zero(bytes),
+    };
+    let Some(len) = found else {
+        return Ok(None);
+    };
+    ends.insert(at + len as u64, at)?;
+    Ok(Some(len))
+}
+
+/// The name behind a hint at an address.
+pub fn read_name<'a>(
+    ends: &mut BTreeMap<u64, u64>,
+    sections: &[SectionView<'a>],
+    at: u64,
+) -> Result<Option<&'a [u8]>, AllocError>
+    requires ascending { AreAscending 0 sections.now }
+    requires ends { AreEnds sections.now ends.old }
+    requires low { at < 2 ^ 63 }
+    ensures name { IfOk result (λ name. option_map (λ b. b.now) name ≡ spec.name_at sections.now at) }
+    ensures ends { OnOk result (AreEnds sections.now ends.new) }
+{
+    let hinted = stored_from(sections, at);
+    if hinted.len() <= HINT_SIZE {
+        return Ok(None);
+    }
+    let bytes = &hinted[HINT_SIZE..];
+    match name_len(ends, sections, at + HINT_SIZE as u64)? {
+        Some(len) => Ok(Some(&bytes[..len])),
+        None => Ok(None),
+    }
+}
