@@ -155,6 +155,12 @@ fn jumps(rt: HostRuntime) -> Result<(), Fail> {
             Fault::JumpOutOfFinally,
             48,
         ),
+        ("int main(void){ __leave; }", Fault::LeaveOutsideTry, 16),
+        (
+            "int main(void){ __try{ } __finally{ return 1; } }",
+            Fault::JumpOutOfFinally,
+            36,
+        ),
     ] {
         let broken = Verdict::Broken(fault, at);
         assert_eq!(rt; verdict_of(rt.alloc(), text), broken, "of {text:?}");

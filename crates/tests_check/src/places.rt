@@ -151,6 +151,11 @@ fn lvalues(rt: HostRuntime) -> Result<(), Fail> {
             Fault::TypeClash,
             54,
         ),
+        (
+            "int main(void){ int x; return &x == 0; }",
+            Fault::NotLvalue,
+            31,
+        ),
     ] {
         let broken = Verdict::Broken(fault, at);
         assert_eq!(rt; verdict_of(rt.alloc(), text), broken, "of {text:?}");
