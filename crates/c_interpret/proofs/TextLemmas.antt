@@ -1,0 +1,23 @@
+-- Parts of the text of a meaning.
+use Rattle.std.proofs.Common.{◌≡◌, ℕ, List, ◌++◌, refl, sym, ap, ◌∙◌, append_assoc, Option, Some, None}
+use Rattle.std.specs.Prelude.{Bool, unwrap_or}
+use Rattle.seh_num.specs.declared.event.Event.{Event}
+use Rattle.seh_io.specs.Text.{lines}
+use Rattle.seh_io.specs.Writer.{lines-append}
+use Rattle.c_model.specs.declared.ended.Ended.{Ended}
+use Rattle.c_model.specs.declared.ended.Ended.TheVariants.{OutOfSteps}
+use Rattle.c_interpret.specs.Texts.{ended_within}
+
+pub within : (n : ℕ) (o : Option Ended) → unwrap_or o (OutOfSteps n) ≡ ended_within n o
+within n None = refl
+within n (Some e) = refl
+
+-- what was written of the front of the events is the front of the text
+pub front_of_text : (trace : Bool) (shown rest events : List Event) (end part others : List ℕ) → lines trace shown ≡ part ++ others → shown ++ rest ≡ events
+    → lines trace events ++ end ≡ part ++ (others ++ (lines trace rest ++ end))
+front_of_text trace shown rest events end part others b f =
+    ap (λ es. lines trace es ++ end) (sym f)
+    ∙ ap (λ t. t ++ end) (lines-append trace shown rest)
+    ∙ append_assoc (lines trace shown) (lines trace rest) end
+    ∙ ap (λ t. t ++ (lines trace rest ++ end)) b
+    ∙ append_assoc part others (lines trace rest ++ end)

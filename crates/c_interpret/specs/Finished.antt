@@ -1,0 +1,21 @@
+-- What follows an operation that was made, whose memory the machine has, and a result, whose frame was taken off.
+use Rattle.std.specs.Prelude.{ℕ, false, Some}
+use Rattle.c_operations.specs.declared.operation.Operation.{Operation}
+use Rattle.source_operations.specs.declared.performing.Performed.{Performed}
+use Rattle.source_operations.specs.declared.performing.Performed.TheVariants as performed
+use Rattle.c_model.specs.declared.ended.Ended.TheVariants.{Undefined}
+use Rattle.c_model.specs.State.{Result, Value, End}
+use Rattle.c_model.specs.Tasks as tasks
+use Rattle.source_machine.specs.Frames as frames
+use Rattle.source_machine.specs.Frames.{Place, Frame, Sequel, Give, Start, Push}
+use Rattle.source_machine.specs.Machine.{Machine, go_on, follow, over, outside, resumed}
+
+abbrev pub finished : Machine → Operation → ℕ → ℕ → Place → Performed → Machine
+finished m o a b p (performed.Gives v) = go_on m (Give (Value v))
+finished m o a b p (performed.Raises code access) =
+    follow m (Push (Sequel (frames.Retries o a b p)) (Start (tasks.Raise (record { code = code.0; flag = false; access = access })) p))
+finished m o a b p (performed.Undefined at) = over m (End (Some (Undefined at)))
+
+-- a frame's result, where the frame's handler is still there
+abbrev pub resumed_from : Machine → Frame → Result → Machine
+resumed_from m f how = resumed (record m { handlers = outside f m.handlers }) f how

@@ -1,0 +1,157 @@
+-- What the machine does next, and what waits for the result of that.
+use Rattle.std.specs.Prelude.{ℕ, ◌-◌, Bool, List, [], ◌∷◌, length, take, Option, reverse}
+use Rattle.c_operations.specs.declared.built_in.BuiltIn.{BuiltIn}
+use Rattle.c_operations.specs.declared.operation.Operation.{Operation}
+use Rattle.c_operations.specs.declared.operation.Pure.{Pure}
+use Rattle.c_checked.specs.declared.expression.Access.{Access}
+use Rattle.c_checked.specs.declared.expression.Conversion.{Conversion}
+use Rattle.c_checked.specs.declared.expression.Fixity.{Fixity}
+use Rattle.c_checked.specs.Expression.{Expression, Node, Lvalue, Arguments}
+use Rattle.c_checked.specs.Statement.{Declared, Filter, Statement, Statements}
+use Rattle.c_model.specs.State.{Exception, State, Result}
+use Rattle.c_model.specs.Tasks.{Handler, Context, Task}
+
+-- a context without its handlers, which the machine has
+pub record Place : Type 0 where
+  pub activation : ℕ
+  pub exception : Exception
+  pub abnormal : Bool
+
+-- the machine's handlers are outermost first
+abbrev pub context_at : List Handler → Place → Context
+context_at hs p = record { handlers = reverse hs; activation = p.activation; exception = p.exception; abnormal = p.abnormal }
+
+-- what is called
+pub data Callee : Type 0 where
+  Defined : ℕ → Callee
+  BuiltInOf : BuiltIn → Callee
+
+-- `for` and `while`, after their declarations and first expressions
+pub record ForLoop : Type 0 where
+  pub condition : Option Expression
+  pub next : Option Expression
+  pub body : Statement
+
+-- `target operation= value`
+pub record Compound : Type 0 where
+  pub target : Lvalue
+  pub before : Conversion
+  pub operation : Operation
+  pub value : Expression
+  pub after : Conversion
+
+-- `++` and `--`
+pub record Stepped : Type 0 where
+  pub fixity : Fixity
+  pub target : Lvalue
+  pub before : Conversion
+  pub operation : Operation
+  pub amount : ℕ
+  pub after : Conversion
+
+-- what waits for an operand's value
+pub data OperandFrame : Type 0 where
+  Converts : Conversion → OperandFrame
+  EvaluatesIndex : Expression → Place → OperandFrame
+  AddsIndex : ℕ → OperandFrame
+  Applies : Pure → OperandFrame
+  EvaluatesRight : Operation → Expression → Place → OperandFrame
+  Operates : Operation → ℕ → Place → OperandFrame
+  EvaluatesSubtrahend : ℕ → Expression → Place → OperandFrame
+  Measures : ℕ → ℕ → OperandFrame
+  Inverts : OperandFrame
+  EvaluatesIfTrue : Expression → Place → OperandFrame
+  EvaluatesIfFalse : Expression → Place → OperandFrame
+  Tests : OperandFrame
+  Chooses : Expression → Expression → Place → OperandFrame
+  Discards : Expression → Place → OperandFrame
+  PassesArgument : Callee → List ℕ → Arguments → Place → OperandFrame
+
+-- what waits for a place's address, or for a value on its way from or to a place
+pub data AssignmentFrame : Type 0 where
+  Reads : Lvalue → Place → AssignmentFrame
+  Extends : Access → AssignmentFrame
+  EvaluatesAssigned : Lvalue → Expression → Place → AssignmentFrame
+  Assigns : Lvalue → ℕ → Place → AssignmentFrame
+  ReadsCompound : Compound → Place → AssignmentFrame
+  EvaluatesCompound : Compound → ℕ → Place → AssignmentFrame
+  OperatesCompound : Compound → ℕ → ℕ → Place → AssignmentFrame
+  AssignsCompound : Compound → ℕ → Place → AssignmentFrame
+  ReadsStepped : Stepped → Place → AssignmentFrame
+  OperatesStepped : Stepped → ℕ → Place → AssignmentFrame
+  AssignsStepped : Stepped → ℕ → ℕ → Place → AssignmentFrame
+  GivesStepped : Fixity → ℕ → AssignmentFrame
+
+-- what waits for a value in a statement, or for a filter's answer
+pub data StatementFrame : Type 0 where
+  Initialises : ℕ → Place → StatementFrame
+  EndsEvaluation : StatementFrame
+  Branches : Statement → Option Statement → Place → StatementFrame
+  Iterates : ForLoop → Place → StatementFrame
+  TestsFor : ForLoop → Place → StatementFrame
+  TestsDo : Statement → Expression → Place → StatementFrame
+  Returns : StatementFrame
+  EndsFilter : StatementFrame
+  -- a handler's number among the machine's
+  IsAnswered : ℕ → Exception → Place → StatementFrame
+
+-- what waits for a normal end
+pub data SequelFrame : Type 0 where
+  Continues : Statements → Place → SequelFrame
+  DeclaresRest : List Declared → Place → SequelFrame
+  EvaluatesFirst : Option Expression → ForLoop → Place → SequelFrame
+  Retries : Operation → ℕ → ℕ → Place → SequelFrame
+  GivesZero : SequelFrame
+  GivesResult : Result → SequelFrame
+  EndsFinally : SequelFrame
+
+-- what waits for the end of a loop's body
+pub data BodyFrame : Type 0 where
+  EndsForBody : ForLoop → Place → BodyFrame
+  EndsDoBody : Statement → Expression → Place → BodyFrame
+
+pub data Frame : Type 0 where
+  Operand : OperandFrame → Frame
+  Assignment : AssignmentFrame → Frame
+  InStatement : StatementFrame → Frame
+  Sequel : SequelFrame → Frame
+  Body : BodyFrame → Frame
+  -- a call's end: how many activations there were before it
+  EndsCall : ℕ → Frame
+  -- the end of a `__try` with an `__except`, whose handler is the machine's last: what was held where it was entered, and the block
+  Lands : ℕ → Statements → Place → Frame
+  -- the end of a `__try` with a `__finally`
+  Finishes : ℕ → Statements → Place → Frame
+
+-- what is to be done next
+pub data Next : Type 0 where
+  -- the run is over
+  Over : Result → Next
+  Give : Result → Next
+  -- a task, with its step, and after its step
+  Start : Task → Place → Next
+  Begin : Task → Place → Next
+  Evaluate : Node → Place → Next
+  Find : Lvalue → Place → Next
+  Fetch : Lvalue → ℕ → Place → Next
+  Put : Lvalue → ℕ → ℕ → Place → Next
+  Operate : Operation → ℕ → ℕ → Place → Next
+  -- arguments, after those that were evaluated
+  Pass : Callee → List ℕ → Arguments → Place → Next
+  Call : Callee → List ℕ → Place → Next
+  Proceed : Statements → Place → Next
+  DeclareEach : List Declared → Place → Next
+  DeclareName : Declared → Place → Next
+  SetLocal : ℕ → ℕ → Place → Next
+  -- a `__try` with an `__except` is entered
+  Guard : Statements → Filter → Statements → Place → Next
+  -- a filter's answer, and the end of a `__finally` block
+  Answer : ℕ → Next
+  LetGo : Next
+  -- the handlers below this number are asked, the highest first
+  Search : ℕ → Exception → Place → Next
+
+-- what is done next, maybe with one more frame on the stack
+pub data Plan : Type 0 where
+  Then : Next → Plan
+  Push : Frame → Next → Plan

@@ -1,0 +1,5 @@
+pub mod Frames
+pub mod Plans
+pub mod Machine
+pub mod Waiting
+pub mod Laws

@@ -1,0 +1,245 @@
+-- The machine, and its step.
+use Rattle.std.specs.Prelude.{ℕ, zero, suc, ◌+◌, ◌-◌, ◌++◌, Bool, true, false, nat_eq, nat_lt, if◌then◌else◌, List, [], ◌∷◌, length, take, replicate, get_or, slice_get, Option, Some, None}
+use Rattle.seh_num.specs.declared.width.Width.TheVariants.{W32, W64}
+use Rattle.seh_num.specs.declared.event.Event.{Event}
+use Rattle.seh_num.specs.declared.event.Event.TheVariants as events
+use Rattle.seh_num.specs.Widths.{signed}
+use Rattle.flat_memory.specs.Memory.{protected, rights_asked}
+use Rattle.c_operations.specs.declared.built_in.BuiltIn.{BuiltIn}
+use Rattle.c_operations.specs.declared.built_in.BuiltIn.TheVariants.{Put, Protect, RaiseException}
+use Rattle.c_operations.specs.declared.operation.Operation.{Operation}
+use Rattle.c_operations.specs.Performed as performing
+use Rattle.c_operations.specs.Performed.{performed}
+use Rattle.c_checked.specs.Expression.{Lvalue, Local, Global, Indirection, Element}
+use Rattle.c_checked.specs.Statement.{Filter, Always, Funclet, Statements, Declared}
+use Rattle.c_checked.specs.Program.{Program, Function}
+use Rattle.c_model.specs.declared.ended.Ended.{Ended}
+use Rattle.c_model.specs.declared.ended.Ended.TheVariants.{Unhandled, Undefined, Deep}
+use Rattle.c_model.specs.Source.{is_reserved}
+use Rattle.c_model.specs.State.{Exception, State, Result, Value, Normal, Returned, Broke, Continued, LeftTry, Target, End, local_of, set_local, set_memory, emit, hold, let_go, depth}
+use Rattle.c_model.specs.Tasks as tasks
+use Rattle.c_model.specs.Tasks.{Handler, Task}
+use Rattle.c_model.specs.Expressions.{of_test, no_exception, raised, is_some}
+use Rattle.c_model.specs.Raises.{raise_event}
+use Rattle.source_machine.specs.Frames as frames
+use Rattle.source_machine.specs.Frames.{Place, Callee, ForLoop, OperandFrame, AssignmentFrame, StatementFrame, SequelFrame, BodyFrame, Frame, Operand, Assignment, InStatement, Sequel, Body, EndsCall, Lands, Finishes, Next, Over, Give, Start, Begin, Plan, Then, Push}
+use Rattle.source_machine.specs.Plans.{node_plan, expression_plan, find_plan, pass_plan, operand_plan, assignment_plan, load_plan, store_plan, proceed_plan, declare_plan, evaluates, evaluated, for_body, statement_plan, in_statement_plan, sequel_plan, body_plan}
+
+-- a state with the handlers around the place where it goes on, outermost first; what waits, newest first; and what is done next
+pub record Machine : Type 0 where
+  pub state : State
+  pub handlers : List Handler
+  pub stack : List Frame
+  pub next : Next
+
+abbrev pub go_on : Machine → Next → Machine
+go_on m next = record m { next = next }
+
+abbrev pub follow : Machine → Plan → Machine
+follow m (Then next) = record m { next = next }
+follow m (Push f next) = record m { stack = f ∷ m.stack; next = next }
+
+abbrev pub at_state : Machine → State → Machine
+at_state m st = record m { state = st }
+
+-- the program's end, whatever waits
+abbrev pub over : Machine → Result → Machine
+over m how = record m { next = Over how }
+
+abbrev pub unless_deep : Bool → Machine → Machine → Machine
+unless_deep true m other = over m (End (Some (Deep 1001)))
+unless_deep false m other = other
+
+abbrev pub is_deep : State → ℕ → Bool
+is_deep st n = nat_lt 1000 (depth st + n)
+
+-- ---- tasks
+
+abbrev pub started : Machine → Task → Place → ℕ → Machine
+started m task p zero = over m (End None)
+started m task p (suc n) = record m { state = record m.state { steps_left = n }; next = Begin task p }
+
+abbrev pub begun : Machine → Task → Place → Machine
+begun m (tasks.Eval e) p = follow m (expression_plan e p)
+begun m (tasks.Locate l) p = go_on m (frames.Find l p)
+begun m (tasks.Run s) p = follow m (statement_plan s p)
+begun m (tasks.ForIteration c next s) p =
+    let k : ForLoop = record { condition = c; next = next; body = s } in follow m (evaluated (frames.TestsFor k p) c p (for_body k p))
+begun m (tasks.DoIteration s c) p = follow m (Push (Body (frames.EndsDoBody s c p)) (Start (tasks.Run s) p))
+begun m (tasks.TryBody ss) p = go_on m (frames.Proceed ss p)
+begun m (tasks.Raise exc) p = record m { state = emit (raise_event exc) m.state; next = frames.Search (length m.handlers) exc p }
+begun m (tasks.RunFilter k e h exc) p =
+    unless_deep (is_deep m.state 2) m
+    (follow (at_state m (emit (events.Filter k) (hold m.state)))
+    (Push (InStatement frames.EndsFilter) (evaluates e (record { activation = h.activation; exception = exc; abnormal = h.abnormal }))))
+begun m (tasks.RunFinally k last flag) p =
+    unless_deep (is_deep m.state 2) m
+    (follow (at_state m (emit (events.Finally k flag) (hold m.state))) (Push (Sequel frames.EndsFinally) (frames.Proceed last (record p { abnormal = flag }))))
+begun m (tasks.Retry o a b) p = go_on m (frames.Operate o a b p)
+
+-- ---- places and operations
+
+abbrev pub fetched : Machine → Lvalue → ℕ → Place → Machine
+fetched m (Local x) a p = go_on m (Give (Value (local_of m.state p.activation x)))
+fetched m (Global access _) a p = follow m (load_plan access a p)
+fetched m (Indirection access _) a p = follow m (load_plan access a p)
+fetched m (Element access _ _) a p = follow m (load_plan access a p)
+
+abbrev pub with_local : Machine → Place → ℕ → ℕ → Machine
+with_local m p x v = at_state m (set_local m.state p.activation x v)
+
+abbrev pub put : Machine → Lvalue → ℕ → ℕ → Place → Machine
+put m (Local x) a v p = go_on (with_local m p x v) (Give (Value v))
+put m (Global access _) a v p = follow m (store_plan access a v p)
+put m (Indirection access _) a v p = follow m (store_plan access a v p)
+put m (Element access _ _) a v p = follow m (store_plan access a v p)
+
+abbrev pub operated : Machine → Operation → ℕ → ℕ → Place → performing.Outcome → Machine
+operated m o a b p (performing.Gives v memory) = go_on (at_state m (set_memory m.state memory)) (Give (Value v))
+operated m o a b p (performing.Raises code access) =
+    follow m (Push (Sequel (frames.Retries o a b p)) (Start (tasks.Raise (record { code = code.0; flag = false; access = access })) p))
+operated m o a b p (performing.Undefined a') = over m (End (Some (Undefined a')))
+
+-- ---- calls
+
+abbrev pub entered : Machine → Option Function → List ℕ → Machine
+entered m None vs = go_on m (Give (Value 0))
+entered m (Some f) vs =
+    let n = length m.state.frames in
+    unless_deep (is_deep m.state 1) m
+    (follow (at_state m (record m.state { frames = m.state.frames ++ (vs ++ replicate (length f.locals) 0) ∷ [] }))
+    (Push (EndsCall n) (frames.Proceed f.body (record { activation = n; exception = no_exception; abnormal = false }))))
+
+abbrev pub built_in : Machine → BuiltIn → List ℕ → Place → Machine
+built_in m Put vs p = go_on (at_state m (emit (events.Put (signed W64 (get_or vs 0 0))) m.state)) (Give (Value 0))
+built_in m Protect vs p =
+    let a = get_or vs 0 0 in
+    let mode = signed W32 (get_or vs 1 0) in
+    go_on (at_state m (set_memory m.state (protected m.state.memory a mode))) (Give (Value (of_test (is_some (rights_asked a mode)))))
+built_in m RaiseException vs p = follow m (Push (Sequel frames.GivesZero) (Start (tasks.Raise (raised (get_or vs 0 0) (get_or vs 1 0))) p))
+
+abbrev pub called : Program → Machine → Callee → List ℕ → Place → Machine
+called program m (frames.Defined f) vs p = entered m (slice_get program.functions f) vs
+called program m (frames.BuiltInOf k) vs p = built_in m k vs p
+
+-- ---- statements
+
+-- a declared name is 0 first, in its own initialiser too
+abbrev pub declared : Machine → Declared → Place → Machine
+declared m d p = follow (with_local m p d.local 0) (evaluated (frames.Initialises d.local p) d.value p (Then (frames.SetLocal d.local 0 p)))
+
+abbrev pub handler_at : Filter → Place → Handler
+handler_at filter p = record { filter = filter; activation = p.activation; abnormal = p.abnormal }
+
+abbrev pub guarded : Machine → Statements → Filter → Statements → Place → Machine
+guarded m body filter block p = record m {
+  handlers = m.handlers ++ handler_at filter p ∷ [];
+  stack = Lands m.state.held block p ∷ m.stack;
+  next = Start (tasks.TryBody body) p;
+}
+
+-- ---- raises
+
+abbrev pub unhandled : Machine → Exception → Machine
+unhandled m exc = over m (End (Some (Unhandled (record { 0 = exc.code }))))
+
+abbrev pub asked_by : Machine → Filter → Handler → ℕ → Exception → Place → Machine
+asked_by m Always h level exc p = go_on m (Give (Target level exc))
+asked_by m (Funclet k e) h level exc p = follow m (Push (InStatement (frames.IsAnswered level exc p)) (Start (tasks.RunFilter k e h exc) p))
+
+abbrev pub asked : Machine → Option Handler → ℕ → Exception → Place → Machine
+asked m None level exc p = unhandled m exc
+asked m (Some h) level exc p = asked_by m h.filter h level exc p
+
+abbrev pub searched : Machine → ℕ → Exception → Place → Machine
+searched m zero exc p = unhandled m exc
+searched m (suc level) exc p = asked m (slice_get m.handlers level) level exc p
+
+-- ---- results
+
+abbrev pub target_landed : Machine → Bool → ℕ → Statements → Place → ℕ → Exception → Machine
+target_landed m true held block p to exc =
+    go_on (at_state m (emit (events.Except (record { 0 = exc.code })) (record m.state { held = held }))) (frames.Proceed block (record p { exception = exc }))
+target_landed m false held block p to exc = go_on m (Give (Target to exc))
+
+abbrev pub landed : Machine → ℕ → Statements → Place → Result → Machine
+landed m held block p LeftTry = go_on m (Give Normal)
+landed m held block p (Target to exc) = target_landed m (nat_eq to (length m.handlers)) held block p to exc
+landed m held block p how = go_on m (Give how)
+
+abbrev pub finished : Machine → ℕ → Statements → Place → Result → Machine
+finished m k last p (End e) = go_on m (Give (End e))
+finished m k last p Normal = go_on m (Start (tasks.RunFinally k last false) p)
+finished m k last p LeftTry = go_on m (Start (tasks.RunFinally k last false) p)
+finished m k last p how = follow m (Push (Sequel (frames.GivesResult how)) (Start (tasks.RunFinally k last true) p))
+
+abbrev pub with_activations : Machine → ℕ → Machine
+with_activations m n = at_state m (record m.state { frames = take n m.state.frames })
+
+abbrev pub left_call : Machine → ℕ → Result → Machine
+left_call m n (End e) = go_on m (Give (End e))
+left_call m n Normal = go_on (with_activations m n) (Give (Value 0))
+left_call m n (Returned v) = go_on (with_activations m n) (Give (Value v))
+left_call m n how = go_on (with_activations m n) (Give how)
+
+abbrev pub after_value : Machine → (ℕ → Plan) → Result → Machine
+after_value m plan (Value v) = follow m (plan v)
+after_value m plan how = go_on m (Give how)
+
+abbrev pub after_normal : Machine → Plan → Result → Machine
+after_normal m plan Normal = follow m plan
+after_normal m plan how = go_on m (Give how)
+
+abbrev pub after_body : Machine → Plan → Result → Machine
+after_body m plan Normal = follow m plan
+after_body m plan Continued = follow m plan
+after_body m plan Broke = go_on m (Give Normal)
+after_body m plan how = go_on m (Give how)
+
+abbrev pub resumed : Machine → Frame → Result → Machine
+resumed m (Operand f) how = after_value m (operand_plan f) how
+resumed m (Assignment f) how = after_value m (assignment_plan f) how
+resumed m (InStatement f) how = after_value m (in_statement_plan f) how
+resumed m (Sequel f) how = after_normal m (sequel_plan f) how
+resumed m (Body f) how = after_body m (body_plan f) how
+resumed m (EndsCall n) how = left_call m n how
+resumed m (Lands held block p) how = landed m held block p how
+resumed m (Finishes k last p) how = finished m k last p how
+
+-- the handlers outside a frame
+abbrev pub without_last : List Handler → List Handler
+without_last hs = take (length hs - 1) hs
+
+abbrev pub outside : Frame → List Handler → List Handler
+outside (Lands held block p) hs = without_last hs
+outside f hs = hs
+
+abbrev pub given : Machine → Result → List Frame → Machine
+given m how [] = over (record m { stack = [] }) how
+given m how (f ∷ fs) = resumed (record m { handlers = outside f m.handlers; stack = fs }) f how
+
+-- ---- a step
+
+abbrev pub done : Program → Machine → Next → Machine
+done program m (Over how) = go_on m (Over how)
+done program m (Give how) = given m how m.stack
+done program m (Start task p) = started m task p m.state.steps_left
+done program m (Begin task p) = begun m task p
+done program m (frames.Evaluate n p) = follow m (node_plan n p)
+done program m (frames.Find l p) = follow m (find_plan l p)
+done program m (frames.Fetch l a p) = fetched m l a p
+done program m (frames.Put l a v p) = put m l a v p
+done program m (frames.Operate o a b p) = operated m o a b p (performed (is_reserved program.globals) o a b m.state.memory)
+done program m (frames.Pass callee vs es p) = follow m (pass_plan callee vs es p)
+done program m (frames.Call callee vs p) = called program m callee vs p
+done program m (frames.Proceed ss p) = follow m (proceed_plan ss p)
+done program m (frames.DeclareEach ds p) = follow m (declare_plan ds p)
+done program m (frames.DeclareName d p) = declared m d p
+done program m (frames.SetLocal x v p) = go_on (with_local m p x v) (Give Normal)
+done program m (frames.Guard body filter block p) = guarded m body filter block p
+done program m (frames.Answer v) = go_on (at_state m (emit (events.Answer (signed W32 v)) (let_go m.state))) (Give (Value v))
+done program m frames.LetGo = go_on (at_state m (let_go m.state)) (Give Normal)
+done program m (frames.Search level exc p) = searched m level exc p
+
+abbrev pub step : Program → Machine → Machine
+step program m = done program m m.next

@@ -1,0 +1,28 @@
+-- What the code's outcomes of operations stand for, with the memory after them.
+use Rattle.std.specs.Prelude.{ℕ, Bool, true, false, Some}
+use Rattle.seh_num.specs.declared.width.Width.{Width}
+use Rattle.seh_num.specs.Widths.{bytes_of, low}
+use Rattle.flat_memory.specs.Memory.{Memory, first_refused, may_read, number_at}
+use Rattle.flat_memory.specs.declared.access.RefusedAccess.{RefusedAccess}
+use Rattle.flat_memory.specs.declared.access.RefusedAccess.TheVariants as refused
+use Rattle.c_operations.specs.Performed.{Outcome, Gives, Raises, Undefined, unless_refused}
+use Rattle.source_operations.specs.declared.performing.Performed.{Performed}
+use Rattle.source_operations.specs.declared.performing.Performed.TheVariants as performed
+
+abbrev pub outcome_of : Performed → Memory → Outcome
+outcome_of (performed.Gives v) m = Gives v m
+outcome_of (performed.Raises code access) m = Raises code access
+outcome_of (performed.Undefined a) m = Undefined a
+
+abbrev pub is_given : Performed → Bool
+is_given (performed.Gives v) = true
+is_given other = false
+
+-- the fault of an access that was refused at an address
+abbrev pub violation : Bool → RefusedAccess → Outcome
+violation write (refused.Fault a w) = Raises (record { 0 = 0xC0000005 }) (Some (write, a))
+violation write (refused.Guard a) = Raises (record { 0 = 0xC0000005 }) (Some (write, a))
+
+-- a load of bytes that aren't reserved
+abbrev pub loaded : Width → ℕ → Memory → Outcome
+loaded w at m = unless_refused false (first_refused (may_read m) (bytes_of w) at) (Gives (low w (number_at m.byte (bytes_of w) at)) m)
