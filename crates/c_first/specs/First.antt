@@ -1,4 +1,4 @@
--- Which programs are compiled, and what they are as programs of the first part. Parentheses mean nothing.
+-- Which programs are of the first part, and what they are in it. Parentheses mean nothing.
 use Rattle.std.specs.Prelude.{ℕ, zero, suc, Bool, true, false, ◌&&◌, nat_le, List, [], ◌∷◌, Option, Some, None, option_map, codes, slice_range}
 use Rattle.std.specs.Str.{bytes_eq}
 use Rattle.c_lex.specs.declared.token.IntegerType.{IntegerType}

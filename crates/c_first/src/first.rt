@@ -1,4 +1,4 @@
-//! Programs as those that are compiled.
+//! Programs as those of the first part.
 
 ghost use Rattle.std.specs.Prelude.{◌≡◌, ◌&&◌, IfOk, IfErr, map, Some, None, codes};
 ghost use Rattle.c_syntax.specs.Program.{external_declaration};
@@ -18,10 +18,10 @@ use c_syntax::declaration::{ExternalDeclaration, Parameter};
 use c_syntax::expression::{Base, CType, Identifier};
 use std::alloc::{AllocError, AllocFailed, Global};
 
-/// Why a program isn't compiled.
+/// Why a program isn't one of the first part.
 #[derive(Clone, Copy, Debug, PartialEq, Eq)]
 pub enum FirstErr {
-    /// It isn't of the part of C that is compiled.
+    /// It has what the first part lacks.
     Unsupported,
     /// There was too little memory.
     Memory,
@@ -57,7 +57,7 @@ fn is_main(text: &[u8], returns: CType, name: Identifier, parameters: &[Paramete
     is_int(returns) && is_word(text, name, b"main") && parameters.is_empty()
 }
 
-/// The statements of a program as those that are compiled.
+/// The statements of a program as those of the first part.
 fn statements_of(
     alloc: Global,
     text: &[u8],
@@ -85,7 +85,7 @@ fn statements_of(
     }
 }
 
-/// A program within the limits as one that is compiled; names are read from its text.
+/// A program within the limits as one of the first part; names are read from its text.
 pub fn first_of(
     alloc: Global,
     text: &[u8],

@@ -1,4 +1,5 @@
-//! The part of C that is compiled, of programs of the whole language.
+//! The first part of C, whose programs are compiled to images that do what they mean, of programs of
+//! the whole language.
 //!
 //! `specs/First` says which programs are of this part, and what they are in it: one function
 //! `int main()` or `int main(void)` of statements `put(e);` and `return e;`, where `e` is built of

@@ -1,4 +1,4 @@
-//! Statements as those that are compiled.
+//! Statements as those of the first part.
 
 ghost use Rattle.std.specs.Prelude.{◌≡◌, IfOk, IfErr, Some, None, map};
 ghost use Rattle.c_syntax.specs.Expression as syntax;
@@ -14,7 +14,7 @@ use c_parse_atom::information::is_word;
 use c_syntax::{expression as syntax, statement as statements};
 use std::alloc::Global;
 
-/// The only argument as an expression that is compiled.
+/// The only argument as an expression of the first part.
 fn argument(alloc: Global, arguments: &[syntax::Expr]) -> Result<Expr, FirstErr>
     ensures found { IfOk result (λ e. definition.argument (syntax.arguments (map syntax.expression arguments.now)) ≡ Some (expression e)) }
     ensures unsupported { IfErr result (λ e. Refuses e (definition.argument (syntax.arguments (map syntax.expression arguments.now)) ≡ None)) }
@@ -43,7 +43,7 @@ fn call(alloc: Global, text: &[u8], expr: &syntax::Expr) -> Result<Expr, FirstEr
     }
 }
 
-/// A statement as one that is compiled.
+/// A statement as one of the first part.
 fn statement(alloc: Global, text: &[u8], stmt: &statements::Stmt) -> Result<Stmt, FirstErr>
     ensures found { IfOk result (λ s. definition.statement text.now (statements.statement stmt.now) ≡ Some (statement s)) }
     ensures unsupported { IfErr result (λ e. Refuses e (definition.statement text.now (statements.statement stmt.now) ≡ None)) }
@@ -64,7 +64,7 @@ fn statement(alloc: Global, text: &[u8], stmt: &statements::Stmt) -> Result<Stmt
     }
 }
 
-/// The statements of a body as those that are compiled.
+/// The statements of a body as those of the first part.
 pub fn body(alloc: Global, text: &[u8], body: &[statements::Stmt]) -> Result<Vec<Stmt>, FirstErr>
     ensures found { IfOk result (λ v. definition.body text.now (statements.statements (map statements.statement body.now)) ≡ Some (map statement v.items)) }
     ensures unsupported { IfErr result (λ e. Refuses e (definition.body text.now (statements.statements (map statements.statement body.now)) ≡ None)) }

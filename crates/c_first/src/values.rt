@@ -1,4 +1,4 @@
-//! Expressions as those that are compiled.
+//! Expressions as those of the first part.
 
 ghost use Rattle.std.specs.Prelude.{◌≡◌, ◌≤◌, IfOk, IfErr, Some, None, option_map};
 ghost use Rattle.c_syntax.specs.Expression as syntax;
@@ -18,7 +18,7 @@ use std::alloc::Global;
 /// The greatest value of the type `int`.
 const GREATEST: u64 = 2_147_483_647;
 
-/// The operator, if it is compiled.
+/// The operator, if the first part has it.
 fn operator_of(operator: operators::BinaryOperator) -> Option<BinaryOperator>
     ensures { result ≡ definition.operator operator }
 {
@@ -63,7 +63,7 @@ fn join(alloc: Global, operator: BinaryOperator, left: Expr, right: Expr) -> Res
     Ok(Expr::Binary(operator, left, right))
 }
 
-/// An expression as one that is compiled.
+/// An expression as one of the first part.
 pub fn value(alloc: Global, expr: &syntax::Expr) -> Result<Expr, FirstErr>
     ensures found { IfOk result (λ e. definition.value (syntax.expression expr.now) ≡ Some (expression e)) }
     ensures unsupported { IfErr result (λ e. Refuses e (definition.value (syntax.expression expr.now) ≡ None)) }

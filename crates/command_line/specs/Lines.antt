@@ -7,10 +7,10 @@ use Rattle.clap.specs.Words.{App, Row, Rule, Text, fault_of, first_of, new_app, 
 use Rattle.clap.specs.Simple.{on_top}
 use Rattle.clap.specs.declared.builder.action.ArgAction.TheVariants.{Set, SetTrue}
 use Rattle.command_line.specs.declared.command.Command.{Command}
-use Rattle.command_line.specs.declared.command.Command.TheVariants.{Compile, Exec, Show}
+use Rattle.command_line.specs.declared.command.Command.TheVariants.{Compile, Exec, Run, Show}
 use Rattle.command_line.specs.declared.command.RunOptions.{RunOptions}
 
--- ---- the commands as `clap` reads them: `compile`, `show`, and `exec` with `--turns N`, `--arg N` and `--trace`, each at most once and in any order
+-- ---- the commands as `clap` reads them: `compile`, `show`, and `exec` and `run` with `--turns N`, `--arg N` and `--trace`, each at most once and in any order
 
 abbrev pub number_option : Text → Rule
 number_option name = record (new_rule name) { long = Some name; action = Some Set }
@@ -24,8 +24,15 @@ compile_app = new_app (codes "compile")
 abbrev pub show_app : App
 show_app = new_app (codes "show")
 
+-- a command that takes the options of a run
+abbrev pub run_app_named : Text → App
+run_app_named name = with_rule (with_rule (with_rule (new_app name) (number_option (codes "turns"))) (number_option (codes "arg"))) (flag (codes "trace"))
+
 abbrev pub exec_app : App
-exec_app = with_rule (with_rule (with_rule (new_app (codes "exec")) (number_option (codes "turns"))) (number_option (codes "arg"))) (flag (codes "trace"))
+exec_app = run_app_named (codes "exec")
+
+abbrev pub run_app : App
+run_app = run_app_named (codes "run")
 
 -- the words after the program's name are a command, and none of them asks for help or a version
 abbrev pub bare_app : App
@@ -34,7 +41,7 @@ bare_app =
     (new_app (codes "seh"))
 
 abbrev pub seh_app : App
-seh_app = with_subcommand (with_subcommand (with_subcommand bare_app compile_app.top) show_app.top) exec_app.top
+seh_app = with_subcommand (with_subcommand (with_subcommand (with_subcommand bare_app compile_app.top) show_app.top) exec_app.top) run_app.top
 
 -- ---- what a line means
 
@@ -52,6 +59,7 @@ abbrev pub Names : Command → Text × List Row → Type 0
 Names Compile x = x.0 ≡ codes "compile"
 Names Show x = x.0 ≡ codes "show"
 Names (Exec options) x = (x.0 ≡ codes "exec") × HasOptions options x.1
+Names (Run options) x = (x.0 ≡ codes "run") × HasOptions options x.1
 
 -- the words are a line of the command set, which means the command
 abbrev pub IsLine : List Text → Command → Type 0

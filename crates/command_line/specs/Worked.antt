@@ -1,7 +1,7 @@
 -- Lines that are written out.
 use Rattle.std.specs.Prelude.{true, false, List, [], ◌∷◌, pos, codes}
 use Rattle.clap.specs.Words.{Text}
-use Rattle.command_line.specs.declared.command.Command.TheVariants.{Compile, Exec, Show}
+use Rattle.command_line.specs.declared.command.Command.TheVariants.{Compile, Exec, Run, Show}
 use Rattle.command_line.specs.Lines.{IsLine}
 
 abbrev pub CompileAlone : Type 0
@@ -15,3 +15,6 @@ ExecAlone = IsLine (codes "exec" ∷ []) (Exec (record { turns = 10000000; argum
 
 abbrev pub ExecWithAll : Type 0
 ExecWithAll = IsLine (codes "exec" ∷ codes "--trace" ∷ codes "--arg" ∷ codes "9" ∷ codes "--turns" ∷ codes "0" ∷ []) (Exec (record { turns = 0; argument = pos 9; trace = true }))
+
+abbrev pub RunWithTurns : Type 0
+RunWithTurns = IsLine (codes "run" ∷ codes "--turns" ∷ codes "7" ∷ []) (Run (record { turns = 7; argument = pos 0; trace = false }))

@@ -16,6 +16,8 @@ pub enum Command {
     Compile,
     /// Runs an image.
     Exec(RunOptions),
+    /// Compiles a text, and runs its image.
+    Run(RunOptions),
     /// Shows the function table of an image.
     Show,
 }

@@ -7,7 +7,7 @@ ghost use Rattle.clap.specs.Words.{app_of, fault_of, found_of, rows_of, subcomma
 ghost use Rattle.clap.specs.declared.builder.command.Command.TheViews.{out-Command};
 ghost use Rattle.command_line.specs.declared.command.Command.{Command};
 ghost use Rattle.command_line.specs.declared.command.RunOptions.{RunOptions};
-ghost use Rattle.command_line.specs.Lines.{seh_app, exec_app, HasOptions, IsLine, IsNoLine, IsNumber, Names};
+ghost use Rattle.command_line.specs.Lines.{seh_app, run_app_named, HasOptions, IsLine, IsNoLine, IsNumber, Names};
 
 use crate::command::{Command, RunOptions};
 use clap::error::ErrorKind;
@@ -47,9 +47,9 @@ fn number_of(text: &str) -> Option<u64>
     }
 }
 
-/// The command `exec` with its options.
-fn exec_command<'a>(alloc: Global) -> Result<clap::Command<'a>, AllocError>
-    ensures app { IfOk result (λ c. app_of c ≡ exec_app) }
+/// A command that takes the options of a run.
+fn run_command<'a>(alloc: Global, name: &'a str) -> Result<clap::Command<'a>, AllocError>
+    ensures app { IfOk result (λ c. app_of c ≡ run_app_named name.entry.now) }
     ensures local { IfOk result (λ c. (out-Command c).has_globals ≡ false) }
 {
     let turns = Arg::new(alloc, "turns")
@@ -59,7 +59,7 @@ fn exec_command<'a>(alloc: Global) -> Result<clap::Command<'a>, AllocError>
     let trace = Arg::new(alloc, "trace")
         .long("trace")
         .action(ArgAction::SetTrue);
-    clap::Command::new(alloc, "exec")
+    clap::Command::new(alloc, name)
         .arg(turns)?
         .arg(argument)?
         .arg(trace)
@@ -71,7 +71,8 @@ fn program<'a>(alloc: Global) -> Result<clap::Command<'a>, AllocError>
 {
     let compile = clap::Command::new(alloc, "compile");
     let show = clap::Command::new(alloc, "show");
-    let exec = exec_command(alloc)?;
+    let exec = run_command(alloc, "exec")?;
+    let run = run_command(alloc, "run")?;
     clap::Command::new(alloc, "seh")
         .no_binary_name(true)
         .disable_help_flag(true)
@@ -80,7 +81,8 @@ fn program<'a>(alloc: Global) -> Result<clap::Command<'a>, AllocError>
         .subcommand_required(true)
         .subcommand(compile)?
         .subcommand(show)?
-        .subcommand(exec)
+        .subcommand(exec)?
+        .subcommand(run)
 }
 
 /// What `clap` makes of the words.
@@ -116,7 +118,7 @@ fn number_or(text: Option<&str>, other: u64) -> Result<u64, WordsErr>
     }
 }
 
-/// The options of `exec`.
+/// The options of a run.
 fn options_of(matches: &ArgMatches<'_>) -> Result<RunOptions, WordsErr>
     ensures found { IfOk result (λ o. HasOptions o (rows_of (found_of matches.now))) }
     ensures usage { IfErr result (λ e. (e ≡ WordsErr.Usage) × ((o : RunOptions) → HasOptions o (rows_of (found_of matches.now)) → ⊥)) }
@@ -152,13 +154,17 @@ fn command_named(name: &str, matches: &ArgMatches<'_>) -> Result<Command, WordsE
             Ok(options) => Ok(Command::Exec(options)),
             Err(error) => Err(error),
         },
+        "run" => match options_of(matches) {
+            Ok(options) => Ok(Command::Run(options)),
+            Err(error) => Err(error),
+        },
         _ => Err(WordsErr::Usage),
     }
 }
 
 /// The command that the words after the program's name are.
 ///
-/// `exec` takes `--turns N`, `--arg N` and `--trace`, each at most once and in any order; a number is
+/// `exec` and `run` take `--turns N`, `--arg N` and `--trace`, each at most once and in any order; a number is
 /// written in decimal digits with no sign and no leading zero, and is at most 2^63 - 1. Words that
 /// ask for help or a version are no line of the command set.
 pub fn command_of(alloc: Global, words: &[String]) -> Result<Command, WordsErr>

@@ -1,11 +1,13 @@
 //! Lines that are written out.
 
-ghost use Rattle.command_line.specs.Worked.{CompileAlone, ShowAlone, ExecAlone, ExecWithAll};
+ghost use Rattle.command_line.specs.Worked.{CompileAlone, ShowAlone, ExecAlone, ExecWithAll, RunWithTurns};
 
-/// `compile`; `show`; `exec`, with 10,000,000 turns, the argument 0 and no trace; `exec` with all options.
+/// `compile`; `show`; `exec`, with 10,000,000 turns, the argument 0 and no trace; `exec` with all options;
+/// `run` for 7 turns.
 pub fn worked_lines()
     ensures compile { CompileAlone }
     ensures show { ShowAlone }
     ensures exec { ExecAlone }
     ensures options { ExecWithAll }
+    ensures run { RunWithTurns }
 {}

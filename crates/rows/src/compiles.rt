@@ -124,28 +124,10 @@ fn refused_texts(rt: HostRuntime) -> Result<(), Fail> {
     refuses(&rt, alloc, &deep, "refused TooDeep 87\n")
 }
 
-/// Programs of C that aren't compiled yet, and a text that is too long.
+/// A text that is too long.
 #[test]
-fn later_programs(rt: HostRuntime) -> Result<(), Fail> {
+fn long_texts(rt: HostRuntime) -> Result<(), Fail> {
     let alloc = rt.alloc();
-    for text in [
-        "",
-        "int main(void){ put(2147483648); }",
-        "int main(void){ put(1u); }",
-        "int main(void){ put('a'); }",
-        "int main(void){ put(1,2); }",
-        "int main(void){ puts(1); }",
-        "int main(void){ return; }",
-        "int main(void){ ; }",
-        "int main(void){ int a; return 1; }",
-        "int main(int n){ return 1; }",
-        "int *main(void){ return 1; }",
-        "int main(void){ return 1; } int a;",
-        "int f(void){ return 1; }",
-        "int main(void){ __try { put(1); } __finally { put(2); } }",
-    ] {
-        refuses(&rt, alloc, text.as_bytes(), "refused Later 0\n")?;
-    }
     let long = with(alloc, "int main(void){", " ", 1_048_576, "}")?;
     let mut out = VecSink::new(alloc);
     let mut err = VecSink::new(alloc);

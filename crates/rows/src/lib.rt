@@ -6,6 +6,8 @@ mod compiles;
 #[cfg(test)]
 mod dispatches;
 #[cfg(test)]
+mod handlers;
+#[cfg(test)]
 mod image;
 #[cfg(test)]
 mod linked;
@@ -15,5 +17,7 @@ mod loads;
 mod runs;
 #[cfg(test)]
 mod streams;
+#[cfg(test)]
+mod texts;
 #[cfg(test)]
 mod views;

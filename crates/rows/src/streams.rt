@@ -8,6 +8,7 @@ use seh::top::top;
 use seh_io::plain::{SliceSource, VecSink};
 use seh_io::planned::{MemSink, MemSource, Plan};
 use std::alloc::{AllocError, Global};
+use std::process::Abort;
 use std::test::Fail;
 
 fn words(alloc: Global, line: &[&str]) -> Result<Vec<String>, AllocError> {
@@ -26,13 +27,15 @@ fn plan(alloc: Global, failing: &[u64], most: usize) -> Result<Plan, AllocError>
 
 #[test]
 fn usage(rt: HostRuntime) -> Result<(), Fail> {
-    let lines: [&[&str]; 19] = [
+    let lines: [&[&str]; 21] = [
         &[],
         &["exce"],
         &["exec", "exec"],
         &[""],
         &["exec "],
         &["compile", "x"],
+        &["run", "--turns"],
+        &["run", "--arg", "01"],
         &["exec", "--turns"],
         &["exec", "--turns", "9223372036854775808"],
         &["exec", "--turns", "-1"],
@@ -94,8 +97,31 @@ type Case<'a> = (
     &'a str,
 );
 
+/// Compares what a command answers for an input where calls fail.
+fn answers_as(
+    rt: &impl Abort,
+    alloc: Global,
+    command: &str,
+    input: &[u8],
+    case: Case<'_>,
+) -> Result<(), Fail> {
+    let (reads, writes, lines, most, status, text, refusal) = case;
+    if most == 0 {
+        return Ok(());
+    }
+    let words = words(alloc, &[command])?;
+    let mut source = MemSource::new(input.to_vec(alloc)?, plan(alloc, reads, most)?);
+    let mut out = MemSink::new(Vec::new(alloc), plan(alloc, writes, most)?);
+    let mut err = MemSink::new(Vec::new(alloc), plan(alloc, lines, most)?);
+    let answer = top(alloc, &words, &mut source, &mut out, &mut err);
+    assert_eq!(rt; answer, status, "{text} {refusal}");
+    assert_eq!(rt; out.bytes.as_slice(), text.as_bytes());
+    assert_eq!(rt; err.bytes.as_slice(), refusal.as_bytes());
+    Ok(())
+}
+
 #[test]
-fn faults(rt: HostRuntime) -> Result<(), Fail> {
+fn faults_of_exec(rt: HostRuntime) -> Result<(), Fail> {
     let cases: [Case<'_>; 9] = [
         (&[], &[], &[], 4096, Status::Done, "14\nexit 7\n", ""),
         (&[], &[], &[], 1, Status::Done, "14\nexit 7\n", ""),
@@ -116,19 +142,25 @@ fn faults(rt: HostRuntime) -> Result<(), Fail> {
         (&[1], &[], &[2], 5, Status::WriteFault, "", "read "),
         (&[], &[3], &[1], 1, Status::WriteFault, "14", ""),
     ];
-    for (reads, writes, lines, most, status, text, refusal) in cases {
-        if most == 0 {
-            continue;
-        }
-        let bytes = of_code(rt.alloc(), &FOURTEEN)?;
-        let words = words(rt.alloc(), &["exec"])?;
-        let mut source = MemSource::new(bytes, plan(rt.alloc(), reads, most)?);
-        let mut out = MemSink::new(Vec::new(rt.alloc()), plan(rt.alloc(), writes, most)?);
-        let mut err = MemSink::new(Vec::new(rt.alloc()), plan(rt.alloc(), lines, most)?);
-        let answer = top(rt.alloc(), &words, &mut source, &mut out, &mut err);
-        assert_eq!(rt; answer, status, "{text} {refusal}");
-        assert_eq!(rt; out.bytes.as_slice(), text.as_bytes());
-        assert_eq!(rt; err.bytes.as_slice(), refusal.as_bytes());
+    let bytes = of_code(rt.alloc(), &FOURTEEN)?;
+    for case in cases {
+        answers_as(&rt, rt.alloc(), "exec", &bytes, case)?;
+    }
+    Ok(())
+}
+
+#[test]
+fn faults_of_run(rt: HostRuntime) -> Result<(), Fail> {
+    let cases: [Case<'_>; 5] = [
+        (&[], &[], &[], 1, Status::Done, "14\nexit 7\n", ""),
+        (&[1], &[], &[], 4096, Status::ReadFault, "", "read fault\n"),
+        (&[3], &[], &[], 16, Status::ReadFault, "", "read fault\n"),
+        (&[], &[2], &[], 2, Status::WriteFault, "14", "write fault\n"),
+        (&[], &[1], &[2], 5, Status::WriteFault, "", "write"),
+    ];
+    let text = b"int main(void){ put(2+3*4); return 7; }";
+    for case in cases {
+        answers_as(&rt, rt.alloc(), "run", text, case)?;
     }
     Ok(())
 }

@@ -10,11 +10,11 @@ use Rattle.seh.specs.Answers.{shown_by}
 use Rattle.seh.specs.Headline.{Headline}
 
 pub headline : Headline
-headline source image compiled options arg n low enough =
-    let real = compiled.realises in
+headline source image compiled program is options arg n low enough =
+    let real = compiled.realises program is in
     let k = 256 * n + 256 in
     let j = options.turns - k in
-    let meant = meaning compiled.program (pos arg) n in
+    let meant = meaning program (pos arg) n in
     let le = enough.turns in
     let same : k + j ≡ options.turns = omega arith in
     let covers : Covers meant.events meant.end (shown_by options image) =

@@ -7,7 +7,8 @@ use Rattle.seh.specs.declared.outcome.Outcome.{Outcome}
 use Rattle.seh.specs.declared.refusal.Refusal.{Refusal}
 use Rattle.seh.specs.declared.refusal.Refusal.TheVariants as refusals
 use Rattle.seh.specs.Streams.{Stream}
-use Rattle.seh.specs.Answers.{text_limit, IsInput, LostFew, IsCompileAnswer, IsInputAnswer}
+use Rattle.command_line.specs.declared.command.RunOptions.{RunOptions}
+use Rattle.seh.specs.Answers.{text_limit, IsInput, LostFew, IsCompileAnswer, IsTextRunAnswer, IsInputAnswer}
 
 -- what was read whole was lost from the front
 lost_all : (limit : ℕ) (source source' : Stream) (bytes : List ℕ) → IsInput limit source source' bytes → LostFew limit source source'
@@ -17,14 +18,27 @@ lost_all limit source source' bytes input = (
   λ held known. ([], sym (input.all held known) ∙ sym (append-nil bytes), input.emptied held known),
 )
 
+-- of a text that was compiled
 pub from_text : (text : List ℕ) (source source' out out' : Stream) (answer : Result Outcome Refusal) → IsInput text_limit source source' text → IsCompileAnswer text out out' answer → IsInputAnswer text_limit IsCompileAnswer source source' out out' answer
 from_text text source source' out out' (Ok done) input h = record { bytes = text; input = input; comes = h }
-from_text text source source' out out' (Err (refusals.Lex e)) input h = record { bytes = text; input = input; comes = h }
-from_text text source source' out out' (Err (refusals.Parse e)) input h = record { bytes = text; input = input; comes = h }
-from_text text source source' out out' (Err refusals.Unsupported) input h = record { bytes = text; input = input; comes = h }
+from_text text source source' out out' (Err (refusals.Text e)) input h = record { bytes = text; input = input; comes = h }
+from_text text source source' out out' (Err refusals.TooLarge) input h = record { bytes = text; input = input; comes = h }
 from_text text source source' out out' (Err refusals.WriteFault) input h = record { bytes = text; input = input; comes = h }
 from_text text source source' out out' (Err refusals.NoMemory) input h = (lost_all text_limit source source' text input, h)
 from_text text source source' out out' (Err r) input h = absurd h
+
+-- of a text that was compiled and run
+pub from_run : (options : RunOptions) (text : List ℕ) (source source' out out' : Stream) (answer : Result Outcome Refusal) → IsInput text_limit source source' text → IsTextRunAnswer options text out out' answer → IsInputAnswer text_limit (IsTextRunAnswer options) source source' out out' answer
+from_run options text source source' out out' (Ok done) input h = record { bytes = text; input = input; comes = h }
+from_run options text source source' out out' (Err (refusals.Text e)) input h = record { bytes = text; input = input; comes = h }
+from_run options text source source' out out' (Err refusals.TooLarge) input h = record { bytes = text; input = input; comes = h }
+from_run options text source source' out out' (Err (refusals.Image e)) input h = record { bytes = text; input = input; comes = h }
+from_run options text source source' out out' (Err (refusals.Load e)) input h = record { bytes = text; input = input; comes = h }
+from_run options text source source' out out' (Err refusals.WriteFault) input h = record { bytes = text; input = input; comes = h }
+from_run options text source source' out out' (Err refusals.NoMemory) input h = (lost_all text_limit source source' text input, h)
+from_run options text source source' out out' (Err refusals.Usage) input h = absurd h.2
+from_run options text source source' out out' (Err refusals.ReadFault) input h = absurd h.2
+from_run options text source source' out out' (Err (refusals.TooLong most)) input h = absurd h.2
 
 -- a front of a text was taken
 pub took_front : (taken : Option (List ℕ)) (text : List ℕ) (taken' : Option (List ℕ)) (count : ℕ) → count < length text → Grew taken (take count text) taken' → TookPart taken text taken' count

@@ -1,4 +1,5 @@
 pub mod Shown
 pub mod Inputs
-pub mod Texts
+pub mod Images
+pub mod Compiled
 pub mod Headline

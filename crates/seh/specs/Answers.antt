@@ -14,22 +14,9 @@ use Rattle.host_model.specs.Loading.{load_refusal}
 use Rattle.host_model.specs.Machine.{Shown, machine}
 use Rattle.seh_host.specs.Turns.{end_within}
 use Rattle.seh_host.specs.Hosts.{IsLoadRefusal}
-use Rattle.c_lex.specs.declared.lexing.LexErr.{LexErr}
-use Rattle.c_lex.specs.declared.token.Token.{Token}
-use Rattle.c_lex.specs.declared.word.Fault.{Fault}
-use Rattle.c_lex.specs.Answers.{refused}
-use Rattle.c_lex.specs.Text.{IsTokens, IsLexicalFault}
-use Rattle.c_syntax.specs.Limits.{Within}
-use Rattle.c_syntax.specs.Program.{ExternalDeclaration}
-use Rattle.c_syntax.specs.Programs.{ParsesAs}
-use Rattle.c_parse_expr.specs.declared.refusal.ParseErr.{ParseErr}
-use Rattle.c_parse_expr.specs.declared.refusal.ParseErr.TheVariants as parses
-use Rattle.c_parse_expr.specs.Refusals.{Refuses}
-use Rattle.c_first.specs.First.{first}
-use Rattle.c_meaning.specs.Syntax.{Statement}
-use Rattle.image_link.specs.Realises.{Realises}
+use Rattle.c_text.specs.Texts.{IsRefused as IsRefusedText}
 use Rattle.command_line.specs.declared.command.Command.{Command}
-use Rattle.command_line.specs.declared.command.Command.TheVariants.{Compile, Exec, Show}
+use Rattle.command_line.specs.declared.command.Command.TheVariants.{Compile, Exec, Run, Show}
 use Rattle.command_line.specs.declared.command.RunOptions.{RunOptions}
 use Rattle.command_line.specs.Lines.{IsLine, IsNoLine}
 use Rattle.seh.specs.declared.outcome.Outcome.{Outcome}
@@ -37,6 +24,7 @@ use Rattle.seh.specs.declared.outcome.Outcome.TheVariants.{Compiled, Ran, Viewed
 use Rattle.seh.specs.declared.status.Status.{Status}
 use Rattle.seh.specs.declared.refusal.Refusal.{Refusal}
 use Rattle.seh.specs.declared.refusal.Refusal.TheVariants as refusals
+use Rattle.seh.specs.Images.{IsCompiled, IsTooLarge}
 use Rattle.seh.specs.Refusals.{Reported}
 use Rattle.seh.specs.Streams.{Stream}
 
@@ -104,69 +92,23 @@ IsShowAnswer bytes out out' answer = ⊥
 
 -- ---- compiling
 
--- the text is that of a program of C within the limits
-pub record IsAccepted (text : List ℕ) (xs : List ExternalDeclaration) : Type 0 where
-  pub reads : ParsesAs text xs
-  pub within : Within text xs
-
--- the text is that of a program that is compiled, and this is the program as one of the first part
-pub record IsCompilable (text : List ℕ) (program : List Statement) : Type 0 where
-  pub whole : List ExternalDeclaration
-  pub accepted : IsAccepted text whole
-  pub compilable : first text whole ≡ Some program
-
--- the image does what the text's program means
-pub record IsCompiled (text image : List ℕ) : Type 0 where
-  pub program : List Statement
-  pub compilable : IsCompilable text program
-  pub realises : Realises image program
-
--- the first text that is no token, white space or comment is this fault
-abbrev pub IsNoText : List ℕ → LexErr → Type 0
-IsNoText text e = (f : Fault) × (at : ℕ) × (e ≡ refused f at) × IsLexicalFault text f at
-
--- the text's tokens have their first fault as the refusal tells: there no program of C within the limits goes on, by the limit that it names
-pub record HasFault (text : List ℕ) (e : ParseErr) : Type 0 where
-  pub tokens : List Token
-  pub lexed : IsTokens text tokens
-  pub refused : Refuses e text tokens
-
-abbrev pub IsNoProgram : List ℕ → ParseErr → Type 0
-IsNoProgram text (parses.Unexpected at) = HasFault text (parses.Unexpected at)
-IsNoProgram text (parses.TooDeep at) = HasFault text (parses.TooDeep at)
-IsNoProgram text (parses.TooMany at what) = HasFault text (parses.TooMany at what)
-IsNoProgram text parses.Memory = ⊥
-
--- the text is that of a program of C within the limits which isn't compiled
-pub record IsUnsupported (text : List ℕ) : Type 0 where
-  pub whole : List ExternalDeclaration
-  pub accepted : IsAccepted text whole
-  pub unsupported : first text whole ≡ None
-
--- why a text isn't compiled; want of memory says nothing
-abbrev pub IsTextRefusal : List ℕ → Refusal → Type 0
-IsTextRefusal text (refusals.Lex e) = IsNoText text e
-IsTextRefusal text (refusals.Parse e) = IsNoProgram text e
-IsTextRefusal text refusals.Unsupported = IsUnsupported text
-IsTextRefusal text refusals.NoMemory = Unit {0}
-IsTextRefusal text r = ⊥
-
--- the refusal of tokens
-abbrev pub parse_refusal : ParseErr → Refusal
-parse_refusal (parses.Unexpected at) = refusals.Parse (parses.Unexpected at)
-parse_refusal (parses.TooDeep at) = refusals.Parse (parses.TooDeep at)
-parse_refusal (parses.TooMany at what) = refusals.Parse (parses.TooMany at what)
-parse_refusal parses.Memory = refusals.NoMemory
-
--- what comes of a text: the whole image; a refusal, where its bytes are no tokens, its tokens no program or its program isn't compiled; or a part of the image, where the sink had a fault
+-- what comes of a text: the whole image; the refusal of the text; or a part of the image, where the sink had a fault
 abbrev pub IsCompileAnswer : Judged
 IsCompileAnswer text out out' (Ok Compiled) = (image : List ℕ) × IsCompiled text image × Grew out.bytes image out'.bytes
-IsCompileAnswer text out out' (Err (refusals.Lex e)) = IsNoText text e × Quiet out out'
-IsCompileAnswer text out out' (Err (refusals.Parse e)) = IsNoProgram text e × Quiet out out'
-IsCompileAnswer text out out' (Err refusals.Unsupported) = IsUnsupported text × Quiet out out'
+IsCompileAnswer text out out' (Err (refusals.Text e)) = IsRefusedText text e × Quiet out out'
+IsCompileAnswer text out out' (Err refusals.TooLarge) = IsTooLarge text × Quiet out out'
 IsCompileAnswer text out out' (Err refusals.WriteFault) = (image : List ℕ) × IsCompiled text image × Rose out.faults out'.faults × ((count : ℕ) × TookPart out.bytes image out'.bytes count)
 IsCompileAnswer text out out' (Err refusals.NoMemory) = Quiet out out'
 IsCompileAnswer text out out' answer = ⊥
+
+-- ---- compiling and running at once
+
+-- what comes of a text that is compiled in memory and run: what comes of its image, or the refusal of the text
+abbrev pub IsTextRunAnswer : RunOptions → Judged
+IsTextRunAnswer options text out out' (Err (refusals.Text e)) = IsRefusedText text e × Quiet out out'
+IsTextRunAnswer options text out out' (Err refusals.TooLarge) = IsTooLarge text × Quiet out out'
+IsTextRunAnswer options text out out' (Err refusals.NoMemory) = Quiet out out'
+IsTextRunAnswer options text out out' answer = (image : List ℕ) × IsCompiled text image × IsRunAnswer options image out out' answer
 
 -- ---- the input
 
@@ -200,6 +142,7 @@ abbrev pub IsCommandAnswer : Command → Stream → Stream → Stream → Stream
 IsCommandAnswer Compile source source' out out' answer = IsInputAnswer text_limit IsCompileAnswer source source' out out' answer
 IsCommandAnswer Show source source' out out' answer = IsInputAnswer image_limit IsShowAnswer source source' out out' answer
 IsCommandAnswer (Exec options) source source' out out' answer = IsInputAnswer image_limit (IsRunAnswer options) source source' out out' answer
+IsCommandAnswer (Run options) source source' out out' answer = IsInputAnswer text_limit (IsTextRunAnswer options) source source' out out' answer
 
 -- nothing was read, and nothing was written
 abbrev pub Untouched : Stream → Stream → Stream → Stream → Type 0

@@ -16,6 +16,10 @@ use Rattle.eh_tables.specs.declared.refusal.TableErr.{TableErr}
 use Rattle.eh_tables.specs.declared.refusal.TableErr.TheVariants as tables
 use Rattle.host_model.specs.declared.refusal.LoadErr.{LoadErr}
 use Rattle.host_model.specs.declared.refusal.LoadErr.TheVariants as loads
+use Rattle.c_resolved.specs.declared.fault.Fault.{Fault}
+use Rattle.c_resolved.specs.declared.fault.Fault.TheVariants as faults
+use Rattle.c_text.specs.declared.accepting.TextErr.{TextErr}
+use Rattle.c_text.specs.declared.accepting.TextErr.TheVariants as texts
 use Rattle.seh.specs.declared.outcome.Outcome.{Outcome}
 use Rattle.seh.specs.declared.status.Status.{Status}
 use Rattle.seh.specs.declared.status.Status.TheVariants as statuses
@@ -52,6 +56,31 @@ parse_text (parses.TooDeep at) = named (codes "refused TooDeep ") at
 parse_text (parses.TooMany at what) = codes "refused TooMany " ++ decimal at ++ count_text what
 parse_text parses.Memory = codes "no memory"
 
+abbrev pub rule_name : Fault → List ℕ
+rule_name faults.NoMain = codes "NoMain"
+rule_name faults.UnknownName = codes "UnknownName"
+rule_name faults.Duplicate = codes "Duplicate"
+rule_name faults.NotLvalue = codes "NotLvalue"
+rule_name faults.TypeClash = codes "TypeClash"
+rule_name faults.ArgCount = codes "ArgCount"
+rule_name faults.LeaveOutsideTry = codes "LeaveOutsideTry"
+rule_name faults.JumpOutOfFinally = codes "JumpOutOfFinally"
+rule_name faults.JumpOutsideLoop = codes "JumpOutsideLoop"
+rule_name faults.CodeOutsideFilter = codes "CodeOutsideFilter"
+rule_name faults.InfoOutsideFilter = codes "InfoOutsideFilter"
+rule_name faults.AbnormalOutsideFinally = codes "AbnormalOutsideFinally"
+rule_name faults.BadInitialiser = codes "BadInitialiser"
+
+abbrev pub check_text : ℕ → Fault → List ℕ
+check_text at fault = codes "refused " ++ rule_name fault ++ codes " " ++ decimal at
+
+-- the line of a text's refusal
+abbrev pub text_line : TextErr → List ℕ
+text_line (texts.Lex e) = lex_text e
+text_line (texts.Parse e) = parse_text e
+text_line (texts.Check at fault) = check_text at fault
+text_line texts.Memory = codes "no memory"
+
 abbrev pub image_text : ImageErr → List ℕ
 image_text (images.Truncated at) = named (codes "image Truncated ") at
 image_text (images.NotPe at) = named (codes "image NotPe ") at
@@ -84,23 +113,27 @@ abbrev pub refusal_text : Refusal → List ℕ
 refusal_text refusals.Usage = codes "usage"
 refusal_text refusals.ReadFault = codes "read fault"
 refusal_text (refusals.TooLong limit) = named (codes "too long ") limit
-refusal_text (refusals.Lex e) = lex_text e
-refusal_text (refusals.Parse e) = parse_text e
-refusal_text refusals.Unsupported = codes "refused Later 0"
+refusal_text (refusals.Text e) = text_line e
+refusal_text refusals.TooLarge = codes "refused TooLarge 0"
 refusal_text (refusals.Image e) = image_text e
 refusal_text (refusals.Load e) = load_text e
 refusal_text refusals.WriteFault = codes "write fault"
 refusal_text refusals.NoMemory = codes "no memory"
 
+abbrev pub text_status : TextErr → Status
+text_status (texts.Lex lexes.Memory) = statuses.NoMemory
+text_status (texts.Lex e) = statuses.Refused
+text_status (texts.Parse parses.Memory) = statuses.NoMemory
+text_status (texts.Parse e) = statuses.Refused
+text_status (texts.Check at fault) = statuses.Refused
+text_status texts.Memory = statuses.NoMemory
+
 abbrev pub refusal_status : Refusal → Status
 refusal_status refusals.Usage = statuses.Usage
 refusal_status refusals.ReadFault = statuses.ReadFault
 refusal_status (refusals.TooLong limit) = statuses.TooLong
-refusal_status (refusals.Lex lexes.Memory) = statuses.NoMemory
-refusal_status (refusals.Lex e) = statuses.Refused
-refusal_status (refusals.Parse parses.Memory) = statuses.NoMemory
-refusal_status (refusals.Parse e) = statuses.Refused
-refusal_status refusals.Unsupported = statuses.Refused
+refusal_status (refusals.Text e) = text_status e
+refusal_status refusals.TooLarge = statuses.Refused
 refusal_status (refusals.Image images.Memory) = statuses.NoMemory
 refusal_status (refusals.Image e) = statuses.Image
 refusal_status (refusals.Load loads.Memory) = statuses.NoMemory

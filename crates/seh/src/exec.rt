@@ -19,7 +19,7 @@ use std::alloc::Global;
 pub const IMAGE_LIMIT: u64 = 268_435_456;
 
 /// Runs an image, and writes the text of its run.
-fn run_image<O: Sink>(
+pub fn run_image<O: Sink>(
     alloc: Global,
     options: RunOptions,
     bytes: &[u8],

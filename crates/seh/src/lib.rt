@@ -3,9 +3,11 @@
 
 pub mod compile;
 pub mod exec;
+pub mod image;
 pub mod laws;
 pub mod outcome;
 pub mod refusal;
+pub mod run;
 pub mod show;
 pub mod status;
 pub mod top;

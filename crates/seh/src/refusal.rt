@@ -1,12 +1,14 @@
 //! Refusals, each with its line and its status.
 
 ghost use Rattle.std.specs.Prelude.{◌≡◌, ◌+◌, ◌≤◌, ◌++◌, length};
-ghost use Rattle.seh.specs.Refusals.{refusal_status, refusal_text, lex_text, count_text, parse_text, image_text, table_text, load_text, named, named_two, Reported};
+ghost use Rattle.seh.specs.Refusals.{refusal_status, refusal_text, text_status, text_line, lex_text, count_text, parse_text, rule_name, check_text, image_text, table_text, load_text, named, named_two, Reported};
 ghost use Rattle.seh.specs.Streams.{stream};
 
 use crate::status::Status;
 use c_lex::lexing::LexErr;
 use c_parse_expr::refusal::{Count, ParseErr};
+use c_resolved::fault::Fault;
+use c_text::accepting::TextErr;
 use pe_image::ImageErr;
 use seh_host::{LoadErr, TableErr};
 use seh_io::line::Line;
@@ -22,12 +24,10 @@ pub enum Refusal {
     ReadFault,
     /// The source holds more than so many bytes.
     TooLong { limit: u64 },
-    /// The text isn't made of tokens.
-    Lex(LexErr),
-    /// Its tokens are no program of C within the limits.
-    Parse(ParseErr),
-    /// The program isn't of the part of C that is compiled.
-    Unsupported,
+    /// The text isn't accepted.
+    Text(TextErr),
+    /// The program's code or tables are too large for an image.
+    TooLarge,
     /// The bytes are no image.
     Image(ImageErr),
     /// The image can't be loaded, or its function table can't be read.
@@ -47,15 +47,25 @@ impl Refusal {
             Refusal::Usage => Status::Usage,
             Refusal::ReadFault => Status::ReadFault,
             Refusal::TooLong { .. } => Status::TooLong,
-            Refusal::Lex(LexErr::Memory)
-            | Refusal::Parse(ParseErr::Memory)
-            | Refusal::Image(ImageErr::Memory)
-            | Refusal::Load(LoadErr::Memory) => Status::NoMemory,
-            Refusal::Lex(_) | Refusal::Parse(_) | Refusal::Unsupported => Status::Refused,
+            Refusal::Text(error) => text_status(error),
+            Refusal::TooLarge => Status::Refused,
+            Refusal::Image(ImageErr::Memory) | Refusal::Load(LoadErr::Memory) => Status::NoMemory,
             Refusal::Image(_) | Refusal::Load(_) => Status::Image,
             Refusal::WriteFault => Status::WriteFault,
             Refusal::NoMemory => Status::NoMemory,
         }
+    }
+}
+
+/// The status of a text's refusal.
+fn text_status(error: &TextErr) -> Status
+    ensures { result ≡ text_status error.now }
+{
+    match error {
+        TextErr::Lex(LexErr::Memory) | TextErr::Parse(ParseErr::Memory) | TextErr::Memory => {
+            Status::NoMemory
+        }
+        TextErr::Lex(_) | TextErr::Parse(_) | TextErr::Check { .. } => Status::Refused,
     }
 }
 
@@ -128,6 +138,54 @@ fn parse_text(error: &ParseErr) -> Line
         ParseErr::Memory => line.text(b"no memory"),
     }
     line
+}
+
+/// The name of a rule.
+fn rule_name(fault: Fault) -> &'static [u8]
+    ensures value { result.now ≡ rule_name fault }
+    ensures len { length result.now ≤ 22 }
+{
+    match fault {
+        Fault::NoMain => b"NoMain",
+        Fault::UnknownName => b"UnknownName",
+        Fault::Duplicate => b"Duplicate",
+        Fault::NotLvalue => b"NotLvalue",
+        Fault::TypeClash => b"TypeClash",
+        Fault::ArgCount => b"ArgCount",
+        Fault::LeaveOutsideTry => b"LeaveOutsideTry",
+        Fault::JumpOutOfFinally => b"JumpOutOfFinally",
+        Fault::JumpOutsideLoop => b"JumpOutsideLoop",
+        Fault::CodeOutsideFilter => b"CodeOutsideFilter",
+        Fault::InfoOutsideFilter => b"InfoOutsideFilter",
+        Fault::AbnormalOutsideFinally => b"AbnormalOutsideFinally",
+        Fault::BadInitialiser => b"BadInitialiser",
+    }
+}
+
+/// The text of a refusal of a program that breaks a rule.
+fn check_text(at: u64, fault: Fault) -> Line
+    ensures value { result ≡ check_text at fault }
+    ensures len { length result ≤ 63 }
+{
+    let mut line = Line::new();
+    line.text(b"refused ");
+    line.text(rule_name(fault));
+    line.text(b" ");
+    line.natural(at);
+    line
+}
+
+/// The text of a text's refusal.
+fn text_line(error: &TextErr) -> Line
+    ensures value { result ≡ text_line error.now }
+    ensures len { length result ≤ 63 }
+{
+    match error {
+        TextErr::Lex(error) => lex_text(error),
+        TextErr::Parse(error) => parse_text(error),
+        TextErr::Check { at, fault } => check_text(*at, *fault),
+        TextErr::Memory => plain(b"no memory"),
+    }
 }
 
 /// The text of an image's refusal.
@@ -215,9 +273,8 @@ fn refusal_text(refusal: &Refusal) -> Line
             named(&mut line, b"too long ", *limit);
             line
         }
-        Refusal::Lex(error) => lex_text(error),
-        Refusal::Parse(error) => parse_text(error),
-        Refusal::Unsupported => plain(b"refused Later 0"),
+        Refusal::Text(error) => text_line(error),
+        Refusal::TooLarge => plain(b"refused TooLarge 0"),
         Refusal::Image(error) => image_text(error),
         Refusal::Load(error) => load_text(error),
         Refusal::WriteFault => plain(b"write fault"),

@@ -9,6 +9,7 @@ use crate::compile::compile;
 use crate::exec::exec;
 use crate::outcome::Outcome;
 use crate::refusal::{Refusal, report};
+use crate::run::run;
 use crate::show::show;
 use crate::status::Status;
 use command_line::command::Command;
@@ -30,6 +31,7 @@ fn answer<S: Source, O: Sink>(
         Ok(Command::Compile) => compile(alloc, src, out),
         Ok(Command::Show) => show(alloc, src, out),
         Ok(Command::Exec(options)) => exec(alloc, options, src, out),
+        Ok(Command::Run(options)) => run(alloc, options, src, out),
         Err(WordsErr::Usage) => Err(Refusal::Usage),
         Err(WordsErr::Memory) => Err(Refusal::NoMemory),
     }
@@ -38,12 +40,17 @@ fn answer<S: Source, O: Sink>(
 /// Carries out the command that the words, those after the program's name, ask for.
 ///
 /// `compile` reads a text of C of at most 1 MiB from the source and writes the image that it is
-/// compiled to: the image that a run of `exec` reads does what the program means.
+/// compiled to. Of a program of the first part (`c_first`) the image does what the program means; of
+/// each other program it is the one that its linear code is linked to.
 ///
 /// `exec` reads an image from the source, runs it with the argument `--arg` for at most `--turns`
 /// turns, 0 and 10,000,000 where they aren't given, and writes the text of its run to `out`, with
-/// `--trace` the lines of all events; the status is that of the run's end. A refusal writes one
-/// line to `err` and nothing to `out`, but for a write fault, after which `out` has taken a part of
+/// `--trace` the lines of all events; the status is that of the run's end. `run`, with the same
+/// options, reads a text and answers as `exec` does for the image that the text is compiled to.
+///
+/// `show` reads an image and writes the view of its function table.
+///
+/// A refusal writes one line to `err` and nothing to `out`, but for a write fault, after which `out` has taken a part of
 /// the text from the front. Where the line can't be written the status is that of a write fault, and
 /// `err` has taken a part of the line from the front. `too long` comes exactly where the source holds
 /// more than the command's limit. After it, a read fault or want of memory the source has lost at most

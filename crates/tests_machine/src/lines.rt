@@ -18,12 +18,14 @@ fn lines(rt: HostRuntime) -> Result<(), Fail> {
         argument: i64::MAX,
         ..NOTHING
     };
-    let cases: [(&str, Result<Command, WordsErr>); 10] = [
+    let cases: [(&str, Result<Command, WordsErr>); 12] = [
         ("compile", Ok(Command::Compile)),
         ("show", Ok(Command::Show)),
         ("exec", Ok(Command::Exec(NOTHING))),
         ("exec --turns 7", Ok(Command::Exec(few))),
         ("exec --arg 9223372036854775807", Ok(Command::Exec(most))),
+        ("run --turns 7", Ok(Command::Run(few))),
+        ("run --turns=7 7", Err(WordsErr::Usage)),
         ("exec --arg 9223372036854775808", Err(WordsErr::Usage)),
         ("exec --turns 07", Err(WordsErr::Usage)),
         ("exec --turns", Err(WordsErr::Usage)),

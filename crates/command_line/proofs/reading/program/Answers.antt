@@ -22,4 +22,5 @@ returns c =
     let first = c.in_ok-subcommand.ensures.shape c.new-compile.ensures.local ∙ ap₂ with_subcommand bare_is (ap (λ (a : App). a.top) compile_is) in
     let show_is : app_of c.new-show.result ≡ show_app = c.new-show.ensures.app in
     let second = c.in_ok-subcommand-2.ensures.shape c.new-show.ensures.local ∙ ap₂ with_subcommand first (ap (λ (a : App). a.top) show_is) in
-    IfOk-weaker c.subcommand-3.result _ _ (λ r h. h.shape c.in_ok-exec.ensures.local ∙ ap₂ with_subcommand second (ap (λ (a : App). a.top) c.in_ok-exec.ensures.app)) c.subcommand-3.ensures
+    let third = c.in_ok-subcommand-3.ensures.shape c.in_ok-exec.ensures.local ∙ ap₂ with_subcommand second (ap (λ (a : App). a.top) c.in_ok-exec.ensures.app) in
+    IfOk-weaker c.subcommand-4.result _ _ (λ r h. h.shape c.in_ok-run.ensures.local ∙ ap₂ with_subcommand third (ap (λ (a : App). a.top) c.in_ok-run.ensures.app)) c.subcommand-4.ensures

@@ -1,7 +1,7 @@
 use Rattle.std.proofs.Common.{refl, arith}
 use Rattle.std.specs.Fmt.{digits}
 use Rattle.clap.proofs.OnLiterals.{clap_on_literals}
-use Rattle.command_line.specs.Worked.{CompileAlone, ShowAlone, ExecAlone, ExecWithAll}
+use Rattle.command_line.specs.Worked.{CompileAlone, ShowAlone, ExecAlone, ExecWithAll, RunWithTurns}
 use Rattle.command_line.proofs.worked.worked_lines.Goals as goal
 
 compile_alone : CompileAlone
@@ -20,5 +20,9 @@ exec_with_all : ExecWithAll
 unfolding clap_on_literals digits
 exec_with_all = (refl, (_, refl, (refl, record { turns = (refl, omega arith); argument = (9, (refl, omega arith), refl); trace = refl })))
 
+run_with_turns : RunWithTurns
+unfolding clap_on_literals digits
+run_with_turns = (refl, (_, refl, (refl, record { turns = (refl, omega arith); argument = (0, refl, refl); trace = refl })))
+
 pub returns : goal.returns
-returns c = record { compile = compile_alone; show = show_alone; exec = exec_alone; options = exec_with_all }
+returns c = record { compile = compile_alone; show = show_alone; exec = exec_alone; options = exec_with_all; run = run_with_turns }

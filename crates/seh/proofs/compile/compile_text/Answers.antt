@@ -1,21 +1,20 @@
 use Rattle.std.proofs.Common.{subst}
 use Rattle.seh_io.specs.Streams.{Grew}
 use Rattle.seh_io.specs.Writer.{TookPart}
-use Rattle.c_meaning.specs.Programs.{program}
 use Rattle.seh.proofs.Inputs.{took_front}
 use Rattle.seh.proofs.compile.compile_text.Goals as goal
 
 pub returns-in-Ok-put_all : goal.returns-in-Ok-put_all
 returns-in-Ok-put_all g c = (
-  c.in-Ok-compile_program.image.items,
-  record { program = program c.in-Ok.checked; compilable = c.in-Ok.ensures.found; realises = c.in-Ok-compile_program.ensures },
+  c.in-Ok.image.items,
+  c.in-Ok.ensures.found,
   subst (λ t. Grew (g.O.Sink.taken c.args.out.now) t (g.O.Sink.taken c.put_all.new.sink)) c.deref.ensures.value c.in-Ok-put_all.ensures.ok,
 )
 
 pub returns : goal.returns
 returns g c = (
-  c.in-Ok-compile_program.image.items,
-  record { program = program c.in-Ok.checked; compilable = c.in-Ok.ensures.found; realises = c.in-Ok-compile_program.ensures },
+  c.in-Ok.image.items,
+  c.in-Ok.ensures.found,
   c.in-Err-put_all.ensures.cause,
   (
     c.in-Err-put_all.field-0.taken,

@@ -3,7 +3,7 @@ use Rattle.std.proofs.lemmas.Result.{IfOk-weaker}
 use Rattle.clap.specs.Words.{rule_of, with_rule}
 use Rattle.command_line.specs.Lines.{number_option, flag}
 use Rattle.command_line.proofs.Apps.{neither}
-use Rattle.command_line.proofs.reading.exec_command.Goals as goal
+use Rattle.command_line.proofs.reading.run_command.Goals as goal
 
 pub returns : goal.returns
 returns c =

@@ -1,0 +1,49 @@
+//! The command `run`: a text is read, compiled in memory and run, and the text of its run is written.
+
+ghost use Rattle.std.specs.Prelude.{◌≤◌, length};
+ghost use Rattle.seh.specs.Answers.{text_limit, IsTextRunAnswer, IsInputAnswer};
+ghost use Rattle.seh.specs.Streams.{stream};
+
+use crate::compile::TEXT_LIMIT;
+use crate::exec::run_image;
+use crate::image::image_of;
+use crate::outcome::Outcome;
+use crate::refusal::Refusal;
+use command_line::command::RunOptions;
+use seh_io::reading::{ReadErr, read_all};
+use seh_io::sink::Sink;
+use seh_io::source::Source;
+use std::alloc::Global;
+
+/// Compiles a text, runs its image, and writes the text of the run.
+fn run_text<O: Sink>(
+    alloc: Global,
+    options: RunOptions,
+    text: &[u8],
+    out: &mut O,
+) -> Result<Outcome, Refusal>
+    requires { length text.now ≤ 1048576 }
+    ensures { IsTextRunAnswer options text.now (stream O.taken O.faults out.old) (stream O.taken O.faults out.new) result }
+{
+    match image_of(alloc, text) {
+        Ok(image) => run_image(alloc, options, &image, out),
+        Err(refusal) => Err(refusal),
+    }
+}
+
+/// Reads a text from the source, compiles it and runs its image.
+pub fn run<S: Source, O: Sink>(
+    alloc: Global,
+    options: RunOptions,
+    src: &mut S,
+    out: &mut O,
+) -> Result<Outcome, Refusal>
+    ensures { IsInputAnswer text_limit (IsTextRunAnswer options) (stream S.left S.faults src.old) (stream S.left S.faults src.new) (stream O.taken O.faults out.old) (stream O.taken O.faults out.new) result }
+{
+    match read_all(alloc, src, TEXT_LIMIT) {
+        Ok(text) => run_text(alloc, options, &text, out),
+        Err(ReadErr::Fault) => Err(Refusal::ReadFault),
+        Err(ReadErr::TooLong { limit }) => Err(Refusal::TooLong { limit }),
+        Err(ReadErr::Memory) => Err(Refusal::NoMemory),
+    }
+}
