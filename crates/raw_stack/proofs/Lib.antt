@@ -1,0 +1,5 @@
+mod Visiting
+mod Unchanged
+mod Keeping
+mod Placing
+mod Listing
