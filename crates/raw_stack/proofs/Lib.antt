@@ -1,5 +1,5 @@
-mod Visiting
-mod Unchanged
-mod Keeping
-mod Placing
-mod Listing
+pub mod Visiting
+pub mod Unchanged
+pub mod Keeping
+pub mod Placing
+pub mod Listing
