@@ -45,10 +45,10 @@ module _ (t : Functions) (m : Memory) (is : List StackItem) (r : DispatchRecord)
   rest_stands above p s =
       let top = top_of above p (cases_lt (at + 1568) (2 ^ 64)) in
       kept_by_other_stores t m (placed m at r).byte above is
-          (record {
-            code = λ x e. placing_leaves_others m at r x top p.fits (not_executable m at x p.not_code e);
-            owned = λ x o. placing_leaves_others m at r x top p.fits (high x o (cases_lt x (rsp above)));
-          }) s
+      (record {
+        code = λ x e. placing_leaves_others m at r x top p.fits (not_executable m at x p.not_code e);
+        owned = λ x o. placing_leaves_others m at r x top p.fits (high x o (cases_lt x (rsp above)));
+      }) s
     where
       high : (x : ℕ) → Owned above is x → (x < rsp above) ⊎ (rsp above ≤ x) → (x < at + 32) ⊎ (at + 1568 ≤ x)
       high x o (inl q) = absurd (nothing_below_is_owned t m above is x s q o)
