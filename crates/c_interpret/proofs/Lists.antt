@@ -1,6 +1,6 @@
 -- What stands in a list from an index on.
-use Rattle.std.proofs.Common.{◌≡◌, ℕ, suc, ◌+◌, ◌<◌, ◌≤◌, List, [], ◌∷◌, length, map, refl, sym, ap, ◌∙◌, arith, inl, inr, add-one}
-use Rattle.std.specs.Prelude.{drop, get_or, option_map}
+use Rattle.std.proofs.Common.{◌≡◌, ℕ, suc, ◌+◌, ◌<◌, ◌≤◌, List, [], ◌∷◌, length, map, refl, sym, ap, ◌∙◌, arith, inl, inr, Some, None, add-one}
+use Rattle.std.specs.Prelude.{drop, get_or, slice_get, option_map}
 use Rattle.std.proofs.lemmas.Option.{slice_get_cases, slice_get_past, slice_get_read}
 use Rattle.std.proofs.Math.Seq.{drop-cons}
 use Rattle.std.proofs.Math.ListN.{drop_of_length-le}
@@ -8,7 +8,7 @@ use Rattle.c_checked.specs.declared.expression.Expr.{Expr}
 use Rattle.c_checked.specs.declared.statement.Declared.{Declared}
 use Rattle.c_checked.specs.declared.statement.Stmt.{Stmt}
 use Rattle.c_checked.specs.Expression.{Done, Next, expression, arguments}
-use Rattle.c_checked.specs.Statement.{Empty, Then, Block, statement, statements, declared}
+use Rattle.c_checked.specs.Statement.{Statements, Empty, Then, Block, statement, statements, declared}
 use Rattle.c_interpret.specs.Views.{some_statement, statement_at, statements_from, declared_from, arguments_from}
 
 at_index : {X : Type 0} (xs : List X) (i : ℕ) (x : X) → i < length xs → x ≡ get_or xs i x → drop i xs ≡ x ∷ drop (i + 1) xs

@@ -6,7 +6,7 @@ use Rattle.seh_num.specs.Widths.{signed}
 use Rattle.c_checked.specs.Program.{Program}
 use Rattle.c_model.specs.declared.ended.Ended.{Ended}
 use Rattle.c_model.specs.declared.ended.Ended.TheVariants.{Exit}
-use Rattle.c_model.specs.State.{Result, Value, End, how_of, state_of}
+use Rattle.c_model.specs.State.{State, Result, Value, End, how_of, state_of}
 use Rattle.c_model.specs.Meaning.{does, start, Shown}
 use Rattle.c_model.specs.Laws.{IsPrefixOf}
 use Rattle.source_machine.specs.Frames.{Next}

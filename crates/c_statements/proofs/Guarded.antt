@@ -1,5 +1,5 @@
 -- A `for` and a `__try` by what was made of their parts, one after another.
-use Rattle.std.proofs.Common.{◌≡◌, ℕ, ◌+◌, List, [], ◌∷◌, ◌++◌, map, Option, Some, None, refl, sym, ap, subst, ◌∙◌}
+use Rattle.std.proofs.Common.{◌≡◌, ℕ, ◌+◌, List, [], ◌∷◌, ◌++◌, map, Option, refl, ap, subst, ◌∙◌}
 use Rattle.std.specs.Prelude.{option_map}
 use Rattle.c_checked.specs.declared.expression.Expr.{Expr}
 use Rattle.c_checked.specs.declared.statement.Filter.{Filter}
@@ -8,7 +8,6 @@ use Rattle.c_checked.specs.Expression.{expression}
 use Rattle.c_checked.specs.Statement as checked
 use Rattle.c_checked.specs.Statement.{declared}
 use Rattle.c_expressions.proofs.Kept.{kept_more}
-use Rattle.c_expressions.specs.declared.least.Least.{Least}
 use Rattle.c_expressions.specs.Kept.{least_of, kept}
 use Rattle.c_expressions.specs.Views.{block_of}
 use Rattle.c_locals.specs.declared.declarations.Beginning.{Beginning}
@@ -69,7 +68,7 @@ except_is b w0 w1 w2 w3 w4 answer filter vs ks made a ss at e hs same v m0 is n 
     let q = resolve_filter a b e number in
     let at_number : w2.number ≡ number = ap (λ (c : Numbering). c.number) m.counts in
     let to : numbering w3 ≡ with_number r.counts q.number =
-        n ∙ ap (λ (c : Numbering). with_number c (number_after c.number (option_map expression answer))) m.counts ∙ ap (with_number r.counts) (v.number number) in
+    n ∙ ap (λ (c : Numbering). with_number c (number_after c.number (option_map expression answer))) m.counts ∙ ap (with_number r.counts) (v.number number) in
     let j = block_at w3 w4 ks handler (numbering w3) (with_number r.counts q.number) to k in
     let h = handler (with_number r.counts q.number) in
     record {
@@ -82,7 +81,7 @@ except_is b w0 w1 w2 w3 w4 answer filter vs ks made a ss at e hs same v m0 is n 
       block = refl;
       faults =
           kept_more (least_of w0.worst) (least_of w1.worst) (least_of w4.worst) q.faults (r.faults ++ h.faults) (v.faults number)
-              (kept_more (least_of w1.worst) (least_of w2.worst) (least_of w4.worst) r.faults h.faults m.faults (j.faults ∙ ap (λ l. kept (least_of l) h.faults) kept_so));
+          (kept_more (least_of w1.worst) (least_of w2.worst) (least_of w4.worst) r.faults h.faults m.faults (j.faults ∙ ap (λ l. kept (least_of l) h.faults) kept_so));
     }
 
 -- ---- `for`

@@ -1,6 +1,6 @@
 //! Statements that hold no other statement.
 
-ghost use Rattle.std.specs.Prelude.{◌≡◌, IfOk, option_map};
+ghost use Rattle.std.specs.Prelude.{IfOk, option_map};
 ghost use Rattle.c_expressions.specs.Views.{block_of};
 ghost use Rattle.c_locals.specs.Views.{environment, numbering};
 ghost use Rattle.c_resolved.specs.Scopes.{Scope};

@@ -1,6 +1,6 @@
 //! Statements, and what is in blocks.
 
-ghost use Rattle.std.specs.Prelude.{◌≡◌, [], IfOk, map, option_map};
+ghost use Rattle.std.specs.Prelude.{[], IfOk, map, option_map};
 ghost use Rattle.c_checked.specs.Statement as checked;
 ghost use Rattle.c_expressions.specs.Views.{block_of};
 ghost use Rattle.c_locals.specs.Resolved.{Resolves};

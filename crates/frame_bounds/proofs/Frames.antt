@@ -1,11 +1,10 @@
 -- Statements are resolved to such that are nested no deeper.
-use Rattle.std.proofs.Common.{◌≡◌, ℕ, ◌+◌, ◌*◌, ◌≤◌, max, refl, sym, subst, arith}
+use Rattle.std.proofs.Common.{◌≡◌, ℕ, ◌+◌, ◌≤◌, max, refl, sym, subst, arith}
 use Rattle.std.specs.Prelude.{Bool, true, false, if◌then◌else◌, List, [], ◌∷◌, ◌++◌, map, Option, Some, None}
 use Rattle.c_checked.specs.Expression as nodes
 use Rattle.c_checked.specs.Statement as checked
 use Rattle.c_syntax.specs.declared.expression.Base.{Base}
 use Rattle.c_syntax.specs.declared.expression.CType.{CType}
-use Rattle.c_syntax.specs.Expression as trees
 use Rattle.c_syntax.specs.Expression.{Expression, start}
 use Rattle.c_syntax.specs.Program.{ExternalDeclaration, Globals, Function}
 use Rattle.c_syntax.specs.Statement as statements
@@ -17,11 +16,10 @@ use Rattle.c_resolved.specs.Program.{file_of, empty_file, with_parameters, aroun
 use Rattle.c_resolved.specs.Scopes.{Scope}
 use Rattle.c_resolved.specs.Statements.{Near, Beyond, past_finally, with_number, Environment, Numbering, names_at, filter_names, inside, any, condition, to_type, to_answer, Value, Optional, optional, declare, declare_all, only, returned, always, ResolvedFilter, resolve_filter, names_only, resolve_for_initialiser, resolve_statement, resolve_statements}
 use Rattle.c_syntax.specs.Expression.{height}
-use Rattle.c_syntax.specs.Limits.{Within, EachWithin, FunctionWithin, height_of, height_of_locals, height_of_for_initialiser, expressions_over, expressions_over_all, statements_over, statements_over_all, over_block_item}
-use Rattle.c_resolved.specs.Accepted.{Accepted}
+use Rattle.c_syntax.specs.Limits.{EachWithin, height_of, height_of_locals, height_of_for_initialiser, expressions_over, expressions_over_all, statements_over, statements_over_all, over_block_item}
 use Rattle.c_resolved.proofs.Sound.{accepted_is_sound}
 use Rattle.ir_sizes.specs.Sizes.{statement_notes, statements_notes}
-use Rattle.ir_bounds.specs.Nesting.{expression_nesting, expression_reads, most_of_optional, most_of_declared, most_of_filter, most_of_statement, most_of, IsShallow, AreShallow}
+use Rattle.ir_bounds.specs.Nesting.{expression_nesting, expression_reads, most_of_optional, most_of_declared, most_of_filter, most_of_statement, most_of, AreShallow}
 use Rattle.ir_bounds.proofs.Small.{lowered_is_small}
 use Rattle.frame_bounds.specs.Laws.{ResolvedIsShallow, AcceptedIsSmall}
 use Rattle.frame_bounds.proofs.ShallowOperators.{ShallowIf}

@@ -1,6 +1,6 @@
 //! Declarations, scopes and the function that a run begins with.
 
-use crate::verdict::{Verdict, verdict};
+use crate::verdict::{Verdict, verdict_of};
 use c_resolved::fault::Fault;
 use std::process::Abort;
 use std::test::Fail;
@@ -21,28 +21,88 @@ fn initialisers(rt: HostRuntime) -> Result<(), Fail> {
         "void *a = -1; int main(void){  return 0; }",
         "int f(void *b){ return b == 0; } int main(void){ void *x; return 0; }",
     ] {
-        assert_eq!(rt; verdict(rt.alloc(), text), Verdict::Accepted, "of {text:?}");
+        assert_eq!(rt;
+            verdict_of(rt.alloc(), text),
+            Verdict::Accepted,
+            "of {text:?}"
+        );
     }
     for (text, fault, at) in [
-        ("int a = {5}; int main(void){  return 0; }", Fault::BadInitialiser, 8),
-        ("int *a = {0}; int main(void){  return 0; }", Fault::BadInitialiser, 9),
-        ("int a[2] = 5; int main(void){  return 0; }", Fault::BadInitialiser, 11),
-        ("int a[2] = -5; int main(void){  return 0; }", Fault::BadInitialiser, 11),
-        ("int a[2] = {1, 2, 3}; int main(void){  return 0; }", Fault::BadInitialiser, 18),
-        ("int a[2] = {1, 2, -3, 4}; int main(void){  return 0; }", Fault::BadInitialiser, 18),
-        ("int a[2] = 'x'; int main(void){  return 0; }", Fault::BadInitialiser, 11),
-        ("int a[0]; int main(void){  return 0; }", Fault::TypeClash, 6),
-        ("int a[0x0]; int main(void){  return 0; }", Fault::TypeClash, 6),
+        (
+            "int a = {5}; int main(void){  return 0; }",
+            Fault::BadInitialiser,
+            8,
+        ),
+        (
+            "int *a = {0}; int main(void){  return 0; }",
+            Fault::BadInitialiser,
+            9,
+        ),
+        (
+            "int a[2] = 5; int main(void){  return 0; }",
+            Fault::BadInitialiser,
+            11,
+        ),
+        (
+            "int a[2] = -5; int main(void){  return 0; }",
+            Fault::BadInitialiser,
+            11,
+        ),
+        (
+            "int a[2] = {1, 2, 3}; int main(void){  return 0; }",
+            Fault::BadInitialiser,
+            18,
+        ),
+        (
+            "int a[2] = {1, 2, -3, 4}; int main(void){  return 0; }",
+            Fault::BadInitialiser,
+            18,
+        ),
+        (
+            "int a[2] = 'x'; int main(void){  return 0; }",
+            Fault::BadInitialiser,
+            11,
+        ),
+        (
+            "int a[0]; int main(void){  return 0; }",
+            Fault::TypeClash,
+            6,
+        ),
+        (
+            "int a[0x0]; int main(void){  return 0; }",
+            Fault::TypeClash,
+            6,
+        ),
         ("void a; int main(void){  return 0; }", Fault::TypeClash, 5),
-        ("void a[3]; int main(void){  return 0; }", Fault::TypeClash, 5),
-        ("int b, *c; void *d, e; int main(void){  return 0; }", Fault::TypeClash, 20),
-        ("int a[0] = {1}; int main(void){  return 0; }", Fault::TypeClash, 6),
+        (
+            "void a[3]; int main(void){  return 0; }",
+            Fault::TypeClash,
+            5,
+        ),
+        (
+            "int b, *c; void *d, e; int main(void){  return 0; }",
+            Fault::TypeClash,
+            20,
+        ),
+        (
+            "int a[0] = {1}; int main(void){  return 0; }",
+            Fault::TypeClash,
+            6,
+        ),
         ("int main(void){ void x; return 0; }", Fault::TypeClash, 21),
-        ("int main(void){ for (void x;;) ; return 0; }", Fault::TypeClash, 26),
-        ("int f(int a, void b){ return a; } int main(void){  return 0; }", Fault::TypeClash, 18),
+        (
+            "int main(void){ for (void x;;) ; return 0; }",
+            Fault::TypeClash,
+            26,
+        ),
+        (
+            "int f(int a, void b){ return a; } int main(void){  return 0; }",
+            Fault::TypeClash,
+            18,
+        ),
     ] {
         let broken = Verdict::Broken(fault, at);
-        assert_eq!(rt; verdict(rt.alloc(), text), broken, "of {text:?}");
+        assert_eq!(rt; verdict_of(rt.alloc(), text), broken, "of {text:?}");
     }
     Ok(())
 }
@@ -59,52 +119,188 @@ fn names(rt: HostRuntime) -> Result<(), Fail> {
         "int main(void){ put(1); protect(0, 1); RaiseException(1, 0, 0, (0)); int x = EXCEPTION_CONTINUE_SEARCH + EXCEPTION_CONTINUE_EXECUTION; return 0; }",
         "int main(void){ if (1) { int x; } else { int x; } while (0) { int x; } int x; return 0; }",
     ] {
-        assert_eq!(rt; verdict(rt.alloc(), text), Verdict::Accepted, "of {text:?}");
+        assert_eq!(rt;
+            verdict_of(rt.alloc(), text),
+            Verdict::Accepted,
+            "of {text:?}"
+        );
     }
     for (text, fault, at) in [
         ("int main(void){ x; return 0; }", Fault::UnknownName, 16),
         ("int main(void){ x = 1; return 0; }", Fault::UnknownName, 16),
         ("int main(void){ f(); return 0; }", Fault::UnknownName, 16),
-        ("int main(void){ int y; y(); return 0; }", Fault::UnknownName, 23),
+        (
+            "int main(void){ int y; y(); return 0; }",
+            Fault::UnknownName,
+            23,
+        ),
         ("int main(void){ put; return 0; }", Fault::UnknownName, 16),
         ("int main(void){ main; return 0; }", Fault::UnknownName, 16),
-        ("int main(void){ GetExceptionCode; return 0; }", Fault::UnknownName, 16),
-        ("int main(void){ RaiseException = 1; return 0; }", Fault::UnknownName, 16),
+        (
+            "int main(void){ GetExceptionCode; return 0; }",
+            Fault::UnknownName,
+            16,
+        ),
+        (
+            "int main(void){ RaiseException = 1; return 0; }",
+            Fault::UnknownName,
+            16,
+        ),
         ("int main(void){ &main; return 0; }", Fault::UnknownName, 17),
-        ("int main(void){ EXCEPTION_EXECUTE_HANDLER(); return 0; }", Fault::UnknownName, 16),
-        ("int main(void){ { int x; } x; return 0; }", Fault::UnknownName, 27),
-        ("int main(void){ for (int x;;) { break; } x; return 0; }", Fault::UnknownName, 41),
-        ("int main(void){ int y = z, z; return 0; }", Fault::UnknownName, 24),
-        ("int main(void){ if (1) { int x; } else x; return 0; }", Fault::UnknownName, 39),
-        ("int main(void){ put(x); return 0; }", Fault::UnknownName, 20),
-        ("int f(int a){ return a; } int main(void){ a; return 0; }", Fault::UnknownName, 42),
-        ("int f(int a){ return b; } int main(void){  return 0; }", Fault::UnknownName, 21),
-        ("int g; int main(void){ g(); return 0; }", Fault::UnknownName, 23),
-        ("int a[2]; int main(void){ a(); return 0; }", Fault::UnknownName, 26),
-        ("int main(void){ int x; x = x(1); return 0; }", Fault::UnknownName, 27),
-        ("int x; char x; int main(void){  return 0; }", Fault::Duplicate, 12),
-        ("int x; int x(void){ return 1; } int main(void){  return 0; }", Fault::Duplicate, 11),
-        ("int f(void){ return 1; } int f2(void){ return 1; } int f; int main(void){  return 0; }", Fault::Duplicate, 55),
-        ("int x, *x; int main(void){  return 0; }", Fault::Duplicate, 8),
-        ("int main(void){  return 0; } int main(void){ return 1; }", Fault::Duplicate, 33),
+        (
+            "int main(void){ EXCEPTION_EXECUTE_HANDLER(); return 0; }",
+            Fault::UnknownName,
+            16,
+        ),
+        (
+            "int main(void){ { int x; } x; return 0; }",
+            Fault::UnknownName,
+            27,
+        ),
+        (
+            "int main(void){ for (int x;;) { break; } x; return 0; }",
+            Fault::UnknownName,
+            41,
+        ),
+        (
+            "int main(void){ int y = z, z; return 0; }",
+            Fault::UnknownName,
+            24,
+        ),
+        (
+            "int main(void){ if (1) { int x; } else x; return 0; }",
+            Fault::UnknownName,
+            39,
+        ),
+        (
+            "int main(void){ put(x); return 0; }",
+            Fault::UnknownName,
+            20,
+        ),
+        (
+            "int f(int a){ return a; } int main(void){ a; return 0; }",
+            Fault::UnknownName,
+            42,
+        ),
+        (
+            "int f(int a){ return b; } int main(void){  return 0; }",
+            Fault::UnknownName,
+            21,
+        ),
+        (
+            "int g; int main(void){ g(); return 0; }",
+            Fault::UnknownName,
+            23,
+        ),
+        (
+            "int a[2]; int main(void){ a(); return 0; }",
+            Fault::UnknownName,
+            26,
+        ),
+        (
+            "int main(void){ int x; x = x(1); return 0; }",
+            Fault::UnknownName,
+            27,
+        ),
+        (
+            "int x; char x; int main(void){  return 0; }",
+            Fault::Duplicate,
+            12,
+        ),
+        (
+            "int x; int x(void){ return 1; } int main(void){  return 0; }",
+            Fault::Duplicate,
+            11,
+        ),
+        (
+            "int f(void){ return 1; } int f2(void){ return 1; } int f; int main(void){  return 0; }",
+            Fault::Duplicate,
+            55,
+        ),
+        (
+            "int x, *x; int main(void){  return 0; }",
+            Fault::Duplicate,
+            8,
+        ),
+        (
+            "int main(void){  return 0; } int main(void){ return 1; }",
+            Fault::Duplicate,
+            33,
+        ),
         ("int put; int main(void){  return 0; }", Fault::Duplicate, 4),
-        ("int protect(void){ return 1; } int main(void){  return 0; }", Fault::Duplicate, 4),
-        ("int EXCEPTION_EXECUTE_HANDLER; int main(void){  return 0; }", Fault::Duplicate, 4),
-        ("int GetExceptionCode[3]; int main(void){  return 0; }", Fault::Duplicate, 4),
-        ("int AbnormalTermination; int main(void){  return 0; }", Fault::Duplicate, 4),
-        ("int f(int a, int a){ return a; } int main(void){  return 0; }", Fault::Duplicate, 17),
-        ("int f(int a){ int a; return a; } int main(void){  return 0; }", Fault::Duplicate, 18),
-        ("int f(int put){ return 1; } int main(void){  return 0; }", Fault::Duplicate, 10),
-        ("int main(void){ int x; int x; return 0; }", Fault::Duplicate, 27),
-        ("int main(void){ int x, x; return 0; }", Fault::Duplicate, 23),
-        ("int main(void){ int RaiseException; return 0; }", Fault::Duplicate, 20),
-        ("int main(void){ { int EXCEPTION_CONTINUE_SEARCH; } return 0; }", Fault::Duplicate, 22),
-        ("int main(void){ for (int i, i;;) ; return 0; }", Fault::Duplicate, 28),
-        ("int main(void){ int x; { int x; int x; } return 0; }", Fault::Duplicate, 36),
-        ("int main(void){ __try { int x; int x; } __finally { } return 0; }", Fault::Duplicate, 35),
+        (
+            "int protect(void){ return 1; } int main(void){  return 0; }",
+            Fault::Duplicate,
+            4,
+        ),
+        (
+            "int EXCEPTION_EXECUTE_HANDLER; int main(void){  return 0; }",
+            Fault::Duplicate,
+            4,
+        ),
+        (
+            "int GetExceptionCode[3]; int main(void){  return 0; }",
+            Fault::Duplicate,
+            4,
+        ),
+        (
+            "int AbnormalTermination; int main(void){  return 0; }",
+            Fault::Duplicate,
+            4,
+        ),
+        (
+            "int f(int a, int a){ return a; } int main(void){  return 0; }",
+            Fault::Duplicate,
+            17,
+        ),
+        (
+            "int f(int a){ int a; return a; } int main(void){  return 0; }",
+            Fault::Duplicate,
+            18,
+        ),
+        (
+            "int f(int put){ return 1; } int main(void){  return 0; }",
+            Fault::Duplicate,
+            10,
+        ),
+        (
+            "int main(void){ int x; int x; return 0; }",
+            Fault::Duplicate,
+            27,
+        ),
+        (
+            "int main(void){ int x, x; return 0; }",
+            Fault::Duplicate,
+            23,
+        ),
+        (
+            "int main(void){ int RaiseException; return 0; }",
+            Fault::Duplicate,
+            20,
+        ),
+        (
+            "int main(void){ { int EXCEPTION_CONTINUE_SEARCH; } return 0; }",
+            Fault::Duplicate,
+            22,
+        ),
+        (
+            "int main(void){ for (int i, i;;) ; return 0; }",
+            Fault::Duplicate,
+            28,
+        ),
+        (
+            "int main(void){ int x; { int x; int x; } return 0; }",
+            Fault::Duplicate,
+            36,
+        ),
+        (
+            "int main(void){ __try { int x; int x; } __finally { } return 0; }",
+            Fault::Duplicate,
+            35,
+        ),
     ] {
         let broken = Verdict::Broken(fault, at);
-        assert_eq!(rt; verdict(rt.alloc(), text), broken, "of {text:?}");
+        assert_eq!(rt; verdict_of(rt.alloc(), text), broken, "of {text:?}");
     }
     Ok(())
 }
@@ -120,7 +316,11 @@ fn entry(rt: HostRuntime) -> Result<(), Fail> {
         "long int main(signed long long int n){ return n; }",
         "int a; int main(void){ return 0; } int b;",
     ] {
-        assert_eq!(rt; verdict(rt.alloc(), text), Verdict::Accepted, "of {text:?}");
+        assert_eq!(rt;
+            verdict_of(rt.alloc(), text),
+            Verdict::Accepted,
+            "of {text:?}"
+        );
     }
     for (text, fault, at) in [
         ("", Fault::NoMain, 0),
@@ -136,12 +336,24 @@ fn entry(rt: HostRuntime) -> Result<(), Fail> {
         ("int *main(void){ return 0; }", Fault::TypeClash, 5),
         ("int main(int n){ return n; }", Fault::TypeClash, 4),
         ("int main(long long *n){ return 0; }", Fault::TypeClash, 4),
-        ("int main(unsigned long long n){ return n; }", Fault::TypeClash, 4),
-        ("int main(long long n, long long k){ return n; }", Fault::TypeClash, 4),
-        ("int f(void){ return 0; } char main(void){ return 0; }", Fault::TypeClash, 30),
+        (
+            "int main(unsigned long long n){ return n; }",
+            Fault::TypeClash,
+            4,
+        ),
+        (
+            "int main(long long n, long long k){ return n; }",
+            Fault::TypeClash,
+            4,
+        ),
+        (
+            "int f(void){ return 0; } char main(void){ return 0; }",
+            Fault::TypeClash,
+            30,
+        ),
     ] {
         let broken = Verdict::Broken(fault, at);
-        assert_eq!(rt; verdict(rt.alloc(), text), broken, "of {text:?}");
+        assert_eq!(rt; verdict_of(rt.alloc(), text), broken, "of {text:?}");
     }
     Ok(())
 }

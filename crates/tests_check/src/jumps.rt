@@ -1,6 +1,6 @@
 //! Jumps, and what filters and blocks alone may call.
 
-use crate::verdict::{Verdict, verdict};
+use crate::verdict::{Verdict, verdict_of};
 use c_resolved::fault::Fault;
 use std::process::Abort;
 use std::test::Fail;
@@ -28,36 +28,142 @@ fn jumps(rt: HostRuntime) -> Result<(), Fail> {
         "int main(void){ __try { } __finally { for (;;) continue; } return 0; }",
         "int main(void){ __try { } __finally { __try { } __except (1) { } } return 0; }",
     ] {
-        assert_eq!(rt; verdict(rt.alloc(), text), Verdict::Accepted, "of {text:?}");
+        assert_eq!(rt;
+            verdict_of(rt.alloc(), text),
+            Verdict::Accepted,
+            "of {text:?}"
+        );
     }
     for (text, fault, at) in [
-        ("int main(void){ break; return 0; }", Fault::JumpOutsideLoop, 16),
-        ("int main(void){ continue; return 0; }", Fault::JumpOutsideLoop, 16),
-        ("int main(void){ if (1) break; return 0; }", Fault::JumpOutsideLoop, 23),
-        ("int main(void){ { continue; } return 0; }", Fault::JumpOutsideLoop, 18),
-        ("int main(void){ while (1) ; break; return 0; }", Fault::JumpOutsideLoop, 28),
-        ("int main(void){ __try { break; } __finally { } return 0; }", Fault::JumpOutsideLoop, 24),
-        ("int main(void){ __try { } __except (1) { continue; } return 0; }", Fault::JumpOutsideLoop, 41),
-        ("int main(void){ __try { } __finally { break; } return 0; }", Fault::JumpOutsideLoop, 38),
-        ("int main(void){ do ; while (0); continue; return 0; }", Fault::JumpOutsideLoop, 32),
-        ("int main(void){ for (;;) { } break; return 0; }", Fault::JumpOutsideLoop, 29),
-        ("int main(void){ __leave; return 0; }", Fault::LeaveOutsideTry, 16),
-        ("int main(void){ while (1) __leave; return 0; }", Fault::LeaveOutsideTry, 26),
-        ("int main(void){ __try { } __except (1) { __leave; } return 0; }", Fault::LeaveOutsideTry, 41),
-        ("int main(void){ __try { } __finally { __leave; } return 0; }", Fault::LeaveOutsideTry, 38),
-        ("int main(void){ __try { } __finally { } __leave; return 0; }", Fault::LeaveOutsideTry, 40),
-        ("int main(void){ { __try { } __except (1) { { __leave; } } } return 0; }", Fault::LeaveOutsideTry, 45),
-        ("int main(void){ __try { } __finally { return 1; } return 0; }", Fault::JumpOutOfFinally, 38),
-        ("int main(void){ while (1) { __try { } __finally { break; } } return 0; }", Fault::JumpOutOfFinally, 50),
-        ("int main(void){ while (1) { __try { } __finally { continue; } } return 0; }", Fault::JumpOutOfFinally, 50),
-        ("int main(void){ __try { __try { } __finally { __leave; } } __except (1) { } return 0; }", Fault::JumpOutOfFinally, 46),
-        ("int main(void){ __try { } __finally { __try { return 1; } __finally { } } return 0; }", Fault::JumpOutOfFinally, 46),
-        ("int main(void){ while (1) { __try { } __finally { __try { break; } __except (1) { } } } return 0; }", Fault::JumpOutOfFinally, 58),
-        ("int main(void){ __try { __try { } __finally { __try { } __except (1) { __leave; } } } __finally { } return 0; }", Fault::JumpOutOfFinally, 71),
-        ("int main(void){ __try { } __finally { while (1) return 1; } return 0; }", Fault::JumpOutOfFinally, 48),
+        (
+            "int main(void){ break; return 0; }",
+            Fault::JumpOutsideLoop,
+            16,
+        ),
+        (
+            "int main(void){ continue; return 0; }",
+            Fault::JumpOutsideLoop,
+            16,
+        ),
+        (
+            "int main(void){ if (1) break; return 0; }",
+            Fault::JumpOutsideLoop,
+            23,
+        ),
+        (
+            "int main(void){ { continue; } return 0; }",
+            Fault::JumpOutsideLoop,
+            18,
+        ),
+        (
+            "int main(void){ while (1) ; break; return 0; }",
+            Fault::JumpOutsideLoop,
+            28,
+        ),
+        (
+            "int main(void){ __try { break; } __finally { } return 0; }",
+            Fault::JumpOutsideLoop,
+            24,
+        ),
+        (
+            "int main(void){ __try { } __except (1) { continue; } return 0; }",
+            Fault::JumpOutsideLoop,
+            41,
+        ),
+        (
+            "int main(void){ __try { } __finally { break; } return 0; }",
+            Fault::JumpOutsideLoop,
+            38,
+        ),
+        (
+            "int main(void){ do ; while (0); continue; return 0; }",
+            Fault::JumpOutsideLoop,
+            32,
+        ),
+        (
+            "int main(void){ for (;;) { } break; return 0; }",
+            Fault::JumpOutsideLoop,
+            29,
+        ),
+        (
+            "int main(void){ __leave; return 0; }",
+            Fault::LeaveOutsideTry,
+            16,
+        ),
+        (
+            "int main(void){ while (1) __leave; return 0; }",
+            Fault::LeaveOutsideTry,
+            26,
+        ),
+        (
+            "int main(void){ __try { } __except (1) { __leave; } return 0; }",
+            Fault::LeaveOutsideTry,
+            41,
+        ),
+        (
+            "int main(void){ __try { } __finally { __leave; } return 0; }",
+            Fault::LeaveOutsideTry,
+            38,
+        ),
+        (
+            "int main(void){ __try { } __finally { } __leave; return 0; }",
+            Fault::LeaveOutsideTry,
+            40,
+        ),
+        (
+            "int main(void){ { __try { } __except (1) { { __leave; } } } return 0; }",
+            Fault::LeaveOutsideTry,
+            45,
+        ),
+        (
+            "int main(void){ __try { } __finally { return 1; } return 0; }",
+            Fault::JumpOutOfFinally,
+            38,
+        ),
+        (
+            "int main(void){ while (1) { __try { } __finally { break; } } return 0; }",
+            Fault::JumpOutOfFinally,
+            50,
+        ),
+        (
+            "int main(void){ while (1) { __try { } __finally { continue; } } return 0; }",
+            Fault::JumpOutOfFinally,
+            50,
+        ),
+        (
+            "int main(void){ __try { __try { } __finally { __leave; } } __except (1) { } return 0; }",
+            Fault::JumpOutOfFinally,
+            46,
+        ),
+        (
+            "int main(void){ __try { } __finally { __try { return 1; } __finally { } } return 0; }",
+            Fault::JumpOutOfFinally,
+            46,
+        ),
+        (
+            "int main(void){ while (1) { __try { } __finally { __try { break; } __except (1) { } } } return 0; }",
+            Fault::JumpOutOfFinally,
+            58,
+        ),
+        (
+            "int main(void){ __try { __try { } __finally { __try { } __except (1) { __leave; } } } __finally { } return 0; }",
+            Fault::JumpOutOfFinally,
+            71,
+        ),
+        (
+            "int main(void){ __try { } __finally { while (1) return 1; } return 0; }",
+            Fault::JumpOutOfFinally,
+            48,
+        ),
+        ("int main(void){ __leave; }", Fault::LeaveOutsideTry, 16),
+        (
+            "int main(void){ __try{ } __finally{ return 1; } }",
+            Fault::JumpOutOfFinally,
+            36,
+        ),
     ] {
         let broken = Verdict::Broken(fault, at);
-        assert_eq!(rt; verdict(rt.alloc(), text), broken, "of {text:?}");
+        assert_eq!(rt; verdict_of(rt.alloc(), text), broken, "of {text:?}");
     }
     Ok(())
 }
@@ -72,25 +178,81 @@ fn filters(rt: HostRuntime) -> Result<(), Fail> {
         "int main(void){ __try { } __finally { AbnormalTermination(); if (AbnormalTermination()) put(1); } return 0; }",
         "int main(void){ __try { } __except (1) { __try { GetExceptionCode(); } __finally { GetExceptionCode(); AbnormalTermination(); } } return 0; }",
     ] {
-        assert_eq!(rt; verdict(rt.alloc(), text), Verdict::Accepted, "of {text:?}");
+        assert_eq!(rt;
+            verdict_of(rt.alloc(), text),
+            Verdict::Accepted,
+            "of {text:?}"
+        );
     }
     for (text, fault, at) in [
-        ("int main(void){ GetExceptionCode(); return 0; }", Fault::CodeOutsideFilter, 16),
-        ("int main(void){ __try { GetExceptionCode(); } __except (1) { } return 0; }", Fault::CodeOutsideFilter, 24),
-        ("int main(void){ __try { } __finally { GetExceptionCode(); } return 0; }", Fault::CodeOutsideFilter, 38),
-        ("int main(void){ __try { } __except (1) { } GetExceptionCode(); return 0; }", Fault::CodeOutsideFilter, 43),
-        ("int main(void){ GetExceptionInformation()->ExceptionRecord->ExceptionCode; return 0; }", Fault::InfoOutsideFilter, 16),
-        ("int main(void){ __try { } __except (1) { GetExceptionInformation()->ExceptionRecord->ExceptionFlags; } return 0; }", Fault::InfoOutsideFilter, 41),
-        ("int main(void){ __try { GetExceptionInformation()->ExceptionRecord->ExceptionInformation[15]; } __except (1) { } return 0; }", Fault::InfoOutsideFilter, 24),
-        ("int main(void){ AbnormalTermination(); return 0; }", Fault::AbnormalOutsideFinally, 16),
-        ("int main(void){ __try { AbnormalTermination(); } __finally { } return 0; }", Fault::AbnormalOutsideFinally, 24),
-        ("int main(void){ __try { } __except (AbnormalTermination()) { } return 0; }", Fault::AbnormalOutsideFinally, 36),
-        ("int main(void){ __try { } __except (1) { AbnormalTermination(); } return 0; }", Fault::AbnormalOutsideFinally, 41),
-        ("int main(void){ __try { } __finally { } AbnormalTermination(); return 0; }", Fault::AbnormalOutsideFinally, 40),
-        ("int main(void){ __try { } __except (GetExceptionInformation()->ExceptionRecord->ExceptionInformation[15]) { } return 0; }", Fault::TypeClash, 101),
+        (
+            "int main(void){ GetExceptionCode(); return 0; }",
+            Fault::CodeOutsideFilter,
+            16,
+        ),
+        (
+            "int main(void){ __try { GetExceptionCode(); } __except (1) { } return 0; }",
+            Fault::CodeOutsideFilter,
+            24,
+        ),
+        (
+            "int main(void){ __try { } __finally { GetExceptionCode(); } return 0; }",
+            Fault::CodeOutsideFilter,
+            38,
+        ),
+        (
+            "int main(void){ __try { } __except (1) { } GetExceptionCode(); return 0; }",
+            Fault::CodeOutsideFilter,
+            43,
+        ),
+        (
+            "int main(void){ GetExceptionInformation()->ExceptionRecord->ExceptionCode; return 0; }",
+            Fault::InfoOutsideFilter,
+            16,
+        ),
+        (
+            "int main(void){ __try { } __except (1) { GetExceptionInformation()->ExceptionRecord->ExceptionFlags; } return 0; }",
+            Fault::InfoOutsideFilter,
+            41,
+        ),
+        (
+            "int main(void){ __try { GetExceptionInformation()->ExceptionRecord->ExceptionInformation[15]; } __except (1) { } return 0; }",
+            Fault::InfoOutsideFilter,
+            24,
+        ),
+        (
+            "int main(void){ AbnormalTermination(); return 0; }",
+            Fault::AbnormalOutsideFinally,
+            16,
+        ),
+        (
+            "int main(void){ __try { AbnormalTermination(); } __finally { } return 0; }",
+            Fault::AbnormalOutsideFinally,
+            24,
+        ),
+        (
+            "int main(void){ __try { } __except (AbnormalTermination()) { } return 0; }",
+            Fault::AbnormalOutsideFinally,
+            36,
+        ),
+        (
+            "int main(void){ __try { } __except (1) { AbnormalTermination(); } return 0; }",
+            Fault::AbnormalOutsideFinally,
+            41,
+        ),
+        (
+            "int main(void){ __try { } __finally { } AbnormalTermination(); return 0; }",
+            Fault::AbnormalOutsideFinally,
+            40,
+        ),
+        (
+            "int main(void){ __try { } __except (GetExceptionInformation()->ExceptionRecord->ExceptionInformation[15]) { } return 0; }",
+            Fault::TypeClash,
+            101,
+        ),
     ] {
         let broken = Verdict::Broken(fault, at);
-        assert_eq!(rt; verdict(rt.alloc(), text), broken, "of {text:?}");
+        assert_eq!(rt; verdict_of(rt.alloc(), text), broken, "of {text:?}");
     }
     Ok(())
 }

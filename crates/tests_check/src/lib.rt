@@ -9,6 +9,8 @@ mod jumps;
 #[cfg(test)]
 mod places;
 #[cfg(test)]
+mod pointers;
+#[cfg(test)]
 mod several;
 #[cfg(test)]
 mod types;

@@ -17,7 +17,7 @@ pub enum Verdict {
 }
 
 /// What is told of a text.
-pub fn verdict(alloc: Global, text: &str) -> Verdict {
+pub fn verdict_of(alloc: Global, text: &str) -> Verdict {
     let text = text.as_bytes();
     let Ok(tokens) = lex(alloc, text) else {
         return Verdict::NoProgram;

@@ -398,17 +398,17 @@ fn regions_of_an_image(rt: HostRuntime) -> Result<(), Fail> {
     let found = regions(rt.alloc(), &view)?;
     let want = [
         Region {
-            start: 0x7000_0000,
-            end: 0x7080_0000,
-            read: true,
-            write: true,
-            execute: false,
-        },
-        Region {
             start: 0x2000_0000,
             end: 0x2010_0000,
             read: false,
             write: false,
+            execute: false,
+        },
+        Region {
+            start: 0x7000_0000,
+            end: 0x7080_0000,
+            read: true,
+            write: true,
             execute: false,
         },
         Region {

@@ -1,10 +1,10 @@
 //! The trailing parts of a legal epilogue.
 
 ghost use Rattle.std.specs.Prelude.{◌≡◌, Ok, slice_index};
+ghost use Rattle.pe_image.specs.Answer as answers;
 ghost use Rattle.virtual_unwind.specs.Tail as spec;
 ghost use Rattle.virtual_unwind.specs.After as parts;
 ghost use Rattle.virtual_unwind.specs.After.{after};
-ghost use Rattle.virtual_unwind.specs.Undone as undone;
 
 use crate::kept::{get, rsp, rsp_raised, with, with_rsp};
 use crate::refusal::UnwindErr;
@@ -193,7 +193,7 @@ fn then_left_by<S: AddressSpace>(
     instr: &Instr,
     answer: Result<Context, UnwindErr>,
 ) -> Result<Context, UnwindErr>
-    ensures { result ≡ undone.◌>>=◌ answer (spec.left_by (S.memory space.now) instr.now) }
+    ensures { result ≡ answers.◌>>=◌ answer (spec.left_by (S.memory space.now) instr.now) }
 {
     match answer {
         Ok(context) => left_by(space, instr, &context),

@@ -33,8 +33,8 @@ for_loop-returns t c =
     let w3 : Walk = record { sizes = w1.sizes; number = w1.number; worst = c.any_or_none.new.worst } in
     IfOk-weaker c.for_of.result _ _
     (λ made p.
-      for_over (block_of c.args.block.now.entries) es w w1 w2 w3 c.part.new.walk c.in_ok-beginning.beginning c.in_ok-value.value c.in_ok-after.after c.in_ok-made.made made (environment c.args.env.now) (environment c.within-here.result) (environment c.in_loop.result) c.args.at (trees.first c.args.first.now) (option_map expression c.args.condition.now)
-          (option_map expression c.args.next.now) (statement c.args.body.now) c.within-here.ensures (c.in_loop.ensures ∙ ap in_loop c.within.ensures) c.in_ok-beginning.ensures c.in_ok-value.ensures c.in_ok-after.ensures refl c.in_ok-made.ensures p) c.for_of.ensures
+    for_over (block_of c.args.block.now.entries) es w w1 w2 w3 c.part.new.walk c.in_ok-beginning.beginning c.in_ok-value.value c.in_ok-after.after c.in_ok-made.made made (environment c.args.env.now) (environment c.within-here.result) (environment c.in_loop.result) c.args.at (trees.first c.args.first.now) (option_map expression c.args.condition.now)
+    (option_map expression c.args.next.now) (statement c.args.body.now) c.within-here.ensures (c.in_loop.ensures ∙ ap in_loop c.within.ensures) c.in_ok-beginning.ensures c.in_ok-value.ensures c.in_ok-after.ensures refl c.in_ok-made.ensures p) c.for_of.ensures
 
 pub statement-returns-in_ok-if_else_of-in-Some : goal.statement-returns-in_ok-if_else_of-in-Some
 statement-returns-in_ok-if_else_of-in-Some t c =
@@ -54,32 +54,32 @@ statement-returns-in_ok-if_else_of-in-Some t c =
     let n = part_in w1 w2 o.otherwise (statement c.deref-in-Some.result.now) (statement y.otherwise.value) here (inside a (block_of es)) (numbering w1) (ap statement c.deref-in-Some.ensures) c.within-here.ensures o.ensures in
     IfOk-weaker c.one-in-Some.result _ _
     (λ list q.
-      one_is es w w2 made (map checked.statement list.items) (statement c.args.s.now) (trees.IfElse x.at (expression x.condition) (statement x.then.value) (statement y.otherwise.value)) a (read.if_some x.at x.condition x.then x.otherwise y.otherwise c.args.s.now x.is y.is)
-          (if_else_is (block_of es) w w1 w2 k.value k.then o.otherwise made a x.at (expression x.condition) (statement x.then.value) (statement y.otherwise.value) m n c.in_ok-if_else_of-in-Some.ensures) q) c.one-in-Some.ensures
+    one_is es w w2 made (map checked.statement list.items) (statement c.args.s.now) (trees.IfElse x.at (expression x.condition) (statement x.then.value) (statement y.otherwise.value)) a (read.if_some x.at x.condition x.then x.otherwise y.otherwise c.args.s.now x.is y.is)
+    (if_else_is (block_of es) w w1 w2 k.value k.then o.otherwise made a x.at (expression x.condition) (statement x.then.value) (statement y.otherwise.value) m n c.in_ok-if_else_of-in-Some.ensures) q) c.one-in-Some.ensures
 
 pub statement-returns-in-Break : goal.statement-returns-in-Break
 statement-returns-in-Break t c =
     let es = c.args.block.now.entries in
     IfOk-weaker c.one-in-Break.result _ _
     (λ list q.
-      one_is es c.args.walk.now c.break_from.new.walk c.break_from.result (map checked.statement list.items) (statement c.args.s.now) (trees.Break c.in-Break.at) (environment c.args.env.now) (ap statement c.in-Break.is ∙ read.break_is c.in-Break.at)
-          (c.break_from.ensures (block_of es)) q) c.one-in-Break.ensures
+    one_is es c.args.walk.now c.break_from.new.walk c.break_from.result (map checked.statement list.items) (statement c.args.s.now) (trees.Break c.in-Break.at) (environment c.args.env.now) (ap statement c.in-Break.is ∙ read.break_is c.in-Break.at)
+    (c.break_from.ensures (block_of es)) q) c.one-in-Break.ensures
 
 pub statement-returns-in-Continue : goal.statement-returns-in-Continue
 statement-returns-in-Continue t c =
     let es = c.args.block.now.entries in
     IfOk-weaker c.one-in-Continue.result _ _
     (λ list q.
-      one_is es c.args.walk.now c.continue_from.new.walk c.continue_from.result (map checked.statement list.items) (statement c.args.s.now) (trees.Continue c.in-Continue.at) (environment c.args.env.now) (ap statement c.in-Continue.is ∙ read.continue_is c.in-Continue.at)
-          (c.continue_from.ensures (block_of es)) q) c.one-in-Continue.ensures
+    one_is es c.args.walk.now c.continue_from.new.walk c.continue_from.result (map checked.statement list.items) (statement c.args.s.now) (trees.Continue c.in-Continue.at) (environment c.args.env.now) (ap statement c.in-Continue.is ∙ read.continue_is c.in-Continue.at)
+    (c.continue_from.ensures (block_of es)) q) c.one-in-Continue.ensures
 
 pub statement-returns-in-Leave : goal.statement-returns-in-Leave
 statement-returns-in-Leave t c =
     let es = c.args.block.now.entries in
     IfOk-weaker c.one-in-Leave.result _ _
     (λ list q.
-      one_is es c.args.walk.now c.leave_from.new.walk c.leave_from.result (map checked.statement list.items) (statement c.args.s.now) (trees.Leave c.in-Leave.at) (environment c.args.env.now) (ap statement c.in-Leave.is ∙ read.leave_is c.in-Leave.at)
-          (c.leave_from.ensures (block_of es)) q) c.one-in-Leave.ensures
+    one_is es c.args.walk.now c.leave_from.new.walk c.leave_from.result (map checked.statement list.items) (statement c.args.s.now) (trees.Leave c.in-Leave.at) (environment c.args.env.now) (ap statement c.in-Leave.is ∙ read.leave_is c.in-Leave.at)
+    (c.leave_from.ensures (block_of es)) q) c.one-in-Leave.ensures
 
 pub statement-returns-in_ok-handler-in-TryExcept : goal.statement-returns-in_ok-handler-in-TryExcept
 statement-returns-in_ok-handler-in-TryExcept t c =
@@ -102,9 +102,9 @@ statement-returns-in_ok-handler-in-TryExcept t c =
     let handler = statements (map statement x.handler.items) in
     IfOk-weaker c.one-in-TryExcept.result _ _
     (λ list h.
-      one_is es w w4 c.except_of.result (map checked.statement list.items) (statement c.args.s.now) (trees.TryExcept body x.at (expression x.filter) handler) a (ap statement x.is ∙ read.try_except_is x.body x.at x.filter x.handler)
-          (except_is (block_of es) w w1 w2 w3 w4 q.asked f.filter vs.body.items ks.handler.items c.except_of.result a body x.at (expression x.filter) handler refl q.ensures m f.ensures.filter f.ensures.counts f.ensures.faults k c.except_of.ensures) h)
-        c.one-in-TryExcept.ensures
+    one_is es w w4 c.except_of.result (map checked.statement list.items) (statement c.args.s.now) (trees.TryExcept body x.at (expression x.filter) handler) a (ap statement x.is ∙ read.try_except_is x.body x.at x.filter x.handler)
+    (except_is (block_of es) w w1 w2 w3 w4 q.asked f.filter vs.body.items ks.handler.items c.except_of.result a body x.at (expression x.filter) handler refl q.ensures m f.ensures.filter f.ensures.counts f.ensures.faults k c.except_of.ensures) h)
+    c.one-in-TryExcept.ensures
 
 pub statement-returns-in_ok-last-in-TryFinally : goal.statement-returns-in_ok-last-in-TryFinally
 statement-returns-in_ok-last-in-TryFinally t c =
@@ -125,9 +125,9 @@ statement-returns-in_ok-last-in-TryFinally t c =
     let last = statements (map statement x.last.items) in
     IfOk-weaker c.one-in-TryFinally.result _ _
     (λ list h.
-      one_is es w w3 c.finally_of.result (map checked.statement list.items) (statement c.args.s.now) (trees.TryFinally body x.at last) a (ap statement x.is ∙ read.try_finally_is x.body x.at x.last)
-          (finally_is (block_of es) w w1 w2 w3 vs.body.items ks.last.items n.number c.finally_of.result a body x.at last m n.ensures.number n.ensures.counts n.ensures.faults k c.finally_of.ensures) h)
-        c.one-in-TryFinally.ensures
+    one_is es w w3 c.finally_of.result (map checked.statement list.items) (statement c.args.s.now) (trees.TryFinally body x.at last) a (ap statement x.is ∙ read.try_finally_is x.body x.at x.last)
+    (finally_is (block_of es) w w1 w2 w3 vs.body.items ks.last.items n.number c.finally_of.result a body x.at last m n.ensures.number n.ensures.counts n.ensures.faults k c.finally_of.ensures) h)
+    c.one-in-TryFinally.ensures
 
 pub statements-loop-s-preserved : goal.statements-loop-s-preserved
 statements-loop-s-preserved t c =
@@ -136,4 +136,4 @@ statements-loop-s-preserved t c =
     let a = environment c.args.env.now in
     let w = c.args.walk.now in
     goes a list s.s-index c.s-item.result s.block.entries c.statement.new.block.entries w s.walk c.statement.new.walk s.made.items c.append.new.self.items c.in_ok-more.more.items (resolved_from a list (block_of c.args.block.now.entries) (numbering w)) c.loop-s-test.true c.s-item.is c.in_ok-append.ensures.items
-        c.in_ok-more.ensures s.invariant
+    c.in_ok-more.ensures s.invariant

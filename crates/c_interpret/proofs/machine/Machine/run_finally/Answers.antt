@@ -1,7 +1,9 @@
 use Rattle.std.proofs.Common.{◌≡◌, ◌+◌, ◌*◌, ◌≤◌, ◌++◌, [], ◌∷◌, length, ap, sym, ◌∙◌, arith}
 use Rattle.std.proofs.lemmas.Bool.{ltb-false}
 use Rattle.seh_num.specs.declared.event.Event.TheVariants as events
+use Rattle.c_checked.specs.Expression as tree
 use Rattle.source_machine.specs.Frames as frames
+use Rattle.source_machine.specs.Plans as plans
 use Rattle.source_machine.specs.Machine as model
 use Rattle.c_interpret.specs.Activations.{frames_of}
 use Rattle.c_interpret.specs.Views as views

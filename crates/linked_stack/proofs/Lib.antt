@@ -1,0 +1,4 @@
+pub mod Places
+pub mod Searched
+pub mod Unwound
+pub mod Keeping

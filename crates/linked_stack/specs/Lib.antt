@@ -1,0 +1,4 @@
+pub mod ImagePlan
+pub mod Linked
+pub mod Frames
+pub mod Laws

@@ -1,0 +1,227 @@
+-- The plain list of what waits in linear code, as it stands in the machine's stack, item by item.
+use Rattle.std.specs.Prelude.{◌≡◌, ◌⊎◌, ℕ, suc, ◌+◌, ◌*◌, ◌%◌, ◌^◌, ◌<◌, ◌≤◌, true, false, not, ◌==◌, List, [], ◌∷◌, ◌++◌, length, drop, filter, slice_get, Option, Some, None, Ok}
+use Rattle.host_layout.specs.declared.range.TheConstants.{STACK_END}
+use Rattle.flat_memory.specs.Memory.{Memory}
+use Rattle.x64_machine.specs.declared.context.Context.{Context}
+use Rattle.x64_machine.specs.Contexts.{context_of}
+use Rattle.eh_tables.specs.declared.scope.ScopeRecord.{ScopeRecord}
+use Rattle.virtual_unwind.specs.Contexts.{rsp}
+use Rattle.virtual_unwind.specs.Undone.{word}
+use Rattle.virtual_unwind.specs.CallerOf.{Functions, entry_of}
+use Rattle.seh_records.specs.declared.dispatch.Kind.TheVariants.{ExceptionUnwind, LocalUnwind}
+use Rattle.seh_records.specs.declared.dispatch.DispatchRecord.{DispatchRecord}
+use Rattle.seh_records.specs.Record.{misplaced}
+use Rattle.seh_records.specs.Laws.{Fits}
+use Rattle.host_model.specs.declared.funclet.Funclet.{Funclet}
+use Rattle.host_model.specs.Dispatch.{row_before, rows_of, parameters, count}
+use Rattle.template_code.specs.declared.layout.Layout.{Layout}
+use Rattle.template_code.specs.Slots.{temporary_at, local_at}
+use Rattle.c_model.specs.State.{Exception}
+use Rattle.linear_code.specs.declared.program.Region.{Region}
+use Rattle.linear_code.specs.declared.program.FuncletKind.{FuncletKind}
+use Rattle.linear_code.specs.declared.program.FuncletKind.TheVariants as funclets
+use Rattle.linear_code.specs.Program.{LinearProgram, LinearBody, LinearFunclet}
+use Rattle.linear_machine.specs.Frames.{BodyName, FunctionBody, FuncletBody, body_of, Frame, Handler, Target, Item, Waits, Searches, Unwinds}
+use Rattle.linear_machine.specs.Regions.{holds, regions_of, regions_at, regions_left, handlers_in, handlers}
+use Rattle.raw_stack.specs.Stack.{StackFrame, StackItem, Framed, Searching, Unwinding, after_frame}
+use Rattle.linked_stack.specs.ImagePlan.{Plan, InCode}
+
+-- ---- the source's activations
+
+-- the base of a function's frame, the distance of its first local from there, and the locals
+pub record Activation : Type 0 where
+  pub base : ℕ
+  pub distance : ℕ
+  pub values : List ℕ
+
+-- innermost first here; the linear machine has the outermost first
+abbrev pub locals_of : List Activation → List (List ℕ)
+locals_of [] = []
+locals_of (a ∷ outer) = locals_of outer ++ a.values ∷ []
+
+-- activation number k has its base and its first local there
+pub record HasBase (k at first : ℕ) (a : Activation) (outer : List Activation) : Type 0 where
+  pub number : k ≡ length outer
+  pub base : at ≡ a.base
+  pub distance : first ≡ a.distance
+
+abbrev pub IsActivation : List Activation → ℕ → ℕ → ℕ → Type 0
+IsActivation [] k base distance = ⊥
+IsActivation (a ∷ outer) k base distance = HasBase k base distance a outer ⊎ IsActivation outer k base distance
+
+-- the activations below a body: a function's own is the first
+abbrev pub below_function : List Activation → List Activation
+below_function [] = []
+below_function (a ∷ outer) = outer
+
+abbrev pub activations_below : BodyName → List Activation → List Activation
+activations_below (FunctionBody f) acts = below_function acts
+activations_below (FuncletBody k) acts = acts
+
+-- ---- a body's frame
+
+-- the numbers of slots one after another, from an address on and below an end
+abbrev pub HoldsWords : Memory → ℕ → ℕ → List ℕ → Type 0
+HoldsWords m at end [] = at ≤ end
+HoldsWords m at end (v ∷ vs) = (word m at ≡ Ok v) × HoldsWords m (at + 8) end vs
+
+-- a function's frame holds the locals of its activation, which is the first
+pub record HoldsLocals (m : Memory) (y : Layout) (sp size k : ℕ) (a : Activation) (outer : List Activation) : Type 0 where
+  pub none : y.base ≡ None
+  pub activation : HasBase k sp y.locals a outer
+  pub values : HoldsWords m (sp + y.locals) (sp + size) a.values
+
+-- a funclet's frame keeps the base
+pub record KeepsBase (m : Memory) (y : Layout) (sp size k : ℕ) (acts : List Activation) : Type 0 where
+  pub slot : ℕ
+  pub base : ℕ
+  pub some : y.base ≡ Some slot
+  pub room : slot + 8 ≤ size
+  pub kept : word m (sp + slot) ≡ Ok base
+  pub activation : IsActivation acts k base y.locals
+
+abbrev pub FirstHoldsLocals : Memory → Layout → (sp size k : ℕ) → List Activation → Type 0
+FirstHoldsLocals m y sp size k [] = ⊥
+FirstHoldsLocals m y sp size k (a ∷ outer) = HoldsLocals m y sp size k a outer
+
+abbrev pub HasActivation : Memory → Layout → (sp size k : ℕ) → List Activation → BodyName → Type 0
+HasActivation m y sp size k acts (FunctionBody f) = FirstHoldsLocals m y sp size k acts
+HasActivation m y sp size k acts (FuncletBody j) = KeepsBase m y sp size k acts
+
+-- what the frame that a funclet is given leads to: a function's frame is the base, a funclet's keeps it
+pub record KeptIn (m : Memory) (y : Layout) (frame base : ℕ) : Type 0 where
+  pub slot : ℕ
+  pub some : y.base ≡ Some slot
+  pub room : frame + slot + 8 < 2 ^ 64
+  pub kept : word m (frame + slot) ≡ Ok base
+
+abbrev pub Leads : Memory → Layout → BodyName → (frame base : ℕ) → Type 0
+Leads m y (FunctionBody f) frame base = frame ≡ base
+Leads m y (FuncletBody k) frame base = KeptIn m y frame base
+
+module _ (t : Functions) (fs : List Funclet) (program : LinearProgram) (p : Plan) where
+  -- activation number k, by the frame of a body
+  pub record Reaches (m : Memory) (name : BodyName) (frame k : ℕ) (acts : List Activation) : Type 0 where
+    pub base : ℕ
+    pub leads : Leads m (p.layout name) name frame base
+    pub activation : IsActivation acts k base (p.layout name).locals
+
+  -- a body waits in a frame whose RIP is in the code of the instruction that it waits in
+  pub record BodyWaits (m : Memory) (c : Context) (f : StackFrame) (b : Frame) (acts : List Activation) : Type 0 where
+    pub code : LinearBody
+    pub body : body_of program b.body ≡ Some code
+    pub instruction : InCode p b.body b.next c.rip
+    pub small : c.rip < 2 ^ 64
+    pub entry : f.entry ≡ p.entry b.body
+    pub activation : HasActivation m (p.layout b.body) (rsp c) f.size b.activation acts b.body
+    pub temporaries : HoldsWords m (rsp c + (p.layout b.body).temporaries) (rsp c + f.size) b.temporaries
+
+  -- ---- what lies below a body
+
+  -- a filter answers a search for its exception; a `__finally` block ends an unwinding, or continues its body
+  abbrev pub IsAskedBy : ℕ → Frame → Exception → Handler → Type 0
+  IsAskedBy k b exception h = (h.filter ≡ Some k) × (b.exception ≡ exception)
+
+  abbrev pub FuncletIsAbove : ℕ → Frame → Option LinearFunclet → List Item → Type 0
+  FuncletIsAbove k b (Some f) (Searches exception resumption asked rest ∷ Waits w ∷ below) = (f.kind ≡ funclets.Filter) × IsAskedBy k b exception asked
+  FuncletIsAbove k b (Some f) (Unwinds rest target ∷ Waits w ∷ below) = (flag : ℕ) × (f.kind ≡ funclets.Finally flag)
+  FuncletIsAbove k b (Some f) (Waits w ∷ below) = (flag : ℕ) × (f.kind ≡ funclets.Finally flag)
+  FuncletIsAbove k b f items = ⊥
+
+  -- a function was called, or is the first
+  abbrev pub FunctionIsAbove : List Item → Type 0
+  FunctionIsAbove [] = Unit {0}
+  FunctionIsAbove (Waits w ∷ below) = Unit {0}
+  FunctionIsAbove items = ⊥
+
+  abbrev pub IsAbove : Frame → BodyName → List Item → Type 0
+  IsAbove b (FunctionBody f) below = FunctionIsAbove below
+  IsAbove b (FuncletBody k) below = FuncletIsAbove k b (slice_get program.funclets k) below
+
+  -- ---- where a walk is in the list
+
+  -- the regions that hold a body's instruction, of those from a row on
+  abbrev pub regions_from : Frame → ℕ → List Region
+  regions_from b row = filter (holds b.next) (drop row (regions_of (body_of program b.body)))
+
+  -- a walk is at a row; the linear one has these regions left, or all that hold the instruction
+  abbrev pub IsAtRow : ℕ → List Item → Option (List Region) → Type 0
+  IsAtRow row (Waits b ∷ below) left = regions_left left (regions_at program b.body b.next) ≡ regions_from b row
+  IsAtRow row items left = Unit {0}
+
+  -- a search is here, and from a row on meets these handlers
+  pub record OnwardHere (to : Context) (row : ℕ) (found : List Handler) (c : Context) (b : Frame) (below : List Item) : Type 0 where
+    pub same : c ≡ to
+    pub meets : found ≡ handlers_in (regions_from b row) b.activation (length below) ++ handlers program below None
+
+  -- a search has come to a context of the list and a row there, and would still meet these handlers
+  abbrev pub Onward : (to : Context) (row : ℕ) → List Handler → Context → List StackItem → List Item → Type 0
+  Onward to row found c (Framed f ∷ is) (Waits b ∷ below) = OnwardHere to row found c b below ⊎ Onward to row found (after_frame c f) is below
+  Onward to row found c (Searching r ∷ is) (Searches exception resumption asked rest ∷ below) = Onward to row found (context_of r.saved) is below
+  Onward to row found c (Unwinding r ∷ is) (Unwinds rest target ∷ below) = Onward to row found r.walk is below
+  Onward to row found c is items = ⊥
+
+  -- this body's frame is that of a target
+  pub record AimedHere (depth label frame address : ℕ) (c : Context) (b : Frame) (below : List Item) : Type 0 where
+    pub at_depth : depth ≡ length below
+    pub at_frame : frame ≡ rsp c
+    pub at_address : address ≡ p.address b.body label
+    pub lands : p.lands b.body label ≡ true
+
+  -- the frame with so many items below it has this base, and the label in its body this address
+  abbrev pub Aimed : (depth label frame address : ℕ) → Context → List StackItem → List Item → Type 0
+  Aimed depth label frame address c (Framed f ∷ is) (Waits b ∷ below) = AimedHere depth label frame address c b below ⊎ Aimed depth label frame address (after_frame c f) is below
+  Aimed depth label frame address c (Searching r ∷ is) (Searches exception resumption asked rest ∷ below) = Aimed depth label frame address (context_of r.saved) is below
+  Aimed depth label frame address c (Unwinding r ∷ is) (Unwinds rest target ∷ below) = Aimed depth label frame address r.walk is below
+  Aimed depth label frame address c is items = ⊥
+
+  -- ---- suspended searches and unwindings
+
+  -- the row before a record's next one jumps to an address
+  pub record JumpsBefore (rip next address : ℕ) : Type 0 where
+    pub row : ScopeRecord
+    pub before : row_before (rows_of (entry_of t rip)) next ≡ Some row
+    pub jumps : (row.jump_target == 0) ≡ false
+    pub target : (t.base + row.jump_target) % 2 ^ 64 ≡ address
+
+  -- the record has the exception
+  pub record HasException (r : DispatchRecord) (exception : Exception) : Type 0 where
+    pub code : r.code.0 ≡ exception.code
+    pub flag : (r.flags % 2 == 0) ≡ not exception.flag
+    pub count : r.count ≡ count exception.access
+    pub parameters : r.parameters ≡ parameters exception.access
+
+  -- it can be written again in place
+  pub record IsOwnRecord (m : Memory) (at : ℕ) (r : DispatchRecord) : Type 0 where
+    pub fits : Fits r
+    pub room : misplaced m at ≡ None
+
+  -- a search that asks a handler's filter, with the others after it
+  pub record SearchWaits (m : Memory) (c : Context) (r : DispatchRecord) (exception : Exception) (asked : Handler) (rest : List Handler) (is : List StackItem) (below : List Item) : Type 0 where
+    pub own : IsOwnRecord m (rsp c) r
+    pub carries : HasException r exception
+    pub onward : Onward r.walk r.row rest (context_of r.saved) is below
+    pub address : ℕ
+    pub aimed : Aimed asked.depth asked.target r.frame address (context_of r.saved) is below
+    pub before : JumpsBefore r.walk.rip r.row address
+
+  -- an exception's unwinding has its code
+  abbrev pub HasPurpose : Option ℕ → DispatchRecord → Type 0
+  HasPurpose (Some code) r = (r.kind ≡ ExceptionUnwind) × (r.code.0 ≡ code)
+  HasPurpose None r = r.kind ≡ LocalUnwind
+
+  -- an unwinding that runs a `__finally` block, with the regions that are left in the body below
+  pub record UnwindingWaits (m : Memory) (c : Context) (r : DispatchRecord) (rest : List Region) (target : Target) (is : List StackItem) (below : List Item) : Type 0 where
+    pub own : IsOwnRecord m (rsp c) r
+    pub purpose : HasPurpose target.code r
+    pub row : IsAtRow r.row below (Some rest)
+    pub aimed : Aimed target.depth target.label r.target_frame r.target r.walk is below
+
+  -- ---- the whole list
+
+  abbrev pub Linked : Memory → Context → List StackItem → List Item → List Activation → Type 0
+  Linked m c [] [] acts = (acts ≡ []) × (rsp c ≤ STACK_END)
+  Linked m c (Framed f ∷ is) (Waits b ∷ below) acts = BodyWaits m c f b acts × IsAbove b b.body below × Linked m (after_frame c f) is below (activations_below b.body acts)
+  Linked m c (Searching r ∷ is) (Searches exception resumption asked rest ∷ below) acts = SearchWaits m c r exception asked rest is below × Linked m (context_of r.saved) is below acts
+  Linked m c (Unwinding r ∷ is) (Unwinds rest target ∷ below) acts = UnwindingWaits m c r rest target is below × Linked m r.walk is below acts
+  Linked m c is items acts = ⊥

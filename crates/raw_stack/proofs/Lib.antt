@@ -1,0 +1,5 @@
+pub mod Visiting
+pub mod Unchanged
+pub mod Keeping
+pub mod Placing
+pub mod Listing

@@ -1,0 +1,109 @@
+-- The stack from a stack pointer up: frames of bodies, and records of suspended searches and unwindings, innermost first.
+use Rattle.std.specs.Prelude.{◌≡◌, ℕ, ◌+◌, ◌-◌, ◌^◌, ◌<◌, ◌≤◌, Bool, true, false, ◌⊎◌, ◌==◌, nat_lt, List, [], ◌∷◌, length, Some, None, Ok, slice_set}
+use Rattle.flat_memory.specs.Memory.{Memory}
+use Rattle.x64_machine.specs.declared.context.Context.{Context}
+use Rattle.x64_machine.specs.Contexts.{context_of}
+use Rattle.eh_tables.specs.declared.code.UnwindOperation.TheVariants.{Allocate}
+use Rattle.eh_tables.specs.Tables.{Entry}
+use Rattle.virtual_unwind.specs.Contexts.{rsp}
+use Rattle.virtual_unwind.specs.Undone.{word}
+use Rattle.virtual_unwind.specs.Tail.{tail_at}
+use Rattle.virtual_unwind.specs.CallerOf.{Functions, CallerFrame, distance, entry_of}
+use Rattle.seh_records.specs.declared.dispatch.DispatchRecord.{DispatchRecord}
+use Rattle.seh_records.specs.Record.{fetched}
+use Rattle.seh_walk.specs.Walk.{filter_return, finally_return, is_search}
+
+-- a frame of a body: its entry in the function table, the size of its fixed allocation, the offset of that allocation's unwind code, and its return address
+pub record StackFrame : Type 0 where
+  pub entry : Entry
+  pub size : ℕ
+  pub offset : ℕ
+  pub return_address : ℕ
+
+pub data StackItem : Type 0 where
+  Framed : StackFrame → StackItem
+  Searching : DispatchRecord → StackItem
+  Unwinding : DispatchRecord → StackItem
+
+-- ---- where a walk continues after an item
+
+-- at the caller, past the allocation and the return address
+abbrev pub after_frame : Context → StackFrame → Context
+after_frame c f = record { rip = f.return_address; kept = slice_set c.kept 0 (rsp c + f.size + 8) }
+
+-- after a search where its exception was raised, after an unwinding where that has come to
+abbrev pub context_after : Context → StackItem → Context
+context_after c (Framed f) = after_frame c f
+context_after c (Searching r) = context_of r.saved
+context_after c (Unwinding r) = r.walk
+
+-- the row from which the frame after an item is asked
+abbrev pub row_after : StackItem → ℕ
+row_after (Framed f) = 0
+row_after (Searching r) = 0
+row_after (Unwinding r) = r.row
+
+-- what the walk finds of a frame
+abbrev pub caller_frame : Context → StackFrame → CallerFrame
+caller_frame c f = record { frame = rsp c; context = after_frame c f; asked = Some f.entry.info }
+
+-- ---- what stands in memory
+
+-- a frame whose body is past its prologue, and not in an epilogue
+pub record FrameStands (t : Functions) (m : Memory) (c : Context) (f : StackFrame) : Type 0 where
+  pub live : (c.rip == 0) ≡ false
+  pub not_filter : (c.rip == filter_return) ≡ false
+  pub not_finally : (c.rip == finally_return) ≡ false
+  pub found : entry_of t c.rip ≡ Some f.entry
+  pub past_prologue : nat_lt (distance t.base c.rip - f.entry.range.begin) f.entry.info.prologue_size ≡ false
+  pub not_epilogue : tail_at f.entry.info.frame_register m c.rip ≡ None
+  pub codes : f.entry.info.codes ≡ record { offset = f.offset; operation = Allocate f.size } ∷ []
+  pub no_register : f.entry.info.frame_register ≡ 0
+  pub no_parents : f.entry.parents ≡ []
+  pub kept : length c.kept ≡ 9
+  pub room : rsp c + f.size + 8 < 2 ^ 64
+  pub returns : word m (rsp c + f.size) ≡ Ok f.return_address
+
+-- a record at the return address of the host that its funclet has
+pub record RecordStands (m : Memory) (c : Context) (r : DispatchRecord) (address : ℕ) (searches : Bool) (next : Context) : Type 0 where
+  pub at_host : c.rip ≡ address
+  pub fetches : fetched m (rsp c) ≡ Some r
+  pub kind : is_search r.kind ≡ searches
+  pub above : rsp c + 1568 ≤ rsp next
+  pub small : rsp next < 2 ^ 64
+
+abbrev pub Stands : Functions → Memory → Context → StackItem → Type 0
+Stands t m c (Framed f) = FrameStands t m c f
+Stands t m c (Searching r) = RecordStands m c r filter_return true (context_of r.saved)
+Stands t m c (Unwinding r) = RecordStands m c r finally_return false r.walk
+
+-- the list stands from a context on, up to the first frame, which returns to 0
+abbrev pub IsStack : Functions → Memory → Context → List StackItem → Type 0
+IsStack t m c [] = c.rip ≡ 0
+IsStack t m c (i ∷ is) = Stands t m c i × IsStack t m (context_after c i) is
+
+-- ---- the bytes on which this rests
+
+pub record IsWithin (a from to : ℕ) : Type 0 where
+  pub low : from ≤ a
+  pub high : a < to
+
+-- of a frame its return address, of a record all but its home space
+abbrev pub OwnedBy : Context → StackItem → ℕ → Type 0
+OwnedBy c (Framed f) a = IsWithin a (rsp c + f.size) (rsp c + f.size + 8)
+OwnedBy c (Searching r) a = IsWithin a (rsp c + 32) (rsp c + 1568)
+OwnedBy c (Unwinding r) a = IsWithin a (rsp c + 32) (rsp c + 1568)
+
+abbrev pub Owned : Context → List StackItem → ℕ → Type 0
+Owned c [] a = ⊥
+Owned c (i ∷ is) a = OwnedBy c i a ⊎ Owned (context_after c i) is a
+
+-- bytes that are a memory's in the code and at these addresses
+pub record Agree (m : Memory) (byte : ℕ → ℕ) (Own : ℕ → Type 0) : Type 0 where
+  pub code : (a : ℕ) → (m.protection a).execute ≡ true → byte a ≡ m.byte a
+  pub owned : (a : ℕ) → Own a → byte a ≡ m.byte a
+
+-- the context at an item of the list, by those before it
+abbrev pub context_at : Context → List StackItem → Context
+context_at c [] = c
+context_at c (i ∷ is) = context_at (context_after c i) is
