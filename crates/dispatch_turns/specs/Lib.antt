@@ -1,0 +1,6 @@
+pub mod States
+pub mod Searches
+pub mod Unwinds
+pub mod Laws
+pub mod Steps
+pub mod Returns

@@ -1,0 +1,296 @@
+-- The host's unwinding runs the `__finally` blocks of the linear code's, and lands where it lands.
+use Rattle.std.proofs.Common.{◌≡◌, ◌≢◌, ◌⊎◌, inl, inr, ℕ, suc, ◌+◌, ◌%◌, ◌^◌, ◌<◌, ◌≤◌, Bool, true, false, Option, Some, None, List, [], ◌∷◌, ◌++◌, length, refl, sym, ap, subst, ◌∙◌, arith, length-append}
+use Rattle.std.specs.Prelude.{nat_eq, nat_lt}
+use Rattle.std.proofs.lemmas.Bool.{le-ltb, eq-eqb, ne_eqb}
+use Rattle.std.proofs.lemmas.List.{take_at}
+use Rattle.seh_num.specs.declared.event.Event.{Event}
+use Rattle.flat_memory.specs.Memory.{Memory}
+use Rattle.x64_machine.specs.declared.context.Context.{Context}
+use Rattle.x64_machine.specs.Contexts.{context_of}
+use Rattle.virtual_unwind.specs.Contexts.{rsp}
+use Rattle.virtual_unwind.specs.CallerOf.{Functions, distance}
+use Rattle.seh_walk.specs.Asked.{AskedRecord, rows_from, unwound, until, until_if, first_finally}
+use Rattle.seh_unwind.specs.declared.unwind_result.UnwindResult.{UnwindResult}
+use Rattle.seh_unwind.specs.declared.unwind_result.UnwindResult.TheVariants as unwinds
+use Rattle.seh_unwind.specs.Unwind.{if_past, by_row}
+use Rattle.host_model.specs.declared.funclet.Funclet.{Funclet}
+use Rattle.host_model.specs.Funclets.{arrivals}
+use Rattle.host_model.specs.Dispatch.{row_before}
+use Rattle.template_code.specs.declared.layout.Layout.{Layout}
+use Rattle.linear_code.specs.declared.program.Region.{Region}
+use Rattle.linear_code.specs.Program.{LinearProgram}
+use Rattle.linear_machine.specs.Frames.{BodyName, FunctionBody, FuncletBody, body_of, Frame, Target, Item, Waits, Searches, Unwinds, Store, Seen, Next}
+use Rattle.linear_machine.specs.Regions.{regions_of, regions_at, regions_left}
+use Rattle.linear_machine.specs.Unwinding as linear
+use Rattle.linear_machine.specs.Unwinding.{left_store, unwind_body}
+use Rattle.raw_stack.specs.Stack.{StackFrame, StackItem, Framed, Searching, Unwinding, FrameStands, IsStack, after_frame, caller_frame}
+use Rattle.raw_stack.specs.PlainWalks.{state, decided_or, plain_unwind}
+use Rattle.raw_stack.proofs.Visiting.{set_head}
+use Rattle.raw_stack.proofs.Keeping.{rises}
+use Rattle.raw_stack.proofs.Listing.{unwinding_is_of_the_list}
+use Rattle.linked_stack.specs.ImagePlan.{Plan, Gives}
+use Rattle.linked_stack.specs.Linked.{Activation, locals_of, activations_below, HasActivation, BodyWaits, IsAbove, regions_from, IsAtRow, Aimed, AimedHere, Linked}
+use Rattle.linked_stack.specs.Frames.{NoBlock, Arrives, FirstBlock}
+use Rattle.linked_stack.specs.Laws.{left_from}
+use Rattle.linked_stack.proofs.Places.{row_before_short}
+use Rattle.linked_stack.proofs.Unwound.{unwinding_runs_the_blocks, unwinding_stops_at_the_target}
+use Rattle.stack_searches.specs.Searching.{IsWide}
+use Rattle.stack_searches.proofs.Contexts.{wide_after, wide_saved, wide_walk}
+use Rattle.stack_searches.proofs.Flags.{unwound_all}
+use Rattle.stack_searches.proofs.Searched.{at_first_row, body_reaches, entry_of_body, flags_of_body, few_of_body, instruction_of_body}
+use Rattle.stack_unwinds.specs.Unwinding.{store_of, on_top, Course, RunsBlock, Lands, UnwoundAs}
+use Rattle.stack_unwinds.specs.Laws.{UnwindingIsTheLists}
+
+-- the locals that are left are those of the activations below
+pub locals_length : (acts : List Activation) → length (locals_of acts) ≡ length acts
+locals_length [] = refl
+locals_length (a ∷ outer) = let e = locals_length outer in omega (arith, length-append (locals_of outer) (a.values ∷ []))
+
+pub left_activations : (m source : Memory) (y : Layout) (sp size k : ℕ) (acts : List Activation) (name : BodyName) → HasActivation m y sp size k acts name → left_store name k (store_of source acts) ≡ store_of source (activations_below name acts)
+left_activations m source y sp size k [] (FunctionBody f) h = absurd h
+left_activations m source y sp size k (a ∷ outer) (FunctionBody f) h =
+    ap (λ (xs : List (List ℕ)). let s : Store = record { memory = source; activations = xs } in s) (take_at (locals_of outer) (a.values ∷ []) k (locals_length outer ∙ sym h.activation.number))
+left_activations m source y sp size k acts (FuncletBody j) h = refl
+
+module _ (t : Functions) (fs : List Funclet) (program : LinearProgram) (p : Plan) where
+  -- ---- the target lies ahead
+
+  pub aimed_above : (m : Memory) (depth label frame address : ℕ) (c : Context) (is : List StackItem) (items : List Item) → IsStack t m c is → Aimed t fs program p depth label frame address c is items → rsp c ≤ frame
+  aimed_above m depth label frame address c (Framed f ∷ is) (Waits b ∷ below) s (inl a) = let e = a.at_frame in omega arith
+  aimed_above m depth label frame address c (Framed f ∷ is) (Waits b ∷ below) s (inr a) = let e = rises t m c (Framed f) s.0 in let h = aimed_above m depth label frame address (after_frame c f) is below s.1 a in omega arith
+  aimed_above m depth label frame address c (Searching r ∷ is) (Searches exception resumption asked rest ∷ below) s a = let e = rises t m c (Searching r) s.0 in let h = aimed_above m depth label frame address (context_of r.saved) is below s.1 a in omega arith
+  aimed_above m depth label frame address c (Unwinding r ∷ is) (Unwinds rest older ∷ below) s a = let e = rises t m c (Unwinding r) s.0 in let h = aimed_above m depth label frame address r.walk is below s.1 a in omega arith
+  aimed_above m depth label frame address c [] items s a = absurd a
+  aimed_above m depth label frame address c (Framed f ∷ is) [] s a = absurd a
+  aimed_above m depth label frame address c (Framed f ∷ is) (Searches exception resumption asked rest ∷ below) s a = absurd a
+  aimed_above m depth label frame address c (Framed f ∷ is) (Unwinds rest older ∷ below) s a = absurd a
+  aimed_above m depth label frame address c (Searching r ∷ is) [] s a = absurd a
+  aimed_above m depth label frame address c (Searching r ∷ is) (Waits b ∷ below) s a = absurd a
+  aimed_above m depth label frame address c (Searching r ∷ is) (Unwinds rest older ∷ below) s a = absurd a
+  aimed_above m depth label frame address c (Unwinding r ∷ is) [] s a = absurd a
+  aimed_above m depth label frame address c (Unwinding r ∷ is) (Waits b ∷ below) s a = absurd a
+  aimed_above m depth label frame address c (Unwinding r ∷ is) (Searches exception resumption asked rest ∷ below) s a = absurd a
+
+  pub aimed_below : (depth label frame address : ℕ) (c : Context) (is : List StackItem) (items : List Item) → Aimed t fs program p depth label frame address c is items → depth < length items
+  aimed_below depth label frame address c (Framed f ∷ is) (Waits b ∷ below) (inl a) = let e = a.at_depth in omega arith
+  aimed_below depth label frame address c (Framed f ∷ is) (Waits b ∷ below) (inr a) = let h = aimed_below depth label frame address (after_frame c f) is below a in omega arith
+  aimed_below depth label frame address c (Searching r ∷ is) (Searches exception resumption asked rest ∷ below) a = let h = aimed_below depth label frame address (context_of r.saved) is below a in omega arith
+  aimed_below depth label frame address c (Unwinding r ∷ is) (Unwinds rest older ∷ below) a = let h = aimed_below depth label frame address r.walk is below a in omega arith
+  aimed_below depth label frame address c [] items a = absurd a
+  aimed_below depth label frame address c (Framed f ∷ is) [] a = absurd a
+  aimed_below depth label frame address c (Framed f ∷ is) (Searches exception resumption asked rest ∷ below) a = absurd a
+  aimed_below depth label frame address c (Framed f ∷ is) (Unwinds rest older ∷ below) a = absurd a
+  aimed_below depth label frame address c (Searching r ∷ is) [] a = absurd a
+  aimed_below depth label frame address c (Searching r ∷ is) (Waits b ∷ below) a = absurd a
+  aimed_below depth label frame address c (Searching r ∷ is) (Unwinds rest older ∷ below) a = absurd a
+  aimed_below depth label frame address c (Unwinding r ∷ is) [] a = absurd a
+  aimed_below depth label frame address c (Unwinding r ∷ is) (Waits b ∷ below) a = absurd a
+  aimed_below depth label frame address c (Unwinding r ∷ is) (Searches exception resumption asked rest ∷ below) a = absurd a
+
+  -- ---- from a rear part of the stack
+
+  abbrev course_of : Target → (frame address low : ℕ) → Memory → List Event → Course
+  course_of target frame address low source events = record { target = target; frame = frame; address = address; low = low; source = source; events = events }
+
+  from_rear : (m : Memory) (target : Target) (frame address low low' : ℕ) (source : Memory) (events : List Event) (u u' : UnwindResult) (seen seen' : Next → Seen)
+      → u ≡ u' → ((then : Next) → seen then ≡ seen' then) → low ≤ low' → UnwoundAs t fs program p m (course_of target frame address low' source events) u' seen' → UnwoundAs t fs program p m (course_of target frame address low source events) u seen
+  from_rear m target frame address low low' source events u u' seen seen' e s le (inl h) =
+      let above : low' ≤ rsp h.to = h.above in
+      inl (record {
+        block = h.block;
+        left = h.left;
+        body = h.body;
+        below = h.below;
+        to = h.to;
+        row = h.row;
+        is = h.is;
+        acts = h.acts;
+        answer = e ∙ h.answer;
+        goes = λ then. s then ∙ h.goes then;
+        stack = h.stack;
+        linked = h.linked;
+        at_row = h.at_row;
+        aimed = h.aimed;
+        reaches = h.reaches;
+        funclet = h.funclet;
+        named = h.named;
+        above = omega arith;
+        kept = h.kept;
+      })
+  from_rear m target frame address low low' source events u u' seen seen' e s le (inr h) =
+      let above : low' ≤ rsp h.to = h.above in
+      inr (record {
+        body = h.body;
+        below = h.below;
+        to = h.to;
+        is = h.is;
+        acts = h.acts;
+        answer = e ∙ h.answer;
+        goes = λ then. s then ∙ h.goes then;
+        stack = h.stack;
+        linked = h.linked;
+        at_frame = h.at_frame;
+        at_address = h.at_address;
+        lands = h.lands;
+        quiet = h.quiet;
+        above = omega arith;
+        wide = h.wide;
+      })
+
+module _ (t : Functions) (fs : List Funclet) (program : LinearProgram) (p : Plan) (g : Gives t fs program p) (m : Memory) (target : Target) (frame address : ℕ) (source : Memory) (events : List Event) where
+  abbrev course : ℕ → Course
+  course low = course_of t fs program p target frame address low source events
+
+  abbrev seen_from : List Item → Option (List Region) → List Activation → Next → Seen
+  seen_from items left acts then = linear.unwind program then target items left events (store_of source acts)
+
+  module _ (c : Context) (f : StackFrame) (is : List StackItem) (b : Frame) (below : List Item) (acts : List Activation) (row : ℕ) (left : Option (List Region))
+      (stands : FrameStands t m c f) (rear : IsStack t m (after_frame c f) is) (body : BodyWaits t fs program p m c f b acts) (shape : IsAbove t fs program p b b.body below) (others : Linked t fs program p m (after_frame c f) is below (activations_below b.body acts)) (wide : IsWide c.kept)
+      (at : IsAtRow t fs program p row (Waits b ∷ below) left) where
+    abbrev rows : List AskedRecord
+    rows = rows_from (distance t.base c.rip) row f.entry.info.scopes
+
+    abbrev outer : UnwindResult
+    outer = plain_unwind t frame address (after_frame c f) 0 is
+
+    abbrev here_and_above : UnwindResult
+    here_and_above = plain_unwind t frame address c row (Framed f ∷ is)
+
+    abbrev out : Next → Store → Seen
+    out then store = linear.unwind program then target below None events store
+
+    -- the linear code is at the same row
+    linear_step : (then : Next) → seen_from (Waits b ∷ below) left acts then ≡ unwind_body program then target (out then) (regions_from t fs program p b row) (on_top b below source acts events)
+    linear_step then = ap (λ (rs : List Region). unwind_body program then target (out then) rs (on_top b below source acts events)) at
+
+    -- the step of the host, in a frame that isn't past the target
+    host_step : (q : Bool) (o : Option AskedRecord) → rsp c ≤ frame → nat_eq (rsp c) frame ≡ q → first_finally (until_if q (distance t.base address) rows) ≡ o
+        → here_and_above ≡ decided_or outer (by_row t (rsp c) c (state (after_frame c f) 0) q o)
+    host_step q o le e first =
+        let u = state (after_frame c f) 0 in
+        ap (λ x. decided_or outer (if_past t frame address (state c row) (caller_frame c f) u x)) (le-ltb frame (rsp c) le)
+        ∙ ap (λ x. decided_or outer (by_row t (rsp c) c u x (first_finally (unwound (Some f.entry.info) (distance t.base c.rip) row x (distance t.base address))))) e
+        ∙ ap (λ x. decided_or outer (by_row t (rsp c) c u q x)) (unwound_all t fs program p f.entry.info (distance t.base c.rip) row q (distance t.base address) (flags_of_body t fs program p g m c f b acts body) ∙ first)
+
+    runs_here : (asked : List AskedRecord) (x : FirstBlock t fs program p target (on_top b below source acts events) f.entry.info.scopes asked (regions_from t fs program p b row) (left_from b.next (regions_of (body_of program b.body))))
+        → here_and_above ≡ unwinds.Finally ((t.base + x.row.handler_address) % 2 ^ 64) (rsp c) (x.index + 1) c
+        → Aimed t fs program p target.depth target.label frame address c (Framed f ∷ is) (Waits b ∷ below)
+        → RunsBlock t fs program p m (course (rsp c)) here_and_above (seen_from (Waits b ∷ below) left acts)
+    runs_here asked x e aimed =
+        let room = stands.room in
+        let few = few_of_body t fs program p g m c f b acts body in
+        let short = row_before_short f.entry.info.scopes x.index x.row (ap (row_before f.entry.info.scopes) (let a : suc x.index ≡ x.index + 1 = omega arith in a) ∙ x.before) in
+        record {
+          block = x.funclet;
+          left = regions_from t fs program p b (x.index + 1);
+          body = b;
+          below = below;
+          to = c;
+          row = x.index + 1;
+          is = Framed f ∷ is;
+          acts = acts;
+          answer = e ∙ ap (λ a. unwinds.Finally a (rsp c) (x.index + 1) c) x.is.handler;
+          goes = λ then. linear_step then ∙ x.runs then (out then);
+          stack = (stands, rear);
+          linked = (body, shape, others);
+          at_row = refl;
+          aimed = aimed;
+          reaches = body_reaches t fs program p m b.body (rsp c) f.size b.activation acts stands.room body.activation;
+          funclet = x.is.funclet;
+          named = x.is.named;
+          above = omega arith;
+          kept = record { frame_small = omega arith; row_small = omega arith; rip_small = body.small; registers = wide };
+        }
+
+    -- in the target's frame
+    in_its_frame : AimedHere t fs program p target.depth target.label frame address c b below → UnwoundAs t fs program p m (course (rsp c)) here_and_above (seen_from (Waits b ∷ below) left acts)
+    in_its_frame a =
+        by (unwinding_stops_at_the_target t fs program p c.rip row f.entry.info.scopes (regions_of (body_of program b.body)) target (on_top b below source acts events) (instruction_of_body t fs program p g m c f b acts body) a.at_depth a.lands)
+      where
+        here : nat_eq (rsp c) frame ≡ true
+        here = eq-eqb (rsp c) frame (sym a.at_frame)
+
+        le : rsp c ≤ frame
+        le = let e = a.at_frame in omega arith
+
+        same : first_finally (until (distance t.base address) rows) ≡ first_finally (until (distance t.base (p.address b.body target.label)) rows)
+        same = ap (λ x. first_finally (until (distance t.base x) rows)) a.at_address
+
+        by : Arrives t fs program p target (on_top b below source acts events) (until (distance t.base (p.address b.body target.label)) rows) (regions_from t fs program p b row)
+            ⊎ FirstBlock t fs program p target (on_top b below source acts events) f.entry.info.scopes (until (distance t.base (p.address b.body target.label)) rows) (regions_from t fs program p b row) (left_from b.next (regions_of (body_of program b.body)))
+            → UnwoundAs t fs program p m (course (rsp c)) here_and_above (seen_from (Waits b ∷ below) left acts)
+        by (inl x) =
+            inr (record {
+              body = b;
+              below = below;
+              to = c;
+              is = Framed f ∷ is;
+              acts = acts;
+              answer = host_step true None le here (same ∙ x.first);
+              goes = λ then. linear_step then ∙ x.arrives then (out then);
+              stack = (stands, rear);
+              linked = (body, shape, others);
+              at_frame = a.at_frame;
+              at_address = a.at_address;
+              lands = a.lands;
+              quiet = λ cpu. ap (λ x. arrivals cpu (distance t.base x) 1 fs) a.at_address ∙ (entry_of_body t fs program p g m c f b acts body).landings target.label a.lands cpu;
+              above = omega arith;
+              wide = wide;
+            })
+        by (inr x) = inl (runs_here _ x (host_step true (Some (x.index, x.row)) le here (same ∙ x.first)) (inl a))
+
+    -- in a frame that is left
+    in_a_frame : Aimed t fs program p target.depth target.label frame address (after_frame c f) is below
+        → UnwoundAs t fs program p m (course (rsp (after_frame c f))) outer (seen_from below None (activations_below b.body acts))
+        → UnwoundAs t fs program p m (course (rsp c)) here_and_above (seen_from (Waits b ∷ below) left acts)
+    in_a_frame a more =
+        by (unwinding_runs_the_blocks t fs program p c.rip row f.entry.info.scopes (regions_of (body_of program b.body)) target (on_top b below source acts events) (instruction_of_body t fs program p g m c f b acts body) away)
+      where
+        away : target.depth ≢ length below
+        away e = let h = aimed_below t fs program p target.depth target.label frame address (after_frame c f) is below a in absurd (omega arith)
+
+        lt : rsp c < frame
+        lt = let r = rises t m c (Framed f) stands in let e = aimed_above t fs program p m target.depth target.label frame address (after_frame c f) is below rear a in omega arith
+
+        elsewhere : nat_eq (rsp c) frame ≡ false
+        elsewhere = ne_eqb (rsp c) frame (λ e. let l = lt in absurd (omega arith))
+
+        by : NoBlock t fs program p target (on_top b below source acts events) rows (regions_from t fs program p b row)
+            ⊎ FirstBlock t fs program p target (on_top b below source acts events) f.entry.info.scopes rows (regions_from t fs program p b row) (left_from b.next (regions_of (body_of program b.body)))
+            → UnwoundAs t fs program p m (course (rsp c)) here_and_above (seen_from (Waits b ∷ below) left acts)
+        by (inl x) =
+            from_rear t fs program p m target frame address (rsp c) (rsp (after_frame c f)) source events here_and_above outer (seen_from (Waits b ∷ below) left acts) (seen_from below None (activations_below b.body acts))
+            (host_step false None (let l = lt in omega arith) elsewhere x.first)
+            (λ then. linear_step then ∙ x.leaves then (out then) ∙ ap (out then) (left_activations m source (p.layout b.body) (rsp c) f.size b.activation acts b.body body.activation))
+            (let r = rises t m c (Framed f) stands in omega arith) more
+        by (inr x) = inl (runs_here rows x (host_step false (Some (x.index, x.row)) (let l = lt in omega arith) elsewhere x.first) (inr a))
+
+  pub unwound_plainly : (acts : List Activation) (is : List StackItem) (items : List Item) (c : Context) (row : ℕ) (left : Option (List Region))
+      → IsStack t m c is → Linked t fs program p m c is items acts → IsAtRow t fs program p row items left → IsWide c.kept → Aimed t fs program p target.depth target.label frame address c is items
+      → UnwoundAs t fs program p m (course (rsp c)) (plain_unwind t frame address c row is) (seen_from items left acts)
+  unwound_plainly acts (Framed f ∷ is) (Waits b ∷ below) c row left s h at wide (inl a) = in_its_frame c f is b below acts row left s.0 s.1 h.0 h.1 h.2 wide at a
+  unwound_plainly acts (Framed f ∷ is) (Waits b ∷ below) c row left s h at wide (inr a) =
+      in_a_frame c f is b below acts row left s.0 s.1 h.0 h.1 h.2 wide at a
+      (unwound_plainly (activations_below b.body acts) is below (after_frame c f) 0 None s.1 h.2 (at_first_row t fs program p below) (wide_after t m c f s.0 wide) a)
+  unwound_plainly acts (Searching r ∷ is) (Searches exception resumption asked rest ∷ below) c row left s h at wide a =
+      from_rear t fs program p m target frame address (rsp c) (rsp (context_of r.saved)) source events _ _ _ _ refl (λ then. refl) (let q = rises t m c (Searching r) s.0 in omega arith)
+      (unwound_plainly acts is below (context_of r.saved) 0 None s.1 h.1 (at_first_row t fs program p below) (wide_saved r h.0.own.fits) a)
+  unwound_plainly acts (Unwinding r ∷ is) (Unwinds rest older ∷ below) c row left s h at wide a =
+      from_rear t fs program p m target frame address (rsp c) (rsp r.walk) source events _ _ _ _ refl (λ then. refl) (let q = rises t m c (Unwinding r) s.0 in omega arith)
+      (unwound_plainly acts is below r.walk r.row (Some rest) s.1 h.1 h.0.row (wide_walk r h.0.own.fits) a)
+  unwound_plainly acts [] items c row left s h at wide a = absurd a
+  unwound_plainly acts (Framed f ∷ is) [] c row left s h at wide a = absurd a
+  unwound_plainly acts (Framed f ∷ is) (Searches exception resumption asked rest ∷ below) c row left s h at wide a = absurd a
+  unwound_plainly acts (Framed f ∷ is) (Unwinds rest older ∷ below) c row left s h at wide a = absurd a
+  unwound_plainly acts (Searching r ∷ is) [] c row left s h at wide a = absurd a
+  unwound_plainly acts (Searching r ∷ is) (Waits b ∷ below) c row left s h at wide a = absurd a
+  unwound_plainly acts (Searching r ∷ is) (Unwinds rest older ∷ below) c row left s h at wide a = absurd a
+  unwound_plainly acts (Unwinding r ∷ is) [] c row left s h at wide a = absurd a
+  unwound_plainly acts (Unwinding r ∷ is) (Waits b ∷ below) c row left s h at wide a = absurd a
+  unwound_plainly acts (Unwinding r ∷ is) (Searches exception resumption asked rest ∷ below) c row left s h at wide a = absurd a
+
+pub unwinding_is_the_lists : UnwindingIsTheLists
+unwinding_is_the_lists t fs program p m c is items acts row left target frame address source events n s at aimed lt =
+    subst (λ (u : UnwindResult). UnwoundAs t fs program p m (record { target = target; frame = frame; address = address; low = rsp c; source = source; events = events }) u (λ then. linear.unwind program then target items left events (store_of source acts)))
+    (sym (unwinding_is_of_the_list t m frame address c row is n s.stack lt))
+    (unwound_plainly t fs program p s.gives m target frame address source events acts is items c row left s.stack s.linked at s.wide aimed)
