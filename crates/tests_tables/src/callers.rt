@@ -34,18 +34,18 @@ const REGIONS: [Region; 3] = [
         execute: false,
     },
     Region {
-        start: CODE,
-        end: CODE + 0x1000,
-        read: true,
-        write: true,
-        execute: true,
-    },
-    Region {
         start: STACK,
         end: STACK + 0x1000,
         read: true,
         write: true,
         execute: false,
+    },
+    Region {
+        start: CODE,
+        end: CODE + 0x1000,
+        read: true,
+        write: true,
+        execute: true,
     },
 ];
 
