@@ -6,20 +6,14 @@ mod compiles;
 #[cfg(test)]
 mod dispatches;
 #[cfg(test)]
-mod handlers;
-#[cfg(test)]
 mod image;
 #[cfg(test)]
 mod linked;
 #[cfg(test)]
 mod loads;
 #[cfg(test)]
-mod meanings;
-#[cfg(test)]
 mod runs;
 #[cfg(test)]
 mod streams;
-#[cfg(test)]
-mod texts;
 #[cfg(test)]
 mod views;
