@@ -1,0 +1,5 @@
+pub mod Code
+pub mod Inner
+pub mod Templates
+pub mod Links
+pub mod Waiting
