@@ -45,13 +45,17 @@ code_split m at is js h =
 
 -- ---- a routine
 
-routine_length : (s : SiteView) (at : ℕ) (r : RoutineView) → IsRoutineNear r → length (routine_bytes s at r) ≡ routine_size r
-unfolding routine_bytes
-routine_length s at r near =
+-- its instructions, and its bytes
+pub code_length : (s : SiteView) (at : ℕ) (r : RoutineView) → IsRoutineNear r → length (spelled (routine_code s at r)) ≡ routine_size r
+code_length s at r near =
     let k = links_of (addresses s at r) in
     let e = entry_sizes at (check_stack_at s.text) r near in
     let b = body_sizes k r.layout (at + entry_size r) r.body.code in
     omega (arith, sizes_spelled (routine_code s at r), sizes_append (entry_code at (check_stack_at s.text) r) (code_from k r.layout (at + entry_size r) r.body.code))
+
+routine_length : (s : SiteView) (at : ℕ) (r : RoutineView) → IsRoutineNear r → length (routine_bytes s at r) ≡ routine_size r
+unfolding routine_bytes
+routine_length s at r near = code_length s at r near
 
 -- a routine in a text that begins at an address: it is near, has room, and its bytes are there
 pub record IsThere (s : SiteView) (text : List ℕ) (begin : ℕ) (x : Placed) : Type 0 where

@@ -1,9 +1,25 @@
 //! What holds of the frames of every program that can be linked.
 
-ghost use Rattle.program_frames.specs.Laws.{BodiesStand};
+ghost use Rattle.program_frames.specs.Laws.{BodiesStand, FunctionsStand, FunctionsKeepTheRules, FramesAreFound, LeavesAreFound, ThunksAreFound, ProbesAreFound};
 
 /// At each instruction of its body a routine's frame stands: the function table has its entry there, and
 /// undoing that entry's one code finds its return address.
 pub fn bodies()
     ensures { BodiesStand }
+{}
+
+/// The routines of a program that have a frame keep the rules by which every frame can be unwound, with
+/// the unwind infos that are written for them.
+pub fn functions()
+    ensures stand { FunctionsStand }
+    ensures right { FunctionsKeepTheRules }
+{}
+
+/// At every instruction of a program, prologues and epilogues included, the caller's stack pointer,
+/// return address and nonvolatile registers are found.
+pub fn frames()
+    ensures functions { FramesAreFound }
+    ensures leaves { LeavesAreFound }
+    ensures thunks { ThunksAreFound }
+    ensures probes { ProbesAreFound }
 {}

@@ -29,6 +29,12 @@ is_there None = false
 pub none_some : {A : Type 0} → {x : A} → None ≡ Some x → ⊥
 none_some e = false≢true (ap is_there e)
 
+-- what holds of each routine holds of those that are placed
+pub placed_has : (P : RoutineView → Type 0) (s : SiteView) (info at : ℕ) (rs : List RoutineView) (index : ℕ) (x : Placed) → AllByRecursion P rs → slice_get (placed_from s info at rs) index ≡ Some x → P x.routine
+placed_has P s info at [] index x all e = absurd (none_some e)
+placed_has P s info at (r ∷ rs) zero x all e = subst (λ (y : Placed). P y.routine) (some_same e) all.0
+placed_has P s info at (r ∷ rs) (suc index) x all e = placed_has P s (info + length (info_bytes s at r)) (at + routine_size r) rs index x all.1 e
+
 module _ (s : SiteView) (rva : ℕ) where
   -- below all of them
   below : (info at : ℕ) (rs : List RoutineView) → rva < at → holding rva (entries_of s (placed_from s info at rs)) ≡ None

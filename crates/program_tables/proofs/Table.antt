@@ -7,8 +7,12 @@ use Rattle.pe_image.specs.Image.{Image, stored}
 use Rattle.eh_tables.specs.declared.range.RuntimeFunction.{RuntimeFunction}
 use Rattle.eh_tables.specs.ReadAgain.{IsStoredAt, IsRange, WrittenEntry, HasScopes, IsWritten, AreInOrder, as_read, ranges_of, has_c_handler, info_written}
 use Rattle.eh_tables.specs.Handler.{is_c_handler}
-use Rattle.eh_tables.specs.Tables.{Entry, tables}
+use Rattle.eh_tables.specs.Answer.{Table}
+use Rattle.eh_tables.specs.Tables.{Entry, Tables, directory, all_entries, or_none, tables}
+use Rattle.eh_tables.specs.Tables as reading
+use Rattle.pe_image.specs.Answer.{◌>>=◌}
 use Rattle.eh_tables.specs.Written.{unwind_bytes, scope_bytes, table_bytes}
+use Rattle.eh_tables.proofs.TablesAgain.{reads_ranges}
 use Rattle.eh_tables.proofs.WholeAgain.{reads_table}
 use Rattle.pe_write.specs.declared.service.Service.TheVariants.{RaiseException, CSpecificHandler, LocalUnwind, Protect, Put}
 use Rattle.pe_write.specs.Program as images
@@ -72,7 +76,7 @@ ranges_same s info at (r ∷ rs) =
 
 -- ---- in their order
 
-framed_room : (r : RoutineView) (f : Frame) → IsRoutineNear r → r.frame ≡ Some f → 0 < routine_size r
+pub framed_room : (r : RoutineView) (f : Frame) → IsRoutineNear r → r.frame ≡ Some f → 0 < routine_size r
 framed_room r f near e =
     let size = subst IsFrameNear e near.frame in
     let few = taking_few f.size size.0 (let l = size.1 in omega arith) in
@@ -304,23 +308,45 @@ module _ (p : LinearProgram) (fits : FitsProgram p) where
   read_all [] = refl
   read_all (x ∷ xs) = map-append (as_read image) (written_if s x x.routine.frame) (written_from s xs) ∙ (λ i. read_if x x.routine.frame i ++ read_all xs i)
 
+  abbrev pub written : List WrittenEntry
+  written = written_from s (placed p)
+
+  same_ranges : ranges_of written ≡ ranges s (infos_begin p) (first p.globals) rs
+  same_ranges = ranges_same s (infos_begin p) (first p.globals) rs
+
+  are_ranges : AllByRecursion IsRange (ranges_of written)
+  are_ranges =
+      let fit = tables_fit p.globals rs (length p.functions) p.main fits.globals near (has_places p fits) in
+      let inside = end_inside in
+      let small = image_small in
+      ranges_small s (infos_begin p) (first p.globals) rs (omega arith) (omega arith)
+
+  aligned : image.exceptions.rva % 4 ≡ 0
+  aligned = omega arith
+
+  as_long : image.exceptions.size ≡ length (table_bytes (ranges_of written))
+  as_long = ap (λ (qs : List RuntimeFunction). length (table_bytes qs)) (sym same_ranges)
+
+  ranges_there : IsStoredAt image image.exceptions.rva (table_bytes (ranges_of written))
+  ranges_there = subst (λ (qs : List RuntimeFunction). IsStoredAt image image.exceptions.rva (table_bytes qs)) (sym same_ranges) (pdata_there program is)
+
+  pub directory_read : directory image ≡ Ok (ranges_of written)
+  directory_read = reads_ranges image (ranges_of written) are_ranges aligned as_long ranges_there
+
   pub whole : HasRegions p → tables image ≡ Ok (entries p)
   whole regions =
-      let ws = written_from s (placed p) in
-      let same = ranges_same s (infos_begin p) (first p.globals) rs in
-      let t = text_is in
-      let end = is.end in
-      let fit = tables_fit p.globals rs (length p.functions) p.main fits.globals near (has_places p fits) in
       let at = infos_are in
-      let small = total_small rs near in
-      reads_table image ws
-          (ranges_small s (infos_begin p) (first p.globals) rs (let z = end_inside in let q = image_small in omega arith) (omega arith))
-          (omega arith)
-          (ap (λ (qs : List RuntimeFunction). length (table_bytes qs)) (sym same))
-          (subst (λ (qs : List RuntimeFunction). IsStoredAt image image.exceptions.rva (table_bytes qs)) (sym same) (pdata_there program is))
+      reads_table image written are_ranges aligned as_long ranges_there
           (all_written (infos_begin p) (first p.globals) rs [] near (routines_have p regions) (omega arith) refl (omega arith) (omega arith))
           (in_order s (infos_begin p) (first p.globals) 0 rs near (omega arith))
       ∙ read_all (placed p)
+
+  -- the tables that are read of the image, and their entries
+  abbrev pub table : Tables
+  table = record { image = image; ranges = ranges_of written }
+
+  pub table_entries : HasRegions p → or_none (all_entries table) ≡ entries p
+  table_entries regions = ap or_none (ap (λ (d : Table (List RuntimeFunction)). d >>= λ qs. reading.entries image 0 0 qs) (sym directory_read) ∙ whole regions)
 
 pub tables_are_read : TablesAreRead
 tables_are_read p fits regions = whole p fits regions
