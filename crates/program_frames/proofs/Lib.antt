@@ -1,3 +1,4 @@
+pub mod Loaded
 pub mod Code
 pub mod Inner
 pub mod Templates

@@ -1,6 +1,6 @@
 -- What holds of the frames of every program that can be linked.
-use Rattle.std.specs.Prelude.{◌≡◌, ℕ, ◌+◌, ◌^◌, ◌<◌, ◌≤◌, List, [], ◌++◌, length, slice_get, Some, None, Ok}
-use Rattle.flat_memory.specs.Memory.{Memory}
+use Rattle.std.specs.Prelude.{◌≡◌, ℕ, false, ◌+◌, ◌^◌, ◌<◌, ◌≤◌, List, [], ◌++◌, length, slice_get, Some, None, Ok}
+use Rattle.flat_memory.specs.Memory.{Memory, may_write}
 use Rattle.x64_machine.specs.declared.context.Context.{Context}
 use Rattle.x64_machine.specs.Contexts.{context_of}
 use Rattle.x64_machine.specs.Effect.{State}
@@ -8,6 +8,7 @@ use Rattle.virtual_unwind.specs.CallerOf.{caller_in}
 use Rattle.virtual_unwind.specs.Contexts.{rsp}
 use Rattle.virtual_unwind.specs.Tail.{FetchedInstr}
 use Rattle.virtual_unwind.specs.Undone.{word}
+use Rattle.host_model.specs.Loading.{mapped}
 use Rattle.host_model.specs.Machine.{functions_in}
 use Rattle.frame_rules.specs.Frame.{left_to}
 use Rattle.frame_rules.specs.Prologue.{items}
@@ -21,12 +22,23 @@ use Rattle.frame_layout.specs.declared.frame.Frame.{Frame}
 use Rattle.frame_layout.specs.Layout.{taking_size}
 use Rattle.program_link.specs.Fits.{FitsProgram}
 use Rattle.program_link.specs.Text.{thunk_at, check_stack_at}
-use Rattle.program_link.specs.Linked.{linked}
+use Rattle.program_link.specs.Linked.{text_begin, linked}
 use Rattle.program_tables.specs.Placed.{Placed, end_of, site_of, placed}
 use Rattle.program_tables.specs.Ranges.{HasRegions}
 use Rattle.program_tables.specs.Entries.{entry_of}
 use Rattle.program_frames.specs.Standing.{image_base, HasText, IsInBody}
 use Rattle.program_frames.specs.Functions.{function_of, leaf, thunk_of, probe}
+
+-- ---- the text
+
+-- it is there when the image is loaded, and may not be written
+abbrev pub ImagesHaveText : Type 0
+ImagesHaveText = (p : LinearProgram) → FitsProgram p → HasText (mapped (image_of (linked p))) p
+
+abbrev pub TextsAreFixed : Type 0
+TextsAreFixed =
+    (p : LinearProgram) (k : ℕ) → FitsProgram p → k < length (linked p).text
+    → may_write (mapped (image_of (linked p))) (image_base + text_begin p.globals + k) ≡ false
 
 -- ---- bodies that wait
 

@@ -1,6 +1,12 @@
 //! What holds of the frames of every program that can be linked.
 
-ghost use Rattle.program_frames.specs.Laws.{BodiesStand, FunctionsStand, FunctionsKeepTheRules, FramesAreFound, LeavesAreFound, ThunksAreFound, ProbesAreFound};
+ghost use Rattle.program_frames.specs.Laws.{ImagesHaveText, TextsAreFixed, BodiesStand, FunctionsStand, FunctionsKeepTheRules, FramesAreFound, LeavesAreFound, ThunksAreFound, ProbesAreFound};
+
+/// The text of a program is in memory when its image is loaded, and may not be written.
+pub fn text()
+    ensures there { ImagesHaveText }
+    ensures fixed { TextsAreFixed }
+{}
 
 /// At each instruction of its body a routine's frame stands: the function table has its entry there, and
 /// undoing that entry's one code finds its return address.

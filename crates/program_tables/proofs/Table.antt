@@ -184,7 +184,7 @@ module _ (p : LinearProgram) (fits : FitsProgram p) where
 
   -- ---- its sizes
 
-  text_is : length program.text ≡ 51 + total rs
+  pub text_is : length program.text ≡ 51 + total rs
   text_is = text_length s rs near
 
   pub rdata_is : rdata_at (sizes_of program) ≡ s.rdata
