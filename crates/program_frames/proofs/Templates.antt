@@ -4,6 +4,7 @@ use Rattle.std.proofs.lemmas.Bool.{cases_lt}
 use Rattle.seh_num.specs.declared.width.Width.TheVariants.{W32, W64}
 use Rattle.x64_instr.specs.declared.register.Reg.TheVariants.{Rax, Rcx}
 use Rattle.x64_instr.specs.declared.instruction.Instr.{Instr}
+use Rattle.x64_encode.specs.Chosen.{modrm, opcode_register}
 use Rattle.c_operations.specs.declared.built_in.BuiltIn.{BuiltIn}
 use Rattle.c_operations.specs.declared.field.Field.{Field}
 use Rattle.c_operations.specs.declared.field.Field.TheVariants.{ExceptionCode, ExceptionFlags, NumberParameters, ExceptionInformation}
@@ -15,7 +16,7 @@ use Rattle.template_code.specs.declared.layout.Layout.{Layout}
 use Rattle.template_code.specs.Bytes.{size, sizes}
 use Rattle.template_code.specs.Operations.{before, work}
 use Rattle.template_code.specs.Slots.{temporary_at, fetch, keep, operands_code, finish_code}
-use Rattle.template_code.specs.Jumps.{compare_zero, jump_equal, test_code}
+use Rattle.template_code.specs.Jumps.{call, compare_zero, jump_equal, test_code}
 use Rattle.template_code.specs.Calls.{arguments_code, begin_call, call_code, passing_code, finally_arguments, field_load}
 use Rattle.template_code.specs.Template.{Links, template}
 use Rattle.x64_code.specs.Near.{IsSlotNear, AreArgumentsNear, IsFieldNear, IsInstructionNear}
@@ -56,7 +57,7 @@ call_inner : (y : Layout) (first at to : ℕ) → temporary_at y (first + 8) < 2
 call_inner y first at to lt here near =
     let few = arguments_small y first in
     inner_both (begin_call y first at to) (keep y (Temporary first))
-        (inner_both (arguments_code y first) _ (arguments_inner y first lt) ((near_signed (at + sizes (arguments_code y first) + 5) to (omega arith) near, (λ b. refl), (λ o. refl)), tt))
+        (inner_both (arguments_code y first) (call (at + sizes (arguments_code y first) + 5) to ∷ []) (arguments_inner y first lt) ((near_signed (at + sizes (arguments_code y first) + 5) to (omega arith) near, (λ b. refl), (λ o. refl)), tt))
         (keep_inner y (Temporary first) (omega arith))
 
 -- ---- what a filter reads
@@ -69,7 +70,7 @@ field_inner (ExceptionInformation k) near = ((signed (32 + 8 * k) (omega arith),
 
 -- before a `__finally` block is called
 finally_near : (at : ℕ) → at + 256 < 2 ^ 31 → at + sizes finally_arguments + 5 < 2 ^ 31
-unfolding size
+unfolding size modrm opcode_register
 finally_near at lt = omega arith
 
 -- ---- all
@@ -77,7 +78,7 @@ finally_near at lt = omega arith
 pub template_inner : (k : Links) (y : Layout) (at : ℕ) (i : Instruction) → AreLinksNear k → IsInstructionNear y i → at + 256 < 2 ^ 31 → (IsReturn i → ⊥) → AllInner (template k y at i)
 template_inner k y at (instructions.Compute to o first second) links near here goes =
     inner_both (operands_code y o first second) (finish_code y o to)
-        (inner_both (fetch y Rax first) _ (fetch_inner y first near.1) (inner_both (fetch y Rcx second) (before o) (fetch_second y second near.2) (before_inner o)))
+        (inner_both (fetch y Rax first) (fetch y Rcx second ++ before o) (fetch_inner y first near.1) (inner_both (fetch y Rcx second) (before o) (fetch_second y second near.2) (before_inner o)))
         (inner_both (work o) (keep y to) (work_inner o) (keep_inner y to near.0))
 template_inner k y at (instructions.Information to field) links near here goes =
     let load = field_inner field near.2 in

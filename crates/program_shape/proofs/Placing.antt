@@ -137,18 +137,19 @@ module _ (p : LinearProgram) (far : AreFar (site_of p).funclets) where
           (routine_rows p far r.layout (at + entry_size r) r.body.code (at + routine_size r) (omega arith) (omega arith) r.body.regions)
           (all_rows (info + length (info_bytes s at r)) (at + routine_size r) rs (omega arith) bare.1)
 
+  order_less : (a b : ℕ) (es : List Entry) → b ≤ a → AreInOrder a es → AreInOrder b es
+  order_less a b [] le h = tt
+  order_less a b (e ∷ es) le h = let l = h.0 in (omega arith, h.1, h.2)
+
+  order_if : (x : Placed) (o : Option Frame) (es : List Entry) (last : ℕ) → last ≤ x.begin → ((f : Frame) → o ≡ Some f → 0 < routine_size x.routine) → AreInOrder (end_of x) es → AreInOrder last (entry_if s x o ++ es)
+  order_if x None es last le some h = order_less (end_of x) last es (omega arith) h
+  order_if x (Some f) es last le some h = let l = some f refl in (le, omega arith, h)
+
   pub in_order : (info at last : ℕ) (rs : List RoutineView) → AllByRecursion IsRoutineNear rs → last ≤ at → AreInOrder last (entries_of s (placed_from s info at rs))
   in_order info at last [] near le = tt
-  in_order info at last (r ∷ rs) near le = go r.frame refl
-    where
-      x : Placed
-      x = record { routine = r; begin = at; info = info }
-
-      go : (o : Option Frame) → r.frame ≡ o → AreInOrder last (entry_if s x o ++ entries_of s (placed_from s (info + length (info_bytes s at r)) (at + routine_size r) rs))
-      go None e = in_order (info + length (info_bytes s at r)) (at + routine_size r) last rs near.1 (omega arith)
-      go (Some f) e =
-          let some = framed_room r f near.0 e in
-          (le, omega arith, in_order (info + length (info_bytes s at r)) (at + routine_size r) (at + routine_size r) rs near.1 (omega arith))
+  in_order info at last (r ∷ rs) near le =
+      let next = info + length (info_bytes s at r) in
+      order_if (record { routine = r; begin = at; info = info }) r.frame (entries_of s (placed_from s next (at + routine_size r) rs)) last le (λ f e. framed_room r f near.0 e) (in_order next (at + routine_size r) (at + routine_size r) rs near.1 (omega arith))
 
 -- ---- where routines begin
 

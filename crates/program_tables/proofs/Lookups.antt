@@ -15,14 +15,14 @@ use Rattle.program_tables.specs.Placed.{Placed, end_of, placed_from, site_of, in
 use Rattle.program_tables.specs.Entries.{entry_of, entry_if, entries_of, entries}
 use Rattle.program_tables.specs.Laws.{EntriesAreHeld, LeavesAreHeldByNone, ThunksAreHeldByNone}
 
-or_else : {A : Type 0} → A → Option A → A
+abbrev or_else : {A : Type 0} → A → Option A → A
 or_else d (Some x) = x
 or_else d None = d
 
 pub some_same : {A : Type 0} → {x y : A} → Some x ≡ Some y → x ≡ y
 some_same {x = x} e = ap (or_else x) e
 
-is_there : {A : Type 0} → Option A → Bool
+abbrev is_there : {A : Type 0} → Option A → Bool
 is_there (Some x) = true
 is_there None = false
 
@@ -37,19 +37,15 @@ placed_has P s info at (r ∷ rs) (suc index) x all e = placed_has P s (info + l
 
 module _ (s : SiteView) (rva : ℕ) where
   -- below all of them
+  below_if : (x : Placed) (o : Option Frame) (es : List Entry) → rva < x.begin → holding rva es ≡ None → holding rva (entry_if s x o ++ es) ≡ None
+  below_if x None es lt more = more
+  below_if x (Some f) es lt more = ap (entry_or (holding rva es) (entry_of s x f)) (and_left (leb x.begin rva) (ltb rva (end_of x)) (lt-leb x.begin rva lt)) ∙ more
+
   below : (info at : ℕ) (rs : List RoutineView) → rva < at → holding rva (entries_of s (placed_from s info at rs)) ≡ None
   below info at [] lt = refl
-  below info at (r ∷ rs) lt = go r.frame
-    where
-      x : Placed
-      x = record { routine = r; begin = at; info = info }
-
-      more : holding rva (entries_of s (placed_from s (info + length (info_bytes s at r)) (at + routine_size r) rs)) ≡ None
-      more = below (info + length (info_bytes s at r)) (at + routine_size r) rs (omega arith)
-
-      go : (o : Option Frame) → holding rva (entry_if s x o ++ entries_of s (placed_from s (info + length (info_bytes s at r)) (at + routine_size r) rs)) ≡ None
-      go None = more
-      go (Some f) = ap (entry_or _ (entry_of s x f)) (and_left (leb at rva) (ltb rva (at + routine_size r)) (lt-leb at rva lt)) ∙ more
+  below info at (r ∷ rs) lt =
+      let next = info + length (info_bytes s at r) in
+      below_if (record { routine = r; begin = at; info = info }) r.frame (entries_of s (placed_from s next (at + routine_size r) rs)) lt (below next (at + routine_size r) rs (omega arith))
 
   -- past an entry
   past : (x : Placed) (o : Option Frame) (es : List Entry) → end_of x ≤ rva → holding rva (entry_if s x o ++ es) ≡ holding rva es

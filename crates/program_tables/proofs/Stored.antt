@@ -1,7 +1,7 @@
 -- What a written image stores of a program: pieces of its text, its unwind infos and its function table.
 use Rattle.std.proofs.Common.{◌≡◌, ℕ, ◌+◌, ◌-◌, ◌%◌, ◌^◌, ◌<◌, ◌≤◌, true, ltb, leb, List, [], ◌∷◌, ◌++◌, length, take, drop, Option, Some, None, refl, sym, ap, ◌∙◌, arith, length-append}
 use Rattle.std.proofs.lemmas.Bool.{and_from, eq-eqb, lt-ltb, le-leb}
-use Rattle.std.proofs.lemmas.List.{drop_at}
+use Rattle.std.proofs.lemmas.List.{drop_at, append-nil}
 use Rattle.std.proofs.Math.Seq.{take-append_seam}
 use Rattle.pe_image.specs.Image.{Section, stores_byte, section_or, section_at, stored_in, only_if, whole, stored}
 use Rattle.pe_image.proofs.Stored.{above_holds_none}
@@ -75,9 +75,5 @@ module _ (p : Program) (fits : IsProgram p) where
           let zero-less : at + 0 ≡ at = omega arith in
           let l = ap length e in
           let h = pdata_stands p fits 0 (omega arith) in
-          let all : p.pdata ≡ [] ++ ((b ∷ bytes) ++ []) = e ∙ sym (nothing-more (b ∷ bytes)) in
+          let all : p.pdata ≡ [] ++ ((b ∷ bytes) ++ []) = e ∙ sym (append-nil (b ∷ bytes)) in
           there (sections_of p) at 0 p.pdata [] (b ∷ bytes) [] (ap (λ n. stored_in n (section_at n (sections_of p))) (sym zero-less) ∙ h) all refl
-
-      nothing-more : (xs : List ℕ) → xs ++ [] ≡ xs
-      nothing-more [] = refl
-      nothing-more (x ∷ xs) = ap (λ t. x ∷ t) (nothing-more xs)

@@ -35,7 +35,7 @@ use Rattle.program_link.specs.Text.{SiteView, routine_size, entry_size, own_addr
 use Rattle.program_link.specs.Tables.{trailer, scope_record, scope_records, scope_table, info_if, info_bytes_of, info_bytes, infos, infos_room, range_if, range_of, ranges}
 use Rattle.program_link.specs.Linked.{data_size, first, total, front_sizes, site, linked}
 use Rattle.program_link.proofs.Bounds.{text_length, total_small, bounds_near, infos_length}
-use Rattle.program_link.proofs.Images.{is_program, tables_fit, has_places, no_routine}
+use Rattle.program_link.proofs.Images.{is_program, tables_fit, rdata_fits, has_places, no_routine}
 use Rattle.program_link.proofs.Infos.{info_small}
 use Rattle.program_link.proofs.Nearness.{routines_near}
 use Rattle.program_link.proofs.Entries.{body_small, entry_small, routine_small}
@@ -84,32 +84,30 @@ framed_room r f near e =
     let l = entry_least r f near e size.0 in
     omega arith
 
+order_less : (a b : ℕ) (ws : List WrittenEntry) → b ≤ a → AreInOrder a ws → AreInOrder b ws
+order_less a b [] le h = tt
+order_less a b (w ∷ ws) le h = let l = h.0 in (omega arith, h.1, h.2)
+
+order_if : (s : SiteView) (x : Placed) (o : Option Frame) (ws : List WrittenEntry) (last : ℕ) → last ≤ x.begin → ((f : Frame) → o ≡ Some f → 0 < routine_size x.routine) → AreInOrder (end_of x) ws → AreInOrder last (written_if s x o ++ ws)
+order_if s x None ws last le some h = order_less (end_of x) last ws (omega arith) h
+order_if s x (Some f) ws last le some h = let l = some f refl in (le, omega arith, h)
+
 in_order : (s : SiteView) (info at last : ℕ) (rs : List RoutineView) → AllByRecursion IsRoutineNear rs → last ≤ at → AreInOrder last (written_from s (placed_from s info at rs))
 in_order s info at last [] near le = tt
-in_order s info at last (r ∷ rs) near le = go r.frame refl
-  where
-    x : Placed
-    x = record { routine = r; begin = at; info = info }
+in_order s info at last (r ∷ rs) near le =
+    let next = info + length (info_bytes s at r) in
+    order_if s (record { routine = r; begin = at; info = info }) r.frame (written_from s (placed_from s next (at + routine_size r) rs)) last le (λ f e. framed_room r f near.0 e) (in_order s next (at + routine_size r) (at + routine_size r) rs near.1 (omega arith))
 
-    go : (o : Option Frame) → r.frame ≡ o → AreInOrder last (written_if s x o ++ written_from s (placed_from s (info + length (info_bytes s at r)) (at + routine_size r) rs))
-    go None e = in_order s (info + length (info_bytes s at r)) (at + routine_size r) last rs near.1 (omega arith)
-    go (Some f) e =
-        let some = framed_room r f near.0 e in
-        (le, omega arith, in_order s (info + length (info_bytes s at r)) (at + routine_size r) (at + routine_size r) rs near.1 (omega arith))
+small_if : (s : SiteView) (x : Placed) (o : Option Frame) (ws : List WrittenEntry) → end_of x < 2 ^ 32 → x.info < 2 ^ 32 → AllByRecursion IsRange (ranges_of ws) → AllByRecursion IsRange (ranges_of (written_if s x o ++ ws))
+small_if s x None ws lt lt' more = more
+small_if s x (Some f) ws lt lt' more = ((omega arith, lt, lt'), more)
 
 ranges_small : (s : SiteView) (info at : ℕ) (rs : List RoutineView) → at + total rs < 2 ^ 32 → info + infos_room rs < 2 ^ 32 → AllByRecursion IsRange (ranges_of (written_from s (placed_from s info at rs)))
 ranges_small s info at [] lt lt' = tt
-ranges_small s info at (r ∷ rs) lt lt' = go r.frame
-  where
-    x : Placed
-    x = record { routine = r; begin = at; info = info }
-
-    more : AllByRecursion IsRange (ranges_of (written_from s (placed_from s (info + length (info_bytes s at r)) (at + routine_size r) rs)))
-    more = let small = info_small s at r in ranges_small s (info + length (info_bytes s at r)) (at + routine_size r) rs (omega arith) (omega arith)
-
-    go : (o : Option Frame) → AllByRecursion IsRange (ranges_of (written_if s x o ++ written_from s (placed_from s (info + length (info_bytes s at r)) (at + routine_size r) rs)))
-    go None = more
-    go (Some f) = ((omega arith, omega arith, omega arith), more)
+ranges_small s info at (r ∷ rs) lt lt' =
+    let small = info_small s at r in
+    let next = info + length (info_bytes s at r) in
+    small_if s (record { routine = r; begin = at; info = info }) r.frame (written_from s (placed_from s next (at + routine_size r) rs)) (omega arith) (omega arith) (ranges_small s next (at + routine_size r) rs (omega arith) (omega arith))
 
 -- ---- regions of routines
 
@@ -218,8 +216,7 @@ module _ (p : LinearProgram) (fits : FitsProgram p) where
   c_handler =
       let r = rdata_at (sizes_of program) in
       let t = text_is in
-      let small = image_small in
-      let end = is.end in
+      let fit = rdata_fits p.globals rs (length p.functions) p.main fits.globals near (has_places p fits) in
       let at = thunk_at s.text CSpecificHandler in
       handler_is_c image at r (omega arith) (omega arith) (handler_there ∙ ap (λ (n : ℕ). Some (chosen (thunk (distance (at + 6) (n + 96))))) (sym rdata_is)) (listed program is)
 
@@ -275,26 +272,21 @@ module _ (p : LinearProgram) (fits : FitsProgram p) where
         stored = subst (HasScopes image (written_of s (record { routine = r; begin = at; info = info }) f)) (sym (handled image f h r.body.regions c_handler)) by;
       }
 
+  written_if_so : (x : Placed) (o : Option Frame) (ws : List WrittenEntry) → ((f : Frame) → o ≡ Some f → IsWritten image (written_of s x f)) → AllByRecursion (IsWritten image) ws → AllByRecursion (IsWritten image) (written_if s x o ++ ws)
+  written_if_so x None ws own more = more
+  written_if_so x (Some f) ws own more = (own f refl, more)
+
   all_written : (info at : ℕ) (qs : List RoutineView) (front : List ℕ) → AllByRecursion IsRoutineNear qs → AllByRecursion RoutineHasRanges qs → at + total qs ≤ first p.globals + total rs
       → program.xdata ≡ front ++ infos s at qs → info ≡ xdata_at (sizes_of program) + length front → info % 4 ≡ 0
       → AllByRecursion (IsWritten image) (written_from s (placed_from s info at qs))
   all_written info at [] front close ranges le e here four = tt
-  all_written info at (r ∷ qs) front close ranges le e here four = go r.frame refl
-    where
-      bytes : List ℕ
-      bytes = info_bytes s at r
-
-      x : Placed
-      x = record { routine = r; begin = at; info = info }
-
-      more : AllByRecursion (IsWritten image) (written_from s (placed_from s (info + length bytes) (at + routine_size r) qs))
-      more =
-          let aligned = info_aligned s at r in
-          all_written (info + length bytes) (at + routine_size r) qs (front ++ bytes) close.1 ranges.1 (omega arith) (e ∙ sym (append_assoc front bytes (infos s (at + routine_size r) qs))) (omega (arith, length-append front bytes)) (omega arith)
-
-      go : (o : Option Frame) → r.frame ≡ o → AllByRecursion (IsWritten image) (written_if s x o ++ written_from s (placed_from s (info + length bytes) (at + routine_size r) qs))
-      go None same = more
-      go (Some f) same = (entry_is info at r f front (infos s (at + routine_size r) qs) close.0 ranges.0 same (omega arith) (e ∙ ap (λ t. front ++ (t ++ infos s (at + routine_size r) qs)) (bytes_of s at r f same)) here four, more)
+  all_written info at (r ∷ qs) front close ranges le e here four =
+      let bytes = info_bytes s at r in
+      let more = infos s (at + routine_size r) qs in
+      let aligned = info_aligned s at r in
+      let own : (f : Frame) → r.frame ≡ Some f → IsWritten image (written_of s (record { routine = r; begin = at; info = info }) f) = λ f same. entry_is info at r f front more close.0 ranges.0 same (omega arith) (e ∙ ap (λ t. front ++ (t ++ more)) (bytes_of s at r f same)) here four in
+      written_if_so (record { routine = r; begin = at; info = info }) r.frame (written_from s (placed_from s (info + length bytes) (at + routine_size r) qs)) own
+          (all_written (info + length bytes) (at + routine_size r) qs (front ++ bytes) close.1 ranges.1 (omega arith) (e ∙ sym (append_assoc front bytes more)) (omega (arith, length-append front bytes)) (omega arith))
 
   -- ---- what is read
 
@@ -339,7 +331,7 @@ module _ (p : LinearProgram) (fits : FitsProgram p) where
       reads_table image written are_ranges aligned as_long ranges_there
           (all_written (infos_begin p) (first p.globals) rs [] near (routines_have p regions) (omega arith) refl (omega arith) (omega arith))
           (in_order s (infos_begin p) (first p.globals) 0 rs near (omega arith))
-      ∙ read_all (placed p)
+      ∙ ap (λ (es : List Entry). let t : Table (List Entry) = Ok es in t) (read_all (placed p))
 
   -- the tables that are read of the image, and their entries
   abbrev pub table : Tables
