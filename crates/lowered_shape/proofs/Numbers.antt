@@ -1,7 +1,7 @@
 -- The filters and `__finally` blocks of a sound program are numbered, so that each is named once.
 use Rattle.std.proofs.Common.{◌≡◌, ◌≢◌, ℕ, suc, ◌+◌, ◌-◌, ◌<◌, ◌≤◌, ◌==◌, Bool, true, false, cond, eqb, ltb, List, [], ◌∷◌, ◌++◌, length, map, Option, None, refl, sym, ap, subst, ◌∙◌, arith, inl, inr, length-append, append_assoc}
 use Rattle.std.specs.Prelude.{◌&&◌, nat_le, slice_get}
-use Rattle.std.specs.List.{AllByRecursion, IsDistinct}
+use Rattle.std.specs.List.{AllByRecursion}
 use Rattle.std.proofs.lemmas.Bool.{and_parts, ne_eqb, eq-eqb, eqb-true, ltb-true, lt-ltb, cases_eq, false≢true}
 use Rattle.c_checked.specs.Statement.{Filter, Always, Funclet, Statement, Declare, Block, Evaluate, If, IfElse, For, DoWhile, Return, Break, Continue, Leave, TryExcept, TryFinally, Statements, Empty, Then}
 use Rattle.c_checked.specs.Program.{Function, Program}
@@ -16,7 +16,7 @@ use Rattle.seh_ir.specs.declared.funclets.Owner.{Owner}
 use Rattle.seh_ir.specs.Scope.{except_names, filter_names, finally_names}
 use Rattle.seh_ir.specs.Funclets.{filter_funclets, finally_funclet, in_funclet, statement_funclets, statements_funclets}
 use Rattle.seh_ir.specs.Lowered.{all_locals, scope_of, lowered_funclets, all_funclets, lowered}
-use Rattle.program_shape.specs.Rows.{funclet_in, named, regions, NamesFunclets}
+use Rattle.program_shape.specs.Rows.{AreDifferent, funclet_in, named, regions, NamesFunclets}
 use Rattle.lowered_shape.specs.Tries.{Try, Accepts, Asks, Finishes, with_filter, tries_in, tries, tries_of, all_tries}
 use Rattle.lowered_shape.specs.Laws.{LoweredNamesFunclets}
 use Rattle.lowered_shape.proofs.Weights.{weight, total, try_total, program_total}
@@ -215,7 +215,7 @@ all_differ j (x ∷ xs) e = (go (j == x) refl, all_differ j xs (omega arith))
     go false q = refl
     go true q = let one : is j x ≡ 1 = ap (λ (c : Bool). cond c 1 0) q in absurd (omega arith)
 
-all_distinct : (xs : List ℕ) → ((j : ℕ) → sum_of (is j) xs ≤ 1) → IsDistinct ◌==◌ xs
+all_distinct : (xs : List ℕ) → ((j : ℕ) → sum_of (is j) xs ≤ 1) → AreDifferent xs
 all_distinct [] h = tt
 all_distinct (x ∷ xs) h =
     let one : is x x ≡ 1 = ap (λ (c : Bool). cond c 1 0) (eq-eqb x x refl) in

@@ -1,13 +1,13 @@
 -- What the linear code of every checked program is like, and so the function table of its image.
 use Rattle.std.specs.Prelude.{◌≡◌, ◌==◌, length}
-use Rattle.std.specs.List.{count_by, IsDistinct}
+use Rattle.std.specs.List.{count_by}
 use Rattle.c_checked.specs.Program.{Program}
 use Rattle.c_checked.specs.Sound.{IsSound}
 use Rattle.seh_ir.specs.Lowered.{lowered}
 use Rattle.program_link.specs.Fits.{FitsProgram}
 use Rattle.program_tables.specs.Ranges.{HasRegions}
 use Rattle.program_tables.specs.Entries.{entries}
-use Rattle.program_shape.specs.Rows.{rows_of, is_finally_row, is_always_row, handlers, NamesFunclets}
+use Rattle.program_shape.specs.Rows.{AreDifferent, rows_of, is_finally_row, is_always_row, handlers, NamesFunclets}
 use Rattle.program_shape.specs.Laws.{HasShape}
 use Rattle.lowered_shape.specs.Tries.{all_tries, finishes, accepts}
 
@@ -25,7 +25,7 @@ pub record IsShaped (p : Program) : Type 0 where
   pub tries : length (rows_of (entries (lowered p))) ≡ length (all_tries p)
   pub finally : count_by is_finally_row (rows_of (entries (lowered p))) ≡ count_by finishes (all_tries p)
   pub always : count_by is_always_row (rows_of (entries (lowered p))) ≡ count_by accepts (all_tries p)
-  pub handlers : IsDistinct ◌==◌ (handlers (rows_of (entries (lowered p))))
+  pub handlers : AreDifferent (handlers (rows_of (entries (lowered p))))
 
 abbrev pub LoweredIsShaped : Type 0
 LoweredIsShaped = (p : Program) → IsSound p → FitsProgram (lowered p) → IsShaped p

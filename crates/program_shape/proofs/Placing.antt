@@ -66,7 +66,7 @@ none_left : (rs : List Region) → (length rs == 0) ≡ true → rs ≡ []
 none_left [] e = refl
 none_left (r ∷ rs) e = let q = eqb-true (length (r ∷ rs)) 0 e in absurd (omega arith)
 
-is_some : {A : Type 0} → Option A → ℕ
+abbrev is_some : {A : Type 0} → Option A → ℕ
 is_some (Some x) = 1
 is_some None = 0
 

@@ -1,7 +1,7 @@
 -- The shape of the function table of every program.
 use Rattle.std.proofs.Common.{◌≡◌, ◌≢◌, ℕ, zero, suc, ◌+◌, ◌-◌, ◌%◌, ◌<◌, ◌≤◌, ◌==◌, Bool, true, false, eqb, List, [], ◌∷◌, ◌++◌, length, get_or, drop, map, Option, Some, None, refl, sym, ap, subst, ◌∙◌, arith, inl, inr, length-append, get_or-drop}
 use Rattle.std.specs.Prelude.{slice_get, ◌&&◌, nat_lt}
-use Rattle.std.specs.List.{AllByRecursion, IsDistinct}
+use Rattle.std.specs.List.{AllByRecursion}
 use Rattle.std.proofs.lemmas.Bool.{ne_eqb, eqb-true, eq-eqb, false≢true, cases_lt, cases_eq}
 use Rattle.std.proofs.lemmas.List.{length-map, get_or-map}
 use Rattle.linear_code.specs.declared.program.Region.{Region}
@@ -23,7 +23,7 @@ use Rattle.program_tables.specs.Placed.{Placed, end_of, site_of, infos_begin, pl
 use Rattle.program_tables.specs.Entries.{entry_of, entries}
 use Rattle.program_tables.proofs.Lookups.{placed_has, entries_are_held}
 use Rattle.program_tables.proofs.Table.{framed_room}
-use Rattle.program_shape.specs.Rows.{rows_of, handlers, regions, named, NamesFunclets, funclet_begin, AreRows}
+use Rattle.program_shape.specs.Rows.{AreDifferent, rows_of, handlers, regions, named, NamesFunclets, funclet_begin, AreRows}
 use Rattle.program_shape.specs.Laws.{BeginsEntry, HasShape, TablesHaveShape, HandlersDiffer, IsFlagged, EntriesAreFlagged, FramesAreSmall}
 use Rattle.program_shape.proofs.Rows.{as_many, finally_count, always_count, handlers_are, searched_by, unwound_by}
 use Rattle.program_shape.proofs.Placing.{AreFar, routines_bare, bodies, routines_regions, all_rows, in_order, bounds_rise, IsPlaced, is_placed}
@@ -138,7 +138,7 @@ module _ (p : LinearProgram) (fits : FitsProgram p) where
   none_same j (k ∷ ks) lt all differ =
       (ne_eqb (funclet_begin p j) (funclet_begin p k) (apart j k lt all.0 (λ e. false≢true (sym differ.0 ∙ eq-eqb j k e))), none_same j ks lt all.1 differ.1)
 
-  pub distinct : (ks : List ℕ) → AllByRecursion (λ k. k < length p.funclets) ks → IsDistinct ◌==◌ ks → IsDistinct ◌==◌ (map (funclet_begin p) ks)
+  pub distinct : (ks : List ℕ) → AllByRecursion (λ k. k < length p.funclets) ks → AreDifferent ks → AreDifferent (map (funclet_begin p) ks)
   distinct [] all once = tt
   distinct (k ∷ ks) all once = (none_same k ks all.0 all.1 once.0, distinct ks all.1 once.1)
 
@@ -146,7 +146,7 @@ pub tables_have_shape : TablesHaveShape
 tables_have_shape p fits = shape p fits
 
 pub handlers_differ : HandlersDiffer
-handlers_differ p fits names = subst (IsDistinct ◌==◌) (sym (shape p fits).handlers) (distinct p fits (named (regions p)) names.there names.once)
+handlers_differ p fits names = subst (AreDifferent) (sym (shape p fits).handlers) (distinct p fits (named (regions p)) names.there names.once)
 
 -- ---- flags
 

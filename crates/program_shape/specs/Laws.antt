@@ -1,6 +1,6 @@
 -- What the function table of every program is like.
 use Rattle.std.specs.Prelude.{◌≡◌, ℕ, ◌+◌, ◌<◌, ◌≤◌, ◌==◌, List, length, map, slice_get, Some}
-use Rattle.std.specs.List.{count_by, IsDistinct}
+use Rattle.std.specs.List.{count_by}
 use Rattle.eh_tables.specs.Tables.{Entry, holding}
 use Rattle.seh_walk.specs.Asked.{is_searched, is_unwound}
 use Rattle.linear_code.specs.Program.{LinearProgram}
@@ -10,7 +10,7 @@ use Rattle.program_link.specs.Tables.{is_finally, has_except, has_finally}
 use Rattle.program_link.specs.Text.{SiteView}
 use Rattle.program_tables.specs.Placed.{Placed, placed}
 use Rattle.program_tables.specs.Entries.{entry_of, entries}
-use Rattle.program_shape.specs.Rows.{rows_of, is_finally_row, is_always_row, handlers, AreInOrder, regions, is_always, named, NamesFunclets, funclet_begin, AreRows}
+use Rattle.program_shape.specs.Rows.{AreDifferent, rows_of, is_finally_row, is_always_row, handlers, AreInOrder, regions, is_always, named, NamesFunclets, funclet_begin, AreRows}
 
 -- ---- its shape
 
@@ -36,7 +36,7 @@ TablesHaveShape = (p : LinearProgram) → FitsProgram p → HasShape p
 
 -- where the regions name different funclets, the handler addresses are different
 abbrev pub HandlersDiffer : Type 0
-HandlersDiffer = (p : LinearProgram) → FitsProgram p → NamesFunclets p → IsDistinct ◌==◌ (handlers (rows_of (entries p)))
+HandlersDiffer = (p : LinearProgram) → FitsProgram p → NamesFunclets p → AreDifferent (handlers (rows_of (entries p)))
 
 -- ---- the flags of its unwind infos
 

@@ -1,6 +1,6 @@
 -- The scope records of a whole function table, against the regions of a program.
 use Rattle.std.specs.Prelude.{◌≡◌, ℕ, ◌+◌, ◌<◌, ◌≤◌, ◌==◌, Bool, true, false, if◌then◌else◌, List, [], ◌∷◌, ◌++◌, length, map}
-use Rattle.std.specs.List.{AllByRecursion, IsDistinct}
+use Rattle.std.specs.List.{AllByRecursion}
 use Rattle.eh_tables.specs.declared.scope.ScopeRecord.{ScopeRecord}
 use Rattle.eh_tables.specs.Tables.{Entry}
 use Rattle.linear_code.specs.declared.program.Region.{Region}
@@ -36,6 +36,11 @@ abbrev pub AreInOrder : ℕ → List Entry → Type 0
 AreInOrder last [] = Unit {0}
 AreInOrder last (e ∷ es) = (last ≤ e.range.begin) × (e.range.begin < e.range.end) × AreInOrder e.range.end es
 
+-- no number is there twice
+abbrev pub AreDifferent : List ℕ → Type 0
+AreDifferent [] = Unit {0}
+AreDifferent (x ∷ xs) = AllByRecursion (λ y. (x == y) ≡ false) xs × AreDifferent xs
+
 -- ---- a program
 
 abbrev pub regions_in : List LinearBody → List Region
@@ -63,7 +68,7 @@ named (r ∷ rs) = funclet_in r.kind ++ named rs
 -- each is there, and is named once
 pub record NamesFunclets (p : LinearProgram) : Type 0 where
   pub there : AllByRecursion (λ k. k < length p.funclets) (named (regions p))
-  pub once : IsDistinct ◌==◌ (named (regions p))
+  pub once : AreDifferent (named (regions p))
 
 -- ---- one against the other
 
