@@ -52,8 +52,8 @@ mutual
       let otherwise = begin + statement_size s + 1 in
       let end = at + statement_size (IfElse c s t) in
       both at end (statement_regions s begin) (statement_regions t otherwise)
-          (wider begin (begin + statement_size s) at end (statement_regions s begin) (omega arith) (omega arith) (statement_within s begin))
-          (wider otherwise (otherwise + statement_size t) at end (statement_regions t otherwise) (omega arith) (omega arith) (statement_within t otherwise))
+      (wider begin (begin + statement_size s) at end (statement_regions s begin) (omega arith) (omega arith) (statement_within s begin))
+      (wider otherwise (otherwise + statement_size t) at end (statement_regions t otherwise) (omega arith) (omega arith) (statement_within t otherwise))
   statement_within (For ds first c next s) at =
       let begin = at + all_declared_size ds + discarded_size first + condition_size c in
       wider begin (begin + statement_size s) at (at + statement_size (For ds first c next s)) (statement_regions s begin) (omega arith) (omega arith) (statement_within s begin)
@@ -66,13 +66,13 @@ mutual
       let target = at + statements_size body + 1 in
       let end = at + statement_size (TryExcept body filter block) in
       both at end (statements_regions body at) _
-          (wider at (at + statements_size body) at end (statements_regions body at) (omega arith) (omega arith) (statements_within body at))
-          (record { low = omega arith; some = omega arith; high = omega arith }, wider (target + 1) (target + 1 + statements_size block) at end (statements_regions block (target + 1)) (omega arith) (omega arith) (statements_within block (target + 1)))
+      (wider at (at + statements_size body) at end (statements_regions body at) (omega arith) (omega arith) (statements_within body at))
+      (record { low = omega arith; some = omega arith; high = omega arith }, wider (target + 1) (target + 1 + statements_size block) at end (statements_regions block (target + 1)) (omega arith) (omega arith) (statements_within block (target + 1)))
   statement_within (TryFinally body k last) at =
       let end = at + statement_size (TryFinally body k last) in
       both at end (statements_regions body at) _
-          (wider at (at + statements_size body) at end (statements_regions body at) (omega arith) (omega arith) (statements_within body at))
-          (record { low = omega arith; some = omega arith; high = omega arith }, tt)
+      (wider at (at + statements_size body) at end (statements_regions body at) (omega arith) (omega arith) (statements_within body at))
+      (record { low = omega arith; some = omega arith; high = omega arith }, tt)
 
   statements_within : (ss : Statements) (at : ℕ) → AllWithin at (at + statements_size ss) (statements_regions ss at)
   statements_within Empty at = tt
@@ -80,8 +80,8 @@ mutual
       let next = at + statement_size s in
       let end = at + statements_size (Then s ss) in
       both at end (statement_regions s at) (statements_regions ss next)
-          (wider at next at end (statement_regions s at) (omega arith) (omega arith) (statement_within s at))
-          (wider next (next + statements_size ss) at end (statements_regions ss next) (omega arith) (omega arith) (statements_within ss next))
+      (wider at next at end (statement_regions s at) (omega arith) (omega arith) (statement_within s at))
+      (wider next (next + statements_size ss) at end (statements_regions ss next) (omega arith) (omega arith) (statements_within ss next))
 
 -- ---- bodies
 
@@ -131,10 +131,10 @@ mutual
   statement_have owner names Leave = tt
   statement_have owner names (TryExcept body filter block) =
       have_both (statements_funclets owner names body) (filter_funclets owner (filter_names names) filter ++ statements_funclets owner (except_names names) block) (statements_have owner names body)
-          (have_both (filter_funclets owner (filter_names names) filter) (statements_funclets owner (except_names names) block) (filter_have owner (filter_names names) filter) (statements_have owner (except_names names) block))
+      (have_both (filter_funclets owner (filter_names names) filter) (statements_funclets owner (except_names names) block) (filter_have owner (filter_names names) filter) (statements_have owner (except_names names) block))
   statement_have owner names (TryFinally body k last) =
       have_both (statements_funclets owner names body) (finally_funclet owner names last ∷ statements_funclets (in_funclet (k - 1) owner) (finally_names names) last) (statements_have owner names body)
-          (finally_ranges owner names last, statements_have (in_funclet (k - 1) owner) (finally_names names) last)
+      (finally_ranges owner names last, statements_have (in_funclet (k - 1) owner) (finally_names names) last)
 
   statements_have : (owner : Owner) (names : Names) (ss : Statements) → FuncletsHave (statements_funclets owner names ss)
   statements_have owner names Empty = tt

@@ -87,11 +87,11 @@ module _ (finally filter : ℕ → ℕ) (always : ℕ) where
         let none = filter_is owner (filter_names names) filter' in
         let more = filter_funclets owner (filter_names names) filter' ++ statements_funclets owner (except_names names) block in
         omega (
-            arith,
-            total_both (statements_regions body at) (region at target (except_kind filter' target) ∷ statements_regions block (target + 1)),
-            funclets_both (statements_funclets owner names body) more,
-            funclets_both (filter_funclets owner (filter_names names) filter') (statements_funclets owner (except_names names) block),
-            tries_both (tries body) (with_filter filter' ∷ tries block)
+          arith,
+          total_both (statements_regions body at) (region at target (except_kind filter' target) ∷ statements_regions block (target + 1)),
+          funclets_both (statements_funclets owner names body) more,
+          funclets_both (filter_funclets owner (filter_names names) filter') (statements_funclets owner (except_names names) block),
+          tries_both (tries body) (with_filter filter' ∷ tries block),
         )
     statement_total owner names (TryFinally body k last) at =
         let x = statements_total owner names body at in
@@ -99,10 +99,10 @@ module _ (finally filter : ℕ → ℕ) (always : ℕ) where
         let r = region at (at + statements_size body + 1) (kinds.Finally (k - 1)) in
         let more = finally_funclet owner names last ∷ statements_funclets (in_funclet (k - 1) owner) (finally_names names) last in
         omega (
-            arith,
-            total_both (statements_regions body at) (r ∷ []),
-            funclets_both (statements_funclets owner names body) more,
-            tries_both (tries body) (Finishes k ∷ tries last)
+          arith,
+          total_both (statements_regions body at) (r ∷ []),
+          funclets_both (statements_funclets owner names body) more,
+          tries_both (tries body) (Finishes k ∷ tries last),
         )
 
     statements_total : (owner : Owner) (names : Names) (ss : Statements) (at : ℕ) → total (statements_regions ss at) + funclets_total (statements_funclets owner names ss) ≡ try_total (tries ss)
@@ -125,10 +125,10 @@ module _ (finally filter : ℕ → ℕ) (always : ℕ) where
       let x = statements_total owner (scope_of f).names f.body 0 in
       let y = functions_total (number + 1) fs in
       omega (
-          arith,
-          total_both (statements_regions f.body 0) (regions_in (function_bodies (map lowered_function fs))),
-          funclets_both (statements_funclets owner (scope_of f).names f.body) (all_funclets (number + 1) fs),
-          tries_both (tries f.body) (tries_of fs)
+        arith,
+        total_both (statements_regions f.body 0) (regions_in (function_bodies (map lowered_function fs))),
+        funclets_both (statements_funclets owner (scope_of f).names f.body) (all_funclets (number + 1) fs),
+        tries_both (tries f.body) (tries_of fs),
       )
 
   pub program_total : (p : Program) → total (regions (lowered p)) ≡ try_total (all_tries p)

@@ -34,9 +34,9 @@ arguments_inner y (entries.Function count) near =
     parameters_inner y 0 count (omega arith) (omega arith)
 arguments_inner y (entries.Filter parent) near =
     inner_both (keep_base parent (base_of y y.base)) (keep_register Rcx y.pointers ∷ [])
-        (base_inner parent (base_of y y.base) near.0.parent_near near.0.base_near)
-        ((signed y.pointers near.1, (λ b. refl), (λ o. refl)), tt)
+    (base_inner parent (base_of y y.base) near.0.parent_near near.0.base_near)
+    ((signed y.pointers near.1, (λ b. refl), (λ o. refl)), tt)
 arguments_inner y (entries.Finally parent flag) near =
     inner_both (keep_base parent (base_of y y.base)) (move W32 Rax Rcx ∷ keep y (Local flag))
-        (base_inner parent (base_of y y.base) near.0.parent_near near.0.base_near)
-        ((refl, (λ b. refl), (λ o. refl)), keep_inner y (Local flag) near.1)
+    (base_inner parent (base_of y y.base) near.0.parent_near near.0.base_near)
+    ((refl, (λ b. refl), (λ o. refl)), keep_inner y (Local flag) near.1)

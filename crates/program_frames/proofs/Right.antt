@@ -73,8 +73,8 @@ rest_fine p index x n probe is_plan size fits e h =
     let entry = entry_small r h.near in
     let room = h.room in
     fine_both n probe is_plan (argument_code r.layout r.entry) (code_from (links p x) r.layout (body_begin x) r.body.code)
-        (fine_inner n probe is_plan (argument_code r.layout r.entry) (arguments_inner r.layout r.entry h.near.entry))
-        (body_fine n probe is_plan (links p x) r.layout (body_begin x) r.body.code (sized p index x e ∙ size) (links_near p x fits h) h.near.code (omega arith))
+    (fine_inner n probe is_plan (argument_code r.layout r.entry) (arguments_inner r.layout r.entry h.near.entry))
+    (body_fine n probe is_plan (links p x) r.layout (body_begin x) r.body.code (sized p index x e ∙ size) (links_near p x fits h) h.near.code (omega arith))
 
 module _ (p : LinearProgram) (index : ℕ) (x : Placed) (f : Frame) (framed : IsFramed p index x f) where
   here : IsThere (site_of p) (linked p).text (text_begin p.globals) x

@@ -57,8 +57,8 @@ call_inner : (y : Layout) (first at to : ℕ) → temporary_at y (first + 8) < 2
 call_inner y first at to lt here near =
     let few = arguments_small y first in
     inner_both (begin_call y first at to) (keep y (Temporary first))
-        (inner_both (arguments_code y first) (call (at + sizes (arguments_code y first) + 5) to ∷ []) (arguments_inner y first lt) ((near_signed (at + sizes (arguments_code y first) + 5) to (omega arith) near, (λ b. refl), (λ o. refl)), tt))
-        (keep_inner y (Temporary first) (omega arith))
+    (inner_both (arguments_code y first) (call (at + sizes (arguments_code y first) + 5) to ∷ []) (arguments_inner y first lt) ((near_signed (at + sizes (arguments_code y first) + 5) to (omega arith) near, (λ b. refl), (λ o. refl)), tt))
+    (keep_inner y (Temporary first) (omega arith))
 
 -- ---- what a filter reads
 
@@ -78,8 +78,8 @@ finally_near at lt = omega arith
 pub template_inner : (k : Links) (y : Layout) (at : ℕ) (i : Instruction) → AreLinksNear k → IsInstructionNear y i → at + 256 < 2 ^ 31 → (IsReturn i → ⊥) → AllInner (template k y at i)
 template_inner k y at (instructions.Compute to o first second) links near here goes =
     inner_both (operands_code y o first second) (finish_code y o to)
-        (inner_both (fetch y Rax first) (fetch y Rcx second ++ before o) (fetch_inner y first near.1) (inner_both (fetch y Rcx second) (before o) (fetch_second y second near.2) (before_inner o)))
-        (inner_both (work o) (keep y to) (work_inner o) (keep_inner y to near.0))
+    (inner_both (fetch y Rax first) (fetch y Rcx second ++ before o) (fetch_inner y first near.1) (inner_both (fetch y Rcx second) (before o) (fetch_second y second near.2) (before_inner o)))
+    (inner_both (work o) (keep y to) (work_inner o) (keep_inner y to near.0))
 template_inner k y at (instructions.Information to field) links near here goes =
     let load = field_inner field near.2 in
     ((signed y.pointers near.1, (λ b. refl), (λ o. refl)), ((refl, (λ b. refl), (λ o. refl)), (load.0, keep_inner y to near.0)))
@@ -88,16 +88,16 @@ template_inner k y at (instructions.Jump label) links near here goes = ((near_si
 template_inner k y at (instructions.JumpIfZero slot label) links near here goes =
     let small = test_small y slot in
     inner_both (fetch y Rax slot) (compare_zero ∷ jump_equal (at + sizes (test_code y slot) + 6) (k.label label) ∷ [])
-        (fetch_inner y slot near)
-        ((refl, (λ b. refl), (λ o. refl)), ((near_signed (at + sizes (test_code y slot) + 6) (k.label label) (omega arith) (links.label label), (λ b. refl), (λ o. refl)), tt))
+    (fetch_inner y slot near)
+    ((refl, (λ b. refl), (λ o. refl)), ((near_signed (at + sizes (test_code y slot) + 6) (k.label label) (omega arith) (links.label label), (λ b. refl), (λ o. refl)), tt))
 template_inner k y at (instructions.Call function first count) links near here goes =
     let few = near.few in
     let lt = near.temporaries in
     let passing = passing_code y first 4 (count - 4) in
     let small = passing_small y first count few in
     inner_both passing (call_code y (Temporary first) first (at + sizes passing) (k.function function))
-        (passing_inner y first 4 (count - 4) (omega arith) (omega arith))
-        (call_inner y first (at + sizes passing) (k.function function) lt (omega arith) (links.function function))
+    (passing_inner y first 4 (count - 4) (omega arith) (omega arith))
+    (call_inner y first (at + sizes passing) (k.function function) lt (omega arith) (links.function function))
 template_inner k y at (instructions.CallBuiltIn function first) links near here goes = call_inner y first at (k.known function) near.temporaries (omega arith) (links.known function)
 template_inner k y at (instructions.CallFinally funclet) links near here goes =
     ((refl, (λ b. refl), (λ o. refl)), ((refl, (λ b. refl), (λ o. refl)), ((near_signed (at + sizes finally_arguments + 5) (k.funclet funclet) (finally_near at here) (links.funclet funclet), (λ b. refl), (λ o. refl)), tt)))

@@ -134,8 +134,8 @@ module _ (p : LinearProgram) (far : AreFar (site_of p).funclets) where
   all_rows info at (r ∷ rs) some bare =
       let x : Placed = record { routine = r; begin = at; info = info } in
       rows_if x r.frame (entries_of s (placed_from s (info + length (info_bytes s at r)) (at + routine_size r) rs)) (regions_in (bodies rs)) bare.0
-          (routine_rows p far r.layout (at + entry_size r) r.body.code (at + routine_size r) (omega arith) (omega arith) r.body.regions)
-          (all_rows (info + length (info_bytes s at r)) (at + routine_size r) rs (omega arith) bare.1)
+      (routine_rows p far r.layout (at + entry_size r) r.body.code (at + routine_size r) (omega arith) (omega arith) r.body.regions)
+      (all_rows (info + length (info_bytes s at r)) (at + routine_size r) rs (omega arith) bare.1)
 
   order_less : (a b : ℕ) (es : List Entry) → b ≤ a → AreInOrder a es → AreInOrder b es
   order_less a b [] le h = tt

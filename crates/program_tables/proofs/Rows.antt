@@ -71,15 +71,15 @@ module _ (funclets : List ℕ) (y : Layout) (start : ℕ) (body : List Instructi
       let some' = range.some in
       let in' = range.inside in
       within size
-          (address_or (label_list y start body) r.begin end)
-          (address_or (label_list y start body) r.end end)
-          (handler_address funclets r.kind)
-          (jump_target (label_list y start body) end r.kind)
-          (labels_rise y start body r.begin r.end end fits some' (omega arith))
-          (label_below r.begin)
-          (label_below r.end)
-          (handler_below r.kind)
-          (target_below r.kind)
+      (address_or (label_list y start body) r.begin end)
+      (address_or (label_list y start body) r.end end)
+      (handler_address funclets r.kind)
+      (jump_target (label_list y start body) end r.kind)
+      (labels_rise y start body r.begin r.end end fits some' (omega arith))
+      (label_below r.begin)
+      (label_below r.end)
+      (handler_below r.kind)
+      (target_below r.kind)
 
   pub rows_within : (rs : List Region) → AllByRecursion (IsRange (length body)) rs → AreWithin size (scope_records funclets (label_list y start body) end rs)
   rows_within [] all = tt

@@ -245,12 +245,11 @@ module _ (p : LinearProgram) (fits : FitsProgram p) where
       let small = image_small in
       let funclets = drop_below image.size (length p.functions) (bounds (first p.globals) rs) (bounds_below image.size (first p.globals) rs end_inside) in
       let fit : (at + entry_size r) + body_size r.layout r.body.code ≤ at + routine_size r = omega arith in
-      let within = rows_within s.funclets r.layout (at + entry_size r) r.body.code (at + routine_size r) image.size fit (omega arith) funclets (omega arith) (q ∷ qs) ranges in
-      (
+      let within = rows_within s.funclets r.layout (at + entry_size r) r.body.code (at + routine_size r) image.size fit (omega arith) funclets (omega arith) (q ∷ qs) ranges in (
         rows_small s.funclets r.layout (at + entry_size r) r.body.code (at + routine_size r) image.size fit (omega arith) funclets (omega arith) (q ∷ qs) (omega arith),
         omega (arith, length-map (q ∷ qs) (scope_record s.funclets own.labels own.end)),
         (λ index. checked_is index image.size 0 rows within),
-        subst (λ (k : ℕ). stored image.sections k (length bytes) ≡ Some bytes) (sym here) (xdata_there program is front bytes more e (omega (arith, length-append u (scope_bytes rows))))
+        subst (λ (k : ℕ). stored image.sections k (length bytes) ≡ Some bytes) (sym here) (xdata_there program is front bytes more e (omega (arith, length-append u (scope_bytes rows)))),
       )
 
   entry_is : (info at : ℕ) (r : RoutineView) (f : Frame) (front more : List ℕ) → IsRoutineNear r → HasRanges r.body → r.frame ≡ Some f → at + routine_size r ≤ first p.globals + total rs
@@ -286,7 +285,7 @@ module _ (p : LinearProgram) (fits : FitsProgram p) where
       let aligned = info_aligned s at r in
       let own : (f : Frame) → r.frame ≡ Some f → IsWritten image (written_of s (record { routine = r; begin = at; info = info }) f) = λ f same. entry_is info at r f front more close.0 ranges.0 same (omega arith) (e ∙ ap (λ t. front ++ (t ++ more)) (bytes_of s at r f same)) here four in
       written_if_so (record { routine = r; begin = at; info = info }) r.frame (written_from s (placed_from s (info + length bytes) (at + routine_size r) qs)) own
-          (all_written (info + length bytes) (at + routine_size r) qs (front ++ bytes) close.1 ranges.1 (omega arith) (e ∙ sym (append_assoc front bytes more)) (omega (arith, length-append front bytes)) (omega arith))
+      (all_written (info + length bytes) (at + routine_size r) qs (front ++ bytes) close.1 ranges.1 (omega arith) (e ∙ sym (append_assoc front bytes more)) (omega (arith, length-append front bytes)) (omega arith))
 
   -- ---- what is read
 
@@ -329,8 +328,8 @@ module _ (p : LinearProgram) (fits : FitsProgram p) where
   whole regions =
       let at = infos_are in
       reads_table image written are_ranges aligned as_long ranges_there
-          (all_written (infos_begin p) (first p.globals) rs [] near (routines_have p regions) (omega arith) refl (omega arith) (omega arith))
-          (in_order s (infos_begin p) (first p.globals) 0 rs near (omega arith))
+      (all_written (infos_begin p) (first p.globals) rs [] near (routines_have p regions) (omega arith) refl (omega arith) (omega arith))
+      (in_order s (infos_begin p) (first p.globals) 0 rs near (omega arith))
       ∙ ap (λ (es : List Entry). let t : Table (List Entry) = Ok es in t) (read_all (placed p))
 
   -- the tables that are read of the image, and their entries
