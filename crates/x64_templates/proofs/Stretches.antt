@@ -12,7 +12,7 @@ use Rattle.host_model.specs.HostStep.{host}
 use Rattle.host_model.specs.Machine as machines
 use Rattle.x64_templates.specs.Placed.{IsCodeAt}
 use Rattle.template_code.specs.Bytes.{spelled}
-use Rattle.x64_templates.proofs.PlacedCode.{reaches_then}
+use Rattle.x64_templates.proofs.PlacedCode.{no_turns, reaches_then}
 use Rattle.linear_code.specs.declared.instruction.Instruction.{Instruction}
 use Rattle.linear_code.specs.declared.instruction.Instruction.TheVariants as instructions
 use Rattle.linear_code.specs.BodyState.{BodyState}
@@ -78,7 +78,7 @@ nothing_made p v at f b h = record {
   follows = record {
     after = v;
     flags = f;
-    comes = λ functions more shown. ap (λ j. machines.run functions [] j (host (machine v at f)) shown) (zero-add more);
+    comes = no_turns (machine v at f) (machine v at f) refl;
     rest = refl;
     holds = h;
     changes = record { protection = refl; byte = λ a own out. refl; bytes = λ x. x };

@@ -20,7 +20,7 @@ use Rattle.template_code.specs.Template.{Links, template, template_size, body_si
 use Rattle.x64_templates.specs.Frames.{HasRoom}
 use Rattle.x64_templates.specs.Implements.{HasOperands}
 use Rattle.x64_templates.specs.CallStates.{sp_of, with_sp, HasBelow, HasBack}
-use Rattle.x64_templates.specs.Runs.{HasCode, Frame, Roomy, Holds, IsThere, ReachesBody, Finished, Computed}
+use Rattle.x64_templates.specs.Runs.{HasCode, Frame, Roomy, Holds, IsThere, EntersBody, Finished, Computed}
 use Rattle.x64_templates.specs.InstructionRuns.{RunsAllTo, IsLinked}
 use Rattle.x64_templates.specs.EntryStates.{with_arguments, InRegisters, OnStack, IsFunction, body_in_memory, FreshFrame}
 use Rattle.x64_templates.specs.Returned.{CallBegun, Returned}
@@ -91,7 +91,7 @@ FunctionsEnter =
     → sp_of v ≡ p.sp + p.layout.frame → p.layout.frame < 2 ^ 31
     → FreshFrame p v.memory source → InRegisters v arguments → OnStack p v.memory count arguments
     → HasCode v.memory rip (function_entry p.layout count)
-    → ReachesBody p (length (function_entry p.layout count)) (machine v rip f)
+    → EntersBody p (length (function_entry p.layout count)) (machine v rip f)
     (rip + sizes (function_entry p.layout count)) (with_sp v.rest p.sp)
     (record { slots = with_arguments (body_in_memory p.layout p.sp p.base v.memory source).slots arguments 0 count; memory = source })
 
