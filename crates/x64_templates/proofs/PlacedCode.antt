@@ -133,10 +133,10 @@ reaches_then (suc m) n s t u a b =
 
 pub reaches_enters : (n : ℕ) (s t : State) → Reaches n s t → Enters n s t
 reaches_enters zero s t a = a
-reaches_enters (suc n) s t a = (a.0, a.1.live, a.1.steps, a.2)
+reaches_enters (suc n) s t a = (a.0, a.1.steps, a.2)
 
 pub enters_then : (m n : ℕ) (s t u : State) → Enters m s t → Reaches n t u → Enters (m + n) s u
 enters_then zero n s t u a b = let e : n ≡ 0 + n = omega arith in subst (λ k. Enters k s u) e (subst (λ x. Enters n x u) (sym a) (reaches_enters n t u b))
 enters_then (suc m) n s t u a b =
     let e : suc (m + n) ≡ suc m + n = omega arith in
-    subst (λ k. Enters k s u) e (a.0, a.1, a.2, reaches_then m n a.0 t u a.3 b)
+    subst (λ k. Enters k s u) e (a.0, a.1, reaches_then m n a.0 t u a.2 b)

@@ -11,7 +11,7 @@ use Rattle.x64_machine.specs.declared.cpu.Flags.{Flags}
 use Rattle.x64_machine.specs.Effect.{State, Answer, ◌>>=◌, with_rip, effect}
 use Rattle.x64_templates.specs.Placed.{IsCodeAt, IsPlaced}
 use Rattle.template_code.specs.Bytes.{spelled}
-use Rattle.x64_templates.specs.Runs.{Reaches, Enters}
+use Rattle.x64_templates.specs.Runs.{Steps, Reaches, Enters}
 use Rattle.x64_templates.proofs.PlacedCode.{bytes_kept, Encodable, bytes_split, spells, reads, steps, no_turns, one_turn, reaches_then}
 use Rattle.x64_templates.specs.Straight.{AllStraight, takes_frame, NoneTakesFrame, effects, MachineView, machine, Executes}
 use Rattle.template_code.specs.Bytes.{size, sizes}
@@ -43,25 +43,33 @@ pub ran_then : (m n : ℕ) (s t u : State) → Ran m s t → Ran n t u → Ran (
 ran_then m n s t u a b = record { comes = reaches_then m n s t u a.comes b.comes; left = left_then s.memory t u a.left b.left }
 
 -- one instruction, of whatever kind
+pub one_steps : (i : Instr) (s t : State) → Encodable (i ∷ []) → IsCodeAt s.memory s.cpu.rip (chosen i) → IsPlaced s.cpu.rip (s.cpu.rip + size i) → effect (with_rip s (s.cpu.rip + size i)) i ≡ Ok t → Steps s t
+unfolding size
+one_steps i s t enc stands placed e =
+    let l = leaves i (with_rip s (s.cpu.rip + length (chosen i))) t e in
+    record {
+      live = live s.cpu.rip (s.cpu.rip + length (chosen i)) placed;
+      steps = steps s t i (chosen i) (spells i enc.0) (longest i) stands placed e;
+      protection = l.left.protection;
+      fixed = λ a fix. l.left.byte a fix;
+    }
+
 pub one_runs : (i : Instr) (s t : State) → Encodable (i ∷ []) → takes_frame i ≡ false → IsCodeAt s.memory s.cpu.rip (chosen i) → IsPlaced s.cpu.rip (s.cpu.rip + size i) → effect (with_rip s (s.cpu.rip + size i)) i ≡ Ok t → Ran 1 s t
 unfolding size
 one_runs i s t enc inside stands placed e = record {
   comes = one_turn s t (record {
-    live = live s.cpu.rip (s.cpu.rip + length (chosen i)) placed;
+    steps = one_steps i s t enc stands placed e;
     instruction = i;
     bytes = length (chosen i);
     read = reads s i (chosen i) (spells i enc.0) (longest i) stands placed;
     inside = inside;
-    steps = steps s t i (chosen i) (spells i enc.0) (longest i) stands placed e;
   });
   left = let l = leaves i (with_rip s (s.cpu.rip + length (chosen i))) t e in record { protection = l.left.protection; byte = l.left.byte };
 }
 
 -- the same for one that makes a frame
 pub one_enters_frame : (i : Instr) (s t : State) → Encodable (i ∷ []) → IsCodeAt s.memory s.cpu.rip (chosen i) → IsPlaced s.cpu.rip (s.cpu.rip + size i) → effect (with_rip s (s.cpu.rip + size i)) i ≡ Ok t → Enters 1 s t
-unfolding size
-one_enters_frame i s t enc stands placed e =
-    (t, live s.cpu.rip (s.cpu.rip + length (chosen i)) placed, steps s t i (chosen i) (spells i enc.0) (longest i) stands placed e, refl)
+one_enters_frame i s t enc stands placed e = (t, one_steps i s t enc stands placed e, refl)
 
 within : (a n b c : ℕ) → IsPlaced a (a + n) → b + c ≤ n → IsPlaced (a + b) (a + b + c)
 within a n b c p le = let l = p.low in let h = p.high in record { low = omega arith; high = omega arith }

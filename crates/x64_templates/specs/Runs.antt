@@ -1,7 +1,7 @@
 -- What a run comes to where the code of an operation is placed.
 use Rattle.std.specs.Prelude.{◌≡◌, ◌≢◌, ℕ, zero, suc, ◌+◌, Bool, false, List, [], Option, Some, Ok, Err, length}
 use Rattle.seh_num.specs.declared.event.Code.{Code}
-use Rattle.flat_memory.specs.Memory.{Memory, executable}
+use Rattle.flat_memory.specs.Memory.{Memory, may_write, executable}
 use Rattle.x64_instr.specs.declared.instruction.Instr.{Instr}
 use Rattle.x64_instr.specs.Spelling.{leading}
 use Rattle.x64_machine.specs.declared.cpu.Flags.{Flags}
@@ -22,14 +22,20 @@ use Rattle.template_code.specs.Slots.{operands_code, finish_code, compute_code}
 use Rattle.x64_templates.specs.Frames.{HasRoom, HoldsBody, Changes}
 use Rattle.x64_templates.specs.Implements.{HasOperands}
 
--- an instruction of the image is run, and it isn't one that makes a frame: so no funclet begins here
-pub record Runs (s u : State) : Type 0 where
+-- an instruction of the image is run, which changes no protection and no byte that may not be written
+pub record Steps (s u : State) : Type 0 where
   pub live : s.cpu.rip ≢ 0
+  pub steps : machines.step s ≡ Ok u
+  pub protection : u.memory.protection ≡ s.memory.protection
+  pub fixed : (a : ℕ) → may_write s.memory a ≡ false → u.memory.byte a ≡ s.memory.byte a
+
+-- and it isn't one that makes a frame: so no funclet begins here
+pub record Runs (s u : State) : Type 0 where
+  pub steps : Steps s u
   pub instruction : Instr
   pub bytes : ℕ
   pub read : leading (executable s.memory 15 s.cpu.rip) ≡ Some (instruction, bytes)
   pub inside : takes_frame instruction ≡ false
-  pub steps : machines.step s ≡ Ok u
 
 -- so many such instructions lead from a state to another
 abbrev pub Reaches : ℕ → State → State → Type 0
@@ -39,7 +45,7 @@ Reaches (suc n) s t = (u : State) × Runs s u × Reaches n u t
 -- the same, but that the first one may make a frame
 abbrev pub Enters : ℕ → State → State → Type 0
 Enters zero s t = s ≡ t
-Enters (suc n) s t = (u : State) × (s.cpu.rip ≢ 0) × (machines.step s ≡ Ok u) × Reaches n u t
+Enters (suc n) s t = (u : State) × Steps s u × Reaches n u t
 
 -- the code is placed here
 pub record HasCode (m : Memory) (at : ℕ) (code : List Instr) : Type 0 where
