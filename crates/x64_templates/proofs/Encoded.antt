@@ -1,5 +1,5 @@
 -- Each instruction of an operation has a spelling, goes on to the next, and begins no epilogue.
-use Rattle.std.proofs.Common.{◌≡◌, ℕ, ◌^◌, ◌<◌, ◌≤◌, Bool, true, false, ltb, List, [], ◌∷◌, ◌++◌, length, Option, Some, None, refl, arith, length-append}
+use Rattle.std.proofs.Common.{◌≡◌, ℕ, ◌^◌, ◌<◌, Bool, true, false, ltb, List, [], ◌∷◌, ◌++◌, Option, Some, None, refl, arith}
 use Rattle.std.proofs.lemmas.Bool.{lt-ltb}
 use Rattle.seh_num.specs.declared.width.Width.{Width}
 use Rattle.seh_num.specs.declared.width.Width.TheVariants.{W8, W16, W32, W64}
@@ -29,7 +29,7 @@ use Rattle.std.specs.Prelude.{◌&&◌}
 use Rattle.x64_instr.specs.declared.instruction.Instr.TheVariants as instrs
 use Rattle.x64_templates.specs.Straight.{is_straight, AllStraight, is_rsp_place, begins_epilogue, is_subtraction, is_number, takes_frame, NoneTakesFrame}
 use Rattle.template_code.specs.Operations.{compare, extended, pure_code, high_half, before, work}
-use Rattle.template_code.specs.Slots.{fetched, put_back, temporary_at, local_at, fetch_local, keep_local, fetch, keep, operands_code, finish_code, compute_code}
+use Rattle.template_code.specs.Slots.{fetched, put_back, temporary_at, local_at, fetch_local, keep_local, fetch, keep, operands_code, finish_code}
 use Rattle.x64_templates.specs.Frames.{HasBase, HasRoom}
 use Rattle.x64_templates.proofs.Cells.{reg}
 

@@ -12,7 +12,7 @@ use Rattle.x64_instr.specs.declared.register.Reg.TheVariants.{Rcx}
 use Rattle.x64_instr.specs.declared.instruction.Instr.{Instr}
 use Rattle.x64_machine.specs.declared.cpu.Flags.{Flags}
 use Rattle.template_code.specs.Bytes.{spelled}
-use Rattle.x64_templates.proofs.PlacedCode.{enters_then, bytes_kept, same_number, reaches_then}
+use Rattle.x64_templates.proofs.PlacedCode.{enters_then, bytes_kept, same_number}
 use Rattle.linear_code.specs.BodyState.{BodyState, Counts}
 use Rattle.template_code.specs.declared.layout.Layout.{Layout}
 use Rattle.x64_templates.specs.Straight.{MachineView, machine}
@@ -22,7 +22,7 @@ use Rattle.template_code.specs.Calls.{keep_register, filter_entry}
 use Rattle.x64_templates.specs.CallStates.{sp_of, moved}
 use Rattle.x64_templates.specs.EntryStates.{joined, body_in_memory}
 use Rattle.x64_templates.specs.Exceptions.{Reads}
-use Rattle.x64_templates.specs.Runs.{Reaches, HasCode, Enters}
+use Rattle.x64_templates.specs.Runs.{HasCode, Enters}
 use Rattle.template_code.proofs.Sizes.{sizes_append}
 use Rattle.x64_templates.proofs.Accesses.{digits}
 use Rattle.x64_templates.proofs.Computes.{code_split}

@@ -5,7 +5,7 @@ use Rattle.seh_num.specs.Widths.{low}
 use Rattle.flat_memory.specs.Memory.{Memory, may_write}
 use Rattle.x64_instr.specs.declared.register.Reg.TheVariants.{Rax, Rcx}
 use Rattle.x64_machine.specs.declared.cpu.Flags.{Flags}
-use Rattle.x64_templates.proofs.PlacedCode.{enters_then, reaches_then}
+use Rattle.x64_templates.proofs.PlacedCode.{enters_then}
 use Rattle.linear_code.specs.declared.slot.Slot.{Slot}
 use Rattle.linear_code.specs.BodyState.{BodyState, Counts, with_slot}
 use Rattle.template_code.specs.declared.layout.Layout.{Layout}
@@ -17,7 +17,7 @@ use Rattle.x64_templates.specs.Frames.{HasRoom, KeepsBase, KeepsReserved, HoldsB
 use Rattle.template_code.specs.Calls.{finally_entry}
 use Rattle.x64_templates.specs.CallStates.{sp_of, with_sp, moved}
 use Rattle.x64_templates.specs.EntryStates.{joined, body_in_memory}
-use Rattle.x64_templates.specs.Runs.{Reaches, HasCode, Frame, Roomy, Holds, IsThere, Enters}
+use Rattle.x64_templates.specs.Runs.{HasCode, Frame, Roomy, Holds, IsThere, Enters}
 use Rattle.template_code.proofs.Sizes.{sizes_append}
 use Rattle.x64_templates.proofs.Computes.{code_split}
 use Rattle.x64_templates.proofs.Returns.{sp_moved}

@@ -6,7 +6,7 @@ use Rattle.flat_memory.specs.Memory.{may_write}
 use Rattle.x64_instr.specs.declared.register.Reg.TheVariants.{Rax, Rcx}
 use Rattle.x64_instr.specs.declared.instruction.Instr.{Instr}
 use Rattle.x64_machine.specs.declared.cpu.Flags.{Flags}
-use Rattle.x64_templates.proofs.PlacedCode.{enters_then, all_may, reaches_then}
+use Rattle.x64_templates.proofs.PlacedCode.{enters_then, all_may}
 use Rattle.linear_code.specs.declared.slot.Slot.{Slot}
 use Rattle.linear_code.specs.BodyState.{BodyState, with_slot}
 use Rattle.x64_templates.specs.Straight.{MachineView, machine}
@@ -16,7 +16,7 @@ use Rattle.template_code.specs.Slots.{keep}
 use Rattle.x64_templates.specs.Frames.{KeepsBase}
 use Rattle.template_code.specs.Calls.{enter_code, keep_register, keep_base, keep_parents_base}
 use Rattle.x64_templates.specs.CallStates.{sp_of, moved}
-use Rattle.x64_templates.specs.Runs.{Reaches, HasCode, Frame, Roomy, Holds, IsThere, ReachesBody, Enters}
+use Rattle.x64_templates.specs.Runs.{HasCode, Frame, Roomy, Holds, IsThere, ReachesBody, Enters}
 use Rattle.x64_templates.proofs.Straight.{executes_one}
 use Rattle.template_code.proofs.Sizes.{sizes_append}
 use Rattle.x64_templates.proofs.Cells.{put}

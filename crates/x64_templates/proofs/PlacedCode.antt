@@ -13,7 +13,7 @@ use Rattle.x64_instr.proofs.Table as tables
 use Rattle.x64_encode.specs.Chosen.{chosen, is_encodable}
 use Rattle.x64_encode.proofs.Written as written
 use Rattle.host_layout.specs.Services.{in_host_page}
-use Rattle.x64_machine.specs.Effect.{State, Answer, ◌>>=◌, granted, with_rip, load, store, effect, is_trap, step}
+use Rattle.x64_machine.specs.Effect.{State, ◌>>=◌, granted, with_rip, load, store, effect, is_trap, step}
 use Rattle.x64_templates.specs.Placed.{IsCodeAt, IsPlaced}
 use Rattle.template_code.specs.Bytes.{thunk}
 use Rattle.x64_templates.specs.Runs.{Runs, Reaches, Enters}

@@ -24,7 +24,7 @@ use Rattle.template_code.specs.Bytes.{size, sizes}
 use Rattle.template_code.specs.Slots.{fetch, keep}
 use Rattle.x64_templates.specs.Frames.{slot_at, HasBase, HasRoom, KeepsBase, KeepsReserved, Agrees, HoldsBody}
 use Rattle.template_code.specs.Calls.{enter_code, epilogue, return_code}
-use Rattle.x64_templates.specs.CallStates.{sp_of, with_sp, HasBack, moved}
+use Rattle.x64_templates.specs.CallStates.{sp_of, HasBack, moved}
 use Rattle.x64_templates.specs.Runs.{Enters, Reaches, HasCode, Frame, Roomy, Holds, IsThere, ReachesBody}
 use Rattle.x64_templates.proofs.Straight.{executes_nothing}
 use Rattle.x64_templates.proofs.Cells.{put, slot_high, slot_bytes, fetch_does}

@@ -1,36 +1,20 @@
 -- Thunks: a jump through a slot that holds a service's address.
-use Rattle.std.proofs.Common.{◌≡◌, ℕ, suc, ◌+◌, ◌-◌, ◌%◌, ◌^◌, ◌<◌, ◌≤◌, true, false, List, [], ◌∷◌, length, set, Option, None, Ok, refl, ap, ◌∙◌, arith, get_or-set_same, length-set}
-use Rattle.std.specs.Prelude.{Result}
+use Rattle.std.proofs.Common.{◌≡◌, ℕ, ◌+◌, ◌%◌, ◌^◌, ◌<◌, ◌≤◌, true, [], ◌∷◌, Ok, refl, ap, ◌∙◌, arith}
 use Rattle.seh_num.specs.declared.width.Width.TheVariants.{W64}
-use Rattle.seh_num.specs.declared.event.Event.{Event}
-use Rattle.seh_num.specs.declared.event.Event.TheVariants as events
-use Rattle.seh_num.specs.Widths.{low, signed}
-use Rattle.flat_memory.specs.declared.access.RefusedAccess.{RefusedAccess}
-use Rattle.flat_memory.specs.Memory.{Memory, may_read, may_write, number_at, first_refused, loaded, access}
+use Rattle.flat_memory.specs.Memory.{may_read, number_at}
 use Rattle.x64_encode.specs.Chosen.{modrm}
 use Rattle.x64_machine.specs.declared.cpu.Flags.{Flags}
-use Rattle.x64_machine.specs.Effect.{Answer, ◌>>=◌, load, effect, step}
-use Rattle.virtual_unwind.specs.CallerOf.{Functions}
-use Rattle.host_model.specs.HostStep.{host, put, returned, turn}
-use Rattle.host_model.specs.Turns.{Continues}
-use Rattle.host_model.specs.Funclets.{arrived}
-use Rattle.host_model.specs.Machine.{run}
+use Rattle.x64_machine.specs.Effect.{Answer, ◌>>=◌, load, effect}
 use Rattle.template_code.specs.Bytes.{thunk}
 use Rattle.x64_templates.proofs.PlacedCode.{all_may, same_number, load_at, thunk_encodable}
-use Rattle.linear_code.specs.declared.slot.Slot.{Slot}
-use Rattle.linear_code.specs.declared.slot.Slot.TheVariants.{Temporary}
-use Rattle.linear_code.specs.BodyState.{BodyState}
 use Rattle.x64_templates.specs.Straight.{MachineView, machine}
-use Rattle.template_code.specs.Bytes.{size, sizes}
-use Rattle.template_code.specs.Slots.{keep}
-use Rattle.template_code.specs.Calls.{return_at, call_code}
+use Rattle.template_code.specs.Bytes.{size}
 use Rattle.x64_templates.specs.Thunks.{HasThunk}
-use Rattle.x64_templates.specs.CallStates.{sp_of, with_four, pushed, HasBelow, HasBack, ReachesShowing, moved}
-use Rattle.x64_templates.specs.Runs.{Reaches, HasCode, Frame, Roomy, Holds, IsThere}
+use Rattle.x64_templates.specs.CallStates.{pushed, HasBelow}
+use Rattle.x64_templates.specs.Runs.{Reaches}
 use Rattle.x64_templates.proofs.Jumps.{one_reaches}
-use Rattle.x64_templates.proofs.Entries.{beside, pushed_back, pushed_outlasts, pushed_agrees}
+use Rattle.x64_templates.proofs.Entries.{beside}
 use Rattle.x64_templates.proofs.LargeEntries.{fixed_beside, pushed_keeps_code}
-use Rattle.template_code.specs.Jumps.{IsNear}
 
 thunk_size : (away : ℕ) → size (thunk away) ≡ 6
 unfolding size modrm

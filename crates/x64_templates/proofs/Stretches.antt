@@ -1,5 +1,5 @@
 -- Several instructions of a body, one after another.
-use Rattle.std.proofs.Common.{◌≡◌, ℕ, zero, suc, ◌+◌, ◌<◌, ◌≤◌, Bool, true, false, cond, List, [], ◌∷◌, length, get_or, Option, Some, None, refl, sym, ap, subst, ◌∙◌, arith, inl, inr, zero-add}
+use Rattle.std.proofs.Common.{◌≡◌, ℕ, zero, suc, ◌+◌, ◌<◌, ◌≤◌, Bool, true, false, cond, List, [], ◌∷◌, length, get_or, Option, Some, None, refl, sym, ap, subst, ◌∙◌, arith, inl, inr}
 use Rattle.std.specs.Prelude.{◌⊎◌}
 use Rattle.std.proofs.lemmas.Bool.{cases_lt, lt-ltb, le-ltb}
 use Rattle.flat_memory.specs.declared.protection.Protection.{Protection}
@@ -8,8 +8,6 @@ use Rattle.flat_memory.specs.Memory.{Memory}
 use Rattle.x64_instr.specs.declared.instruction.Instr.{Instr}
 use Rattle.x64_machine.specs.declared.cpu.Flags.{Flags}
 use Rattle.x64_machine.specs.Effect.{State}
-use Rattle.host_model.specs.HostStep.{host}
-use Rattle.host_model.specs.Machine as machines
 use Rattle.x64_templates.specs.Placed.{IsCodeAt}
 use Rattle.template_code.specs.Bytes.{spelled}
 use Rattle.x64_templates.proofs.PlacedCode.{no_turns, reaches_then}

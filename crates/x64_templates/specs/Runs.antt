@@ -1,5 +1,5 @@
 -- What a run comes to where the code of an operation is placed.
-use Rattle.std.specs.Prelude.{◌≡◌, ◌≢◌, ℕ, zero, suc, ◌+◌, Bool, false, List, [], Option, Some, Ok, Err, length}
+use Rattle.std.specs.Prelude.{◌≡◌, ◌≢◌, ℕ, zero, suc, ◌+◌, Bool, false, List, Option, Some, Ok, Err, length}
 use Rattle.seh_num.specs.declared.event.Code.{Code}
 use Rattle.flat_memory.specs.Memory.{Memory, may_write, executable}
 use Rattle.x64_instr.specs.declared.instruction.Instr.{Instr}
