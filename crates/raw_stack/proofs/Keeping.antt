@@ -39,7 +39,7 @@ stands_same t m byte c (Framed f) code same s =
       not_finally = s.not_finally;
       found = s.found;
       past_prologue = s.past_prologue;
-      not_epilogue = tail_at_same m byte code f.entry.info.frame_register c.rip ∙ s.not_epilogue;
+      not_epilogue = tail_at_same m (with_bytes m byte) (record { execute = λ x. refl; byte = code }) f.entry.info.frame_register c.rip ∙ s.not_epilogue;
       codes = s.codes;
       no_register = s.no_register;
       no_parents = s.no_parents;

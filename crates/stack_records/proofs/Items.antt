@@ -51,6 +51,7 @@ search_is_one_more t fs program p m at r is items acts exception resumption aske
           record {
             own = record { fits = s.own.fits; room = misplaced_same m new at ∙ s.own.room };
             carries = s.carries;
+            resumes = s.resumes;
             onward = s.onward;
             address = s.address;
             aimed = s.aimed;

@@ -37,9 +37,11 @@ pub record Course : Type 0 where
   pub events : List Event
 
 module _ (t : Functions) (fs : List Funclet) (program : LinearProgram) (p : Plan) where
-  -- a `__finally` block of a body runs: the body waits with the regions that are left, and the target lies ahead
+  -- a `__finally` block of a body runs: the body waits with the regions that are left, and the target lies ahead, with what is held for the activations that were left
   pub record RunsBlock (m : Memory) (course : Course) (u : UnwindResult) (seen : Next → Seen) : Type 0 where
     pub block : ℕ
+    pub held : ℕ
+    pub more : course.target.held ≤ held
     pub left : List Region
     pub body : Frame
     pub below : List Item
@@ -50,7 +52,7 @@ module _ (t : Functions) (fs : List Funclet) (program : LinearProgram) (p : Plan
     pub answer : u ≡ unwinds.Finally (p.funclet block) (rsp to) row to
     pub goes :
         (then : Next) → seen then
-        ≡ run_finally program block true course.target.held (Unwinds left course.target ∷ Waits body ∷ below) then (on_top body below course.source acts course.events)
+        ≡ run_finally program block true held (Unwinds left (record course.target { held = held }) ∷ Waits body ∷ below) then (on_top body below course.source acts course.events)
     pub stack : IsStack t m to is
     pub linked : Linked t fs program p m to is (Waits body ∷ below) acts
     pub at_row : IsAtRow t fs program p row (Waits body ∷ below) (Some left)
@@ -63,13 +65,15 @@ module _ (t : Functions) (fs : List Funclet) (program : LinearProgram) (p : Plan
 
   -- the unwinding lands in a body, which goes on
   pub record Lands (m : Memory) (course : Course) (u : UnwindResult) (seen : Next → Seen) : Type 0 where
+    pub held : ℕ
+    pub more : course.target.held ≤ held
     pub body : Frame
     pub below : List Item
     pub to : Context
     pub is : List StackItem
     pub acts : List Activation
     pub answer : u ≡ unwinds.Land to
-    pub goes : (then : Next) → seen then ≡ arrive course.target course.target.code then (on_top body below course.source acts course.events)
+    pub goes : (then : Next) → seen then ≡ arrive (record course.target { held = held }) course.target.code then (on_top body below course.source acts course.events)
     pub stack : IsStack t m to is
     pub linked : Linked t fs program p m to is (Waits body ∷ below) acts
     pub at_frame : course.frame ≡ rsp to
