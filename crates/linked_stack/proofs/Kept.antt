@@ -72,6 +72,7 @@ module _ (m m' : Memory) where
           small = h.small;
           activation = activation_kept y (rsp c) size b.activation acts b.body r top h.activation;
           temporaries = words_kept (rsp c) (rsp c + y.temporaries) (rsp c + end) b.temporaries r (omega arith) ends h.temporaries;
+          space = h.space;
         }
 
     frame_kept : (c : Context) (f : StackFrame) (b : Frame) (below : List Item) (acts : List Activation) → ReadsSame m m' (rsp c) → rsp c + f.size ≤ 0x70800000 → FrameWaits t fs program p m c f b below acts → FrameWaits t fs program p m' c f b below acts
@@ -160,6 +161,7 @@ module _ (m m' : Memory) where
               address = h.0.address;
               aimed = h.0.aimed;
               before = h.0.before;
+              near = h.0.near;
             },
             outer.linked,
           );
@@ -170,7 +172,7 @@ module _ (m m' : Memory) where
         let outer = list_kept d.walk is below acts (higher (rsp c) (rsp d.walk) (omega arith) r) s.1 h.1 in
         record {
           stack = (record_stands c d finally_return false d.walk r (omega arith) s.0, outer.stack);
-          linked = (record { own = own_kept (rsp c) d r (omega arith) h.0.own; purpose = h.0.purpose; row = h.0.row; aimed = h.0.aimed }, outer.linked);
+          linked = (record { own = own_kept (rsp c) d r (omega arith) h.0.own; purpose = h.0.purpose; row = h.0.row; aimed = h.0.aimed; space = h.0.space }, outer.linked);
         }
     list_kept c [] (j ∷ items) acts r s h = absurd h
     list_kept c (Framed f ∷ is) [] acts r s h = absurd h

@@ -60,6 +60,27 @@ abbrev pub activations_below : BodyName → List Activation → List Activation
 activations_below (FunctionBody f) acts = below_function acts
 activations_below (FuncletBody k) acts = acts
 
+-- ---- room on the stack
+
+-- the bytes that a function takes at most, with its return address; a filter or a `__finally` block takes no more than two of these, with its record
+abbrev pub largest_frame : ℕ
+largest_frame = 8192
+
+abbrev pub greatest_depth : ℕ
+greatest_depth = 1000
+
+-- a stack pointer, but for some bytes, is no further from the stack's end than frames of this depth take, and the depth is within its limit
+pub record HasSpace (sp beside depth : ℕ) : Type 0 where
+  pub space : STACK_END ≤ sp + beside + largest_frame * depth
+  pub shallow : depth ≤ greatest_depth
+
+-- the first return address is 40 bytes below the stack's end; a record takes at most 1,600 bytes
+abbrev pub below_end : ℕ
+below_end = 40
+
+abbrev pub record_room : ℕ
+record_room = 1600
+
 -- ---- a body's frame
 
 -- the numbers of slots one after another, from an address on and below an end
@@ -131,6 +152,7 @@ module _ (t : Functions) (fs : List Funclet) (program : LinearProgram) (p : Plan
     pub small : c.rip < 2 ^ 64
     pub activation : HasActivation m (p.layout b.body) (rsp c) size b.activation acts b.body
     pub temporaries : HoldsWords m (rsp c + (p.layout b.body).temporaries) (rsp c + end) b.temporaries
+    pub space : HasSpace (rsp c) below_end (length acts + b.held)
 
   -- a filter's frame keeps the address of the EXCEPTION_POINTERS that it is asked with: they stand in the record above its return address
   pub record KeepsPointers (m : Memory) (y : Layout) (sp size : ℕ) : Type 0 where
@@ -251,6 +273,7 @@ module _ (t : Functions) (fs : List Funclet) (program : LinearProgram) (p : Plan
     pub address : ℕ
     pub aimed : Aimed asked.depth asked.target r.frame address (context_of r.saved) is below
     pub before : JumpsBefore r.walk.rip r.row address
+    pub near : rsp (context_of r.saved) ≤ rsp c + record_room
 
   -- an exception's unwinding has its code
   abbrev pub HasPurpose : Option ℕ → DispatchRecord → Type 0
@@ -258,11 +281,12 @@ module _ (t : Functions) (fs : List Funclet) (program : LinearProgram) (p : Plan
   HasPurpose None r = r.kind ≡ LocalUnwind
 
   -- an unwinding that runs a `__finally` block, with the regions that are left in the body below
-  pub record UnwindingWaits (m : Memory) (c : Context) (r : DispatchRecord) (rest : List Region) (target : Target) (is : List StackItem) (below : List Item) : Type 0 where
+  pub record UnwindingWaits (m : Memory) (c : Context) (r : DispatchRecord) (rest : List Region) (target : Target) (is : List StackItem) (below : List Item) (acts : List Activation) : Type 0 where
     pub own : IsOwnRecord m (rsp c) r
     pub purpose : HasPurpose target.code r
     pub row : IsAtRow r.row below (Some rest)
     pub aimed : Aimed target.depth target.label r.target_frame r.target r.walk is below
+    pub space : HasSpace (rsp c) (below_end + record_room) (length acts + target.held)
 
   -- ---- the whole list
 
@@ -271,5 +295,5 @@ module _ (t : Functions) (fs : List Funclet) (program : LinearProgram) (p : Plan
   Linked m c (Framed f ∷ is) (Waits b ∷ below) acts = FrameWaits m c f b below acts × IsAbove b b.body below × Linked m (after_frame c f) is below (activations_below b.body acts)
   Linked m c (Leaf back ∷ is) (Waits b ∷ below) acts = LeafWaits m c b acts × IsAbove b b.body below × Linked m (after_leaf c back) is below (activations_below b.body acts)
   Linked m c (Searching r ∷ is) (Searches exception resumption asked rest ∷ below) acts = SearchWaits m c r exception resumption asked rest is below × Linked m (context_of r.saved) is below acts
-  Linked m c (Unwinding r ∷ is) (Unwinds rest target ∷ below) acts = UnwindingWaits m c r rest target is below × Linked m r.walk is below acts
+  Linked m c (Unwinding r ∷ is) (Unwinds rest target ∷ below) acts = UnwindingWaits m c r rest target is below acts × Linked m r.walk is below acts
   Linked m c is items acts = ⊥

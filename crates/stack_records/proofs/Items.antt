@@ -56,6 +56,7 @@ search_is_one_more t fs program p m at r is items acts exception resumption aske
             address = s.address;
             aimed = s.aimed;
             before = s.before;
+            near = s.near;
           },
           outer.linked,
         );
@@ -81,6 +82,7 @@ unwinding_is_one_more t fs program p m at r is items acts rest target others on 
             purpose = s.purpose;
             row = s.row;
             aimed = s.aimed;
+            space = s.space;
           },
           outer.linked,
         );

@@ -42,7 +42,7 @@ UnwindingIsOneMore =
     (t : Functions) (fs : List Funclet) (program : LinearProgram) (p : Plan) (m : Memory) (at : ℕ) (r : DispatchRecord) (is : List StackItem) (items : List Item) (acts : List Activation)
     (rest : List Region) (target : Target) (others : List ℕ)
     → On t fs program p m r.walk is items acts → is_search r.kind ≡ false → HasRoom m at r (rsp r.walk)
-    → UnwindingWaits t fs program p m (context_below finally_return at []) r rest target is items
+    → UnwindingWaits t fs program p m (context_below finally_return at []) r rest target is items acts
     → On t fs program p (laid m at r finally_return) (context_below finally_return at others) (Unwinding r ∷ is) (Unwinds rest target ∷ items) acts
 
 abbrev pub LaidRecordLeavesOthers : Type 0

@@ -98,13 +98,13 @@ module _ (t : Functions) (fs : List Funclet) (program : LinearProgram) (p : Plan
   -- ---- from a rear part of the stack
 
   -- an unwinding's target grows by what is held for the activations that it has left
-  abbrev course_of : Target → (held frame address low : ℕ) → Memory → List Event → Course
-  course_of target held frame address low source events = record { target = record target { held = held }; frame = frame; address = address; low = low; source = source; events = events }
+  abbrev course_of : Target → (held frame address low depth : ℕ) → Memory → List Event → Course
+  course_of target held frame address low depth source events = record { target = record target { held = held }; frame = frame; address = address; low = low; depth = depth; source = source; events = events }
 
-  from_rear : (m : Memory) (target : Target) (held held' frame address low low' : ℕ) (source : Memory) (events : List Event) (u u' : UnwindResult) (seen seen' : Next → Seen)
+  from_rear : (m : Memory) (target : Target) (held held' frame address low low' depth : ℕ) (source : Memory) (events : List Event) (u u' : UnwindResult) (seen seen' : Next → Seen)
       → u ≡ u' → ((then : Next) → seen then ≡ seen' then) → held ≤ held' → low ≤ low'
-      → UnwoundAs t fs program p m (course_of target held' frame address low' source events) u' seen' → UnwoundAs t fs program p m (course_of target held frame address low source events) u seen
-  from_rear m target held held' frame address low low' source events u u' seen seen' e s grows le (inl h) =
+      → UnwoundAs t fs program p m (course_of target held' frame address low' depth source events) u' seen' → UnwoundAs t fs program p m (course_of target held frame address low depth source events) u seen
+  from_rear m target held held' frame address low low' depth source events u u' seen seen' e s grows le (inl h) =
       let above : low' ≤ rsp h.to = h.above in
       let more : held' ≤ h.held = h.more in
       inl (record {
@@ -118,6 +118,7 @@ module _ (t : Functions) (fs : List Funclet) (program : LinearProgram) (p : Plan
         row = h.row;
         is = h.is;
         acts = h.acts;
+        counted = h.counted;
         answer = e ∙ h.answer;
         goes = λ then. s then ∙ h.goes then;
         stack = h.stack;
@@ -130,7 +131,7 @@ module _ (t : Functions) (fs : List Funclet) (program : LinearProgram) (p : Plan
         above = omega arith;
         kept = h.kept;
       })
-  from_rear m target held held' frame address low low' source events u u' seen seen' e s grows le (inr h) =
+  from_rear m target held held' frame address low low' depth source events u u' seen seen' e s grows le (inr h) =
       let above : low' ≤ rsp h.to = h.above in
       let more : held' ≤ h.held = h.more in
       inr (record {
@@ -139,8 +140,10 @@ module _ (t : Functions) (fs : List Funclet) (program : LinearProgram) (p : Plan
         body = h.body;
         below = h.below;
         to = h.to;
+        framed = h.framed;
         is = h.is;
         acts = h.acts;
+        counted = h.counted;
         answer = e ∙ h.answer;
         goes = λ then. s then ∙ h.goes then;
         stack = h.stack;
@@ -162,16 +165,21 @@ grows_past : (name : BodyName) (held : ℕ) → held ≤ held_past name held
 grows_past (FunctionBody f) held = omega arith
 grows_past (FuncletBody k) held = omega arith
 
+counted_past : (m : Memory) (y : Layout) (sp size k : ℕ) (acts : List Activation) (name : BodyName) (held : ℕ) → HasActivation m y sp size k acts name → length (activations_below name acts) + held_past name held ≡ length acts + held
+counted_past m y sp size k [] (FunctionBody f) held h = absurd h
+counted_past m y sp size k (a ∷ outer) (FunctionBody f) held h = omega arith
+counted_past m y sp size k acts (FuncletBody j) held h = refl
+
 past_is : (name : BodyName) (target : Target) (held : ℕ) → target_past name (record target { held = held }) ≡ record target { held = held_past name held }
 past_is (FunctionBody f) target held = refl
 past_is (FuncletBody k) target held = refl
 
-module _ (t : Functions) (fs : List Funclet) (program : LinearProgram) (p : Plan) (g : Gives t fs program p) (m : Memory) (target : Target) (frame address : ℕ) (source : Memory) (events : List Event) where
+module _ (t : Functions) (fs : List Funclet) (program : LinearProgram) (p : Plan) (g : Gives t fs program p) (m : Memory) (target : Target) (frame address depth : ℕ) (source : Memory) (events : List Event) where
   abbrev to_target : ℕ → Target
   to_target held = record target { held = held }
 
   abbrev course : (held low : ℕ) → Course
-  course held low = course_of t fs program p target held frame address low source events
+  course held low = course_of t fs program p target held frame address low depth source events
 
   abbrev seen_from : ℕ → List Item → Option (List Region) → List Activation → Next → Seen
   seen_from held items left acts then = linear.unwind program then (to_target held) items left events (store_of source acts)
@@ -188,7 +196,7 @@ module _ (t : Functions) (fs : List Funclet) (program : LinearProgram) (p : Plan
 
   module _ (held : ℕ) (c : Context) (f : StackFrame) (is : List StackItem) (b : Frame) (below : List Item) (acts : List Activation) (row : ℕ) (left : Option (List Region))
       (stands : FrameStands t m c f) (rear : IsStack t m (after_frame c f) is) (body : FrameWaits t fs program p m c f b below acts) (shape : IsAbove t fs program p b b.body below) (others : Linked t fs program p m (after_frame c f) is below (activations_below b.body acts)) (wide : IsWide c.kept)
-      (at : IsAtRow t fs program p row (Waits b ∷ below) left) where
+      (at : IsAtRow t fs program p row (Waits b ∷ below) left) (counts : length acts + held ≡ depth) where
     abbrev rows : List AskedRecord
     rows = rows_from (distance t.base c.rip) row f.entry.info.scopes
 
@@ -230,6 +238,7 @@ module _ (t : Functions) (fs : List Funclet) (program : LinearProgram) (p : Plan
           row = x.index + 1;
           is = Framed f ∷ is;
           acts = acts;
+          counted = counts;
           answer = e ∙ ap (λ a. unwinds.Finally a (rsp c) (x.index + 1) c) x.is.handler;
           goes = λ then. linear_step then ∙ x.runs then (out held b.body below then);
           stack = (stands, rear);
@@ -267,8 +276,10 @@ module _ (t : Functions) (fs : List Funclet) (program : LinearProgram) (p : Plan
               body = b;
               below = below;
               to = c;
-              is = Framed f ∷ is;
+              framed = f;
+              is = is;
               acts = acts;
+              counted = counts;
               answer = host_step true None le here (same ∙ x.first);
               goes = λ then. linear_step then ∙ x.arrives then (out held b.body below then);
               stack = (stands, rear);
@@ -302,7 +313,7 @@ module _ (t : Functions) (fs : List Funclet) (program : LinearProgram) (p : Plan
             ⊎ FirstBlock t fs program p (to_target held) (on_top b below source acts events) f.entry.info.scopes rows (regions_from t fs program p b row) (left_from b.next (regions_of (body_of program b.body)))
             → UnwoundAs t fs program p m (course held (rsp c)) here_and_above (seen_from held (Waits b ∷ below) left acts)
         by (inl x) =
-            from_rear t fs program p m target held (held_past b.body held) frame address (rsp c) (rsp (after_frame c f)) source events here_and_above outer
+            from_rear t fs program p m target held (held_past b.body held) frame address (rsp c) (rsp (after_frame c f)) depth source events here_and_above outer
             (seen_from held (Waits b ∷ below) left acts) (seen_from (held_past b.body held) below None (activations_below b.body acts))
             (host_step false None (let l = lt in omega arith) elsewhere x.first)
             (λ then. linear_step then ∙ x.leaves then (out held b.body below then) ∙ left_out held (rsp c) f.size b.activation acts b.body below then body.waits.activation)
@@ -337,41 +348,43 @@ module _ (t : Functions) (fs : List Funclet) (program : LinearProgram) (p : Plan
     past_leaf : UnwoundAs t fs program p m (course (held_past b.body held) (rsp (after_leaf c back))) (plain_unwind t frame address (after_leaf c back) 0 is) (seen_from (held_past b.body held) below None (activations_below b.body acts))
         → UnwoundAs t fs program p m (course held (rsp c)) (plain_unwind t frame address c row (Leaf back ∷ is)) (seen_from held (Waits b ∷ below) left acts)
     past_leaf more =
-        from_rear t fs program p m target held (held_past b.body held) frame address (rsp c) (rsp (after_leaf c back)) source events _ _ _ _
+        from_rear t fs program p m target held (held_past b.body held) frame address (rsp c) (rsp (after_leaf c back)) depth source events _ _ _ _
         host_left leaf_left (grows_past b.body held) (let r = rises t m c (Leaf back) stands in omega arith) more
 
   pub unwound_plainly : (held : ℕ) (acts : List Activation) (is : List StackItem) (items : List Item) (c : Context) (row : ℕ) (left : Option (List Region))
-      → IsStack t m c is → Linked t fs program p m c is items acts → IsAtRow t fs program p row items left → IsWide c.kept → Aimed t fs program p target.depth target.label frame address c is items
+      → IsStack t m c is → Linked t fs program p m c is items acts → IsAtRow t fs program p row items left → IsWide c.kept → Aimed t fs program p target.depth target.label frame address c is items → length acts + held ≡ depth
       → UnwoundAs t fs program p m (course held (rsp c)) (plain_unwind t frame address c row is) (seen_from held items left acts)
-  unwound_plainly held acts (Framed f ∷ is) (Waits b ∷ below) c row left s h at wide (inl a) = in_its_frame held c f is b below acts row left s.0 s.1 h.0 h.1 h.2 wide at a
-  unwound_plainly held acts (Framed f ∷ is) (Waits b ∷ below) c row left s h at wide (inr a) =
-      in_a_frame held c f is b below acts row left s.0 s.1 h.0 h.1 h.2 wide at a
-      (unwound_plainly (held_past b.body held) (activations_below b.body acts) is below (after_frame c f) 0 None s.1 h.2 (at_first_row t fs program p below) (wide_after t m c f s.0 wide) a)
-  unwound_plainly held acts (Leaf back ∷ is) (Waits b ∷ below) c row left s h at wide a =
+  unwound_plainly held acts (Framed f ∷ is) (Waits b ∷ below) c row left s h at wide (inl a) e = in_its_frame held c f is b below acts row left s.0 s.1 h.0 h.1 h.2 wide at e a
+  unwound_plainly held acts (Framed f ∷ is) (Waits b ∷ below) c row left s h at wide (inr a) e =
+      in_a_frame held c f is b below acts row left s.0 s.1 h.0 h.1 h.2 wide at e a
+      (unwound_plainly (held_past b.body held) (activations_below b.body acts) is below (after_frame c f) 0 None s.1 h.2 (at_first_row t fs program p below) (wide_after t m c f s.0 wide) a
+      (counted_past m (p.layout b.body) (rsp c) f.size b.activation acts b.body held h.0.waits.activation ∙ e))
+  unwound_plainly held acts (Leaf back ∷ is) (Waits b ∷ below) c row left s h at wide a e =
       past_leaf held c back is b below acts row left s.0 s.1 h.0 at a
-      (unwound_plainly (held_past b.body held) (activations_below b.body acts) is below (after_leaf c back) 0 None s.1 h.2 (at_first_row t fs program p below) (wide_after_leaf t m c back s.0 wide) a)
-  unwound_plainly held acts (Searching r ∷ is) (Searches exception resumption asked rest ∷ below) c row left s h at wide a =
-      from_rear t fs program p m target held held frame address (rsp c) (rsp (context_of r.saved)) source events _ _ _ _ refl (λ then. refl) (omega arith) (let q = rises t m c (Searching r) s.0 in omega arith)
-      (unwound_plainly held acts is below (context_of r.saved) 0 None s.1 h.1 (at_first_row t fs program p below) (wide_saved r h.0.own.fits) a)
-  unwound_plainly held acts (Unwinding r ∷ is) (Unwinds rest older ∷ below) c row left s h at wide a =
-      from_rear t fs program p m target held held frame address (rsp c) (rsp r.walk) source events _ _ _ _ refl (λ then. refl) (omega arith) (let q = rises t m c (Unwinding r) s.0 in omega arith)
-      (unwound_plainly held acts is below r.walk r.row (Some rest) s.1 h.1 h.0.row (wide_walk r h.0.own.fits) a)
-  unwound_plainly held acts [] items c row left s h at wide a = absurd a
-  unwound_plainly held acts (Framed f ∷ is) [] c row left s h at wide a = absurd a
-  unwound_plainly held acts (Framed f ∷ is) (Searches exception resumption asked rest ∷ below) c row left s h at wide a = absurd a
-  unwound_plainly held acts (Framed f ∷ is) (Unwinds rest older ∷ below) c row left s h at wide a = absurd a
-  unwound_plainly held acts (Leaf back ∷ is) [] c row left s h at wide a = absurd a
-  unwound_plainly held acts (Leaf back ∷ is) (Searches exception resumption asked rest ∷ below) c row left s h at wide a = absurd a
-  unwound_plainly held acts (Leaf back ∷ is) (Unwinds rest older ∷ below) c row left s h at wide a = absurd a
-  unwound_plainly held acts (Searching r ∷ is) [] c row left s h at wide a = absurd a
-  unwound_plainly held acts (Searching r ∷ is) (Waits b ∷ below) c row left s h at wide a = absurd a
-  unwound_plainly held acts (Searching r ∷ is) (Unwinds rest older ∷ below) c row left s h at wide a = absurd a
-  unwound_plainly held acts (Unwinding r ∷ is) [] c row left s h at wide a = absurd a
-  unwound_plainly held acts (Unwinding r ∷ is) (Waits b ∷ below) c row left s h at wide a = absurd a
-  unwound_plainly held acts (Unwinding r ∷ is) (Searches exception resumption asked rest ∷ below) c row left s h at wide a = absurd a
+      (unwound_plainly (held_past b.body held) (activations_below b.body acts) is below (after_leaf c back) 0 None s.1 h.2 (at_first_row t fs program p below) (wide_after_leaf t m c back s.0 wide) a
+      (counted_past m (p.layout b.body) (rsp c) home_end b.activation acts b.body held h.0.waits.activation ∙ e))
+  unwound_plainly held acts (Searching r ∷ is) (Searches exception resumption asked rest ∷ below) c row left s h at wide a e =
+      from_rear t fs program p m target held held frame address (rsp c) (rsp (context_of r.saved)) depth source events _ _ _ _ refl (λ then. refl) (omega arith) (let q = rises t m c (Searching r) s.0 in omega arith)
+      (unwound_plainly held acts is below (context_of r.saved) 0 None s.1 h.1 (at_first_row t fs program p below) (wide_saved r h.0.own.fits) a e)
+  unwound_plainly held acts (Unwinding r ∷ is) (Unwinds rest older ∷ below) c row left s h at wide a e =
+      from_rear t fs program p m target held held frame address (rsp c) (rsp r.walk) depth source events _ _ _ _ refl (λ then. refl) (omega arith) (let q = rises t m c (Unwinding r) s.0 in omega arith)
+      (unwound_plainly held acts is below r.walk r.row (Some rest) s.1 h.1 h.0.row (wide_walk r h.0.own.fits) a e)
+  unwound_plainly held acts [] items c row left s h at wide a e = absurd a
+  unwound_plainly held acts (Framed f ∷ is) [] c row left s h at wide a e = absurd a
+  unwound_plainly held acts (Framed f ∷ is) (Searches exception resumption asked rest ∷ below) c row left s h at wide a e = absurd a
+  unwound_plainly held acts (Framed f ∷ is) (Unwinds rest older ∷ below) c row left s h at wide a e = absurd a
+  unwound_plainly held acts (Leaf back ∷ is) [] c row left s h at wide a e = absurd a
+  unwound_plainly held acts (Leaf back ∷ is) (Searches exception resumption asked rest ∷ below) c row left s h at wide a e = absurd a
+  unwound_plainly held acts (Leaf back ∷ is) (Unwinds rest older ∷ below) c row left s h at wide a e = absurd a
+  unwound_plainly held acts (Searching r ∷ is) [] c row left s h at wide a e = absurd a
+  unwound_plainly held acts (Searching r ∷ is) (Waits b ∷ below) c row left s h at wide a e = absurd a
+  unwound_plainly held acts (Searching r ∷ is) (Unwinds rest older ∷ below) c row left s h at wide a e = absurd a
+  unwound_plainly held acts (Unwinding r ∷ is) [] c row left s h at wide a e = absurd a
+  unwound_plainly held acts (Unwinding r ∷ is) (Waits b ∷ below) c row left s h at wide a e = absurd a
+  unwound_plainly held acts (Unwinding r ∷ is) (Searches exception resumption asked rest ∷ below) c row left s h at wide a e = absurd a
 
 pub unwinding_is_the_lists : UnwindingIsTheLists
 unwinding_is_the_lists t fs program p m c is items acts row left target frame address source events n s at aimed lt =
-    subst (λ (u : UnwindResult). UnwoundAs t fs program p m (record { target = target; frame = frame; address = address; low = rsp c; source = source; events = events }) u (λ then. linear.unwind program then target items left events (store_of source acts)))
+    subst (λ (u : UnwindResult). UnwoundAs t fs program p m (record { target = target; frame = frame; address = address; low = rsp c; depth = length acts + target.held; source = source; events = events }) u (λ then. linear.unwind program then target items left events (store_of source acts)))
     (sym (unwinding_is_of_the_list t m frame address c row is n s.stack lt))
-    (unwound_plainly t fs program p s.gives m target frame address source events target.held acts is items c row left s.stack s.linked at s.wide aimed)
+    (unwound_plainly t fs program p s.gives m target frame address (length acts + target.held) source events target.held acts is items c row left s.stack s.linked at s.wide aimed refl)
