@@ -3,6 +3,7 @@ use Rattle.std.specs.Prelude.{◌≡◌, ◌⊎◌, ℕ, suc, ◌+◌, ◌*◌, 
 use Rattle.std.specs.List.{AllByRecursion}
 use Rattle.host_layout.specs.declared.range.TheConstants.{STACK_END}
 use Rattle.flat_memory.specs.Memory.{Memory}
+use Rattle.x64_machine.specs.declared.cpu.Cpu.{Cpu}
 use Rattle.x64_machine.specs.declared.context.Context.{Context}
 use Rattle.x64_machine.specs.Contexts.{context_of}
 use Rattle.eh_tables.specs.declared.scope.ScopeRecord.{ScopeRecord}
@@ -22,7 +23,7 @@ use Rattle.linear_code.specs.declared.program.Region.{Region}
 use Rattle.linear_code.specs.declared.program.FuncletKind.{FuncletKind}
 use Rattle.linear_code.specs.declared.program.FuncletKind.TheVariants as funclets
 use Rattle.linear_code.specs.Program.{LinearProgram, LinearBody, LinearFunclet}
-use Rattle.linear_machine.specs.Frames.{BodyName, FunctionBody, FuncletBody, body_of, Frame, Handler, Target, Item, Waits, Searches, Unwinds}
+use Rattle.linear_machine.specs.Frames.{BodyName, FunctionBody, FuncletBody, body_of, Frame, Handler, Target, Resumption, Item, Waits, Searches, Unwinds}
 use Rattle.linear_machine.specs.Regions.{holds, regions_of, regions_at, regions_left, handlers_in, handlers}
 use Rattle.raw_stack.specs.Stack.{StackFrame, StackItem, Framed, Leaf, Searching, Unwinding, after_frame, after_leaf}
 use Rattle.linked_stack.specs.ImagePlan.{Plan, InCode}
@@ -172,6 +173,7 @@ module _ (t : Functions) (fs : List Funclet) (program : LinearProgram) (p : Plan
   -- a leaf function, without one
   pub record LeafWaits (m : Memory) (c : Context) (b : Frame) (acts : List Activation) : Type 0 where
     pub leaf : p.leaf b.body ≡ true
+    pub home : rsp c + home_end ≤ STACK_END
     pub none : regions_of (body_of program b.body) ≡ []
     pub waits : BodyWaits m c home_end home_end b acts
 
@@ -257,10 +259,16 @@ module _ (t : Functions) (fs : List Funclet) (program : LinearProgram) (p : Plan
     pub fits : Fits r
     pub room : misplaced m at ≡ None
 
+  -- where the exception is continued, the body that raised it goes on from the saved state
+  abbrev pub Resumes : Resumption → List Item → Cpu → Type 0
+  Resumes resumption (Waits b ∷ below) saved = p.resumes resumption b saved ≡ true
+  Resumes resumption items saved = Unit {0}
+
   -- a search that asks a handler's filter, with the others after it
-  pub record SearchWaits (m : Memory) (c : Context) (r : DispatchRecord) (exception : Exception) (asked : Handler) (rest : List Handler) (is : List StackItem) (below : List Item) : Type 0 where
+  pub record SearchWaits (m : Memory) (c : Context) (r : DispatchRecord) (exception : Exception) (resumption : Resumption) (asked : Handler) (rest : List Handler) (is : List StackItem) (below : List Item) : Type 0 where
     pub own : IsOwnRecord m (rsp c) r
     pub carries : HasException r exception
+    pub resumes : Resumes resumption below r.saved
     pub onward : Onward r.walk r.row rest (context_of r.saved) is below
     pub address : ℕ
     pub aimed : Aimed asked.depth asked.target r.frame address (context_of r.saved) is below
@@ -286,6 +294,6 @@ module _ (t : Functions) (fs : List Funclet) (program : LinearProgram) (p : Plan
   Linked m c [] [] acts = (acts ≡ []) × (rsp c ≤ STACK_END)
   Linked m c (Framed f ∷ is) (Waits b ∷ below) acts = FrameWaits m c f b below acts × IsAbove b b.body below × Linked m (after_frame c f) is below (activations_below b.body acts)
   Linked m c (Leaf back ∷ is) (Waits b ∷ below) acts = LeafWaits m c b acts × IsAbove b b.body below × Linked m (after_leaf c back) is below (activations_below b.body acts)
-  Linked m c (Searching r ∷ is) (Searches exception resumption asked rest ∷ below) acts = SearchWaits m c r exception asked rest is below × Linked m (context_of r.saved) is below acts
+  Linked m c (Searching r ∷ is) (Searches exception resumption asked rest ∷ below) acts = SearchWaits m c r exception resumption asked rest is below × Linked m (context_of r.saved) is below acts
   Linked m c (Unwinding r ∷ is) (Unwinds rest target ∷ below) acts = UnwindingWaits m c r rest target is below acts × Linked m r.walk is below acts
   Linked m c is items acts = ⊥
