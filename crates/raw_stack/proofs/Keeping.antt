@@ -1,5 +1,5 @@
 -- A stack outlives what changes none of its bytes.
-use Rattle.std.proofs.Common.{◌≡◌, ℕ, ◌+◌, ◌^◌, ◌<◌, ◌≤◌, Bool, true, false, List, [], ◌∷◌, ◌++◌, refl, ◌∙◌, arith, inl, inr}
+use Rattle.std.proofs.Common.{◌≡◌, ℕ, ◌+◌, ◌<◌, ◌≤◌, Bool, true, false, List, [], ◌∷◌, ◌++◌, refl, ◌∙◌, arith, inl, inr}
 use Rattle.flat_memory.specs.Memory.{Memory, with_bytes}
 use Rattle.x64_machine.specs.declared.context.Context.{Context}
 use Rattle.x64_machine.specs.Contexts.{context_of}
@@ -8,7 +8,7 @@ use Rattle.virtual_unwind.specs.CallerOf.{Functions}
 use Rattle.seh_records.specs.declared.dispatch.DispatchRecord.{DispatchRecord}
 use Rattle.seh_records.proofs.Unmoved.{fetched_by_its_bytes}
 use Rattle.seh_walk.specs.Walk.{filter_return, finally_return}
-use Rattle.raw_stack.specs.Stack.{StackFrame, StackItem, Framed, Leaf, Searching, Unwinding, FrameStands, RecordStands, Stands, IsStack, OwnedBy, Owned, IsWithin, Agree, after_frame, context_after, context_at}
+use Rattle.raw_stack.specs.Stack.{StackItem, Framed, Leaf, Searching, Unwinding, RecordStands, Stands, IsStack, OwnedBy, IsWithin, after_frame, context_after, context_at}
 use Rattle.raw_stack.specs.Laws.{KeptByOtherStores, NothingBelowIsOwned, SlotsAreFree}
 use Rattle.raw_stack.proofs.Visiting.{set_head}
 use Rattle.raw_stack.proofs.Unchanged.{tail_at_same, word_same}

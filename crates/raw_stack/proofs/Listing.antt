@@ -1,7 +1,6 @@
 -- Searches and unwindings over a stack are those of its list.
-use Rattle.std.proofs.Common.{◌≡◌, ℕ, zero, suc, ◌+◌, ◌<◌, Bool, true, false, Option, Some, None, Ok, Err, List, [], ◌∷◌, length, refl, ap, ◌∙◌, arith}
-use Rattle.std.specs.Prelude.{nat_lt, nat_eq, Result}
-use Rattle.flat_memory.specs.Memory.{Memory}
+use Rattle.std.proofs.Common.{◌≡◌, ℕ, zero, suc, Bool, true, false, Option, Some, None, [], ◌∷◌, refl, ap, ◌∙◌, arith}
+use Rattle.std.specs.Prelude.{nat_lt, nat_eq}
 use Rattle.x64_machine.specs.declared.context.Context.{Context}
 use Rattle.x64_machine.specs.Contexts.{context_of}
 use Rattle.virtual_unwind.specs.Contexts.{rsp}
@@ -16,8 +15,8 @@ use Rattle.seh_search.specs.Search.{search}
 use Rattle.seh_unwind.specs.declared.unwind_result.UnwindResult.{UnwindResult}
 use Rattle.seh_unwind.specs.Unwind as unwinds
 use Rattle.seh_unwind.specs.Unwind.{unwind, if_past, by_row, if_target}
-use Rattle.raw_stack.specs.Stack.{StackFrame, StackItem, Framed, Leaf, Searching, Unwinding, IsStack, after_frame, after_leaf, caller_frame, caller_of_leaf}
-use Rattle.raw_stack.specs.PlainWalks.{state, chosen_or, asked_row, plain_search, decided_or, in_frame, in_leaf, plain_unwind}
+use Rattle.raw_stack.specs.Stack.{StackFrame, Framed, Leaf, Searching, Unwinding, after_frame, after_leaf, caller_frame, caller_of_leaf}
+use Rattle.raw_stack.specs.PlainWalks.{state, chosen_or, asked_row, plain_search, decided_or, plain_unwind}
 use Rattle.raw_stack.specs.Laws.{SearchIsOfTheList, UnwindingIsOfTheList}
 use Rattle.raw_stack.proofs.Visiting.{frame_is_visited, leaf_is_visited, search_is_passed, unwinding_is_passed, stack_is_over}
 

@@ -1,5 +1,5 @@
 -- What a walk meets at each kind of item.
-use Rattle.std.proofs.Common.{◌≡◌, ℕ, ◌+◌, ◌-◌, ◌%◌, ◌^◌, ◌<◌, ◌≤◌, Bool, true, false, Option, Some, None, Ok, List, [], ◌∷◌, length, refl, ap, ◌∙◌, arith}
+use Rattle.std.proofs.Common.{◌≡◌, ℕ, ◌+◌, ◌-◌, ◌%◌, ◌^◌, ◌<◌, ◌≤◌, true, Option, Some, None, Ok, List, [], ◌∷◌, length, refl, ap, ◌∙◌, arith}
 use Rattle.std.specs.Prelude.{nat_lt, nat_eq, not, slice_index, slice_set}
 use Rattle.std.proofs.lemmas.Bool.{lt-ltb}
 use Rattle.flat_memory.specs.Memory.{Memory}
@@ -13,14 +13,11 @@ use Rattle.eh_tables.specs.Infos.{Info}
 use Rattle.eh_tables.specs.Tables.{Entry}
 use Rattle.virtual_unwind.specs.Contexts.{rsp, rsp_raised}
 use Rattle.virtual_unwind.specs.Undone.{Answer, word, popped, operations}
-use Rattle.virtual_unwind.specs.Tail.{tail_at}
-use Rattle.virtual_unwind.specs.CallerOf.{Functions, CallerFrame, distance, base_if, unwound, found, in_body, in_entry, by_distance, past_prologue, of_entry, rising, risen, entry_of, caller_in}
-use Rattle.seh_records.specs.declared.dispatch.DispatchRecord.{DispatchRecord}
+use Rattle.virtual_unwind.specs.CallerOf.{Functions, CallerFrame, distance, base_if, unwound, found, in_body, by_distance, past_prologue, of_entry, rising, risen, caller_in}
 use Rattle.seh_records.specs.Record.{fetched}
 use Rattle.seh_walk.specs.declared.walk.WalkState.{WalkState}
-use Rattle.seh_walk.specs.Walk as walk
 use Rattle.seh_walk.specs.Walk.{visited, if_over, if_filter, if_finally, framed, past_filter, past_finally, if_search, above, if_above, walk_in, saved_in, filter_return, finally_return}
-use Rattle.raw_stack.specs.Stack.{StackFrame, Framed, Leaf, Searching, Unwinding, FrameStands, LeafStands, Stands, after_frame, after_leaf, caller_frame, caller_of_leaf}
+use Rattle.raw_stack.specs.Stack.{StackFrame, FrameStands, LeafStands, after_frame, after_leaf, caller_frame, caller_of_leaf}
 use Rattle.raw_stack.specs.PlainWalks.{state}
 use Rattle.raw_stack.specs.Laws.{FrameIsVisited, LeafIsVisited, SearchIsPassed, UnwindingIsPassed, StackIsOver}
 
