@@ -19,9 +19,9 @@ use Rattle.dispatch_turns.specs.States.{IsSane}
 use Rattle.body_states.specs.Sites.{Sites}
 use Rattle.body_states.specs.Programs.{IsMachineMemory}
 
--- how far a body's slots reach above RSP, and its temporaries at most: in a leaf function to the end of the home space above its return address
+-- where the locals of a body end above RSP at the latest, and its temporaries: in a leaf function the temporaries come after the locals, up to the end of the home space above its return address
 abbrev pub slots_end : Layout → Bool → ℕ
-slots_end y true = home_end
+slots_end y true = y.temporaries
 slots_end y false = y.frame
 
 abbrev pub last_temporary : Layout → BodyName → Bool → ℕ

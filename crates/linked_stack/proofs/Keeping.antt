@@ -28,7 +28,7 @@ pub misplaced_same : (m : Memory) (byte : ℕ → ℕ) (at : ℕ) → misplaced 
 unfolding misplaced
 misplaced_same m byte at = refl
 
-reads_above : (m : Memory) (byte : ℕ → ℕ) (low : ℕ) → KeepsAbove m byte low → ReadsSame m (with_bytes m byte) low
+reads_above : (m : Memory) (byte : ℕ → ℕ) (low : ℕ) → KeepsAbove m byte low → ReadsSame m (with_bytes m byte) low 0x70800000
 reads_above m byte low a = record {
   words = λ at v p q w. word_above m byte low at v a p (omega arith) w;
   records = λ at p q. fetched_by_its_bytes m (with_bytes m byte) at (omega arith) refl (λ x l h. a.above x (omega arith));
@@ -76,7 +76,7 @@ module _ (m m' : Memory) (low : ℕ) (k : KeepsStack m m' low) (from : 0x7000000
           let h : 0x70000000 ≤ return_address_at at = ltb-false _ _ e in
           refused_same (may_write m) (may_write m') 1576 (return_address_at at) (omega arith) (λ x p q. may_write_same x (omega arith) (omega arith))
 
-  pub reads_other : ReadsSame m m' low
+  pub reads_other : ReadsSame m m' low 0x70800000
   reads_other = record {
     words = λ at v p q w. word_kept m m' at (omega arith) (λ x l h. k.protection x (omega arith) (omega arith)) (λ x l h. k.bytes x (omega arith) (omega arith)) ∙ w;
     records = λ at p q.
