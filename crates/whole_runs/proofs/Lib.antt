@@ -1,1 +1,5 @@
-pub mod Simulated
+pub mod Turns
+pub mod Steps
+pub mod All
+pub mod NoMore
+pub mod Programs
