@@ -1,5 +1,5 @@
 -- A run of the machine shows no more than linear code, and ends only as that ends.
-use Rattle.std.proofs.Common.{◌≡◌, ◌⊎◌, inl, inr, ℕ, zero, suc, ◌+◌, ◌-◌, ◌<◌, ◌≤◌, Some, None, List, [], ◌++◌, refl, sym, ap, subst, ◌∙◌, arith, append_assoc}
+use Rattle.std.proofs.Common.{◌≡◌, ◌⊎◌, inl, inr, ℕ, zero, suc, ◌+◌, ◌-◌, ◌<◌, ◌≤◌, true, false, Some, None, List, [], ◌++◌, refl, sym, ap, subst, ◌∙◌, arith, append_assoc}
 use Rattle.std.proofs.lemmas.Bool.{cases_lt}
 use Rattle.std.proofs.lemmas.List.{append-nil}
 use Rattle.std.specs.Prelude.{Option}
@@ -13,19 +13,20 @@ use Rattle.host_model.specs.HostStep.{host}
 use Rattle.host_model.specs.Machine as machines
 use Rattle.host_model.specs.Machine.{run}
 use Rattle.c_model.specs.Laws.{IsPrefixOf}
-use Rattle.c_model.specs.Meaning.{Shown}
+use Rattle.c_model.specs.Meaning.{Shown, is_calm}
+use Rattle.c_model.specs.declared.ended.Ended.{Ended}
 use Rattle.c_model.specs.declared.ended.Ended.TheVariants as source
 use Rattle.linear_code.specs.declared.instruction.Instruction.{Instruction}
 use Rattle.linear_code.specs.Program.{LinearProgram}
-use Rattle.linear_machine.specs.Frames.{Configuration, Seen, Finished}
+use Rattle.linear_machine.specs.Frames.{Configuration, Seen, Running, Finished}
 use Rattle.linear_machine.specs.Instructions.{act}
 use Rattle.linear_machine.specs.Run.{instruction_at, exec, shown}
-use Rattle.whole_runs.specs.Comes.{Comes}
+use Rattle.whole_runs.specs.Comes.{IsLive, Comes}
 use Rattle.whole_runs.specs.Ends.{run_end_of, IsCalm}
-use Rattle.whole_runs.specs.Matched.{Moves, Exits, Dies, IsMatched, Follows}
+use Rattle.whole_runs.specs.Matched.{Moves, Exits, Dies, Fails, IsMatched, Follows}
 use Rattle.whole_runs.specs.Laws.{ShowsNoMore}
 use Rattle.whole_runs.proofs.Turns.{midst, run_comes, run_pauses, run_returned, run_dies}
-use Rattle.whole_runs.proofs.Steps.{at_instruction, first_is_calm, none_is_calm, before}
+use Rattle.whole_runs.proofs.Steps.{at_instruction, first_has_rule, none_has_no_rule, before}
 
 -- the fronts of lists
 pub prefix_same : (a b : List Event) → a ≡ b → IsPrefixOf a b
@@ -53,6 +54,9 @@ ended_as meant x events e same shows ends =
       ends = λ f h. (ends ∙ sym (ap (λ (y : machines.Shown). y.end) same) ∙ h, all);
     }
 
+not_wild : (end : Ended) (events : List Event) → is_calm (Some end) ≡ false → IsCalm (Finished end events) → ⊥
+not_wild end events wild calm = let no : false ≡ true = sym wild ∙ calm.calm in absurd cc
+
 module _ (t : Functions) (fs : List Funclet) where
   -- in the midst of turns that belong to a step
   pub in_midst : (meant : Shown) (k m : ℕ) (s u : State) (out events : List Event) → Comes t fs k s events u → m < k → IsPrefixOf (out ++ events) meant.events → ShowsNoMore meant (run t fs m (host s) out)
@@ -62,7 +66,7 @@ module _ (t : Functions) (fs : List Funclet) where
       (prefix_then (out ++ x.part) (out ++ events) meant.events (prefix_after out x.part events (x.others, sym x.whole)) front)
 
 module _ (t : Functions) (fs : List Funclet) (program : LinearProgram) (pace : ℕ) (credit : Configuration → ℕ) where
-  module _ (n m : ℕ) (s : State) (c : Configuration) (i : Instruction) (fewer : m < suc n) where
+  module _ (n m : ℕ) (s : State) (c : Configuration) (i : Instruction) (fewer : m ≤ suc n) where
     exits : Exits t fs program pace credit s c i → ShowsNoMore (shown (act program i (exec program n) c)) (run t fs m (host s) c.events)
     exits v =
         subst (λ (x : Seen). ShowsNoMore (shown x) (run t fs m (host s) c.events)) (sym (v.acts (exec program n)))
@@ -103,7 +107,7 @@ module _ (t : Functions) (fs : List Funclet) (program : LinearProgram) (pace : �
             refl refl
 
     moves : (v : Moves t fs program pace credit (Follows t fs program pace credit n) s c i)
-        → ((left : ℕ) → left < n → ShowsNoMore (shown (exec program n v.configuration)) (run t fs left (host v.state) v.configuration.events))
+        → ((left : ℕ) → left ≤ n → ShowsNoMore (shown (exec program n v.configuration)) (run t fs left (host v.state) v.configuration.events))
         → ShowsNoMore (shown (act program i (exec program n) c)) (run t fs m (host s) c.events)
     moves v rest =
         subst (λ (x : Seen). ShowsNoMore (shown x) (run t fs m (host s) c.events)) (sym (v.acts (exec program n)))
@@ -118,20 +122,25 @@ module _ (t : Functions) (fs : List Funclet) (program : LinearProgram) (pace : �
             (rest (m - v.turns) (omega arith))
         ])
 
-  pub runs_show_no_more : (n m : ℕ) (s : State) (c : Configuration) → Follows t fs program pace credit n s c → IsCalm (exec program n c) → m < n → ShowsNoMore (shown (exec program n c)) (run t fs m (host s) c.events)
-  runs_show_no_more zero m s c follows calm fewer = absurd (omega arith)
+  none_yet : (m : ℕ) (s : State) (c : Configuration) → IsLive s → m ≡ 0 → ShowsNoMore (shown (exec program zero c)) (run t fs m (host s) c.events)
+  unfolding exec
+  none_yet m s c live e = goes_on (shown (Running c.events)) (run t fs m (host s) c.events) c.events (ap (λ k. run t fs k (host s) c.events) e ∙ run_pauses t fs s c.events live) (prefix_same c.events c.events refl)
+
+  pub runs_show_no_more : (n m : ℕ) (s : State) (c : Configuration) → Follows t fs program pace credit n s c → IsCalm (exec program n c) → m ≤ n → ShowsNoMore (shown (exec program n c)) (run t fs m (host s) c.events)
+  runs_show_no_more zero m s c follows calm fewer = none_yet m s c follows (omega arith)
   runs_show_no_more (suc n) m s c follows calm fewer = by (instruction_at program c) refl (λ left u d. runs_show_no_more n left u d)
     where
       Rest : Type 0
-      Rest = (left : ℕ) (u : State) (d : Configuration) → Follows t fs program pace credit n u d → IsCalm (exec program n d) → left < n → ShowsNoMore (shown (exec program n d)) (run t fs left (host u) d.events)
+      Rest = (left : ℕ) (u : State) (d : Configuration) → Follows t fs program pace credit n u d → IsCalm (exec program n d) → left ≤ n → ShowsNoMore (shown (exec program n d)) (run t fs left (host u) d.events)
 
       matched : (i : Instruction) → IsCalm (act program i (exec program n) c) → Rest → IsMatched t fs program pace credit (Follows t fs program pace credit n) s c i → ShowsNoMore (shown (act program i (exec program n) c)) (run t fs m (host s) c.events)
       matched i quiet rest (inl v) = moves n m s c i fewer v (λ left less. rest left v.state v.configuration v.stands (subst IsCalm (v.acts (exec program n)) quiet) less)
       matched i quiet rest (inr (inl v)) = exits n m s c i fewer v
-      matched i quiet rest (inr (inr v)) = dies n m s c i fewer v
+      matched i quiet rest (inr (inr (inl v))) = dies n m s c i fewer v
+      matched i quiet rest (inr (inr (inr v))) = absurd (not_wild v.end (c.events ++ v.events) v.wild (subst IsCalm (v.acts (exec program n)) quiet))
 
       by : (o : Option Instruction) → instruction_at program c ≡ o → Rest → ShowsNoMore (shown (exec program (suc n) c)) (run t fs m (host s) c.events)
-      by None at rest = absurd (none_is_calm program n c at calm)
+      by None at rest = absurd (none_has_no_rule program n c at calm.rule)
       by (Some i) at rest =
           subst (λ (x : Seen). ShowsNoMore (shown x) (run t fs m (host s) c.events)) (sym (at_instruction program n c i at))
-          (matched i (subst IsCalm (at_instruction program n c i at) calm) rest (follows i at (first_is_calm program n c i at calm)))
+          (matched i (subst IsCalm (at_instruction program n c i at) calm) rest (follows i at (first_has_rule program n c i at calm.rule)))

@@ -12,7 +12,7 @@ use Rattle.linear_machine.specs.Instructions.{act}
 use Rattle.linear_machine.specs.Run.{instruction_at, exec, shown}
 use Rattle.linear_runs.proofs.Longer.{events_of, More, longer, from_none}
 use Rattle.c_model.specs.Laws.{IsPrefixOf}
-use Rattle.whole_runs.specs.Ends.{IsCalm}
+use Rattle.whole_runs.specs.Ends.{HasRule}
 use Rattle.whole_runs.specs.Matched.{Moves, IsMatched, StepIsMatched, Follows, Simulates}
 
 module _ (program : LinearProgram) where
@@ -29,20 +29,20 @@ module _ (program : LinearProgram) where
   unfolding with_some
   at_none n c e = one_more n c ∙ ap (λ (o : Option Instruction). with_some c.events o (λ i. act program i (exec program n) c)) e
 
-  calm_less : (a b : Seen) → More a b → IsCalm b → IsCalm a
-  calm_less (Running es) b m calm = tt
-  calm_less (Finished e es) b m calm = subst IsCalm m calm
-  calm_less (Stuck es) b m calm = subst IsCalm m calm
+  rule_less : (a b : Seen) → More a b → HasRule b → HasRule a
+  rule_less (Running es) b m rule = tt
+  rule_less (Finished e es) b m rule = subst HasRule m rule
+  rule_less (Stuck es) b m rule = subst HasRule m rule
 
-  -- a step is calm where a run that begins with it is
-  pub first_is_calm : (n : ℕ) (c : Configuration) (i : Instruction) → instruction_at program c ≡ Some i → IsCalm (exec program (suc n) c) → IsCalm (act program i (exec program zero) c)
-  first_is_calm n c i e calm =
+  -- a rule leads on from a step where it does from a run that begins with it
+  pub first_has_rule : (n : ℕ) (c : Configuration) (i : Instruction) → instruction_at program c ≡ Some i → HasRule (exec program (suc n) c) → HasRule (act program i (exec program zero) c)
+  first_has_rule n c i e rule =
       let k : 1 + n ≡ suc n = omega arith in
-      subst IsCalm (at_instruction zero c i e)
-      (calm_less (exec program 1 c) (exec program (suc n) c) (subst (λ m. More (exec program 1 c) (exec program m c)) k (longer program 1 n c)) calm)
+      subst HasRule (at_instruction zero c i e)
+      (rule_less (exec program 1 c) (exec program (suc n) c) (subst (λ m. More (exec program 1 c) (exec program m c)) k (longer program 1 n c)) rule)
 
-  pub none_is_calm : (n : ℕ) (c : Configuration) → instruction_at program c ≡ None → IsCalm (exec program (suc n) c) → ⊥
-  none_is_calm n c e calm = subst IsCalm (at_none n c e) calm
+  pub none_has_no_rule : (n : ℕ) (c : Configuration) → instruction_at program c ≡ None → HasRule (exec program (suc n) c) → ⊥
+  none_has_no_rule n c e rule = subst HasRule (at_none n c e) rule
 
   shown_events : (a : Seen) → (shown a).events ≡ events_of a
   shown_events (Running es) = refl
@@ -73,5 +73,5 @@ module _ (t : Functions) (fs : List Funclet) (program : LinearProgram) (pace : �
   with_less n s c i rest (inr (inr v)) = inr (inr v)
 
   pub follows : (n : ℕ) (s : State) (c : Configuration) → R n s c → Follows t fs program pace credit n s c
-  follows zero s c r = tt
-  follows (suc n) s c r = λ i at calm. with_less n s c i (follows n) (simulates n s c r i at calm)
+  follows zero s c r = simulates.live s c r
+  follows (suc n) s c r = λ i at rule. with_less n s c i (follows n) (simulates.steps n s c r i at rule)

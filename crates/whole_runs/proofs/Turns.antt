@@ -15,7 +15,7 @@ use Rattle.host_model.specs.Turns.{Turn, Continues, Ends}
 use Rattle.host_model.specs.Funclets.{arrivals, arrived}
 use Rattle.host_model.specs.HostStep.{Ended, over, host, turned, turn, end_of}
 use Rattle.host_model.specs.Machine.{Shown, or_turn, continued_by, run}
-use Rattle.whole_runs.specs.Comes.{Turns, Comes}
+use Rattle.whole_runs.specs.Comes.{IsLive, Turns, Comes}
 
 module _ (t : Functions) (fs : List Funclet) where
   -- ---- turns
@@ -23,11 +23,11 @@ module _ (t : Functions) (fs : List Funclet) where
   pub comes_nowhere : (s : State) → Comes t fs 0 s [] s
   comes_nowhere s = (refl, refl)
 
-  pub comes_one : (s u : State) (events : List Event) → (s.cpu.rip == 0) ≡ false → turn t fs s ≡ Continues u events → Comes t fs 1 s events u
+  pub comes_one : (s u : State) (events : List Event) → IsLive s → turn t fs s ≡ Continues u events → Comes t fs 1 s events u
   comes_one s u events live e = record { live = live; state = u; first = events; others = []; turns = e; whole = sym (append-nil events); rest = (refl, refl) }
 
   -- an instruction that is run, with the event of the funclet at which RIP arrives, if it does
-  pub comes_by_step : (s u : State) → (s.cpu.rip == 0) ≡ false → step s ≡ Ok u → Comes t fs 1 s (arrivals u.cpu (distance t.base u.cpu.rip) 1 fs) u
+  pub comes_by_step : (s u : State) → IsLive s → step s ≡ Ok u → Comes t fs 1 s (arrivals u.cpu (distance t.base u.cpu.rip) 1 fs) u
   unfolding turn
   comes_by_step s u live e = comes_one s u (arrivals u.cpu (distance t.base u.cpu.rip) 1 fs) live (ap (λ x. arrived t fs (turned t s x)) e)
 
@@ -49,7 +49,7 @@ module _ (t : Functions) (fs : List Funclet) where
 
   -- ---- runs
 
-  pub run_live : (n : ℕ) (s : State) (out : List Event) → (s.cpu.rip == 0) ≡ false → run t fs (suc n) (host s) out ≡ continued_by (run t fs n) out (turn t fs s)
+  pub run_live : (n : ℕ) (s : State) (out : List Event) → IsLive s → run t fs (suc n) (host s) out ≡ continued_by (run t fs n) out (turn t fs s)
   unfolding run
   run_live n s out e = ap (λ (b : Bool). or_turn t fs (run t fs n) out (over s b)) e
 
@@ -73,12 +73,12 @@ module _ (t : Functions) (fs : List Funclet) where
       ∙ ap (run t fs n (host u)) (append_assoc out r.first r.others) ∙ ap (λ (x : List Event). run t fs n (host u) (out ++ x)) (sym r.whole)
 
   -- a run that ends by its next turn
-  pub run_dies : (n : ℕ) (s : State) (out last : List Event) (e : RunEnd) → (s.cpu.rip == 0) ≡ false → turn t fs s ≡ Ends last e → run t fs (suc n) (host s) out ≡ record { events = out ++ last; end = Some e }
+  pub run_dies : (n : ℕ) (s : State) (out last : List Event) (e : RunEnd) → IsLive s → turn t fs s ≡ Ends last e → run t fs (suc n) (host s) out ≡ record { events = out ++ last; end = Some e }
   run_dies n s out last e live ends = run_live n s out live ∙ ap (continued_by (run t fs n) out) ends ∙ run_ended n e (out ++ last)
 
   -- ---- in the midst of turns
 
-  pub run_pauses : (s : State) (out : List Event) → (s.cpu.rip == 0) ≡ false → run t fs zero (host s) out ≡ record { events = out; end = None }
+  pub run_pauses : (s : State) (out : List Event) → IsLive s → run t fs zero (host s) out ≡ record { events = out; end = None }
   unfolding run
   run_pauses s out e = ap (λ (b : Bool). record { events = out; end = end_of (over s b) }) e
 

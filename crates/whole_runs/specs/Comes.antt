@@ -7,9 +7,13 @@ use Rattle.host_model.specs.declared.funclet.Funclet.{Funclet}
 use Rattle.host_model.specs.Turns.{Continues}
 use Rattle.host_model.specs.HostStep.{turn}
 
--- a state that has not ended makes a turn, which shows the first of these events; the rest comes after it
+-- a run has not ended in this state
+abbrev pub IsLive : State → Type 0
+IsLive s = (s.cpu.rip == 0) ≡ false
+
+-- a live state makes a turn, which shows the first of these events; the rest comes after it
 pub record Turns (t : Functions) (fs : List Funclet) (s : State) (events : List Event) (Rest : List Event → State → Type 0) : Type 0 where
-  pub live : (s.cpu.rip == 0) ≡ false
+  pub live : IsLive s
   pub state : State
   pub first : List Event
   pub others : List Event

@@ -1,5 +1,5 @@
 -- What whole runs show.
-use Rattle.std.specs.Prelude.{◌≡◌, ℕ, ◌+◌, ◌*◌, ◌<◌, ◌≤◌, List, [], slice_get, ℤ, Some}
+use Rattle.std.specs.Prelude.{◌≡◌, ℕ, ◌+◌, ◌*◌, ◌≤◌, List, [], slice_get, ℤ, Some}
 use Rattle.seh_num.specs.declared.end.RunEnd.{RunEnd}
 use Rattle.x64_machine.specs.Effect.{State}
 use Rattle.virtual_unwind.specs.CallerOf.{Functions}
@@ -14,7 +14,7 @@ use Rattle.linear_code.specs.Program.{LinearProgram, LinearFunction}
 use Rattle.linear_machine.specs.Frames.{Configuration}
 use Rattle.linear_machine.specs.Run.{exec, start, seen, shown, linear_meaning}
 use Rattle.whole_runs.specs.Comes.{Comes}
-use Rattle.whole_runs.specs.Ends.{run_end_of, IsCalm}
+use Rattle.whole_runs.specs.Ends.{run_end_of, HasRule, IsCalm}
 use Rattle.whole_runs.specs.Matched.{Follows}
 
 -- a run of the machine shows these events at least; where the program has ended, the run has ended so and shows nothing else
@@ -33,15 +33,15 @@ abbrev pub RunsShowAll : Type 0
 RunsShowAll =
     (t : Functions) (fs : List Funclet) (program : LinearProgram) (pace : ℕ) (credit : Configuration → ℕ)
     (n turns : ℕ) (s : State) (c : Configuration)
-    → Follows t fs program pace credit n s c → IsCalm (exec program n c) → pace * n + credit c ≤ turns
+    → Follows t fs program pace credit n s c → HasRule (exec program n c) → pace * n + credit c ≤ turns
     → ShowsAll (shown (exec program n c)) (run t fs turns (host s) c.events)
 
--- in fewer turns than steps the machine shows no more than these
+-- in as many turns at most the machine shows no more than these
 abbrev pub RunsShowNoMore : Type 0
 RunsShowNoMore =
     (t : Functions) (fs : List Funclet) (program : LinearProgram) (pace : ℕ) (credit : Configuration → ℕ)
     (m n : ℕ) (s : State) (c : Configuration)
-    → Follows t fs program pace credit n s c → IsCalm (exec program n c) → m < n
+    → Follows t fs program pace credit n s c → IsCalm (exec program n c) → m ≤ n
     → ShowsNoMore (shown (exec program n c)) (run t fs m (host s) c.events)
 
 -- ---- whole programs
@@ -59,12 +59,12 @@ abbrev pub ProgramsShowAll : Type 0
 ProgramsShowAll =
     (t : Functions) (fs : List Funclet) (program : LinearProgram) (pace : ℕ) (credit : Configuration → ℕ)
     (arg : ℤ) (first n turns : ℕ) (s : State)
-    → Begins t fs program pace credit arg first s n → IsCalm (seen program arg n) → first + pace * n ≤ turns
+    → Begins t fs program pace credit arg first s n → HasRule (seen program arg n) → first + pace * n ≤ turns
     → ShowsAll (linear_meaning program arg n) (run t fs turns (host s) [])
 
 abbrev pub ProgramsShowNoMore : Type 0
 ProgramsShowNoMore =
     (t : Functions) (fs : List Funclet) (program : LinearProgram) (pace : ℕ) (credit : Configuration → ℕ)
     (arg : ℤ) (first m n : ℕ) (s : State)
-    → Begins t fs program pace credit arg first s n → IsCalm (seen program arg n) → m < n
+    → Begins t fs program pace credit arg first s n → IsCalm (seen program arg n) → m ≤ n
     → ShowsNoMore (linear_meaning program arg n) (run t fs m (host s) [])

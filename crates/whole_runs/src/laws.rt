@@ -3,7 +3,7 @@
 ghost use Rattle.whole_runs.specs.Laws.{RunsShowAll, RunsShowNoMore, ProgramsShowAll, ProgramsShowNoMore};
 
 /// Where each step of linear code is matched by turns of the machine, the machine shows within so many
-/// turns what linear code shows, and ends as it ends; and within fewer turns than linear code makes, it
+/// turns what linear code shows, and ends as it ends; and within as many turns as linear code makes, it
 /// shows no more, and has no other end.
 pub fn laws()
     ensures all { RunsShowAll }
