@@ -16,7 +16,7 @@ use Rattle.linear_code.specs.declared.program.Region.{Region}
 use Rattle.linear_code.specs.declared.program.RegionKind.{RegionKind}
 use Rattle.linear_code.specs.declared.program.RegionKind.TheVariants as kinds
 use Rattle.linear_code.specs.Program.{LinearProgram, LinearBody, LinearFunclet}
-use Rattle.linear_machine.specs.Frames.{BodyName, FunctionBody, FuncletBody, body_of}
+use Rattle.linear_machine.specs.Frames.{BodyName, FunctionBody, FuncletBody, body_of, Frame, Resumption}
 use Rattle.linear_machine.specs.Regions as regions
 use Rattle.linear_machine.specs.Regions.{leads_to}
 
@@ -27,6 +27,7 @@ pub record Plan : Type 0 where
   pub entry : BodyName → Entry  -- the entry of the function table for any other body
   pub layout : BodyName → Layout  -- where the slots of a body stand
   pub lands : BodyName → ℕ → Bool  -- an unwinding may land at this instruction
+  pub resumes : Resumption → Frame → Cpu → Bool  -- a body that waits goes on so from a state that was saved where it raised an exception
 
 -- an address within the code of an instruction
 pub record InCode (p : Plan) (name : BodyName) (label rip : ℕ) : Type 0 where

@@ -3,6 +3,7 @@ use Rattle.std.specs.Prelude.{◌≡◌, ◌⊎◌, ℕ, suc, ◌+◌, ◌*◌, 
 use Rattle.std.specs.List.{AllByRecursion}
 use Rattle.host_layout.specs.declared.range.TheConstants.{STACK_END}
 use Rattle.flat_memory.specs.Memory.{Memory}
+use Rattle.x64_machine.specs.declared.cpu.Cpu.{Cpu}
 use Rattle.x64_machine.specs.declared.context.Context.{Context}
 use Rattle.x64_machine.specs.Contexts.{context_of}
 use Rattle.eh_tables.specs.declared.scope.ScopeRecord.{ScopeRecord}
@@ -22,7 +23,7 @@ use Rattle.linear_code.specs.declared.program.Region.{Region}
 use Rattle.linear_code.specs.declared.program.FuncletKind.{FuncletKind}
 use Rattle.linear_code.specs.declared.program.FuncletKind.TheVariants as funclets
 use Rattle.linear_code.specs.Program.{LinearProgram, LinearBody, LinearFunclet}
-use Rattle.linear_machine.specs.Frames.{BodyName, FunctionBody, FuncletBody, body_of, Frame, Handler, Target, Item, Waits, Searches, Unwinds}
+use Rattle.linear_machine.specs.Frames.{BodyName, FunctionBody, FuncletBody, body_of, Frame, Handler, Target, Resumption, Item, Waits, Searches, Unwinds}
 use Rattle.linear_machine.specs.Regions.{holds, regions_of, regions_at, regions_left, handlers_in, handlers}
 use Rattle.raw_stack.specs.Stack.{StackFrame, StackItem, Framed, Leaf, Searching, Unwinding, after_frame, after_leaf}
 use Rattle.linked_stack.specs.ImagePlan.{Plan, InCode}
@@ -58,6 +59,27 @@ below_function (a ∷ outer) = outer
 abbrev pub activations_below : BodyName → List Activation → List Activation
 activations_below (FunctionBody f) acts = below_function acts
 activations_below (FuncletBody k) acts = acts
+
+-- ---- room on the stack
+
+-- the bytes that a function takes at most, with its return address; a filter or a `__finally` block takes no more than two of these, with its record
+abbrev pub largest_frame : ℕ
+largest_frame = 8192
+
+abbrev pub greatest_depth : ℕ
+greatest_depth = 1000
+
+-- a stack pointer, but for some bytes, is no further from the stack's end than frames of this depth take, and the depth is within its limit
+pub record HasSpace (sp beside depth : ℕ) : Type 0 where
+  pub space : STACK_END ≤ sp + beside + largest_frame * depth
+  pub shallow : depth ≤ greatest_depth
+
+-- the first return address is 40 bytes below the stack's end; a record takes at most 1,600 bytes
+abbrev pub below_end : ℕ
+below_end = 40
+
+abbrev pub record_room : ℕ
+record_room = 1600
 
 -- ---- a body's frame
 
@@ -130,6 +152,7 @@ module _ (t : Functions) (fs : List Funclet) (program : LinearProgram) (p : Plan
     pub small : c.rip < 2 ^ 64
     pub activation : HasActivation m (p.layout b.body) (rsp c) size b.activation acts b.body
     pub temporaries : HoldsWords m (rsp c + (p.layout b.body).temporaries) (rsp c + end) b.temporaries
+    pub space : HasSpace (rsp c) below_end (length acts + b.held)
 
   -- a filter's frame keeps the address of the EXCEPTION_POINTERS that it is asked with: they stand in the record above its return address
   pub record KeepsPointers (m : Memory) (y : Layout) (sp size : ℕ) : Type 0 where
@@ -150,6 +173,7 @@ module _ (t : Functions) (fs : List Funclet) (program : LinearProgram) (p : Plan
   -- a leaf function, without one
   pub record LeafWaits (m : Memory) (c : Context) (b : Frame) (acts : List Activation) : Type 0 where
     pub leaf : p.leaf b.body ≡ true
+    pub home : rsp c + home_end ≤ STACK_END
     pub none : regions_of (body_of program b.body) ≡ []
     pub waits : BodyWaits m c home_end home_end b acts
 
@@ -235,14 +259,21 @@ module _ (t : Functions) (fs : List Funclet) (program : LinearProgram) (p : Plan
     pub fits : Fits r
     pub room : misplaced m at ≡ None
 
+  -- where the exception is continued, the body that raised it goes on from the saved state
+  abbrev pub Resumes : Resumption → List Item → Cpu → Type 0
+  Resumes resumption (Waits b ∷ below) saved = p.resumes resumption b saved ≡ true
+  Resumes resumption items saved = Unit {0}
+
   -- a search that asks a handler's filter, with the others after it
-  pub record SearchWaits (m : Memory) (c : Context) (r : DispatchRecord) (exception : Exception) (asked : Handler) (rest : List Handler) (is : List StackItem) (below : List Item) : Type 0 where
+  pub record SearchWaits (m : Memory) (c : Context) (r : DispatchRecord) (exception : Exception) (resumption : Resumption) (asked : Handler) (rest : List Handler) (is : List StackItem) (below : List Item) : Type 0 where
     pub own : IsOwnRecord m (rsp c) r
     pub carries : HasException r exception
+    pub resumes : Resumes resumption below r.saved
     pub onward : Onward r.walk r.row rest (context_of r.saved) is below
     pub address : ℕ
     pub aimed : Aimed asked.depth asked.target r.frame address (context_of r.saved) is below
     pub before : JumpsBefore r.walk.rip r.row address
+    pub near : rsp (context_of r.saved) ≤ rsp c + record_room
 
   -- an exception's unwinding has its code
   abbrev pub HasPurpose : Option ℕ → DispatchRecord → Type 0
@@ -250,11 +281,12 @@ module _ (t : Functions) (fs : List Funclet) (program : LinearProgram) (p : Plan
   HasPurpose None r = r.kind ≡ LocalUnwind
 
   -- an unwinding that runs a `__finally` block, with the regions that are left in the body below
-  pub record UnwindingWaits (m : Memory) (c : Context) (r : DispatchRecord) (rest : List Region) (target : Target) (is : List StackItem) (below : List Item) : Type 0 where
+  pub record UnwindingWaits (m : Memory) (c : Context) (r : DispatchRecord) (rest : List Region) (target : Target) (is : List StackItem) (below : List Item) (acts : List Activation) : Type 0 where
     pub own : IsOwnRecord m (rsp c) r
     pub purpose : HasPurpose target.code r
     pub row : IsAtRow r.row below (Some rest)
     pub aimed : Aimed target.depth target.label r.target_frame r.target r.walk is below
+    pub space : HasSpace (rsp c) (below_end + record_room) (length acts + target.held)
 
   -- ---- the whole list
 
@@ -262,6 +294,6 @@ module _ (t : Functions) (fs : List Funclet) (program : LinearProgram) (p : Plan
   Linked m c [] [] acts = (acts ≡ []) × (rsp c ≤ STACK_END)
   Linked m c (Framed f ∷ is) (Waits b ∷ below) acts = FrameWaits m c f b below acts × IsAbove b b.body below × Linked m (after_frame c f) is below (activations_below b.body acts)
   Linked m c (Leaf back ∷ is) (Waits b ∷ below) acts = LeafWaits m c b acts × IsAbove b b.body below × Linked m (after_leaf c back) is below (activations_below b.body acts)
-  Linked m c (Searching r ∷ is) (Searches exception resumption asked rest ∷ below) acts = SearchWaits m c r exception asked rest is below × Linked m (context_of r.saved) is below acts
-  Linked m c (Unwinding r ∷ is) (Unwinds rest target ∷ below) acts = UnwindingWaits m c r rest target is below × Linked m r.walk is below acts
+  Linked m c (Searching r ∷ is) (Searches exception resumption asked rest ∷ below) acts = SearchWaits m c r exception resumption asked rest is below × Linked m (context_of r.saved) is below acts
+  Linked m c (Unwinding r ∷ is) (Unwinds rest target ∷ below) acts = UnwindingWaits m c r rest target is below acts × Linked m r.walk is below acts
   Linked m c is items acts = ⊥
