@@ -19,12 +19,12 @@ use Rattle.c_model.specs.declared.ended.Ended.TheVariants as source
 use Rattle.c_model.specs.Meaning.{is_calm}
 use Rattle.linear_code.specs.declared.instruction.Instruction.{Instruction}
 use Rattle.linear_code.specs.Program.{LinearProgram}
-use Rattle.linear_machine.specs.Frames.{Configuration, Seen, Running, Finished}
+use Rattle.linear_machine.specs.Frames.{Configuration, Seen}
 use Rattle.linear_machine.specs.Instructions.{act}
 use Rattle.linear_machine.specs.Run.{instruction_at, exec, shown}
 use Rattle.whole_runs.specs.Ends.{HasRule}
 use Rattle.whole_runs.specs.Matched.{Moves, Exits, Dies, Fails, IsMatched, Follows}
-use Rattle.whole_runs.specs.Laws.{ShowsAll, RunsShowAll}
+use Rattle.whole_runs.specs.Laws.{ShowsAll}
 use Rattle.whole_runs.proofs.Turns.{run_comes, run_returned, run_dies}
 use Rattle.whole_runs.proofs.Steps.{at_instruction, first_has_rule, none_has_no_rule}
 
@@ -77,11 +77,12 @@ module _ (t : Functions) (fs : List Funclet) (program : LinearProgram) (pace : �
         let split : turns ≡ v.turns + (turns - v.turns) = omega arith in
         let rest = begins t fs (turns - v.turns) (host v.state) (c.events ++ v.made) in
         subst (λ (x : Seen). ShowsAll (shown x) (run t fs turns (host s) c.events)) (sym (v.acts (exec program n)))
-        (wild_so (c.events ++ v.events) v.end v.wild (run t fs turns (host s) c.events)
-        (v.front.0 ++ rest.0,
-        ap (λ (x : machines.Shown). x.events) (ap (λ k. run t fs k (host s) c.events) split ∙ run_comes t fs v.turns (turns - v.turns) s v.state c.events v.made v.comes)
-        ∙ rest.1 ∙ ap (λ (es : List Event). (c.events ++ es) ++ rest.0) (sym v.front.1) ∙ ap (λ (es : List Event). es ++ rest.0) (sym (append_assoc c.events v.events v.front.0))
-        ∙ append_assoc (c.events ++ v.events) v.front.0 rest.0))
+        (wild_so (c.events ++ v.events) v.end v.wild (run t fs turns (host s) c.events) (
+          v.front.0 ++ rest.0,
+          ap (λ (x : machines.Shown). x.events) (ap (λ k. run t fs k (host s) c.events) split ∙ run_comes t fs v.turns (turns - v.turns) s v.state c.events v.made v.comes)
+              ∙ rest.1 ∙ ap (λ (es : List Event). (c.events ++ es) ++ rest.0) (sym v.front.1) ∙ ap (λ (es : List Event). es ++ rest.0) (sym (append_assoc c.events v.events v.front.0))
+              ∙ append_assoc (c.events ++ v.events) v.front.0 rest.0,
+        ))
 
     moves : (v : Moves t fs program pace credit (Follows t fs program pace credit n) s c i)
         → ((rest : ℕ) → pace * n + credit v.configuration ≤ rest → ShowsAll (shown (exec program n v.configuration)) (run t fs rest (host v.state) v.configuration.events))

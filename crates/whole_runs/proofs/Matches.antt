@@ -11,10 +11,10 @@ use Rattle.c_model.specs.declared.ended.Ended.TheVariants.{Deep}
 use Rattle.c_model.specs.Meaning.{is_calm}
 use Rattle.linear_code.specs.declared.instruction.Instruction.{Instruction}
 use Rattle.linear_code.specs.Program.{LinearProgram}
-use Rattle.linear_machine.specs.Frames.{Store, Configuration, Seen, Finished, Next, pick, deeper}
+use Rattle.linear_machine.specs.Frames.{Store, Configuration, Finished, Next, pick, deeper}
 use Rattle.linear_machine.specs.Instructions.{act}
 use Rattle.whole_runs.specs.Comes.{Comes}
-use Rattle.whole_runs.specs.Matched.{Moves, Exits, Dies, Fails, IsMatched}
+use Rattle.whole_runs.specs.Matched.{Fails, IsMatched}
 use Rattle.whole_runs.proofs.Turns.{comes_nowhere, comes_then}
 
 -- turns that show nothing, before and after others

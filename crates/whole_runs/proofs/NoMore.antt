@@ -1,5 +1,5 @@
 -- A run of the machine shows no more than linear code, and ends only as that ends.
-use Rattle.std.proofs.Common.{◌≡◌, ◌⊎◌, inl, inr, ℕ, zero, suc, ◌+◌, ◌-◌, ◌<◌, ◌≤◌, true, false, Some, None, List, [], ◌++◌, refl, sym, ap, subst, ◌∙◌, arith, append_assoc}
+use Rattle.std.proofs.Common.{◌≡◌, inl, inr, ℕ, zero, suc, ◌+◌, ◌-◌, ◌<◌, ◌≤◌, true, false, Some, None, List, [], ◌++◌, refl, sym, ap, subst, ◌∙◌, arith, append_assoc}
 use Rattle.std.proofs.lemmas.Bool.{cases_lt}
 use Rattle.std.proofs.lemmas.List.{append-nil}
 use Rattle.std.specs.Prelude.{Option}
@@ -23,7 +23,7 @@ use Rattle.linear_machine.specs.Instructions.{act}
 use Rattle.linear_machine.specs.Run.{instruction_at, exec, shown}
 use Rattle.whole_runs.specs.Comes.{IsLive, Comes}
 use Rattle.whole_runs.specs.Ends.{run_end_of, IsCalm}
-use Rattle.whole_runs.specs.Matched.{Moves, Exits, Dies, Fails, IsMatched, Follows}
+use Rattle.whole_runs.specs.Matched.{Moves, Exits, Dies, IsMatched, Follows}
 use Rattle.whole_runs.specs.Laws.{ShowsNoMore}
 use Rattle.whole_runs.proofs.Turns.{midst, run_comes, run_pauses, run_returned, run_dies}
 use Rattle.whole_runs.proofs.Steps.{at_instruction, first_has_rule, none_has_no_rule, before}
@@ -71,22 +71,22 @@ module _ (t : Functions) (fs : List Funclet) (program : LinearProgram) (pace : �
     exits v =
         subst (λ (x : Seen). ShowsNoMore (shown x) (run t fs m (host s) c.events)) (sym (v.acts (exec program n)))
         (elim (cases_lt m v.turns) as (λ _. ShowsNoMore (record { events = c.events ++ v.events; end = Some (source.Exit v.value) }) (run t fs m (host s) c.events)) [
-          inl lt ↦ in_midst t fs (record { events = c.events ++ v.events; end = Some (source.Exit v.value) }) v.turns m s v.state c.events v.events v.comes lt (prefix_same (c.events ++ v.events) (c.events ++ v.events) refl)
-        | inr le ↦
-            let split : m ≡ v.turns + (m - v.turns) = omega arith in
-            ended_as (record { events = c.events ++ v.events; end = Some (source.Exit v.value) }) (run t fs m (host s) c.events) (c.events ++ v.events) (ends.Exit v.value)
-            (ap (λ k. run t fs k (host s) c.events) split ∙ run_comes t fs v.turns (m - v.turns) s v.state c.events v.events v.comes
-            ∙ run_returned t fs (m - v.turns) v.state (c.events ++ v.events) v.over
-            ∙ ap (λ a. record { events = c.events ++ v.events; end = Some (ends.Exit a) }) v.answer)
-            refl refl
+          | inl lt ↦ in_midst t fs (record { events = c.events ++ v.events; end = Some (source.Exit v.value) }) v.turns m s v.state c.events v.events v.comes lt (prefix_same (c.events ++ v.events) (c.events ++ v.events) refl)
+          | inr le ↦
+              let split : m ≡ v.turns + (m - v.turns) = omega arith in
+              ended_as (record { events = c.events ++ v.events; end = Some (source.Exit v.value) }) (run t fs m (host s) c.events) (c.events ++ v.events) (ends.Exit v.value)
+              (ap (λ k. run t fs k (host s) c.events) split ∙ run_comes t fs v.turns (m - v.turns) s v.state c.events v.events v.comes
+              ∙ run_returned t fs (m - v.turns) v.state (c.events ++ v.events) v.over
+              ∙ ap (λ a. record { events = c.events ++ v.events; end = Some (ends.Exit a) }) v.answer)
+              refl refl
         ])
 
     dies : Dies t fs program pace credit s c i → ShowsNoMore (shown (act program i (exec program n) c)) (run t fs m (host s) c.events)
     dies v =
         subst (λ (x : Seen). ShowsNoMore (shown x) (run t fs m (host s) c.events)) (sym (v.acts (exec program n)))
         (elim (cases_lt m v.turns) as (λ _. ShowsNoMore meant (run t fs m (host s) c.events)) [
-          inl lt ↦ in_midst t fs meant v.turns m s v.state c.events v.events v.comes lt front
-        | inr le ↦ from (m - v.turns) (omega arith)
+          | inl lt ↦ in_midst t fs meant v.turns m s v.state c.events v.events v.comes lt front
+          | inr le ↦ from (m - v.turns) (omega arith)
         ])
       where
         meant : Shown
@@ -112,14 +112,14 @@ module _ (t : Functions) (fs : List Funclet) (program : LinearProgram) (pace : �
     moves v rest =
         subst (λ (x : Seen). ShowsNoMore (shown x) (run t fs m (host s) c.events)) (sym (v.acts (exec program n)))
         (elim (cases_lt m v.turns) as (λ _. ShowsNoMore (shown (exec program n v.configuration)) (run t fs m (host s) c.events)) [
-          inl lt ↦ in_midst t fs (shown (exec program n v.configuration)) v.turns m s v.state c.events v.events v.comes lt
-            (subst (λ (es : List Event). IsPrefixOf es (shown (exec program n v.configuration)).events) v.shown (before program n v.configuration))
-        | inr le ↦
-            let some = v.some in
-            let split : m ≡ v.turns + (m - v.turns) = omega arith in
-            subst (λ (x : machines.Shown). ShowsNoMore (shown (exec program n v.configuration)) x)
-            (sym (ap (λ k. run t fs k (host s) c.events) split ∙ run_comes t fs v.turns (m - v.turns) s v.state c.events v.events v.comes ∙ ap (run t fs (m - v.turns) (host v.state)) (sym v.shown)))
-            (rest (m - v.turns) (omega arith))
+          | inl lt ↦ in_midst t fs (shown (exec program n v.configuration)) v.turns m s v.state c.events v.events v.comes lt
+              (subst (λ (es : List Event). IsPrefixOf es (shown (exec program n v.configuration)).events) v.shown (before program n v.configuration))
+          | inr le ↦
+              let some = v.some in
+              let split : m ≡ v.turns + (m - v.turns) = omega arith in
+              subst (λ (x : machines.Shown). ShowsNoMore (shown (exec program n v.configuration)) x)
+              (sym (ap (λ k. run t fs k (host s) c.events) split ∙ run_comes t fs v.turns (m - v.turns) s v.state c.events v.events v.comes ∙ ap (run t fs (m - v.turns) (host v.state)) (sym v.shown)))
+              (rest (m - v.turns) (omega arith))
         ])
 
   none_yet : (m : ℕ) (s : State) (c : Configuration) → IsLive s → m ≡ 0 → ShowsNoMore (shown (exec program zero c)) (run t fs m (host s) c.events)

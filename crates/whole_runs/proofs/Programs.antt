@@ -1,22 +1,19 @@
 -- Whole programs, from the first turn of the machine on.
-use Rattle.std.proofs.Common.{◌≡◌, ◌⊎◌, inl, inr, ℕ, zero, suc, ◌+◌, ◌-◌, ◌*◌, ◌<◌, ◌≤◌, Some, None, List, [], ◌∷◌, ◌++◌, refl, sym, ap, subst, ◌∙◌, arith}
+use Rattle.std.proofs.Common.{◌≡◌, inl, inr, ℕ, ◌+◌, ◌-◌, ◌*◌, ◌≤◌, List, [], refl, sym, ap, subst, ◌∙◌, arith}
 use Rattle.std.proofs.lemmas.Bool.{cases_lt}
 use Rattle.std.specs.Prelude.{Option, ℤ}
-use Rattle.seh_num.specs.declared.event.Event.{Event}
 use Rattle.x64_machine.specs.Effect.{State}
 use Rattle.virtual_unwind.specs.CallerOf.{Functions}
 use Rattle.host_model.specs.declared.funclet.Funclet.{Funclet}
 use Rattle.host_model.specs.HostStep.{host}
 use Rattle.host_model.specs.Machine as machines
 use Rattle.host_model.specs.Machine.{run}
-use Rattle.c_model.specs.Laws.{IsPrefixOf}
 use Rattle.linear_code.specs.Program.{LinearProgram, LinearFunction}
 use Rattle.linear_machine.specs.Frames.{Configuration, Seen, with_some}
 use Rattle.linear_machine.specs.Run.{exec, start, seen, shown}
-use Rattle.whole_runs.specs.Comes.{Comes}
 use Rattle.whole_runs.specs.Ends.{HasRule, IsCalm}
-use Rattle.whole_runs.specs.Laws.{ShowsAll, ShowsNoMore, Begins, RunsShowAll, RunsShowNoMore, ProgramsShowAll, ProgramsShowNoMore}
-use Rattle.whole_runs.proofs.Turns.{midst, run_comes}
+use Rattle.whole_runs.specs.Laws.{ShowsAll, ShowsNoMore, Begins, RunsShowAll, RunsShowNoMore, ProgramsShowAll, ProgramsShowNoMore, TurnsAreEnough}
+use Rattle.whole_runs.proofs.Turns.{run_comes}
 use Rattle.whole_runs.proofs.All.{runs_show_all}
 use Rattle.whole_runs.proofs.NoMore.{in_midst, runs_show_no_more}
 
@@ -46,12 +43,12 @@ module _ (t : Functions) (fs : List Funclet) (program : LinearProgram) (pace : �
   pub program_no_more : (m : ℕ) → IsCalm (seen program arg n) → m ≤ n → ShowsNoMore (shown (seen program arg n)) (run t fs m (host s) [])
   program_no_more m calm fewer =
       elim (cases_lt m first) as (λ _. ShowsNoMore (shown (seen program arg n)) (run t fs m (host s) [])) [
-        inl lt ↦ in_midst t fs (shown (seen program arg n)) first m s b.state [] [] b.comes lt ((shown (seen program arg n)).events, refl)
-      | inr le ↦
-          let split : m ≡ first + (m - first) = omega arith in
-          subst (λ (x : Seen). ShowsNoMore (shown x) (run t fs m (host s) [])) (sym from_main)
-          (subst (λ (x : machines.Shown). ShowsNoMore (shown (exec program n (start program arg b.main))) x) (sym (ap (λ k. run t fs k (host s) []) split ∙ first_run (m - first)))
-          (runs_show_no_more t fs program pace credit n (m - first) b.state (start program arg b.main) b.follows (subst IsCalm from_main calm) (omega arith)))
+        | inl lt ↦ in_midst t fs (shown (seen program arg n)) first m s b.state [] [] b.comes lt ((shown (seen program arg n)).events, refl)
+        | inr le ↦
+            let split : m ≡ first + (m - first) = omega arith in
+            subst (λ (x : Seen). ShowsNoMore (shown x) (run t fs m (host s) [])) (sym from_main)
+            (subst (λ (x : machines.Shown). ShowsNoMore (shown (exec program n (start program arg b.main))) x) (sym (ap (λ k. run t fs k (host s) []) split ∙ first_run (m - first)))
+            (runs_show_no_more t fs program pace credit n (m - first) b.state (start program arg b.main) b.follows (subst IsCalm from_main calm) (omega arith)))
       ]
 
 pub programs_all : ProgramsShowAll
@@ -59,3 +56,6 @@ programs_all t fs program pace credit arg first n turns s b rule enough = progra
 
 pub programs_no_more : ProgramsShowNoMore
 programs_no_more t fs program pace credit arg first m n s b calm fewer = program_no_more t fs program pace credit arg first n s b m calm fewer
+
+pub enough : TurnsAreEnough
+enough n first le = omega arith

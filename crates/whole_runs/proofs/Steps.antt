@@ -1,7 +1,6 @@
 -- Steps of linear code, and what they show whatever follows.
-use Rattle.std.proofs.Common.{◌≡◌, inl, inr, ℕ, zero, suc, ◌+◌, ◌++◌, List, refl, sym, ap, subst, ◌∙◌, arith}
-use Rattle.std.specs.Prelude.{Option, Some, None, ⊤}
-use Rattle.seh_num.specs.declared.event.Event.{Event}
+use Rattle.std.proofs.Common.{◌≡◌, inl, inr, ℕ, zero, suc, ◌+◌, List, refl, sym, ap, subst, ◌∙◌, arith}
+use Rattle.std.specs.Prelude.{Option, Some, None}
 use Rattle.x64_machine.specs.Effect.{State}
 use Rattle.virtual_unwind.specs.CallerOf.{Functions}
 use Rattle.host_model.specs.declared.funclet.Funclet.{Funclet}
@@ -13,7 +12,7 @@ use Rattle.linear_machine.specs.Run.{instruction_at, exec, shown}
 use Rattle.linear_runs.proofs.Longer.{events_of, More, longer, from_none}
 use Rattle.c_model.specs.Laws.{IsPrefixOf}
 use Rattle.whole_runs.specs.Ends.{HasRule}
-use Rattle.whole_runs.specs.Matched.{Moves, IsMatched, StepIsMatched, Follows, Simulates}
+use Rattle.whole_runs.specs.Matched.{IsMatched, Follows, Simulates}
 
 module _ (program : LinearProgram) where
   -- a step and what follows

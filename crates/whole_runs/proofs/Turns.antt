@@ -1,5 +1,5 @@
 -- Turns one after another, and the runs that they belong to.
-use Rattle.std.proofs.Common.{◌≡◌, ℕ, zero, suc, ◌+◌, ◌<◌, Bool, true, false, Some, None, Ok, List, [], ◌∷◌, ◌++◌, refl, sym, ap, subst, ◌∙◌, arith, append_assoc}
+use Rattle.std.proofs.Common.{◌≡◌, ℕ, zero, suc, ◌+◌, ◌<◌, Bool, Some, None, Ok, List, [], ◌++◌, refl, sym, ap, subst, ◌∙◌, arith, append_assoc}
 use Rattle.std.proofs.lemmas.List.{append-nil}
 use Rattle.std.specs.Prelude.{◌==◌}
 use Rattle.seh_num.specs.declared.width.Width.TheVariants.{W32}
@@ -11,11 +11,11 @@ use Rattle.x64_instr.specs.declared.register.Reg.TheVariants.{Rax}
 use Rattle.x64_machine.specs.Effect.{State, register, step}
 use Rattle.virtual_unwind.specs.CallerOf.{Functions, distance}
 use Rattle.host_model.specs.declared.funclet.Funclet.{Funclet}
-use Rattle.host_model.specs.Turns.{Turn, Continues, Ends}
+use Rattle.host_model.specs.Turns.{Continues, Ends}
 use Rattle.host_model.specs.Funclets.{arrivals, arrived}
 use Rattle.host_model.specs.HostStep.{Ended, over, host, turned, turn, end_of}
-use Rattle.host_model.specs.Machine.{Shown, or_turn, continued_by, run}
-use Rattle.whole_runs.specs.Comes.{IsLive, Turns, Comes}
+use Rattle.host_model.specs.Machine.{or_turn, continued_by, run}
+use Rattle.whole_runs.specs.Comes.{IsLive, Comes}
 
 module _ (t : Functions) (fs : List Funclet) where
   -- ---- turns

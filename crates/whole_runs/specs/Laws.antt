@@ -68,3 +68,7 @@ ProgramsShowNoMore =
     (arg : ℤ) (first m n : ℕ) (s : State)
     → Begins t fs program pace credit arg first s n → IsCalm (seen program arg n) → m ≤ n
     → ShowsNoMore (linear_meaning program arg n) (run t fs m (host s) [])
+
+-- linear code makes at most 16 turns for each step of a program, and 2 more: where the machine makes at most 16 for each of these, and 224 before them, it makes at most 256 for each step of the program, and as many again
+abbrev pub TurnsAreEnough : Type 0
+TurnsAreEnough = (n first : ℕ) → first ≤ 224 → first + 16 * (16 * n + 2) ≤ 256 * n + 256

@@ -1,6 +1,6 @@
 //! Laws of whole runs.
 
-ghost use Rattle.whole_runs.specs.Laws.{RunsShowAll, RunsShowNoMore, ProgramsShowAll, ProgramsShowNoMore};
+ghost use Rattle.whole_runs.specs.Laws.{RunsShowAll, RunsShowNoMore, ProgramsShowAll, ProgramsShowNoMore, TurnsAreEnough};
 
 /// Where each step of linear code is matched by turns of the machine, the machine shows within so many
 /// turns what linear code shows, and ends as it ends; and within as many turns as linear code makes, it
@@ -10,4 +10,5 @@ pub fn laws()
     ensures no_more { RunsShowNoMore }
     ensures programs_all { ProgramsShowAll }
     ensures programs_no_more { ProgramsShowNoMore }
+    ensures enough { TurnsAreEnough }
 {}
