@@ -1,5 +1,5 @@
 -- What a change of a body's slots leaves of the list that waits below it.
-use Rattle.std.specs.Prelude.{◌≡◌, ◌⊎◌, ℕ, ◌+◌, ◌*◌, ◌<◌, ◌≤◌, ◌==◌, false, true, List, [], ◌∷◌, length, slice_get, Some}
+use Rattle.std.specs.Prelude.{◌≡◌, ◌⊎◌, ℕ, ◌+◌, ◌*◌, ◌<◌, ◌≤◌, ◌==◌, Bool, false, true, List, [], ◌∷◌, length, slice_get, Some}
 use Rattle.host_layout.specs.declared.range.TheConstants.{STACK_START, STACK_END}
 use Rattle.flat_memory.specs.Memory.{Memory}
 use Rattle.x64_machine.specs.declared.context.Context.{Context}
@@ -13,10 +13,14 @@ use Rattle.linked_stack.specs.ImagePlan.{Plan}
 use Rattle.linked_stack.specs.Linked.{Activation, locals_of, IsActivation, HoldsWords}
 use Rattle.linked_stack.specs.Laws.{Stands}
 
+abbrev pub with_values_if : Bool → Activation → List Activation → List ℕ → List Activation → List Activation
+with_values_if true a outer values others = record a { values = values } ∷ outer
+with_values_if false a outer values others = a ∷ others
+
 -- activation number k with other numbers in its locals
 abbrev pub with_values : List Activation → ℕ → List ℕ → List Activation
 with_values [] k values = []
-with_values (a ∷ outer) k values = elim (k == length outer) [ true ↦ record a { values = values } ∷ outer | false ↦ a ∷ with_values outer k values ]
+with_values (a ∷ outer) k values = with_values_if (k == length outer) a outer values (with_values outer k values)
 
 -- another memory, which has the stack's bytes from an address up as they were, but for a range; protections of the stack, and all code
 pub record KeepsStackBut (m m' : Memory) (low from to : ℕ) : Type 0 where
@@ -30,7 +34,7 @@ module _ (t : Functions) (fs : List Funclet) (program : LinearProgram) (p : Plan
   pub record ActivationStands (m : Memory) (low k base distance : ℕ) (acts : List Activation) : Type 0 where
     pub values : List ℕ
     pub number : slice_get (locals_of acts) k ≡ Some values
-    pub low_end : low ≤ base + distance
+    pub low_end : low ≤ base
     pub high_end : base + distance + 8 * length values ≤ STACK_END
     pub holds : HoldsWords m (base + distance) (base + distance + 8 * length values) values
 
@@ -44,7 +48,7 @@ module _ (t : Functions) (fs : List Funclet) (program : LinearProgram) (p : Plan
   abbrev pub ActivationsAreStored : Type 0
   ActivationsAreStored =
       (m m' : Memory) (c : Context) (is : List StackItem) (items : List Item) (acts : List Activation) (k base distance : ℕ) (old values : List ℕ)
-      → Stands t fs program p m c is items acts → STACK_START ≤ rsp c → IsActivation acts k base distance
+      → Stands t fs program p m c is items acts → STACK_START ≤ rsp c → IsActivation acts k base distance → 32 ≤ distance
       → slice_get (locals_of acts) k ≡ Some old → length values ≡ length old
       → KeepsStackBut m m' (rsp c) (base + distance) (base + distance + 8 * length values)
       → HoldsWords m' (base + distance) (base + distance + 8 * length values) values
