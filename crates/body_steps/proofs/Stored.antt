@@ -22,7 +22,7 @@ use Rattle.linked_stack.specs.Laws.{Stands}
 use Rattle.linked_stack.proofs.Ends.{words_fit, end_within, in_stack}
 use Rattle.linked_stack.proofs.Kept.{ReadsSame, higher, words_kept, activation_kept, pointers_kept, body_kept, frame_kept, leaf_kept, own_kept, frame_stands, leaf_stands, record_stands, list_kept}
 use Rattle.linked_stack.proofs.Keeping.{KeepsRange, reads_other}
-use Rattle.body_steps.specs.Stores.{with_values_if, with_values, KeepsStackBut, ActivationStands, ActivationsAreStored}
+use Rattle.body_steps.specs.Stores.{with_values_if, with_values, KeepsStackBut, OwnerHasFrame, ActivationsAreStored}
 use Rattle.body_steps.proofs.Activations.{stand, locals_count, got_before, got_last}
 
 -- ---- activations
@@ -229,3 +229,151 @@ module _ (m m' : Memory) (t : Functions) (fs : List Funclet) (program : LinearPr
             subst (λ x. Linked t fs program p m' (after_frame c f) is below (activations_below x (record a { values = values } ∷ outer))) (sym name) outermost.linked,
           );
         })
+
+    -- an item that is passed, and the list above it
+    passes_frame : (c : Context) (f : StackFrame) (is : List StackItem) (b : Frame) (below : List Item) (acts : List Activation) → passes acts b.body
+        → KeepsStackBut m m' (rsp c) from to → STACK_START ≤ rsp c → FrameStands t m c f → rsp c + f.size + 8 ≤ from
+        → FrameWaits t fs program p m c f b below acts → IsAbove t fs program p b b.body below → Stored (after_frame c f) is below (activations_below b.body acts)
+        → Stored c (Framed f ∷ is) (Waits b ∷ below) acts
+    passes_frame c f is b below acts i keeps low frame le h above rest =
+        let r = below_them (rsp c) low end keeps in
+        record {
+          stack = (frame_stands m m' from t fs program p c f r le frame, rest.stack);
+          linked = (
+            frame_passed c f b below acts i (frame_kept m m' from t fs program p c f b below acts r (omega arith) h),
+            above,
+            subst (λ x. Linked t fs program p m' (after_frame c f) is below x) (sym (below_passed acts b.body i)) rest.linked,
+          );
+        }
+
+    passes_leaf : (c : Context) (back : ℕ) (is : List StackItem) (b : Frame) (below : List Item) (acts : List Activation) → passes acts b.body
+        → KeepsStackBut m m' (rsp c) from to → STACK_START ≤ rsp c → LeafStands t m c back → rsp c + home_end ≤ from
+        → LeafWaits t fs program p m c b acts → IsAbove t fs program p b b.body below → Stored (after_leaf c back) is below (activations_below b.body acts)
+        → Stored c (Leaf back ∷ is) (Waits b ∷ below) acts
+    passes_leaf c back is b below acts i keeps low leaf le h above rest =
+        let r = below_them (rsp c) low end keeps in
+        record {
+          stack = (leaf_stands m m' from t fs program p c back r (omega arith) leaf, rest.stack);
+          linked = (
+            leaf_passed c b acts i (leaf_kept m m' from t fs program p c b acts r le h),
+            above,
+            subst (λ x. Linked t fs program p m' (after_leaf c back) is below x) (sym (below_passed acts b.body i)) rest.linked,
+          );
+        }
+
+    upper : (c : Context) (f : StackFrame) (is : List StackItem) (b : Frame) (below : List Item) (acts : List Activation) (name : BodyName) → b.body ≡ name → passes acts name
+        → KeepsStackBut m m' (rsp c) from to → STACK_START ≤ rsp c → FrameStands t m c f → IsStack t m (after_frame c f) is
+        → FrameWaits t fs program p m c f b below acts → IsAbove t fs program p b b.body below → Linked t fs program p m (after_frame c f) is below (activations_below name acts)
+        → Stored (after_frame c f) is below (activations_below name acts)
+        → Stored c (Framed f ∷ is) (Waits b ∷ below) acts
+    upper c f is b below acts name same i keeps low frame stack h above linked rest =
+        let nine = frame.kept in
+        let e : rsp (after_frame c f) ≡ rsp c + f.size + 8 = set_head c.kept (rsp c + f.size + 8) (omega arith) in
+        let high = (stand t fs program p m (after_frame c f) is below (activations_below name acts) k base distance stack linked i).low_end in
+        passes_frame c f is b below acts (subst (λ x. passes acts x) (sym same) i) keeps low frame (omega arith) h above
+        (subst (λ x. Stored (after_frame c f) is below (activations_below x acts)) (sym same) rest)
+
+    leaf_upper : (c : Context) (back : ℕ) (is : List StackItem) (b : Frame) (below : List Item) (acts : List Activation) (name : BodyName) → b.body ≡ name → passes acts name
+        → KeepsStackBut m m' (rsp c) from to → STACK_START ≤ rsp c → LeafStands t m c back → IsStack t m (after_leaf c back) is
+        → LeafWaits t fs program p m c b acts → IsAbove t fs program p b b.body below → Linked t fs program p m (after_leaf c back) is below (activations_below name acts)
+        → Stored (after_leaf c back) is below (activations_below name acts)
+        → Stored c (Leaf back ∷ is) (Waits b ∷ below) acts
+    leaf_upper c back is b below acts name same i keeps low leaf stack h above linked rest =
+        let nine = leaf.kept in
+        let e : rsp (after_leaf c back) ≡ rsp c + 8 = set_head c.kept (rsp c + 8) (omega arith) in
+        let high = (stand t fs program p m (after_leaf c back) is below (activations_below name acts) k base distance stack linked i).low_end in
+        passes_leaf c back is b below acts (subst (λ x. passes acts x) (sym same) i) keeps low leaf (omega arith) h above
+        (subst (λ x. Stored (after_leaf c back) is below (activations_below x acts)) (sym same) rest)
+
+    -- this frame's own, or that of one above
+    by_frame : (c : Context) (f : StackFrame) (is : List StackItem) (b : Frame) (below : List Item) (acts : List Activation) (name : BodyName) → b.body ≡ name → IsActivation acts k base distance → Fits acts
+        → KeepsStackBut m m' (rsp c) from to → STACK_START ≤ rsp c → FrameStands t m c f → IsStack t m (after_frame c f) is
+        → FrameWaits t fs program p m c f b below acts → HasActivation m (p.layout b.body) (rsp c) f.size b.activation acts name → IsAbove t fs program p b b.body below → Linked t fs program p m (after_frame c f) is below (activations_below name acts)
+        → (passes acts name → Stored (after_frame c f) is below (activations_below name acts))
+        → Stored c (Framed f ∷ is) (Waits b ∷ below) acts
+    by_frame c f is b below [] name same i fits keeps low frame stack h locals above linked rest = absurd i
+    by_frame c f is b below (a ∷ outer) (FunctionBody n) same (inl own) fits keeps low frame stack h locals above linked rest = own_function c f is b below a outer n same own fits keeps low frame stack h locals above linked
+    by_frame c f is b below (a ∷ outer) (FunctionBody n) same (inr i) fits keeps low frame stack h locals above linked rest = upper c f is b below (a ∷ outer) (FunctionBody n) same i keeps low frame stack h above linked (rest i)
+    by_frame c f is b below (a ∷ outer) (FuncletBody j) same i fits keeps low frame stack h locals above linked rest = upper c f is b below (a ∷ outer) (FuncletBody j) same i keeps low frame stack h above linked (rest i)
+
+    by_leaf : (c : Context) (back : ℕ) (is : List StackItem) (b : Frame) (below : List Item) (acts : List Activation) (name : BodyName) → b.body ≡ name → IsActivation acts k base distance → (k ≡ length (activations_below name acts) → p.leaf b.body ≡ false)
+        → KeepsStackBut m m' (rsp c) from to → STACK_START ≤ rsp c → LeafStands t m c back → IsStack t m (after_leaf c back) is
+        → LeafWaits t fs program p m c b acts → IsAbove t fs program p b b.body below → Linked t fs program p m (after_leaf c back) is below (activations_below name acts)
+        → (passes acts name → Stored (after_leaf c back) is below (activations_below name acts))
+        → Stored c (Leaf back ∷ is) (Waits b ∷ below) acts
+    by_leaf c back is b below [] name same i framed keeps low leaf stack h above linked rest = absurd i
+    by_leaf c back is b below (a ∷ outer) (FunctionBody n) same (inl own) framed keeps low leaf stack h above linked rest = absurd (let f : true ≡ false = sym h.leaf ∙ framed own.number in cc)
+    by_leaf c back is b below (a ∷ outer) (FunctionBody n) same (inr i) framed keeps low leaf stack h above linked rest = leaf_upper c back is b below (a ∷ outer) (FunctionBody n) same i keeps low leaf stack h above linked (rest i)
+    by_leaf c back is b below (a ∷ outer) (FuncletBody j) same i framed keeps low leaf stack h above linked rest = leaf_upper c back is b below (a ∷ outer) (FuncletBody j) same i keeps low leaf stack h above linked (rest i)
+
+    pub stored : (c : Context) (is : List StackItem) (items : List Item) (acts : List Activation) → IsStack t m c is → Linked t fs program p m c is items acts → IsActivation acts k base distance → OwnerHasFrame t fs program p k items acts → Fits acts
+        → KeepsStackBut m m' (rsp c) from to → STACK_START ≤ rsp c → Stored c is items acts
+    stored c [] [] acts s h i o fits keeps low = absurd (subst (λ a. IsActivation a k base distance) h.0 i)
+    stored c (Framed f ∷ is) (Waits b ∷ below) acts s h i o fits keeps low =
+        let e = rises t m c (Framed f) s.0 in
+        by_frame c f is b below acts b.body refl i fits keeps low s.0 s.1 h.0 h.0.waits.activation h.1 h.2
+        (λ j. stored (after_frame c f) is below (activations_below b.body acts) s.1 h.2 j o.1 (outer_fits acts b.body fits) (kept_from (rsp c) (rsp (after_frame c f)) (omega arith) keeps) (omega arith))
+    stored c (Leaf back ∷ is) (Waits b ∷ below) acts s h i o fits keeps low =
+        let e = rises t m c (Leaf back) s.0 in
+        by_leaf c back is b below acts b.body refl i o.0 keeps low s.0 s.1 h.0 h.1 h.2
+        (λ j. stored (after_leaf c back) is below (activations_below b.body acts) s.1 h.2 j o.1 (outer_fits acts b.body fits) (kept_from (rsp c) (rsp (after_leaf c back)) (omega arith) keeps) (omega arith))
+    stored c (Searching d ∷ is) (Searches exception resumption asked rest ∷ below) acts s h i o fits keeps low =
+        let e = rises t m c (Searching d) s.0 in
+        let a = s.0.above in
+        let high = (stand t fs program p m (context_of d.saved) is below acts k base distance s.1 h.1 i).low_end in
+        let r = below_them (rsp c) low end keeps in
+        let outer = stored (context_of d.saved) is below acts s.1 h.1 i o fits (kept_from (rsp c) (rsp (context_of d.saved)) (omega arith) keeps) (omega arith) in
+        record {
+          stack = (record_stands m m' from t fs program p c d filter_return true (context_of d.saved) r (omega arith) s.0, outer.stack);
+          linked = (
+            record {
+              own = own_kept m m' from t fs program p (rsp c) d r (omega arith) h.0.own;
+              carries = h.0.carries;
+              resumes = h.0.resumes;
+              onward = h.0.onward;
+              address = h.0.address;
+              aimed = h.0.aimed;
+              before = h.0.before;
+              near = h.0.near;
+            },
+            outer.linked,
+          );
+        }
+    stored c (Unwinding d ∷ is) (Unwinds rest target ∷ below) acts s h i o fits keeps low =
+        let e = rises t m c (Unwinding d) s.0 in
+        let a = s.0.above in
+        let high = (stand t fs program p m d.walk is below acts k base distance s.1 h.1 i).low_end in
+        let r = below_them (rsp c) low end keeps in
+        let outer = stored d.walk is below acts s.1 h.1 i o fits (kept_from (rsp c) (rsp d.walk) (omega arith) keeps) (omega arith) in
+        record {
+          stack = (record_stands m m' from t fs program p c d finally_return false d.walk r (omega arith) s.0, outer.stack);
+          linked = (
+            record { own = own_kept m m' from t fs program p (rsp c) d r (omega arith) h.0.own; purpose = h.0.purpose; row = h.0.row; aimed = h.0.aimed; space = space_kept (rsp c) (below_end + record_room) target.held acts h.0.space },
+            outer.linked,
+          );
+        }
+    stored c [] (j ∷ items) acts s h i o fits keeps low = absurd h
+    stored c (Framed f ∷ is) [] acts s h i o fits keeps low = absurd h
+    stored c (Framed f ∷ is) (Searches exception resumption asked rest ∷ below) acts s h i o fits keeps low = absurd h
+    stored c (Framed f ∷ is) (Unwinds rest target ∷ below) acts s h i o fits keeps low = absurd h
+    stored c (Leaf back ∷ is) [] acts s h i o fits keeps low = absurd h
+    stored c (Leaf back ∷ is) (Searches exception resumption asked rest ∷ below) acts s h i o fits keeps low = absurd h
+    stored c (Leaf back ∷ is) (Unwinds rest target ∷ below) acts s h i o fits keeps low = absurd h
+    stored c (Searching d ∷ is) [] acts s h i o fits keeps low = absurd h
+    stored c (Searching d ∷ is) (Waits b ∷ below) acts s h i o fits keeps low = absurd h
+    stored c (Searching d ∷ is) (Unwinds rest target ∷ below) acts s h i o fits keeps low = absurd h
+    stored c (Unwinding d ∷ is) [] acts s h i o fits keeps low = absurd h
+    stored c (Unwinding d ∷ is) (Waits b ∷ below) acts s h i o fits keeps low = absurd h
+    stored c (Unwinding d ∷ is) (Searches exception resumption asked rest ∷ below) acts s h i o fits keeps low = absurd h
+
+pub activations_are_stored : (t : Functions) (fs : List Funclet) (program : LinearProgram) (p : Plan) → ActivationsAreStored t fs program p
+activations_are_stored t fs program p m m' c is items acts k base distance old values s low i far owner number count keeps words =
+    let a = stand t fs program p m c is items acts k base distance s.stack s.linked i in
+    let le = a.low_end in
+    let top = a.high_end in
+    let same : a.values ≡ old = the_same a.values old (sym a.number ∙ number) in
+    let n : length a.values ≡ length old = ap length same in
+    stored m m' t fs program p k base distance values (omega arith) far (omega arith) words c is items acts s.stack s.linked i owner (λ vs e. count ∙ ap length (the_same old vs (sym number ∙ e))) keeps low
+  where
+    the_same : (x y : List ℕ) → Some x ≡ Some y → x ≡ y
+    the_same x y e = cc

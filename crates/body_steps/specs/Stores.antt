@@ -7,10 +7,10 @@ use Rattle.virtual_unwind.specs.Contexts.{rsp}
 use Rattle.virtual_unwind.specs.CallerOf.{Functions}
 use Rattle.host_model.specs.declared.funclet.Funclet.{Funclet}
 use Rattle.linear_code.specs.Program.{LinearProgram}
-use Rattle.linear_machine.specs.Frames.{Item}
+use Rattle.linear_machine.specs.Frames.{Item, Waits, Searches, Unwinds}
 use Rattle.raw_stack.specs.Stack.{StackItem}
 use Rattle.linked_stack.specs.ImagePlan.{Plan}
-use Rattle.linked_stack.specs.Linked.{Activation, locals_of, IsActivation, HoldsWords}
+use Rattle.linked_stack.specs.Linked.{Activation, locals_of, activations_below, IsActivation, HoldsWords}
 use Rattle.linked_stack.specs.Laws.{Stands}
 
 abbrev pub with_values_if : Bool → Activation → List Activation → List ℕ → List Activation → List Activation
@@ -44,11 +44,18 @@ module _ (t : Functions) (fs : List Funclet) (program : LinearProgram) (p : Plan
       → Stands t fs program p m c is items acts → IsActivation acts k base distance
       → ActivationStands m (rsp c) k base distance acts
 
+  -- the function whose activation has this number has a frame, wherever it waits
+  abbrev pub OwnerHasFrame : ℕ → List Item → List Activation → Type 0
+  OwnerHasFrame k [] acts = Unit {0}
+  OwnerHasFrame k (Waits b ∷ below) acts = (k ≡ length (activations_below b.body acts) → p.leaf b.body ≡ false) × OwnerHasFrame k below (activations_below b.body acts)
+  OwnerHasFrame k (Searches exception resumption asked rest ∷ below) acts = OwnerHasFrame k below acts
+  OwnerHasFrame k (Unwinds rest target ∷ below) acts = OwnerHasFrame k below acts
+
   -- other numbers in the locals of one activation leave the list as it stands, with these numbers
   abbrev pub ActivationsAreStored : Type 0
   ActivationsAreStored =
       (m m' : Memory) (c : Context) (is : List StackItem) (items : List Item) (acts : List Activation) (k base distance : ℕ) (old values : List ℕ)
-      → Stands t fs program p m c is items acts → STACK_START ≤ rsp c → IsActivation acts k base distance → 32 ≤ distance
+      → Stands t fs program p m c is items acts → STACK_START ≤ rsp c → IsActivation acts k base distance → 32 ≤ distance → OwnerHasFrame k items acts
       → slice_get (locals_of acts) k ≡ Some old → length values ≡ length old
       → KeepsStackBut m m' (rsp c) (base + distance) (base + distance + 8 * length values)
       → HoldsWords m' (base + distance) (base + distance + 8 * length values) values
