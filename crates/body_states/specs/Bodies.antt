@@ -1,5 +1,6 @@
 -- The body that runs, where an instruction of linear code begins.
 use Rattle.std.specs.Prelude.{◌≡◌, ℕ, ◌+◌, ◌*◌, ◌^◌, ◌<◌, ◌≤◌, Bool, true, false, List, [], ◌∷◌, length, Ok}
+use Rattle.host_layout.specs.declared.range.TheConstants.{STACK_END}
 use Rattle.flat_memory.specs.Memory.{Memory}
 use Rattle.x64_instr.specs.declared.register.Reg.TheVariants.{Rsp}
 use Rattle.x64_machine.specs.Contexts.{context_of}
@@ -47,6 +48,7 @@ module _ (t : Functions) (fs : List Funclet) (program : LinearProgram) (p : Plan
     pub slots : BodyWaits t fs program p s.memory (context_of s.cpu) (slots_end (p.layout c.frame.body) (p.leaf c.frame.body)) (last_temporary (p.layout c.frame.body) c.frame.body (p.leaf c.frame.body)) c.frame acts
     pub pointers : HasPointers t fs program p s.memory (p.layout c.frame.body) (register s.cpu Rsp) (p.layout c.frame.body).frame c.below
     pub above : IsAbove t fs program p c.frame c.frame.body c.below
+    pub home : p.leaf c.frame.body ≡ true → register s.cpu Rsp + home_end ≤ STACK_END
     pub back : ℕ
     pub returns : word s.memory (register s.cpu Rsp + (p.layout c.frame.body).frame) ≡ Ok back
     pub is : List StackItem
