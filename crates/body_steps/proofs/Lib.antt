@@ -1,0 +1,4 @@
+pub mod Activations
+pub mod Stored
+pub mod Words
+pub mod Views
