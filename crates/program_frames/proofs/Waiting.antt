@@ -44,7 +44,7 @@ use Rattle.program_tables.proofs.Prologues.{entry_least}
 use Rattle.program_tables.proofs.Table.{tables_are_read}
 use Rattle.program_frames.specs.Standing.{image_base, HasText, template_at, links, IsReturn, IsInBody}
 use Rattle.program_frames.specs.Laws.{IsWaiting, stack_frame, BodiesStand, IsLeafWaiting, LeavesStand}
-use Rattle.program_frames.proofs.Code.{stands_split, code_split, IsThere, there, routine_stands, template_there}
+use Rattle.program_frames.proofs.CodeStands.{stands_split, code_split, IsThere, there, routine_stands, template_there}
 use Rattle.program_frames.proofs.Inner.{Inner, AllInner, inner_at}
 use Rattle.program_frames.proofs.Templates.{template_inner}
 use Rattle.program_frames.proofs.Links.{links_near}
@@ -62,6 +62,7 @@ tail_none (suc n) f at first m x e r =
     ∙ other_none (λ k. tail n false f m ((at + k) % 2 ^ 64)) first x (role_of f x.plain x.instr) r
 
 pub no_epilogue : (at : ℕ) (m : Memory) (i : Instr) → Inner i → Stands m at (chosen i) → at + 15 < 2 ^ 63 → tail_at 0 m at ≡ None
+unfolding tail_at
 no_epilogue at m i inner stands lt =
     let one = append-nil (chosen i) in
     let few = longest i in
