@@ -84,7 +84,7 @@ module _ (t : Functions) (fs : List Funclet) (program : LinearProgram) (p : Plan
   pub record HasService (m : Memory) (at : ℕ) (service : Service) : Type 0 where
     pub thunk : HasThunk m at (address_of service)
     pub inside : IsInImage at (at + 6)
-    pub slot : (a : ℕ) → at + 6 + thunk.away ≤ a → a < at + 6 + thunk.away + 8 → is_reserved program.globals a ≡ true
+    pub slot : IsInImage (at + 6 + thunk.away) (at + 6 + thunk.away + 8)
 
   -- all code of the program, with its thunks and `__chkstk`
   pub record HasProgram (m : Memory) : Type 0 where

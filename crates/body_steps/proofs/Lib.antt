@@ -3,3 +3,5 @@ pub mod Stored
 pub mod Words
 pub mod Views
 pub mod Viewed
+pub mod Programs
+pub mod Reaching
