@@ -5,3 +5,4 @@ pub mod Views
 pub mod Viewed
 pub mod Programs
 pub mod Reaching
+pub mod Becoming
