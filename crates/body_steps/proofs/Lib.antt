@@ -6,3 +6,4 @@ pub mod Viewed
 pub mod Programs
 pub mod Reaching
 pub mod Becoming
+pub mod Homes
