@@ -7,3 +7,4 @@ pub mod Programs
 pub mod Reaching
 pub mod Becoming
 pub mod Homes
+pub mod Next
