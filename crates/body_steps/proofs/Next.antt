@@ -22,10 +22,12 @@ use Rattle.body_states.specs.Programs.{IsProgramImage}
 use Rattle.body_states.specs.Bodies.{slots_end, InBody, Begins}
 use Rattle.body_steps.specs.Views.{counts_of, frame_at}
 use Rattle.body_steps.specs.Stores.{with_values_if, with_values, OwnerHasFrame}
-use Rattle.body_steps.proofs.Views.{SlotsPlaced}
-use Rattle.body_steps.proofs.Viewed.{IsCounted, placed, count}
+use Rattle.x64_templates.specs.Frames.{InTemporaries, InLocals}
+use Rattle.body_states.specs.Bodies.{last_temporary}
+use Rattle.body_steps.proofs.Views.{KeepsSlot, SlotsPlaced}
+use Rattle.body_steps.proofs.Viewed.{IsCounted, placed, count, sp_low, frame_top, last_room, AsFunction, AsLeaf, AsFunclet, kind}
 use Rattle.body_steps.proofs.Stored.{first_changes, still_is, with_count}
-use Rattle.body_steps.proofs.Becoming.{words_are, Changed}
+use Rattle.body_steps.proofs.Becoming.{words_are, Changed, slot_word, word_beside}
 
 -- ---- the numbers of locals
 
@@ -73,3 +75,139 @@ module _ (t : Functions) (fs : List Funclet) (program : LinearProgram) (p : Plan
       pub holds : Holds (frame_at program p c.frame.body code sp here.base) u.memory d
       pub stack : register u.cpu Rsp ≡ sp
       pub leaves : Leaves code d values ts
+
+    cnt : length here.values ≡ code.locals
+    cnt = count t fs program p q image s c b counted
+
+    low : STACK_START + 196568 ≤ sp
+    low = sp_low t fs program p q image s c b counted
+
+    top : sp + y.frame + 8 ≤ STACK_END
+    top = frame_top t fs program p q image s c b counted
+
+    same_option : (a : ℕ) (o : ℕ) → Some a ≡ Some o → a ≡ o
+    same_option a o e = cc
+
+    module _ (u : State) (d : BodyState) (values ts : List ℕ) (r : Ran u d values ts) where
+      -- ---- slots
+
+      number_of_values : length values ≡ length here.values
+      number_of_values = r.leaves.count ∙ sym cnt
+
+      new_local : (i v : ℕ) → slice_get values i ≡ Some v → word u.memory (here.base + y.locals + 8 * i) ≡ Ok v
+      new_local i v e =
+          let g = get_index values i v e in
+          let lt = g.1 in
+          let n = r.leaves.count in
+          let high = here.base_high in
+          let base = here.base_low in
+          let at : here.base + (y.locals + 8 * i) ≡ here.base + y.locals + 8 * i = omega arith in
+          subst (λ a. word u.memory a ≡ Ok v) at
+          (slot_word program.globals s u y (counts_of code) sp c.frame.activation b.body.acts here cnt r.changed b.memory.data_alone b.memory.stack (here.base + (y.locals + 8 * i)) v (omega arith) (let m = cnt in omega arith)
+          (r.holds.slot (Local i) (omega arith) ∙ r.leaves.locals i (omega arith) ∙ g.0))
+
+      new_locals : (end : ℕ) → here.base + y.locals + 8 * length values ≤ end → HoldsWords u.memory (here.base + y.locals) end values
+      new_locals end le = words_are u.memory (here.base + y.locals) end values le new_local
+
+      new_temporary : (i v : ℕ) → slice_get ts i ≡ Some v → word u.memory (sp + y.temporaries + 8 * i) ≡ Ok v
+      new_temporary i v e =
+          let g = get_index ts i v e in
+          let lt = g.1 in
+          let few = r.leaves.few in
+          let high = here.sp_high in
+          let start = here.sp_low in
+          let at : sp + (y.temporaries + 8 * i) ≡ sp + y.temporaries + 8 * i = omega arith in
+          subst (λ a. word u.memory a ≡ Ok v) at
+          (slot_word program.globals s u y (counts_of code) sp c.frame.activation b.body.acts here cnt r.changed b.memory.data_alone b.memory.stack (sp + (y.temporaries + 8 * i)) v (omega arith) (omega arith)
+          (r.holds.slot (Temporary i) (omega arith) ∙ r.leaves.temporaries i v e))
+
+      new_temporaries : HoldsWords u.memory (sp + y.temporaries) (sp + last_temporary y c.frame.body (p.leaf c.frame.body)) ts
+      new_temporaries =
+          let room = last_room t fs program p q image s c b counted in
+          let few = r.leaves.few in
+          words_are u.memory (sp + y.temporaries) (sp + last_temporary y c.frame.body (p.leaf c.frame.body)) ts (omega arith) new_temporary
+
+      -- a word that is in no slot
+      kept_word : (at v : ℕ) → STACK_START ≤ at → at + 8 ≤ STACK_END → ((a : ℕ) → at ≤ a → a < at + 8 → InTemporaries y (counts_of code) sp a ⊎ InLocals y (counts_of code) here.base a → ⊥) → word s.memory at ≡ Ok v → word u.memory at ≡ Ok v
+      kept_word at v l h out w = word_beside program.globals s u y (counts_of code) sp c.frame.activation b.body.acts here cnt r.changed b.memory.data_alone b.memory.stack at v l h out w
+
+      -- ---- by the kind of body
+
+      own_base : (o : Option ℕ) → o ≡ y.base → o ≡ None → here.base ≡ sp
+      own_base None e n = subst (λ o. KeepsSlot s.memory y o sp here.base) (sym e) here.kept
+      own_base (Some slot) e n = absurd (no_slot n)
+        where
+          no_slot : ◌≡◌ {A = Option ℕ} (Some slot) None → ⊥
+          no_slot e = cc
+
+      function_base : y.base ≡ None → here.base ≡ sp
+      function_base n = own_base y.base refl n
+
+      -- a function's activation, with the new numbers
+      own_activation : (number size : ℕ) (acts : List Activation) → b.body.acts ≡ acts → HasActivation s.memory y sp size c.frame.activation acts (FunctionBody number) → y.locals + 8 * length values ≤ size → HasActivation u.memory y sp size c.frame.activation (with_values acts c.frame.activation values) (FunctionBody number)
+      own_activation number size [] e h le = absurd h
+      own_activation number size (a ∷ outer) e h le =
+          let base = function_base h.none in
+          subst (λ x. HasActivation u.memory y sp size c.frame.activation x (FunctionBody number)) (sym (first_changes a outer c.frame.activation values h.activation.number))
+          (record {
+            none = h.none;
+            activation = record { number = h.activation.number; base = h.activation.base; distance = h.activation.distance };
+            values = subst (λ x. HoldsWords u.memory (x + y.locals) (sp + size) values) base (new_locals (sp + size) (omega arith));
+          })
+
+      funclet_base : (number size : ℕ) → (h : HasActivation s.memory y sp size c.frame.activation b.body.acts (FuncletBody number)) → KeepsSlot s.memory y (Some h.slot) sp here.base
+      funclet_base number size h = subst (λ o. KeepsSlot s.memory y o sp here.base) h.some here.kept
+
+      -- the frame's word at an offset that is in no slot
+      abbrev Beside : ℕ → Type 0
+      Beside offset = (a : ℕ) → sp + offset ≤ a → a < sp + offset + 8 → InTemporaries y (counts_of code) sp a ⊎ InLocals y (counts_of code) here.base a → ⊥
+
+      function_beside : AsFunction t fs program p q image s c b counted → Beside y.frame
+      function_beside f a l h i =
+          let base = function_base f.layout.none in
+          let x = f.layout.temporaries in
+          let z = f.layout.locals in
+          elim i [ inl w ↦ (let g = w.1 in absurd (omega arith)) | inr w ↦ (let g = w.1 in absurd (omega arith)) ]
+
+      leaf_beside : AsLeaf t fs program p q image s c b counted → Beside y.frame
+      leaf_beside f a l h i =
+          let base = function_base f.layout.none in
+          let x = f.layout.temporaries in
+          let z = f.layout.locals in
+          let n = f.layout.frame in
+          elim i [ inl w ↦ (let g = w.0 in absurd (omega arith)) | inr w ↦ (let g = w.0 in absurd (omega arith)) ]
+
+      funclet_beside : (f : AsFunclet t fs program p q image s c b counted) → (offset : ℕ) → (offset + 8 ≤ y.temporaries) ⊎ (y.frame ≡ offset) → Beside offset
+      funclet_beside f offset o a l h i =
+          let k = (funclet_base f.number y.frame f.activation).above_frame in
+          let x = f.layout.temporaries in
+          elim i [
+            | inl w ↦ (let g = w.0 in let z = w.1 in elim o [ inl e ↦ absurd (omega arith) | inr e ↦ absurd (omega arith) ])
+            | inr w ↦ (let g = w.0 in elim o [ inl e ↦ absurd (omega arith) | inr e ↦ absurd (omega arith) ])
+          ]
+
+      returns : word u.memory (sp + y.frame) ≡ Ok b.body.back
+      returns = kept_word (sp + y.frame) b.body.back (let l = low in omega arith) (let h = top in omega arith)
+          (elim (kind t fs program p q image s c b counted) [ inl f ↦ function_beside f | inr (inl f) ↦ leaf_beside f | inr (inr f) ↦ funclet_beside f y.frame (inr refl) ])
+          b.body.returns
+
+      activation : HasActivation u.memory y sp (slots_end y (p.leaf c.frame.body)) c.frame.activation (with_values b.body.acts c.frame.activation values) c.frame.body
+      activation = elim (kind t fs program p q image s c b counted) [
+        | inl f ↦ subst (λ l. HasActivation u.memory y sp (slots_end y l) c.frame.activation (with_values b.body.acts c.frame.activation values) c.frame.body) (sym f.framed)
+            (subst (λ n. HasActivation u.memory y sp y.frame c.frame.activation (with_values b.body.acts c.frame.activation values) n) (sym f.name)
+            (own_activation f.number y.frame b.body.acts refl f.activation (let n = r.leaves.count in let z = f.layout.locals in omega arith)))
+        | inr (inl f) ↦ subst (λ l. HasActivation u.memory y sp (slots_end y l) c.frame.activation (with_values b.body.acts c.frame.activation values) c.frame.body) (sym f.leaf)
+            (subst (λ n. HasActivation u.memory y sp y.temporaries c.frame.activation (with_values b.body.acts c.frame.activation values) n) (sym f.name)
+            (own_activation f.number y.temporaries b.body.acts refl f.activation (let n = r.leaves.count in let x = f.layout.temporaries in let z = f.layout.locals in omega arith)))
+        | inr (inr f) ↦ subst (λ l. HasActivation u.memory y sp (slots_end y l) c.frame.activation (with_values b.body.acts c.frame.activation values) c.frame.body) (sym f.framed)
+            (subst (λ n. HasActivation u.memory y sp y.frame c.frame.activation (with_values b.body.acts c.frame.activation values) n) (sym f.name)
+            (record {
+              slot = f.activation.slot;
+              base = f.activation.base;
+              some = f.activation.some;
+              room = f.activation.room;
+              kept = (let k = funclet_base f.number y.frame f.activation in let z = k.below_temporaries in let l = low in let h = top in let w = f.activation.room in
+                  kept_word (sp + f.activation.slot) f.activation.base (omega arith) (omega arith) (funclet_beside f f.activation.slot (inl z)) f.activation.kept);
+              activation = still_is b.body.acts c.frame.activation values c.frame.activation f.activation.base y.locals f.activation.activation;
+            }))
+      ]
