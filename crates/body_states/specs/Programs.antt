@@ -76,6 +76,7 @@ module _ (t : Functions) (fs : List Funclet) (program : LinearProgram) (p : Plan
   pub record HasAddresses (name : BodyName) (b : LinearBody) : Type 0 where
     pub first : p.address name 0 ≡ begin_of p q name + sizes (entry_code program p q name)
     pub labels : IsBody (links_of p q name) (p.layout name) (p.address name 0) b.code
+    pub rises : (label : ℕ) → label < length b.code → p.address name label < p.address name (label + 1)
     pub inside : IsInImage (begin_of p q name) (p.address name 0 + body_size (p.layout name) b.code)
 
   -- ---- memory

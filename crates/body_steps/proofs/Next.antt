@@ -6,28 +6,41 @@ use Rattle.seh_num.specs.declared.event.Event.{Event}
 use Rattle.flat_memory.specs.Memory.{Memory}
 use Rattle.x64_instr.specs.declared.register.Reg.TheVariants.{Rsp}
 use Rattle.x64_machine.specs.Effect.{State, register}
-use Rattle.virtual_unwind.specs.Undone.{word}
+use Rattle.virtual_unwind.specs.Undone.{Answer, word}
 use Rattle.virtual_unwind.specs.CallerOf.{Functions}
 use Rattle.host_model.specs.declared.funclet.Funclet.{Funclet}
 use Rattle.linear_code.specs.declared.slot.Slot.TheVariants.{Local, Temporary}
 use Rattle.linear_code.specs.BodyState.{BodyState}
-use Rattle.linear_code.specs.Program.{LinearProgram, LinearBody}
-use Rattle.linear_machine.specs.Frames.{BodyName, FunctionBody, FuncletBody, body_of, Configuration}
+use Rattle.linear_code.specs.Program.{LinearProgram, LinearBody, LinearFunclet}
+use Rattle.linear_machine.specs.Frames.{BodyName, FunctionBody, FuncletBody, body_of, Frame, Item, Waits, Searches, Unwinds, Configuration}
+use Rattle.x64_machine.specs.declared.context.Context.{Context}
 use Rattle.template_code.specs.declared.layout.Layout.{Layout}
 use Rattle.x64_templates.specs.Runs.{Holds}
-use Rattle.linked_stack.specs.ImagePlan.{Plan}
-use Rattle.linked_stack.specs.Linked.{Activation, locals_of, HoldsWords, IsActivation, HasActivation}
+use Rattle.std.specs.List.{AllByRecursion}
+use Rattle.x64_machine.specs.Contexts.{context_of}
+use Rattle.linear_code.specs.declared.program.Region.{Region}
+use Rattle.linear_machine.specs.Regions.{holds, regions_of}
+use Rattle.linked_stack.specs.ImagePlan.{Plan, InCode}
+use Rattle.raw_stack.specs.Laws.{context_below}
+use Rattle.linked_stack.specs.Linked.{Activation, locals_of, activations_below, HoldsWords, IsActivation, HasActivation, HasPointers, FuncletIsAbove, IsAbove, BodyWaits, HasSpace, below_end, home_end}
+use Rattle.linked_stack.specs.Laws.{Stands}
+use Rattle.linked_stack.proofs.Keeping.{kept_by_other_memories}
+use Rattle.stack_records.specs.Records.{IsData, On}
+use Rattle.dispatch_turns.specs.States.{IsSane}
+use Rattle.body_steps.proofs.Programs.{program_stays}
+use Rattle.body_states.specs.Layouts.{IsFunctionLayout, IsLayoutIf}
 use Rattle.body_states.specs.Sites.{Sites}
 use Rattle.body_states.specs.Programs.{IsProgramImage}
 use Rattle.body_states.specs.Bodies.{slots_end, InBody, Begins}
 use Rattle.body_steps.specs.Views.{counts_of, frame_at}
-use Rattle.body_steps.specs.Stores.{with_values_if, with_values, OwnerHasFrame}
+use Rattle.body_steps.specs.Stores.{with_values_if, with_values, KeepsStackBut, OwnerHasFrame}
+use Rattle.body_steps.proofs.Homes.{CallerHasFrame, home_is_free}
 use Rattle.x64_templates.specs.Frames.{InTemporaries, InLocals}
 use Rattle.body_states.specs.Bodies.{last_temporary}
 use Rattle.body_steps.proofs.Views.{KeepsSlot, SlotsPlaced}
 use Rattle.body_steps.proofs.Viewed.{IsCounted, placed, count, sp_low, frame_top, last_room, AsFunction, AsLeaf, AsFunclet, kind}
-use Rattle.body_steps.proofs.Stored.{first_changes, still_is, with_count}
-use Rattle.body_steps.proofs.Becoming.{words_are, Changed, slot_word, word_beside}
+use Rattle.body_steps.proofs.Stored.{first_changes, still_is, with_count, activations_are_stored}
+use Rattle.body_steps.proofs.Becoming.{words_are, Changed, slot_word, word_beside, stays_data, stack_kept, stack_kept_but, stack_written, image_kept}
 
 -- ---- the numbers of locals
 
@@ -38,6 +51,11 @@ get_index (x ∷ vs) zero v e = (the_same x v e, omega arith)
     the_same : (a b : ℕ) → Some a ≡ Some b → a ≡ b
     the_same a b e = cc
 get_index (x ∷ vs) (suc i) v e = let r = get_index vs i v e in let lt = r.1 in (r.0, omega arith)
+
+-- an instruction is held by the regions that hold it
+same_regions : (rs : List Region) (label : ℕ) → AllByRecursion (λ (r : Region). holds label r ≡ holds label r) rs
+same_regions [] label = tt
+same_regions (r ∷ rs) label = (refl, same_regions rs label)
 
 -- what templates leave in a body's slots: these locals, and these temporaries
 pub record Leaves (b : LinearBody) (d : BodyState) (values ts : List ℕ) : Type 0 where
@@ -69,6 +87,24 @@ module _ (t : Functions) (fs : List Funclet) (program : LinearProgram) (p : Plan
     abbrev here : SlotsPlaced s.memory y code.temporaries sp c.frame.activation b.body.acts
     here = placed t fs program p q image s c b counted
 
+    -- what waits below doesn't depend on the instruction
+    above_next : (items : List Item) (name : BodyName) (f : Frame) (label : ℕ) (landed : Option ℕ) (ts : List ℕ) → IsAbove t fs program p f name items → IsAbove t fs program p (record f { next = label; temporaries = ts; landed = landed }) name items
+    above_next items (FunctionBody n) f label landed ts h = h
+    above_next items (FuncletBody k) f label landed ts h = by_funclet (slice_get program.funclets k) items h
+      where
+        by_funclet : (o : Option LinearFunclet) (items : List Item) → FuncletIsAbove t fs program p k f o items → FuncletIsAbove t fs program p k (record f { next = label; temporaries = ts; landed = landed }) o items
+        by_funclet None items h = absurd h
+        by_funclet (Some g) [] h = absurd h
+        by_funclet (Some g) (Searches exception resumption asked rest ∷ []) h = absurd h
+        by_funclet (Some g) (Searches exception resumption asked rest ∷ Waits w ∷ below) h = h
+        by_funclet (Some g) (Searches exception resumption asked rest ∷ Searches a b c d ∷ below) h = absurd h
+        by_funclet (Some g) (Searches exception resumption asked rest ∷ Unwinds a b ∷ below) h = absurd h
+        by_funclet (Some g) (Unwinds rest target ∷ []) h = absurd h
+        by_funclet (Some g) (Unwinds rest target ∷ Waits w ∷ below) h = h
+        by_funclet (Some g) (Unwinds rest target ∷ Searches a b c d ∷ below) h = absurd h
+        by_funclet (Some g) (Unwinds rest target ∷ Unwinds a b ∷ below) h = absurd h
+        by_funclet (Some g) (Waits w ∷ below) h = h
+
     -- a run of a template of this body
     pub record Ran (u : State) (d : BodyState) (values ts : List ℕ) : Type 0 where
       pub changed : Changed program.globals s u y (counts_of code) sp here.base
@@ -85,8 +121,8 @@ module _ (t : Functions) (fs : List Funclet) (program : LinearProgram) (p : Plan
     top : sp + y.frame + 8 ≤ STACK_END
     top = frame_top t fs program p q image s c b counted
 
-    same_option : (a : ℕ) (o : ℕ) → Some a ≡ Some o → a ≡ o
-    same_option a o e = cc
+    same_word : (x z : ℕ) → ◌≡◌ {A = Answer ℕ} (Ok x) (Ok z) → x ≡ z
+    same_word x z e = cc
 
     module _ (u : State) (d : BodyState) (values ts : List ℕ) (r : Ran u d values ts) where
       -- ---- slots
@@ -211,3 +247,149 @@ module _ (t : Functions) (fs : List Funclet) (program : LinearProgram) (p : Plan
               activation = still_is b.body.acts c.frame.activation values c.frame.activation f.activation.base y.locals f.activation.activation;
             }))
       ]
+
+      -- ---- a filter's pointers
+
+      pointers_in : (items : List Item) → IsAbove t fs program p c.frame c.frame.body items → HasPointers t fs program p s.memory y sp y.frame items → HasPointers t fs program p u.memory y sp y.frame items
+      pointers_in [] a h = tt
+      pointers_in (Waits w ∷ below) a h = tt
+      pointers_in (Unwinds rest target ∷ below) a h = tt
+      pointers_in (Searches exception resumption asked rest ∷ below) a h = elim (kind t fs program p q image s c b counted) [
+        | inl f ↦ absurd (subst (λ n. IsAbove t fs program p c.frame n (Searches exception resumption asked rest ∷ below)) f.name a)
+        | inr (inl f) ↦ absurd (subst (λ n. IsAbove t fs program p c.frame n (Searches exception resumption asked rest ∷ below)) f.name a)
+        | inr (inr f) ↦ (let l = low in let e = top in let z = h.room in let g = f.layout.pointers in let w = f.layout.kept in
+            record { room = h.room; kept = kept_word (sp + y.pointers) (sp + y.frame + 88) (omega arith) (omega arith) (funclet_beside f y.pointers (inl (omega arith))) h.kept })
+      ]
+
+      -- ---- the list below
+
+      data_stays : IsData u.memory
+      data_stays = stays_data program.globals s u y (counts_of code) sp c.frame.activation b.body.acts here cnt r.changed b.memory.data_alone b.memory.stack
+
+      function_below : (number : ℕ) (acts : List Activation) (size : ℕ) → HasActivation s.memory y sp size c.frame.activation acts (FunctionBody number) → activations_below (FunctionBody number) acts ≡ activations_below (FunctionBody number) (with_values acts c.frame.activation values)
+      function_below number [] size h = absurd h
+      function_below number (a ∷ outer) size h = ap (activations_below (FunctionBody number)) (sym (first_changes a outer c.frame.activation values h.activation.number))
+
+      module _ (caller : p.leaf c.frame.body ≡ true → CallerHasFrame p c.below) (owner : (k : ℕ) → c.frame.body ≡ FuncletBody k → OwnerHasFrame t fs program p c.frame.activation c.below b.body.acts) (others : List ℕ) (eight : length others ≡ 8) where
+        abbrev above : Context
+        above = context_below b.body.back (sp + y.frame + 8) others
+
+        abbrev old : Stands t fs program p s.memory above b.body.is c.below (activations_below c.frame.body b.body.acts)
+        old = (b.body.below others eight).stands
+
+        abbrev New : BodyName → Type 0
+        New name = Stands t fs program p u.memory above b.body.is c.below (activations_below name (with_values b.body.acts c.frame.activation values))
+
+        new_function : AsFunction t fs program p q image s c b counted → New c.frame.body
+        new_function f =
+            let l = low in
+            let x = f.layout.temporaries in
+            let z = f.layout.locals in
+            let base = function_base f.layout.none in
+            subst New (sym f.name)
+            (subst (λ acts. Stands t fs program p u.memory above b.body.is c.below acts) (function_below f.number b.body.acts y.frame f.activation)
+            (kept_by_other_memories t fs program p s.memory u.memory above b.body.is c.below (activations_below (FunctionBody f.number) b.body.acts)
+            (stack_kept program.globals s u y (counts_of code) sp c.frame.activation b.body.acts here cnt r.changed b.memory.data_alone b.memory.stack (sp + y.frame + 8) (omega arith) (omega arith) (omega arith))
+            (omega arith)
+            (subst (λ n. Stands t fs program p s.memory above b.body.is c.below (activations_below n b.body.acts)) f.name old)))
+
+        new_leaf : (f : AsLeaf t fs program p q image s c b counted) → New c.frame.body
+        new_leaf f =
+            let l = low in
+            let x = f.layout.temporaries in
+            let z = f.layout.locals in
+            let w = f.layout.few in
+            let n = f.layout.frame in
+            let base = function_base f.layout.none in
+            let home = b.body.home f.leaf in
+            let keep = stack_kept program.globals s u y (counts_of code) sp c.frame.activation b.body.acts here cnt r.changed b.memory.data_alone b.memory.stack (sp + 40) (omega arith) (omega arith) (omega arith) in
+            subst New (sym f.name)
+            (subst (λ acts. Stands t fs program p u.memory above b.body.is c.below acts) (function_below f.number b.body.acts y.temporaries f.activation)
+            (home_is_free s.memory u.memory t fs program p image.laid_out above
+            (record { bytes = λ a from to out. elim out [ inl o ↦ absurd (omega arith) | inr o ↦ keep.bytes a (omega arith) to ]; protection = keep.protection; code = keep.code; no_more_code = keep.no_more_code })
+            (omega arith) b.body.is c.below (activations_below (FunctionBody f.number) b.body.acts) (caller f.leaf)
+            (subst (λ n. Stands t fs program p s.memory above b.body.is c.below (activations_below n b.body.acts)) f.name old)))
+
+        new_funclet : (f : AsFunclet t fs program p q image s c b counted) → New c.frame.body
+        new_funclet f =
+            let l = low in
+            let x = f.layout.temporaries in
+            let kept = funclet_base f.number y.frame f.activation in
+            let base : f.activation.base ≡ here.base = same_word f.activation.base here.base (sym f.activation.kept ∙ kept.word_is) in
+            let function_layout : IsFunctionLayout (p.layout (FunctionBody f.plan.funclet.function)) f.plan.function =
+            subst (λ l. IsLayoutIf program p (p.layout (FunctionBody f.plan.funclet.function)) f.plan.function l) f.plan.function_framed (image.laid_out (FunctionBody f.plan.funclet.function) f.plan.function f.plan.function_there) in
+            let g = function_layout.passed in
+            let h = function_layout.temporaries in
+            let e = f.layout.locals in
+            let n = number_of_values in
+            let keep = stack_kept_but program.globals s u y (counts_of code) sp c.frame.activation b.body.acts here cnt r.changed b.memory.data_alone b.memory.stack (sp + y.frame + 8) (omega arith) (omega arith) in
+            let m : code.locals ≡ length values = sym r.leaves.count in
+            subst New (sym f.name)
+            (activations_are_stored t fs program p s.memory u.memory above b.body.is c.below b.body.acts c.frame.activation here.base y.locals here.values values
+            (subst (λ n. Stands t fs program p s.memory above b.body.is c.below (activations_below n b.body.acts)) f.name old)
+            (omega arith)
+            (subst (λ x. IsActivation b.body.acts c.frame.activation x y.locals) base f.activation.activation)
+            (omega arith) (owner f.number f.name) here.number n
+            (subst (λ n. KeepsStackBut s.memory u.memory (sp + y.frame + 8) (here.base + y.locals) (here.base + y.locals + 8 * n)) m keep)
+            (new_locals (here.base + y.locals + 8 * length values) (omega arith)))
+
+        pub new_list : New c.frame.body
+        new_list = elim (kind t fs program p q image s c b counted) [ inl f ↦ new_function f | inr (inl f) ↦ new_leaf f | inr (inr f) ↦ new_funclet f ]
+
+        pub new_on : On t fs program p u.memory above b.body.is c.below (activations_below c.frame.body (with_values b.body.acts c.frame.activation values))
+        new_on = record { stands = new_list; data_alone = data_stays }
+
+      -- ---- the next instruction
+
+      module _ (label : ℕ) (landed : Option ℕ) (events : List Event) (rip : u.cpu.rip ≡ p.address c.frame.body label) (inside : label < length code.code) (sane : IsSane u)
+          (caller : p.leaf c.frame.body ≡ true → CallerHasFrame p c.below) (owner : (k : ℕ) → c.frame.body ≡ FuncletBody k → OwnerHasFrame t fs program p c.frame.activation c.below b.body.acts) where
+        abbrev next : Configuration
+        next = further c b.body.acts label values ts landed d.memory events
+
+        same_depth : length (with_values b.body.acts c.frame.activation values) ≡ length b.body.acts
+        same_depth = with_count b.body.acts c.frame.activation values
+
+        in_code : InCode p c.frame.body label u.cpu.rip
+        in_code =
+            let a = image.addresses c.frame.body code b.body.slots.body in
+            let g = a.rises label inside in
+            record { low = omega (arith, rip); high = omega (arith, rip) }
+
+        slots : BodyWaits t fs program p u.memory (context_of u.cpu) (slots_end y (p.leaf c.frame.body)) (last_temporary y c.frame.body (p.leaf c.frame.body)) next.frame (with_values b.body.acts c.frame.activation values)
+        slots = record {
+          code = code;
+          body = b.body.slots.body;
+          label = label;
+          instruction = in_code;
+          same = same_regions (regions_of (body_of program c.frame.body)) label;
+          small = sane.rip_small;
+          activation = subst (λ x. HasActivation u.memory y x (slots_end y (p.leaf c.frame.body)) c.frame.activation (with_values b.body.acts c.frame.activation values) c.frame.body) (sym r.stack) activation;
+          temporaries = subst (λ x. HoldsWords u.memory (x + y.temporaries) (x + last_temporary y c.frame.body (p.leaf c.frame.body)) ts) (sym r.stack) new_temporaries;
+          space = subst (λ x. HasSpace x below_end (length (with_values b.body.acts c.frame.activation values) + c.frame.held)) (sym r.stack) (subst (λ n. HasSpace sp below_end (n + c.frame.held)) (sym same_depth) b.body.slots.space);
+        }
+
+        pub begins_next : Begins t fs program p q u next
+        begins_next = record {
+          rip = rip;
+          sane = sane;
+          memory = record {
+            data_alone = data_stays;
+            agrees = r.holds.source;
+            stack = stack_written program.globals s u y (counts_of code) sp c.frame.activation b.body.acts here cnt r.changed b.memory.data_alone b.memory.stack;
+            code = program_stays t fs program p q image s.memory u.memory (image_kept program.globals s u y (counts_of code) sp c.frame.activation b.body.acts here cnt r.changed b.memory.data_alone b.memory.stack) b.memory.code;
+          };
+          body = record {
+            acts = with_values b.body.acts c.frame.activation values;
+            store = refl;
+            slots = slots;
+            pointers = subst (λ x. HasPointers t fs program p u.memory y x y.frame c.below) (sym r.stack) (pointers_in c.below b.body.above b.body.pointers);
+            above = above_next c.below c.frame.body c.frame label landed ts b.body.above;
+            home = λ e. subst (λ x. x + home_end ≤ STACK_END) (sym r.stack) (b.body.home e);
+            back = b.body.back;
+            returns = subst (λ x. word u.memory (x + y.frame) ≡ Ok b.body.back) (sym r.stack) returns;
+            is = b.body.is;
+            below = λ others eight.
+                subst (λ x. On t fs program p u.memory (context_below b.body.back (x + y.frame + 8) others) b.body.is c.below (activations_below c.frame.body (with_values b.body.acts c.frame.activation values))) (sym r.stack)
+                (new_on caller owner others eight);
+          };
+        }
