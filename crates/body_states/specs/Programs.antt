@@ -78,6 +78,7 @@ module _ (t : Functions) (fs : List Funclet) (program : LinearProgram) (p : Plan
     pub labels : IsBody (links_of p q name) (p.layout name) (p.address name 0) b.code
     pub rises : (label : ℕ) → label < length b.code → p.address name label < p.address name (label + 1)
     pub inside : IsInImage (begin_of p q name) (p.address name 0 + body_size (p.layout name) b.code)
+    pub not_first : (label k : ℕ) → label < length b.code → k < length program.funclets → p.address name label ≢ p.funclet k
 
   -- ---- memory
 
