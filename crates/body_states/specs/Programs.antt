@@ -144,7 +144,8 @@ module _ (t : Functions) (fs : List Funclet) (program : LinearProgram) (p : Plan
   pub record ReturnsThere (b : Frame) (saved : Cpu) : Type 0 where
     pub first : ℕ
     pub calls : at_instruction b (instructions.CallBuiltIn RaiseException first)
-    pub here : saved.rip ≡ return_at (p.layout b.body) first (p.address b.body b.next)
+    pub here : saved.rip ≡ return_at (p.layout b.body) first (p.address b.body b.next + 5)
+    pub no_result : register saved Rax ≡ 0
 
   -- at the machine instruction that faulted, with the same operands in their registers: they are temporaries, which no filter changes
   pub record WorksAgain (b : Frame) (saved : Cpu) : Type 0 where
