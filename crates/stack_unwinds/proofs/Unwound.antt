@@ -157,17 +157,17 @@ module _ (t : Functions) (fs : List Funclet) (program : LinearProgram) (p : Plan
       })
 
 -- past a function's body one activation more is held
-held_past : BodyName → ℕ → ℕ
+abbrev held_past : BodyName → ℕ → ℕ
 held_past (FunctionBody f) held = held + 1
 held_past (FuncletBody k) held = held
 
 grows_past : (name : BodyName) (held : ℕ) → held ≤ held_past name held
-grows_past (FunctionBody f) held = omega arith
-grows_past (FuncletBody k) held = omega arith
+grows_past (FunctionBody f) held = let e : held ≤ held + 1 = omega arith in e
+grows_past (FuncletBody k) held = let e : held ≤ held = omega arith in e
 
 counted_past : (m : Memory) (y : Layout) (sp size k : ℕ) (acts : List Activation) (name : BodyName) (held : ℕ) → HasActivation m y sp size k acts name → length (activations_below name acts) + held_past name held ≡ length acts + held
 counted_past m y sp size k [] (FunctionBody f) held h = absurd h
-counted_past m y sp size k (a ∷ outer) (FunctionBody f) held h = omega arith
+counted_past m y sp size k (a ∷ outer) (FunctionBody f) held h = let e : length outer + (held + 1) ≡ suc (length outer) + held = omega arith in e
 counted_past m y sp size k acts (FuncletBody j) held h = refl
 
 past_is : (name : BodyName) (target : Target) (held : ℕ) → target_past name (record target { held = held }) ≡ record target { held = held_past name held }
