@@ -1,5 +1,6 @@
 -- The body that runs, where an instruction of linear code begins.
 use Rattle.std.specs.Prelude.{◌≡◌, ℕ, ◌+◌, ◌*◌, ◌^◌, ◌<◌, ◌≤◌, Bool, true, false, List, [], ◌∷◌, length, Ok}
+use Rattle.host_layout.specs.declared.range.TheConstants.{STACK_END}
 use Rattle.flat_memory.specs.Memory.{Memory}
 use Rattle.x64_instr.specs.declared.register.Reg.TheVariants.{Rsp}
 use Rattle.x64_machine.specs.Contexts.{context_of}
@@ -19,9 +20,9 @@ use Rattle.dispatch_turns.specs.States.{IsSane}
 use Rattle.body_states.specs.Sites.{Sites}
 use Rattle.body_states.specs.Programs.{IsMachineMemory}
 
--- how far a body's slots reach above RSP, and its temporaries at most: in a leaf function to the end of the home space above its return address
+-- where the locals of a body end above RSP at the latest, and its temporaries: in a leaf function the temporaries come after the locals, up to the end of the home space above its return address
 abbrev pub slots_end : Layout → Bool → ℕ
-slots_end y true = home_end
+slots_end y true = y.temporaries
 slots_end y false = y.frame
 
 abbrev pub last_temporary : Layout → BodyName → Bool → ℕ
@@ -47,6 +48,7 @@ module _ (t : Functions) (fs : List Funclet) (program : LinearProgram) (p : Plan
     pub slots : BodyWaits t fs program p s.memory (context_of s.cpu) (slots_end (p.layout c.frame.body) (p.leaf c.frame.body)) (last_temporary (p.layout c.frame.body) c.frame.body (p.leaf c.frame.body)) c.frame acts
     pub pointers : HasPointers t fs program p s.memory (p.layout c.frame.body) (register s.cpu Rsp) (p.layout c.frame.body).frame c.below
     pub above : IsAbove t fs program p c.frame c.frame.body c.below
+    pub home : p.leaf c.frame.body ≡ true → register s.cpu Rsp + home_end ≤ STACK_END
     pub back : ℕ
     pub returns : word s.memory (register s.cpu Rsp + (p.layout c.frame.body).frame) ≡ Ok back
     pub is : List StackItem

@@ -1,31 +1,43 @@
 -- What an image has of a linear program: its code in memory, and what is known of its addresses.
-use Rattle.std.specs.Prelude.{◌≡◌, ◌≢◌, ℕ, ◌+◌, ◌^◌, ◌<◌, ◌≤◌, Bool, true, false, List, [], ◌∷◌, ◌++◌, length, slice_get, Option, Some, Ok}
+use Rattle.std.specs.Prelude.{◌≡◌, ◌≢◌, ℕ, ◌+◌, ◌^◌, ◌<◌, ◌≤◌, Bool, true, false, List, [], ◌∷◌, ◌++◌, length, drop, slice_get, Option, Some, Ok}
 use Rattle.host_layout.specs.declared.range.TheConstants.{IMAGE_BASE, IMAGE_RANGE_END, STACK_START, STACK_END}
 use Rattle.host_layout.specs.declared.service.Service.{Service}
 use Rattle.host_layout.specs.declared.service.Service.TheVariants as services
 use Rattle.host_layout.specs.Services.{address_of}
+use Rattle.flat_memory.specs.declared.protection.TheConstants.{UNMAPPED}
 use Rattle.flat_memory.specs.Memory.{Memory, may_write}
 use Rattle.x64_instr.specs.declared.instruction.Instr.{Instr}
 use Rattle.x64_machine.specs.declared.context.Context.{Context}
+use Rattle.x64_instr.specs.declared.register.Reg.TheVariants.{Rax, Rcx, Rdx}
 use Rattle.x64_machine.specs.declared.cpu.Cpu.{Cpu}
+use Rattle.x64_machine.specs.Effect.{register}
 use Rattle.eh_tables.specs.Tables.{Entry}
 use Rattle.virtual_unwind.specs.Contexts.{rsp}
 use Rattle.virtual_unwind.specs.CallerOf.{Functions, distance}
 use Rattle.virtual_unwind.specs.Undone.{word}
 use Rattle.host_model.specs.declared.funclet.Funclet.{Funclet}
 use Rattle.host_model.specs.Funclets.{by_kind, arrivals}
+use Rattle.c_operations.specs.declared.operation.Operation.{Operation}
 use Rattle.c_operations.specs.declared.built_in.BuiltIn.{BuiltIn}
 use Rattle.c_operations.specs.declared.built_in.BuiltIn.TheVariants.{Put, Protect, RaiseException}
 use Rattle.c_model.specs.Source.{is_reserved}
+use Rattle.linear_code.specs.declared.slot.Slot.{Slot}
+use Rattle.linear_code.specs.declared.slot.Slot.TheVariants.{Temporary}
 use Rattle.linear_code.specs.declared.instruction.Instruction.{Instruction}
+use Rattle.linear_code.specs.declared.instruction.Instruction.TheVariants as instructions
 use Rattle.linear_code.specs.declared.program.FuncletKind.{FuncletKind}
 use Rattle.linear_code.specs.declared.program.FuncletKind.TheVariants.{Filter, Finally}
 use Rattle.linear_code.specs.Program.{LinearProgram, LinearBody, LinearFunclet}
-use Rattle.linear_machine.specs.Frames.{BodyName, body_of}
+use Rattle.linear_machine.specs.Frames.{BodyName, body_of, Frame, Resumption, AfterCall, SameOperation}
+use Rattle.linear_machine.specs.Run.{instruction_in}
 use Rattle.template_code.specs.Bytes.{sizes}
+use Rattle.template_code.specs.Slots.{operands_code}
+use Rattle.template_code.specs.Calls.{return_at}
 use Rattle.template_code.specs.Probing.{check_stack}
 use Rattle.template_code.specs.Template.{template, IsBody, body_size}
+use Rattle.x64_templates.specs.Straight.{MachineView}
 use Rattle.x64_templates.specs.Frames.{Agrees}
+use Rattle.x64_templates.specs.Implements.{IsReady}
 use Rattle.x64_templates.specs.Runs.{HasCode}
 use Rattle.x64_templates.specs.Thunks.{HasThunk}
 use Rattle.x64_templates.specs.Quiet.{IsReturn}
@@ -43,6 +55,13 @@ service_of RaiseException = services.RaiseException
 -- a frame of its size, with its entry
 abbrev pub frame_with : Entry → ℕ → ℕ → ℕ → StackFrame
 frame_with entry size offset back = record { entry = entry; size = size; offset = offset; return_address = back }
+
+-- the registers of a saved state, as templates see them; its memory plays no part
+abbrev pub no_memory : Memory
+no_memory = record { protection = λ a. UNMAPPED; byte = λ a. 0 }
+
+abbrev pub view_of : Cpu → MachineView
+view_of c = record { rax = register c Rax; rcx = register c Rcx; rdx = register c Rdx; rest = drop 3 c.registers; memory = no_memory }
 
 module _ (t : Functions) (fs : List Funclet) (program : LinearProgram) (p : Plan) (q : Sites) where
   -- ---- addresses
@@ -79,7 +98,7 @@ module _ (t : Functions) (fs : List Funclet) (program : LinearProgram) (p : Plan
     pub data_alone : IsData m
     pub agrees : Agrees (is_reserved program.globals) m source
     pub stack : (a : ℕ) → STACK_START ≤ a → a < STACK_END → may_write m a ≡ true
-    pub program : HasProgram m
+    pub code : HasProgram m
 
   -- ---- where a body waits
 
@@ -114,6 +133,37 @@ module _ (t : Functions) (fs : List Funclet) (program : LinearProgram) (p : Plan
       → length c.kept ≡ 9 → rsp c + 8 < 2 ^ 64 → word m (rsp c) ≡ Ok back
       → LeafStands t m c back
 
+  -- ---- where a body goes on after an exception that is continued
+
+  abbrev pub at_instruction : Frame → Instruction → Type 0
+  at_instruction b i = instruction_in (body_of program b.body) b.next ≡ Some i
+
+  -- after its call of RaiseException
+  pub record ReturnsThere (b : Frame) (saved : Cpu) : Type 0 where
+    pub first : ℕ
+    pub calls : at_instruction b (instructions.CallBuiltIn RaiseException first)
+    pub here : saved.rip ≡ return_at (p.layout b.body) first (p.address b.body b.next)
+
+  -- at the machine instruction that faulted, with the same operands in their registers: they are temporaries, which no filter changes
+  pub record WorksAgain (b : Frame) (saved : Cpu) : Type 0 where
+    pub to : Slot
+    pub operation : Operation
+    pub first : ℕ
+    pub second : ℕ
+    pub works : at_instruction b (instructions.Compute to operation (Temporary first) (Temporary second))
+    pub here : saved.rip ≡ p.address b.body b.next + sizes (operands_code (p.layout b.body) operation (Temporary first) (Temporary second))
+    pub has_first : slice_get b.temporaries first ≡ Some (register saved Rax)
+    pub has_second : slice_get b.temporaries second ≡ Some (register saved Rcx)
+    pub ready : IsReady operation (view_of saved)
+
+  abbrev pub IsResumption : Resumption → Frame → Cpu → Type 0
+  IsResumption AfterCall b saved = ReturnsThere b saved
+  IsResumption SameOperation b saved = WorksAgain b saved
+
+  pub record SaysResumptions (resumption : Resumption) (b : Frame) (saved : Cpu) : Type 0 where
+    pub says : IsResumption resumption b saved → p.resumes resumption b saved ≡ true
+    pub said : p.resumes resumption b saved ≡ true → IsResumption resumption b saved
+
   -- ---- funclets
 
   abbrev pub is_finally : FuncletKind → Bool
@@ -136,3 +186,4 @@ module _ (t : Functions) (fs : List Funclet) (program : LinearProgram) (p : Plan
     pub frames : FramesStand
     pub leaves : LeavesStand
     pub funclets : FuncletsBegin
+    pub resumptions : (resumption : Resumption) (b : Frame) (saved : Cpu) → SaysResumptions resumption b saved

@@ -28,7 +28,7 @@ pub misplaced_same : (m : Memory) (byte : ℕ → ℕ) (at : ℕ) → misplaced 
 unfolding misplaced
 misplaced_same m byte at = refl
 
-reads_above : (m : Memory) (byte : ℕ → ℕ) (low : ℕ) → KeepsAbove m byte low → ReadsSame m (with_bytes m byte) low
+reads_above : (m : Memory) (byte : ℕ → ℕ) (low : ℕ) → KeepsAbove m byte low → ReadsSame m (with_bytes m byte) low 0x70800000
 reads_above m byte low a = record {
   words = λ at v p q w. word_above m byte low at v a p (omega arith) w;
   records = λ at p q. fetched_by_its_bytes m (with_bytes m byte) at (omega arith) refl (λ x l h. a.above x (omega arith));
@@ -49,7 +49,14 @@ module _ (t : Functions) (fs : List Funclet) (program : LinearProgram) (p : Plan
 
 -- ---- other memories
 
-module _ (m m' : Memory) (low : ℕ) (k : KeepsStack m m' low) (from : 0x70000000 ≤ low) where
+-- another memory with the stack's bytes of a range as they were
+pub record KeepsRange (m m' : Memory) (low top : ℕ) : Type 0 where
+  pub bytes : (x : ℕ) → low ≤ x → x < top → m'.byte x ≡ m.byte x
+  pub protection : (x : ℕ) → 0x70000000 ≤ x → x < 0x70800000 → m'.protection x ≡ m.protection x
+  pub code : (x : ℕ) → (m.protection x).execute ≡ true → (m'.byte x ≡ m.byte x) × (m'.protection x ≡ m.protection x)
+  pub no_more_code : (x : ℕ) → (m.protection x).execute ≡ false → (m'.protection x).execute ≡ false
+
+module _ (m m' : Memory) (low top : ℕ) (k : KeepsRange m m' low top) (from : 0x70000000 ≤ low) (to : top ≤ 0x70800000) where
   same_code : SameCode m m'
   same_code = record { execute = λ x. execute x ((m.protection x).execute) refl; byte = λ x e. (k.code x e).0 }
     where
@@ -64,9 +71,9 @@ module _ (m m' : Memory) (low : ℕ) (k : KeepsStack m m' low) (from : 0x7000000
   may_write_same x p q = ap (λ (r : Protection). is_writable r.rights) (k.protection x p q)
 
   -- the return address below a record is in the stack, or there is no room in either memory
-  places_same : (at : ℕ) → low ≤ at → at + 1568 ≤ 0x70800000 → misplaced m' at ≡ misplaced m at
+  places_same : (at : ℕ) → low ≤ at → at + 1568 ≤ top → misplaced m' at ≡ misplaced m at
   unfolding misplaced
-  places_same at le top = ap (λ (o : Option ℕ). cond (nat_lt (2 ^ 64) (return_address_at at + 1576)) (Some 0) o) (by (nat_lt (return_address_at at) 0x70000000) refl)
+  places_same at le fits = ap (λ (o : Option ℕ). cond (nat_lt (2 ^ 64) (return_address_at at + 1576)) (Some 0) o) (by (nat_lt (return_address_at at) 0x70000000) refl)
     where
       by : (b : Bool) → nat_lt (return_address_at at) 0x70000000 ≡ b
           → cond b (Some (return_address_at at)) (first_refused (may_write m') 1576 (return_address_at at))
@@ -76,7 +83,7 @@ module _ (m m' : Memory) (low : ℕ) (k : KeepsStack m m' low) (from : 0x7000000
           let h : 0x70000000 ≤ return_address_at at = ltb-false _ _ e in
           refused_same (may_write m) (may_write m') 1576 (return_address_at at) (omega arith) (λ x p q. may_write_same x (omega arith) (omega arith))
 
-  pub reads_other : ReadsSame m m' low
+  pub reads_other : ReadsSame m m' low top
   reads_other = record {
     words = λ at v p q w. word_kept m m' at (omega arith) (λ x l h. k.protection x (omega arith) (omega arith)) (λ x l h. k.bytes x (omega arith) (omega arith)) ∙ w;
     records = λ at p q.
@@ -87,4 +94,5 @@ module _ (m m' : Memory) (low : ℕ) (k : KeepsStack m m' low) (from : 0x7000000
   }
 
 pub kept_by_other_memories : KeptByOtherMemories
-kept_by_other_memories t fs program p m m' c is items acts k from s = list_kept m m' t fs program p c is items acts (reads_other m m' (rsp c) k from) s.stack s.linked
+kept_by_other_memories t fs program p m m' c is items acts k from s = list_kept m m' t fs program p c is items acts
+    (reads_other m m' (rsp c) 0x70800000 (record { bytes = k.bytes; protection = k.protection; code = k.code; no_more_code = k.no_more_code }) from (omega arith)) s.stack s.linked

@@ -93,7 +93,7 @@ abbrev pub temporaries_end : Layout → BodyName → ℕ → ℕ
 temporaries_end y (FunctionBody f) size = y.locals
 temporaries_end y (FuncletBody k) size = size
 
--- the slots of a leaf function stand above its return address, in the home space of its caller: the frame ends there
+-- the slots of a leaf function stand above its return address, in the home space of its caller, and end there: its locals, and then its temporaries
 abbrev pub home_end : ℕ
 home_end = 40
 
@@ -175,7 +175,7 @@ module _ (t : Functions) (fs : List Funclet) (program : LinearProgram) (p : Plan
     pub leaf : p.leaf b.body ≡ true
     pub home : rsp c + home_end ≤ STACK_END
     pub none : regions_of (body_of program b.body) ≡ []
-    pub waits : BodyWaits m c home_end home_end b acts
+    pub waits : BodyWaits m c (p.layout b.body).temporaries home_end b acts
 
   -- ---- what lies below a body
 
