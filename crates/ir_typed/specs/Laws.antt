@@ -1,0 +1,33 @@
+-- What is claimed of every configuration that the linear code of a sound program comes to.
+use Rattle.std.specs.Prelude.{◌≡◌}
+use Rattle.c_checked.specs.Program.{Program}
+use Rattle.c_checked.specs.Sound.{IsSound}
+use Rattle.linear_machine.specs.Frames.{Configuration, Next}
+use Rattle.seh_ir.specs.Lowered.{lowered}
+use Rattle.ir_typed.specs.Turns.{IsReached}
+use Rattle.ir_typed.specs.Ready.{CanGoOn}
+use Rattle.ir_typed.specs.Bodies.{IsWhole}
+use Rattle.ir_typed.specs.Waiting.{IsStacked}
+use Rattle.ir_typed.specs.Activations.{HasActivations}
+use Rattle.ir_typed.specs.Small.{HasSmallNumbers}
+
+-- the funclets that bodies name are theirs, and each call has as many arguments as its function takes
+abbrev pub LoweredIsWhole : Type 0
+LoweredIsWhole = (program : Program) → IsSound program → IsWhole (lowered program)
+
+-- it is at an instruction, and what that needs is there
+abbrev pub ReachedGoesOn : Type 0
+ReachedGoesOn = (program : Program) → IsSound program → (c : Configuration) → IsReached (lowered program) c → CanGoOn (lowered program) c
+
+abbrev pub ReachedIsStacked : Type 0
+ReachedIsStacked = (program : Program) → IsSound program → (c : Configuration) → IsReached (lowered program) c → IsStacked (lowered program) c
+
+abbrev pub ReachedHasActivations : Type 0
+ReachedHasActivations = (program : Program) → IsSound program → (c : Configuration) → IsReached (lowered program) c → HasActivations (lowered program) c
+
+abbrev pub ReachedIsSmall : Type 0
+ReachedIsSmall = (program : Program) → IsSound program → (c : Configuration) → IsReached (lowered program) c → HasSmallNumbers c
+
+-- a configuration is determined by what may be seen from it on
+abbrev pub SeenAlikeIsSame : Type 0
+SeenAlikeIsSame = (c d : Configuration) → ((next : Next) → next c ≡ next d) → c ≡ d

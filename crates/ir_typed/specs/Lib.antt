@@ -1,0 +1,7 @@
+pub mod Turns
+pub mod Ready
+pub mod Bodies
+pub mod Waiting
+pub mod Activations
+pub mod Small
+pub mod Laws
