@@ -1,2 +1,12 @@
+pub mod Same
+pub mod Moves
 pub mod Turns
 pub mod Ready
+pub mod Stacked
+pub mod Working
+pub mod Results
+pub mod Numbers
+pub mod Calls
+pub mod Wholes
+pub mod Lowered
+pub mod Reached

@@ -1,8 +1,33 @@
-//! Laws of what is reached.
+//! Laws of the configurations that the linear code of a sound program comes to.
 
-ghost use Rattle.ir_typed.specs.Laws.{ReachedGoesOn};
+ghost use Rattle.ir_typed.specs.Laws.{SeenAlikeIsSame, LoweredIsWhole, ReachedGoesOn, ReachedIsStacked, ReachedHasActivations, ReachedIsSmall};
+
+/// A configuration is determined by what may be seen from it on.
+pub fn alike_is_same()
+    ensures same { SeenAlikeIsSame }
+{}
+
+/// The funclets that bodies name are theirs, and each call has as many arguments as its function takes.
+pub fn lowered_is_whole()
+    ensures whole { LoweredIsWhole }
+{}
 
 /// Each configuration that is reached is at an instruction, and what that needs is there.
 pub fn reached_goes_on()
     ensures goes_on { ReachedGoesOn }
+{}
+
+/// What waits below the body that runs is there, where it is meant to wait.
+pub fn reached_is_stacked()
+    ensures stacked { ReachedIsStacked }
+{}
+
+/// The live activations are those of the functions that run or wait, with all their locals.
+pub fn reached_has_activations()
+    ensures activations { ReachedHasActivations }
+{}
+
+/// Every number that is kept is one of 64 bits.
+pub fn reached_is_small()
+    ensures small { ReachedIsSmall }
 {}
