@@ -9,4 +9,8 @@ pub mod Numbers
 pub mod Calls
 pub mod Wholes
 pub mod Lowered
+pub mod Scans
+pub mod DepthExpressions
+pub mod DepthStatements
+pub mod Deep
 pub mod Reached

@@ -37,11 +37,11 @@ operand_read true c slot v e = tt
 operand_read false c slot v e = read_held c slot v e
 
 -- a choice that answers something was made
-chosen : {A : Type 0} (b : Bool) (x y : A) → (if b then Some x else None) ≡ Some y → b ≡ true
+pub chosen : {A : Type 0} (b : Bool) (x y : A) → (if b then Some x else None) ≡ Some y → b ≡ true
 chosen true x y e = refl
 chosen false x y e = cc
 
-some_temporaries : (c : Configuration) (o : Option (List ℕ)) (d : Configuration) → with_temporaries c o ≡ Some d → (ts : List ℕ) × (o ≡ Some ts)
+pub some_temporaries : (c : Configuration) (o : Option (List ℕ)) (d : Configuration) → with_temporaries c o ≡ Some d → (ts : List ℕ) × (o ≡ Some ts)
 some_temporaries c None d e = absurd (cc)
 some_temporaries c (Some ts) d e = (ts, refl)
 

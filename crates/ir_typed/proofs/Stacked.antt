@@ -52,7 +52,7 @@ all_filter {X = X} P test (x ∷ xs) h = one (test x) (filter test xs) (all_filt
     one true ys k = (h.0, k)
     one false ys k = k
 
-all_map : {X : Type 0} (P Q : X → Type 0) (xs : List X) → ((x : X) → P x → Q x) → AllByRecursion P xs → AllByRecursion Q xs
+pub all_map : {X : Type 0} (P Q : X → Type 0) (xs : List X) → ((x : X) → P x → Q x) → AllByRecursion P xs → AllByRecursion Q xs
 all_map P Q [] f h = tt
 all_map P Q (x ∷ xs) f h = (f x h.0, all_map P Q xs f h.1)
 
@@ -114,7 +114,7 @@ module _ (program : LinearProgram) (bodies : AreBodies program) where
 
   -- ---- handlers
 
-  handlers_stand : (f : Frame) (rs : List Region) (below : List Item) → Regions f.body rs → AreHandlers program (handlers_in rs f.activation (length below)) (Waits f ∷ below)
+  pub handlers_stand : (f : Frame) (rs : List Region) (below : List Item) → Regions f.body rs → AreHandlers program (handlers_in rs f.activation (length below)) (Waits f ∷ below)
   handlers_stand f [] below h = tt
   handlers_stand f (r ∷ rs) below h =
       all_append (λ h. IsHandler program h (Waits f ∷ below)) (handlers_of r.kind f.activation (length below)) (handlers_in rs f.activation (length below)) (of r.kind refl) (handlers_stand f rs below h.1)
@@ -135,30 +135,30 @@ module _ (program : LinearProgram) (bodies : AreBodies program) where
 
   -- ---- targets
 
-  landing_of : (name : BodyName) (end : ℕ) (k : RegionKind) (filter : Option ℕ) (t : ℕ) → IsKindOf program name end k → Handles program k filter t → IsLanding program name t
+  pub landing_of : (name : BodyName) (end : ℕ) (k : RegionKind) (filter : Option ℕ) (t : ℕ) → IsKindOf program name end k → Handles program k filter t → IsLanding program name t
   landing_of name end (kinds.Finally j) filter t p h = absurd h
   landing_of name end (kinds.Filter j l) filter t p h = subst (IsLanding program name) (sym h.1) p.1
   landing_of name end (kinds.Always l) filter t p h = subst (IsLanding program name) (sym h.1) p.0
 
-  aimed : (h : Handler) (code held : ℕ) (items : List Item) → IsHandler program h items → IsTarget program (target_of h code held) items
+  pub aimed : (h : Handler) (code held : ℕ) (items : List Item) → IsHandler program h items → IsTarget program (target_of h code held) items
   aimed h code held [] p = p
   aimed h code held (Waits f ∷ below) (inl p) = inl (record { depth = p.depth; lands = landing_of f.body p.region.end p.region.kind h.filter h.target p.stands.kind p.handles })
   aimed h code held (Waits f ∷ below) (inr p) = inr (aimed h code held below p)
   aimed h code held (Searches exception resumption asked rest ∷ below) p = aimed h code held below p
   aimed h code held (Unwinds rest target ∷ below) p = aimed h code held below p
 
-  low : (t : Target) (items : List Item) → IsTarget program t items → t.depth < length items
+  pub low : (t : Target) (items : List Item) → IsTarget program t items → t.depth < length items
   low t [] p = absurd p
   low t (Waits f ∷ below) (inl p) = let e = p.depth in omega arith
   low t (Waits f ∷ below) (inr p) = let r = low t below p in omega arith
   low t (Searches exception resumption asked rest ∷ below) p = let r = low t below p in omega arith
   low t (Unwinds rest target ∷ below) p = let r = low t below p in omega arith
 
-  here : (t : Target) (f : Frame) (below : List Item) → IsTarget program t (Waits f ∷ below) → t.depth ≡ length below → LandsAt program f t.code t.label
+  pub here : (t : Target) (f : Frame) (below : List Item) → IsTarget program t (Waits f ∷ below) → t.depth ≡ length below → LandsAt program f t.code t.label
   here t f below (inl p) e = p.lands
   here t f below (inr p) e = let r = low t below p in absurd (omega arith)
 
-  further : (t : Target) (f : Frame) (below : List Item) → IsTarget program t (Waits f ∷ below) → (t.depth ≡ length below → ⊥) → IsTarget program t below
+  pub further : (t : Target) (f : Frame) (below : List Item) → IsTarget program t (Waits f ∷ below) → (t.depth ≡ length below → ⊥) → IsTarget program t below
   further t f below (inl p) e = absurd (e p.depth)
   further t f below (inr p) e = p
 
@@ -302,7 +302,7 @@ module _ (program : LinearProgram) (bodies : AreBodies program) where
         on_turn (forth d) (k.landed ∙ l) (k.body ∙ n) (k.exception ∙ x) (k.activation ∙ a) (k.below ∙ w))
 
     module _ (i : Instruction) (at : instruction_at program c ≡ Some i) (plain : is_landing (Some i) ≡ false) where
-      unlanded : c.frame.landed ≡ None
+      pub unlanded : c.frame.landed ≡ None
       unlanded = no_landing c.frame.body c.frame.next c.frame.landed i t.landed at plain
 
       -- this body as one that waits

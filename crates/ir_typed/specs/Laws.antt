@@ -10,6 +10,7 @@ use Rattle.ir_typed.specs.Bodies.{IsWhole}
 use Rattle.ir_typed.specs.Waiting.{IsStacked}
 use Rattle.ir_typed.specs.Activations.{HasActivations}
 use Rattle.ir_typed.specs.Small.{HasSmallNumbers}
+use Rattle.ir_typed.specs.Depths.{HasDepths}
 
 -- the funclets that bodies name are theirs, and each call has as many arguments as its function takes
 abbrev pub LoweredIsWhole : Type 0
@@ -27,6 +28,9 @@ ReachedHasActivations = (program : Program) → IsSound program → (c : Configu
 
 abbrev pub ReachedIsSmall : Type 0
 ReachedIsSmall = (program : Program) → IsSound program → (c : Configuration) → IsReached (lowered program) c → HasSmallNumbers c
+
+abbrev pub ReachedHasDepths : Type 0
+ReachedHasDepths = (program : Program) → IsSound program → (c : Configuration) → IsReached (lowered program) c → HasDepths (lowered program) c
 
 -- a configuration is determined by what may be seen from it on
 abbrev pub SeenAlikeIsSame : Type 0

@@ -4,4 +4,5 @@ pub mod Bodies
 pub mod Waiting
 pub mod Activations
 pub mod Small
+pub mod Depths
 pub mod Laws

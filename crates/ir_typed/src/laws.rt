@@ -1,6 +1,6 @@
 //! Laws of the configurations that the linear code of a sound program comes to.
 
-ghost use Rattle.ir_typed.specs.Laws.{SeenAlikeIsSame, LoweredIsWhole, ReachedGoesOn, ReachedIsStacked, ReachedHasActivations, ReachedIsSmall};
+ghost use Rattle.ir_typed.specs.Laws.{SeenAlikeIsSame, LoweredIsWhole, ReachedGoesOn, ReachedIsStacked, ReachedHasActivations, ReachedIsSmall, ReachedHasDepths};
 
 /// A configuration is determined by what may be seen from it on.
 pub fn alike_is_same()
@@ -30,4 +30,9 @@ pub fn reached_has_activations()
 /// Every number that is kept is one of 64 bits.
 pub fn reached_is_small()
     ensures small { ReachedIsSmall }
+{}
+
+/// Each body that runs or waits holds as many temporaries as its place in the code says.
+pub fn reached_has_depths()
+    ensures depths { ReachedHasDepths }
 {}
