@@ -30,7 +30,7 @@ use Rattle.linear_code.specs.declared.program.FuncletKind.TheVariants as funclet
 use Rattle.linear_code.specs.Program.{LinearProgram, LinearBody, LinearFunction}
 use Rattle.linear_machine.specs.Frames.{BodyName, FunctionBody, FuncletBody, body_of, Frame, Handler, Target, Resumption, AfterCall, SameOperation, Item, Waits, Searches, Unwinds, Store, Configuration, Seen, Finished, Stuck, Next, pick, with_some, deeper, read, write, with_temporary, with_temporaries, last_temporaries, set_local, at_label, forth, with_last}
 use Rattle.linear_machine.specs.Regions.{regions_at, regions_left, handlers, stops}
-use Rattle.linear_machine.specs.Unwinding.{flag_of, run_finally, arrive, left_store, leave_region, unwind_body, unwind}
+use Rattle.linear_machine.specs.Unwinding.{flag_of, run_finally, arrive, target_past, left_store, leave_region, unwind_body, unwind}
 use Rattle.linear_machine.specs.Searching.{target_of, accept, consult, search, raise, resumed, answer}
 use Rattle.linear_machine.specs.Instructions.{is_constant, operand, written, computed, tested, waiting, begin_function, count_of, built_in, return, end_finally, end_funclet, end_body, not_landed, act}
 use Rattle.linear_machine.specs.Run.{instruction_in, instruction_at, start}
@@ -125,8 +125,8 @@ module _ (program : LinearProgram) (whole : IsWhole program) (leads : (name : Bo
   unwind_turn : (t : Target) (items : List Item) (left : Option (List Region)) (es : List Event) (store : Store) → IsTarget program t items → Deep items → Turn Ok (λ next. unwind program next t items left es store)
   unwind_turn t [] left es store p w = absurd p
   unwind_turn t (Waits f ∷ below) left es store p w =
-      body_turn t (λ next store. unwind program next t below None es store) (regions_left left (regions_at program f.body f.next)) (record { frame = f; below = below; store = store; events = es }) p w
-      (λ q store. unwind_turn t below None es store q w.1)
+      body_turn t (λ next store. unwind program next (target_past f.body t) below None es store) (regions_left left (regions_at program f.body f.next)) (record { frame = f; below = below; store = store; events = es }) p w
+      (λ q store. unwind_turn (target_past f.body t) below None es store (stacked.past_target program whole.bodies f.body t below q) w.1)
   unwind_turn t (Searches exception resumption asked rest ∷ below) left es store p w = unwind_turn t below None es store p w
   unwind_turn t (Unwinds rest older ∷ below) left es store p w = unwind_turn t below (Some rest) es store p w
 

@@ -1,5 +1,5 @@
 -- A turn is an end, or leads to one configuration, whatever is done from there on.
-use Rattle.std.proofs.Common.{◌≡◌, ℕ, zero, suc, ◌+◌, ◌*◌, List, [], ◌∷◌, length, refl, sym, ap, subst, ◌∙◌}
+use Rattle.std.proofs.Common.{◌≡◌, ℕ, zero, suc, ◌+◌, List, [], ◌∷◌, length, refl, sym, ap, subst, ◌∙◌}
 use Rattle.std.specs.Prelude.{Bool, true, false, nat_lt, Option, Some, None, slice_get}
 use Rattle.seh_num.specs.declared.event.Event.{Event}
 use Rattle.c_model.specs.declared.ended.Ended.TheVariants.{Deep}
@@ -25,7 +25,7 @@ module _ (P : Configuration → Type 0) where
 
   pub deeper_turn : (n held : ℕ) (store : Store) (es : List Event) (f : Next → Seen) → Turn P f → Turn P (λ next. deeper n held store es (f next))
   deeper_turn n held store es f t =
-      pick_turn (nat_lt 1000 (length store.activations + 2 * held + n)) (λ next. Finished (Deep 1001) es) f (λ e. Halts (Finished (Deep 1001) es) (λ next. refl)) (λ e. t)
+      pick_turn (nat_lt 1000 (length store.activations + held + n)) (λ next. Finished (Deep 1001) es) f (λ e. Halts (Finished (Deep 1001) es) (λ next. refl)) (λ e. t)
 
   -- what it leads to
   pub kept : (f : Next → Seen) (d : Configuration) → Turn P f → ((next : Next) → f next ≡ next d) → P d

@@ -29,7 +29,7 @@ use Rattle.linear_code.specs.declared.program.FuncletKind.TheVariants as funclet
 use Rattle.linear_code.specs.Program.{LinearProgram, LinearFunction}
 use Rattle.linear_machine.specs.Frames.{BodyName, FunctionBody, FuncletBody, Frame, Handler, Target, Resumption, AfterCall, SameOperation, Item, Waits, Searches, Unwinds, Store, Configuration, Seen, Finished, Stuck, Next, pick, with_some, deeper, read, write, with_temporary, with_temporaries, last_temporaries, set_local, at_label, forth, with_last}
 use Rattle.linear_machine.specs.Regions.{regions_at, regions_left, handlers, stops}
-use Rattle.linear_machine.specs.Unwinding.{flag_of, run_finally, arrive, left_store, leave_region, unwind_body, unwind}
+use Rattle.linear_machine.specs.Unwinding.{flag_of, run_finally, arrive, target_past, left_store, leave_region, unwind_body, unwind}
 use Rattle.linear_machine.specs.Searching.{target_of, accept, consult, search, raise, resumed, answer}
 use Rattle.linear_machine.specs.Instructions.{is_constant, operand, written, computed, tested, waiting, begin_function, count_of, built_in, return, end_finally, end_funclet, end_body, not_landed, act}
 use Rattle.linear_machine.specs.Run.{instruction_at, start, main_arguments}
@@ -177,11 +177,15 @@ module _ (program : LinearProgram) where
       pick_turn HasSmallNumbers (stops t x (length c.below)) (λ next. arrive t t.code next c) (λ next. leave_region program next t x.kind rs (unwind_body program next t (out next) rs c) c)
       (λ e. arrive_turn t.code t c s o) (λ e. leave_turn x.kind t rs (λ next. unwind_body program next t (out next) rs c) c s o (body_turn t out rs c s o h))
 
+  past_small : (name : BodyName) (t : Target) → IsSmallCode t.code → IsSmallCode (target_past name t).code
+  past_small (FunctionBody f) t s = s
+  past_small (FuncletBody k) t s = s
+
   unwind_turn : (t : Target) (items : List Item) (left : Option (List Region)) (es : List Event) (store : Store) → IsSmallCode t.code → Over items store → Turn HasSmallNumbers (λ next. unwind program next t items left es store)
   unwind_turn t [] left es store s o = Halts (Stuck es) (λ next. refl)
   unwind_turn t (Waits f ∷ below) left es store s o =
-      body_turn t (λ next store. unwind program next t below None es store) (regions_left left (regions_at program f.body f.next)) (record { frame = f; below = below; store = store; events = es }) s o
-      (λ p. unwind_turn t below None es (left_store f.body f.activation store) s (o.0.1, p))
+      body_turn t (λ next store. unwind program next (target_past f.body t) below None es store) (regions_left left (regions_at program f.body f.next)) (record { frame = f; below = below; store = store; events = es }) s o
+      (λ p. unwind_turn (target_past f.body t) below None es (left_store f.body f.activation store) (past_small f.body t s) (o.0.1, p))
   unwind_turn t (Searches exception resumption asked rest ∷ below) left es store s o = unwind_turn t below None es store s (o.0.1, o.1)
   unwind_turn t (Unwinds rest older ∷ below) left es store s o = unwind_turn t below (Some rest) es store s (o.0.1, o.1)
 

@@ -30,7 +30,7 @@ use Rattle.linear_code.specs.declared.program.FuncletKind.TheVariants as funclet
 use Rattle.linear_code.specs.Program.{LinearProgram, LinearBody, LinearFunction}
 use Rattle.linear_machine.specs.Frames.{BodyName, FunctionBody, FuncletBody, body_of, Frame, Handler, Target, Resumption, AfterCall, SameOperation, Item, Waits, Searches, Unwinds, Store, Configuration, Seen, Finished, Stuck, Next, pick, with_some, deeper, read, write, with_temporary, with_temporaries, last_temporaries, set_local, at_label, forth, with_last}
 use Rattle.linear_machine.specs.Regions.{holds, regions_of, regions_at, regions_left, handlers_of, handlers_in, handlers, stops}
-use Rattle.linear_machine.specs.Unwinding.{flag_of, begin_finally, run_finally, arrive, left_store, leave_region, unwind_body, unwind}
+use Rattle.linear_machine.specs.Unwinding.{flag_of, begin_finally, run_finally, arrive, target_past, left_store, leave_region, unwind_body, unwind}
 use Rattle.linear_machine.specs.Searching.{target_of, accept, begin_filter, consult, search, raise, resumed, answered, answer}
 use Rattle.linear_machine.specs.Instructions.{is_constant, operand, written, computed, compute, tested, jump_if_zero, waiting, begin_function, call, count_of, answers, built_in, call_built_in, return, end_finally, end_funclet, end_body, local_unwind, not_landed, act}
 use Rattle.linear_machine.specs.Run.{instruction_in, instruction_at, start}
@@ -162,6 +162,18 @@ module _ (program : LinearProgram) (bodies : AreBodies program) where
   further t f below (inl p) e = absurd (e p.depth)
   further t f below (inr p) e = p
 
+  -- a target that has left another activation is where it was
+  held_apart : (t : Target) (n : ℕ) (items : List Item) → IsTarget program t items → IsTarget program (record t { held = n }) items
+  held_apart t n [] p = p
+  held_apart t n (Waits f ∷ below) (inl p) = inl (record { depth = p.depth; lands = p.lands })
+  held_apart t n (Waits f ∷ below) (inr p) = inr (held_apart t n below p)
+  held_apart t n (Searches exception resumption asked rest ∷ below) p = held_apart t n below p
+  held_apart t n (Unwinds rest target ∷ below) p = held_apart t n below p
+
+  pub past_target : (name : BodyName) (t : Target) (items : List Item) → IsTarget program t items → IsTarget program (target_past name t) items
+  past_target (FunctionBody f) t items p = held_apart t (t.held + 1) items p
+  past_target (FuncletBody k) t items p = p
+
   -- ---- unwinding
 
   none_lands : (name : BodyName) (label : ℕ) (o : Option ℕ) → o ≡ None → LandsWell program name label o
@@ -197,8 +209,8 @@ module _ (program : LinearProgram) (bodies : AreBodies program) where
   unwind_turn : (t : Target) (items : List Item) (left : Option (List Region)) (es : List Event) (store : Store) → Left left items → Items items → IsTarget program t items → Turn Ok (λ next. unwind program next t items left es store)
   unwind_turn t [] left es store l w p = absurd p
   unwind_turn t (Waits f ∷ below) left es store l w p =
-      body_turn t (λ next store. unwind program next t below None es store) (regions_left left (regions_at program f.body f.next)) (record { frame = f; below = below; store = store; events = es }) (left_are left f below l) w p
-      (λ q store. unwind_turn t below None es store tt w.2 q)
+      body_turn t (λ next store. unwind program next (target_past f.body t) below None es store) (regions_left left (regions_at program f.body f.next)) (record { frame = f; below = below; store = store; events = es }) (left_are left f below l) w p
+      (λ q store. unwind_turn (target_past f.body t) below None es store tt w.2 (past_target f.body t below q))
   unwind_turn t (Searches exception resumption asked rest ∷ below) left es store l w p = unwind_turn t below None es store tt w.2 p
   unwind_turn t (Unwinds rest older ∷ below) left es store l w p = unwind_turn t below (Some rest) es store w.0 w.2 p
 

@@ -28,7 +28,7 @@ use Rattle.linear_code.specs.declared.program.FuncletKind.TheVariants as funclet
 use Rattle.linear_code.specs.Program.{LinearProgram, LinearFunction, LinearFunclet}
 use Rattle.linear_machine.specs.Frames.{BodyName, FunctionBody, FuncletBody, Frame, Handler, Target, Resumption, AfterCall, SameOperation, Item, Waits, Searches, Unwinds, Store, Configuration, Seen, Finished, Stuck, Next, pick, with_some, deeper, locals_of, read, write, with_temporary, with_temporaries, last_temporaries, set_local, at_label, forth, with_last}
 use Rattle.linear_machine.specs.Regions.{regions_at, regions_left, handlers, stops}
-use Rattle.linear_machine.specs.Unwinding.{flag_of, run_finally, arrive, left_store, leave_region, unwind_body, unwind}
+use Rattle.linear_machine.specs.Unwinding.{flag_of, run_finally, arrive, target_past, left_store, leave_region, unwind_body, unwind}
 use Rattle.linear_machine.specs.Searching.{target_of, accept, consult, search, raise, resumed, answer}
 use Rattle.linear_machine.specs.Instructions.{is_constant, operand, written, computed, tested, waiting, begin_function, count_of, built_in, return, end_finally, end_funclet, end_body, not_landed, act}
 use Rattle.linear_machine.specs.Run.{instruction_at, start, main_arguments}
@@ -186,8 +186,8 @@ module _ (program : LinearProgram) (whole : IsWhole program) where
   unwind_turn : (t : Target) (items : List Item) (left : Option (List Region)) (es : List Event) (store : Store) → Left program whole.bodies left items → Items program items → Over program items store → Turn (Ok program) (λ next. unwind program next t items left es store)
   unwind_turn t [] left es store l w o = Halts (Stuck es) (λ next. refl)
   unwind_turn t (Waits f ∷ below) left es store l w o =
-      body_turn t (λ next store. unwind program next t below None es store) (regions_left left (regions_at program f.body f.next)) (record { frame = f; below = below; store = store; events = es }) (left_are program whole.bodies left f below l) o
-      (λ p. unwind_turn t below None es (left_store f.body f.activation store) tt w.2 p)
+      body_turn t (λ next store. unwind program next (target_past f.body t) below None es store) (regions_left left (regions_at program f.body f.next)) (record { frame = f; below = below; store = store; events = es }) (left_are program whole.bodies left f below l) o
+      (λ p. unwind_turn (target_past f.body t) below None es (left_store f.body f.activation store) tt w.2 p)
   unwind_turn t (Searches exception resumption asked rest ∷ below) left es store l w o = unwind_turn t below None es store tt w.2 o
   unwind_turn t (Unwinds rest older ∷ below) left es store l w o = unwind_turn t below (Some rest) es store w.0 w.2 o
 
