@@ -1,7 +1,9 @@
--- Each call in the code of an expression has as many arguments as its function takes.
+-- Each call in the code of an expression has as many arguments as its function takes, and what may fault reads temporaries alone.
 use Rattle.std.proofs.Common.{◌≡◌, ℕ, suc, ◌+◌, List, [], ◌∷◌, ◌++◌}
 use Rattle.std.specs.List.{AllByRecursion}
 use Rattle.std.specs.Prelude.{Bool, Option, Some, None}
+use Rattle.c_operations.specs.declared.operation.Operation.{Operation}
+use Rattle.c_operations.specs.declared.operation.Operation.TheVariants as operations
 use Rattle.c_operations.specs.declared.operation.Pure.{Pure}
 use Rattle.c_operations.specs.declared.operation.Pure.TheVariants as pures
 use Rattle.c_checked.specs.declared.expression.Access.{Access}
@@ -10,6 +12,7 @@ use Rattle.c_checked.specs.declared.expression.Conversion.TheVariants.{Kept, Ext
 use Rattle.c_checked.specs.Expression as nodes
 use Rattle.c_checked.specs.Expression.{Expression, On, Node, Lvalue, Global, Indirection, Element, Arguments, Done, Next}
 use Rattle.c_checked.specs.Program.{Program}
+use Rattle.linear_code.specs.declared.slot.Slot.TheVariants.{Temporary}
 use Rattle.linear_code.specs.declared.instruction.Instruction.{Instruction}
 use Rattle.linear_code.specs.Program.{LinearProgram}
 use Rattle.linear_machine.specs.Frames.{BodyName}
@@ -20,14 +23,19 @@ use Rattle.ir_sizes.specs.Sizes.{address_count, locate_size, read_size, conversi
 use Rattle.seh_ir.specs.Expressions.{conversion_code, unary_code, choice_code, code_code, abnormal_code, load_code, read_code, write_code, address_code, expression_code, locate_code, arguments_code, node_code}
 use Rattle.ir_follows.specs.Fits.{IsCalled, ExpressionFits, LvalueFits, ArgumentsFit, NodeFits}
 use Rattle.ir_bounds.proofs.PlainExpressions.{all_append}
-use Rattle.ir_typed.specs.Bodies.{IsCallee, CallsWell}
+use Rattle.ir_typed.specs.Bodies.{ReadsWell, IsCallee, IsInstructionOf}
+
+-- an operation on one temporary and the next
+combined : (o : Operation) (d : ℕ) → ReadsWell o (Temporary d) (Temporary (d + 1))
+combined (operations.Pure p) d = tt
+combined o d = (tt, tt)
 
 module _ (program : Program) (linear : LinearProgram) (callee : (f count : ℕ) → IsCalled program f count → IsCallee linear f count) (name : BodyName) where
   abbrev pub AllCall : List Instruction → Type 0
-  AllCall code = AllByRecursion (CallsWell linear name) code
+  AllCall code = AllByRecursion (IsInstructionOf linear name) code
 
   pub append : (xs ys : List Instruction) → AllCall xs → AllCall ys → AllCall (xs ++ ys)
-  append xs ys h k = all_append (CallsWell linear name) xs ys h k
+  append xs ys h k = all_append (IsInstructionOf linear name) xs ys h k
 
   conversion_calls : (c : Conversion) (d : ℕ) → AllCall (conversion_code c d)
   conversion_calls Kept d = tt
@@ -43,15 +51,15 @@ module _ (program : Program) (linear : LinearProgram) (callee : (f count : ℕ) 
 
   read_calls : (p : Lvalue) (address to : ℕ) → AllCall (read_code p address to)
   read_calls (nodes.Local x) address to = (tt, tt)
-  read_calls (Global access a) address to = (tt, (tt, tt))
-  read_calls (Indirection access e) address to = (tt, (tt, tt))
-  read_calls (Element access e i) address to = (tt, (tt, tt))
+  read_calls (Global access a) address to = ((tt, tt), (tt, tt))
+  read_calls (Indirection access e) address to = ((tt, tt), (tt, tt))
+  read_calls (Element access e i) address to = ((tt, tt), (tt, tt))
 
-  write_calls : (p : Lvalue) (address from to : ℕ) → CallsWell linear name (write_code p address from to)
+  write_calls : (p : Lvalue) (address from to : ℕ) → IsInstructionOf linear name (write_code p address from to)
   write_calls (nodes.Local x) address from to = tt
-  write_calls (Global access a) address from to = tt
-  write_calls (Indirection access e) address from to = tt
-  write_calls (Element access e i) address from to = tt
+  write_calls (Global access a) address from to = (tt, tt)
+  write_calls (Indirection access e) address from to = (tt, tt)
+  write_calls (Element access e i) address from to = (tt, tt)
 
   address_calls : (p : Lvalue) (d : ℕ) (located : List Instruction) → AllCall located → AllCall (address_code p d located)
   address_calls (nodes.Local x) d located h = (tt, tt)
@@ -59,12 +67,12 @@ module _ (program : Program) (linear : LinearProgram) (callee : (f count : ℕ) 
   address_calls (Indirection access e) d located h = h
   address_calls (Element access e i) d located h = h
 
-  code_calls : (s : ExceptionSource) (d : ℕ) → CallsWell linear name (code_code s d)
+  code_calls : (s : ExceptionSource) (d : ℕ) → IsInstructionOf linear name (code_code s d)
   code_calls NoException d = tt
   code_calls OfFilter d = tt
   code_calls (KeptIn x) d = tt
 
-  flag_calls : (s : Option ℕ) (d : ℕ) → CallsWell linear name (abnormal_code s d)
+  flag_calls : (s : Option ℕ) (d : ℕ) → IsInstructionOf linear name (abnormal_code s d)
   flag_calls None d = tt
   flag_calls (Some x) d = tt
 
@@ -105,15 +113,15 @@ module _ (program : Program) (linear : LinearProgram) (callee : (f count : ℕ) 
           append (locate_code names p d at) _ (locate_calls p d at f.0)
           (append (read_code p d old) _ (read_calls p d old)
           (append (conversion_code before old) _ (conversion_calls before old)
-          (append code _ (expression_calls e (old + 1) place f.1) (tt, append (conversion_code after old) (_ ∷ []) (conversion_calls after old) (write_calls p d old d, tt)))))
+          (append code _ (expression_calls e (old + 1) place f.1) (combined o old, append (conversion_code after old) (_ ∷ []) (conversion_calls after old) (write_calls p d old d, tt)))))
       node_calls (nodes.Increment m p before o v after) d at f =
           let old = d + address_count p in
           append (locate_code names p d at) _ (locate_calls p d at f.0)
           (append (read_code p d old) _ (read_calls p d old) (tt, append (conversion_code before (old + 1)) _ (conversion_calls before (old + 1))
-          (tt, (tt, append (conversion_code after (old + 1)) _ (conversion_calls after (old + 1)) (write_calls p d (old + 1) (old + 1), (tt, tt))))))
+          (tt, (combined o (old + 1), append (conversion_code after (old + 1)) _ (conversion_calls after (old + 1)) (write_calls p d (old + 1) (old + 1), (tt, tt))))))
       node_calls (nodes.Unary o e) d at f = append (expression_code names e d at) (unary_code o d) (expression_calls e d at f.0) (unary_calls o d)
-      node_calls (nodes.Binary o e g) d at f = operands_call e g d at (_ ∷ []) (expression_calls e d at f.0) (expression_calls g (d + 1) (at + expression_size e) f.1) (tt, tt)
-      node_calls (nodes.PointerDifference v e g) d at f = operands_call e g d at (_ ∷ _ ∷ _ ∷ []) (expression_calls e d at f.0) (expression_calls g (d + 1) (at + expression_size e) f.1) (tt, (tt, (tt, tt)))
+      node_calls (nodes.Binary o e g) d at f = operands_call e g d at (_ ∷ []) (expression_calls e d at f.0) (expression_calls g (d + 1) (at + expression_size e) f.1) (combined o d, tt)
+      node_calls (nodes.PointerDifference v e g) d at f = operands_call e g d at (_ ∷ _ ∷ _ ∷ []) (expression_calls e d at f.0) (expression_calls g (d + 1) (at + expression_size e) f.1) (tt, (tt, ((tt, tt), tt)))
       node_calls (nodes.Not e) d at f = append (expression_code names e d at) (choice_code d (at + expression_size e) 1 0) (expression_calls e d at f) (choice_calls d (at + expression_size e) 1 0)
       node_calls (nodes.And e g) d at f =
           let second = at + expression_size e + 1 in

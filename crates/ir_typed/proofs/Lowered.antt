@@ -22,7 +22,7 @@ use Rattle.ir_linked.proofs.Numbers.{count_front, count_back, statements_count}
 use Rattle.ir_linked.proofs.Segments.{StandsAt, front, back, stands_itself}
 use Rattle.ir_linked.proofs.SoundExpressions.{both_left, both_right, Knows}
 use Rattle.ir_linked.proofs.Lowered.{lowered_is_linked}
-use Rattle.ir_typed.specs.Bodies.{IsCallee, CallsWell, IsBodyOf, AreBodies, IsWhole}
+use Rattle.ir_typed.specs.Bodies.{IsCallee, IsInstructionOf, IsBodyOf, AreBodies, IsWhole}
 use Rattle.ir_typed.specs.Laws.{LoweredIsWhole}
 use Rattle.ir_typed.proofs.Calls.{append}
 use Rattle.ir_typed.proofs.Stacked.{same_it, all_at}
@@ -55,7 +55,7 @@ module _ (program : Program) where
       let ends = constant 0 0 ∷ instructions.Return (Temporary 0) ∷ [] in
       let x = all_stand program linear callee (own_locals fn) fn.body (FunctionBody number) body (ap function_body there) (inside fn) (knows fn) (scope_of fn) owner (record { parent = refl; function = refl }) 0 j
           (both_left _ _ (both_left _ _ ok)) (front body.code 0 code ends (stands_itself body.code)) f c in
-      let whole : IsBodyOf linear (FunctionBody number) body = record { regions = x.regions; calls = append program linear callee (FunctionBody number) code ends x.calls (tt, (tt, tt)) } in
+      let whole : IsBodyOf linear (FunctionBody number) body = record { regions = x.regions; code = append program linear callee (FunctionBody number) code ends x.calls (tt, (tt, tt)) } in
       ((λ b e. subst (IsBodyOf linear (FunctionBody number)) (same_it body b (sym (ap function_body there) ∙ e)) whole), x.funclets)
 
   functions_stand : (fs : List Function) (number j : ℕ) → functions_sound program.functions fs ≡ true → StandsAt (lowered program).functions number (map lowered_function fs)

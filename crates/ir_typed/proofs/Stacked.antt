@@ -37,7 +37,7 @@ use Rattle.linear_machine.specs.Run.{instruction_in, instruction_at, start}
 use Rattle.ir_linked.proofs.SoundExpressions.{both_left}
 use Rattle.ir_bounds.proofs.PlainExpressions.{all_append}
 use Rattle.ir_typed.specs.Turns.{IsTurn, IsReached}
-use Rattle.ir_typed.specs.Bodies.{IsFinally, IsFuncletOf, IsLanding, IsKindOf, IsRegionOf, CallsWell, AreBodies}
+use Rattle.ir_typed.specs.Bodies.{IsFinally, IsFuncletOf, IsLanding, IsKindOf, IsRegionOf, IsInstructionOf, AreBodies}
 use Rattle.ir_typed.specs.Waiting.{IsAt, MayWait, IsWaiting, Handles, IsHandlerOf, IsHandler, LandsAt, IsTargetOf, IsTarget, IsAsked, IsBlockOf, IsAbove, IsRaisedIn, AreLeft, AreHandlers, AreWaiting, LandsWell, IsStacked}
 use Rattle.ir_typed.proofs.Ready.{last_are}
 use Rattle.ir_typed.proofs.Moves.{Turn, Halts, Moves, pick_turn, some_turn, deeper_turn, kept, kept_by_all}
@@ -288,12 +288,12 @@ module _ (program : LinearProgram) (bodies : AreBodies program) where
       differ : false ≡ true → ⊥
       differ e = cc
 
-  pub calls_well : (c : Configuration) (i : Instruction) → instruction_at program c ≡ Some i → CallsWell program c.frame.body i
-  calls_well c i at = of (body_of program c.frame.body) refl at
+  pub instruction_fits : (c : Configuration) (i : Instruction) → instruction_at program c ≡ Some i → IsInstructionOf program c.frame.body i
+  instruction_fits c i at = of (body_of program c.frame.body) refl at
     where
-      of : (o : Option LinearBody) → body_of program c.frame.body ≡ o → instruction_in o c.frame.next ≡ Some i → CallsWell program c.frame.body i
+      of : (o : Option LinearBody) → body_of program c.frame.body ≡ o → instruction_in o c.frame.next ≡ Some i → IsInstructionOf program c.frame.body i
       of None e at = absurd (cc)
-      of (Some b) e at = all_at (CallsWell program c.frame.body) b.code c.frame.next i (bodies c.frame.body b e).calls at
+      of (Some b) e at = all_at (IsInstructionOf program c.frame.body) b.code c.frame.next i (bodies c.frame.body b e).code at
 
   module _ (c : Configuration) (t : Ok c) where
     -- straight on, with no exception's code
@@ -364,7 +364,7 @@ module _ (program : LinearProgram) (bodies : AreBodies program) where
     act_turn (instructions.CallFinally k) at =
         some_turn Ok c.events (flag_of (slice_get program.funclets k)) _ (λ flag e.
         deeper_turn Ok 2 c.frame.held c.store c.events _ (Moves _ (record {
-          above = (record { funclet = calls_well c (instructions.CallFinally k) at; activation = refl }, at);
+          above = (record { funclet = instruction_fits c (instructions.CallFinally k) at; activation = refl }, at);
           below = waits (instructions.CallFinally k) at refl c.frame.temporaries tt;
           landed = tt;
         }) (λ next. refl)))

@@ -37,7 +37,7 @@ use Rattle.ir_linked.proofs.Numbers.{count_front, count_back, counted, filter_co
 use Rattle.ir_linked.proofs.Segments.{StandsAt, front, back, stands_itself}
 use Rattle.ir_linked.proofs.SoundExpressions.{both_left, both_right, Knows, expression_fits}
 use Rattle.ir_bounds.proofs.PlainExpressions.{all_append}
-use Rattle.ir_typed.specs.Bodies.{IsFilter, IsFinally, parent_of, function_of, owner_of, IsFuncletOf, IsLanding, IsKindOf, IsRegionOf, IsCallee, CallsWell, IsBodyOf}
+use Rattle.ir_typed.specs.Bodies.{IsFilter, IsFinally, parent_of, function_of, owner_of, IsFuncletOf, IsLanding, IsKindOf, IsRegionOf, IsCallee, IsInstructionOf, IsBodyOf}
 use Rattle.ir_typed.proofs.Calls.{AllCall, append, expression_calls}
 use Rattle.ir_typed.proofs.Stacked.{same_it}
 
@@ -53,7 +53,7 @@ module _ (program : Program) (linear : LinearProgram) (callee : (f count : ℕ) 
 
   -- what is claimed of a part
   pub record Stands (name : BodyName) (code : List Instruction) (rs : List Region) (j n : ℕ) : Type 0 where
-    pub calls : AllByRecursion (CallsWell linear name) code
+    pub calls : AllByRecursion (IsInstructionOf linear name) code
     pub regions : AllByRecursion (IsRegionOf linear name) rs
     pub funclets : Range Fine j (j + n)
 
@@ -106,7 +106,7 @@ module _ (program : Program) (linear : LinearProgram) (callee : (f count : ℕ) 
     exit_calls name (Jumps label) = (tt, (tt, tt))
     exit_calls name (Unwinds label) = (tt, (tt, tt))
 
-    leave_calls : (name : BodyName) (w : Option ℕ) → CallsWell linear name (leave_code w)
+    leave_calls : (name : BodyName) (w : Option ℕ) → IsInstructionOf linear name (leave_code w)
     leave_calls name None = tt
     leave_calls name (Some label) = tt
 
@@ -137,13 +137,13 @@ module _ (program : Program) (linear : LinearProgram) (callee : (f count : ℕ) 
           (record { funclet = funclet; there = there; parent = o.parent; owner = o.function; fits = tt }, l, refl),
           part_of Fine j (j + 1) j (j + 1) (omega arith) (omega arith) (one_part Fine j (fine j funclet f.0 (record {
             regions = tt;
-            calls = append program linear callee (FuncletBody j) (expression_code (filter_names names) e 0 0) (_ ∷ []) (expression_calls program linear callee (FuncletBody j) own true (filter_names names) e 0 0 fits) (tt, tt);
+            code = append program linear callee (FuncletBody j) (expression_code (filter_names names) e 0 0) (_ ∷ []) (expression_calls program linear callee (FuncletBody j) own true (filter_names names) e 0 0 fits) (tt, tt);
           }))),
         )
 
     -- ---- statements
 
-    none_stands : (name : BodyName) (code : List Instruction) (j : ℕ) → AllByRecursion (CallsWell linear name) code → Stands name code [] j 0
+    none_stands : (name : BodyName) (code : List Instruction) (j : ℕ) → AllByRecursion (IsInstructionOf linear name) code → Stands name code [] j 0
     none_stands name code j h = record { calls = h; regions = tt; funclets = no_part Fine j (j + 0) (omega arith) }
 
     mutual
@@ -289,7 +289,7 @@ module _ (program : Program) (linear : LinearProgram) (callee : (f count : ℕ) 
           let x = all_stand body name b there (record i { body = true }) k inner owner o at j (both_left _ _ ok) (front b.code at guarded _ h) (front linear.funclets j fb (funclet ∷ fl) f) (count_front (j + 1) (funclets body) (k' ∷ funclets last) n) in
           let y = all_stand last (FuncletBody (k' - 1)) funclet.body home (in_finally i) (in_last i k) (finally_scope names) (in_funclet (k' - 1) owner) (record { parent = refl; function = ap function_of there' }) 0 (j + length fb + 1) (both_right _ _ ok)
               (front funclet.body.code 0 code ends whole) f1.1 (both_right _ _ n1) in
-          let own_body : Fine (k' - 1) = fine (k' - 1) funclet there' (record { regions = y.regions; calls = append program linear callee (FuncletBody (k' - 1)) code ends y.calls (tt, tt) }) in
+          let own_body : Fine (k' - 1) = fine (k' - 1) funclet there' (record { regions = y.regions; code = append program linear callee (FuncletBody (k' - 1)) code ends y.calls (tt, tt) }) in
           let end = j + length fb + 1 + length fl in
           record {
             calls = append program linear callee name guarded (Separator ∷ CallFinally (k' - 1) ∷ Separator ∷ []) x.calls (tt, (is, (tt, tt)));

@@ -38,7 +38,7 @@ use Rattle.ir_typed.specs.Waiting.{MayWait, Handles, IsHandler, AreHandlers, Are
 use Rattle.ir_typed.specs.Activations.{with_own, owners_of, WorksOn, AreWorking, IsActivationOf, AreActivations, HasActivations}
 use Rattle.ir_typed.proofs.Ready.{last_are}
 use Rattle.ir_typed.proofs.Moves.{Turn, Halts, Moves, pick_turn, some_turn, deeper_turn, kept, kept_by_all}
-use Rattle.ir_typed.proofs.Stacked.{same_it, Left, Regions, left_are, handlers_are, calls_well, taken, is_landing, waits, stays_stacked, starts_stacked}
+use Rattle.ir_typed.proofs.Stacked.{same_it, Left, Regions, left_are, handlers_are, instruction_fits, taken, is_landing, waits, stays_stacked, starts_stacked}
 
 -- ---- lists
 
@@ -299,7 +299,7 @@ module _ (program : LinearProgram) (whole : IsWhole program) where
   call_turn : (c : Configuration) (f first count : ℕ) (vs : List ℕ) (function : LinearFunction) → instruction_at program c ≡ Some (instructions.Call f first count) → last_temporaries c.frame.temporaries first count ≡ Some vs
       → slice_get program.functions f ≡ Some function → at_rest c → Turn (Ok program) (λ next. next (begin_function f function vs c.frame.held (Waits (waiting c first).frame ∷ c.below) c.store c.events))
   call_turn c f first count vs function at e g o =
-      let callee = calls_well program whole.bodies c (instructions.Call f first count) at in
+      let callee = instruction_fits program whole.bodies c (instructions.Call f first count) at in
       let n = as_many program (owners_of (Waits c.frame ∷ c.below)) c.store.activations o.1 in
       let takes = callee.takes ∙ ap (λ (h : LinearFunction). h.parameters) (same_it callee.function function (sym callee.there ∙ g)) in
       goes _ ((n, o.0), one_more program (owners_of (Waits c.frame ∷ c.below)) c.store.activations f _ (entered f count function vs g (last_count c.frame.temporaries first count vs e ∙ takes)) o.1)
@@ -323,7 +323,7 @@ module _ (program : LinearProgram) (whole : IsWhole program) where
     act_turn (instructions.CallBuiltIn k first) at =
         some_turn (Ok program) c.events (last_temporaries c.frame.temporaries first (count_of k)) _ (λ vs e.
         built_in_turn (waiting c first) k vs (λ r. waits program whole.bodies c s (instructions.CallBuiltIn k first) at refl (take first c.frame.temporaries) (raises_with k r first (length (take first c.frame.temporaries)) (taken first (count_of k) c.frame.temporaries vs e))) o)
-    act_turn (instructions.CallFinally k) at = block_turn k c.frame.held false (Waits c.frame ∷ c.below) c (calls_well program whole.bodies c (instructions.CallFinally k) at) o.0 refl o
+    act_turn (instructions.CallFinally k) at = block_turn k c.frame.held false (Waits c.frame ∷ c.below) c (instruction_fits program whole.bodies c (instructions.CallFinally k) at) o.0 refl o
     act_turn (instructions.LocalUnwind label) at =
         unwind_turn (record { depth = length c.below; label = label; code = None; held = c.frame.held }) (Waits c.frame ∷ c.below) None c.events c.store tt (waits_as_is (instructions.LocalUnwind label) at refl tt) o
     act_turn (instructions.Landing to) at = some_turn (Ok program) c.events c.frame.landed (λ next code. written (not_landed c) to code next) (λ code e. written_turn (not_landed c) to code o)

@@ -1,7 +1,10 @@
 -- What the regions and the calls of a body name.
 use Rattle.std.specs.Prelude.{◌≡◌, ℕ, ◌<◌, ◌≤◌, slice_get, Option, Some, None}
 use Rattle.std.specs.List.{AllByRecursion}
-use Rattle.linear_code.specs.declared.slot.Slot.TheVariants.{Local}
+use Rattle.c_operations.specs.declared.operation.Operation.{Operation}
+use Rattle.c_operations.specs.declared.operation.Operation.TheVariants.{Pure}
+use Rattle.linear_code.specs.declared.slot.Slot.{Slot}
+use Rattle.linear_code.specs.declared.slot.Slot.TheVariants.{Local, Temporary}
 use Rattle.linear_code.specs.declared.instruction.Instruction.{Instruction}
 use Rattle.linear_code.specs.declared.instruction.Instruction.TheVariants as instructions
 use Rattle.linear_code.specs.declared.program.Region.{Region}
@@ -29,6 +32,14 @@ parent_of function (Some parent) = FuncletBody parent
 abbrev pub function_of : Option LinearFunclet → Option ℕ
 function_of None = None
 function_of (Some f) = Some f.function
+
+abbrev pub IsTemporary : Slot → Type 0
+IsTemporary (Local x) = ⊥
+IsTemporary (Temporary i) = Unit {0}
+
+abbrev pub ReadsWell : Operation → Slot → Slot → Type 0
+ReadsWell (Pure p) first second = Unit {0}
+ReadsWell o first second = IsTemporary first × IsTemporary second
 
 module _ (program : LinearProgram) where
   -- the function whose locals a body works on
@@ -64,14 +75,16 @@ module _ (program : LinearProgram) where
     pub there : slice_get program.functions f ≡ Some function
     pub takes : count ≡ function.parameters
 
-  abbrev pub CallsWell : BodyName → Instruction → Type 0
-  CallsWell name (instructions.Call f first count) = IsCallee f count
-  CallsWell name (instructions.CallFinally k) = IsFuncletOf name IsFinally k
-  CallsWell name other = Unit {0}
+  -- what an instruction of a body calls is there; an operation that may fault reads temporaries alone, which no filter changes
+  abbrev pub IsInstructionOf : BodyName → Instruction → Type 0
+  IsInstructionOf name (instructions.Compute to o first second) = ReadsWell o first second
+  IsInstructionOf name (instructions.Call f first count) = IsCallee f count
+  IsInstructionOf name (instructions.CallFinally k) = IsFuncletOf name IsFinally k
+  IsInstructionOf name other = Unit {0}
 
   pub record IsBodyOf (name : BodyName) (b : LinearBody) : Type 0 where
     pub regions : AllByRecursion (IsRegionOf name) b.regions
-    pub calls : AllByRecursion (CallsWell name) b.code
+    pub code : AllByRecursion (IsInstructionOf name) b.code
 
   abbrev pub AreBodies : Type 0
   AreBodies = (name : BodyName) (b : LinearBody) → body_of program name ≡ Some b → IsBodyOf name b

@@ -12,7 +12,7 @@ use Rattle.ir_typed.specs.Activations.{HasActivations}
 use Rattle.ir_typed.specs.Small.{HasSmallNumbers}
 use Rattle.ir_typed.specs.Depths.{HasDepths}
 
--- the funclets that bodies name are theirs, and each call has as many arguments as its function takes
+-- the funclets that bodies name are theirs, each call has as many arguments as its function takes, and what may fault reads temporaries alone
 abbrev pub LoweredIsWhole : Type 0
 LoweredIsWhole = (program : Program) → IsSound program → IsWhole (lowered program)
 
