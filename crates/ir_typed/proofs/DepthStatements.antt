@@ -1,7 +1,6 @@
 -- No temporary is held between statements, and their jumps lead to places that hold as many as they leave.
 use Rattle.std.proofs.Common.{◌≡◌, ℕ, suc, ◌+◌, ◌-◌, List, [], ◌∷◌, ◌++◌, length, map, refl, sym, ap, subst, ◌∙◌, arith}
-use Rattle.std.specs.List.{AllByRecursion}
-use Rattle.std.specs.Prelude.{get_or, Option, Some, None}
+use Rattle.std.specs.Prelude.{Option, Some, None}
 use Rattle.c_checked.specs.Expression.{Expression}
 use Rattle.c_checked.specs.Program.{Program, Function}
 use Rattle.c_checked.specs.Statement.{Declared, Filter, Always, Funclet, Statement, Declare, Block, Evaluate, If, IfElse, For, DoWhile, Return, Break, Continue, Leave, TryExcept, TryFinally, Statements, Empty, Then}
@@ -9,7 +8,8 @@ use Rattle.linear_code.specs.declared.slot.Slot.TheVariants.{Local, Temporary}
 use Rattle.linear_code.specs.declared.instruction.Instruction.{Instruction}
 use Rattle.linear_code.specs.declared.instruction.Instruction.TheVariants as instructions
 use Rattle.linear_code.specs.declared.instruction.Instruction.TheVariants.{Jump, JumpIfZero, CallFinally, Separator}
-use Rattle.linear_code.specs.Program.{LinearBody, LinearFunction, LinearFunclet}
+use Rattle.linear_code.specs.Program.{LinearBody}
+use Rattle.linear_machine.specs.Frames.{BodyName, body_of}
 use Rattle.ir_sizes.specs.Sizes.{expression_size, discarded_size, condition_size, declared_size, all_declared_size, returned_size, statement_size, statements_size}
 use Rattle.seh_ir.specs.declared.funclets.Owner.{Owner}
 use Rattle.seh_ir.specs.declared.scope.Names.{Names}
@@ -19,14 +19,13 @@ use Rattle.seh_ir.specs.declared.scope.Scope.{Scope}
 use Rattle.seh_ir.specs.Scope.{except_names, filter_names, finally_names, unwound, finally_scope, in_loop, in_try, in_except, in_guarded}
 use Rattle.seh_ir.specs.Expressions.{constant, copy, expression_code}
 use Rattle.seh_ir.specs.Statements.{jump_code, return_code, leave_code, discarded_code, returned_code, condition_code, initialiser_code, declared_code, all_declared_code, landed, repeated, statement_code, statements_code}
-use Rattle.seh_ir.specs.Funclets as funclets_of
-use Rattle.seh_ir.specs.Funclets.{filter_funclets, finally_funclet, in_funclet, statement_funclets, statements_funclets}
-use Rattle.seh_ir.specs.Lowered.{own_locals, all_locals, scope_of, lowered_function, lowered_funclets, all_funclets}
+use Rattle.seh_ir.specs.Funclets.{filter_funclet, finally_funclet}
+use Rattle.seh_ir.specs.Lowered.{scope_of, lowered_function, lowered}
 use Rattle.seh_ir.proofs.Codes.{expression_length}
 use Rattle.seh_ir.proofs.StatementCodes.{discarded_length, returned_length, condition_length, declared_length, all_declared_length, statement_length, statements_length}
-use Rattle.ir_bounds.proofs.PlainExpressions.{all_append}
 use Rattle.ir_typed.specs.Depths.{after, depth_at}
 use Rattle.ir_typed.proofs.Scans.{past, past_append, past_to, past_both, Scans, scan_start, scan_moved, scan_front, scan_back, scan_end, scanned, Leads, AllLead, lead_both, lead_moved}
+use Rattle.ir_typed.proofs.EveryBody.{every_body}
 use Rattle.ir_typed.proofs.DepthExpressions.{expression_past, expression_leads}
 
 -- ---- depths
@@ -299,51 +298,19 @@ module _ (depth : ℕ → ℕ) where
 abbrev pub BodyLeads : LinearBody → Type 0
 BodyLeads b = AllLead (depth_at b.code) 0 b.code
 
--- statements with one instruction or two after them
-block_leads : (names : Names) (last : Statements) (i : Instruction) → ((depth : ℕ → ℕ) → Leads depth 0 i) → BodyLeads (record { locals = 0; temporaries = 0; passed = 0; code = statements_code (finally_scope names) last 0 ++ i ∷ []; regions = [] })
-block_leads names last i k =
+filter_leads : (owner : Owner) (names : Names) (e : Expression) → BodyLeads (filter_funclet owner names e).body
+filter_leads owner names e =
+    let all = expression_code names e 0 0 ++ instructions.Return (Temporary 0) ∷ [] in
+    value_leads (depth_at all) names e 0 (instructions.Return (Temporary 0) ∷ []) (scanned all) (tt, tt)
+
+block_leads : (owner : Owner) (names : Names) (last : Statements) → BodyLeads (finally_funclet owner names last).body
+block_leads owner names last =
     let scope = finally_scope names in
     let code = statements_code scope last 0 in
-    let all = code ++ i ∷ [] in
+    let ends = instructions.Return (Local names.free) ∷ [] in
+    let all = code ++ ends in
     let depth = depth_at all in
-    lead_both depth code (i ∷ []) 0 0 (statements_past last scope 0) (statements_lead depth last scope 0 (record { exit = tt; loop_end = tt; loop_next = tt; leave = tt }) (scan_front depth 0 0 code (i ∷ []) (scanned all))) (k depth, tt)
-
-filter_leads : (owner : Owner) (names : Names) (f : Filter) → AllByRecursion (λ g. BodyLeads g.body) (filter_funclets owner names f)
-filter_leads owner names Always = tt
-filter_leads owner names (Funclet k e) =
-    let all = expression_code names e 0 0 ++ instructions.Return (Temporary 0) ∷ [] in
-    let depth = depth_at all in
-    (value_leads depth names e 0 (instructions.Return (Temporary 0) ∷ []) (scanned all) (tt, tt), tt)
-
-abbrev AllBodies : List LinearFunclet → Type 0
-AllBodies fs = AllByRecursion (λ g. BodyLeads g.body) fs
-
-both_bodies : (a b : List LinearFunclet) → AllBodies a → AllBodies b → AllBodies (a ++ b)
-both_bodies a b h k = all_append (λ g. BodyLeads g.body) a b h k
-
-mutual
-  funclets_lead : (s : Statement) (owner : Owner) (names : Names) → AllBodies (statement_funclets owner names s)
-  funclets_lead (Declare d) owner names = tt
-  funclets_lead (Block ss) owner names = all_funclets_lead ss owner names
-  funclets_lead (Evaluate e) owner names = tt
-  funclets_lead (If c s) owner names = funclets_lead s owner names
-  funclets_lead (IfElse c s t) owner names = both_bodies (statement_funclets owner names s) (statement_funclets owner names t) (funclets_lead s owner names) (funclets_lead t owner names)
-  funclets_lead (For ds first c next s) owner names = funclets_lead s owner names
-  funclets_lead (DoWhile s c) owner names = funclets_lead s owner names
-  funclets_lead (Return e) owner names = tt
-  funclets_lead Break owner names = tt
-  funclets_lead Continue owner names = tt
-  funclets_lead Leave owner names = tt
-  funclets_lead (TryExcept body filter block) owner names =
-      both_bodies (statements_funclets owner names body) _ (all_funclets_lead body owner names)
-      (both_bodies (filter_funclets owner (filter_names names) filter) _ (filter_leads owner (filter_names names) filter) (all_funclets_lead block owner (except_names names)))
-  funclets_lead (TryFinally body k last) owner names =
-      both_bodies (statements_funclets owner names body) _ (all_funclets_lead body owner names)
-      (block_leads names last (instructions.Return (Local names.free)) (λ depth. tt), all_funclets_lead last (in_funclet (k - 1) owner) (finally_names names))
-
-  all_funclets_lead : (ss : Statements) (owner : Owner) (names : Names) → AllBodies (statements_funclets owner names ss)
-  all_funclets_lead Empty owner names = tt
-  all_funclets_lead (Then s ss) owner names = both_bodies (statement_funclets owner names s) (statements_funclets owner names ss) (funclets_lead s owner names) (all_funclets_lead ss owner names)
+    lead_both depth code ends 0 0 (statements_past last scope 0) (statements_lead depth last scope 0 (record { exit = tt; loop_end = tt; loop_next = tt; leave = tt }) (scan_front depth 0 0 code ends (scanned all))) (tt, tt)
 
 function_leads : (f : Function) → BodyLeads (lowered_function f).body
 function_leads f =
@@ -356,10 +323,5 @@ function_leads f =
     let h1 = scan_back depth 0 (statements_size f.body) 0 0 code ends (omega arith) (statements_past f.body scope 0) (scanned all) in
     lead_both depth code ends 0 0 (statements_past f.body scope 0) (statements_lead depth f.body scope 0 (record { exit = h1.1.0; loop_end = tt; loop_next = tt; leave = tt }) (scan_front depth 0 0 code ends (scanned all))) (tt, (tt, tt))
 
-pub functions_lead : (fs : List Function) → AllByRecursion (λ (f : LinearFunction). BodyLeads f.body) (map lowered_function fs)
-functions_lead [] = tt
-functions_lead (f ∷ fs) = (function_leads f, functions_lead fs)
-
-pub all_lead : (number : ℕ) (fs : List Function) → AllBodies (all_funclets number fs)
-all_lead number [] = tt
-all_lead number (f ∷ fs) = both_bodies (lowered_funclets number f) _ (all_funclets_lead f.body (record { function = number; locals = all_locals f; parent = None }) (scope_of f).names) (all_lead (number + 1) fs)
+pub bodies_lead : (program : Program) (name : BodyName) (b : LinearBody) → body_of (lowered program) name ≡ Some b → BodyLeads b
+bodies_lead = every_body BodyLeads filter_leads block_leads function_leads

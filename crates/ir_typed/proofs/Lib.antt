@@ -9,6 +9,8 @@ pub mod Numbers
 pub mod Calls
 pub mod Wholes
 pub mod Lowered
+pub mod EveryBody
+pub mod Room
 pub mod Scans
 pub mod DepthExpressions
 pub mod DepthStatements

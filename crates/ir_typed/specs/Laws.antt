@@ -4,6 +4,7 @@ use Rattle.c_checked.specs.Program.{Program}
 use Rattle.c_checked.specs.Sound.{IsSound}
 use Rattle.linear_machine.specs.Frames.{Configuration, Next}
 use Rattle.seh_ir.specs.Lowered.{lowered}
+use Rattle.ir_bounds.specs.Nesting.{AreShallow}
 use Rattle.ir_typed.specs.Turns.{IsReached}
 use Rattle.ir_typed.specs.Ready.{CanGoOn}
 use Rattle.ir_typed.specs.Bodies.{IsWhole}
@@ -11,10 +12,15 @@ use Rattle.ir_typed.specs.Waiting.{IsStacked}
 use Rattle.ir_typed.specs.Activations.{HasActivations}
 use Rattle.ir_typed.specs.Small.{HasSmallNumbers}
 use Rattle.ir_typed.specs.Depths.{HasDepths}
+use Rattle.ir_typed.specs.Room.{HaveRoom}
 
 -- the funclets that bodies name are theirs, each call has as many arguments as its function takes, and what may fault reads temporaries alone
 abbrev pub LoweredIsWhole : Type 0
 LoweredIsWhole = (program : Program) → IsSound program → IsWhole (lowered program)
+
+-- where a program is nested within the limits, the slots of each body are enough for what its instructions do
+abbrev pub LoweredHasRoom : Type 0
+LoweredHasRoom = (program : Program) → IsSound program → AreShallow program.functions → HaveRoom (lowered program)
 
 -- it is at an instruction, and what that needs is there
 abbrev pub ReachedGoesOn : Type 0

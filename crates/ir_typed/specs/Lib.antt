@@ -5,4 +5,5 @@ pub mod Waiting
 pub mod Activations
 pub mod Small
 pub mod Depths
+pub mod Room
 pub mod Laws

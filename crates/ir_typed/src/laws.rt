@@ -1,6 +1,6 @@
 //! Laws of the configurations that the linear code of a sound program comes to.
 
-ghost use Rattle.ir_typed.specs.Laws.{SeenAlikeIsSame, LoweredIsWhole, ReachedGoesOn, ReachedIsStacked, ReachedHasActivations, ReachedIsSmall, ReachedHasDepths};
+ghost use Rattle.ir_typed.specs.Laws.{SeenAlikeIsSame, LoweredIsWhole, LoweredHasRoom, ReachedGoesOn, ReachedIsStacked, ReachedHasActivations, ReachedIsSmall, ReachedHasDepths};
 
 /// A configuration is determined by what may be seen from it on.
 pub fn alike_is_same()
@@ -10,6 +10,11 @@ pub fn alike_is_same()
 /// The funclets that bodies name are theirs, and each call has as many arguments as its function takes.
 pub fn lowered_is_whole()
     ensures whole { LoweredIsWhole }
+{}
+
+/// The slots of each body of a program that is nested within the limits are enough.
+pub fn lowered_has_room()
+    ensures room { LoweredHasRoom }
 {}
 
 /// Each configuration that is reached is at an instruction, and what that needs is there.
