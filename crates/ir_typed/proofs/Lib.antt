@@ -11,6 +11,7 @@ pub mod Wholes
 pub mod Lowered
 pub mod EveryBody
 pub mod Room
+pub mod Apart
 pub mod Scans
 pub mod DepthExpressions
 pub mod DepthStatements

@@ -13,6 +13,7 @@ use Rattle.ir_typed.specs.Activations.{HasActivations}
 use Rattle.ir_typed.specs.Small.{HasSmallNumbers}
 use Rattle.ir_typed.specs.Depths.{HasDepths}
 use Rattle.ir_typed.specs.Room.{HaveRoom}
+use Rattle.ir_typed.specs.Apart.{AreApart}
 
 -- the funclets that bodies name are theirs, each call has as many arguments as its function takes, and what may fault reads temporaries alone
 abbrev pub LoweredIsWhole : Type 0
@@ -21,6 +22,10 @@ LoweredIsWhole = (program : Program) → IsSound program → IsWhole (lowered pr
 -- where a program is nested within the limits, the slots of each body are enough for what its instructions do
 abbrev pub LoweredHasRoom : Type 0
 LoweredHasRoom = (program : Program) → IsSound program → AreShallow program.functions → HaveRoom (lowered program)
+
+-- a call and the instruction after it are inside the same regions
+abbrev pub LoweredIsApart : Type 0
+LoweredIsApart = (program : Program) → AreApart (lowered program)
 
 -- it is at an instruction, and what that needs is there
 abbrev pub ReachedGoesOn : Type 0

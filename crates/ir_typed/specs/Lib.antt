@@ -6,4 +6,5 @@ pub mod Activations
 pub mod Small
 pub mod Depths
 pub mod Room
+pub mod Apart
 pub mod Laws

@@ -1,6 +1,6 @@
 //! Laws of the configurations that the linear code of a sound program comes to.
 
-ghost use Rattle.ir_typed.specs.Laws.{SeenAlikeIsSame, LoweredIsWhole, LoweredHasRoom, ReachedGoesOn, ReachedIsStacked, ReachedHasActivations, ReachedIsSmall, ReachedHasDepths};
+ghost use Rattle.ir_typed.specs.Laws.{SeenAlikeIsSame, LoweredIsWhole, LoweredHasRoom, LoweredIsApart, ReachedGoesOn, ReachedIsStacked, ReachedHasActivations, ReachedIsSmall, ReachedHasDepths};
 
 /// A configuration is determined by what may be seen from it on.
 pub fn alike_is_same()
@@ -15,6 +15,11 @@ pub fn lowered_is_whole()
 /// The slots of each body of a program that is nested within the limits are enough.
 pub fn lowered_has_room()
     ensures room { LoweredHasRoom }
+{}
+
+/// A call and the instruction after it are inside the same regions.
+pub fn lowered_is_apart()
+    ensures apart { LoweredIsApart }
 {}
 
 /// Each configuration that is reached is at an instruction, and what that needs is there.
