@@ -1,9 +1,9 @@
 -- In lowered code a call and the instruction after it are inside the same regions.
-use Rattle.std.proofs.Common.{◌≡◌, ◌⊎◌, inl, inr, ℕ, zero, suc, ◌+◌, ◌-◌, ◌≤◌, ◌<◌, List, [], ◌∷◌, ◌++◌, length, filter, refl, sym, ap, subst, ◌∙◌, arith, append_assoc, append-nil, length-append}
-use Rattle.std.specs.Prelude.{Bool, true, false, slice_get, Option, Some, None}
+use Rattle.std.proofs.Common.{◌≡◌, inl, inr, ℕ, zero, suc, ◌+◌, ◌-◌, ◌≤◌, ◌<◌, List, [], ◌∷◌, ◌++◌, length, filter, refl, sym, ap, subst, ◌∙◌, arith, append_assoc, append-nil, length-append}
+use Rattle.std.specs.Prelude.{true, false, slice_get, Option, Some, None}
 use Rattle.c_checked.specs.Expression.{Expression}
-use Rattle.c_checked.specs.Program.{Program, Function}
-use Rattle.c_checked.specs.Statement.{Declared, Filter, Always, Funclet, Statement, Declare, Block, Evaluate, If, IfElse, For, DoWhile, Return, Break, Continue, Leave, TryExcept, TryFinally, Statements, Empty, Then}
+use Rattle.c_checked.specs.Program.{Function}
+use Rattle.c_checked.specs.Statement.{Declared, Statement, Declare, Block, Evaluate, If, IfElse, For, DoWhile, Return, Break, Continue, Leave, TryExcept, TryFinally, Statements, Empty, Then}
 use Rattle.linear_code.specs.declared.slot.Slot.TheVariants.{Local, Temporary}
 use Rattle.linear_code.specs.declared.instruction.Instruction.{Instruction}
 use Rattle.linear_code.specs.declared.instruction.Instruction.TheVariants as instructions
@@ -11,8 +11,6 @@ use Rattle.linear_code.specs.declared.instruction.Instruction.TheVariants.{Jump,
 use Rattle.linear_code.specs.declared.program.Region.{Region}
 use Rattle.linear_code.specs.declared.program.RegionKind.TheVariants as kinds
 use Rattle.linear_code.specs.Program.{LinearBody}
-use Rattle.linear_machine.specs.Frames.{BodyName, body_of}
-use Rattle.linear_machine.specs.Regions.{holds}
 use Rattle.ir_sizes.specs.Sizes.{expression_size, discarded_size, condition_size, declared_size, all_declared_size, returned_size, statement_size, statements_size}
 use Rattle.seh_ir.specs.declared.funclets.Owner.{Owner}
 use Rattle.seh_ir.specs.declared.scope.Names.{Names}
@@ -24,11 +22,11 @@ use Rattle.seh_ir.specs.Expressions.{constant, copy, expression_code}
 use Rattle.seh_ir.specs.Statements.{jump_code, return_code, leave_code, discarded_code, returned_code, condition_code, initialiser_code, declared_code, all_declared_code, landed, repeated, statement_code, statements_code}
 use Rattle.seh_ir.specs.Regions.{except_kind, region, statement_regions, statements_regions}
 use Rattle.seh_ir.specs.Funclets.{filter_funclet, finally_funclet}
-use Rattle.seh_ir.specs.Lowered.{scope_of, lowered_function, lowered}
+use Rattle.seh_ir.specs.Lowered.{scope_of, lowered_function}
 use Rattle.seh_ir.proofs.Codes.{expression_length}
 use Rattle.seh_ir.proofs.StatementCodes.{discarded_length, returned_length, condition_length, declared_length, all_declared_length, statement_length, statements_length}
 use Rattle.ir_linked.proofs.Regions.{held, own_out, own_in, left_only, right_only, held_append, outside, all_outside}
-use Rattle.ir_typed.specs.Apart.{is_call, IsApart, AreApart}
+use Rattle.ir_typed.specs.Apart.{is_call, IsApart}
 use Rattle.ir_typed.specs.Laws.{LoweredIsApart}
 use Rattle.ir_typed.proofs.EveryBody.{every_body}
 use Rattle.ir_typed.proofs.Stacked.{same_it}
@@ -160,8 +158,7 @@ module _ (around : ℕ → List Region) where
         let ly = statement_length scope s then in
         let ry = statement_regions s then in
         let rn = statement_regions u otherwise in
-        used rs scope.names t at (_ ∷ (yes ++ skip ∷ no)) (λ q lo hi. bare rs (ry ++ rn) q (right_only ry rn q (outside s then q (inl (omega arith))) ∙ outside u otherwise q (inl (omega arith))) (c q lo (omega arith)))
-        (
+        used rs scope.names t at (_ ∷ (yes ++ skip ∷ no)) (λ q lo hi. bare rs (ry ++ rn) q (right_only ry rn q (outside s then q (inl (omega arith))) ∙ outside u otherwise q (inl (omega arith))) (c q lo (omega arith))) (
           (λ x. no_call x),
           joined then (then + statement_size s) yes (skip ∷ no) (omega arith)
               (statement_apart s scope rs then (λ q lo hi. part rs (ry ++ rn) ry q (left_only ry rn q (outside u otherwise q (inl (omega arith)))) (c q (omega arith) (omega arith))))
@@ -223,8 +220,7 @@ module _ (around : ℕ → List Region) where
         let try = region at target (except_kind filter target) in
         let alone = λ (q : ℕ) (lo : at ≤ q) (hi : q < target). own_in try rh q lo hi ∙ ap (λ x. try ∷ x) (all_outside block (target + 1) q (inl (omega arith))) in
         let past = λ (q : ℕ) (lo : target ≤ q). right_only rb (try ∷ rh) q (all_outside body at q (inr (omega arith))) ∙ own_out try rh q (inr lo) in
-        joined at at_jump guarded (landed end scope.names.free ++ handles) (omega arith) (statements_apart body inner (try ∷ rs) at (λ q lo hi. inside_own rs try rb (try ∷ rh) q (alone q lo (omega arith)) (c q lo (omega arith))))
-        (
+        joined at at_jump guarded (landed end scope.names.free ++ handles) (omega arith) (statements_apart body inner (try ∷ rs) at (λ q lo hi. inside_own rs try rb (try ∷ rh) q (alone q lo (omega arith)) (c q lo (omega arith)))) (
           (λ x. no_call x),
           (
             (λ x. no_call x),

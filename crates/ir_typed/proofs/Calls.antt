@@ -1,12 +1,11 @@
 -- Each call in the code of an expression has as many arguments as its function takes, and what may fault reads temporaries alone.
-use Rattle.std.proofs.Common.{◌≡◌, ℕ, suc, ◌+◌, List, [], ◌∷◌, ◌++◌}
+use Rattle.std.proofs.Common.{ℕ, ◌+◌, List, [], ◌∷◌, ◌++◌}
 use Rattle.std.specs.List.{AllByRecursion}
 use Rattle.std.specs.Prelude.{Bool, Option, Some, None}
 use Rattle.c_operations.specs.declared.operation.Operation.{Operation}
 use Rattle.c_operations.specs.declared.operation.Operation.TheVariants as operations
 use Rattle.c_operations.specs.declared.operation.Pure.{Pure}
 use Rattle.c_operations.specs.declared.operation.Pure.TheVariants as pures
-use Rattle.c_checked.specs.declared.expression.Access.{Access}
 use Rattle.c_checked.specs.declared.expression.Conversion.{Conversion}
 use Rattle.c_checked.specs.declared.expression.Conversion.TheVariants.{Kept, Extend, Scale}
 use Rattle.c_checked.specs.Expression as nodes
@@ -20,7 +19,7 @@ use Rattle.seh_ir.specs.declared.scope.ExceptionSource.{ExceptionSource}
 use Rattle.seh_ir.specs.declared.scope.ExceptionSource.TheVariants.{NoException, OfFilter, KeptIn}
 use Rattle.seh_ir.specs.declared.scope.Names.{Names}
 use Rattle.ir_sizes.specs.Sizes.{address_count, locate_size, read_size, conversion_size, expression_size}
-use Rattle.seh_ir.specs.Expressions.{conversion_code, unary_code, choice_code, code_code, abnormal_code, load_code, read_code, write_code, address_code, expression_code, locate_code, arguments_code, node_code}
+use Rattle.seh_ir.specs.Expressions.{conversion_code, unary_code, choice_code, code_code, abnormal_code, read_code, write_code, address_code, expression_code, locate_code, arguments_code, node_code}
 use Rattle.ir_follows.specs.Fits.{IsCalled, ExpressionFits, LvalueFits, ArgumentsFit, NodeFits}
 use Rattle.ir_bounds.proofs.PlainExpressions.{all_append}
 use Rattle.ir_typed.specs.Bodies.{ReadsWell, IsCallee, IsInstructionOf}
@@ -117,8 +116,11 @@ module _ (program : Program) (linear : LinearProgram) (callee : (f count : ℕ) 
       node_calls (nodes.Increment m p before o v after) d at f =
           let old = d + address_count p in
           append (locate_code names p d at) _ (locate_calls p d at f.0)
-          (append (read_code p d old) _ (read_calls p d old) (tt, append (conversion_code before (old + 1)) _ (conversion_calls before (old + 1))
-          (tt, (combined o (old + 1), append (conversion_code after (old + 1)) _ (conversion_calls after (old + 1)) (write_calls p d (old + 1) (old + 1), (tt, tt))))))
+          (append (read_code p d old) _ (read_calls p d old) (
+            tt,
+            append (conversion_code before (old + 1)) _ (conversion_calls before (old + 1))
+                (tt, (combined o (old + 1), append (conversion_code after (old + 1)) _ (conversion_calls after (old + 1)) (write_calls p d (old + 1) (old + 1), (tt, tt)))),
+          ))
       node_calls (nodes.Unary o e) d at f = append (expression_code names e d at) (unary_code o d) (expression_calls e d at f.0) (unary_calls o d)
       node_calls (nodes.Binary o e g) d at f = operands_call e g d at (_ ∷ []) (expression_calls e d at f.0) (expression_calls g (d + 1) (at + expression_size e) f.1) (combined o d, tt)
       node_calls (nodes.PointerDifference v e g) d at f = operands_call e g d at (_ ∷ _ ∷ _ ∷ []) (expression_calls e d at f.0) (expression_calls g (d + 1) (at + expression_size e) f.1) (tt, (tt, ((tt, tt), tt)))

@@ -1,13 +1,12 @@
 -- Each turn keeps as many temporaries held as the places say.
-use Rattle.std.proofs.Common.{◌≡◌, ◌⊎◌, inl, inr, ℕ, zero, suc, ◌+◌, ◌-◌, ◌*◌, ◌^◌, ◌<◌, ◌≤◌, List, [], ◌∷◌, ◌++◌, length, refl, sym, ap, subst, ◌∙◌, arith, length-append}
+use Rattle.std.proofs.Common.{◌≡◌, inl, ℕ, suc, ◌+◌, ◌^◌, List, [], ◌∷◌, ◌++◌, length, refl, sym, ap, subst, ◌∙◌, arith, length-append}
 use Rattle.std.proofs.lemmas.Bool.{eqb-true, eqb-false, leb-true}
 use Rattle.std.proofs.lemmas.List.{length-take-le}
 use Rattle.std.proofs.lemmas.Option.{slice_get_within}
-use Rattle.std.specs.List.{AllByRecursion}
-use Rattle.std.specs.Prelude.{Bool, true, false, nat_eq, nat_le, nat_lt, slice_get, take, if◌then◌else◌, get_or, ℤ, Option, Some, None}
+use Rattle.std.specs.Prelude.{Bool, true, false, nat_eq, nat_le, nat_lt, slice_get, take, if◌then◌else◌, get_or, Option, Some, None}
 use Rattle.seh_num.specs.declared.event.Event.{Event}
 use Rattle.seh_num.specs.declared.event.Event.TheVariants as events
-use Rattle.seh_num.specs.declared.width.Width.TheVariants.{W32, W64}
+use Rattle.seh_num.specs.declared.width.Width.TheVariants.{W32}
 use Rattle.seh_num.specs.Widths.{signed}
 use Rattle.c_operations.specs.declared.built_in.BuiltIn.{BuiltIn}
 use Rattle.c_operations.specs.declared.built_in.BuiltIn.TheVariants.{Put, Protect, RaiseException}
@@ -27,21 +26,21 @@ use Rattle.linear_code.specs.declared.program.RegionKind.{RegionKind}
 use Rattle.linear_code.specs.declared.program.RegionKind.TheVariants as kinds
 use Rattle.linear_code.specs.declared.program.FuncletKind.{FuncletKind}
 use Rattle.linear_code.specs.declared.program.FuncletKind.TheVariants as funclets
-use Rattle.linear_code.specs.Program.{LinearProgram, LinearBody, LinearFunction}
-use Rattle.linear_machine.specs.Frames.{BodyName, FunctionBody, FuncletBody, body_of, Frame, Handler, Target, Resumption, AfterCall, SameOperation, Item, Waits, Searches, Unwinds, Store, Configuration, Seen, Finished, Stuck, Next, pick, with_some, deeper, read, write, with_temporary, with_temporaries, last_temporaries, set_local, at_label, forth, with_last}
+use Rattle.linear_code.specs.Program.{LinearProgram, LinearBody}
+use Rattle.linear_machine.specs.Frames.{BodyName, FunctionBody, FuncletBody, body_of, Frame, Handler, Target, Resumption, AfterCall, SameOperation, Item, Waits, Searches, Unwinds, Store, Configuration, Seen, Finished, Stuck, Next, pick, read, write, with_temporary, with_temporaries, last_temporaries, set_local, at_label, forth, with_last}
 use Rattle.linear_machine.specs.Regions.{regions_at, regions_left, handlers, stops}
 use Rattle.linear_machine.specs.Unwinding.{flag_of, run_finally, arrive, target_past, left_store, leave_region, unwind_body, unwind}
 use Rattle.linear_machine.specs.Searching.{target_of, accept, consult, search, raise, resumed, answer}
-use Rattle.linear_machine.specs.Instructions.{is_constant, operand, written, computed, tested, waiting, begin_function, count_of, built_in, return, end_finally, end_funclet, end_body, not_landed, act}
+use Rattle.linear_machine.specs.Instructions.{is_constant, operand, written, computed, tested, count_of, built_in, return, end_finally, end_funclet, end_body, not_landed, act}
 use Rattle.linear_machine.specs.Run.{instruction_in, instruction_at, start}
 use Rattle.ir_linked.proofs.SoundExpressions.{both_left}
 use Rattle.ir_typed.specs.Turns.{IsTurn, IsReached}
-use Rattle.ir_typed.specs.Bodies.{IsLanding, IsWhole}
+use Rattle.ir_typed.specs.Bodies.{IsWhole}
 use Rattle.ir_typed.specs.Waiting.{IsAt, MayWait, IsHandler, LandsAt, IsTarget, IsAbove, IsCalledBy, IsRunFor, IsRaisedIn, AreHandlers, AreWaiting, IsStacked}
-use Rattle.ir_typed.specs.Depths.{with_written, with_tested, after, depth_at, depth_in, taken, depth, WaitsDeep, AreDeep, HasDepths}
+use Rattle.ir_typed.specs.Depths.{with_written, after, depth_at, depth_in, taken, depth, WaitsDeep, AreDeep, HasDepths}
 use Rattle.ir_typed.proofs.Ready.{last_are, chosen, some_temporaries}
 use Rattle.ir_typed.proofs.Moves.{Turn, Halts, Moves, pick_turn, some_turn, deeper_turn, kept, kept_by_all}
-use Rattle.ir_typed.proofs.Scans.{Leads, AllLead, depth_next, leads_at}
+use Rattle.ir_typed.proofs.Scans.{Leads, depth_next, leads_at}
 use Rattle.ir_typed.proofs.DepthStatements.{BodyLeads}
 use Rattle.ir_typed.proofs.Stacked as stacked
 use Rattle.ir_typed.proofs.Stacked.{same_it, Left, left_are, handlers_are, aimed, here, further, is_landing, waits, stays_stacked, starts_stacked}

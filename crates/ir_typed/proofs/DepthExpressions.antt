@@ -1,25 +1,23 @@
 -- The code of an expression ends with its value in one more temporary, and its jumps lead to places that hold as many as they leave.
-use Rattle.std.proofs.Common.{◌≡◌, ℕ, suc, ◌+◌, ◌-◌, List, [], ◌∷◌, ◌++◌, length, refl, sym, ap, subst, ◌∙◌, arith}
+use Rattle.std.proofs.Common.{◌≡◌, ℕ, suc, ◌+◌, ◌-◌, List, [], ◌∷◌, ◌++◌, refl, sym, ap, ◌∙◌, arith}
 use Rattle.std.specs.Prelude.{Option, Some, None}
-use Rattle.c_operations.specs.declared.operation.Operation.{Operation}
-use Rattle.c_operations.specs.declared.operation.Operation.TheVariants as operations
 use Rattle.c_operations.specs.declared.operation.Pure.{Pure}
 use Rattle.c_operations.specs.declared.operation.Pure.TheVariants as pures
 use Rattle.c_checked.specs.declared.expression.Conversion.{Conversion}
 use Rattle.c_checked.specs.declared.expression.Conversion.TheVariants.{Kept, Extend, Scale}
 use Rattle.c_checked.specs.Expression as nodes
 use Rattle.c_checked.specs.Expression.{Expression, On, Node, Lvalue, Global, Indirection, Element, Arguments, Done, Next}
-use Rattle.linear_code.specs.declared.slot.Slot.TheVariants.{Local, Temporary}
+use Rattle.linear_code.specs.declared.slot.Slot.TheVariants.{Temporary}
 use Rattle.linear_code.specs.declared.instruction.Instruction.{Instruction}
 use Rattle.linear_code.specs.declared.instruction.Instruction.TheVariants as instructions
 use Rattle.seh_ir.specs.declared.scope.ExceptionSource.{ExceptionSource}
 use Rattle.seh_ir.specs.declared.scope.ExceptionSource.TheVariants.{NoException, OfFilter, KeptIn}
 use Rattle.seh_ir.specs.declared.scope.Names.{Names}
 use Rattle.ir_sizes.specs.Sizes.{address_count, locate_size, read_size, conversion_size, expression_size}
-use Rattle.seh_ir.specs.Expressions.{constant, copy, combine, conversion_code, unary_code, choice_code, code_code, abnormal_code, read_code, write_code, address_code, chosen_of, argument_count, expression_code, locate_code, arguments_code, node_code}
+use Rattle.seh_ir.specs.Expressions.{constant, combine, conversion_code, unary_code, choice_code, code_code, abnormal_code, read_code, write_code, address_code, argument_count, expression_code, locate_code, arguments_code, node_code}
 use Rattle.seh_ir.proofs.Codes.{expression_length, locate_length, conversion_length, read_length}
 use Rattle.ir_typed.specs.Depths.{after}
-use Rattle.ir_typed.proofs.Scans.{past, past_append, past_to, past_both, Scans, scan_start, scan_moved, scan_front, scan_back, scan_end, Leads, AllLead, lead_both, lead_moved}
+use Rattle.ir_typed.proofs.Scans.{past, past_to, past_both, Scans, scan_start, scan_moved, scan_front, scan_back, scan_end, Leads, AllLead, lead_both, lead_moved}
 
 -- ---- depths
 
@@ -257,9 +255,11 @@ module _ (depth : ℕ → ℕ) where
           let old = d + address_count p in
           let located = locate_code names p d at in
           lead_both depth located _ d old (locate_past names p d at) (locate_leads p d at (scan_front depth at d located _ h))
-          (lead_both depth (read_code p d old) _ old (old + 1) (read_past p d old old) (read_leads p d old old)
-          (tt, lead_both depth (conversion_code before (old + 1)) _ (old + 1 + 1) (old + 1 + 1) (conversion_past before (old + 1)) (conversion_leads before (old + 1) (old + 1 + 1))
-          (tt, (tt, lead_both depth (conversion_code after' (old + 1)) _ (old + 1 + 1) (old + 1 + 1) (conversion_past after' (old + 1)) (conversion_leads after' (old + 1) (old + 1 + 1)) (write_leads p d (old + 1) (old + 1) (old + 1 + 1), (tt, tt))))))
+          (lead_both depth (read_code p d old) _ old (old + 1) (read_past p d old old) (read_leads p d old old) (
+            tt,
+            lead_both depth (conversion_code before (old + 1)) _ (old + 1 + 1) (old + 1 + 1) (conversion_past before (old + 1)) (conversion_leads before (old + 1) (old + 1 + 1))
+                (tt, (tt, lead_both depth (conversion_code after' (old + 1)) _ (old + 1 + 1) (old + 1 + 1) (conversion_past after' (old + 1)) (conversion_leads after' (old + 1) (old + 1 + 1)) (write_leads p d (old + 1) (old + 1) (old + 1 + 1), (tt, tt)))),
+          ))
       node_leads (nodes.Unary o e) d at h =
           let code = expression_code names e d at in
           lead_both depth code (unary_code o d) d (d + 1) (expression_past names e d at) (expression_leads e d at (scan_front depth at d code (unary_code o d) h)) (unary_leads o d (d + 1))

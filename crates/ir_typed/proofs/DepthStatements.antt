@@ -1,30 +1,30 @@
 -- No temporary is held between statements, and their jumps lead to places that hold as many as they leave.
-use Rattle.std.proofs.Common.{◌≡◌, ℕ, suc, ◌+◌, ◌-◌, List, [], ◌∷◌, ◌++◌, length, map, refl, sym, ap, subst, ◌∙◌, arith}
+use Rattle.std.proofs.Common.{◌≡◌, ℕ, ◌+◌, ◌-◌, List, [], ◌∷◌, ◌++◌, refl, sym, ap, ◌∙◌, arith}
 use Rattle.std.specs.Prelude.{Option, Some, None}
 use Rattle.c_checked.specs.Expression.{Expression}
 use Rattle.c_checked.specs.Program.{Program, Function}
-use Rattle.c_checked.specs.Statement.{Declared, Filter, Always, Funclet, Statement, Declare, Block, Evaluate, If, IfElse, For, DoWhile, Return, Break, Continue, Leave, TryExcept, TryFinally, Statements, Empty, Then}
+use Rattle.c_checked.specs.Statement.{Declared, Statement, Declare, Block, Evaluate, If, IfElse, For, DoWhile, Return, Break, Continue, Leave, TryExcept, TryFinally, Statements, Empty, Then}
 use Rattle.linear_code.specs.declared.slot.Slot.TheVariants.{Local, Temporary}
 use Rattle.linear_code.specs.declared.instruction.Instruction.{Instruction}
 use Rattle.linear_code.specs.declared.instruction.Instruction.TheVariants as instructions
 use Rattle.linear_code.specs.declared.instruction.Instruction.TheVariants.{Jump, JumpIfZero, CallFinally, Separator}
 use Rattle.linear_code.specs.Program.{LinearBody}
 use Rattle.linear_machine.specs.Frames.{BodyName, body_of}
-use Rattle.ir_sizes.specs.Sizes.{expression_size, discarded_size, condition_size, declared_size, all_declared_size, returned_size, statement_size, statements_size}
+use Rattle.ir_sizes.specs.Sizes.{expression_size, discarded_size, condition_size, declared_size, all_declared_size, statement_size, statements_size}
 use Rattle.seh_ir.specs.declared.funclets.Owner.{Owner}
 use Rattle.seh_ir.specs.declared.scope.Names.{Names}
 use Rattle.seh_ir.specs.declared.scope.Way.{Way}
 use Rattle.seh_ir.specs.declared.scope.Way.TheVariants.{Nowhere, Jumps, Unwinds}
 use Rattle.seh_ir.specs.declared.scope.Scope.{Scope}
-use Rattle.seh_ir.specs.Scope.{except_names, filter_names, finally_names, unwound, finally_scope, in_loop, in_try, in_except, in_guarded}
+use Rattle.seh_ir.specs.Scope.{unwound, finally_scope, in_loop, in_try, in_except, in_guarded}
 use Rattle.seh_ir.specs.Expressions.{constant, copy, expression_code}
 use Rattle.seh_ir.specs.Statements.{jump_code, return_code, leave_code, discarded_code, returned_code, condition_code, initialiser_code, declared_code, all_declared_code, landed, repeated, statement_code, statements_code}
 use Rattle.seh_ir.specs.Funclets.{filter_funclet, finally_funclet}
 use Rattle.seh_ir.specs.Lowered.{scope_of, lowered_function, lowered}
 use Rattle.seh_ir.proofs.Codes.{expression_length}
-use Rattle.seh_ir.proofs.StatementCodes.{discarded_length, returned_length, condition_length, declared_length, all_declared_length, statement_length, statements_length}
-use Rattle.ir_typed.specs.Depths.{after, depth_at}
-use Rattle.ir_typed.proofs.Scans.{past, past_append, past_to, past_both, Scans, scan_start, scan_moved, scan_front, scan_back, scan_end, scanned, Leads, AllLead, lead_both, lead_moved}
+use Rattle.seh_ir.proofs.StatementCodes.{discarded_length, condition_length, declared_length, all_declared_length, statement_length, statements_length}
+use Rattle.ir_typed.specs.Depths.{depth_at}
+use Rattle.ir_typed.proofs.Scans.{past, past_to, past_both, Scans, scan_start, scan_front, scan_back, scan_end, scanned, Leads, AllLead, lead_both}
 use Rattle.ir_typed.proofs.EveryBody.{every_body}
 use Rattle.ir_typed.proofs.DepthExpressions.{expression_past, expression_leads}
 

@@ -4,7 +4,7 @@ use Rattle.std.specs.List.{AllByRecursion}
 use Rattle.std.specs.Prelude.{slice_get, Option, Some, None}
 use Rattle.c_checked.specs.Expression.{Expression}
 use Rattle.c_checked.specs.Program.{Program, Function}
-use Rattle.c_checked.specs.Statement.{Declared, Filter, Always, Funclet, Statement, Declare, Block, Evaluate, If, IfElse, For, DoWhile, Return, Break, Continue, Leave, TryExcept, TryFinally, Statements, Empty, Then}
+use Rattle.c_checked.specs.Statement.{Filter, Always, Funclet, Statement, Declare, Block, Evaluate, If, IfElse, For, DoWhile, Return, Break, Continue, Leave, TryExcept, TryFinally, Statements, Empty, Then}
 use Rattle.linear_code.specs.Program.{LinearBody, LinearFunction, LinearFunclet}
 use Rattle.linear_machine.specs.Frames.{BodyName, FunctionBody, FuncletBody, function_body, funclet_body, body_of}
 use Rattle.seh_ir.specs.declared.funclets.Owner.{Owner}

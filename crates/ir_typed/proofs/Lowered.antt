@@ -1,5 +1,5 @@
 -- What the bodies of a lowered program name is there.
-use Rattle.std.proofs.Common.{◌≡◌, ℕ, zero, suc, ◌+◌, ◌<◌, ◌≤◌, List, [], ◌∷◌, ◌++◌, length, map, refl, sym, ap, subst, ◌∙◌, arith, length-append}
+use Rattle.std.proofs.Common.{◌≡◌, ℕ, ◌+◌, ◌<◌, ◌≤◌, List, [], ◌∷◌, ◌++◌, length, map, refl, sym, ap, subst, ◌∙◌, arith, length-append}
 use Rattle.std.proofs.lemmas.List.{length-map}
 use Rattle.std.proofs.lemmas.Option.{slice_get-map, slice_get_within}
 use Rattle.std.specs.List.{AllByRecursion}
@@ -9,24 +9,23 @@ use Rattle.c_checked.specs.Sound as sound
 use Rattle.c_checked.specs.Sound.{Inside, IsSound, funclets, count_up, function_sound, functions_sound}
 use Rattle.linear_code.specs.declared.slot.Slot.TheVariants.{Temporary}
 use Rattle.linear_code.specs.declared.instruction.Instruction.TheVariants as instructions
-use Rattle.linear_code.specs.Program.{LinearProgram, LinearBody, LinearFunction, LinearFunclet}
-use Rattle.linear_machine.specs.Frames.{BodyName, FunctionBody, FuncletBody, function_body, funclet_body, body_of}
+use Rattle.linear_code.specs.Program.{LinearBody, LinearFunction, LinearFunclet}
+use Rattle.linear_machine.specs.Frames.{FunctionBody, FuncletBody, function_body, funclet_body, body_of}
 use Rattle.linear_runs.proofs.Ranges.{Range, part_of, both_parts, no_part, one_part}
 use Rattle.seh_ir.specs.declared.funclets.Owner.{Owner}
 use Rattle.seh_ir.specs.Expressions.{constant}
 use Rattle.seh_ir.specs.Statements.{statements_code}
-use Rattle.seh_ir.specs.Regions.{statements_regions}
 use Rattle.seh_ir.specs.Lowered.{own_locals, all_locals, scope_of, lowered_function, lowered_funclets, all_funclets, lowered}
 use Rattle.ir_follows.specs.Fits.{IsCalled}
 use Rattle.ir_linked.proofs.Numbers.{count_front, count_back, statements_count}
 use Rattle.ir_linked.proofs.Segments.{StandsAt, front, back, stands_itself}
 use Rattle.ir_linked.proofs.SoundExpressions.{both_left, both_right, Knows}
 use Rattle.ir_linked.proofs.Lowered.{lowered_is_linked}
-use Rattle.ir_typed.specs.Bodies.{IsCallee, IsInstructionOf, IsBodyOf, AreBodies, IsWhole}
+use Rattle.ir_typed.specs.Bodies.{IsCallee, IsBodyOf, AreBodies}
 use Rattle.ir_typed.specs.Laws.{LoweredIsWhole}
 use Rattle.ir_typed.proofs.Calls.{append}
 use Rattle.ir_typed.proofs.Stacked.{same_it, all_at}
-use Rattle.ir_typed.proofs.Wholes.{Fine, IsOwner, all_stand}
+use Rattle.ir_typed.proofs.Wholes.{Fine, all_stand}
 
 module _ (program : Program) where
   callee : (f count : ℕ) → IsCalled program f count → IsCallee (lowered program) f count
@@ -54,7 +53,7 @@ module _ (program : Program) where
       let code = statements_code (scope_of fn) fn.body 0 in
       let ends = constant 0 0 ∷ instructions.Return (Temporary 0) ∷ [] in
       let x = all_stand program linear callee (own_locals fn) fn.body (FunctionBody number) body (ap function_body there) (inside fn) (knows fn) (scope_of fn) owner (record { parent = refl; function = refl }) 0 j
-          (both_left _ _ (both_left _ _ ok)) (front body.code 0 code ends (stands_itself body.code)) f c in
+      (both_left _ _ (both_left _ _ ok)) (front body.code 0 code ends (stands_itself body.code)) f c in
       let whole : IsBodyOf linear (FunctionBody number) body = record { regions = x.regions; code = append program linear callee (FunctionBody number) code ends x.calls (tt, (tt, tt)) } in
       ((λ b e. subst (IsBodyOf linear (FunctionBody number)) (same_it body b (sym (ap function_body there) ∙ e)) whole), x.funclets)
 
@@ -70,7 +69,7 @@ module _ (program : Program) where
       let last = j + length own + length rest in
       let x = function_stands fn number j (both_left _ _ ok) g.0 (front (lowered program).funclets j own rest f) (count_front (j + 1) (funclets fn.body) (sound.all_funclets fs) c) in
       let y = functions_stand fs (number + 1) (j + length own) (both_right _ _ ok) g.1 (back (lowered program).funclets j (j + length own) own rest refl f)
-          (count_back (j + 1) (j + length own + 1) (funclets fn.body) (sound.all_funclets fs) (omega arith) c) in (
+      (count_back (j + 1) (j + length own + 1) (funclets fn.body) (sound.all_funclets fs) (omega arith) c) in (
         part_of Good number end number _ (omega arith) (omega arith) (both_parts Good number (number + 1) end (one_part Good number x.0) y.0),
         part_of Tidy j last j _ (omega arith) (omega arith) (both_parts Tidy j (j + length own) last x.1 y.1),
       )

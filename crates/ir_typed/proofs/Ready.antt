@@ -1,8 +1,8 @@
 -- A configuration that isn't stuck is at an instruction, and what that needs is there.
-use Rattle.std.proofs.Common.{◌≡◌, ℕ, suc, ◌+◌, ◌*◌, ◌<◌, ◌≤◌, List, [], ◌∷◌, length, refl, ap, sym, subst, ◌∙◌, arith}
+use Rattle.std.proofs.Common.{◌≡◌, ℕ, ◌+◌, ◌*◌, List, [], length, refl, ap, ◌∙◌, arith}
 use Rattle.std.proofs.lemmas.Bool.{eqb-true, leb-true}
 use Rattle.std.proofs.lemmas.Option.{slice_get_within}
-use Rattle.std.specs.Prelude.{Bool, true, false, ℤ, nat_eq, nat_le, if◌then◌else◌, slice_get, Option, Some, None}
+use Rattle.std.specs.Prelude.{Bool, true, false, nat_eq, nat_le, if◌then◌else◌, slice_get, Option, Some, None}
 use Rattle.seh_num.specs.declared.event.Event.{Event}
 use Rattle.c_checked.specs.Program.{Program}
 use Rattle.c_checked.specs.Sound.{IsSound}
@@ -10,21 +10,21 @@ use Rattle.linear_code.specs.declared.slot.Slot.{Slot}
 use Rattle.linear_code.specs.declared.slot.Slot.TheVariants.{Local, Temporary}
 use Rattle.linear_code.specs.declared.instruction.Instruction.{Instruction}
 use Rattle.linear_code.specs.declared.instruction.Instruction.TheVariants as instructions
-use Rattle.linear_code.specs.Program.{LinearProgram, LinearFunction}
+use Rattle.linear_code.specs.Program.{LinearProgram}
 use Rattle.linear_machine.specs.Frames.{Configuration, Seen, Stuck, Next, pick, with_some, read, write, with_temporary, with_temporaries, last_temporaries, at_label, forth}
 use Rattle.linear_machine.specs.Unwinding.{flag_of}
 use Rattle.linear_machine.specs.Instructions.{is_constant, operand, written, computed, tested, waiting, count_of, built_in, end_body, not_landed, act}
 use Rattle.c_operations.specs.Performed.{performed}
 use Rattle.c_model.specs.Source.{is_reserved}
 use Rattle.c_model.specs.Expressions.{field_of}
-use Rattle.linear_machine.specs.Run.{instruction_at, exec, start, seen}
+use Rattle.linear_machine.specs.Run.{instruction_at, exec, start}
 use Rattle.seh_ir.specs.Lowered.{lowered}
 use Rattle.ir_linked.specs.Pace.{pace_of}
 use Rattle.ir_linked.proofs.Lowered.{lowered_shows_no_more}
 use Rattle.ir_typed.specs.Turns.{IsReached}
-use Rattle.ir_typed.specs.Ready.{IsHeld, IsNext, IsRead, held, IsReady, CanGoOn}
+use Rattle.ir_typed.specs.Ready.{IsHeld, IsNext, IsRead, held, IsReady}
 use Rattle.ir_typed.specs.Laws.{ReachedGoesOn}
-use Rattle.ir_typed.proofs.Turns.{There, there, come}
+use Rattle.ir_typed.proofs.Turns.{there, come}
 
 -- ---- slots
 

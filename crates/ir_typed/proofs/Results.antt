@@ -1,5 +1,5 @@
 -- What an operation gives is a number of 64 bits, and a fault has a code of 32.
-use Rattle.std.proofs.Common.{◌≡◌, ℕ, zero, suc, ◌+◌, ◌-◌, ◌*◌, ◌/◌, ◌%◌, ◌^◌, ◌<◌, ◌≤◌, refl, ap, sym, ◌∙◌, subst, arith, ltb}
+use Rattle.std.proofs.Common.{◌≡◌, ℕ, zero, suc, ◌+◌, ◌-◌, ◌*◌, ◌/◌, ◌%◌, ◌^◌, ◌<◌, refl, ap, subst, arith, ltb}
 use Rattle.std.proofs.Math.Nat.{div-le_self, mod-le}
 use Rattle.std.proofs.lemmas.Nat.{or_lt, xor_lt}
 use Rattle.std.specs.Int.Bits.{and_lt}
@@ -20,7 +20,7 @@ use Rattle.c_operations.specs.declared.operation.Pure.TheVariants as pures
 use Rattle.c_operations.specs.declared.operation.Operation.{Operation}
 use Rattle.c_operations.specs.declared.operation.Operation.TheVariants as operations
 use Rattle.c_operations.specs.Numbers.{width, are_related, extended, shifted_right, result_of}
-use Rattle.c_operations.specs.Performed.{Outcome, Gives, Raises, Undefined, fault_of, signed_part, unsigned_part, quotient, remainder, unless_reserved, unless_refused, accessed, performed}
+use Rattle.c_operations.specs.Performed.{Outcome, Gives, Raises, Undefined, fault_of, signed_part, unsigned_part, unless_reserved, unless_refused, accessed, performed}
 use Rattle.ir_typed.specs.Small.{IsSmallAccess}
 
 -- ---- widths

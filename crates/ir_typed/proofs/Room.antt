@@ -1,5 +1,5 @@
 -- The slots of a body of a program that is nested within the limits are enough.
-use Rattle.std.proofs.Common.{◌≡◌, ℕ, zero, suc, ◌+◌, ◌-◌, ◌≤◌, ◌<◌, max, List, [], ◌∷◌, length, refl, sym, ap, subst, arith}
+use Rattle.std.proofs.Common.{◌≡◌, ℕ, zero, suc, ◌≤◌, List, [], ◌∷◌, refl, subst, arith}
 use Rattle.std.specs.List.{AllByRecursion}
 use Rattle.std.specs.Prelude.{slice_get, get_or, Option, Some, None}
 use Rattle.c_checked.specs.Program.{Program}
@@ -17,7 +17,7 @@ use Rattle.seh_ir.specs.Lowered.{lowered}
 use Rattle.ir_bounds.specs.Nesting.{AreShallow}
 use Rattle.ir_bounds.specs.Slots.{IsAmong, IsPlain, IsSmallBody, IsSmallFunction, IsSmallFunclet}
 use Rattle.ir_bounds.proofs.Small.{lowered_is_small}
-use Rattle.ir_typed.specs.Depths.{with_written, with_tested, after, depths, depth_at}
+use Rattle.ir_typed.specs.Depths.{with_written, with_tested, after, depths}
 use Rattle.ir_typed.specs.Room.{counts_of, PassesWell, HasRoom}
 use Rattle.ir_typed.specs.Laws.{LoweredHasRoom}
 use Rattle.ir_typed.proofs.EveryBody.{every_body}

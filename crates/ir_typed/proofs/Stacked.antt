@@ -1,14 +1,13 @@
 -- Each turn keeps what waits as it is meant to be.
-use Rattle.std.proofs.Common.{◌≡◌, ◌≢◌, ◌⊎◌, inl, inr, ℕ, zero, suc, ◌+◌, ◌*◌, ◌^◌, ◌<◌, List, [], ◌∷◌, ◌++◌, length, filter, refl, sym, ap, subst, ◌∙◌, arith}
+use Rattle.std.proofs.Common.{◌≡◌, inl, inr, ℕ, zero, suc, ◌+◌, ◌^◌, ◌<◌, List, [], ◌∷◌, ◌++◌, length, filter, refl, sym, ap, subst, ◌∙◌, arith}
 use Rattle.std.proofs.lemmas.Bool.{eqb-true, eqb-false}
 use Rattle.std.proofs.lemmas.List.{length-take-le}
 use Rattle.std.specs.List.{AllByRecursion}
-use Rattle.std.specs.Prelude.{Bool, true, false, cond, nat_eq, nat_le, nat_lt, slice_get, take, get_or, ℤ, Option, Some, None}
+use Rattle.std.specs.Prelude.{Bool, true, false, cond, nat_eq, nat_lt, slice_get, take, get_or, ℤ, Option, Some, None}
 use Rattle.seh_num.specs.declared.event.Event.{Event}
 use Rattle.seh_num.specs.declared.event.Event.TheVariants as events
-use Rattle.seh_num.specs.declared.width.Width.TheVariants.{W32, W64}
+use Rattle.seh_num.specs.declared.width.Width.TheVariants.{W32}
 use Rattle.seh_num.specs.Widths.{signed}
-use Rattle.flat_memory.specs.Memory.{rights_asked, protected}
 use Rattle.c_operations.specs.declared.built_in.BuiltIn.{BuiltIn}
 use Rattle.c_operations.specs.declared.built_in.BuiltIn.TheVariants.{Put, Protect, RaiseException}
 use Rattle.c_operations.specs.declared.operation.Operation.{Operation}
@@ -16,7 +15,7 @@ use Rattle.c_operations.specs.Performed.{Outcome, Gives, Raises, Undefined, perf
 use Rattle.c_model.specs.declared.ended.Ended.TheVariants as ends
 use Rattle.c_model.specs.State.{Exception}
 use Rattle.c_model.specs.Source.{is_reserved}
-use Rattle.c_model.specs.Expressions.{field_of, raised, no_exception}
+use Rattle.c_model.specs.Expressions.{field_of, raised}
 use Rattle.c_model.specs.Raises.{noncontinuable, raise_event}
 use Rattle.linear_code.specs.declared.slot.Slot.{Slot}
 use Rattle.linear_code.specs.declared.slot.Slot.TheVariants.{Local, Temporary}
@@ -28,17 +27,17 @@ use Rattle.linear_code.specs.declared.program.RegionKind.TheVariants as kinds
 use Rattle.linear_code.specs.declared.program.FuncletKind.{FuncletKind}
 use Rattle.linear_code.specs.declared.program.FuncletKind.TheVariants as funclets
 use Rattle.linear_code.specs.Program.{LinearProgram, LinearBody, LinearFunction}
-use Rattle.linear_machine.specs.Frames.{BodyName, FunctionBody, FuncletBody, body_of, Frame, Handler, Target, Resumption, AfterCall, SameOperation, Item, Waits, Searches, Unwinds, Store, Configuration, Seen, Finished, Stuck, Next, pick, with_some, deeper, read, write, with_temporary, with_temporaries, last_temporaries, set_local, at_label, forth, with_last}
+use Rattle.linear_machine.specs.Frames.{BodyName, FunctionBody, FuncletBody, body_of, Frame, Handler, Target, Resumption, AfterCall, SameOperation, Item, Waits, Searches, Unwinds, Store, Configuration, Seen, Finished, Stuck, Next, pick, read, write, with_temporary, with_temporaries, last_temporaries, set_local, at_label, forth, with_last}
 use Rattle.linear_machine.specs.Regions.{holds, regions_of, regions_at, regions_left, handlers_of, handlers_in, handlers, stops}
-use Rattle.linear_machine.specs.Unwinding.{flag_of, begin_finally, run_finally, arrive, target_past, left_store, leave_region, unwind_body, unwind}
-use Rattle.linear_machine.specs.Searching.{target_of, accept, begin_filter, consult, search, raise, resumed, answered, answer}
-use Rattle.linear_machine.specs.Instructions.{is_constant, operand, written, computed, compute, tested, jump_if_zero, waiting, begin_function, call, count_of, answers, built_in, call_built_in, return, end_finally, end_funclet, end_body, local_unwind, not_landed, act}
+use Rattle.linear_machine.specs.Unwinding.{flag_of, run_finally, arrive, target_past, left_store, leave_region, unwind_body, unwind}
+use Rattle.linear_machine.specs.Searching.{target_of, accept, consult, search, raise, resumed, answer}
+use Rattle.linear_machine.specs.Instructions.{is_constant, operand, written, computed, tested, count_of, built_in, return, end_finally, end_funclet, end_body, not_landed, act}
 use Rattle.linear_machine.specs.Run.{instruction_in, instruction_at, start}
 use Rattle.ir_linked.proofs.SoundExpressions.{both_left}
 use Rattle.ir_bounds.proofs.PlainExpressions.{all_append}
 use Rattle.ir_typed.specs.Turns.{IsTurn, IsReached}
 use Rattle.ir_typed.specs.Bodies.{IsFinally, IsFuncletOf, IsLanding, IsKindOf, IsRegionOf, IsInstructionOf, AreBodies}
-use Rattle.ir_typed.specs.Waiting.{IsAt, MayWait, IsWaiting, Handles, IsHandlerOf, IsHandler, LandsAt, IsTargetOf, IsTarget, IsAsked, IsBlockOf, IsAbove, IsRaisedIn, AreLeft, AreHandlers, AreWaiting, LandsWell, IsStacked}
+use Rattle.ir_typed.specs.Waiting.{MayWait, Handles, IsHandler, LandsAt, IsTarget, IsAbove, IsRaisedIn, AreLeft, AreHandlers, AreWaiting, LandsWell, IsStacked}
 use Rattle.ir_typed.proofs.Ready.{last_are}
 use Rattle.ir_typed.proofs.Moves.{Turn, Halts, Moves, pick_turn, some_turn, deeper_turn, kept, kept_by_all}
 

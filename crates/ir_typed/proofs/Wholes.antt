@@ -1,5 +1,5 @@
 -- What the regions and calls of lowered statements name is there, and so it is in their filters and `__finally` blocks.
-use Rattle.std.proofs.Common.{◌≡◌, ℕ, suc, ◌+◌, ◌-◌, ◌<◌, ◌≤◌, List, [], ◌∷◌, ◌++◌, length, refl, sym, ap, subst, ◌∙◌, arith, length-append}
+use Rattle.std.proofs.Common.{◌≡◌, ℕ, ◌+◌, ◌-◌, List, [], ◌∷◌, ◌++◌, length, refl, sym, ap, subst, ◌∙◌, arith, length-append}
 use Rattle.std.specs.List.{AllByRecursion}
 use Rattle.std.specs.Prelude.{true, false, slice_get, Option, Some, None}
 use Rattle.c_operations.specs.declared.operation.Size.{Size}
@@ -18,7 +18,7 @@ use Rattle.linear_code.specs.Program.{LinearProgram, LinearBody, LinearFunclet}
 use Rattle.linear_machine.specs.Frames.{BodyName, FuncletBody, funclet_body, body_of}
 use Rattle.linear_machine.specs.Run.{instruction_in}
 use Rattle.linear_runs.proofs.Ranges.{Range, part_of, both_parts, no_part, one_part}
-use Rattle.ir_sizes.specs.Sizes.{expression_size, discarded_size, condition_size, declared_size, all_declared_size, returned_size, statement_size, statements_size}
+use Rattle.ir_sizes.specs.Sizes.{expression_size, discarded_size, condition_size, declared_size, all_declared_size, statement_size, statements_size}
 use Rattle.seh_ir.specs.declared.funclets.Owner.{Owner}
 use Rattle.seh_ir.specs.declared.scope.Names.{Names}
 use Rattle.seh_ir.specs.declared.scope.Way.{Way}
@@ -37,7 +37,7 @@ use Rattle.ir_linked.proofs.Numbers.{count_front, count_back, counted, filter_co
 use Rattle.ir_linked.proofs.Segments.{StandsAt, front, back, stands_itself}
 use Rattle.ir_linked.proofs.SoundExpressions.{both_left, both_right, Knows, expression_fits}
 use Rattle.ir_bounds.proofs.PlainExpressions.{all_append}
-use Rattle.ir_typed.specs.Bodies.{IsFilter, IsFinally, parent_of, function_of, owner_of, IsFuncletOf, IsLanding, IsKindOf, IsRegionOf, IsCallee, IsInstructionOf, IsBodyOf}
+use Rattle.ir_typed.specs.Bodies.{IsFinally, parent_of, function_of, owner_of, IsFuncletOf, IsLanding, IsKindOf, IsRegionOf, IsCallee, IsInstructionOf, IsBodyOf}
 use Rattle.ir_typed.proofs.Calls.{AllCall, append, expression_calls}
 use Rattle.ir_typed.proofs.Stacked.{same_it}
 
@@ -288,7 +288,7 @@ module _ (program : Program) (linear : LinearProgram) (callee : (f count : ℕ) 
           let is : IsFuncletOf linear name IsFinally (k' - 1) = record { funclet = funclet; there = there'; parent = o.parent; owner = o.function; fits = tt } in
           let x = all_stand body name b there (record i { body = true }) k inner owner o at j (both_left _ _ ok) (front b.code at guarded _ h) (front linear.funclets j fb (funclet ∷ fl) f) (count_front (j + 1) (funclets body) (k' ∷ funclets last) n) in
           let y = all_stand last (FuncletBody (k' - 1)) funclet.body home (in_finally i) (in_last i k) (finally_scope names) (in_funclet (k' - 1) owner) (record { parent = refl; function = ap function_of there' }) 0 (j + length fb + 1) (both_right _ _ ok)
-              (front funclet.body.code 0 code ends whole) f1.1 (both_right _ _ n1) in
+          (front funclet.body.code 0 code ends whole) f1.1 (both_right _ _ n1) in
           let own_body : Fine (k' - 1) = fine (k' - 1) funclet there' (record { regions = y.regions; code = append program linear callee (FuncletBody (k' - 1)) code ends y.calls (tt, tt) }) in
           let end = j + length fb + 1 + length fl in
           record {

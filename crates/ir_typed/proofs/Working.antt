@@ -1,15 +1,13 @@
 -- Each turn keeps the activations those of the functions that run or wait.
-use Rattle.std.proofs.Common.{◌≡◌, ◌⊎◌, inl, inr, ℕ, zero, suc, ◌+◌, ◌-◌, ◌*◌, ◌^◌, ◌<◌, ◌≤◌, List, [], ◌∷◌, ◌++◌, length, refl, sym, ap, subst, ◌∙◌, arith, length-append}
+use Rattle.std.proofs.Common.{◌≡◌, inl, inr, ℕ, zero, suc, ◌+◌, ◌-◌, ◌^◌, ◌≤◌, List, [], ◌∷◌, ◌++◌, length, refl, sym, ap, subst, ◌∙◌, arith, length-append}
 use Rattle.std.proofs.lemmas.List.{length-set, length-replicate, length-drop}
-use Rattle.std.specs.List.{AllByRecursion}
 use Rattle.std.specs.Prelude.{Bool, true, false, nat_eq, nat_lt, slice_get, slice_set, take, drop, replicate, if◌then◌else◌, get_or, ℤ, Option, Some, None}
 use Rattle.seh_num.specs.declared.event.Event.{Event}
 use Rattle.seh_num.specs.declared.event.Event.TheVariants as events
-use Rattle.seh_num.specs.declared.width.Width.TheVariants.{W32, W64}
+use Rattle.seh_num.specs.declared.width.Width.TheVariants.{W32}
 use Rattle.seh_num.specs.Widths.{signed}
 use Rattle.c_operations.specs.declared.built_in.BuiltIn.{BuiltIn}
 use Rattle.c_operations.specs.declared.built_in.BuiltIn.TheVariants.{Put, Protect, RaiseException}
-use Rattle.c_operations.specs.declared.operation.Operation.{Operation}
 use Rattle.c_operations.specs.Performed.{Outcome, Gives, Raises, Undefined, performed}
 use Rattle.c_model.specs.declared.ended.Ended.TheVariants as ends
 use Rattle.c_model.specs.State.{Exception}
@@ -25,8 +23,8 @@ use Rattle.linear_code.specs.declared.program.RegionKind.{RegionKind}
 use Rattle.linear_code.specs.declared.program.RegionKind.TheVariants as kinds
 use Rattle.linear_code.specs.declared.program.FuncletKind.{FuncletKind}
 use Rattle.linear_code.specs.declared.program.FuncletKind.TheVariants as funclets
-use Rattle.linear_code.specs.Program.{LinearProgram, LinearFunction, LinearFunclet}
-use Rattle.linear_machine.specs.Frames.{BodyName, FunctionBody, FuncletBody, Frame, Handler, Target, Resumption, AfterCall, SameOperation, Item, Waits, Searches, Unwinds, Store, Configuration, Seen, Finished, Stuck, Next, pick, with_some, deeper, locals_of, read, write, with_temporary, with_temporaries, last_temporaries, set_local, at_label, forth, with_last}
+use Rattle.linear_code.specs.Program.{LinearProgram, LinearFunction}
+use Rattle.linear_machine.specs.Frames.{BodyName, FunctionBody, FuncletBody, Frame, Handler, Target, Resumption, AfterCall, SameOperation, Item, Waits, Searches, Unwinds, Store, Configuration, Seen, Finished, Stuck, Next, pick, read, write, with_temporary, with_temporaries, last_temporaries, set_local, at_label, forth, with_last}
 use Rattle.linear_machine.specs.Regions.{regions_at, regions_left, handlers, stops}
 use Rattle.linear_machine.specs.Unwinding.{flag_of, run_finally, arrive, target_past, left_store, leave_region, unwind_body, unwind}
 use Rattle.linear_machine.specs.Searching.{target_of, accept, consult, search, raise, resumed, answer}

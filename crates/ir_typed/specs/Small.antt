@@ -2,7 +2,7 @@
 use Rattle.std.specs.Prelude.{ℕ, ◌^◌, ◌<◌, Bool, List, [], ◌∷◌, Option, Some, None}
 use Rattle.std.specs.List.{AllByRecursion}
 use Rattle.c_model.specs.State.{Exception}
-use Rattle.linear_machine.specs.Frames.{Frame, Target, Item, Waits, Searches, Unwinds, Store, Configuration}
+use Rattle.linear_machine.specs.Frames.{Frame, Item, Waits, Searches, Unwinds, Configuration}
 
 abbrev pub AreSmall : List ℕ → Type 0
 AreSmall vs = AllByRecursion (λ v. v < 2 ^ 64) vs

@@ -1,8 +1,7 @@
 -- What waits below a body that runs, and where.
 use Rattle.std.specs.Prelude.{◌≡◌, ◌⊎◌, ℕ, List, [], ◌∷◌, length, Option, Some, None}
 use Rattle.std.specs.List.{AllByRecursion}
-use Rattle.c_operations.specs.declared.built_in.BuiltIn.{BuiltIn}
-use Rattle.c_operations.specs.declared.built_in.BuiltIn.TheVariants.{Put, Protect, RaiseException}
+use Rattle.c_operations.specs.declared.built_in.BuiltIn.TheVariants.{RaiseException}
 use Rattle.c_operations.specs.declared.operation.Operation.{Operation}
 use Rattle.c_model.specs.State.{Exception}
 use Rattle.linear_code.specs.declared.slot.Slot.{Slot}
@@ -14,7 +13,7 @@ use Rattle.linear_code.specs.declared.program.RegionKind.TheVariants as kinds
 use Rattle.linear_code.specs.Program.{LinearProgram}
 use Rattle.linear_machine.specs.Frames.{FunctionBody, FuncletBody, BodyName, body_of, Frame, Handler, Target, Resumption, AfterCall, SameOperation, Item, Waits, Searches, Unwinds, Configuration}
 use Rattle.linear_machine.specs.Run.{instruction_in}
-use Rattle.ir_typed.specs.Bodies.{IsFilter, IsFinally, IsFuncletOf, IsLanding, IsRegionOf}
+use Rattle.ir_typed.specs.Bodies.{IsFinally, IsFuncletOf, IsLanding, IsRegionOf}
 
 module _ (program : LinearProgram) where
   -- the instruction that a body is at, or waits in
