@@ -24,6 +24,10 @@ int main(long long n){ long long s = 0; while (n > 0){ s = s + n; n = n - 1; } p
 # sum_to_argument_9: --arg 9
 int main(long long n){ long long s = 0; while (n > 0){ s = s + n; n = n - 1; } put(s); return 0; }
 => 0 45 / exit 0
+";
+
+/// A recursion of 900 activations.
+const DEEP: &str = r"
 # deep_recursion:
 int r(int n){ if (n == 0) return 0; return r(n - 1) + 1; } int main(void){ put(r(900)); return 0; }
 => 0 900 / exit 0
@@ -97,6 +101,12 @@ fn expressions(rt: HostRuntime) -> Result<(), Fail> {
 #[test]
 fn small_programs(rt: HostRuntime) -> Result<(), Fail> {
     all_show(&rt, rt.alloc(), &WAYS, SMALL)
+}
+
+/// A recursion returns as often as it called.
+#[test]
+fn deep_recursion(rt: HostRuntime) -> Result<(), Fail> {
+    all_show(&rt, rt.alloc(), &WAYS, DEEP)
 }
 
 /// A run ends when its turns are over.
