@@ -11,12 +11,9 @@ const NARROW: &str = r"
 # binary operators of char:
 char edges[5] = {-128, -1, 0, 1, 127};
 void both(char a, char b){
-  put(a + b); put(a - b); put(a * b); put(a & b); put(a | b); put(a ^ b); put(a << b); put(a >> b);
-  put(a < b); put(a <= b); put(a > b); put(a >= b); put(a == b); put(a != b);
-  __try{ put(a / b); } __except(1){ put(GetExceptionCode()); }
-  __try{ put(a % b); } __except(1){ put(GetExceptionCode()); }
-}
-int main(void){ int i; int j; for (i = 0; i < 5; i++) for (j = 0; j < 5; j++) both(edges[i], edges[j]); return 0; }
+  put(a + b); put(a - b); put(a * b); put(a & b); put(a | b); put(a ^ b); put(a << b); put(a >> b); put(a < b); put(a <= b); put(a > b); put(a >= b); put(a == b); put(a != b);
+  __try{ put(a / b); } __except(1){ put(GetExceptionCode()); } __try{ put(a % b); } __except(1){ put(GetExceptionCode()); }
+} int main(void){ int i; int j; for (i = 0; i < 5; i++) for (j = 0; j < 5; j++) both(edges[i], edges[j]); return 0; }
 => 0 -256 / 0 / 16384 / -128 / -128 / 0 / -128 / -128 / 0 / 1 / 0 / 1 / 1 / 0 / 1 / 0
 -129 / -127 / 128 / -128 / -1 / 127 / 0 / -1 / 1 / 1 / 0 / 0 / 0 / 1 / 128 / 0
 -128 / -128 / 0 / 0 / -128 / -128 / -128 / -128 / 1 / 1 / 0 / 0 / 0 / 1 / raise C0000094 0 / except C0000094 / 3221225620 / raise C0000094 0 / except C0000094 / 3221225620
@@ -46,12 +43,9 @@ exit 0
 # binary operators of unsigned char:
 unsigned char edges[4] = {0, 1, 128, 255};
 void both(unsigned char a, unsigned char b){
-  put(a + b); put(a - b); put(a * b); put(a & b); put(a | b); put(a ^ b); put(a << b); put(a >> b);
-  put(a < b); put(a <= b); put(a > b); put(a >= b); put(a == b); put(a != b);
-  __try{ put(a / b); } __except(1){ put(GetExceptionCode()); }
-  __try{ put(a % b); } __except(1){ put(GetExceptionCode()); }
-}
-int main(void){ int i; int j; for (i = 0; i < 4; i++) for (j = 0; j < 4; j++) both(edges[i], edges[j]); return 0; }
+  put(a + b); put(a - b); put(a * b); put(a & b); put(a | b); put(a ^ b); put(a << b); put(a >> b); put(a < b); put(a <= b); put(a > b); put(a >= b); put(a == b); put(a != b);
+  __try{ put(a / b); } __except(1){ put(GetExceptionCode()); } __try{ put(a % b); } __except(1){ put(GetExceptionCode()); }
+} int main(void){ int i; int j; for (i = 0; i < 4; i++) for (j = 0; j < 4; j++) both(edges[i], edges[j]); return 0; }
 => 0 0 / 0 / 0 / 0 / 0 / 0 / 0 / 0 / 0 / 1 / 0 / 1 / 1 / 0 / raise C0000094 0 / except C0000094 / 3221225620 / raise C0000094 0 / except C0000094 / 3221225620
 1 / -1 / 0 / 0 / 1 / 1 / 0 / 0 / 1 / 1 / 0 / 0 / 0 / 1 / 0 / 0
 128 / -128 / 0 / 0 / 128 / 128 / 0 / 0 / 1 / 1 / 0 / 0 / 0 / 1 / 0 / 0
@@ -72,12 +66,9 @@ exit 0
 # binary operators of short:
 short edges[5] = {-32768, -1, 0, 1, 32767};
 void both(short a, short b){
-  put(a + b); put(a - b); put(a * b); put(a & b); put(a | b); put(a ^ b); put(a << b); put(a >> b);
-  put(a < b); put(a <= b); put(a > b); put(a >= b); put(a == b); put(a != b);
-  __try{ put(a / b); } __except(1){ put(GetExceptionCode()); }
-  __try{ put(a % b); } __except(1){ put(GetExceptionCode()); }
-}
-int main(void){ int i; int j; for (i = 0; i < 5; i++) for (j = 0; j < 5; j++) both(edges[i], edges[j]); return 0; }
+  put(a + b); put(a - b); put(a * b); put(a & b); put(a | b); put(a ^ b); put(a << b); put(a >> b); put(a < b); put(a <= b); put(a > b); put(a >= b); put(a == b); put(a != b);
+  __try{ put(a / b); } __except(1){ put(GetExceptionCode()); } __try{ put(a % b); } __except(1){ put(GetExceptionCode()); }
+} int main(void){ int i; int j; for (i = 0; i < 5; i++) for (j = 0; j < 5; j++) both(edges[i], edges[j]); return 0; }
 => 0 -65536 / 0 / 1073741824 / -32768 / -32768 / 0 / -32768 / -32768 / 0 / 1 / 0 / 1 / 1 / 0 / 1 / 0
 -32769 / -32767 / 32768 / -32768 / -1 / 32767 / 0 / -1 / 1 / 1 / 0 / 0 / 0 / 1 / 32768 / 0
 -32768 / -32768 / 0 / 0 / -32768 / -32768 / -32768 / -32768 / 1 / 1 / 0 / 0 / 0 / 1 / raise C0000094 0 / except C0000094 / 3221225620 / raise C0000094 0 / except C0000094 / 3221225620
@@ -107,12 +98,9 @@ exit 0
 # binary operators of unsigned short:
 unsigned short edges[4] = {0, 1, 32768, 65535};
 void both(unsigned short a, unsigned short b){
-  put(a + b); put(a - b); put(a * b); put(a & b); put(a | b); put(a ^ b); put(a << b); put(a >> b);
-  put(a < b); put(a <= b); put(a > b); put(a >= b); put(a == b); put(a != b);
-  __try{ put(a / b); } __except(1){ put(GetExceptionCode()); }
-  __try{ put(a % b); } __except(1){ put(GetExceptionCode()); }
-}
-int main(void){ int i; int j; for (i = 0; i < 4; i++) for (j = 0; j < 4; j++) both(edges[i], edges[j]); return 0; }
+  put(a + b); put(a - b); put(a * b); put(a & b); put(a | b); put(a ^ b); put(a << b); put(a >> b); put(a < b); put(a <= b); put(a > b); put(a >= b); put(a == b); put(a != b);
+  __try{ put(a / b); } __except(1){ put(GetExceptionCode()); } __try{ put(a % b); } __except(1){ put(GetExceptionCode()); }
+} int main(void){ int i; int j; for (i = 0; i < 4; i++) for (j = 0; j < 4; j++) both(edges[i], edges[j]); return 0; }
 => 0 0 / 0 / 0 / 0 / 0 / 0 / 0 / 0 / 0 / 1 / 0 / 1 / 1 / 0 / raise C0000094 0 / except C0000094 / 3221225620 / raise C0000094 0 / except C0000094 / 3221225620
 1 / -1 / 0 / 0 / 1 / 1 / 0 / 0 / 1 / 1 / 0 / 0 / 0 / 1 / 0 / 0
 32768 / -32768 / 0 / 0 / 32768 / 32768 / 0 / 0 / 1 / 1 / 0 / 0 / 0 / 1 / 0 / 0
@@ -137,12 +125,9 @@ const WIDE: &str = r"
 # binary operators of int:
 int edges[5] = {-2147483648, -1, 0, 1, 2147483647};
 void both(int a, int b){
-  put(a + b); put(a - b); put(a * b); put(a & b); put(a | b); put(a ^ b); put(a << b); put(a >> b);
-  put(a < b); put(a <= b); put(a > b); put(a >= b); put(a == b); put(a != b);
-  __try{ put(a / b); } __except(1){ put(GetExceptionCode()); }
-  __try{ put(a % b); } __except(1){ put(GetExceptionCode()); }
-}
-int main(void){ int i; int j; for (i = 0; i < 5; i++) for (j = 0; j < 5; j++) both(edges[i], edges[j]); return 0; }
+  put(a + b); put(a - b); put(a * b); put(a & b); put(a | b); put(a ^ b); put(a << b); put(a >> b); put(a < b); put(a <= b); put(a > b); put(a >= b); put(a == b); put(a != b);
+  __try{ put(a / b); } __except(1){ put(GetExceptionCode()); } __try{ put(a % b); } __except(1){ put(GetExceptionCode()); }
+} int main(void){ int i; int j; for (i = 0; i < 5; i++) for (j = 0; j < 5; j++) both(edges[i], edges[j]); return 0; }
 => 0 0 / 0 / 0 / -2147483648 / -2147483648 / 0 / -2147483648 / -2147483648 / 0 / 1 / 0 / 1 / 1 / 0 / 1 / 0
 2147483647 / -2147483647 / -2147483648 / -2147483648 / -1 / 2147483647 / 0 / -1 / 1 / 1 / 0 / 0 / 0 / 1 / raise C0000095 0 / except C0000095 / 3221225621 / raise C0000095 0 / except C0000095 / 3221225621
 -2147483648 / -2147483648 / 0 / 0 / -2147483648 / -2147483648 / -2147483648 / -2147483648 / 1 / 1 / 0 / 0 / 0 / 1 / raise C0000094 0 / except C0000094 / 3221225620 / raise C0000094 0 / except C0000094 / 3221225620
@@ -172,12 +157,9 @@ exit 0
 # binary operators of unsigned:
 unsigned edges[4] = {0, 1, 2147483648, 4294967295};
 void both(unsigned a, unsigned b){
-  put(a + b); put(a - b); put(a * b); put(a & b); put(a | b); put(a ^ b); put(a << b); put(a >> b);
-  put(a < b); put(a <= b); put(a > b); put(a >= b); put(a == b); put(a != b);
-  __try{ put(a / b); } __except(1){ put(GetExceptionCode()); }
-  __try{ put(a % b); } __except(1){ put(GetExceptionCode()); }
-}
-int main(void){ int i; int j; for (i = 0; i < 4; i++) for (j = 0; j < 4; j++) both(edges[i], edges[j]); return 0; }
+  put(a + b); put(a - b); put(a * b); put(a & b); put(a | b); put(a ^ b); put(a << b); put(a >> b); put(a < b); put(a <= b); put(a > b); put(a >= b); put(a == b); put(a != b);
+  __try{ put(a / b); } __except(1){ put(GetExceptionCode()); } __try{ put(a % b); } __except(1){ put(GetExceptionCode()); }
+} int main(void){ int i; int j; for (i = 0; i < 4; i++) for (j = 0; j < 4; j++) both(edges[i], edges[j]); return 0; }
 => 0 0 / 0 / 0 / 0 / 0 / 0 / 0 / 0 / 0 / 1 / 0 / 1 / 1 / 0 / raise C0000094 0 / except C0000094 / 3221225620 / raise C0000094 0 / except C0000094 / 3221225620
 1 / 4294967295 / 0 / 0 / 1 / 1 / 0 / 0 / 1 / 1 / 0 / 0 / 0 / 1 / 0 / 0
 2147483648 / 2147483648 / 0 / 0 / 2147483648 / 2147483648 / 0 / 0 / 1 / 1 / 0 / 0 / 0 / 1 / 0 / 0
@@ -198,12 +180,9 @@ exit 0
 # binary operators of long long:
 long long edges[5] = {-9223372036854775808, -1, 0, 1, 9223372036854775807};
 void both(long long a, long long b){
-  put(a + b); put(a - b); put(a * b); put(a & b); put(a | b); put(a ^ b); put(a << b); put(a >> b);
-  put(a < b); put(a <= b); put(a > b); put(a >= b); put(a == b); put(a != b);
-  __try{ put(a / b); } __except(1){ put(GetExceptionCode()); }
-  __try{ put(a % b); } __except(1){ put(GetExceptionCode()); }
-}
-int main(void){ int i; int j; for (i = 0; i < 5; i++) for (j = 0; j < 5; j++) both(edges[i], edges[j]); return 0; }
+  put(a + b); put(a - b); put(a * b); put(a & b); put(a | b); put(a ^ b); put(a << b); put(a >> b); put(a < b); put(a <= b); put(a > b); put(a >= b); put(a == b); put(a != b);
+  __try{ put(a / b); } __except(1){ put(GetExceptionCode()); } __try{ put(a % b); } __except(1){ put(GetExceptionCode()); }
+} int main(void){ int i; int j; for (i = 0; i < 5; i++) for (j = 0; j < 5; j++) both(edges[i], edges[j]); return 0; }
 => 0 0 / 0 / 0 / -9223372036854775808 / -9223372036854775808 / 0 / -9223372036854775808 / -9223372036854775808 / 0 / 1 / 0 / 1 / 1 / 0 / 1 / 0
 9223372036854775807 / -9223372036854775807 / -9223372036854775808 / -9223372036854775808 / -1 / 9223372036854775807 / 0 / -1 / 1 / 1 / 0 / 0 / 0 / 1 / raise C0000095 0 / except C0000095 / 3221225621 / raise C0000095 0 / except C0000095 / 3221225621
 -9223372036854775808 / -9223372036854775808 / 0 / 0 / -9223372036854775808 / -9223372036854775808 / -9223372036854775808 / -9223372036854775808 / 1 / 1 / 0 / 0 / 0 / 1 / raise C0000094 0 / except C0000094 / 3221225620 / raise C0000094 0 / except C0000094 / 3221225620
@@ -233,12 +212,9 @@ exit 0
 # binary operators of unsigned long long:
 unsigned long long edges[4] = {0, 1, 9223372036854775808, 18446744073709551615};
 void both(unsigned long long a, unsigned long long b){
-  put(a + b); put(a - b); put(a * b); put(a & b); put(a | b); put(a ^ b); put(a << b); put(a >> b);
-  put(a < b); put(a <= b); put(a > b); put(a >= b); put(a == b); put(a != b);
-  __try{ put(a / b); } __except(1){ put(GetExceptionCode()); }
-  __try{ put(a % b); } __except(1){ put(GetExceptionCode()); }
-}
-int main(void){ int i; int j; for (i = 0; i < 4; i++) for (j = 0; j < 4; j++) both(edges[i], edges[j]); return 0; }
+  put(a + b); put(a - b); put(a * b); put(a & b); put(a | b); put(a ^ b); put(a << b); put(a >> b); put(a < b); put(a <= b); put(a > b); put(a >= b); put(a == b); put(a != b);
+  __try{ put(a / b); } __except(1){ put(GetExceptionCode()); } __try{ put(a % b); } __except(1){ put(GetExceptionCode()); }
+} int main(void){ int i; int j; for (i = 0; i < 4; i++) for (j = 0; j < 4; j++) both(edges[i], edges[j]); return 0; }
 => 0 0 / 0 / 0 / 0 / 0 / 0 / 0 / 0 / 0 / 1 / 0 / 1 / 1 / 0 / raise C0000094 0 / except C0000094 / 3221225620 / raise C0000094 0 / except C0000094 / 3221225620
 1 / -1 / 0 / 0 / 1 / 1 / 0 / 0 / 1 / 1 / 0 / 0 / 0 / 1 / 0 / 0
 -9223372036854775808 / -9223372036854775808 / 0 / 0 / -9223372036854775808 / -9223372036854775808 / 0 / 0 / 1 / 1 / 0 / 0 / 0 / 1 / 0 / 0

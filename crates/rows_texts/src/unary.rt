@@ -13,8 +13,7 @@ void one(char a){
   put(-a); put(+a); put(~a); put(!a);
   put((char)a); put((unsigned char)a); put((short)a); put((unsigned short)a); put((int)a); put((unsigned)a); put((long long)a); put((unsigned long long)a);
   put(a++); put(a); put(--a); put(a--); put(++a);
-}
-int main(void){ int i; for (i = 0; i < 5; i++) one(edges[i]); return 0; }
+} int main(void){ int i; for (i = 0; i < 5; i++) one(edges[i]); return 0; }
 => 0 128 / -128 / 127 / 0 / -128 / 128 / -128 / 65408 / -128 / 4294967168 / -128 / -128 / -128 / -127 / -128 / -128 / -128
 1 / -1 / 0 / 0 / -1 / 255 / -1 / 65535 / -1 / 4294967295 / -1 / -1 / -1 / 0 / -1 / -1 / -1
 0 / 0 / -1 / 1 / 0 / 0 / 0 / 0 / 0 / 0 / 0 / 0 / 0 / 1 / 0 / 0 / 0
@@ -27,8 +26,7 @@ void one(unsigned char a){
   put(-a); put(+a); put(~a); put(!a);
   put((char)a); put((unsigned char)a); put((short)a); put((unsigned short)a); put((int)a); put((unsigned)a); put((long long)a); put((unsigned long long)a);
   put(a++); put(a); put(--a); put(a--); put(++a);
-}
-int main(void){ int i; for (i = 0; i < 4; i++) one(edges[i]); return 0; }
+} int main(void){ int i; for (i = 0; i < 4; i++) one(edges[i]); return 0; }
 => 0 0 / 0 / -1 / 1 / 0 / 0 / 0 / 0 / 0 / 0 / 0 / 0 / 0 / 1 / 0 / 0 / 0
 -1 / 1 / -2 / 0 / 1 / 1 / 1 / 1 / 1 / 1 / 1 / 1 / 1 / 2 / 1 / 1 / 1
 -128 / 128 / -129 / 0 / -128 / 128 / 128 / 128 / 128 / 128 / 128 / 128 / 128 / 129 / 128 / 128 / 128
@@ -40,8 +38,7 @@ void one(short a){
   put(-a); put(+a); put(~a); put(!a);
   put((char)a); put((unsigned char)a); put((short)a); put((unsigned short)a); put((int)a); put((unsigned)a); put((long long)a); put((unsigned long long)a);
   put(a++); put(a); put(--a); put(a--); put(++a);
-}
-int main(void){ int i; for (i = 0; i < 5; i++) one(edges[i]); return 0; }
+} int main(void){ int i; for (i = 0; i < 5; i++) one(edges[i]); return 0; }
 => 0 32768 / -32768 / 32767 / 0 / 0 / 0 / -32768 / 32768 / -32768 / 4294934528 / -32768 / -32768 / -32768 / -32767 / -32768 / -32768 / -32768
 1 / -1 / 0 / 0 / -1 / 255 / -1 / 65535 / -1 / 4294967295 / -1 / -1 / -1 / 0 / -1 / -1 / -1
 0 / 0 / -1 / 1 / 0 / 0 / 0 / 0 / 0 / 0 / 0 / 0 / 0 / 1 / 0 / 0 / 0
@@ -54,8 +51,7 @@ void one(unsigned short a){
   put(-a); put(+a); put(~a); put(!a);
   put((char)a); put((unsigned char)a); put((short)a); put((unsigned short)a); put((int)a); put((unsigned)a); put((long long)a); put((unsigned long long)a);
   put(a++); put(a); put(--a); put(a--); put(++a);
-}
-int main(void){ int i; for (i = 0; i < 4; i++) one(edges[i]); return 0; }
+} int main(void){ int i; for (i = 0; i < 4; i++) one(edges[i]); return 0; }
 => 0 0 / 0 / -1 / 1 / 0 / 0 / 0 / 0 / 0 / 0 / 0 / 0 / 0 / 1 / 0 / 0 / 0
 -1 / 1 / -2 / 0 / 1 / 1 / 1 / 1 / 1 / 1 / 1 / 1 / 1 / 2 / 1 / 1 / 1
 -32768 / 32768 / -32769 / 0 / 0 / 0 / -32768 / 32768 / 32768 / 32768 / 32768 / 32768 / 32768 / 32769 / 32768 / 32768 / 32768
@@ -67,8 +63,7 @@ void one(int a){
   put(-a); put(+a); put(~a); put(!a);
   put((char)a); put((unsigned char)a); put((short)a); put((unsigned short)a); put((int)a); put((unsigned)a); put((long long)a); put((unsigned long long)a);
   put(a++); put(a); put(--a); put(a--); put(++a);
-}
-int main(void){ int i; for (i = 0; i < 5; i++) one(edges[i]); return 0; }
+} int main(void){ int i; for (i = 0; i < 5; i++) one(edges[i]); return 0; }
 => 0 -2147483648 / -2147483648 / 2147483647 / 0 / 0 / 0 / 0 / 0 / -2147483648 / 2147483648 / -2147483648 / -2147483648 / -2147483648 / -2147483647 / -2147483648 / -2147483648 / -2147483648
 1 / -1 / 0 / 0 / -1 / 255 / -1 / 65535 / -1 / 4294967295 / -1 / -1 / -1 / 0 / -1 / -1 / -1
 0 / 0 / -1 / 1 / 0 / 0 / 0 / 0 / 0 / 0 / 0 / 0 / 0 / 1 / 0 / 0 / 0
@@ -81,8 +76,7 @@ void one(unsigned a){
   put(-a); put(+a); put(~a); put(!a);
   put((char)a); put((unsigned char)a); put((short)a); put((unsigned short)a); put((int)a); put((unsigned)a); put((long long)a); put((unsigned long long)a);
   put(a++); put(a); put(--a); put(a--); put(++a);
-}
-int main(void){ int i; for (i = 0; i < 4; i++) one(edges[i]); return 0; }
+} int main(void){ int i; for (i = 0; i < 4; i++) one(edges[i]); return 0; }
 => 0 0 / 0 / 4294967295 / 1 / 0 / 0 / 0 / 0 / 0 / 0 / 0 / 0 / 0 / 1 / 0 / 0 / 0
 4294967295 / 1 / 4294967294 / 0 / 1 / 1 / 1 / 1 / 1 / 1 / 1 / 1 / 1 / 2 / 1 / 1 / 1
 2147483648 / 2147483648 / 2147483647 / 0 / 0 / 0 / 0 / 0 / -2147483648 / 2147483648 / 2147483648 / 2147483648 / 2147483648 / 2147483649 / 2147483648 / 2147483648 / 2147483648
@@ -94,8 +88,7 @@ void one(long long a){
   put(-a); put(+a); put(~a); put(!a);
   put((char)a); put((unsigned char)a); put((short)a); put((unsigned short)a); put((int)a); put((unsigned)a); put((long long)a); put((unsigned long long)a);
   put(a++); put(a); put(--a); put(a--); put(++a);
-}
-int main(void){ int i; for (i = 0; i < 5; i++) one(edges[i]); return 0; }
+} int main(void){ int i; for (i = 0; i < 5; i++) one(edges[i]); return 0; }
 => 0 -9223372036854775808 / -9223372036854775808 / 9223372036854775807 / 0 / 0 / 0 / 0 / 0 / 0 / 0 / -9223372036854775808 / -9223372036854775808 / -9223372036854775808 / -9223372036854775807 / -9223372036854775808 / -9223372036854775808 / -9223372036854775808
 1 / -1 / 0 / 0 / -1 / 255 / -1 / 65535 / -1 / 4294967295 / -1 / -1 / -1 / 0 / -1 / -1 / -1
 0 / 0 / -1 / 1 / 0 / 0 / 0 / 0 / 0 / 0 / 0 / 0 / 0 / 1 / 0 / 0 / 0
@@ -108,8 +101,7 @@ void one(unsigned long long a){
   put(-a); put(+a); put(~a); put(!a);
   put((char)a); put((unsigned char)a); put((short)a); put((unsigned short)a); put((int)a); put((unsigned)a); put((long long)a); put((unsigned long long)a);
   put(a++); put(a); put(--a); put(a--); put(++a);
-}
-int main(void){ int i; for (i = 0; i < 4; i++) one(edges[i]); return 0; }
+} int main(void){ int i; for (i = 0; i < 4; i++) one(edges[i]); return 0; }
 => 0 0 / 0 / -1 / 1 / 0 / 0 / 0 / 0 / 0 / 0 / 0 / 0 / 0 / 1 / 0 / 0 / 0
 -1 / 1 / -2 / 0 / 1 / 1 / 1 / 1 / 1 / 1 / 1 / 1 / 1 / 2 / 1 / 1 / 1
 -9223372036854775808 / -9223372036854775808 / 9223372036854775807 / 0 / 0 / 0 / 0 / 0 / 0 / 0 / -9223372036854775808 / -9223372036854775808 / -9223372036854775808 / -9223372036854775807 / -9223372036854775808 / -9223372036854775808 / -9223372036854775808
