@@ -109,8 +109,8 @@ void one(unsigned long long a){
 exit 0
 ";
 
-/// Assignments that compute.
-const ASSIGNED: &str = r"
+/// Assignments that compute, of 8 and 16 bits.
+const NARROW: &str = r"
 # assignments of char:
 char v;
 int main(void){
@@ -211,6 +211,10 @@ int main(void){
 0 / 0 / 0 / 65535 / 21845 / 1
 0 / 0 / 0 / 0 / 0 / 0
 exit 0
+";
+
+/// Assignments that compute, of 32 and 64 bits.
+const WIDE: &str = r"
 # assignments of int:
 int v;
 int main(void){
@@ -354,10 +358,16 @@ fn unary(rt: HostRuntime) -> Result<(), Fail> {
     all_show(&rt, rt.alloc(), &WAYS, UNARY)
 }
 
-/// Each operator that assigns, at each type.
+/// Each operator that assigns, of 8 and 16 bits.
 #[test]
-fn assigned(rt: HostRuntime) -> Result<(), Fail> {
-    all_show(&rt, rt.alloc(), &WAYS, ASSIGNED)
+fn narrow(rt: HostRuntime) -> Result<(), Fail> {
+    all_show(&rt, rt.alloc(), &WAYS, NARROW)
+}
+
+/// Each operator that assigns, of 32 and 64 bits.
+#[test]
+fn wide(rt: HostRuntime) -> Result<(), Fail> {
+    all_show(&rt, rt.alloc(), &WAYS, WIDE)
 }
 
 /// An operand is converted to the common type.
