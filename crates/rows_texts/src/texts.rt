@@ -2,6 +2,8 @@
 
 use crate::ways::{COMPILED, MEANING, WAYS, all_show, answer_by};
 use seh::status::Status;
+use std::alloc::Global;
+use std::process::Abort;
 use std::test::Fail;
 
 /// Expressions, calls and loops.
@@ -121,18 +123,25 @@ fn steps(rt: HostRuntime) -> Result<(), Fail> {
     all_show(&rt, rt.alloc(), &MEANING, STEPS)
 }
 
-/// A recursion without an end meets the guard below the stack, by `run` and by `exec`.
-#[test]
-fn stack_limit(rt: HostRuntime) -> Result<(), Fail> {
+/// A recursion without an end meets the guard below the stack.
+fn meets_the_guard(rt: &impl Abort, alloc: Global, way: &str) -> Result<(), Fail> {
     let text = "int r(int n){ return r(n + 1) + 1; } int main(void){ put(r(900)); return 0; }";
-    for way in COMPILED {
-        let shown = answer_by(rt.alloc(), way, "--turns 100000000", text)?;
-        let line = str::from_utf8(&shown.out).unwrap_or("");
-        let place = line.strip_prefix("stack limit 000000006FFF").unwrap_or("");
-        assert_eq!(rt; shown.status, Status::StackLimit);
-        assert_eq!(rt; place.len(), 5, "{line}");
-        assert!(rt; place.ends_with('\n'));
-        assert!(rt; shown.err.is_empty());
-    }
+    let shown = answer_by(alloc, way, "--turns 100000000", text)?;
+    let line = str::from_utf8(&shown.out).unwrap_or("");
+    let place = line.strip_prefix("stack limit 000000006FFF").unwrap_or("");
+    assert_eq!(rt; shown.status, Status::StackLimit);
+    assert_eq!(rt; place.len(), 5, "{line}");
+    assert!(rt; place.ends_with('\n'));
+    assert!(rt; shown.err.is_empty());
     Ok(())
+}
+
+#[test]
+fn stack_limit_of_run(rt: HostRuntime) -> Result<(), Fail> {
+    meets_the_guard(&rt, rt.alloc(), "run")
+}
+
+#[test]
+fn stack_limit_of_exec(rt: HostRuntime) -> Result<(), Fail> {
+    meets_the_guard(&rt, rt.alloc(), "exec")
 }

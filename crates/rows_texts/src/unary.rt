@@ -10,8 +10,7 @@ const UNARY: &str = r"
 # unary operators and casts of char:
 char edges[5] = {-128, -1, 0, 1, 127};
 void one(char a){
-  put(-a); put(+a); put(~a); put(!a);
-  put((char)a); put((unsigned char)a); put((short)a); put((unsigned short)a); put((int)a); put((unsigned)a); put((long long)a); put((unsigned long long)a);
+  put(-a); put(+a); put(~a); put(!a); put((char)a); put((unsigned char)a); put((short)a); put((unsigned short)a); put((int)a); put((unsigned)a); put((long long)a); put((unsigned long long)a);
   put(a++); put(a); put(--a); put(a--); put(++a);
 } int main(void){ int i; for (i = 0; i < 5; i++) one(edges[i]); return 0; }
 => 0 128 / -128 / 127 / 0 / -128 / 128 / -128 / 65408 / -128 / 4294967168 / -128 / -128 / -128 / -127 / -128 / -128 / -128
@@ -23,8 +22,7 @@ exit 0
 # unary operators and casts of unsigned char:
 unsigned char edges[4] = {0, 1, 128, 255};
 void one(unsigned char a){
-  put(-a); put(+a); put(~a); put(!a);
-  put((char)a); put((unsigned char)a); put((short)a); put((unsigned short)a); put((int)a); put((unsigned)a); put((long long)a); put((unsigned long long)a);
+  put(-a); put(+a); put(~a); put(!a); put((char)a); put((unsigned char)a); put((short)a); put((unsigned short)a); put((int)a); put((unsigned)a); put((long long)a); put((unsigned long long)a);
   put(a++); put(a); put(--a); put(a--); put(++a);
 } int main(void){ int i; for (i = 0; i < 4; i++) one(edges[i]); return 0; }
 => 0 0 / 0 / -1 / 1 / 0 / 0 / 0 / 0 / 0 / 0 / 0 / 0 / 0 / 1 / 0 / 0 / 0
@@ -35,8 +33,7 @@ exit 0
 # unary operators and casts of short:
 short edges[5] = {-32768, -1, 0, 1, 32767};
 void one(short a){
-  put(-a); put(+a); put(~a); put(!a);
-  put((char)a); put((unsigned char)a); put((short)a); put((unsigned short)a); put((int)a); put((unsigned)a); put((long long)a); put((unsigned long long)a);
+  put(-a); put(+a); put(~a); put(!a); put((char)a); put((unsigned char)a); put((short)a); put((unsigned short)a); put((int)a); put((unsigned)a); put((long long)a); put((unsigned long long)a);
   put(a++); put(a); put(--a); put(a--); put(++a);
 } int main(void){ int i; for (i = 0; i < 5; i++) one(edges[i]); return 0; }
 => 0 32768 / -32768 / 32767 / 0 / 0 / 0 / -32768 / 32768 / -32768 / 4294934528 / -32768 / -32768 / -32768 / -32767 / -32768 / -32768 / -32768
@@ -48,8 +45,7 @@ exit 0
 # unary operators and casts of unsigned short:
 unsigned short edges[4] = {0, 1, 32768, 65535};
 void one(unsigned short a){
-  put(-a); put(+a); put(~a); put(!a);
-  put((char)a); put((unsigned char)a); put((short)a); put((unsigned short)a); put((int)a); put((unsigned)a); put((long long)a); put((unsigned long long)a);
+  put(-a); put(+a); put(~a); put(!a); put((char)a); put((unsigned char)a); put((short)a); put((unsigned short)a); put((int)a); put((unsigned)a); put((long long)a); put((unsigned long long)a);
   put(a++); put(a); put(--a); put(a--); put(++a);
 } int main(void){ int i; for (i = 0; i < 4; i++) one(edges[i]); return 0; }
 => 0 0 / 0 / -1 / 1 / 0 / 0 / 0 / 0 / 0 / 0 / 0 / 0 / 0 / 1 / 0 / 0 / 0
@@ -60,8 +56,7 @@ exit 0
 # unary operators and casts of int:
 int edges[5] = {-2147483648, -1, 0, 1, 2147483647};
 void one(int a){
-  put(-a); put(+a); put(~a); put(!a);
-  put((char)a); put((unsigned char)a); put((short)a); put((unsigned short)a); put((int)a); put((unsigned)a); put((long long)a); put((unsigned long long)a);
+  put(-a); put(+a); put(~a); put(!a); put((char)a); put((unsigned char)a); put((short)a); put((unsigned short)a); put((int)a); put((unsigned)a); put((long long)a); put((unsigned long long)a);
   put(a++); put(a); put(--a); put(a--); put(++a);
 } int main(void){ int i; for (i = 0; i < 5; i++) one(edges[i]); return 0; }
 => 0 -2147483648 / -2147483648 / 2147483647 / 0 / 0 / 0 / 0 / 0 / -2147483648 / 2147483648 / -2147483648 / -2147483648 / -2147483648 / -2147483647 / -2147483648 / -2147483648 / -2147483648
@@ -73,8 +68,7 @@ exit 0
 # unary operators and casts of unsigned:
 unsigned edges[4] = {0, 1, 2147483648, 4294967295};
 void one(unsigned a){
-  put(-a); put(+a); put(~a); put(!a);
-  put((char)a); put((unsigned char)a); put((short)a); put((unsigned short)a); put((int)a); put((unsigned)a); put((long long)a); put((unsigned long long)a);
+  put(-a); put(+a); put(~a); put(!a); put((char)a); put((unsigned char)a); put((short)a); put((unsigned short)a); put((int)a); put((unsigned)a); put((long long)a); put((unsigned long long)a);
   put(a++); put(a); put(--a); put(a--); put(++a);
 } int main(void){ int i; for (i = 0; i < 4; i++) one(edges[i]); return 0; }
 => 0 0 / 0 / 4294967295 / 1 / 0 / 0 / 0 / 0 / 0 / 0 / 0 / 0 / 0 / 1 / 0 / 0 / 0
@@ -85,8 +79,7 @@ exit 0
 # unary operators and casts of long long:
 long long edges[5] = {-9223372036854775808, -1, 0, 1, 9223372036854775807};
 void one(long long a){
-  put(-a); put(+a); put(~a); put(!a);
-  put((char)a); put((unsigned char)a); put((short)a); put((unsigned short)a); put((int)a); put((unsigned)a); put((long long)a); put((unsigned long long)a);
+  put(-a); put(+a); put(~a); put(!a); put((char)a); put((unsigned char)a); put((short)a); put((unsigned short)a); put((int)a); put((unsigned)a); put((long long)a); put((unsigned long long)a);
   put(a++); put(a); put(--a); put(a--); put(++a);
 } int main(void){ int i; for (i = 0; i < 5; i++) one(edges[i]); return 0; }
 => 0 -9223372036854775808 / -9223372036854775808 / 9223372036854775807 / 0 / 0 / 0 / 0 / 0 / 0 / 0 / -9223372036854775808 / -9223372036854775808 / -9223372036854775808 / -9223372036854775807 / -9223372036854775808 / -9223372036854775808 / -9223372036854775808
@@ -98,8 +91,7 @@ exit 0
 # unary operators and casts of unsigned long long:
 unsigned long long edges[4] = {0, 1, 9223372036854775808, 18446744073709551615};
 void one(unsigned long long a){
-  put(-a); put(+a); put(~a); put(!a);
-  put((char)a); put((unsigned char)a); put((short)a); put((unsigned short)a); put((int)a); put((unsigned)a); put((long long)a); put((unsigned long long)a);
+  put(-a); put(+a); put(~a); put(!a); put((char)a); put((unsigned char)a); put((short)a); put((unsigned short)a); put((int)a); put((unsigned)a); put((long long)a); put((unsigned long long)a);
   put(a++); put(a); put(--a); put(a--); put(++a);
 } int main(void){ int i; for (i = 0; i < 4; i++) one(edges[i]); return 0; }
 => 0 0 / 0 / -1 / 1 / 0 / 0 / 0 / 0 / 0 / 0 / 0 / 0 / 0 / 1 / 0 / 0 / 0
