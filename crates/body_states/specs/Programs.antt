@@ -11,6 +11,7 @@ use Rattle.x64_machine.specs.declared.context.Context.{Context}
 use Rattle.x64_instr.specs.declared.register.Reg.TheVariants.{Rax, Rcx, Rdx}
 use Rattle.x64_machine.specs.declared.cpu.Cpu.{Cpu}
 use Rattle.x64_machine.specs.Effect.{register}
+use Rattle.eh_tables.specs.declared.code.UnwindOperation.TheVariants.{Allocate}
 use Rattle.eh_tables.specs.Tables.{Entry}
 use Rattle.virtual_unwind.specs.Contexts.{rsp}
 use Rattle.virtual_unwind.specs.CallerOf.{Functions, distance}
@@ -127,6 +128,11 @@ module _ (t : Functions) (fs : List Funclet) (program : LinearProgram) (p : Plan
       → length c.kept ≡ 9 → rsp c + (p.layout name).frame + 8 < 2 ^ 64 → word m (rsp c + (p.layout name).frame) ≡ Ok back
       → IsFramed m name c back
 
+  -- the unwind codes of an entry are the allocation of its body's frame
+  pub record HasAllocation (name : BodyName) : Type 0 where
+    pub offset : ℕ
+    pub codes : (p.entry name).info.codes ≡ record { offset = offset; operation = Allocate (p.layout name).frame } ∷ []
+
   -- a leaf function has no entry
   abbrev pub LeavesStand : Type 0
   LeavesStand =
@@ -186,6 +192,8 @@ module _ (t : Functions) (fs : List Funclet) (program : LinearProgram) (p : Plan
     pub addresses : (name : BodyName) (b : LinearBody) → body_of program name ≡ Some b → HasAddresses name b
     pub check_stack : IsInImage q.check_stack (q.check_stack + sizes check_stack)
     pub lands : (name : BodyName) (b : LinearBody) (label : ℕ) → body_of program name ≡ Some b → label < length b.code → p.lands name label ≡ true
+    pub landings : (name : BodyName) (b : LinearBody) (label : ℕ) → body_of program name ≡ Some b → p.lands name label ≡ true → label < length b.code
+    pub allocations : (name : BodyName) (b : LinearBody) → body_of program name ≡ Some b → p.leaf name ≡ false → HasAllocation name
     pub frames : FramesStand
     pub leaves : LeavesStand
     pub funclets : FuncletsBegin
