@@ -47,6 +47,7 @@ pub record KeepsWord (m : Memory) (y : Layout) (slot sp base : ℕ) : Type 0 whe
   pub below_temporaries : slot + 8 ≤ y.temporaries
   pub below_locals : sp + (slot + 8) ≤ base + y.locals
   pub in_stack : sp + slot + 8 ≤ STACK_END
+  pub above_frame : sp + y.frame + 8 ≤ base
 
 abbrev pub KeepsSlot : Memory → Layout → Option ℕ → (sp base : ℕ) → Type 0
 KeepsSlot m y None sp base = base ≡ sp
@@ -74,7 +75,7 @@ own_number a outer k e =
     let n : length (locals_of outer) ≡ k = locals_count outer ∙ sym e in
     subst (λ x. slice_get (locals_of outer ++ a.values ∷ []) x ≡ Some a.values) n (got_last (locals_of outer) a.values)
 
-function_placed : (m : Memory) (y : Layout) (b : LinearBody) (sp k f : ℕ) (acts : List Activation) → IsFunctionLayout y b → STACK_START ≤ sp → sp + y.frame ≤ STACK_END → HasActivation m y sp y.frame k acts (FunctionBody f) → SlotsPlaced m y b.temporaries sp k acts
+pub function_placed : (m : Memory) (y : Layout) (b : LinearBody) (sp k f : ℕ) (acts : List Activation) → IsFunctionLayout y b → STACK_START ≤ sp → sp + y.frame ≤ STACK_END → HasActivation m y sp y.frame k acts (FunctionBody f) → SlotsPlaced m y b.temporaries sp k acts
 function_placed m y b sp k f [] l low high h = absurd h
 function_placed m y b sp k f (a ∷ outer) l low high h =
     let w = words_fit m (sp + y.locals) (sp + y.frame) a.values h.values in
@@ -96,7 +97,7 @@ function_placed m y b sp k f (a ∷ outer) l low high h =
       kept = subst (λ o. KeepsSlot m y o sp sp) (sym l.none) refl;
     }
 
-leaf_placed : (m : Memory) (y : Layout) (b : LinearBody) (sp k f : ℕ) (acts : List Activation) → IsLeafLayout y b → STACK_START ≤ sp → sp + home_end ≤ STACK_END → HasActivation m y sp y.temporaries k acts (FunctionBody f) → SlotsPlaced m y b.temporaries sp k acts
+pub leaf_placed : (m : Memory) (y : Layout) (b : LinearBody) (sp k f : ℕ) (acts : List Activation) → IsLeafLayout y b → STACK_START ≤ sp → sp + home_end ≤ STACK_END → HasActivation m y sp y.temporaries k acts (FunctionBody f) → SlotsPlaced m y b.temporaries sp k acts
 leaf_placed m y b sp k f [] l low high h = absurd h
 leaf_placed m y b sp k f (a ∷ outer) l low high h =
     let w = words_fit m (sp + y.locals) (sp + y.temporaries) a.values h.values in
@@ -124,13 +125,12 @@ same_slot : (x y : ℕ) → Some x ≡ Some y → x ≡ y
 same_slot x y e = cc
 
 module _ (t : Functions) (fs : List Funclet) (program : LinearProgram) (p : Plan) where
-  funclet_placed : (m : Memory) (y function : Layout) (b : LinearBody) (sp k j : ℕ) (acts : List Activation) (c : Context) (is : List StackItem) (items : List Item) → IsFuncletLayout y function b → STACK_START ≤ sp
-      → rsp c ≡ sp + y.frame + 8 → Stands t fs program p m c is items acts → HasActivation m y sp y.frame k acts (FuncletBody j) → (values : List ℕ) → slice_get (locals_of acts) k ≡ Some values → 8 * length values < 2 ^ 30 → function.locals < 2 ^ 30
+  pub funclet_placed : (m : Memory) (y function : Layout) (b : LinearBody) (sp k j : ℕ) (acts : List Activation) (c : Context) (is : List StackItem) (items : List Item) → IsFuncletLayout y function b → STACK_START ≤ sp
+      → rsp c ≡ sp + y.frame + 8 → Stands t fs program p m c is items acts → HasActivation m y sp y.frame k acts (FuncletBody j) → ((values : List ℕ) → slice_get (locals_of acts) k ≡ Some values → 8 * length values < 2 ^ 30) → function.locals < 2 ^ 30
       → SlotsPlaced m y b.temporaries sp k acts
-  funclet_placed m y function b sp k j acts c is items l low at list h values number few near =
+  funclet_placed m y function b sp k j acts c is items l low at list h few near =
       let a = activations_stand t fs program p m c is items acts k h.base y.locals list h.activation in
-      let e : a.values ≡ values = same_values a.values values (sym a.number ∙ number) in
-      let n : length a.values ≡ length values = ap length e in
+      let n = few a.values a.number in
       let up = a.low_end in
       let top = a.high_end in
       let temps = l.temporaries in
@@ -151,11 +151,8 @@ module _ (t : Functions) (fs : List Funclet) (program : LinearProgram) (p : Plan
         temporaries_small = omega arith;
         locals_small = omega arith;
         apart = inr (omega arith);
-        kept = subst (λ o. KeepsSlot m y o sp h.base) (sym h.some) (record { word_is = h.kept; below_temporaries = omega arith; below_locals = omega arith; in_stack = omega arith });
+        kept = subst (λ o. KeepsSlot m y o sp h.base) (sym h.some) (record { word_is = h.kept; below_temporaries = omega arith; below_locals = omega arith; in_stack = omega arith; above_frame = omega arith });
       }
-    where
-      same_values : (x y : List ℕ) → Some x ≡ Some y → x ≡ y
-      same_values x y e = cc
 
 -- ---- what templates hold
 
@@ -166,7 +163,7 @@ stack_is_reserved globals a l u =
     rw (low, high) refl
 
 -- the room of a body's slots
-room_of : (m : Memory) (y : Layout) (n : Counts) (sp k : ℕ) (acts : List Activation) → (h : SlotsPlaced m y n.temporaries sp k acts) → length h.values ≡ n.locals → HasRoom y n sp h.base
+pub room_of : (m : Memory) (y : Layout) (n : Counts) (sp k : ℕ) (acts : List Activation) → (h : SlotsPlaced m y n.temporaries sp k acts) → length h.values ≡ n.locals → HasRoom y n sp h.base
 room_of m y n sp k acts h count =
     let t = h.temporaries_small in
     let l = h.locals_small in
