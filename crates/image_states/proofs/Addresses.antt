@@ -21,6 +21,7 @@ use Rattle.program_link.specs.Near.{IsFrameNear}
 use Rattle.program_link.specs.Text.{routine_size, entry_size, routine_bytes, check_stack_at, bounds}
 use Rattle.program_link.specs.Linked.{text_begin, first, total, linked}
 use Rattle.program_link.proofs.Images.{no_routine}
+use Rattle.program_link.proofs.Bounds.{bounds_below}
 use Rattle.program_link.proofs.Entries.{routine_small}
 use Rattle.program_tables.specs.Placed.{Placed, body_begin, end_of, site_of, placed}
 use Rattle.program_tables.proofs.Labels.{template_some}
@@ -142,6 +143,17 @@ entry_some program c name b is {fl} e =
 -- ---- funclets begin elsewhere
 
 module _ (program : LinearProgram) (c : IsCompiled program) where
+  -- a funclet begins within the text
+  pub funclet_end : (k : ℕ) → k < length program.funclets → funclet_begin program k < first program.globals + total (routines program)
+  funclet_end k lt =
+      let fits = c.fits in
+      let long = as_long program fits in
+      let n = length program.functions + k in
+      let below = bounds_below (first program.globals) (routines program) n 0 no_routine (omega arith) in
+      let begin = begin_is program fits k in
+      let some = funclet_size program fits k lt in
+      omega arith
+
   -- a body's instruction is at no funclet's first byte
   pub not_first : (name : BodyName) (b : LinearBody) → body_of program name ≡ Some b → (label k : ℕ) → label < length b.code → k < length program.funclets → address_of program name label ≢ image_base + funclet_begin program k
   not_first name b is label k lt in' e =

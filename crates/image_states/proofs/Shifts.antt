@@ -40,7 +40,7 @@ pub record AreMoved (base : ℕ) (k k' : Links) : Type 0 where
   pub local_unwind : k'.local_unwind ≡ base + k.local_unwind
 
 module _ (base : ℕ) (small : base ≤ 2 ^ 48) where
-  call_moved : (next to next' to' : ℕ) → next' ≡ base + next → to' ≡ base + to → next < 2 ^ 48 → call next' to' ≡ call next to
+  pub call_moved : (next to next' to' : ℕ) → next' ≡ base + next → to' ≡ base + to → next < 2 ^ 48 → call next' to' ≡ call next to
   call_moved next to next' to' e f lt = ap (λ (d : ℕ). instrs.Call (Relative d)) (away base next to next' to' e f (omega arith))
 
   jump_moved : (next to next' to' : ℕ) → next' ≡ base + next → to' ≡ base + to → next < 2 ^ 48 → jump next' to' ≡ jump next to

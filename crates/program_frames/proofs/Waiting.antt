@@ -15,6 +15,8 @@ use Rattle.virtual_unwind.specs.CallerOf.{Functions, distance, entry_of}
 use Rattle.virtual_unwind.specs.declared.tail.Role.TheVariants.{Other}
 use Rattle.virtual_unwind.specs.declared.tail.Role.{Role}
 use Rattle.virtual_unwind.specs.Tail.{FetchedInstr, fetched_at, role_of, by_role, from_item, tail, tail_at}
+use Rattle.virtual_unwind.specs.Contexts.{rsp}
+use Rattle.virtual_unwind.specs.Undone.{word}
 use Rattle.seh_walk.specs.Walk.{filter_return, finally_return}
 use Rattle.host_model.specs.Machine.{functions_in}
 use Rattle.raw_stack.specs.Stack.{FrameStands, LeafStands}
@@ -105,8 +107,9 @@ item_there p x rva fits h b =
     let some = size_some b.item inner in
     record { inner = inner; past = omega arith; inside = omega (arith, sizes_append b.done (b.item ∷ b.left)) }
 
-pub item_stands : (p : LinearProgram) (m : Memory) (x : Placed) (rva : ℕ) → HasText m p → IsThere (site_of p) (linked p).text (text_begin p.globals) x → (b : IsInBody p x rva) → Stands m (image_base + rva) (chosen b.item)
-item_stands p m x rva text h b =
+-- where its routine's code stands
+pub item_stands : (p : LinearProgram) (m : Memory) (x : Placed) (rva : ℕ) → Stands m (image_base + x.begin) (spelled (routine_code (site_of p) x.begin x.routine)) → IsThere (site_of p) (linked p).text (text_begin p.globals) x → (b : IsInBody p x rva) → Stands m (image_base + rva) (chosen b.item)
+item_stands p m x rva code h b =
     let r = x.routine in
     let s = site_of p in
     let k = links p x in
@@ -118,7 +121,7 @@ item_stands p m x rva text h b =
     let at = t.here in
     let here = b.here in
     let base = image_base + x.begin in
-    let body = (code_split m base entry (code_from k r.layout begin r.body.code) (routine_stands p m x text h)).1 in
+    let body = (code_split m base entry (code_from k r.layout begin r.body.code) code).1 in
     let from = (code_split m (base + sizes entry) t.before (own ++ t.after) (subst (λ (q : List Instr). Stands m (base + sizes entry) (spelled q)) t.parts body)).1 in
     let split : own ++ t.after ≡ b.done ++ ((b.item ∷ b.left) ++ t.after) = ap (λ (q : List Instr). q ++ t.after) b.parts ∙ append_assoc b.done (b.item ∷ b.left) t.after in
     let last = (code_split m (base + sizes entry + sizes t.before) b.done ((b.item ∷ b.left) ++ t.after) (subst (λ (q : List Instr). Stands m (base + sizes entry + sizes t.before) (spelled q)) split from)).1 in
@@ -139,17 +142,18 @@ found_in p index x f rva fits regions e framed le lt small =
     ∙ ap (λ (n : ℕ). holding n (entries p)) (away rva small)
     ∙ entries_are_held p index x f rva fits e framed le lt
 
-pub bodies_stand : BodiesStand
-bodies_stand p m index x f c rva back fits regions e framed w =
+pub frame_stands : (p : LinearProgram) (m : Memory) (index : ℕ) (x : Placed) (f : Frame) (c : Context) (rva back : ℕ) → FitsProgram p → HasRegions p → slice_get (placed p) index ≡ Some x → x.routine.frame ≡ Some f
+    → Stands m (image_base + x.begin) (spelled (routine_code (site_of p) x.begin x.routine)) → IsInBody p x rva → c.rip ≡ image_base + rva → length c.kept ≡ 9 → rsp c + f.size + 8 < 2 ^ 64 → word m (rsp c + f.size) ≡ Ok back
+    → FrameStands (functions_in (image_of (linked p))) m c (stack_frame p x f back)
+frame_stands p m index x f c rva back fits regions e framed code body here kept room' returns =
     let h = there p index x fits e in
-    let i = item_there p x rva fits h w.body in
+    let i = item_there p x rva fits h body in
     let room = h.room in
     let small = routine_small x.routine h.near in
     let past = i.past in
     let inside = i.inside in
     let size = subst IsFrameNear framed h.near.frame in
     let least = entry_least x.routine f h.near framed size.0 in
-    let here = w.here in
     let far : rva < 2 ^ 32 = omega arith in
     let away' : distance image_base c.rip ≡ rva = ap (distance image_base) here ∙ away rva far in
     record {
@@ -158,14 +162,18 @@ bodies_stand p m index x f c rva back fits regions e framed w =
       not_finally = ne_eqb c.rip finally_return (λ z. (let q : c.rip ≡ finally_return = z in absurd (omega arith)));
       found = ap (entry_of (functions_in (image_of (linked p)))) here ∙ found_in p index x f rva fits regions e framed (omega arith) inside far;
       past_prologue = le-ltb (distance image_base c.rip - x.begin) (taking_size f.size) (omega arith);
-      not_epilogue = ap (tail_at 0 m) here ∙ no_epilogue (image_base + rva) m w.body.item i.inner (item_stands p m x rva w.text h w.body) (omega arith);
+      not_epilogue = ap (tail_at 0 m) here ∙ no_epilogue (image_base + rva) m body.item i.inner (item_stands p m x rva code h body) (omega arith);
       codes = refl;
       no_register = refl;
       no_parents = refl;
-      kept = w.kept;
-      room = w.room;
-      returns = w.returns;
+      kept = kept;
+      room = room';
+      returns = returns;
     }
+
+pub bodies_stand : BodiesStand
+bodies_stand p m index x f c rva back fits regions e framed w =
+    frame_stands p m index x f c rva back fits regions e framed (routine_stands p m x w.text (there p index x fits e)) w.body w.here w.kept w.room w.returns
 
 -- ---- a leaf function
 
