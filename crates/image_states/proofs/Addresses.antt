@@ -48,9 +48,9 @@ reserved globals a le lt =
     let e = data_ends globals in
     let past : is_data globals a ≡ false = and_right (leb 0x140001000 a) (ltb a (data_end globals)) (le-ltb a (data_end globals) (omega arith)) in
     or_right _ (is_between IMAGE_BASE IMAGE_RANGE_END a && not (is_data globals a))
-        (and_from (is_between IMAGE_BASE IMAGE_RANGE_END a) (not (is_data globals a))
-            (and_from (leb IMAGE_BASE a) (ltb a IMAGE_RANGE_END) (le-leb IMAGE_BASE a (omega arith)) (lt-ltb a IMAGE_RANGE_END lt))
-            (not_from_false (is_data globals a) past))
+    (and_from (is_between IMAGE_BASE IMAGE_RANGE_END a) (not (is_data globals a))
+    (and_from (leb IMAGE_BASE a) (ltb a IMAGE_RANGE_END) (le-leb IMAGE_BASE a (omega arith)) (lt-ltb a IMAGE_RANGE_END lt))
+    (not_from_false (is_data globals a) past))
 
 -- ---- routines
 

@@ -113,7 +113,7 @@ module _ (program : LinearProgram) (c : IsCompiled program) where
       let here' : k.rip ≡ image_base + rva = r.here ∙ (let q : image_base + template_at x label + sizes r.done ≡ image_base + rva = omega arith in q) in
       let s = frame_stands program m p.index x f.0 k rva back c.fits c.ranges p.at f.1 (code_there name b is m has) (in_body name b is label k.rip r) here' kept (subst (λ (n : ℕ). rsp k + n + 8 < 2 ^ 64) size room) (subst (λ (n : ℕ). word m (rsp k + n) ≡ Ok back) size returns) in
       let same : stack_frame program x f.0 back ≡ frame_with (tables.entry_of (site_of program) x (or_none x.routine.frame)) x.routine.layout.frame (taking_size f.0.size) back =
-          λ i. frame_with (tables.entry_of (site_of program) x (or_none (sym f.1 i))) (sym size i) (taking_size f.0.size) back in
+      λ i. frame_with (tables.entry_of (site_of program) x (or_none (sym f.1 i))) (sym size i) (taking_size f.0.size) back in
       record { offset = taking_size f.0.size; stands = subst (FrameStands (functions_of program) m k) same s }
 
   pub leaves_stand' : LeavesStand (functions_of program) (funclets_of program) program (plan_of program) (sites_of program)

@@ -112,16 +112,16 @@ module _ (program : LinearProgram) (c : IsCompiled program) where
   functions_fit (f ∷ fs) index h =
       let here : slice_get program.functions index ≡ Some f = ap (slice_get program.functions) (let q : index ≡ index + 0 = omega arith in q) ∙ h 0 f refl in
       fit_both program f.body.regions (regions_in (function_bodies fs))
-          (fit_of program (FunctionBody index) f.body.regions (c.whole.bodies (FunctionBody index) f.body (ap function_body here)).regions)
-          (functions_fit fs (index + 1) (λ j g e. ap (slice_get program.functions) (let q : index + 1 + j ≡ index + suc j = omega arith in q) ∙ h (suc j) g e))
+      (fit_of program (FunctionBody index) f.body.regions (c.whole.bodies (FunctionBody index) f.body (ap function_body here)).regions)
+      (functions_fit fs (index + 1) (λ j g e. ap (slice_get program.functions) (let q : index + 1 + j ≡ index + suc j = omega arith in q) ∙ h (suc j) g e))
 
   funclets_fit : (fs : List LinearFunclet) (index : ℕ) → ((j : ℕ) (f : LinearFunclet) → slice_get fs j ≡ Some f → slice_get program.funclets (index + j) ≡ Some f) → AllFit program (regions_in (funclet_bodies fs))
   funclets_fit [] index h = tt
   funclets_fit (f ∷ fs) index h =
       let here : slice_get program.funclets index ≡ Some f = ap (slice_get program.funclets) (let q : index ≡ index + 0 = omega arith in q) ∙ h 0 f refl in
       fit_both program f.body.regions (regions_in (funclet_bodies fs))
-          (fit_of program (FuncletBody index) f.body.regions (c.whole.bodies (FuncletBody index) f.body (ap funclet_body here)).regions)
-          (funclets_fit fs (index + 1) (λ j g e. ap (slice_get program.funclets) (let q : index + 1 + j ≡ index + suc j = omega arith in q) ∙ h (suc j) g e))
+      (fit_of program (FuncletBody index) f.body.regions (c.whole.bodies (FuncletBody index) f.body (ap funclet_body here)).regions)
+      (funclets_fit fs (index + 1) (λ j g e. ap (slice_get program.funclets) (let q : index + 1 + j ≡ index + suc j = omega arith in q) ∙ h (suc j) g e))
 
   all_fit : AllFit program (regions program)
   all_fit = fit_both program (regions_in (function_bodies program.functions)) (regions_in (funclet_bodies program.funclets))

@@ -210,7 +210,7 @@ module _ (program : LinearProgram) (c : IsCompiled program) (name : BodyName) (b
   ended label r lt =
       let e = away (T label) (small label) in
       or_both _ _ (linear.holds label r) (leads_to r.kind label) (held label (distance image_base (address_of program name label)) r (at_itself label lt))
-          (ap (λ (n : ℕ). not ((row r).jump_target == 0) && ((row r).jump_target == n)) e ∙ leads r.kind label lt)
+      (ap (λ (n : ℕ). not ((row r).jump_target == 0) && ((row r).jump_target == n)) e ∙ leads r.kind label lt)
 
   -- ---- what a record names
 

@@ -50,7 +50,7 @@ module _ (program : LinearProgram) (c : IsCompiled program) (name : BodyName) (b
       let size = ap (λ (d : LinearBody). body_size x.routine.layout d.code) p.body in
       let end : image_base + end_of x ≡ address_of program name 0 + body_size x.routine.layout b.code = omega arith in
       subst (λ (from : ℕ). InImage program c from (address_of program name 0 + body_size x.routine.layout b.code)) (sym p.begin)
-          (subst (InImage program c (image_base + x.begin)) end (body_inside program c name b is))
+      (subst (InImage program c (image_base + x.begin)) end (body_inside program c name b is))
 
   pub addresses : HasAddresses (functions_of program) (funclets_of program) program (plan_of program) (sites_of program) name b
   addresses = record { first = first_is; labels = labels_are; rises = rises; inside = inside; not_first = λ label k lt lt'. not_first program c name b is label k lt lt' }

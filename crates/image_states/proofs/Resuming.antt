@@ -87,8 +87,8 @@ module _ (program : LinearProgram) (b : Frame) (saved : Cpu) where
       let o = h.operation in
       ap (works_again y at b.temporaries saved) h.works
       ∙ and_from (saved.rip == place o h.first h.second) _ (eq-eqb saved.rip (place o h.first h.second) h.here)
-          (and_from (is_some (slice_get b.temporaries h.first) (register saved Rax)) _ (is_some_of (slice_get b.temporaries h.first) (register saved Rax) h.has_first)
-              (and_from (is_some (slice_get b.temporaries h.second) (register saved Rcx)) (is_ready o (view_of saved)) (is_some_of (slice_get b.temporaries h.second) (register saved Rcx) h.has_second) (is_ready_of o (view_of saved) h.ready)))
+      (and_from (is_some (slice_get b.temporaries h.first) (register saved Rax)) _ (is_some_of (slice_get b.temporaries h.first) (register saved Rax) h.has_first)
+      (and_from (is_some (slice_get b.temporaries h.second) (register saved Rcx)) (is_ready o (view_of saved)) (is_some_of (slice_get b.temporaries h.second) (register saved Rcx) h.has_second) (is_ready_of o (view_of saved) h.ready)))
 
   works_said : (o : Option Instruction) → here ≡ o → works_again y at b.temporaries saved o ≡ true → Works
   works_said (Some (instructions.Compute to o (Temporary first) (Temporary second))) e t =

@@ -61,7 +61,7 @@ module _ (program : LinearProgram) (c : IsCompiled program) where
       let fit = subst FitsFunction (get_or_from_slice_get program.functions f fn fn e) (all_at FitsFunction program.functions f fn c.fits.functions lt) in
       let own = function_by program (plan_of program) leaf fn fit.body (leaf_few fn.body (not (f == program.main)) leaf refl) in
       subst (λ (d : LinearBody). IsLayoutIf program (plan_of program) (routine_of program (FunctionBody f)).routine.layout d (is_leaf (routine_of program (FunctionBody f)).routine.frame)) (some_same h)
-          (subst (λ (r : RoutineView). IsLayoutIf program (plan_of program) r.layout fn.body (is_leaf r.frame)) (sym g.routine) own)
+      (subst (λ (r : RoutineView). IsLayoutIf program (plan_of program) r.layout fn.body (is_leaf r.frame)) (sym g.routine) own)
 
   -- the function of a funclet has a frame
   owner_framed : (f : ℕ) (fn : LinearFunction) → slice_get program.functions f ≡ Some fn → link.is_leaf fn.body ≡ false → (routine_of program (FunctionBody f)).routine ≡ leaf_if false fn
