@@ -43,7 +43,7 @@ use Rattle.image_states.proofs.Places.{IsBody, is_body}
 data_ends : (globals : List ℕ) → image_base + text_begin globals ≡ data_end globals
 data_ends globals = omega arith
 
-reserved : (globals : List ℕ) (a : ℕ) → image_base + text_begin globals ≤ a → a < IMAGE_RANGE_END → is_reserved globals a ≡ true
+pub reserved : (globals : List ℕ) (a : ℕ) → image_base + text_begin globals ≤ a → a < IMAGE_RANGE_END → is_reserved globals a ≡ true
 reserved globals a le lt =
     let e = data_ends globals in
     let past : is_data globals a ≡ false = and_right (leb 0x140001000 a) (ltb a (data_end globals)) (le-ltb a (data_end globals) (omega arith)) in
