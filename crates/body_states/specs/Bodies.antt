@@ -14,7 +14,7 @@ use Rattle.template_code.specs.declared.layout.Layout.{Layout}
 use Rattle.raw_stack.specs.Stack.{StackItem}
 use Rattle.raw_stack.specs.Laws.{context_below}
 use Rattle.linked_stack.specs.ImagePlan.{Plan}
-use Rattle.linked_stack.specs.Linked.{Activation, locals_of, activations_below, temporaries_end, home_end, BodyWaits, HasPointers, IsAbove}
+use Rattle.linked_stack.specs.Linked.{Activation, locals_of, activations_below, temporaries_end, home_end, BodyWaits, HasPointers, IsAbove, ReturnsTo}
 use Rattle.stack_records.specs.Records.{On}
 use Rattle.dispatch_turns.specs.States.{IsSane}
 use Rattle.body_states.specs.Sites.{Sites}
@@ -50,6 +50,7 @@ module _ (t : Functions) (fs : List Funclet) (program : LinearProgram) (p : Plan
     pub above : IsAbove t fs program p c.frame c.frame.body c.below
     pub home : p.leaf c.frame.body ≡ true → register s.cpu Rsp + home_end ≤ STACK_END
     pub back : ℕ
+    pub returns_to : ReturnsTo t fs program p c.below back
     pub returns : word s.memory (register s.cpu Rsp + (p.layout c.frame.body).frame) ≡ Ok back
     pub is : List StackItem
     pub below :

@@ -131,6 +131,7 @@ module _ (m m' : Memory) (t : Functions) (fs : List Funclet) (program : LinearPr
                 space = w.space;
               };
               pointers = pointers_free y f.size b b.body below refl a (omega arith) h.1 h.0.pointers;
+              returns = h.0.returns;
             },
             h.1,
             outer.linked,

@@ -386,6 +386,7 @@ module _ (t : Functions) (fs : List Funclet) (program : LinearProgram) (p : Plan
             above = above_next c.below c.frame.body c.frame label landed ts b.body.above;
             home = λ e. subst (λ x. x + home_end ≤ STACK_END) (sym r.stack) (b.body.home e);
             back = b.body.back;
+            returns_to = b.body.returns_to;
             returns = subst (λ x. word u.memory (x + y.frame) ≡ Ok b.body.back) (sym r.stack) returns;
             is = b.body.is;
             below = λ others eight.

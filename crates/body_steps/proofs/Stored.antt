@@ -114,10 +114,11 @@ module _ (m m' : Memory) (t : Functions) (fs : List Funclet) (program : LinearPr
     entry = h.entry;
     waits = body_passed c f.size (temporaries_end (p.layout b.body) b.body f.size) b acts i h.waits;
     pointers = h.pointers;
+    returns = h.returns;
   }
 
-  leaf_passed : (c : Context) (b : Frame) (acts : List Activation) → passes acts b.body → LeafWaits t fs program p m' c b acts → LeafWaits t fs program p m' c b (with_values acts k values)
-  leaf_passed c b acts i h = record { leaf = h.leaf; home = h.home; none = h.none; waits = body_passed c (p.layout b.body).temporaries home_end b acts i h.waits }
+  leaf_passed : (c : Context) (back : ℕ) (b : Frame) (below : List Item) (acts : List Activation) → passes acts b.body → LeafWaits t fs program p m' c back b below acts → LeafWaits t fs program p m' c back b below (with_values acts k values)
+  leaf_passed c back b below acts i h = record { leaf = h.leaf; home = h.home; none = h.none; waits = body_passed c (p.layout b.body).temporaries home_end b acts i h.waits; returns = h.returns }
 
   -- ---- the activation's own frame
 
@@ -224,6 +225,7 @@ module _ (m m' : Memory) (t : Functions) (fs : List Funclet) (program : LinearPr
               entry = h.entry;
               waits = own_body c f.size (temporaries_end y b.body f.size) n b a outer name own le words locals temps h.waits;
               pointers = no_pointers y (rsp c) f.size n b below (subst (λ x. IsAbove t fs program p b x below) name above);
+              returns = h.returns;
             },
             above,
             subst (λ x. Linked t fs program p m' (after_frame c f) is below (activations_below x (record a { values = values } ∷ outer))) (sym name) outermost.linked,
@@ -248,14 +250,14 @@ module _ (m m' : Memory) (t : Functions) (fs : List Funclet) (program : LinearPr
 
     passes_leaf : (c : Context) (back : ℕ) (is : List StackItem) (b : Frame) (below : List Item) (acts : List Activation) → passes acts b.body
         → KeepsStackBut m m' (rsp c) from to → STACK_START ≤ rsp c → LeafStands t m c back → rsp c + home_end ≤ from
-        → LeafWaits t fs program p m c b acts → IsAbove t fs program p b b.body below → Stored (after_leaf c back) is below (activations_below b.body acts)
+        → LeafWaits t fs program p m c back b below acts → IsAbove t fs program p b b.body below → Stored (after_leaf c back) is below (activations_below b.body acts)
         → Stored c (Leaf back ∷ is) (Waits b ∷ below) acts
     passes_leaf c back is b below acts i keeps low leaf le h above rest =
         let r = below_them (rsp c) low end keeps in
         record {
           stack = (leaf_stands m m' from t fs program p c back r (omega arith) leaf, rest.stack);
           linked = (
-            leaf_passed c b acts i (leaf_kept m m' from t fs program p c b acts r le h),
+            leaf_passed c back b below acts i (leaf_kept m m' from t fs program p c back b below acts r le h),
             above,
             subst (λ x. Linked t fs program p m' (after_leaf c back) is below x) (sym (below_passed acts b.body i)) rest.linked,
           );
@@ -275,7 +277,7 @@ module _ (m m' : Memory) (t : Functions) (fs : List Funclet) (program : LinearPr
 
     leaf_upper : (c : Context) (back : ℕ) (is : List StackItem) (b : Frame) (below : List Item) (acts : List Activation) (name : BodyName) → b.body ≡ name → passes acts name
         → KeepsStackBut m m' (rsp c) from to → STACK_START ≤ rsp c → LeafStands t m c back → IsStack t m (after_leaf c back) is
-        → LeafWaits t fs program p m c b acts → IsAbove t fs program p b b.body below → Linked t fs program p m (after_leaf c back) is below (activations_below name acts)
+        → LeafWaits t fs program p m c back b below acts → IsAbove t fs program p b b.body below → Linked t fs program p m (after_leaf c back) is below (activations_below name acts)
         → Stored (after_leaf c back) is below (activations_below name acts)
         → Stored c (Leaf back ∷ is) (Waits b ∷ below) acts
     leaf_upper c back is b below acts name same i keeps low leaf stack h above linked rest =
@@ -298,7 +300,7 @@ module _ (m m' : Memory) (t : Functions) (fs : List Funclet) (program : LinearPr
 
     by_leaf : (c : Context) (back : ℕ) (is : List StackItem) (b : Frame) (below : List Item) (acts : List Activation) (name : BodyName) → b.body ≡ name → IsActivation acts k base distance → (k ≡ length (activations_below name acts) → p.leaf b.body ≡ false)
         → KeepsStackBut m m' (rsp c) from to → STACK_START ≤ rsp c → LeafStands t m c back → IsStack t m (after_leaf c back) is
-        → LeafWaits t fs program p m c b acts → IsAbove t fs program p b b.body below → Linked t fs program p m (after_leaf c back) is below (activations_below name acts)
+        → LeafWaits t fs program p m c back b below acts → IsAbove t fs program p b b.body below → Linked t fs program p m (after_leaf c back) is below (activations_below name acts)
         → (passes acts name → Stored (after_leaf c back) is below (activations_below name acts))
         → Stored c (Leaf back ∷ is) (Waits b ∷ below) acts
     by_leaf c back is b below [] name same i framed keeps low leaf stack h above linked rest = absurd i

@@ -181,7 +181,7 @@ module _ (t : Functions) (fs : List Funclet) (program : LinearProgram) (p : Plan
             (meets_here x.index x.row x.filter x.target x.is x.before))
 
   -- a leaf function has no handler
-  module _ (m : Memory) (c : Context) (back : ℕ) (is : List StackItem) (b : Frame) (below : List Item) (acts : List Activation) (stands : LeafStands t m c back) (body : LeafWaits t fs program p m c b acts) where
+  module _ (m : Memory) (c : Context) (back : ℕ) (is : List StackItem) (b : Frame) (below : List Item) (acts : List Activation) (stands : LeafStands t m c back) (body : LeafWaits t fs program p m c back b below acts) where
     pub none_from : (row : ℕ) → regions_from t fs program p b row ≡ []
     none_from row = ap (λ (rs : List Region). filter (holds b.next) (drop row rs)) body.none ∙ ap (filter (holds b.next)) (drop-nil row)
 

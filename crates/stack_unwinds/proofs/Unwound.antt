@@ -322,7 +322,7 @@ module _ (t : Functions) (fs : List Funclet) (program : LinearProgram) (p : Plan
 
   -- a leaf function is left: it has no regions, and isn't the target
   module _ (held : ℕ) (c : Context) (back : ℕ) (is : List StackItem) (b : Frame) (below : List Item) (acts : List Activation) (row : ℕ) (left : Option (List Region))
-      (stands : LeafStands t m c back) (rear : IsStack t m (after_leaf c back) is) (body : LeafWaits t fs program p m c b acts)
+      (stands : LeafStands t m c back) (rear : IsStack t m (after_leaf c back) is) (body : LeafWaits t fs program p m c back b below acts)
       (at : IsAtRow t fs program p row (Waits b ∷ below) left) (a : Aimed t fs program p target.depth target.label frame address (after_leaf c back) is below) where
     away : target.depth ≢ length below
     away e = let h = aimed_below t fs program p target.depth target.label frame address (after_leaf c back) is below a in absurd (omega arith)
