@@ -8,3 +8,5 @@ pub mod Reaching
 pub mod Becoming
 pub mod Homes
 pub mod Next
+pub mod Activated
+pub mod Running
