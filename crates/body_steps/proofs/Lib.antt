@@ -10,3 +10,4 @@ pub mod Homes
 pub mod Next
 pub mod Activated
 pub mod Running
+pub mod Plain

@@ -17,7 +17,7 @@ use Rattle.linear_code.specs.declared.slot.Slot.TheVariants.{Local, Temporary}
 use Rattle.linear_code.specs.declared.instruction.Instruction.{Instruction}
 use Rattle.linear_code.specs.declared.instruction.Instruction.TheVariants as instructions
 use Rattle.linear_code.specs.BodyState.{BodyState}
-use Rattle.linear_code.specs.Meaning.{HasSlots}
+use Rattle.linear_code.specs.Meaning.{HasSlots, step}
 use Rattle.linear_code.specs.Program.{LinearProgram, LinearBody}
 use Rattle.linear_machine.specs.Frames.{BodyName, FunctionBody, FuncletBody, body_of, Configuration, Next}
 use Rattle.linear_machine.specs.Instructions.{act}
@@ -29,6 +29,8 @@ use Rattle.x64_templates.specs.Straight.{MachineView, machine}
 use Rattle.x64_templates.specs.CallStates.{sp_of}
 use Rattle.x64_templates.specs.Runs.{HasCode, Reaches, Frame, Holds, ReachesBody}
 use Rattle.x64_templates.proofs.Computes.{code_split}
+use Rattle.x64_templates.specs.InstructionRuns.{InstructionDone}
+use Rattle.x64_templates.proofs.InstructionRuns.{body_instruction_run}
 use Rattle.x64_templates.proofs.Linked.{template_placed}
 use Rattle.linked_stack.specs.ImagePlan.{Plan}
 use Rattle.dispatch_turns.specs.States.{IsSane}
@@ -43,7 +45,7 @@ use Rattle.body_states.proofs.QuietTurns.{reaches_quietly}
 use Rattle.body_steps.specs.Views.{seen_by_templates, counts_of, frame_at, state_of, HasView}
 use Rattle.body_steps.specs.Stores.{OwnerHasFrame}
 use Rattle.body_steps.proofs.Homes.{CallerHasFrame}
-use Rattle.body_steps.proofs.Viewed.{IsCounted, has_view, placed}
+use Rattle.body_steps.proofs.Viewed.{IsCounted, is_machine, room_here, holds_here, placed}
 use Rattle.body_steps.proofs.Reaching.{reaches_keeps, stays_sane}
 use Rattle.body_steps.proofs.Becoming.{Changed}
 use Rattle.body_steps.proofs.Next.{Leaves, further, Ran, begins_next}
@@ -80,29 +82,29 @@ get_or_is xs i x d e = (get_or_from_slice_get xs i x d e, slice_get_within xs i 
 
 module _ (t : Functions) (fs : List Funclet) (program : LinearProgram) (p : Plan) (q : Sites) (image : IsProgramImage t fs program p q) (roomy : HaveRoom program) where
   module _ (s : State) (c : Configuration) (b : Begins t fs program p q s c) (counted : IsCounted t fs program p q image c) where
-    abbrev code : LinearBody
+    abbrev pub code : LinearBody
     code = b.body.slots.code
 
-    abbrev name : BodyName
+    abbrev pub name : BodyName
     name = c.frame.body
 
-    abbrev y : Layout
+    abbrev pub y : Layout
     y = p.layout c.frame.body
 
-    abbrev v : MachineView
+    abbrev pub v : MachineView
     v = seen_by_templates s
 
-    abbrev base : ℕ
+    abbrev pub base : ℕ
     base = (placed t fs program p q image s c b counted).base
 
-    abbrev frame : Frame
+    abbrev pub frame : Frame
     frame = frame_at program p name code (register s.cpu Rsp) base
 
-    abbrev slots : BodyState
+    abbrev pub slots : BodyState
     slots = state_of program p s c base
 
-    view : HasView program p s c
-    view = has_view t fs program p q image s c b counted
+    pub same_state : s ≡ machine v s.cpu.rip s.cpu.flags
+    same_state = is_machine s b.sane.count
 
     -- the instructions, one after another
     pub body_code : HasCode s.memory (p.address name 0) (code_from (links_of p q name) y (p.address name 0) code.code)
@@ -136,6 +138,20 @@ module _ (t : Functions) (fs : List Funclet) (program : LinearProgram) (p : Plan
 
     pub sp_is : sp_of v ≡ register s.cpu Rsp
     sp_is = sp_seen s
+
+    -- what the template of the instruction here does
+    pub done : (i : Instruction) → slice_get code.code c.frame.next ≡ Some i → InstructionDone frame (links_of p q name) v s.cpu.rip s.cpu.flags slots i (step frame.reserved i slots)
+    done i e =
+        let a = image.addresses name code b.body.slots.body in
+        let low = a.inside.low in
+        let high = a.inside.high in
+        let g = get_or_is code.code c.frame.next i instructions.Separator e in
+        let at : p.address name 0 + offset_of y code.code c.frame.next ≡ s.cpu.rip = sym (a.labels c.frame.next) ∙ sym b.rip in
+        let first = a.first in
+        subst (λ j. InstructionDone frame (links_of p q name) v s.cpu.rip s.cpu.flags slots j (step frame.reserved j slots)) g.0
+        (subst (λ x. InstructionDone frame (links_of p q name) v x s.cpu.flags slots (get_or code.code c.frame.next instructions.Separator) (step frame.reserved (get_or code.code c.frame.next instructions.Separator) slots)) at
+        (body_instruction_run frame (links_of p q name) (p.address name 0) code.code c.frame.next v s.cpu.flags slots (room_here t fs program p q image s c b counted) a.labels (omega arith) (omega arith) g.1
+        (subst (HasSlots (counts_of code)) (sym g.0) (has_slots i e)) sp_is (holds_here t fs program p q image s c b counted) body_code))
 
     -- ---- a turn of linear code that stays in the body
 
