@@ -73,7 +73,7 @@ module _ (t : Functions) (fs : List Funclet) (program : LinearProgram) (p : Plan
     abbrev body : LinearBody
     body = code t fs program p q image roomy s c b counted
 
-    abbrev values_here : List ℕ
+    abbrev pub values_here : List ℕ
     values_here = (placed t fs program p q image s c b counted).values
 
     is_there : c.frame.activation < length b.body.acts
@@ -132,13 +132,13 @@ module _ (t : Functions) (fs : List Funclet) (program : LinearProgram) (p : Plan
     GoesInside i = (d : Configuration) → ((next : Next) → act program i next c ≡ next d) → (o : LinearBody) → body_of program d.frame.body ≡ Some o → d.frame.next < length o.code
 
     -- a template's run begins in the state itself
-    abbrev Reached : ℕ → ℕ → BodyState → Type 0
+    abbrev pub Reached : ℕ → ℕ → BodyState → Type 0
     Reached n rip d = ReachesBody (frame t fs program p q image roomy s c b counted) n s rip (v t fs program p q image roomy s c b counted).rest d
 
-    from_here : (n rip : ℕ) (d : BodyState) → ReachesBody (frame t fs program p q image roomy s c b counted) n (machine (v t fs program p q image roomy s c b counted) s.cpu.rip s.cpu.flags) rip (v t fs program p q image roomy s c b counted).rest d → Reached n rip d
+    pub from_here : (n rip : ℕ) (d : BodyState) → ReachesBody (frame t fs program p q image roomy s c b counted) n (machine (v t fs program p q image roomy s c b counted) s.cpu.rip s.cpu.flags) rip (v t fs program p q image roomy s c b counted).rest d → Reached n rip d
     from_here n rip d r = subst (λ x. ReachesBody (frame t fs program p q image roomy s c b counted) n x rip (v t fs program p q image roomy s c b counted).rest d) (sym (same_state t fs program p q image roomy s c b counted)) r
 
-    label_small : (label : ℕ) → label < length body.code → p.address c.frame.body label < 2 ^ 64
+    pub label_small : (label : ℕ) → label < length body.code → p.address c.frame.body label < 2 ^ 64
     label_small label lt =
         let a = image.addresses c.frame.body body b.body.slots.body in
         let high = a.inside.high in
@@ -158,7 +158,7 @@ module _ (t : Functions) (fs : List Funclet) (program : LinearProgram) (p : Plan
 
     -- ---- slots that are read
 
-    abbrev slots_now : BodyState
+    abbrev pub slots_now : BodyState
     slots_now = slots t fs program p q image roomy s c b counted
 
     pub record IsRead (slot : Slot) : Type 0 where
