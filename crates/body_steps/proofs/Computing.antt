@@ -145,12 +145,12 @@ module _ (t : Functions) (fs : List Funclet) (program : LinearProgram) (p : Plan
       by true e h = leb-true i (length c.frame.temporaries) e
       by false e h = absurd h
 
-  pub compute_step : (to : Slot) (o : Operation) (first second : Slot) (value : ℕ) (m : Memory) → slice_get body.code c.frame.next ≡ Some (instructions.Compute to o first second) → length c.frame.temporaries ≤ body.temporaries
+  pub compute_step : (to : Slot) (o : Operation) (first second : Slot) (value : ℕ) (m : Memory) → c.frame.landed ≡ None → slice_get body.code c.frame.next ≡ Some (instructions.Compute to o first second) → length c.frame.temporaries ≤ body.temporaries
       → ready.IsRead (is_constant o) (length c.frame.temporaries) first → ready.IsRead (is_constant o) (length c.frame.temporaries) second
       → HasRule (act program (instructions.Compute to o first second) (exec program zero) c) → GoesInside t fs program p q image roomy s c b counted around (instructions.Compute to o first second)
       → outcome_here o first second ≡ Gives value m
       → Moves t fs program 16 turns_left (Begins t fs program p q) s c (instructions.Compute to o first second)
-  compute_step to o first second value m e held hf hg rule inside gives =
+  compute_step to o first second value m free e held hf hg rule inside gives =
       let there = has_slots t fs program p q image roomy s c b counted (instructions.Compute to o first second) e in
       let reads = operands_read to o first second (is_constant o) refl there.1 there.2 hf hg in
       let fits = fits_when_read to value m (subst HasRule (reads (exec program zero) ∙ ap (computed program (exec program zero) to c) gives) rule) in
@@ -168,4 +168,4 @@ module _ (t : Functions) (fs : List Funclet) (program : LinearProgram) (p : Plan
       moves_to t fs program p q image roomy s c b counted around (instructions.Compute to o first second) (length (compute_code y to o first second)) (c.frame.next + 1) (s.cpu.rip + sizes (compute_code y to o first second))
       (record { slots = with_slot now.slots to value; memory = m }) (locals_after (linear.locals_of c.store c.frame.activation) to value) (temporaries_after c.frame.temporaries to value) c.frame.landed
       (from_here t fs program p q image roomy s c b counted around (length (compute_code y to o first second)) (s.cpu.rip + sizes (compute_code y to o first second)) (record { slots = with_slot now.slots to value; memory = m }) run)
-      (let z = compute_size y to o first second in omega arith) lt (let z = compute_size y to o first second in omega arith) (leaves_stored to value m held fits there.0) acts (some_code y to o first second) (omega arith)
+      (let z = compute_size y to o first second in omega arith) lt (let z = compute_size y to o first second in omega arith) (leaves_stored to value m held fits there.0) free acts (some_code y to o first second) (omega arith)

@@ -81,11 +81,11 @@ module _ (t : Functions) (fs : List Funclet) (program : LinearProgram) (p : Plan
 
     -- a turn of linear code that is a run of a template to an instruction of the body
     pub moves_to : (i : Instruction) (n label rip : ℕ) (d : BodyState) (values ts : List ℕ) (landed : Option ℕ)
-        → ReachesBody (frame t fs program p q image roomy s c b counted) n s rip (v t fs program p q image roomy s c b counted).rest d → rip ≡ p.address c.frame.body label → label < length body.code → rip < 2 ^ 64 → Leaves body d values ts
+        → ReachesBody (frame t fs program p q image roomy s c b counted) n s rip (v t fs program p q image roomy s c b counted).rest d → rip ≡ p.address c.frame.body label → label < length body.code → rip < 2 ^ 64 → Leaves body d values ts → landed ≡ None
         → ((next : Next) → act program i next c ≡ next (at_other c label values ts landed d.memory c.events)) → 1 ≤ n → n + 3 * length ts ≤ 16 + 3 * length c.frame.temporaries
         → Moves t fs program 16 turns_left (Begins t fs program p q) s c i
-    moves_to i n label rip d values ts landed r at lt small leaves acts some few =
-        let m = to_label t fs program p q image roomy s c b counted around n label rip d values ts landed c.events r at lt small leaves in
+    moves_to i n label rip d values ts landed r at lt small leaves free acts some few =
+        let m = to_label t fs program p q image roomy s c b counted around n label rip d values ts landed c.events r at lt small leaves free in
         let store : locals_of (with_values b.body.acts c.frame.activation values) ≡ slice_set c.store.activations c.frame.activation values =
         activated b.body.acts c.frame.activation values is_there ∙ ap (λ xs. slice_set xs c.frame.activation values) (sym b.body.store) in
         record {
@@ -147,13 +147,13 @@ module _ (t : Functions) (fs : List Funclet) (program : LinearProgram) (p : Plan
         let e = a.labels label in
         omega arith
 
-    pub jump_step : (label : ℕ) → slice_get body.code c.frame.next ≡ Some (instructions.Jump label) → length c.frame.temporaries ≤ body.temporaries → GoesInside (instructions.Jump label) → Moves t fs program 16 turns_left (Begins t fs program p q) s c (instructions.Jump label)
-    jump_step label e held inside =
+    pub jump_step : (label : ℕ) → c.frame.landed ≡ None → slice_get body.code c.frame.next ≡ Some (instructions.Jump label) → length c.frame.temporaries ≤ body.temporaries → GoesInside (instructions.Jump label) → Moves t fs program 16 turns_left (Begins t fs program p q) s c (instructions.Jump label)
+    jump_step label free e held inside =
         let r = done t fs program p q image roomy s c b counted (instructions.Jump label) e in
         let most = r.most in
         let lt = inside (at_label label c) (λ next. refl) body b.body.slots.body in
         moves_to (instructions.Jump label) r.turns label (p.address c.frame.body label) (slots t fs program p q image roomy s c b counted) values_here c.frame.temporaries c.frame.landed
-        (from_here r.turns (p.address c.frame.body label) (slots t fs program p q image roomy s c b counted) r.follows) refl lt (label_small label lt) (all_as_they_are held)
+        (from_here r.turns (p.address c.frame.body label) (slots t fs program p q image roomy s c b counted) r.follows) refl lt (label_small label lt) (all_as_they_are held) free
         (λ next. ap (λ xs. let o : Configuration = record { frame = record c.frame { next = label }; below = c.below; store = record { memory = c.store.memory; activations = xs }; events = c.events } in next o) (sym same_store)) r.least (omega arith)
 
     -- ---- slots that are read
@@ -178,15 +178,15 @@ module _ (t : Functions) (fs : List Funclet) (program : LinearProgram) (p : Plan
         let all = all_as_they_are held in
         record { count = all.count; locals = all.locals; few = omega arith; temporaries = λ i v e. all.temporaries i v (front i v e) }
 
-    pub separator_step : slice_get body.code c.frame.next ≡ Some instructions.Separator → length c.frame.temporaries ≤ body.temporaries → GoesInside instructions.Separator → Moves t fs program 16 turns_left (Begins t fs program p q) s c instructions.Separator
-    separator_step e held inside =
+    pub separator_step : c.frame.landed ≡ None → slice_get body.code c.frame.next ≡ Some instructions.Separator → length c.frame.temporaries ≤ body.temporaries → GoesInside instructions.Separator → Moves t fs program 16 turns_left (Begins t fs program p q) s c instructions.Separator
+    separator_step free e held inside =
         let r = done t fs program p q image roomy s c b counted instructions.Separator e in
         let most = r.most in
         let lt = inside (forth (with_last [] c)) (λ next. refl) body b.body.slots.body in
         let at = next_address t fs program p q image roomy s c b counted instructions.Separator e in
         let small = label_small (c.frame.next + 1) lt in
         moves_to instructions.Separator r.turns (c.frame.next + 1) (s.cpu.rip + template_size (p.layout c.frame.body) instructions.Separator) slots_now values_here [] c.frame.landed
-        (from_here r.turns (s.cpu.rip + template_size (p.layout c.frame.body) instructions.Separator) slots_now r.follows) (sym at) lt (omega arith) (fewer [] held (omega arith) (λ i v g. cc))
+        (from_here r.turns (s.cpu.rip + template_size (p.layout c.frame.body) instructions.Separator) slots_now r.follows) (sym at) lt (omega arith) (fewer [] held (omega arith) (λ i v g. cc)) free
         (λ next. ap (λ xs. let o : Configuration = record { frame = record c.frame { next = c.frame.next + 1; temporaries = [] }; below = c.below; store = record { memory = c.store.memory; activations = xs }; events = c.events } in next o) (sym same_store)) r.least (omega arith)
 
     -- the temporaries after a test
@@ -230,24 +230,24 @@ module _ (t : Functions) (fs : List Funclet) (program : LinearProgram) (p : Plan
     goes_on slot label value r e next = acts_tested slot label value false r e next ∙ ap next (forth_is slot)
 
     -- a test takes fewer turns than it frees
-    to_tested : (slot : Slot) (label n rip to : ℕ) → rip ≡ p.address c.frame.body to → Reached n rip slots_now → length c.frame.temporaries ≤ body.temporaries → GoesInside (instructions.JumpIfZero slot label)
+    to_tested : (slot : Slot) (label n rip to : ℕ) → c.frame.landed ≡ None → rip ≡ p.address c.frame.body to → Reached n rip slots_now → length c.frame.temporaries ≤ body.temporaries → GoesInside (instructions.JumpIfZero slot label)
         → ((next : Next) → act program (instructions.JumpIfZero slot label) next c ≡ next (tested_at slot to)) → 1 ≤ n → n ≤ 16 → Moves t fs program 16 turns_left (Begins t fs program p q) s c (instructions.JumpIfZero slot label)
-    to_tested slot label n rip to at r held inside acts some most =
+    to_tested slot label n rip to free at r held inside acts some most =
         let lt = inside (tested_at slot to) acts body b.body.slots.body in
         let small = label_small to lt in
         let len = test_fewer slot in
-        moves_to (instructions.JumpIfZero slot label) n to rip slots_now values_here (after_test slot) c.frame.landed r at lt (omega arith) (test_front slot held)
+        moves_to (instructions.JumpIfZero slot label) n to rip slots_now values_here (after_test slot) c.frame.landed r at lt (omega arith) (test_front slot held) free
         (λ next. acts next ∙ ap (λ xs. let o : Configuration = record { frame = record c.frame { next = to; temporaries = after_test slot }; below = c.below; store = record { memory = c.store.memory; activations = xs }; events = c.events } in next o) (sym same_store)) some (omega arith)
 
-    pub jump_if_zero_step : (slot : Slot) (label : ℕ) → slice_get body.code c.frame.next ≡ Some (instructions.JumpIfZero slot label) → length c.frame.temporaries ≤ body.temporaries → IsHeld (length c.frame.temporaries) slot → GoesInside (instructions.JumpIfZero slot label)
+    pub jump_if_zero_step : (slot : Slot) (label : ℕ) → c.frame.landed ≡ None → slice_get body.code c.frame.next ≡ Some (instructions.JumpIfZero slot label) → length c.frame.temporaries ≤ body.temporaries → IsHeld (length c.frame.temporaries) slot → GoesInside (instructions.JumpIfZero slot label)
         → Moves t fs program 16 turns_left (Begins t fs program p q) s c (instructions.JumpIfZero slot label)
-    jump_if_zero_step slot label e held there inside =
+    jump_if_zero_step slot label free e held there inside =
         let r = is_read slot (has_slots t fs program p q image roomy s c b counted (instructions.JumpIfZero slot label) e) there in
         by_value r (nat_eq (slots_now.slots slot) 0) refl (done t fs program p q image roomy s c b counted (instructions.JumpIfZero slot label) e)
       where
         by_value : (r : IsRead slot) (z : Bool) → nat_eq (slots_now.slots slot) 0 ≡ z → InstructionDone (frame t fs program p q image roomy s c b counted) (links_of p q c.frame.body) (v t fs program p q image roomy s c b counted) s.cpu.rip s.cpu.flags slots_now (instructions.JumpIfZero slot label) (cond z (JumpsTo slots_now label) (meanings.Next slots_now))
             → Moves t fs program 16 turns_left (Begins t fs program p q) s c (instructions.JumpIfZero slot label)
-        by_value r true z d = to_tested slot label d.turns (p.address c.frame.body label) label refl (from_here d.turns (p.address c.frame.body label) slots_now d.follows) held inside (jumps slot label r.value r.reads (ap (λ x. nat_eq x 0) (sym r.same) ∙ z)) d.least d.most
+        by_value r true z d = to_tested slot label d.turns (p.address c.frame.body label) label free refl (from_here d.turns (p.address c.frame.body label) slots_now d.follows) held inside (jumps slot label r.value r.reads (ap (λ x. nat_eq x 0) (sym r.same) ∙ z)) d.least d.most
         by_value r false z d =
-            to_tested slot label d.turns (s.cpu.rip + template_size (p.layout c.frame.body) (instructions.JumpIfZero slot label)) (c.frame.next + 1) (sym (next_address t fs program p q image roomy s c b counted (instructions.JumpIfZero slot label) e))
+            to_tested slot label d.turns (s.cpu.rip + template_size (p.layout c.frame.body) (instructions.JumpIfZero slot label)) (c.frame.next + 1) free (sym (next_address t fs program p q image roomy s c b counted (instructions.JumpIfZero slot label) e))
             (from_here d.turns (s.cpu.rip + template_size (p.layout c.frame.body) (instructions.JumpIfZero slot label)) slots_now d.follows) held inside (goes_on slot label r.value r.reads (ap (λ x. nat_eq x 0) (sym r.same) ∙ z)) d.least d.most
