@@ -13,3 +13,4 @@ pub mod Written
 pub mod Running
 pub mod Plain
 pub mod Computing
+pub mod Landing
