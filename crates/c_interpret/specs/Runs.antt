@@ -12,8 +12,8 @@ use Rattle.c_model.specs.Laws.{IsPrefixOf}
 use Rattle.source_machine.specs.Frames.{Next}
 use Rattle.source_machine.specs.Machine.{Machine, step}
 use Rattle.source_machine.specs.Waiting.{comes_to}
-use Rattle.c_interpret.specs.declared.machine.Machine.{Machine as Machine'}
-use Rattle.c_interpret.specs.Machines.{machine_of}
+use Rattle.source_steps.specs.declared.machine.Machine.{Machine as Machine'}
+use Rattle.source_steps.specs.Machines.{machine_of}
 
 -- a machine that has done nothing yet
 abbrev pub beginning : Program → ℕ → Next → Machine
