@@ -28,7 +28,7 @@ use Rattle.c_checked.specs.Statement.{Statements, Empty, Then}
 use Rattle.c_checked.specs.Program.{Program, Function}
 use Rattle.c_model.specs.declared.ended.Ended.TheVariants.{Undefined}
 use Rattle.c_model.specs.Source.{is_reserved}
-use Rattle.c_model.specs.State.{Exception, State, Value, Normal, Returned, End, Outcome, Gives, choose, local_of, set_local, set_memory, emit, deeper, with_value, and_then}
+use Rattle.c_model.specs.State.{Exception, State, Value, Normal, Returned, Target, End, Outcome, Gives, choose, local_of, set_local, set_memory, emit, deeper, with_value, and_then}
 use Rattle.c_model.specs.Tasks.{Context, Eval, Locate, Run, Raise, Retry, Does}
 
 -- ---- values
@@ -131,11 +131,12 @@ abbrev pub all : Does → Statements → Context → State → Outcome
 all does Empty context st = Gives Normal st
 all does (Then s ss) context st = and_then (does (Run s) context st) (λ st. all does ss context st)
 
--- a call's end: its activation is gone; an end of the program goes out at once
+-- a call's end: its activation is gone, but where a target has left it, it counts in the depth until that lands; an end of the program goes out at once
 unfoldable pub ended_call : ℕ → Outcome → Outcome
 ended_call n (Gives (End e) st) = Gives (End e) st
 ended_call n (Gives Normal st) = Gives (Value 0) (record st { frames = take n st.frames })
 ended_call n (Gives (Returned v) st) = Gives (Value v) (record st { frames = take n st.frames })
+ended_call n (Gives (Target to exc) st) = Gives (Target to exc) (record st { frames = take n st.frames; held = st.held + 1 })
 ended_call n (Gives how st) = Gives how (record st { frames = take n st.frames })
 
 abbrev pub no_exception : Exception

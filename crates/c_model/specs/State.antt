@@ -11,7 +11,7 @@ pub record Exception : Type 0 where
   pub flag : Bool
   pub access : Option (Bool × ℕ)
 
--- the steps that are left; memory; the live activations' locals, outermost first; how many filters and `__finally` blocks run, or were left by a target that hasn't landed; the events so far
+-- the steps that are left; memory; the live activations' locals, outermost first; what is held of the depth beside them: 2 for each filter and `__finally` block that runs, or that a target has left, and 1 for each activation that a target has left, until the target lands; the events so far
 pub record State : Type 0 where
   pub steps_left : ℕ
   pub memory : Memory
@@ -55,13 +55,13 @@ abbrev pub emit : Event → State → State
 emit e st = record st { events = st.events ++ e ∷ [] }
 
 abbrev pub hold : State → State
-hold st = record st { held = st.held + 1 }
+hold st = record st { held = st.held + 2 }
 
 abbrev pub let_go : State → State
-let_go st = record st { held = st.held - 1 }
+let_go st = record st { held = st.held - 2 }
 
 abbrev pub depth : State → ℕ
-depth st = length st.frames + 2 * st.held
+depth st = length st.frames + st.held
 
 -- goes on in one of two ways
 unfoldable pub choose : Bool → (State → Outcome) → (State → Outcome) → State → Outcome

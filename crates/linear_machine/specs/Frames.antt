@@ -30,7 +30,7 @@ body_of program (FuncletBody k) = funclet_body (slice_get program.funclets k)
 
 -- ---- what waits
 
--- a body that runs or waits: its name; the number of its next instruction, or of the one that it waits in; the activation whose locals it works on; in a filter, the exception that it is asked about; how many filters and `__finally` blocks run here, or were left by an unwinding that hasn't landed; its temporaries; and where it has just taken over for an exception, the exception's code
+-- a body that runs or waits: its name; the number of its next instruction, or of the one that it waits in; the activation whose locals it works on; in a filter, the exception that it is asked about; what is held here of the depth beside the live activations: 2 for each filter and `__finally` block that runs, or that an unwinding has left, and 1 for each activation that one has left, until it lands; its temporaries; and where it has just taken over for an exception, the exception's code
 pub record Frame : Type 0 where
   pub body : BodyName
   pub next : ℕ
@@ -47,7 +47,7 @@ pub record Handler : Type 0 where
   pub depth : ℕ
   pub target : ℕ
 
--- where an unwinding goes: to a frame, by the number of items below it, and an instruction of its body; for an `__except` block with the exception's code; and what was held where it began
+-- where an unwinding goes: to a frame, by the number of items below it, and an instruction of its body; for an `__except` block with the exception's code; and what is held there so far, which grows by 1 for each activation that it leaves
 pub record Target : Type 0 where
   pub depth : ℕ
   pub label : ℕ
@@ -95,9 +95,9 @@ unfoldable pub with_some : {A : Type 0} → List Event → Option A → (A → S
 with_some es None go = Stuck es
 with_some es (Some x) go = go x
 
--- goes on unless the depth would rise above 1,000: 1 for each activation, 2 for each filter and `__finally` block
+-- goes on unless the depth would rise above 1,000: 1 for each live activation, and what is held
 abbrev pub deeper : ℕ → ℕ → Store → List Event → Seen → Seen
-deeper n held store es seen = pick (nat_lt 1000 (length store.activations + 2 * held + n)) (Finished (Deep 1001) es) seen
+deeper n held store es seen = pick (nat_lt 1000 (length store.activations + held + n)) (Finished (Deep 1001) es) seen
 
 -- ---- slots
 

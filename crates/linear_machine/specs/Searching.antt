@@ -23,7 +23,7 @@ accept program h exception next c =
 -- a filter begins
 abbrev pub begin_filter : ℕ → Handler → List Handler → Exception → Resumption → Configuration → Configuration
 begin_filter k h rest exception resumption c = record {
-  frame = record { body = FuncletBody k; next = 0; activation = h.activation; exception = exception; held = c.frame.held + 1; temporaries = []; landed = None };
+  frame = record { body = FuncletBody k; next = 0; activation = h.activation; exception = exception; held = c.frame.held + 2; temporaries = []; landed = None };
   below = Searches exception resumption h rest ∷ Waits c.frame ∷ c.below;
   store = c.store;
   events = c.events ++ events.Filter (k + 1) ∷ [];

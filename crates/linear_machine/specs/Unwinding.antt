@@ -23,10 +23,10 @@ abbrev pub flag_of : Option LinearFunclet → Option ℕ
 flag_of None = None
 flag_of (Some f) = flag_in f.kind
 
--- the block begins, for a frame: with its flag in the local of that, and one more held
+-- the block begins, for a frame: with its flag in the local of that, and 2 more held
 abbrev pub begin_finally : ℕ → ℕ → Bool → ℕ → List Item → Configuration → Configuration
 begin_finally k flag abnormal held below c = record {
-  frame = record { body = FuncletBody k; next = 0; activation = c.frame.activation; exception = no_exception; held = held + 1; temporaries = []; landed = None };
+  frame = record { body = FuncletBody k; next = 0; activation = c.frame.activation; exception = no_exception; held = held + 2; temporaries = []; landed = None };
   below = below;
   store = set_local c.store c.frame.activation flag (of_test abnormal);
   events = c.events ++ events.Finally (k + 1) abnormal ∷ [];
@@ -44,6 +44,11 @@ abbrev pub arrive : Target → Option ℕ → Next → Configuration → Seen
 arrive target None next c = next (record c { frame = record c.frame { next = target.label } })
 arrive target (Some code) next c =
     next (record c { frame = record c.frame { next = target.label; temporaries = []; landed = Some code }; events = c.events ++ events.Except (record { 0 = code }) ∷ [] })
+
+-- the activation of a function that is left is held
+abbrev pub target_past : BodyName → Target → Target
+target_past (FunctionBody f) target = record target { held = target.held + 1 }
+target_past (FuncletBody k) target = target
 
 -- the locals of a function end with it
 abbrev pub left_store : BodyName → ℕ → Store → Store
@@ -68,7 +73,7 @@ unwind_body program next target out (r ∷ regions) c =
 abbrev pub unwind : LinearProgram → Next → Target → List Item → Option (List Region) → List Event → Store → Seen
 unwind program next target [] left es store = Stuck es
 unwind program next target (Waits f ∷ below) left es store =
-    unwind_body program next target (λ store. unwind program next target below None es store)
+    unwind_body program next target (λ store. unwind program next (target_past f.body target) below None es store)
     (regions_left left (regions_at program f.body f.next)) (record { frame = f; below = below; store = store; events = es })
 unwind program next target (Searches exception resumption asked rest ∷ below) left es store = unwind program next target below None es store
 unwind program next target (Unwinds rest older ∷ below) left es store = unwind program next target below (Some rest) es store
