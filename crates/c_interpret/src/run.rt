@@ -12,17 +12,17 @@ ghost use Rattle.source_steps.specs.Machines.{machine_of, state_of};
 ghost use Rattle.c_interpret.specs.Runs as runs;
 ghost use Rattle.c_interpret.specs.Runs.{Turned, Ran, ShownPart, Means, MeansPart};
 
-use source_steps::activations::Activations;
-use source_steps::calls::low_signed;
-use source_plans::frame::{Callee, Finish, Next, Outcome};
-use source_steps::machine::{Machine, Step};
-use source_plans::place::{NO_EXCEPTION, Place};
 use c_checked::checked::Checked;
 use c_model::ended::Ended;
 use seh_io::receiver::Events;
 use seh_num::extension::wrap;
 use seh_num::width::Width;
 use source_operations::memory::{data_end, first_memory};
+use source_plans::frame::{Callee, Finish, Next, Outcome};
+use source_plans::place::{NO_EXCEPTION, Place};
+use source_steps::activations::Activations;
+use source_steps::calls::low_signed;
+use source_steps::machine::{Machine, Step};
 use std::alloc::{AllocError, Global};
 
 /// How the run ended, if it is over.

@@ -14,18 +14,18 @@ ghost use Rattle.source_plans.specs.Views.{place_of};
 ghost use Rattle.source_steps.specs.Machines.{machine_of, shown_after, Moved, Showed};
 
 use crate::activations::with_zeros;
-use source_plans::expressions::start;
-use source_plans::frame::{Callee, Frame, Next, Outcome, SequelFrame};
 use crate::machine::{Machine, Step, quiet, showing, too_deep};
-use source_plans::place::{Exception, NO_EXCEPTION, Place};
-use source_plans::task::Task;
-use source_plans::values::of_test;
 use c_checked::checked::Checked;
 use c_checked::function::Function;
 use c_operations::built_in::BuiltIn;
 use seh_num::event::Event;
 use seh_num::extension::sign_extend;
 use seh_num::width::Width;
+use source_plans::expressions::start;
+use source_plans::frame::{Callee, Frame, Next, Outcome, SequelFrame};
+use source_plans::place::{Exception, NO_EXCEPTION, Place};
+use source_plans::task::Task;
+use source_plans::values::of_test;
 use std::alloc::AllocError;
 use x64_memory::space::AddressSpace;
 

@@ -1,6 +1,6 @@
 //! Results go to what waits for them.
 
-ghost use Rattle.std.specs.Prelude.{◌≡◌, ◌++◌, [], ◌∷◌, List, IfOk, map, nat_eq};
+ghost use Rattle.std.specs.Prelude.{◌≡◌, ◌++◌, [], ◌∷◌, List, IfOk, OnOk, map, nat_eq};
 ghost use Rattle.c_model.specs.State as states;
 ghost use Rattle.c_model.specs.Tasks as tasks;
 ghost use Rattle.seh_num.specs.declared.event.Event.{Event as Event'};
@@ -12,17 +12,19 @@ ghost use Rattle.source_plans.specs.Views.{place_of, plan_of};
 ghost use Rattle.source_steps.specs.Machines.{machine_of, shown_after, Moved, Showed};
 ghost use Rattle.source_steps.specs.Finished.{resumed_from};
 
+use crate::machine::{Machine, Step, quiet, showing};
+use c_checked::statement::Stmt;
+use seh_num::event::{Code, Event};
 use source_plans::expressions::start;
 use source_plans::frame::{
     AssignmentFrame, BodyFrame, Finish, Frame, Next, OperandFrame, Outcome, SequelFrame,
     StatementFrame,
 };
-use crate::machine::{Machine, Step, quiet, showing};
 use source_plans::place::{Exception, Place};
-use source_plans::results::{assignment_plan, body_plan, in_statement_plan, operand_plan, sequel_plan};
+use source_plans::results::{
+    assignment_plan, body_plan, in_statement_plan, operand_plan, sequel_plan,
+};
 use source_plans::task::Task;
-use c_checked::statement::Stmt;
-use seh_num::event::{Code, Event};
 use std::alloc::AllocError;
 
 /// A `__finally` block is to run.
@@ -41,16 +43,35 @@ fn finally<'p>(number: u32, last: &'p Vec<Stmt>, abnormal: bool, place: Place) -
 }
 
 impl<'p> Machine<'p> {
+    /// An activation that a target leaves is held. No run holds more than 1,000, so that the count has no
+    /// room for it in none.
+    fn hold_activation(&mut self) -> Result<(), AllocError>
+        ensures { OnOk result ((x : frames.Next) (es : List Event') → model.holding
+            (machine_of self.old x es) ≡ machine_of self.new x es) }
+    {
+        match self.held.checked_add(1) {
+            None => Err(AllocError),
+            Some(held) => {
+                self.held = held;
+                Ok(())
+            }
+        }
+    }
+
     /// The end of a call.
-    fn leave_call(&mut self, count: usize, how: Outcome) -> Next<'p>
-        ensures { Moved self.old self.new (λ m. model.left_call m count
-            (views.result_of how)) result }
+    fn leave_call(&mut self, count: usize, how: Outcome) -> Result<Next<'p>, AllocError>
+        ensures { IfOk result (Moved self.old self.new (λ m. model.left_call m count
+            (views.result_of how))) }
     {
         self.activations.truncate(count);
         match how {
-            Outcome::Normal => Next::Give(Outcome::Value(0)),
-            Outcome::Returned(value) => Next::Give(Outcome::Value(value)),
-            other => Next::Give(other),
+            Outcome::Normal => Ok(Next::Give(Outcome::Value(0))),
+            Outcome::Returned(value) => Ok(Next::Give(Outcome::Value(value))),
+            Outcome::Target(level, exception) => {
+                self.hold_activation()?;
+                Ok(Next::Give(Outcome::Target(level, exception)))
+            }
+            other => Ok(Next::Give(other)),
         }
     }
 
@@ -209,7 +230,7 @@ impl<'p> Machine<'p> {
             Frame::Statement(frame) => Ok(quiet(self.resume_statement(frame, how)?)),
             Frame::Sequel(frame) => Ok(quiet(self.resume_sequel(frame, how)?)),
             Frame::Body(frame) => Ok(quiet(self.resume_body(frame, how)?)),
-            Frame::EndsCall(count) => Ok(quiet(self.leave_call(count, how))),
+            Frame::EndsCall(count) => Ok(quiet(self.leave_call(count, how)?)),
             Frame::Lands(held, block, place) => {
                 let _ = self.handlers.pop();
                 Ok(self.resume_landing(held, block, place, how))

@@ -11,16 +11,15 @@ ghost use Rattle.source_plans.specs.Views.{place_of};
 ghost use Rattle.source_steps.specs.Machines.{machine_of, state_of, shown_after, Moved, Showed};
 
 use crate::activations::Activations;
+use c_model::ended::Ended;
+use seh_num::event::Event;
 use source_plans::frame::{Finish, Frame, Next, Phase, Plan};
 use source_plans::place::{Handler, Place};
 use source_plans::task::Task;
-use c_model::ended::Ended;
-use seh_num::event::Event;
 use std::alloc::AllocError;
 use x64_memory::page_map::PageMap;
 
-/// The greatest depth of a program: 1 for each live activation, and 2 for each filter and `__finally`
-/// block that runs or is held (own).
+/// The greatest depth of a program: 1 for each live activation, and what is held beside them (own).
 const GREATEST_DEPTH: u64 = 1000;
 
 /// A machine that runs a program.
@@ -29,7 +28,8 @@ pub struct Machine<'p> {
     pub steps_left: u64,
     pub memory: PageMap,
     pub activations: Activations,
-    /// How many filters and `__finally` blocks run, or were left by a target that hasn't landed.
+    /// What is held of the depth beside the live activations: 2 for each filter and `__finally` block that
+    /// runs, or that a target has left, and 1 for each activation that one has left, until it lands.
     pub held: u64,
     /// The handlers around the place where the machine goes on, outermost first.
     pub handlers: Vec<Handler<'p>>,
@@ -86,7 +86,7 @@ impl<'p> Machine<'p> {
         if held > 1000 {
             return true;
         }
-        live as u64 + 2 * held + more > GREATEST_DEPTH
+        live as u64 + held + more > GREATEST_DEPTH
     }
 
     /// One more frame waits.

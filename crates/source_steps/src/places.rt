@@ -13,15 +13,15 @@ ghost use Rattle.source_plans.specs.Views.{place_of};
 ghost use Rattle.source_steps.specs.Machines.{machine_of, state_of, Moved, Showed};
 ghost use Rattle.source_steps.specs.Finished.{finished};
 
-use source_plans::expressions::{push, start, then};
-use source_plans::frame::{AssignmentFrame, Finish, Frame, Next, Outcome, Plan, SequelFrame};
 use crate::machine::Machine;
-use source_plans::place::{Exception, Place};
-use source_plans::task::Task;
 use c_checked::expression::{Access, Lvalue};
 use c_model::ended::Ended;
 use c_operations::operation::Operation;
 use source_operations::performing::{Performed, perform};
+use source_plans::expressions::{push, start, then};
+use source_plans::frame::{AssignmentFrame, Finish, Frame, Next, Outcome, Plan, SequelFrame};
+use source_plans::place::{Exception, Place};
+use source_plans::task::Task;
 use std::alloc::AllocError;
 
 /// An access by which a place in memory is read.

@@ -13,15 +13,15 @@ ghost use Rattle.source_plans.specs.Views.{place_of};
 ghost use Rattle.source_steps.specs.Machines.{machine_of, shown_after, Moved, Showed};
 
 use crate::calls::low_signed;
-use source_plans::expressions::{evaluates, start};
-use source_plans::frame::{Finish, Frame, Next, Outcome, SequelFrame, StatementFrame};
 use crate::machine::{Machine, Step, quiet, showing, too_deep};
-use source_plans::place::{Exception, Handler, Place};
-use source_plans::task::Task;
 use c_checked::expression::Expr;
 use c_checked::statement::{Filter, Stmt};
 use c_model::ended::Ended;
 use seh_num::event::{Code, Event};
+use source_plans::expressions::{evaluates, start};
+use source_plans::frame::{Finish, Frame, Next, Outcome, SequelFrame, StatementFrame};
+use source_plans::place::{Exception, Handler, Place};
+use source_plans::task::Task;
 use std::alloc::AllocError;
 
 fn unhandled<'p>(exception: Exception) -> Next<'p>
@@ -62,7 +62,7 @@ impl<'p> Machine<'p> {
         if self.is_deep(2) {
             return Ok(quiet(too_deep()));
         }
-        self.held = self.held.saturating_add(1);
+        self.held = self.held.saturating_add(2);
         self.push(Frame::Statement(StatementFrame::EndsFilter))?;
         let inside = Place {
             activation: handler.activation,
@@ -87,7 +87,7 @@ impl<'p> Machine<'p> {
         if self.is_deep(2) {
             return Ok(quiet(too_deep()));
         }
-        self.held = self.held.saturating_add(1);
+        self.held = self.held.saturating_add(2);
         self.push(Frame::Sequel(SequelFrame::EndsFinally))?;
         let inside = Place {
             activation: place.activation,
@@ -187,7 +187,7 @@ impl<'p> Machine<'p> {
         ensures { (p : Program) → Showed self.old self.new (λ m. model.done p m
             (frames.Answer value)) result }
     {
-        self.held = self.held.saturating_sub(1);
+        self.held = self.held.saturating_sub(2);
         showing(
             Event::Answer(low_signed(value)),
             Next::Give(Outcome::Value(value)),

@@ -13,16 +13,16 @@ ghost use Rattle.source_plans.specs.Views as views;
 ghost use Rattle.source_plans.specs.Views.{place_of};
 ghost use Rattle.source_steps.specs.Machines.{machine_of, shown_after, Moved, Showed};
 
+use crate::machine::{Machine, Step, quiet};
+use c_checked::checked::Checked;
+use c_checked::statement::Declared;
 use source_plans::expressions::{expression_plan, find_plan, node_plan, pass_plan};
 use source_plans::frame::{Next, Outcome, Phase, Plan};
-use crate::machine::{Machine, Step, quiet};
 use source_plans::place::Place;
 use source_plans::statements::{
     declare_plan, do_plan, for_plan, initialise_plan, listed_plan, proceed_plan, statement_plan,
 };
 use source_plans::task::Task;
-use c_checked::checked::Checked;
-use c_checked::statement::Declared;
 use std::alloc::{AllocError, Global};
 
 impl<'p> Machine<'p> {
@@ -138,7 +138,7 @@ impl<'p> Machine<'p> {
             }
             Next::Answer(value) => Ok(self.answer(value)),
             Next::LetGo => {
-                self.held = self.held.saturating_sub(1);
+                self.held = self.held.saturating_sub(2);
                 Ok(quiet(Next::Give(Outcome::Normal)))
             }
             Next::Search(level, exception, place) => {

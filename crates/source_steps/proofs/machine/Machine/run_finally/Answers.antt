@@ -19,8 +19,8 @@ returns-then-is_deep c = λ x es.
 pub returns : goal.returns
 returns c = λ x es.
     let m = c.args.self.now in
-    let shallow : length (frames_of m.activations) + 2 * m.held + 2 ≤ 1000 = ltb-false 1000 (length (frames_of m.activations) + 2 * m.held + 2) (sym (c.is_deep.ensures es) ∙ c.if-is_deep.false) in
-    let held_is : c.saturating_add-self.result ≡ m.held + 1 = omega (arith, c.saturating_add-self.ensures) in
+    let shallow : length (frames_of m.activations) + m.held + 2 ≤ 1000 = ltb-false 1000 (length (frames_of m.activations) + m.held + 2) (sym (c.is_deep.ensures es) ∙ c.if-is_deep.false) in
+    let held_is : c.saturating_add-self.result ≡ m.held + 2 = omega (arith, c.saturating_add-self.ensures) in
     let event = events.Finally c.args.number c.args.abnormal in
     let next = frames.Proceed (views.all_statements c.args.last.now.items) (record { activation = c.args.place.activation; exception = views.exception_of c.args.place.exception; abnormal = c.args.abnormal }) in
     goes_deeper _ (machine_of m x es) _ (sym (c.is_deep.ensures es) ∙ c.if-is_deep.false)
