@@ -97,6 +97,7 @@ module _ (R : Relation) where
   ended_cases d a (End e) st l n = give (End e) a st l n
   ended_cases d a Normal st l n = give (Value 0) a (record st { frames = take d st.frames }) l n
   ended_cases d a (Returned v) st l n = give (Value v) a (record st { frames = take d st.frames }) l n
+  ended_cases d a (Target to exc) st l n = give (Target to exc) a (record st { frames = take d st.frames; held = st.held + 1 }) l n
   ended_cases d a how st l n = give how a (record st { frames = take d st.frames }) l n
 
   pub ended_go : (d : ℕ) (a : Bool) (es : List Event) (o o' : Outcome) → R.out a es o o' → R.out a es (ended_call d o) (ended_call d o')

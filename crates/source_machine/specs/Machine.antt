@@ -177,14 +177,14 @@ abbrev pub with_activations : Machine → ℕ → Machine
 with_activations m n = at_state m (record m.state { frames = take n m.state.frames })
 
 -- an activation that a target leaves counts in the depth until that lands
-abbrev pub holding : Machine → Machine
-holding m = at_state m (record m.state { held = m.state.held + 1 })
+abbrev pub left_by_target : Machine → ℕ → Machine
+left_by_target m n = at_state m (record m.state { frames = take n m.state.frames; held = m.state.held + 1 })
 
 abbrev pub left_call : Machine → ℕ → Result → Machine
 left_call m n (End e) = go_on m (Give (End e))
 left_call m n Normal = go_on (with_activations m n) (Give (Value 0))
 left_call m n (Returned v) = go_on (with_activations m n) (Give (Value v))
-left_call m n (Target to exc) = go_on (with_activations (holding m) n) (Give (Target to exc))
+left_call m n (Target to exc) = go_on (left_by_target m n) (Give (Target to exc))
 left_call m n how = go_on (with_activations m n) (Give how)
 
 abbrev pub after_value : Machine → (ℕ → Plan) → Result → Machine

@@ -1,6 +1,6 @@
 //! Results go to what waits for them.
 
-ghost use Rattle.std.specs.Prelude.{◌≡◌, ◌++◌, [], ◌∷◌, List, IfOk, OnOk, map, nat_eq};
+ghost use Rattle.std.specs.Prelude.{◌≡◌, ◌+◌, ◌++◌, [], ◌∷◌, List, IfOk, OnOk, map, nat_eq};
 ghost use Rattle.c_model.specs.State as states;
 ghost use Rattle.c_model.specs.Tasks as tasks;
 ghost use Rattle.seh_num.specs.declared.event.Event.{Event as Event'};
@@ -46,8 +46,7 @@ impl<'p> Machine<'p> {
     /// An activation that a target leaves is held. No run holds more than 1,000, so that the count has no
     /// room for it in none.
     fn hold_activation(&mut self) -> Result<(), AllocError>
-        ensures { OnOk result ((x : frames.Next) (es : List Event') → model.holding
-            (machine_of self.old x es) ≡ machine_of self.new x es) }
+        ensures { OnOk result (self.new ≡ record self.old { held = self.old.held + 1 }) }
     {
         match self.held.checked_add(1) {
             None => Err(AllocError),
