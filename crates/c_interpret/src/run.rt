@@ -9,9 +9,11 @@ ghost use Rattle.source_machine.specs.Frames as frames;
 ghost use Rattle.source_machine.specs.Laws.{is_over};
 ghost use Rattle.source_plans.specs.Views as views;
 ghost use Rattle.source_steps.specs.Machines.{machine_of, state_of};
+ghost use Rattle.source_machine.specs.Runs as model_runs;
 ghost use Rattle.c_interpret.specs.Runs as runs;
-ghost use Rattle.c_interpret.specs.Runs.{Turned, Ran, ShownPart, Means, MeansPart};
+ghost use Rattle.c_interpret.specs.Runs.{Turned, Went, ShownPart, Tells, MeansPart};
 
+use crate::failing::Fallible;
 use c_checked::checked::Checked;
 use c_model::ended::Ended;
 use seh_io::receiver::Events;
@@ -60,28 +62,32 @@ fn turn<'p, V: Events>(
     }
 }
 
-/// Runs the machine until its run is over; the receiver takes what is shown.
-fn run<'p, V: Events>(
+/// Runs the machine until its run is over; the receiver takes what is shown. No step is made after one at
+/// whose event the receiver failed: the answer is then none.
+fn run<'p, V: Events + Fallible>(
     alloc: Global,
     program: &'p Checked,
     data_end: u64,
     machine: &mut Machine<'p>,
     first: Next<'p>,
     to: &mut V,
-) -> Result<Finish, AllocError>
-    requires { data_end ≡ model_data_end program.now.globals.items }
-    ensures ran { IfOk result (λ how. Ran V.took (whole.program program.now)
-        (machine_of machine.old (views.next_of first.entry) [])
-        (views.finish_of how) to.old to.new) }
+) -> Result<Option<Finish>, AllocError>
+    requires end { data_end ≡ model_data_end program.now.globals.items }
+    requires going { V.failed to.old ≡ false }
+    ensures went { IfOk result (λ how. Went V.took V.failed (whole.program program.now)
+        (machine_of machine.old (views.next_of first.entry) []) how to.old machine.new to.new) }
     ensures part { OnErr result (ShownPart V.took (whole.program program.now)
         (machine_of machine.old (views.next_of first.entry) []) to.old to.new) }
 {
     let mut next = first;
     loop {
         if let Some(how) = finish_of(&next) {
-            return Ok(how);
+            return Ok(Some(how));
         }
         next = turn(alloc, program, data_end, machine, next, to)?;
+        if to.has_failed() {
+            return Ok(None);
+        }
     }
 }
 
@@ -91,7 +97,7 @@ fn first_machine<'p>(
     program: &'p Checked,
     budget: u64,
 ) -> Result<Machine<'p>, AllocError>
-    ensures { IfOk result (λ m. (next : frames.Next) → machine_of m next [] ≡ runs.beginning
+    ensures { IfOk result (λ m. (next : frames.Next) → machine_of m next [] ≡ model_runs.beginning
         (whole.program program.now) budget next) }
 {
     Ok(Machine {
@@ -130,16 +136,27 @@ fn end_of(finish: Finish) -> Option<Ended>
     }
 }
 
-/// Runs a program within some steps; the receiver takes what it shows. No end is the end within them.
-pub fn run_program<V: Events>(
+/// How much of a program's run its receiver was told.
+#[derive(Clone, Copy, Debug, PartialEq, Eq)]
+pub enum Told {
+    /// All within the steps, and the end, if it is within them.
+    Whole(Option<Ended>),
+    /// All up to an event at which the receiver failed.
+    Cut,
+}
+
+/// Runs a program within some steps; the receiver takes what it shows, and is given nothing after it has
+/// failed.
+pub fn run_program<V: Events + Fallible>(
     alloc: Global,
     program: &Checked,
     arg: i64,
     budget: u64,
     to: &mut V,
-) -> Result<Option<Ended>, AllocError>
-    ensures means { IfOk result (λ end. Means V.took (meaning.meaning
-        (whole.program program.now) arg budget) end to.old to.new) }
+) -> Result<Told, AllocError>
+    requires { V.failed to.old ≡ false }
+    ensures tells { IfOk result (λ told. Tells V.took V.failed (meaning.meaning
+        (whole.program program.now) arg budget) told to.old to.new) }
     ensures part { OnErr result (MeansPart V.took (meaning.meaning
         (whole.program program.now) arg budget) to.old to.new) }
 {
@@ -152,6 +169,8 @@ pub fn run_program<V: Events>(
     let mut machine = first_machine(alloc, program, budget)?;
     let first = Next::Call(Callee::Defined(program.main), arguments, place);
     let end = data_end(&program.globals);
-    let finish = run(alloc, program, end, &mut machine, first, to)?;
-    Ok(end_of(finish))
+    match run(alloc, program, end, &mut machine, first, to)? {
+        None => Ok(Told::Cut),
+        Some(finish) => Ok(Told::Whole(end_of(finish))),
+    }
 }

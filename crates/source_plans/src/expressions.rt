@@ -15,6 +15,7 @@ use crate::place::Place;
 use crate::task::Task;
 use crate::values::{field_of, of_test};
 use c_checked::expression::{Expr, Lvalue, Node};
+use c_operations::operation::Operation;
 use std::alloc::Global;
 
 /// Something is done next.
@@ -147,11 +148,8 @@ fn compound_plan<'p>(node: &'p Node, place: Place) -> Plan<'p>
                 value,
                 after: *after,
             };
-            located(
-                AssignmentFrame::ReadsCompound(compound, place),
-                target,
-                place,
-            )
+            let reads = AssignmentFrame::ReadsCompound(compound, place);
+            located(reads, target, place)
         }
         _ => gives(0),
     }
@@ -185,6 +183,33 @@ fn increment_plan<'p>(node: &'p Node, place: Place) -> Plan<'p>
     }
 }
 
+/// For a binary operator: the left operand first.
+fn binary_plan<'p>(
+    operation: Operation,
+    left: &'p Box<Expr>,
+    right: &'p Box<Expr>,
+    place: Place,
+) -> Plan<'p>
+    ensures { plan_of result ≡ plans.node_plan (tree.Binary operation
+        (tree.expression left.now.value) (tree.expression right.now.value)) (place_of place) }
+{
+    let waits = OperandFrame::EvaluatesRight(operation, right, place);
+    operand(waits, left, place)
+}
+
+/// For `? :`: the condition first.
+fn conditional_plan<'p>(
+    condition: &'p Expr,
+    yes: &'p Box<Expr>,
+    no: &'p Box<Expr>,
+    place: Place,
+) -> Plan<'p>
+    ensures { plan_of result ≡ plans.node_plan (tree.Conditional (tree.expression condition.now)
+        (tree.expression yes.now.value) (tree.expression no.now.value)) (place_of place) }
+{
+    operand(OperandFrame::Chooses(yes, no, place), condition, place)
+}
+
 /// For `left - right` of pointers.
 fn difference_plan<'p>(size: u64, left: &'p Expr, right: &'p Box<Expr>, place: Place) -> Plan<'p>
     ensures { plan_of result ≡ plans.node_plan (tree.PointerDifference size
@@ -216,18 +241,12 @@ pub fn node_plan<'p>(alloc: Global, node: &'p Node, place: Place) -> Plan<'p>
             operation,
             left,
             right,
-        } => operand(
-            OperandFrame::EvaluatesRight(*operation, right, place),
-            left,
-            place,
-        ),
+        } => binary_plan(*operation, left, right, place),
         Node::PointerDifference { size, left, right } => difference_plan(*size, left, right, place),
         Node::Not(of) => operand(OperandFrame::Inverts, of, place),
         Node::And(left, right) => operand(OperandFrame::EvaluatesIfTrue(right, place), left, place),
         Node::Or(left, right) => operand(OperandFrame::EvaluatesIfFalse(right, place), left, place),
-        Node::Conditional { condition, yes, no } => {
-            operand(OperandFrame::Chooses(yes, no, place), condition, place)
-        }
+        Node::Conditional { condition, yes, no } => conditional_plan(condition, yes, no, place),
         Node::Comma(left, right) => operand(OperandFrame::Discards(right, place), left, place),
         Node::Call {
             function,
