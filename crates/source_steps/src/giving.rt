@@ -43,8 +43,8 @@ fn finally<'p>(number: u32, last: &'p Vec<Stmt>, abnormal: bool, place: Place) -
 }
 
 impl<'p> Machine<'p> {
-    /// An activation that a target leaves is held. No run holds more than 1,000, so that the count has no
-    /// room for it in none.
+    /// An activation that a target leaves is held. A run holds at most 1,000, so that there is room for one
+    /// more; a count that has none fails as want of memory does.
     fn hold_activation(&mut self) -> Result<(), AllocError>
         ensures { OnOk result (self.new ≡ record self.old { held = self.old.held + 1 }) }
     {
