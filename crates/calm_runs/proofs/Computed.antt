@@ -1,14 +1,17 @@
 -- Which of the worked programs are Tame and Plain, computed.
 use Rattle.std.proofs.Common.{◌≡◌, ℕ, zero, suc, refl, sym, ◌∙◌, inl, inr}
-use Rattle.std.specs.Prelude.{Bool, true, false, not, ◌&&◌, ◌||◌, pos}
+use Rattle.std.specs.Prelude.{Bool, true, false, not, ◌&&◌, ◌||◌, ◌⊎◌, pos, None}
 use Rattle.std.proofs.lemmas.Bool.{cases_Bool, true≢false}
 use Rattle.c_checked.specs.Program.{Program}
+use Rattle.c_checked.specs.Statement.{Evaluate, Leave}
 use Rattle.c_model.specs.Meaning.{computed}
+use Rattle.c_model.specs.Short.{lit, raise, answer}
+use Rattle.c_model.specs.Rows.{exit, sum_and_return, null_store_caught, filter_then_finally, continue_same_operand, return_flags, leave_flags, raise_in_filter, raise_in_finally, continue_noncontinuable}
 use Rattle.source_machine.specs.Machine.{Machine, step}
 use Rattle.source_machine.specs.Laws.{is_over}
 use Rattle.source_machine.specs.Runs.{first, after}
 use Rattle.calm_runs.specs.Plain.{raises_inside}
-use Rattle.calm_runs.specs.Rows.{TameRows, PlainRows, RaisesInFilters, RaisesInFinallys, FlagOneAtReturn, FlagZeroAtEnd, FlagZeroAtLeave}
+use Rattle.calm_runs.specs.Rows.{TameRows, PlainRows, RaisesInFilters, RaisesInFinallys, FlagOneAtReturn, FlagZeroAtEnd, FlagZeroAtLeave, handled_in_filter, raising_after}
 use Rattle.calm_runs.proofs.Runs.{over_stays, no_raise}
 use Rattle.calm_runs.proofs.Tameness.{ended_is_tame}
 
@@ -52,46 +55,52 @@ refuted program (suc k) m e h =
 
 -- ---- the rows
 
-module _ (p : Program) where
-  abbrev from_first : Machine
-  from_first = first p (pos 0) 100
+abbrev from_first : Program → Machine
+from_first p = first p (pos 0) 100
 
-  is_plain : ends_plain p 2000 from_first ≡ true → (j : ℕ) → raises_inside (after p j from_first) ≡ false
-  is_plain e = decided p 2000 from_first e
+plain : (p : Program) → ends_plain p 2000 (from_first p) ≡ true → (j : ℕ) → raises_inside (after p j (from_first p)) ≡ false
+plain p e = decided p 2000 (from_first p) e
 
-  is_nested : raises_early p 2000 from_first ≡ true → ((j : ℕ) → raises_inside (after p j from_first) ≡ false) → ⊥
-  is_nested e = refuted p 2000 from_first e
+nested : (p : Program) → raises_early p 2000 (from_first p) ≡ true → ((j : ℕ) → raises_inside (after p j (from_first p)) ≡ false) → ⊥
+nested p e = refuted p 2000 (from_first p) e
 
 pub plain_rows : PlainRows
 unfolding computed
-plain_rows =
-    (is_plain _ refl, is_plain _ refl, is_plain _ refl, is_plain _ refl, is_plain _ refl, is_plain _ refl, is_plain _ refl)
+plain_rows = (
+  plain sum_and_return refl,
+  plain null_store_caught refl,
+  plain filter_then_finally refl,
+  plain continue_same_operand refl,
+  plain return_flags refl,
+  plain leave_flags refl,
+  plain continue_noncontinuable refl,
+)
 
 pub raises_in_filters : RaisesInFilters
 unfolding computed
-raises_in_filters = (is_nested _ refl, is_nested _ refl)
+raises_in_filters = (nested raise_in_filter refl, nested handled_in_filter refl)
 
 pub raises_in_finallys : RaisesInFinallys
 unfolding computed
-raises_in_finallys = (is_nested _ refl, is_nested _ refl)
+raises_in_finallys = (nested raise_in_finally refl, nested (raising_after (raise 0xE0000001 0)) refl)
 
 pub flag_one_at_return : FlagOneAtReturn
 unfolding computed
-flag_one_at_return = is_nested _ refl
+flag_one_at_return = nested (raising_after (answer (lit 5))) refl
 
 pub flag_zero_at_end : FlagZeroAtEnd
 unfolding computed
-flag_zero_at_end = is_plain _ refl
+flag_zero_at_end = plain (raising_after (Evaluate None)) refl
 
 pub flag_zero_at_leave : FlagZeroAtLeave
 unfolding computed
-flag_zero_at_leave = is_plain _ refl
+flag_zero_at_leave = plain (raising_after Leave) refl
 
 pub tame_rows : TameRows
 unfolding computed
 tame_rows = (
-  ended_is_tame _ (pos 0) 100 _ refl refl,
-  ended_is_tame _ (pos 0) 100 _ refl refl,
-  ended_is_tame _ (pos 0) 100 _ refl refl,
+  ended_is_tame sum_and_return (pos 0) 100 (exit 7) refl refl,
+  ended_is_tame raise_in_filter (pos 0) 100 (exit 0) refl refl,
+  ended_is_tame raise_in_finally (pos 0) 100 (exit 0) refl refl,
   λ tame. true≢false (sym (tame 100)),
 )

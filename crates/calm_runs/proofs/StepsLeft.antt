@@ -130,9 +130,9 @@ module _ (l : ℕ) where
   ask m None level exc p = refl
   ask m (Some h) level exc p = ask_by m h.filter h level exc p
 
-  search : (m : Machine) (level : ℕ) (exc : Exception) (p : Place) → searched (with_left l m) level exc p ≡ with_left l (searched m level exc p)
-  search m zero exc p = refl
-  search m (suc level) exc p = ask m (slice_get m.handlers level) level exc p
+  searches : (m : Machine) (level : ℕ) (exc : Exception) (p : Place) → searched (with_left l m) level exc p ≡ with_left l (searched m level exc p)
+  searches m zero exc p = refl
+  searches m (suc level) exc p = ask m (slice_get m.handlers level) level exc p
 
   -- what begins a task is left out
   abbrev pub IsAlike : Program → Machine → Next → Type 0
@@ -158,4 +158,4 @@ module _ (l : ℕ) where
   alike program m (frames.Guard ss f block p) = refl
   alike program m (frames.Answer v) = refl
   alike program m frames.LetGo = refl
-  alike program m (frames.Search level exc p) = search m level exc p
+  alike program m (frames.Search level exc p) = searches m level exc p

@@ -1,5 +1,5 @@
 -- A program's run, as the machine's.
-use Rattle.std.specs.Prelude.{ℕ, zero, suc, [], slice_get, ℤ}
+use Rattle.std.specs.Prelude.{ℕ, zero, suc, false, [], slice_get, ℤ}
 use Rattle.c_checked.specs.Program.{Program}
 use Rattle.c_model.specs.Expressions.{no_exception}
 use Rattle.c_model.specs.Meaning.{start, main_arguments}
