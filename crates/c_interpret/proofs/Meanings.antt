@@ -1,6 +1,6 @@
 -- What the machine of a program comes to is what the program means.
-use Rattle.std.proofs.Common.{◌≡◌, ℕ, List, ◌++◌, refl, sym, ap, ◌∙◌, subst}
-use Rattle.std.specs.Prelude.{Bool, ℤ, Option, slice_get, false}
+use Rattle.std.proofs.Common.{◌≡◌, ℕ, List, refl, sym, ap, ◌∙◌, subst}
+use Rattle.std.specs.Prelude.{ℤ, Option, slice_get, false}
 use Rattle.seh_num.specs.declared.event.Event.{Event}
 use Rattle.c_checked.specs.Program.{Program}
 use Rattle.c_model.specs.declared.ended.Ended.{Ended}
@@ -12,9 +12,7 @@ use Rattle.source_machine.specs.Frames as frames
 use Rattle.source_machine.specs.Machine.{Machine}
 use Rattle.source_machine.specs.Waiting.{comes_to}
 use Rattle.source_machine.specs.Runs.{beginning}
-use Rattle.source_steps.specs.declared.machine.Machine.{Machine as Machine'}
-use Rattle.c_interpret.specs.Runs.{Ran, Stopped, ShownPart, Means, MeansPart, MeansUntil, end_of}
-use Rattle.c_interpret.proofs.Reached.{stopped_front}
+use Rattle.c_interpret.specs.Runs.{Ran, ShownPart, Means, MeansPart, end_of}
 
 -- the machine with which a program begins comes to what its run comes to
 pub begins : (p : Program) (arg : ℤ) (n : ℕ) (vs : List ℕ) → vs ≡ main_arguments (slice_get p.functions p.main) arg
@@ -46,16 +44,4 @@ module _ {X : Type 0} (took : X → List Event → X → Type 0) (p : Program) (
     shown = r.shown;
     took_shown = r.took_shown;
     front = subst (λ es. IsPrefixOf r.shown es) (sym all_events) r.front;
-  }
-
-  pub until_of : (failed : X → Bool) (m' : Machine') → Stopped took failed p m x m' y → MeansUntil took failed (meaning p arg n) x y
-  until_of failed m' s = record {
-    shown = s.shown;
-    last = s.last;
-    between = s.between;
-    took_shown = s.took_shown;
-    not_before = s.not_before;
-    took_last = s.took_last;
-    failed_then = s.failed_then;
-    front = subst (λ es. IsPrefixOf (s.shown ++ s.last) es) (sym all_events) (stopped_front took failed p m x m' y s);
   }

@@ -6,7 +6,7 @@ ghost use Rattle.c_checked.specs.Whole as whole;
 ghost use Rattle.c_model.specs.Meaning as meaning;
 ghost use Rattle.c_interpret.specs.Texts as texts;
 
-use crate::run::{Told, run_program};
+use crate::run::run_program;
 use c_checked::checked::Checked;
 use c_model::ended::Ended;
 use seh_io::line::Line;
@@ -58,8 +58,7 @@ fn ended_line(ended: &Ended) -> Line
 /// end, and answers its end.
 ///
 /// With `trace` each event has its line, else what is put alone. A program that hasn't ended within the
-/// steps is out of steps. After an error the sink has taken a part of the text from the front, and where a
-/// line couldn't be written no step was made after the one that shows it.
+/// steps is out of steps. After an error the sink has taken a part of the text from the front.
 pub fn interpret<O: Sink>(
     alloc: Global,
     program: &Checked,
@@ -79,18 +78,13 @@ pub fn interpret<O: Sink>(
     ensures faults { O.faults sink.old ≤ O.faults sink.new }
 {
     let mut lines = Lines::new(sink, trace);
-    let Ok(told) = run_program(alloc, program, arg, budget, &mut lines) else {
+    let Ok(end) = run_program(alloc, program, arg, budget, &mut lines) else {
         return Err(MeanErr::Memory);
     };
-    match told {
-        Told::Cut => Err(MeanErr::Write { taken: lines.taken }),
-        Told::Whole(end) => {
-            let ended = end.unwrap_or(Ended::OutOfSteps { steps: budget });
-            lines.put(ended_line(&ended).as_bytes());
-            match lines.outcome() {
-                Ok(()) => Ok(ended),
-                Err(fault) => Err(MeanErr::Write { taken: fault.taken }),
-            }
-        }
+    let ended = end.unwrap_or(Ended::OutOfSteps { steps: budget });
+    lines.put(ended_line(&ended).as_bytes());
+    match lines.outcome() {
+        Ok(()) => Ok(ended),
+        Err(fault) => Err(MeanErr::Write { taken: fault.taken }),
     }
 }

@@ -1,9 +1,8 @@
 //! Runs accepted programs as their meaning says, and writes what they show.
 //!
-//! `run` makes the machine's steps until a program has ended, or what takes its events has failed
-//! (`failing`); `interpret` writes the lines of what it shows and of its end.
+//! `run` makes the machine's steps until a program has ended; `interpret` writes the lines of what it
+//! shows and of its end.
 #![tactic(auto)]
 
-pub mod failing;
 pub mod interpret;
 pub mod run;

@@ -11,9 +11,8 @@ ghost use Rattle.source_plans.specs.Views as views;
 ghost use Rattle.source_steps.specs.Machines.{machine_of, state_of};
 ghost use Rattle.source_machine.specs.Runs as model_runs;
 ghost use Rattle.c_interpret.specs.Runs as runs;
-ghost use Rattle.c_interpret.specs.Runs.{Turned, Went, ShownPart, Tells, MeansPart};
+ghost use Rattle.c_interpret.specs.Runs.{Turned, Ran, ShownPart, Means, MeansPart};
 
-use crate::failing::Fallible;
 use c_checked::checked::Checked;
 use c_model::ended::Ended;
 use seh_io::receiver::Events;
@@ -62,32 +61,28 @@ fn turn<'p, V: Events>(
     }
 }
 
-/// Runs the machine until its run is over; the receiver takes what is shown. No step is made after one at
-/// whose event the receiver failed: the answer is then none.
-fn run<'p, V: Events + Fallible>(
+/// Runs the machine until its run is over; the receiver takes what is shown.
+fn run<'p, V: Events>(
     alloc: Global,
     program: &'p Checked,
     data_end: u64,
     machine: &mut Machine<'p>,
     first: Next<'p>,
     to: &mut V,
-) -> Result<Option<Finish>, AllocError>
-    requires end { data_end ≡ model_data_end program.now.globals.items }
-    requires going { V.failed to.old ≡ false }
-    ensures went { IfOk result (λ how. Went V.took V.failed (whole.program program.now)
-        (machine_of machine.old (views.next_of first.entry) []) how to.old machine.new to.new) }
+) -> Result<Finish, AllocError>
+    requires { data_end ≡ model_data_end program.now.globals.items }
+    ensures ran { IfOk result (λ how. Ran V.took (whole.program program.now)
+        (machine_of machine.old (views.next_of first.entry) [])
+        (views.finish_of how) to.old to.new) }
     ensures part { OnErr result (ShownPart V.took (whole.program program.now)
         (machine_of machine.old (views.next_of first.entry) []) to.old to.new) }
 {
     let mut next = first;
     loop {
         if let Some(how) = finish_of(&next) {
-            return Ok(Some(how));
+            return Ok(how);
         }
         next = turn(alloc, program, data_end, machine, next, to)?;
-        if to.has_failed() {
-            return Ok(None);
-        }
     }
 }
 
@@ -136,27 +131,16 @@ fn end_of(finish: Finish) -> Option<Ended>
     }
 }
 
-/// How much of a program's run its receiver was told.
-#[derive(Clone, Copy, Debug, PartialEq, Eq)]
-pub enum Told {
-    /// All within the steps, and the end, if it is within them.
-    Whole(Option<Ended>),
-    /// All up to an event at which the receiver failed.
-    Cut,
-}
-
-/// Runs a program within some steps; the receiver takes what it shows, and is given nothing after it has
-/// failed.
-pub fn run_program<V: Events + Fallible>(
+/// Runs a program within some steps; the receiver takes what it shows. No end is the end within them.
+pub fn run_program<V: Events>(
     alloc: Global,
     program: &Checked,
     arg: i64,
     budget: u64,
     to: &mut V,
-) -> Result<Told, AllocError>
-    requires { V.failed to.old ≡ false }
-    ensures tells { IfOk result (λ told. Tells V.took V.failed (meaning.meaning
-        (whole.program program.now) arg budget) told to.old to.new) }
+) -> Result<Option<Ended>, AllocError>
+    ensures means { IfOk result (λ end. Means V.took (meaning.meaning
+        (whole.program program.now) arg budget) end to.old to.new) }
     ensures part { OnErr result (MeansPart V.took (meaning.meaning
         (whole.program program.now) arg budget) to.old to.new) }
 {
@@ -169,8 +153,6 @@ pub fn run_program<V: Events + Fallible>(
     let mut machine = first_machine(alloc, program, budget)?;
     let first = Next::Call(Callee::Defined(program.main), arguments, place);
     let end = data_end(&program.globals);
-    match run(alloc, program, end, &mut machine, first, to)? {
-        None => Ok(Told::Cut),
-        Some(finish) => Ok(Told::Whole(end_of(finish))),
-    }
+    let finish = run(alloc, program, end, &mut machine, first, to)?;
+    Ok(end_of(finish))
 }

@@ -1,7 +1,7 @@
 use Rattle.std.proofs.Common.{◌≡◌, [], ap, ◌∙◌, false, w64}
 use Rattle.std.specs.Prelude.{slice_get}
 use Rattle.std.proofs.lemmas.Int.{to_z-of_z}
-use Rattle.c_interpret.specs.Runs.{beginning}
+use Rattle.source_machine.specs.Runs.{beginning}
 use Rattle.c_checked.specs.Whole as whole
 use Rattle.c_model.specs.Expressions.{no_exception}
 use Rattle.c_model.specs.Meaning.{does, main_arguments, ran}
