@@ -25,9 +25,9 @@ use Rattle.c_model.specs.Raises.{noncontinuable, raise_event}
 use Rattle.linear_code.specs.Program.{LinearProgram}
 use Rattle.linear_machine.specs.Frames.{Frame, Item, Waits}
 use Rattle.linear_machine.specs.Regions.{handlers}
-use Rattle.raw_stack.specs.Stack.{StackItem, Framed, Searching, Unwinding}
+use Rattle.raw_stack.specs.Stack.{StackItem, Framed, Leaf, Searching, Unwinding}
 use Rattle.linked_stack.specs.ImagePlan.{Plan}
-use Rattle.linked_stack.specs.Linked.{Activation, Onward, Linked}
+use Rattle.linked_stack.specs.Linked.{Activation, HasSpace, below_end, record_room, Onward, Linked}
 use Rattle.linked_stack.proofs.Keeping.{misplaced_same}
 use Rattle.stack_records.specs.Records.{On, HasRoom}
 use Rattle.stack_records.proofs.Items.{record_leaves_the_list}
@@ -38,6 +38,10 @@ use Rattle.dispatch_turns.specs.Steps.{placed_in, AsksHost, IsException, RaiseSe
 
 -- ---- records
 
+-- a record is placed near the stack pointer
+place_near : (sp : ℕ) → 1583 ≤ sp → sp < 2 ^ 64 → sp ≤ place_below sp + 1600
+place_near sp l h = let e : (sp + (2 ^ 64 - 1568)) % 2 ^ 64 ≡ sp - 1568 = omega arith in omega arith
+
 place_low : (sp : ℕ) → 1583 ≤ sp → sp < 2 ^ 64 → place_below sp + 1568 ≤ sp
 place_low sp l h = let e : (sp + (2 ^ 64 - 1568)) % 2 ^ 64 ≡ sp - 1568 = omega arith in omega arith
 
@@ -45,7 +49,7 @@ misplaced_placed : (m : Memory) (at : ℕ) (r : DispatchRecord) → misplaced (p
 unfolding placed
 misplaced_placed m at r = misplaced_same m (placed m at r).byte at
 
-none_small : 0 < 2 ^ 64
+pub none_small : 0 < 2 ^ 64
 none_small = omega arith
 
 zeros_small : (n j : ℕ) → slice_index (replicate n 0) j < 2 ^ 64
@@ -151,13 +155,28 @@ fits_again r f = record {
 placed_room : (m : Memory) (at : ℕ) (r : DispatchRecord) (above : ℕ) → HasRoom m at r above → HasRoom (placed m at r) at r above
 placed_room m at r above room = record { fits = room.fits; below = room.below; small = room.small; room = misplaced_placed m at r ∙ room.room }
 
+with_record_below : (sp at depth : ℕ) → HasSpace sp below_end depth → sp ≤ at + record_room → HasSpace at (below_end + record_room) depth
+with_record_below sp at depth h near = record { space = (let s = h.space in omega arith); shallow = h.shallow }
+
 module _ (t : Functions) (fs : List Funclet) (program : LinearProgram) (p : Plan) where
   -- from the innermost frame on
   onward_here : (m : Memory) (c : Context) (is : List StackItem) (b : Frame) (below : List Item) (acts : List Activation) → Linked t fs program p m c is (Waits b ∷ below) acts → Onward t fs program p c 0 (handlers program (Waits b ∷ below) None) c is (Waits b ∷ below)
   onward_here m c [] b below acts h = absurd h
   onward_here m c (Framed f ∷ is) b below acts h = inl (record { same = refl; meets = refl })
+  onward_here m c (Leaf back ∷ is) b below acts h = inl (record { same = refl; meets = refl })
   onward_here m c (Searching r ∷ is) b below acts h = absurd h
   onward_here m c (Unwinding r ∷ is) b below acts h = absurd h
+
+  -- the space of the innermost body, with a record below it
+  space_here : (m : Memory) (c : Context) (is : List StackItem) (b : Frame) (below : List Item) (acts : List Activation) (at : ℕ) → Linked t fs program p m c is (Waits b ∷ below) acts → rsp c ≤ at + record_room → HasSpace at (below_end + record_room) (length acts + b.held)
+  space_here m c [] b below acts at h near = absurd h
+  space_here m c (Framed f ∷ is) b below acts at h near = with_record_below (rsp c) at (length acts + b.held) h.0.waits.space near
+  space_here m c (Leaf back ∷ is) b below acts at h near = with_record_below (rsp c) at (length acts + b.held) h.0.waits.space near
+  space_here m c (Searching r ∷ is) b below acts at h near = absurd h
+  space_here m c (Unwinding r ∷ is) b below acts at h near = absurd h
+
+  near_of : (s : State) (saved : Cpu) (is : List StackItem) (items : List Item) (acts : List Activation) → AsksHost t fs program p s saved is items acts → rsp (context_of saved) ≤ place_of saved + record_room
+  near_of s saved is items acts a = let n = a.sane_saved.count in place_near (rsp (context_of saved)) a.low (a.sane_saved.small 4 (omega arith))
 
   room_of : (s : State) (saved : Cpu) (is : List StackItem) (items : List Item) (acts : List Activation) (r : DispatchRecord) → AsksHost t fs program p s saved is items acts → Fits r → HasRoom s.memory (place_of saved) r (rsp (context_of saved))
   room_of s saved is items acts r a fits =
@@ -189,11 +208,12 @@ raise_searches t fs program p s code flags access saved is acts exception c a e 
         room = placed_room s.memory at r (rsp (context_of saved)) room;
         carries = record { code = e.same_code; flag = flag_is flags exception.flag e.one_flag e.same_flag; count = ap count e.same_access; parameters = ap parameters e.same_access };
         onward = onward_here t fs program p s.memory (context_of saved) is c.frame c.below acts a.on.stands.linked;
+        near = near_of t fs program p s saved is (Waits c.frame ∷ c.below) acts a;
       };
     }
 
 pub local_unwind_unwinds : LocalUnwindUnwinds
-local_unwind_unwinds t fs program p s frame address saved is acts depth label held f below source shown a frame_small address_small aimed =
+local_unwind_unwinds t fs program p s frame address saved is acts depth label f below source shown a frame_small address_small aimed =
     let at = place_of saved in
     let r : DispatchRecord = to_target saved frame address in
     let fits : Fits r = fits_targeted (new_record LocalUnwind (record { 0 = 0 }) 0 None saved) frame address (fits_new s LocalUnwind (record { 0 = 0 }) 0 None saved a.sane_saved (let e : 0 < 2 ^ 32 = omega arith in e) (let e : 0 < 2 = omega arith in e) (λ j l. zeros_small 15 j)) frame_small address_small in
@@ -209,6 +229,7 @@ local_unwind_unwinds t fs program p s frame address saved is acts depth label he
         room = placed_room s.memory at r (rsp (context_of saved)) room;
         at_row = at_first_row t fs program p (Waits f ∷ below);
         aimed = aimed;
+        space = space_here t fs program p s.memory (context_of saved) is f below acts at a.on.stands.linked (near_of t fs program p s saved is (Waits f ∷ below) acts a);
       };
     }
 
@@ -228,6 +249,7 @@ acceptance_unwinds t fs program p s at r frame address is acts exception found h
         room = placed_room s.memory at new above room;
         at_row = at_first_row t fs program p (Waits c.frame ∷ c.below);
         aimed = aimed;
+        space = space_here t fs program p s.memory (context_of r.saved) is c.frame c.below acts at a.on.stands.linked a.near;
       };
     }
 
@@ -243,7 +265,7 @@ answers_go_on t fs program p s r is acts exception resumption asked rest c h =
     let new : DispatchRecord = again r in
     let new_room : HasRoom s.memory at new above = record { fits = fits_again r waits.own.fits; below = stands.above; small = stands.small; room = waits.own.room } in
     record {
-      next = record { gives = h.gives; sane = h.sane; on = outer; kind = kind; room = room; carries = waits.carries; onward = waits.onward };
+      next = record { gives = h.gives; sane = h.sane; on = outer; kind = kind; room = room; carries = waits.carries; onward = waits.onward; near = waits.near };
       address = waits.address;
       takes_over =
           ap (jumping t s at r) waits.before.before
@@ -261,6 +283,7 @@ answers_go_on t fs program p s r is acts exception resumption asked rest c h =
         room = placed_room s.memory at new above new_room;
         carries = record { code = refl; flag = refl; count = refl; parameters = refl };
         onward = onward_here t fs program p s.memory (context_of r.saved) is c.frame c.below acts h.on.stands.linked.1;
+        near = waits.near;
       };
     }
 
@@ -277,4 +300,5 @@ finally_returns_unwind t fs program p s r is acts rest target items source shown
       room = record { fits = waits.own.fits; below = stands.above; small = stands.small; room = waits.own.room };
       at_row = waits.row;
       aimed = waits.aimed;
+      space = waits.space;
     }

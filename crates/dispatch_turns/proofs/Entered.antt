@@ -18,13 +18,12 @@ use Rattle.seh_records.specs.Laws.{Fits, AllSmall}
 use Rattle.host_model.specs.declared.funclet.Funclet.{Funclet}
 use Rattle.host_model.specs.Dispatch.{entered, in_hand}
 use Rattle.linear_code.specs.Program.{LinearProgram}
-use Rattle.linear_machine.specs.Frames.{BodyName, Item, Waits, Searches, Unwinds}
-use Rattle.raw_stack.specs.Stack.{StackItem, Framed, Searching, Unwinding, IsStack, after_frame}
+use Rattle.linear_machine.specs.Frames.{BodyName, Item}
+use Rattle.raw_stack.specs.Stack.{StackItem, Framed, Leaf, Searching, Unwinding, IsStack, after_frame, after_leaf}
 use Rattle.raw_stack.specs.Laws.{context_below}
 use Rattle.raw_stack.proofs.Visiting.{set_head}
-use Rattle.raw_stack.proofs.Keeping.{rises}
 use Rattle.linked_stack.specs.ImagePlan.{Plan, IsFunclet}
-use Rattle.linked_stack.specs.Linked.{Activation, activations_below, Reaches, Linked}
+use Rattle.linked_stack.specs.Linked.{Activation, Reaches}
 use Rattle.linked_stack.proofs.Keeping.{reaches_above}
 use Rattle.stack_records.specs.Records.{IsData, On, HasRoom, laid}
 use Rattle.stack_records.proofs.Laying.{IsPlace, place_of, bytes, laid_is, keeps_above, word_laid}
@@ -111,27 +110,16 @@ few_items t m c (Framed f ∷ is) s lt =
     let room = s.0.room in
     let e = few_items t m (after_frame c f) is s.1 (omega arith) in
     omega arith
+few_items t m c (Leaf back ∷ is) s lt =
+    let k = s.0.kept in
+    let up : rsp (after_leaf c back) ≡ rsp c + 8 = set_head c.kept (rsp c + 8) (omega arith) in
+    let room = s.0.room in
+    let e = few_items t m (after_leaf c back) is s.1 (omega arith) in
+    omega arith
 few_items t m c (Searching r ∷ is) s lt = let a = s.0.above in let b = s.0.small in let e = few_items t m (context_of r.saved) is s.1 b in omega arith
 few_items t m c (Unwinding r ∷ is) s lt = let a = s.0.above in let b = s.0.small in let e = few_items t m r.walk is s.1 b in omega arith
 
 module _ (t : Functions) (fs : List Funclet) (program : LinearProgram) (p : Plan) where
-  -- the list stands in the stack
-  pub in_stack : (m : Memory) (c : Context) (is : List StackItem) (items : List Item) (acts : List Activation) → IsStack t m c is → Linked t fs program p m c is items acts → rsp c ≤ 0x70800000
-  in_stack m c [] [] acts s h = h.1
-  in_stack m c (Framed f ∷ is) (Waits b ∷ below) acts s h = let e = rises t m c (Framed f) s.0 in let l = in_stack m (after_frame c f) is below (activations_below b.body acts) s.1 h.2 in omega arith
-  in_stack m c (Searching r ∷ is) (Searches exception resumption asked rest ∷ below) acts s h = let e = rises t m c (Searching r) s.0 in let l = in_stack m (context_of r.saved) is below acts s.1 h.1 in omega arith
-  in_stack m c (Unwinding r ∷ is) (Unwinds rest target ∷ below) acts s h = let e = rises t m c (Unwinding r) s.0 in let l = in_stack m r.walk is below acts s.1 h.1 in omega arith
-  in_stack m c [] (j ∷ items) acts s h = absurd h
-  in_stack m c (Framed f ∷ is) [] acts s h = absurd h
-  in_stack m c (Framed f ∷ is) (Searches exception resumption asked rest ∷ below) acts s h = absurd h
-  in_stack m c (Framed f ∷ is) (Unwinds rest target ∷ below) acts s h = absurd h
-  in_stack m c (Searching r ∷ is) [] acts s h = absurd h
-  in_stack m c (Searching r ∷ is) (Waits b ∷ below) acts s h = absurd h
-  in_stack m c (Searching r ∷ is) (Unwinds rest target ∷ below) acts s h = absurd h
-  in_stack m c (Unwinding r ∷ is) [] acts s h = absurd h
-  in_stack m c (Unwinding r ∷ is) (Waits b ∷ below) acts s h = absurd h
-  in_stack m c (Unwinding r ∷ is) (Searches exception resumption asked rest ∷ below) acts s h = absurd h
-
   abbrev pub with_record : State → ℕ → DispatchRecord → State
   with_record s at r = record { cpu = s.cpu; memory = placed s.memory at r }
 

@@ -86,11 +86,14 @@ module _ (t : Functions) (fs : List Funclet) (program : LinearProgram) (p : Plan
       ∙ ap (λ x. with_answer s (by_sign t s at r x)) f
       ∙ ap (λ x. with_answer s (continued t s at r x)) (h.on.stands.linked.0.carries.flag ∙ ap not g)
 
-  is_continued : nat_eq v 0 ≡ false → nat_le (2 ^ 31) v ≡ true → exception.flag ≡ false → IsContinued t program s r exception resumption asked rest c
+  is_continued : nat_eq v 0 ≡ false → nat_le (2 ^ 31) v ≡ true → exception.flag ≡ false → IsContinued t fs program p s r is acts exception resumption asked rest c
   unfolding pick
   is_continued e f g = record {
     turns = below_zero e f false g;
     goes = λ next. linear false false false e (le-ltb v (2 ^ 31) (leb-true (2 ^ 31) v f)) g next;
+    on = record { stands = record { stack = h.on.stands.stack.1; linked = h.on.stands.linked.1 }; data_alone = h.on.data_alone };
+    sane = record { rip_small = h.on.stands.linked.0.own.fits.rip; count = h.on.stands.linked.0.own.fits.registers; small = h.on.stands.linked.0.own.fits.registers_small };
+    resumes = h.on.stands.linked.0.resumes;
   }
 
   is_raised_anew : nat_eq v 0 ≡ false → nat_le (2 ^ 31) v ≡ true → exception.flag ≡ true → IsRaisedAnew t program s r exception resumption asked rest c
@@ -104,7 +107,7 @@ module _ (t : Functions) (fs : List Funclet) (program : LinearProgram) (p : Plan
   Outcome =
       AsksTheNext t program s r exception resumption asked rest c
       ⊎ (AskedTakesOver t fs program p s r is exception resumption asked rest c
-      ⊎ (IsContinued t program s r exception resumption asked rest c
+      ⊎ (IsContinued t fs program p s r is acts exception resumption asked rest c
       ⊎ IsRaisedAnew t program s r exception resumption asked rest c))
 
   by_flag : nat_eq v 0 ≡ false → nat_le (2 ^ 31) v ≡ true → (d : Bool) → exception.flag ≡ d → Outcome

@@ -1,12 +1,15 @@
 -- A turn that searches does what linear code's search does.
-use Rattle.std.proofs.Common.{◌≡◌, ◌⊎◌, inl, inr, ℕ, ◌+◌, ◌%◌, ◌^◌, true, Option, Some, None, List, [], ◌∷◌, refl, ap, ◌∙◌, arith}
+use Rattle.std.proofs.Common.{◌≡◌, ◌⊎◌, inl, inr, ℕ, ◌+◌, ◌%◌, ◌^◌, ◌<◌, ◌≤◌, true, Option, Some, None, List, [], ◌∷◌, refl, sym, ap, ◌∙◌, arith}
 use Rattle.seh_num.specs.declared.event.Code.{Code}
 use Rattle.seh_num.specs.declared.end.RunEnd.TheVariants as ends
+use Rattle.x64_instr.specs.declared.register.Reg.TheVariants.{Rcx, Rsp}
+use Rattle.x64_machine.specs.declared.cpu.Cpu.{Cpu}
 use Rattle.x64_machine.specs.Contexts.{context_of}
-use Rattle.x64_machine.specs.Effect.{State}
+use Rattle.x64_machine.specs.Effect.{State, register}
 use Rattle.virtual_unwind.specs.Contexts.{rsp}
 use Rattle.virtual_unwind.specs.CallerOf.{Functions}
 use Rattle.seh_records.specs.declared.dispatch.DispatchRecord.{DispatchRecord}
+use Rattle.seh_records.specs.Record.{return_address_at}
 use Rattle.seh_records.specs.Laws.{Fits}
 use Rattle.seh_walk.specs.Walk.{is_search, filter_return, walk_in, steps}
 use Rattle.seh_search.specs.declared.search_result.SearchResult.{SearchResult}
@@ -22,23 +25,40 @@ use Rattle.linear_machine.specs.Searching.{consult}
 use Rattle.raw_stack.specs.Stack.{StackItem, Searching}
 use Rattle.linked_stack.specs.ImagePlan.{Plan}
 use Rattle.linked_stack.specs.Linked.{Activation}
+use Rattle.linked_stack.proofs.Ends.{in_stack}
 use Rattle.stack_records.specs.Records.{HasRoom}
-use Rattle.stack_records.proofs.Laying.{laid_record_leaves_others}
+use Rattle.stack_records.proofs.Laying.{IsPlace, place_of, laid_record_leaves_others}
 use Rattle.stack_records.proofs.Items.{search_is_one_more}
 use Rattle.stack_searches.specs.Searching.{Asks, Accepts, Meets, SearchedAs}
 use Rattle.stack_searches.proofs.Contexts.{wide_saved}
 use Rattle.stack_searches.proofs.Searched.{search_goes_on}
+use Rattle.dispatch_turns.specs.States.{IsSane}
 use Rattle.dispatch_turns.specs.Searches.{FilterBegins, TakesOver, NobodyTakesOver}
 use Rattle.dispatch_turns.specs.Laws.{IsSearching, SearchTurns}
-use Rattle.dispatch_turns.proofs.Entered.{with_record, fits_in_hand, few_items, in_stack, arrives}
+use Rattle.dispatch_turns.proofs.Entered.{with_record, fits_in_hand, few_items, entered_stack, entered_first, arrives}
 
 module _ (t : Functions) (fs : List Funclet) (program : LinearProgram) (p : Plan) (s : State) (at : ℕ) (r : DispatchRecord) (is : List StackItem) (acts : List Activation)
-    (exception : Exception) (resumption : Resumption) (found : List Handler) (c : Configuration) (h : IsSearching t fs program p s at r is acts exception found c) where
+    (exception : Exception) (resumption : Resumption) (found : List Handler) (c : Configuration) (h : IsSearching t fs program p s at r is acts exception found c) (resumes : p.resumes resumption c.frame r.saved ≡ true) where
   abbrev items : List Item
   items = Waits c.frame ∷ c.below
 
   abbrev turn_of : SearchResult → Turn
   turn_of x = arrived t fs (after_search t s at r x)
+
+  -- RCX is the address of the EXCEPTION_POINTERS in the record above the filter's return address
+  pointers_above : (hand : DispatchRecord) → HasRoom s.memory at hand (rsp (context_of r.saved)) → (frame k : ℕ) → p.funclet k < 2 ^ 64 → frame < 2 ^ 64
+      → let cpu : Cpu = (entered (with_record t fs program p s at hand) at filter_return (p.funclet k) ((at + 80) % 2 ^ 64) frame).cpu in register cpu Rcx ≡ register cpu Rsp + 88
+  pointers_above hand room frame k handler_small frame_small =
+      let old : State = with_record t fs program p s at hand in
+      let sane : IsSane old = record { rip_small = h.sane.rip_small; count = h.sane.count; small = h.sane.small } in
+      let b = room.below in
+      let small = room.small in
+      let place : IsPlace at = place_of s.memory at (omega arith) room.room in
+      let l : 0x70000008 ≤ at = place.low in
+      let first = entered_first old at filter_return (p.funclet k) ((at + 80) % 2 ^ 64) frame sane handler_small (omega arith) frame_small in
+      let sp = entered_stack old at filter_return (p.funclet k) ((at + 80) % 2 ^ 64) frame sane handler_small (omega arith) frame_small in
+      let e : (at + 80) % 2 ^ 64 ≡ return_address_at at + 88 = omega arith in
+      first ∙ e ∙ ap (λ x. x + 88) (sym sp)
 
   -- a filter is asked
   filter_begins : (x : SearchResult) (k : ℕ) (f : Handler) (rest : List Handler) → f.filter ≡ Some k → Asks t fs program p s.memory acts (context_of r.saved) is items x k f rest
@@ -68,11 +88,14 @@ module _ (t : Functions) (fs : List Funclet) (program : LinearProgram) (p : Plan
             (record {
               own = record { fits = hand_fits; room = h.room.room };
               carries = record { code = h.carries.code; flag = h.carries.flag; count = h.carries.count; parameters = h.carries.parameters };
+              resumes = resumes;
               onward = a.onward;
               address = a.address;
               aimed = a.aimed;
               before = a.before;
+              near = h.near;
             }));
+        pointers = pointers_above hand room a.frame k a.funclet.small frame_small;
         untouched = laid_record_leaves_others s.memory at hand filter_return above h.on.data_alone room (in_stack t fs program p s.memory (context_of r.saved) is items acts h.on.stands.stack h.on.stands.linked) (omega arith);
       }
 
@@ -85,6 +108,8 @@ module _ (t : Functions) (fs : List Funclet) (program : LinearProgram) (p : Plan
         address = a.address;
         turns = ap turn_of a.answer;
         goes = λ next. ap (λ (o : Option ℕ). consult program o f rest exception resumption next c) e;
+        frame_small = a.frame_small;
+        address_small = a.address_small;
         aimed = a.aimed;
       }
 
@@ -115,4 +140,4 @@ module _ (t : Functions) (fs : List Funclet) (program : LinearProgram) (p : Plan
       (record { gives = h.gives; stack = h.on.stands.stack; linked = h.on.stands.linked; wide = wide_saved r h.room.fits }) h.onward (omega arith))
 
 pub search_turns : SearchTurns
-search_turns t fs program p s at r is acts exception resumption found c h = searched t fs program p s at r is acts exception resumption found c h
+search_turns t fs program p s at r is acts exception resumption found c h resumes = searched t fs program p s at r is acts exception resumption found c h resumes

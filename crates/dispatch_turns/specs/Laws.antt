@@ -1,5 +1,5 @@
 -- What holds of every turn that searches or unwinds.
-use Rattle.std.specs.Prelude.{◌≡◌, ◌⊎◌, ℕ, false, List, ◌∷◌}
+use Rattle.std.specs.Prelude.{◌≡◌, ◌⊎◌, ℕ, ◌+◌, ◌≤◌, true, false, List, ◌∷◌, length}
 use Rattle.x64_machine.specs.Contexts.{context_of}
 use Rattle.x64_machine.specs.Effect.{State}
 use Rattle.virtual_unwind.specs.Contexts.{rsp}
@@ -15,7 +15,7 @@ use Rattle.linear_code.specs.Program.{LinearProgram}
 use Rattle.linear_machine.specs.Frames.{Handler, Resumption, Waits, Configuration}
 use Rattle.raw_stack.specs.Stack.{StackItem}
 use Rattle.linked_stack.specs.ImagePlan.{Plan, Gives}
-use Rattle.linked_stack.specs.Linked.{Activation, IsAtRow, Onward, Aimed, HasException, HasPurpose}
+use Rattle.linked_stack.specs.Linked.{Activation, HasSpace, below_end, record_room, IsAtRow, Onward, Aimed, HasException, HasPurpose}
 use Rattle.stack_records.specs.Records.{On, HasRoom}
 use Rattle.dispatch_turns.specs.States.{IsSane}
 use Rattle.dispatch_turns.specs.Searches.{FilterBegins, TakesOver, NobodyTakesOver}
@@ -30,12 +30,14 @@ pub record IsSearching (t : Functions) (fs : List Funclet) (program : LinearProg
   pub room : HasRoom s.memory at r (rsp (context_of r.saved))
   pub carries : HasException t fs program p r exception
   pub onward : Onward t fs program p r.walk r.row found (context_of r.saved) is (Waits c.frame ∷ c.below)
+  pub near : rsp (context_of r.saved) ≤ at + record_room
 
+-- where the exception is continued, the body goes on from the saved state
 abbrev pub SearchTurns : Type 0
 SearchTurns =
     (t : Functions) (fs : List Funclet) (program : LinearProgram) (p : Plan) (s : State) (at : ℕ) (r : DispatchRecord) (is : List StackItem) (acts : List Activation)
     (exception : Exception) (resumption : Resumption) (found : List Handler) (c : Configuration)
-    → IsSearching t fs program p s at r is acts exception found c
+    → IsSearching t fs program p s at r is acts exception found c → p.resumes resumption c.frame r.saved ≡ true
     → FilterBegins t fs program p s at (arrived t fs (searches_on t s at r)) found exception resumption acts c
     ⊎ (TakesOver t fs program p s at r (arrived t fs (searches_on t s at r)) found exception resumption (context_of r.saved) is c
     ⊎ NobodyTakesOver t fs program p (arrived t fs (searches_on t s at r)) found exception resumption c)
@@ -50,6 +52,7 @@ pub record IsUnwinding (t : Functions) (fs : List Funclet) (program : LinearProg
   pub room : HasRoom s.memory at r (rsp r.walk)
   pub at_row : IsAtRow t fs program p r.row w.items w.left
   pub aimed : Aimed t fs program p w.target.depth w.target.label r.target_frame r.target r.walk is w.items
+  pub space : HasSpace at (below_end + record_room) (length w.acts + w.target.held)
 
 abbrev pub UnwindTurns : Type 0
 UnwindTurns =

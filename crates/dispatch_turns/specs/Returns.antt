@@ -1,5 +1,5 @@
 -- The host's turn at the return address of a filter, against the end of the filter in linear code.
-use Rattle.std.specs.Prelude.{◌≡◌, ◌⊎◌, ℕ, ◌^◌, ◌<◌, List, [], ◌∷◌, ◌++◌}
+use Rattle.std.specs.Prelude.{◌≡◌, ◌⊎◌, ℕ, ◌^◌, ◌<◌, true, List, [], ◌∷◌, ◌++◌}
 use Rattle.seh_num.specs.declared.width.Width.TheVariants.{W32}
 use Rattle.seh_num.specs.declared.event.Event.TheVariants as events
 use Rattle.seh_num.specs.Widths.{signed}
@@ -21,6 +21,8 @@ use Rattle.linear_machine.specs.Searching.{search, accept, raise, resumed, answe
 use Rattle.raw_stack.specs.Stack.{StackItem}
 use Rattle.linked_stack.specs.ImagePlan.{Plan}
 use Rattle.linked_stack.specs.Linked.{Activation, Aimed}
+use Rattle.stack_records.specs.Records.{On}
+use Rattle.dispatch_turns.specs.States.{IsSane}
 use Rattle.dispatch_turns.specs.Steps.{SearchIsAnswered}
 
 -- the record stands at RSP
@@ -52,10 +54,13 @@ pub record AskedTakesOver (t : Functions) (fs : List Funclet) (program : LinearP
   pub address_small : address < 2 ^ 64
   pub aimed : Aimed t fs program p asked.depth asked.target r.frame address (context_of r.saved) is (Waits c.frame ∷ c.below)
 
--- below 0: the exception is continued, in the saved state
-pub record IsContinued (t : Functions) (program : LinearProgram) (s : State) (r : DispatchRecord) (exception : Exception) (resumption : Resumption) (asked : Handler) (rest : List Handler) (c : Configuration) : Type 0 where
+-- below 0: the exception is continued, in the saved state, in which the body stands that raised it
+pub record IsContinued (t : Functions) (fs : List Funclet) (program : LinearProgram) (p : Plan) (s : State) (r : DispatchRecord) (is : List StackItem) (acts : List Activation) (exception : Exception) (resumption : Resumption) (asked : Handler) (rest : List Handler) (c : Configuration) : Type 0 where
   pub turns : filter_turn t s ≡ with_answer s (Continues (restored s r) [])
   pub goes : (next : Next) → linear_answer program s exception resumption asked rest c next ≡ next (resumed resumption (answered s c))
+  pub on : On t fs program p s.memory (context_of r.saved) is (Waits c.frame ∷ c.below) acts
+  pub sane : IsSane (restored s r)
+  pub resumes : p.resumes resumption c.frame r.saved ≡ true
 
 -- or C0000025 is raised, where it is noncontinuable
 pub record IsRaisedAnew (t : Functions) (program : LinearProgram) (s : State) (r : DispatchRecord) (exception : Exception) (resumption : Resumption) (asked : Handler) (rest : List Handler) (c : Configuration) : Type 0 where
@@ -68,5 +73,5 @@ FilterReturns =
     → SearchIsAnswered t fs program p s r is acts exception resumption asked rest c
     → AsksTheNext t program s r exception resumption asked rest c
     ⊎ (AskedTakesOver t fs program p s r is exception resumption asked rest c
-    ⊎ (IsContinued t program s r exception resumption asked rest c
+    ⊎ (IsContinued t fs program p s r is acts exception resumption asked rest c
     ⊎ IsRaisedAnew t program s r exception resumption asked rest c))

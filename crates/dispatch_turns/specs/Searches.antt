@@ -1,9 +1,10 @@
 -- What a turn that searches comes to, against the search of linear code.
-use Rattle.std.specs.Prelude.{◌≡◌, ℕ, ◌+◌, ◌%◌, ◌^◌, List, [], ◌∷◌}
+use Rattle.std.specs.Prelude.{◌≡◌, ℕ, ◌+◌, ◌%◌, ◌^◌, ◌<◌, List, [], ◌∷◌}
 use Rattle.seh_num.specs.declared.event.Event.TheVariants as events
 use Rattle.seh_num.specs.declared.end.RunEnd.TheVariants as ends
+use Rattle.x64_instr.specs.declared.register.Reg.TheVariants.{Rcx, Rsp}
 use Rattle.x64_machine.specs.declared.context.Context.{Context}
-use Rattle.x64_machine.specs.Effect.{State}
+use Rattle.x64_machine.specs.Effect.{State, register}
 use Rattle.virtual_unwind.specs.CallerOf.{Functions}
 use Rattle.seh_records.specs.declared.dispatch.DispatchRecord.{DispatchRecord}
 use Rattle.host_model.specs.declared.funclet.Funclet.{Funclet}
@@ -23,7 +24,7 @@ use Rattle.stack_records.specs.Records.{IsUntouched}
 use Rattle.dispatch_turns.specs.States.{Arrives}
 
 module _ (t : Functions) (fs : List Funclet) (program : LinearProgram) (p : Plan) where
-  -- the filter of the first handler begins, unless linear code is too deep
+  -- the filter of the first handler begins, unless linear code is too deep; its EXCEPTION_POINTERS stand in the record above its return address
   pub record FilterBegins (s : State) (at : ℕ) (turn : Turn) (found : List Handler) (exception : Exception) (resumption : Resumption) (acts : List Activation) (c : Configuration) : Type 0 where
     pub filter : ℕ
     pub handler : Handler
@@ -32,6 +33,7 @@ module _ (t : Functions) (fs : List Funclet) (program : LinearProgram) (p : Plan
     pub turns : turn ≡ Continues state (events.Filter (filter + 1) ∷ [])
     pub goes : (next : Next) → linear.search program next found exception resumption c ≡ deeper 2 c.frame.held c.store c.events (next (begin_filter filter handler rest exception resumption c))
     pub arrives : Arrives t fs program p state filter handler.activation ((at + 80) % 2 ^ 64) (Searches exception resumption handler rest ∷ Waits c.frame ∷ c.below) acts
+    pub pointers : register state.cpu Rcx ≡ register state.cpu Rsp + 88
     pub untouched : IsUntouched s.memory state.memory
 
   -- the first handler takes over at once, in a frame of the list
@@ -41,6 +43,8 @@ module _ (t : Functions) (fs : List Funclet) (program : LinearProgram) (p : Plan
     pub address : ℕ
     pub turns : turn ≡ arrived t fs (accepted t s at r frame address)
     pub goes : (next : Next) → linear.search program next found exception resumption c ≡ accept program handler exception next c
+    pub frame_small : frame < 2 ^ 64
+    pub address_small : address < 2 ^ 64
     pub aimed : Aimed t fs program p handler.depth handler.target frame address above is (Waits c.frame ∷ c.below)
 
   -- nobody takes over

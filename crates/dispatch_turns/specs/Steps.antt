@@ -80,9 +80,9 @@ pub record UnwindsLocallyAs (t : Functions) (fs : List Funclet) (program : Linea
 -- to a label of a body of the list
 abbrev pub LocalUnwindUnwinds : Type 0
 LocalUnwindUnwinds =
-    (t : Functions) (fs : List Funclet) (program : LinearProgram) (p : Plan) (s : State) (frame address : ℕ) (saved : Cpu) (is : List StackItem) (acts : List Activation) (depth label held : ℕ) (f : Frame) (below : List Item) (source : Memory) (shown : List Event)
+    (t : Functions) (fs : List Funclet) (program : LinearProgram) (p : Plan) (s : State) (frame address : ℕ) (saved : Cpu) (is : List StackItem) (acts : List Activation) (depth label : ℕ) (f : Frame) (below : List Item) (source : Memory) (shown : List Event)
     → AsksHost t fs program p s saved is (Waits f ∷ below) acts → frame < 2 ^ 64 → address < 2 ^ 64 → Aimed t fs program p depth label frame address (context_of saved) is (Waits f ∷ below)
-    → UnwindsLocallyAs t fs program p s frame address saved is (from_body (record { depth = depth; label = label; code = None; held = held }) f below acts source shown)
+    → UnwindsLocallyAs t fs program p s frame address saved is (from_body (record { depth = depth; label = label; code = None; held = f.held }) f below acts source shown)
 
 -- ---- suspended searches
 

@@ -1,59 +1,43 @@
--- The list outlives stores below the stack pointer.
-use Rattle.std.proofs.Common.{◌≡◌, ◌⊎◌, inl, inr, ℕ, ◌+◌, ◌*◌, ◌^◌, ◌<◌, ◌≤◌, true, Ok, List, [], ◌∷◌, length, refl, ◌∙◌, arith}
-use Rattle.std.proofs.lemmas.Bool.{cases_lt}
-use Rattle.flat_memory.specs.Memory.{Memory, with_bytes}
-use Rattle.x64_machine.specs.declared.context.Context.{Context}
-use Rattle.x64_machine.specs.Contexts.{context_of}
+-- The list outlives stores below the stack pointer, and all that leaves the stack from there up as it is.
+use Rattle.std.proofs.Common.{◌≡◌, ℕ, ◌+◌, ◌%◌, ◌^◌, ◌<◌, ◌≤◌, Bool, true, false, cond, Option, Some, Ok, List, refl, sym, ap, ◌∙◌, arith}
+use Rattle.std.specs.Prelude.{nat_lt}
+use Rattle.std.proofs.lemmas.Bool.{ltb-false}
+use Rattle.flat_memory.specs.declared.protection.Protection.{Protection}
+use Rattle.flat_memory.specs.Protections.{is_readable, is_writable}
+use Rattle.flat_memory.specs.Memory.{Memory, with_bytes, first_refused, may_read, may_write}
 use Rattle.virtual_unwind.specs.Contexts.{rsp}
 use Rattle.virtual_unwind.specs.Undone.{word}
 use Rattle.virtual_unwind.specs.CallerOf.{Functions}
-use Rattle.seh_records.specs.Record.{misplaced}
+use Rattle.seh_records.specs.Record.{misplaced, return_address_at}
+use Rattle.seh_records.proofs.Unmoved.{fetched_by_its_bytes}
 use Rattle.host_model.specs.declared.funclet.Funclet.{Funclet}
-use Rattle.template_code.specs.declared.layout.Layout.{Layout}
 use Rattle.linear_code.specs.Program.{LinearProgram}
-use Rattle.linear_machine.specs.Frames.{BodyName, FunctionBody, FuncletBody, Item, Waits, Searches, Unwinds}
-use Rattle.raw_stack.specs.Stack.{StackItem, Framed, Searching, Unwinding, IsStack, Owned, after_frame}
-use Rattle.raw_stack.proofs.Unchanged.{word_same}
-use Rattle.raw_stack.proofs.Keeping.{rises, kept_by_other_stores, nothing_below_is_owned}
+use Rattle.linear_machine.specs.Frames.{BodyName, FunctionBody, FuncletBody}
+use Rattle.raw_stack.proofs.Unchanged.{SameCode, tail_at_same, refused_same, word_kept, word_same}
 use Rattle.linked_stack.specs.ImagePlan.{Plan}
-use Rattle.linked_stack.specs.Linked.{Activation, activations_below, HoldsWords, HasActivation, Leads, Reaches, Linked}
-use Rattle.linked_stack.specs.Laws.{KeepsAbove, Stands, KeptByStoresBelow}
+use Rattle.linked_stack.specs.Linked.{Activation, Leads, Reaches}
+use Rattle.linked_stack.specs.Laws.{KeepsAbove, KeptByStoresBelow, KeepsStack, KeptByOtherMemories}
+use Rattle.linked_stack.proofs.Kept.{ReadsSame, list_kept}
 
-higher : (m : Memory) (byte : ℕ → ℕ) (low high : ℕ) → low ≤ high → KeepsAbove m byte low → KeepsAbove m byte high
-higher m byte low high le a = record { above = λ x p. a.above x (omega arith); code = a.code }
+-- ---- stores below the stack pointer
 
 pub word_above : (m : Memory) (byte : ℕ → ℕ) (low at v : ℕ) → KeepsAbove m byte low → low ≤ at → at + 8 < 2 ^ 64 → word m at ≡ Ok v → word (with_bytes m byte) at ≡ Ok v
 word_above m byte low at v a le lt w = word_same m byte at lt (λ x p q. a.above x (omega arith)) ∙ w
-
-pub stack_above : (t : Functions) (m : Memory) (byte : ℕ → ℕ) (c : Context) (is : List StackItem) → KeepsAbove m byte (rsp c) → IsStack t m c is → IsStack t (with_bytes m byte) c is
-stack_above t m byte c is a s = kept_by_other_stores t m byte c is (record { code = a.code; owned = λ x o. at x o (cases_lt x (rsp c)) }) s
-  where
-    at : (x : ℕ) → Owned c is x → (x < rsp c) ⊎ (rsp c ≤ x) → byte x ≡ m.byte x
-    at x o (inl lt) = absurd (nothing_below_is_owned t m c is x s lt o)
-    at x o (inr le) = a.above x le
 
 pub misplaced_same : (m : Memory) (byte : ℕ → ℕ) (at : ℕ) → misplaced (with_bytes m byte) at ≡ misplaced m at
 unfolding misplaced
 misplaced_same m byte at = refl
 
--- ---- slots
+reads_above : (m : Memory) (byte : ℕ → ℕ) (low : ℕ) → KeepsAbove m byte low → ReadsSame m (with_bytes m byte) low 0x70800000
+reads_above m byte low a = record {
+  words = λ at v p q w. word_above m byte low at v a p (omega arith) w;
+  records = λ at p q. fetched_by_its_bytes m (with_bytes m byte) at (omega arith) refl (λ x l h. a.above x (omega arith));
+  places = λ at p q. misplaced_same m byte at;
+  tails = tail_at_same m (with_bytes m byte) (record { execute = λ x. refl; byte = a.code });
+}
 
-pub words_fit : (m : Memory) (at end : ℕ) (vs : List ℕ) → HoldsWords m at end vs → at + 8 * length vs ≤ end
-words_fit m at end [] h = let e = h in omega arith
-words_fit m at end (v ∷ vs) h = let e = words_fit m (at + 8) end vs h.1 in omega arith
-
-pub words_above : (m : Memory) (byte : ℕ → ℕ) (low at end : ℕ) (vs : List ℕ) → KeepsAbove m byte low → low ≤ at → end < 2 ^ 64 → HoldsWords m at end vs → HoldsWords (with_bytes m byte) at end vs
-words_above m byte low at end [] a le lt h = h
-words_above m byte low at end (v ∷ vs) a le lt h =
-    let e = words_fit m (at + 8) end vs h.1 in (word_above m byte low at v a le (omega arith) h.0, words_above m byte low (at + 8) end vs a (omega arith) lt h.1)
-
-pub activation_above : (m : Memory) (byte : ℕ → ℕ) (y : Layout) (sp size k : ℕ) (acts : List Activation) (name : BodyName) → KeepsAbove m byte sp → sp + size + 8 < 2 ^ 64 → HasActivation m y sp size k acts name → HasActivation (with_bytes m byte) y sp size k acts name
-activation_above m byte y sp size k [] (FunctionBody f) a lt h = absurd h
-activation_above m byte y sp size k (x ∷ outer) (FunctionBody f) a lt h =
-    record { none = h.none; activation = h.activation; values = words_above m byte sp (sp + y.locals) (sp + size) x.values a (omega arith) (omega arith) h.values }
-activation_above m byte y sp size k acts (FuncletBody j) a lt h =
-    let r = h.room in
-    record { slot = h.slot; base = h.base; some = h.some; room = h.room; kept = word_above m byte sp (sp + h.slot) h.base a (omega arith) (omega arith) h.kept; activation = h.activation }
+pub kept_by_stores_below : KeptByStoresBelow
+kept_by_stores_below t fs program p m byte c is items acts a s = list_kept m (with_bytes m byte) t fs program p c is items acts (reads_above m byte (rsp c) a) s.stack s.linked
 
 module _ (t : Functions) (fs : List Funclet) (program : LinearProgram) (p : Plan) where
   pub reaches_above : (m : Memory) (byte : ℕ → ℕ) (low : ℕ) (name : BodyName) (frame k : ℕ) (acts : List Activation) → KeepsAbove m byte low → low ≤ frame → Reaches t fs program p m name frame k acts → Reaches t fs program p (with_bytes m byte) name frame k acts
@@ -63,58 +47,52 @@ module _ (t : Functions) (fs : List Funclet) (program : LinearProgram) (p : Plan
       leads (FunctionBody f) e = e
       leads (FuncletBody j) e = let r = e.room in record { slot = e.slot; some = e.some; room = e.room; kept = word_above m byte low (frame + e.slot) h.base a (omega arith) (omega arith) e.kept }
 
-  pub linked_above : (m : Memory) (byte : ℕ → ℕ) (c : Context) (is : List StackItem) (items : List Item) (acts : List Activation) → KeepsAbove m byte (rsp c) → IsStack t m c is → Linked t fs program p m c is items acts → Linked t fs program p (with_bytes m byte) c is items acts
-  linked_above m byte c [] [] acts a s h = h
-  linked_above m byte c (Framed f ∷ is) (Waits b ∷ below) acts a s h =
-      let e = rises t m c (Framed f) s.0 in
-      let room = s.0.room in (
-        record {
-          code = h.0.code;
-          body = h.0.body;
-          instruction = h.0.instruction;
-          small = h.0.small;
-          entry = h.0.entry;
-          activation = activation_above m byte (p.layout b.body) (rsp c) f.size b.activation acts b.body a s.0.room h.0.activation;
-          temporaries = words_above m byte (rsp c) (rsp c + (p.layout b.body).temporaries) (rsp c + f.size) b.temporaries a (omega arith) (omega arith) h.0.temporaries;
-        },
-        h.1,
-        linked_above m byte (after_frame c f) is below (activations_below b.body acts) (higher m byte (rsp c) (rsp (after_frame c f)) (omega arith) a) s.1 h.2,
-      )
-  linked_above m byte c (Searching r ∷ is) (Searches exception resumption asked rest ∷ below) acts a s h =
-      let e = rises t m c (Searching r) s.0 in (
-        record {
-          own = record { fits = h.0.own.fits; room = misplaced_same m byte (rsp c) ∙ h.0.own.room };
-          carries = h.0.carries;
-          onward = h.0.onward;
-          address = h.0.address;
-          aimed = h.0.aimed;
-          before = h.0.before;
-        },
-        linked_above m byte (context_of r.saved) is below acts (higher m byte (rsp c) (rsp (context_of r.saved)) (omega arith) a) s.1 h.1,
-      )
-  linked_above m byte c (Unwinding r ∷ is) (Unwinds rest target ∷ below) acts a s h =
-      let e = rises t m c (Unwinding r) s.0 in (
-        record {
-          own = record { fits = h.0.own.fits; room = misplaced_same m byte (rsp c) ∙ h.0.own.room };
-          purpose = h.0.purpose;
-          row = h.0.row;
-          aimed = h.0.aimed;
-        },
-        linked_above m byte r.walk is below acts (higher m byte (rsp c) (rsp r.walk) (omega arith) a) s.1 h.1,
-      )
-  linked_above m byte c [] (i ∷ items) acts a s h = absurd h
-  linked_above m byte c (Framed f ∷ is) [] acts a s h = absurd h
-  linked_above m byte c (Framed f ∷ is) (Searches exception resumption asked rest ∷ below) acts a s h = absurd h
-  linked_above m byte c (Framed f ∷ is) (Unwinds rest target ∷ below) acts a s h = absurd h
-  linked_above m byte c (Searching r ∷ is) [] acts a s h = absurd h
-  linked_above m byte c (Searching r ∷ is) (Waits b ∷ below) acts a s h = absurd h
-  linked_above m byte c (Searching r ∷ is) (Unwinds rest target ∷ below) acts a s h = absurd h
-  linked_above m byte c (Unwinding r ∷ is) [] acts a s h = absurd h
-  linked_above m byte c (Unwinding r ∷ is) (Waits b ∷ below) acts a s h = absurd h
-  linked_above m byte c (Unwinding r ∷ is) (Searches exception resumption asked rest ∷ below) acts a s h = absurd h
+-- ---- other memories
 
-pub kept_by_stores_below : KeptByStoresBelow
-kept_by_stores_below t fs program p m byte c is items acts a s = record {
-  stack = stack_above t m byte c is a s.stack;
-  linked = linked_above t fs program p m byte c is items acts a s.stack s.linked;
-}
+-- another memory with the stack's bytes of a range as they were
+pub record KeepsRange (m m' : Memory) (low top : ℕ) : Type 0 where
+  pub bytes : (x : ℕ) → low ≤ x → x < top → m'.byte x ≡ m.byte x
+  pub protection : (x : ℕ) → 0x70000000 ≤ x → x < 0x70800000 → m'.protection x ≡ m.protection x
+  pub code : (x : ℕ) → (m.protection x).execute ≡ true → (m'.byte x ≡ m.byte x) × (m'.protection x ≡ m.protection x)
+  pub no_more_code : (x : ℕ) → (m.protection x).execute ≡ false → (m'.protection x).execute ≡ false
+
+module _ (m m' : Memory) (low top : ℕ) (k : KeepsRange m m' low top) (from : 0x70000000 ≤ low) (to : top ≤ 0x70800000) where
+  same_code : SameCode m m'
+  same_code = record { execute = λ x. execute x ((m.protection x).execute) refl; byte = λ x e. (k.code x e).0 }
+    where
+      execute : (x : ℕ) (b : Bool) → (m.protection x).execute ≡ b → (m'.protection x).execute ≡ (m.protection x).execute
+      execute x true e = ap (λ (q : Protection). q.execute) (k.code x e).1
+      execute x false e = k.no_more_code x e ∙ sym e
+
+  may_read_same : (x : ℕ) → 0x70000000 ≤ x → x < 0x70800000 → may_read m' x ≡ may_read m x
+  may_read_same x p q = ap (λ (r : Protection). is_readable r.rights) (k.protection x p q)
+
+  may_write_same : (x : ℕ) → 0x70000000 ≤ x → x < 0x70800000 → may_write m' x ≡ may_write m x
+  may_write_same x p q = ap (λ (r : Protection). is_writable r.rights) (k.protection x p q)
+
+  -- the return address below a record is in the stack, or there is no room in either memory
+  places_same : (at : ℕ) → low ≤ at → at + 1568 ≤ top → misplaced m' at ≡ misplaced m at
+  unfolding misplaced
+  places_same at le fits = ap (λ (o : Option ℕ). cond (nat_lt (2 ^ 64) (return_address_at at + 1576)) (Some 0) o) (by (nat_lt (return_address_at at) 0x70000000) refl)
+    where
+      by : (b : Bool) → nat_lt (return_address_at at) 0x70000000 ≡ b
+          → cond b (Some (return_address_at at)) (first_refused (may_write m') 1576 (return_address_at at))
+          ≡ cond b (Some (return_address_at at)) (first_refused (may_write m) 1576 (return_address_at at))
+      by true e = refl
+      by false e =
+          let h : 0x70000000 ≤ return_address_at at = ltb-false _ _ e in
+          refused_same (may_write m) (may_write m') 1576 (return_address_at at) (omega arith) (λ x p q. may_write_same x (omega arith) (omega arith))
+
+  pub reads_other : ReadsSame m m' low top
+  reads_other = record {
+    words = λ at v p q w. word_kept m m' at (omega arith) (λ x l h. k.protection x (omega arith) (omega arith)) (λ x l h. k.bytes x (omega arith) (omega arith)) ∙ w;
+    records = λ at p q.
+        fetched_by_its_bytes m m' at (omega arith) (refused_same (may_read m) (may_read m') 1568 at (omega arith) (λ x l h. may_read_same x (omega arith) (omega arith)))
+        (λ x l h. k.bytes x (omega arith) (omega arith));
+    places = places_same;
+    tails = tail_at_same m m' same_code;
+  }
+
+pub kept_by_other_memories : KeptByOtherMemories
+kept_by_other_memories t fs program p m m' c is items acts k from s = list_kept m m' t fs program p c is items acts
+    (reads_other m m' (rsp c) 0x70800000 (record { bytes = k.bytes; protection = k.protection; code = k.code; no_more_code = k.no_more_code }) from (omega arith)) s.stack s.linked

@@ -1,5 +1,6 @@
 -- Records and regions from a row on, and the record before a row.
 use Rattle.std.proofs.Common.{◌≡◌, ℕ, zero, suc, ◌+◌, ◌≤◌, List, [], ◌∷◌, length, drop, Option, Some, None, refl, sym, ap, ◌∙◌, arith}
+use Rattle.std.specs.List.{AllByRecursion}
 use Rattle.std.proofs.Math.Seq.{drop-nil}
 use Rattle.std.proofs.lemmas.List.{drop-drop}
 use Rattle.eh_tables.specs.declared.scope.ScopeRecord.{ScopeRecord}
@@ -32,3 +33,9 @@ module _ (t : Functions) (fs : List Funclet) (program : LinearProgram) (p : Plan
 -- what is left after a place that was counted from a row on
 pub dropped_again : {A : Type 0} (row off index : ℕ) (rs : List A) → index ≡ row + off → drop (suc off) (drop row rs) ≡ drop (index + 1) rs
 dropped_again row off index rs e = drop-drop (suc off) row rs ∙ ap (λ n. drop n rs) (let a : row + suc off ≡ index + 1 = omega arith in a)
+
+-- what holds of each element holds of each from a place on
+pub all_dropped : {A : Type 0} (P : A → Type 0) (row : ℕ) (xs : List A) → AllByRecursion P xs → AllByRecursion P (drop row xs)
+all_dropped P zero xs h = h
+all_dropped P (suc row) [] h = tt
+all_dropped P (suc row) (x ∷ xs) h = all_dropped P row xs h.1

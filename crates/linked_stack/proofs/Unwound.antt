@@ -1,6 +1,7 @@
 -- In one frame an unwinding runs the same `__finally` block first, or leaves the frame or stops there.
 use Rattle.std.proofs.Common.{◌≡◌, ◌≢◌, ◌⊎◌, inl, inr, ℕ, zero, suc, ◌+◌, Bool, true, false, cond, Option, Some, None, List, [], ◌∷◌, length, drop, refl, sym, ap, ◌∙◌, arith}
 use Rattle.std.specs.Prelude.{filter, nat_eq, ◌==◌, ◌&&◌, ◌||◌}
+use Rattle.std.specs.List.{AllByRecursion}
 use Rattle.std.proofs.lemmas.Bool.{eq-eqb, ne_eqb}
 use Rattle.eh_tables.specs.declared.scope.ScopeRecord.{ScopeRecord}
 use Rattle.virtual_unwind.specs.CallerOf.{Functions, distance}
@@ -18,14 +19,18 @@ use Rattle.linear_machine.specs.Unwinding.{arrive, left_store, run_finally, leav
 use Rattle.linked_stack.specs.ImagePlan.{Plan, InCode, IsFinallyRow, IsOfKind, IsRegion, AreRegions, target_rva}
 use Rattle.linked_stack.specs.Frames.{NoBlock, Arrives, FirstBlock}
 use Rattle.linked_stack.specs.Laws.{UnwindingRunsTheBlocks, UnwindingStopsAtTheTarget}
-use Rattle.linked_stack.proofs.Places.{row_before_dropped, regions_dropped, dropped_again}
+use Rattle.linked_stack.proofs.Places.{row_before_dropped, regions_dropped, dropped_again, all_dropped}
 
-module _ (t : Functions) (fs : List Funclet) (program : LinearProgram) (p : Plan) (target : Target) (c : Configuration) (rip : ℕ) (inside : InCode p c.frame.body c.frame.next rip) where
+module _ (t : Functions) (fs : List Funclet) (program : LinearProgram) (p : Plan) (target : Target) (c : Configuration) (label rip : ℕ) (inside : InCode p c.frame.body label rip) where
   abbrev rva : ℕ
   rva = distance t.base rip
 
   abbrev held : List Region → List Region
   held rs = filter (holds c.frame.next) rs
+
+  -- the regions that hold the one instruction hold the other
+  abbrev pub Same : List Region → Type 0
+  Same rs = AllByRecursion (λ (r : Region). holds label r ≡ holds c.frame.next r) rs
 
   abbrev body : Next → (Store → Seen) → List Region → Seen
   body next out rs = unwind_body program next target out rs c
@@ -122,20 +127,20 @@ module _ (t : Functions) (fs : List Funclet) (program : LinearProgram) (p : Plan
         left_asked (kinds.Filter k label) q is more = left_deeper n x xs r rs (row_first false is.to.jumps) (λ next out. passed r rs (kinds.Filter k label) next out h (never r) q) more
         left_asked (kinds.Always label) q is more = left_deeper n x xs r rs (row_first false is.to.jumps) (λ next out. passed r rs (kinds.Always label) next out h (never r) q) more
 
-    pub leaves_the_frame : (n : ℕ) (xs : List ScopeRecord) (rs : List Region) → AreRegions t fs program p c.frame.body xs rs → Left n xs rs
+    pub leaves_the_frame : (n : ℕ) (xs : List ScopeRecord) (rs : List Region) → AreRegions t fs program p c.frame.body xs rs → Same rs → Left n xs rs
     unfolding pick
-    leaves_the_frame n [] [] s =
+    leaves_the_frame n [] [] s same =
         inl (record {
           first = refl;
           leaves = λ next out. ap (λ b. pick b (arrive target target.code next c) (out (left_store c.frame.body c.frame.activation c.store))) (ne_eqb target.depth (length c.below) away);
         })
-    leaves_the_frame n (x ∷ xs) (r ∷ rs) s = by (leaves_the_frame (n + 1) xs rs s.1) (holds c.frame.next r) refl
+    leaves_the_frame n (x ∷ xs) (r ∷ rs) s same = by (leaves_the_frame (n + 1) xs rs s.1 same.1) (holds c.frame.next r) refl
       where
         by : Left (n + 1) xs rs → (b : Bool) → holds c.frame.next r ≡ b → Left n (x ∷ xs) (r ∷ rs)
-        by more true h = left_asked n x xs r rs (s.0.holds c.frame.next rip inside ∙ h) h r.kind refl s.0.kind more
-        by more false h = left_skipped n x xs r rs (s.0.holds c.frame.next rip inside ∙ h) h more
-    leaves_the_frame n [] (r ∷ rs) s = absurd s
-    leaves_the_frame n (x ∷ xs) [] s = absurd s
+        by more true h = left_asked n x xs r rs (s.0.holds label rip inside ∙ same.0 ∙ h) h r.kind refl s.0.kind more
+        by more false h = left_skipped n x xs r rs (s.0.holds label rip inside ∙ same.0 ∙ h) h more
+    leaves_the_frame n [] (r ∷ rs) s same = absurd s
+    leaves_the_frame n (x ∷ xs) [] s same = absurd s
 
   -- ---- the target's frame
 
@@ -188,22 +193,22 @@ module _ (t : Functions) (fs : List Funclet) (program : LinearProgram) (p : Plan
         reached_held true z s is more = inl (record { first = until_first true z; arrives = λ next out. stopped r rs next out h s })
         reached_held false z s is more = reached_asked r.kind refl z s is more
 
-    pub stops_at_the_target : p.lands c.frame.body target.label ≡ true → (n : ℕ) (xs : List ScopeRecord) (rs : List Region) → AreRegions t fs program p c.frame.body xs rs → Reached n xs rs
+    pub stops_at_the_target : p.lands c.frame.body target.label ≡ true → (n : ℕ) (xs : List ScopeRecord) (rs : List Region) → AreRegions t fs program p c.frame.body xs rs → Same rs → Reached n xs rs
     unfolding pick
-    stops_at_the_target lands n [] [] s =
+    stops_at_the_target lands n [] [] s same =
         inl (record {
           first = refl;
           arrives = λ next out. ap (λ b. pick b (arrive target target.code next c) (out (left_store c.frame.body c.frame.activation c.store))) (eq-eqb target.depth (length c.below) here);
         })
-    stops_at_the_target lands n (x ∷ xs) (r ∷ rs) s = by (stops_at_the_target lands (n + 1) xs rs s.1) (holds c.frame.next r) refl
+    stops_at_the_target lands n (x ∷ xs) (r ∷ rs) s same = by (stops_at_the_target lands (n + 1) xs rs s.1 same.1) (holds c.frame.next r) refl
       where
         by : Reached (n + 1) xs rs → (b : Bool) → holds c.frame.next r ≡ b → Reached n (x ∷ xs) (r ∷ rs)
         by more true h =
-            reached_held n x xs r rs (s.0.holds c.frame.next rip inside ∙ h) h (stops target r (length c.below))
+            reached_held n x xs r rs (s.0.holds label rip inside ∙ same.0 ∙ h) h (stops target r (length c.below))
             (s.0.ends target.label lands ∙ sym (by_label r)) refl s.0.kind more
-        by more false h = reached_skipped n x xs r rs (s.0.holds c.frame.next rip inside ∙ h) h more
-    stops_at_the_target lands n [] (r ∷ rs) s = absurd s
-    stops_at_the_target lands n (x ∷ xs) [] s = absurd s
+        by more false h = reached_skipped n x xs r rs (s.0.holds label rip inside ∙ same.0 ∙ h) h more
+    stops_at_the_target lands n [] (r ∷ rs) s same = absurd s
+    stops_at_the_target lands n (x ∷ xs) [] s same = absurd s
 
   -- ---- counted from the frame's first record
 
@@ -232,10 +237,12 @@ module _ (t : Functions) (fs : List Funclet) (program : LinearProgram) (p : Plan
 
 pub unwinding_runs_the_blocks : UnwindingRunsTheBlocks
 unwinding_runs_the_blocks t fs program p rip row scopes rs target c s away =
-    left_or_run t fs program p target c rip s.inside row scopes rs
-    (leaves_the_frame t fs program p target c rip s.inside away row (drop row scopes) (drop row rs) (regions_dropped t fs program p c.frame.body row scopes rs s.rows))
+    left_or_run t fs program p target c s.label rip s.inside row scopes rs
+    (leaves_the_frame t fs program p target c s.label rip s.inside away row (drop row scopes) (drop row rs) (regions_dropped t fs program p c.frame.body row scopes rs s.rows)
+    (all_dropped (λ (r : Region). holds s.label r ≡ holds c.frame.next r) row rs s.same))
 
 pub unwinding_stops_at_the_target : UnwindingStopsAtTheTarget
 unwinding_stops_at_the_target t fs program p rip row scopes rs target c s here lands =
-    reached_or_run t fs program p target c rip s.inside row scopes rs
-    (stops_at_the_target t fs program p target c rip s.inside here lands row (drop row scopes) (drop row rs) (regions_dropped t fs program p c.frame.body row scopes rs s.rows))
+    reached_or_run t fs program p target c s.label rip s.inside row scopes rs
+    (stops_at_the_target t fs program p target c s.label rip s.inside here lands row (drop row scopes) (drop row rs) (regions_dropped t fs program p c.frame.body row scopes rs s.rows)
+    (all_dropped (λ (r : Region). holds s.label r ≡ holds c.frame.next r) row rs s.same))

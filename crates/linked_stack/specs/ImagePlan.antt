@@ -16,16 +16,18 @@ use Rattle.linear_code.specs.declared.program.Region.{Region}
 use Rattle.linear_code.specs.declared.program.RegionKind.{RegionKind}
 use Rattle.linear_code.specs.declared.program.RegionKind.TheVariants as kinds
 use Rattle.linear_code.specs.Program.{LinearProgram, LinearBody, LinearFunclet}
-use Rattle.linear_machine.specs.Frames.{BodyName, FunctionBody, FuncletBody, body_of}
+use Rattle.linear_machine.specs.Frames.{BodyName, FunctionBody, FuncletBody, body_of, Frame, Resumption}
 use Rattle.linear_machine.specs.Regions as regions
 use Rattle.linear_machine.specs.Regions.{leads_to}
 
 pub record Plan : Type 0 where
   pub address : BodyName → ℕ → ℕ  -- where the code of an instruction begins, that of the last one up to the body's end
   pub funclet : ℕ → ℕ  -- the first byte of a funclet, by its number
-  pub entry : BodyName → Entry  -- the entry of the function table for a body
+  pub leaf : BodyName → Bool  -- a leaf function, which has no frame and no entry
+  pub entry : BodyName → Entry  -- the entry of the function table for any other body
   pub layout : BodyName → Layout  -- where the slots of a body stand
   pub lands : BodyName → ℕ → Bool  -- an unwinding may land at this instruction
+  pub resumes : Resumption → Frame → Cpu → Bool  -- a body that waits goes on so from a state that was saved where it raised an exception
 
 -- an address within the code of an instruction
 pub record InCode (p : Plan) (name : BodyName) (label rip : ℕ) : Type 0 where
@@ -125,6 +127,11 @@ module _ (t : Functions) (fs : List Funclet) (program : LinearProgram) (p : Plan
     -- no funclet begins where an unwinding lands
     pub landings : (label : ℕ) → p.lands name label ≡ true → (c : Cpu) → arrivals c (target_rva name label) 1 fs ≡ []
 
-  -- each body has its entry
+  -- a leaf function has no regions
+  abbrev pub IsGiven : BodyName → LinearBody → Bool → Type 0
+  IsGiven name b false = IsEntryOf name b
+  IsGiven name b true = b.regions ≡ []
+
+  -- each other body has its entry
   abbrev pub Gives : Type 0
-  Gives = (name : BodyName) (b : LinearBody) → body_of program name ≡ Some b → IsEntryOf name b
+  Gives = (name : BodyName) (b : LinearBody) → body_of program name ≡ Some b → IsGiven name b (p.leaf name)

@@ -1,5 +1,7 @@
 -- What holds in a single frame, and of the whole list.
-use Rattle.std.specs.Prelude.{◌≡◌, ◌≢◌, ◌⊎◌, ℕ, ◌≤◌, true, List, length, drop, filter}
+use Rattle.std.specs.Prelude.{◌≡◌, ◌≢◌, ◌⊎◌, ℕ, ◌<◌, ◌≤◌, true, false, List, length, drop, filter}
+use Rattle.std.specs.List.{AllByRecursion}
+use Rattle.host_layout.specs.declared.range.TheConstants.{STACK_START, STACK_END}
 use Rattle.flat_memory.specs.Memory.{Memory, with_bytes}
 use Rattle.x64_machine.specs.declared.context.Context.{Context}
 use Rattle.eh_tables.specs.declared.scope.ScopeRecord.{ScopeRecord}
@@ -22,9 +24,11 @@ use Rattle.linked_stack.specs.Frames.{NoHandler, FirstHandler, NoBlock, Arrives,
 abbrev pub left_from : ℕ → List Region → ℕ → List Region
 left_from label regions row = filter (holds label) (drop row regions)
 
--- an instruction of a body, an address in its code, and the body's records, which are its regions
-pub record IsInstruction (t : Functions) (fs : List Funclet) (program : LinearProgram) (p : Plan) (name : BodyName) (label rip : ℕ) (scopes : List ScopeRecord) (regions : List Region) : Type 0 where
+-- an instruction of a body, an address in the code of one that the same regions hold, and the body's records, which are its regions
+pub record IsInstruction (t : Functions) (fs : List Funclet) (program : LinearProgram) (p : Plan) (name : BodyName) (next rip : ℕ) (scopes : List ScopeRecord) (regions : List Region) : Type 0 where
+  pub label : ℕ
   pub inside : InCode p name label rip
+  pub same : AllByRecursion (λ (r : Region). holds label r ≡ holds next r) regions
   pub rows : AreRegions t fs program p name scopes regions
 
 -- from any row on
@@ -67,3 +71,16 @@ abbrev pub KeptByStoresBelow : Type 0
 KeptByStoresBelow =
     (t : Functions) (fs : List Funclet) (program : LinearProgram) (p : Plan) (m : Memory) (byte : ℕ → ℕ) (c : Context) (is : List StackItem) (items : List Item) (acts : List Activation)
     → KeepsAbove m byte (rsp c) → Stands t fs program p m c is items acts → Stands t fs program p (with_bytes m byte) c is items acts
+
+-- what another memory has as it was: the stack's protections, its bytes from an address up, and code
+pub record KeepsStack (m m' : Memory) (low : ℕ) : Type 0 where
+  pub bytes : (x : ℕ) → low ≤ x → x < STACK_END → m'.byte x ≡ m.byte x
+  pub protection : (x : ℕ) → STACK_START ≤ x → x < STACK_END → m'.protection x ≡ m.protection x
+  pub code : (x : ℕ) → (m.protection x).execute ≡ true → (m'.byte x ≡ m.byte x) × (m'.protection x ≡ m.protection x)
+  pub no_more_code : (x : ℕ) → (m.protection x).execute ≡ false → (m'.protection x).execute ≡ false
+
+-- a list from an address of the stack up stands there too
+abbrev pub KeptByOtherMemories : Type 0
+KeptByOtherMemories =
+    (t : Functions) (fs : List Funclet) (program : LinearProgram) (p : Plan) (m m' : Memory) (c : Context) (is : List StackItem) (items : List Item) (acts : List Activation)
+    → KeepsStack m m' (rsp c) → STACK_START ≤ rsp c → Stands t fs program p m c is items acts → Stands t fs program p m' c is items acts

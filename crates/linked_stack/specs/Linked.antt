@@ -1,7 +1,9 @@
 -- The plain list of what waits in linear code, as it stands in the machine's stack, item by item.
 use Rattle.std.specs.Prelude.{◌≡◌, ◌⊎◌, ℕ, suc, ◌+◌, ◌*◌, ◌%◌, ◌^◌, ◌<◌, ◌≤◌, true, false, not, ◌==◌, List, [], ◌∷◌, ◌++◌, length, drop, filter, slice_get, Option, Some, None, Ok}
+use Rattle.std.specs.List.{AllByRecursion}
 use Rattle.host_layout.specs.declared.range.TheConstants.{STACK_END}
 use Rattle.flat_memory.specs.Memory.{Memory}
+use Rattle.x64_machine.specs.declared.cpu.Cpu.{Cpu}
 use Rattle.x64_machine.specs.declared.context.Context.{Context}
 use Rattle.x64_machine.specs.Contexts.{context_of}
 use Rattle.eh_tables.specs.declared.scope.ScopeRecord.{ScopeRecord}
@@ -21,9 +23,9 @@ use Rattle.linear_code.specs.declared.program.Region.{Region}
 use Rattle.linear_code.specs.declared.program.FuncletKind.{FuncletKind}
 use Rattle.linear_code.specs.declared.program.FuncletKind.TheVariants as funclets
 use Rattle.linear_code.specs.Program.{LinearProgram, LinearBody, LinearFunclet}
-use Rattle.linear_machine.specs.Frames.{BodyName, FunctionBody, FuncletBody, body_of, Frame, Handler, Target, Item, Waits, Searches, Unwinds}
+use Rattle.linear_machine.specs.Frames.{BodyName, FunctionBody, FuncletBody, body_of, Frame, Handler, Target, Resumption, Item, Waits, Searches, Unwinds}
 use Rattle.linear_machine.specs.Regions.{holds, regions_of, regions_at, regions_left, handlers_in, handlers}
-use Rattle.raw_stack.specs.Stack.{StackFrame, StackItem, Framed, Searching, Unwinding, after_frame}
+use Rattle.raw_stack.specs.Stack.{StackFrame, StackItem, Framed, Leaf, Searching, Unwinding, after_frame, after_leaf}
 use Rattle.linked_stack.specs.ImagePlan.{Plan, InCode}
 
 -- ---- the source's activations
@@ -58,12 +60,42 @@ abbrev pub activations_below : BodyName → List Activation → List Activation
 activations_below (FunctionBody f) acts = below_function acts
 activations_below (FuncletBody k) acts = acts
 
+-- ---- room on the stack
+
+-- the bytes that a function takes at most, with its return address; a filter or a `__finally` block takes no more than two of these, with its record
+abbrev pub largest_frame : ℕ
+largest_frame = 8192
+
+abbrev pub greatest_depth : ℕ
+greatest_depth = 1000
+
+-- a stack pointer, but for some bytes, is no further from the stack's end than frames of this depth take, and the depth is within its limit
+pub record HasSpace (sp beside depth : ℕ) : Type 0 where
+  pub space : STACK_END ≤ sp + beside + largest_frame * depth
+  pub shallow : depth ≤ greatest_depth
+
+-- the first return address is 40 bytes below the stack's end; a record takes at most 1,600 bytes
+abbrev pub below_end : ℕ
+below_end = 40
+
+abbrev pub record_room : ℕ
+record_room = 1600
+
 -- ---- a body's frame
 
 -- the numbers of slots one after another, from an address on and below an end
 abbrev pub HoldsWords : Memory → ℕ → ℕ → List ℕ → Type 0
 HoldsWords m at end [] = at ≤ end
 HoldsWords m at end (v ∷ vs) = (word m at ≡ Ok v) × HoldsWords m (at + 8) end vs
+
+-- where the temporaries of a body end at the latest: a function's before its locals, a funclet's before its return address
+abbrev pub temporaries_end : Layout → BodyName → ℕ → ℕ
+temporaries_end y (FunctionBody f) size = y.locals
+temporaries_end y (FuncletBody k) size = size
+
+-- the slots of a leaf function stand above its return address, in the home space of its caller, and end there: its locals, and then its temporaries
+abbrev pub home_end : ℕ
+home_end = 40
 
 -- a function's frame holds the locals of its activation, which is the first
 pub record HoldsLocals (m : Memory) (y : Layout) (sp size k : ℕ) (a : Activation) (outer : List Activation) : Type 0 where
@@ -106,15 +138,44 @@ module _ (t : Functions) (fs : List Funclet) (program : LinearProgram) (p : Plan
     pub leads : Leads m (p.layout name) name frame base
     pub activation : IsActivation acts k base (p.layout name).locals
 
-  -- a body waits in a frame whose RIP is in the code of the instruction that it waits in
-  pub record BodyWaits (m : Memory) (c : Context) (f : StackFrame) (b : Frame) (acts : List Activation) : Type 0 where
+  -- the same regions of a body hold two of its instructions
+  abbrev pub SameRegions : Option LinearBody → ℕ → ℕ → Type 0
+  SameRegions body label other = AllByRecursion (λ (r : Region). holds label r ≡ holds other r) (regions_of body)
+
+  -- a body waits: RIP is in the code of an instruction that the same regions hold as the one that it waits in (the same instruction, or where a call is the last of its code, the next one); its slots stand in memory, up to an end above RSP
+  pub record BodyWaits (m : Memory) (c : Context) (size end : ℕ) (b : Frame) (acts : List Activation) : Type 0 where
     pub code : LinearBody
     pub body : body_of program b.body ≡ Some code
-    pub instruction : InCode p b.body b.next c.rip
+    pub label : ℕ
+    pub instruction : InCode p b.body label c.rip
+    pub same : SameRegions (body_of program b.body) label b.next
     pub small : c.rip < 2 ^ 64
+    pub activation : HasActivation m (p.layout b.body) (rsp c) size b.activation acts b.body
+    pub temporaries : HoldsWords m (rsp c + (p.layout b.body).temporaries) (rsp c + end) b.temporaries
+    pub space : HasSpace (rsp c) below_end (length acts + b.held)
+
+  -- a filter's frame keeps the address of the EXCEPTION_POINTERS that it is asked with: they stand in the record above its return address
+  pub record KeepsPointers (m : Memory) (y : Layout) (sp size : ℕ) : Type 0 where
+    pub room : y.pointers + 8 ≤ size
+    pub kept : word m (sp + y.pointers) ≡ Ok (sp + size + 88)
+
+  abbrev pub HasPointers : Memory → Layout → (sp size : ℕ) → List Item → Type 0
+  HasPointers m y sp size (Searches exception resumption asked rest ∷ below) = KeepsPointers m y sp size
+  HasPointers m y sp size items = Unit {0}
+
+  -- in a frame of its own, which has the body's entry
+  pub record FrameWaits (m : Memory) (c : Context) (f : StackFrame) (b : Frame) (below : List Item) (acts : List Activation) : Type 0 where
+    pub framed : p.leaf b.body ≡ false
     pub entry : f.entry ≡ p.entry b.body
-    pub activation : HasActivation m (p.layout b.body) (rsp c) f.size b.activation acts b.body
-    pub temporaries : HoldsWords m (rsp c + (p.layout b.body).temporaries) (rsp c + f.size) b.temporaries
+    pub waits : BodyWaits m c f.size (temporaries_end (p.layout b.body) b.body f.size) b acts
+    pub pointers : HasPointers m (p.layout b.body) (rsp c) f.size below
+
+  -- a leaf function, without one
+  pub record LeafWaits (m : Memory) (c : Context) (b : Frame) (acts : List Activation) : Type 0 where
+    pub leaf : p.leaf b.body ≡ true
+    pub home : rsp c + home_end ≤ STACK_END
+    pub none : regions_of (body_of program b.body) ≡ []
+    pub waits : BodyWaits m c (p.layout b.body).temporaries home_end b acts
 
   -- ---- what lies below a body
 
@@ -157,6 +218,7 @@ module _ (t : Functions) (fs : List Funclet) (program : LinearProgram) (p : Plan
   -- a search has come to a context of the list and a row there, and would still meet these handlers
   abbrev pub Onward : (to : Context) (row : ℕ) → List Handler → Context → List StackItem → List Item → Type 0
   Onward to row found c (Framed f ∷ is) (Waits b ∷ below) = OnwardHere to row found c b below ⊎ Onward to row found (after_frame c f) is below
+  Onward to row found c (Leaf back ∷ is) (Waits b ∷ below) = OnwardHere to row found c b below ⊎ Onward to row found (after_leaf c back) is below
   Onward to row found c (Searching r ∷ is) (Searches exception resumption asked rest ∷ below) = Onward to row found (context_of r.saved) is below
   Onward to row found c (Unwinding r ∷ is) (Unwinds rest target ∷ below) = Onward to row found r.walk is below
   Onward to row found c is items = ⊥
@@ -171,6 +233,7 @@ module _ (t : Functions) (fs : List Funclet) (program : LinearProgram) (p : Plan
   -- the frame with so many items below it has this base, and the label in its body this address
   abbrev pub Aimed : (depth label frame address : ℕ) → Context → List StackItem → List Item → Type 0
   Aimed depth label frame address c (Framed f ∷ is) (Waits b ∷ below) = AimedHere depth label frame address c b below ⊎ Aimed depth label frame address (after_frame c f) is below
+  Aimed depth label frame address c (Leaf back ∷ is) (Waits b ∷ below) = Aimed depth label frame address (after_leaf c back) is below
   Aimed depth label frame address c (Searching r ∷ is) (Searches exception resumption asked rest ∷ below) = Aimed depth label frame address (context_of r.saved) is below
   Aimed depth label frame address c (Unwinding r ∷ is) (Unwinds rest target ∷ below) = Aimed depth label frame address r.walk is below
   Aimed depth label frame address c is items = ⊥
@@ -196,14 +259,21 @@ module _ (t : Functions) (fs : List Funclet) (program : LinearProgram) (p : Plan
     pub fits : Fits r
     pub room : misplaced m at ≡ None
 
+  -- where the exception is continued, the body that raised it goes on from the saved state
+  abbrev pub Resumes : Resumption → List Item → Cpu → Type 0
+  Resumes resumption (Waits b ∷ below) saved = p.resumes resumption b saved ≡ true
+  Resumes resumption items saved = Unit {0}
+
   -- a search that asks a handler's filter, with the others after it
-  pub record SearchWaits (m : Memory) (c : Context) (r : DispatchRecord) (exception : Exception) (asked : Handler) (rest : List Handler) (is : List StackItem) (below : List Item) : Type 0 where
+  pub record SearchWaits (m : Memory) (c : Context) (r : DispatchRecord) (exception : Exception) (resumption : Resumption) (asked : Handler) (rest : List Handler) (is : List StackItem) (below : List Item) : Type 0 where
     pub own : IsOwnRecord m (rsp c) r
     pub carries : HasException r exception
+    pub resumes : Resumes resumption below r.saved
     pub onward : Onward r.walk r.row rest (context_of r.saved) is below
     pub address : ℕ
     pub aimed : Aimed asked.depth asked.target r.frame address (context_of r.saved) is below
     pub before : JumpsBefore r.walk.rip r.row address
+    pub near : rsp (context_of r.saved) ≤ rsp c + record_room
 
   -- an exception's unwinding has its code
   abbrev pub HasPurpose : Option ℕ → DispatchRecord → Type 0
@@ -211,17 +281,19 @@ module _ (t : Functions) (fs : List Funclet) (program : LinearProgram) (p : Plan
   HasPurpose None r = r.kind ≡ LocalUnwind
 
   -- an unwinding that runs a `__finally` block, with the regions that are left in the body below
-  pub record UnwindingWaits (m : Memory) (c : Context) (r : DispatchRecord) (rest : List Region) (target : Target) (is : List StackItem) (below : List Item) : Type 0 where
+  pub record UnwindingWaits (m : Memory) (c : Context) (r : DispatchRecord) (rest : List Region) (target : Target) (is : List StackItem) (below : List Item) (acts : List Activation) : Type 0 where
     pub own : IsOwnRecord m (rsp c) r
     pub purpose : HasPurpose target.code r
     pub row : IsAtRow r.row below (Some rest)
     pub aimed : Aimed target.depth target.label r.target_frame r.target r.walk is below
+    pub space : HasSpace (rsp c) (below_end + record_room) (length acts + target.held)
 
   -- ---- the whole list
 
   abbrev pub Linked : Memory → Context → List StackItem → List Item → List Activation → Type 0
   Linked m c [] [] acts = (acts ≡ []) × (rsp c ≤ STACK_END)
-  Linked m c (Framed f ∷ is) (Waits b ∷ below) acts = BodyWaits m c f b acts × IsAbove b b.body below × Linked m (after_frame c f) is below (activations_below b.body acts)
-  Linked m c (Searching r ∷ is) (Searches exception resumption asked rest ∷ below) acts = SearchWaits m c r exception asked rest is below × Linked m (context_of r.saved) is below acts
-  Linked m c (Unwinding r ∷ is) (Unwinds rest target ∷ below) acts = UnwindingWaits m c r rest target is below × Linked m r.walk is below acts
+  Linked m c (Framed f ∷ is) (Waits b ∷ below) acts = FrameWaits m c f b below acts × IsAbove b b.body below × Linked m (after_frame c f) is below (activations_below b.body acts)
+  Linked m c (Leaf back ∷ is) (Waits b ∷ below) acts = LeafWaits m c b acts × IsAbove b b.body below × Linked m (after_leaf c back) is below (activations_below b.body acts)
+  Linked m c (Searching r ∷ is) (Searches exception resumption asked rest ∷ below) acts = SearchWaits m c r exception resumption asked rest is below × Linked m (context_of r.saved) is below acts
+  Linked m c (Unwinding r ∷ is) (Unwinds rest target ∷ below) acts = UnwindingWaits m c r rest target is below acts × Linked m r.walk is below acts
   Linked m c is items acts = ⊥

@@ -1,5 +1,5 @@
 -- A stack outlives what changes none of its bytes.
-use Rattle.std.proofs.Common.{◌≡◌, ℕ, ◌+◌, ◌^◌, ◌<◌, ◌≤◌, Bool, true, false, List, [], ◌∷◌, ◌++◌, refl, ◌∙◌, arith, inl, inr}
+use Rattle.std.proofs.Common.{◌≡◌, ℕ, ◌+◌, ◌<◌, ◌≤◌, Bool, true, false, List, [], ◌∷◌, ◌++◌, refl, ◌∙◌, arith, inl, inr}
 use Rattle.flat_memory.specs.Memory.{Memory, with_bytes}
 use Rattle.x64_machine.specs.declared.context.Context.{Context}
 use Rattle.x64_machine.specs.Contexts.{context_of}
@@ -8,7 +8,7 @@ use Rattle.virtual_unwind.specs.CallerOf.{Functions}
 use Rattle.seh_records.specs.declared.dispatch.DispatchRecord.{DispatchRecord}
 use Rattle.seh_records.proofs.Unmoved.{fetched_by_its_bytes}
 use Rattle.seh_walk.specs.Walk.{filter_return, finally_return}
-use Rattle.raw_stack.specs.Stack.{StackFrame, StackItem, Framed, Searching, Unwinding, FrameStands, RecordStands, Stands, IsStack, OwnedBy, Owned, IsWithin, Agree, after_frame, context_after, context_at}
+use Rattle.raw_stack.specs.Stack.{StackItem, Framed, Leaf, Searching, Unwinding, RecordStands, Stands, IsStack, OwnedBy, IsWithin, after_frame, context_after, context_at}
 use Rattle.raw_stack.specs.Laws.{KeptByOtherStores, NothingBelowIsOwned, SlotsAreFree}
 use Rattle.raw_stack.proofs.Visiting.{set_head}
 use Rattle.raw_stack.proofs.Unchanged.{tail_at_same, word_same}
@@ -39,13 +39,24 @@ stands_same t m byte c (Framed f) code same s =
       not_finally = s.not_finally;
       found = s.found;
       past_prologue = s.past_prologue;
-      not_epilogue = tail_at_same m byte code f.entry.info.frame_register c.rip ∙ s.not_epilogue;
+      not_epilogue = tail_at_same m (with_bytes m byte) (record { execute = λ x. refl; byte = code }) f.entry.info.frame_register c.rip ∙ s.not_epilogue;
       codes = s.codes;
       no_register = s.no_register;
       no_parents = s.no_parents;
       kept = s.kept;
       room = s.room;
       returns = word_same m byte (rsp c + f.size) (omega arith) (λ x p q. same x (within x (rsp c + f.size) (rsp c + f.size + 8) p q)) ∙ s.returns;
+    }
+stands_same t m byte c (Leaf back) code same s =
+    let room = s.room in
+    record {
+      live = s.live;
+      not_filter = s.not_filter;
+      not_finally = s.not_finally;
+      none = s.none;
+      kept = s.kept;
+      room = s.room;
+      returns = word_same m byte (rsp c) (omega arith) (λ x p q. same x (within x (rsp c) (rsp c + 8) p q)) ∙ s.returns;
     }
 stands_same t m byte c (Searching r) code same s = record_same m byte c r filter_return true (context_of r.saved) same s
 stands_same t m byte c (Unwinding r) code same s = record_same m byte c r finally_return false r.walk same s
@@ -60,16 +71,19 @@ kept_by_other_stores t m byte c (i ∷ is) agree s =
 -- each item's bytes lie between its RSP and the next one's
 pub rises : (t : Functions) (m : Memory) (c : Context) (i : StackItem) → Stands t m c i → rsp c < rsp (context_after c i)
 rises t m c (Framed f) s = let k = s.kept in let e = set_head c.kept (rsp c + f.size + 8) (omega arith) in omega arith
+rises t m c (Leaf back) s = let k = s.kept in let e = set_head c.kept (rsp c + 8) (omega arith) in omega arith
 rises t m c (Searching r) s = let a = s.above in omega arith
 rises t m c (Unwinding r) s = let a = s.above in omega arith
 
 owned_low : (c : Context) (i : StackItem) (a : ℕ) → OwnedBy c i a → rsp c ≤ a
 owned_low c (Framed f) a o = let p = o.low in omega arith
+owned_low c (Leaf back) a o = let p = o.low in omega arith
 owned_low c (Searching r) a o = let p = o.low in omega arith
 owned_low c (Unwinding r) a o = let p = o.low in omega arith
 
 owned_high : (t : Functions) (m : Memory) (c : Context) (i : StackItem) (a : ℕ) → Stands t m c i → OwnedBy c i a → a < rsp (context_after c i)
 owned_high t m c (Framed f) a s o = let k = s.kept in let e = set_head c.kept (rsp c + f.size + 8) (omega arith) in let p = o.high in omega arith
+owned_high t m c (Leaf back) a s o = let k = s.kept in let e = set_head c.kept (rsp c + 8) (omega arith) in let p = o.high in omega arith
 owned_high t m c (Searching r) a s o = let p = o.high in let q = s.above in omega arith
 owned_high t m c (Unwinding r) a s o = let p = o.high in let q = s.above in omega arith
 

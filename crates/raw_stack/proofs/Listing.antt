@@ -1,7 +1,6 @@
 -- Searches and unwindings over a stack are those of its list.
-use Rattle.std.proofs.Common.{◌≡◌, ℕ, zero, suc, ◌+◌, ◌<◌, Bool, true, false, Option, Some, None, Ok, Err, List, [], ◌∷◌, length, refl, ap, ◌∙◌, arith}
-use Rattle.std.specs.Prelude.{nat_lt, nat_eq, Result}
-use Rattle.flat_memory.specs.Memory.{Memory}
+use Rattle.std.proofs.Common.{◌≡◌, ℕ, zero, suc, Bool, true, false, Option, Some, None, [], ◌∷◌, refl, ap, ◌∙◌, arith}
+use Rattle.std.specs.Prelude.{nat_lt, nat_eq}
 use Rattle.x64_machine.specs.declared.context.Context.{Context}
 use Rattle.x64_machine.specs.Contexts.{context_of}
 use Rattle.virtual_unwind.specs.Contexts.{rsp}
@@ -16,10 +15,10 @@ use Rattle.seh_search.specs.Search.{search}
 use Rattle.seh_unwind.specs.declared.unwind_result.UnwindResult.{UnwindResult}
 use Rattle.seh_unwind.specs.Unwind as unwinds
 use Rattle.seh_unwind.specs.Unwind.{unwind, if_past, by_row, if_target}
-use Rattle.raw_stack.specs.Stack.{StackFrame, StackItem, Framed, Searching, Unwinding, IsStack, after_frame, caller_frame}
-use Rattle.raw_stack.specs.PlainWalks.{state, chosen_or, asked_row, plain_search, decided_or, in_frame, plain_unwind}
+use Rattle.raw_stack.specs.Stack.{StackFrame, Framed, Leaf, Searching, Unwinding, after_frame, after_leaf, caller_frame, caller_of_leaf}
+use Rattle.raw_stack.specs.PlainWalks.{state, chosen_or, asked_row, plain_search, decided_or, plain_unwind}
 use Rattle.raw_stack.specs.Laws.{SearchIsOfTheList, UnwindingIsOfTheList}
-use Rattle.raw_stack.proofs.Visiting.{frame_is_visited, search_is_passed, unwinding_is_passed, stack_is_over}
+use Rattle.raw_stack.proofs.Visiting.{frame_is_visited, leaf_is_visited, search_is_passed, unwinding_is_passed, stack_is_over}
 
 -- ---- searches
 
@@ -34,6 +33,8 @@ search_is_of_the_list t m c row [] (suc k) s lt = ap (λ (i : walk.Visited). con
 search_is_of_the_list t m c row (Framed f ∷ is) (suc k) s lt =
     ap (λ (i : walk.Visited). continue_walk (search k t m) (searches.decided t (state c row) i)) (frame_is_visited t m c row f s.0)
     ∙ chosen_either t c (search k t m) (state (after_frame c f) 0) (plain_search t (after_frame c f) 0 is) (asked_row t c row f) (search_is_of_the_list t m (after_frame c f) 0 is k s.1 (omega arith))
+search_is_of_the_list t m c row (Leaf back ∷ is) (suc k) s lt =
+    ap (λ (i : walk.Visited). continue_walk (search k t m) (searches.decided t (state c row) i)) (leaf_is_visited t m c row back s.0) ∙ search_is_of_the_list t m (after_leaf c back) 0 is k s.1 (omega arith)
 search_is_of_the_list t m c row (Searching r ∷ is) (suc k) s lt =
     ap (λ (i : walk.Visited). continue_walk (search k t m) (searches.decided t (state c row) i)) (search_is_passed t m c row r s.0) ∙ search_is_of_the_list t m (context_of r.saved) 0 is k s.1 (omega arith)
 search_is_of_the_list t m c row (Unwinding r ∷ is) (suc k) s lt =
@@ -55,6 +56,10 @@ module _ (t : Functions) (others : WalkState → UnwindResult) (u : WalkState) (
   past_either frame target c row f false =
       row_either (rsp c) c (nat_eq (rsp c) frame) (first_finally (unwound (Some f.entry.info) (distance t.base c.rip) row (nat_eq (rsp c) frame) (distance t.base target)))
 
+  leaf_either : (frame target : ℕ) (c : Context) (row back : ℕ) (b : Bool) → continue_walk others (if_past t frame target (state c row) (caller_of_leaf c back) u b) ≡ decided_or plain (if_past t frame target (state c row) (caller_of_leaf c back) u b)
+  leaf_either frame target c row back true = refl
+  leaf_either frame target c row back false = target_either c (nat_eq (rsp c) frame)
+
 pub unwinding_is_of_the_list : UnwindingIsOfTheList
 unfolding unwind
 unwinding_is_of_the_list t m frame target c row is zero s lt = absurd (omega arith)
@@ -63,6 +68,9 @@ unwinding_is_of_the_list t m frame target c row [] (suc k) s lt =
 unwinding_is_of_the_list t m frame target c row (Framed f ∷ is) (suc k) s lt =
     ap (λ (i : walk.Visited). continue_walk (unwind k t m frame target) (unwinds.decided t frame target (state c row) i)) (frame_is_visited t m c row f s.0)
     ∙ past_either t (unwind k t m frame target) (state (after_frame c f) 0) (plain_unwind t frame target (after_frame c f) 0 is) (unwinding_is_of_the_list t m frame target (after_frame c f) 0 is k s.1 (omega arith)) frame target c row f (nat_lt frame (rsp c))
+unwinding_is_of_the_list t m frame target c row (Leaf back ∷ is) (suc k) s lt =
+    ap (λ (i : walk.Visited). continue_walk (unwind k t m frame target) (unwinds.decided t frame target (state c row) i)) (leaf_is_visited t m c row back s.0)
+    ∙ leaf_either t (unwind k t m frame target) (state (after_leaf c back) 0) (plain_unwind t frame target (after_leaf c back) 0 is) (unwinding_is_of_the_list t m frame target (after_leaf c back) 0 is k s.1 (omega arith)) frame target c row back (nat_lt frame (rsp c))
 unwinding_is_of_the_list t m frame target c row (Searching r ∷ is) (suc k) s lt =
     ap (λ (i : walk.Visited). continue_walk (unwind k t m frame target) (unwinds.decided t frame target (state c row) i)) (search_is_passed t m c row r s.0) ∙ unwinding_is_of_the_list t m frame target (context_of r.saved) 0 is k s.1 (omega arith)
 unwinding_is_of_the_list t m frame target c row (Unwinding r ∷ is) (suc k) s lt =

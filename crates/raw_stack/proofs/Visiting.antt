@@ -1,5 +1,5 @@
 -- What a walk meets at each kind of item.
-use Rattle.std.proofs.Common.{◌≡◌, ℕ, ◌+◌, ◌-◌, ◌%◌, ◌^◌, ◌<◌, ◌≤◌, Bool, true, false, Option, Some, None, Ok, List, [], ◌∷◌, length, refl, ap, ◌∙◌, arith}
+use Rattle.std.proofs.Common.{◌≡◌, ℕ, ◌+◌, ◌-◌, ◌%◌, ◌^◌, ◌<◌, ◌≤◌, true, Option, Some, None, Ok, List, [], ◌∷◌, length, refl, ap, ◌∙◌, arith}
 use Rattle.std.specs.Prelude.{nat_lt, nat_eq, not, slice_index, slice_set}
 use Rattle.std.proofs.lemmas.Bool.{lt-ltb}
 use Rattle.flat_memory.specs.Memory.{Memory}
@@ -13,16 +13,13 @@ use Rattle.eh_tables.specs.Infos.{Info}
 use Rattle.eh_tables.specs.Tables.{Entry}
 use Rattle.virtual_unwind.specs.Contexts.{rsp, rsp_raised}
 use Rattle.virtual_unwind.specs.Undone.{Answer, word, popped, operations}
-use Rattle.virtual_unwind.specs.Tail.{tail_at}
-use Rattle.virtual_unwind.specs.CallerOf.{Functions, CallerFrame, distance, base_if, unwound, found, in_body, in_entry, by_distance, past_prologue, of_entry, rising, risen, entry_of, caller_in}
-use Rattle.seh_records.specs.declared.dispatch.DispatchRecord.{DispatchRecord}
+use Rattle.virtual_unwind.specs.CallerOf.{Functions, CallerFrame, distance, base_if, unwound, found, in_body, by_distance, past_prologue, of_entry, rising, risen, caller_in}
 use Rattle.seh_records.specs.Record.{fetched}
 use Rattle.seh_walk.specs.declared.walk.WalkState.{WalkState}
-use Rattle.seh_walk.specs.Walk as walk
 use Rattle.seh_walk.specs.Walk.{visited, if_over, if_filter, if_finally, framed, past_filter, past_finally, if_search, above, if_above, walk_in, saved_in, filter_return, finally_return}
-use Rattle.raw_stack.specs.Stack.{StackFrame, Framed, Searching, Unwinding, FrameStands, Stands, after_frame, caller_frame}
+use Rattle.raw_stack.specs.Stack.{StackFrame, FrameStands, LeafStands, after_frame, after_leaf, caller_frame, caller_of_leaf}
 use Rattle.raw_stack.specs.PlainWalks.{state}
-use Rattle.raw_stack.specs.Laws.{FrameIsVisited, SearchIsPassed, UnwindingIsPassed, StackIsOver}
+use Rattle.raw_stack.specs.Laws.{FrameIsVisited, LeafIsVisited, SearchIsPassed, UnwindingIsPassed, StackIsOver}
 
 pub set_head : (kept : List ℕ) (v : ℕ) → 0 < length kept → slice_index (slice_set kept 0 v) 0 ≡ v
 set_head [] v lt = absurd (omega arith)
@@ -69,6 +66,28 @@ unfolding visited
 frame_is_visited t m c row f h =
     let w : WalkState = state c row in
     ap (if_over t m w) h.live ∙ ap (if_filter t m w) h.not_filter ∙ ap (if_finally t m w) h.not_finally ∙ ap framed (frame_called t m c f h)
+
+-- the return address popped
+leaf_popped : (m : Memory) (rip : ℕ) (kept : List ℕ) (back : ℕ) → 0 < length kept → slice_index kept 0 + 8 < 2 ^ 64 → word m (slice_index kept 0) ≡ Ok back → popped m (record { rip = rip; kept = kept }) ≡ Ok (record { rip = back; kept = slice_set kept 0 (slice_index kept 0 + 8) })
+leaf_popped m rip [] back lt room w = absurd (omega arith)
+leaf_popped m rip (k ∷ ks) back lt room w =
+    let e : (k + 8) % 2 ^ 64 ≡ k + 8 = omega arith in
+    ap (λ (o : Answer ℕ). o >>= up_by k ks) w ∙ ap (λ x. Ok (record { rip = back; kept = x ∷ ks })) e
+
+leaf_called : (t : Functions) (m : Memory) (c : Context) (back : ℕ) → LeafStands t m c back → caller_in t m c ≡ Ok (caller_of_leaf c back)
+unfolding caller_in
+leaf_called t m c back h =
+    let up : rsp (after_leaf c back) ≡ rsp c + 8 = set_head c.kept (rsp c + 8) (let k = h.kept in omega arith) in
+    let rises : nat_lt (rsp c) (rsp (after_leaf c back)) ≡ true = lt-ltb _ _ (omega arith) in
+    ap (λ (o : Option Entry). of_entry m c (distance t.base c.rip) o >>= rising c) h.none
+    ∙ ap (λ (r : Answer Context). found (rsp c) None r >>= rising c) (leaf_popped m c.rip c.kept back (let k = h.kept in omega arith) h.room h.returns)
+    ∙ ap (risen c (caller_of_leaf c back)) rises
+
+pub leaf_is_visited : LeafIsVisited
+unfolding visited
+leaf_is_visited t m c row back h =
+    let w : WalkState = state c row in
+    ap (if_over t m w) h.live ∙ ap (if_filter t m w) h.not_filter ∙ ap (if_finally t m w) h.not_finally ∙ ap framed (leaf_called t m c back h)
 
 -- a return address of the host isn't the end
 at_filter : (t : Functions) (m : Memory) (w : WalkState) → w.context.rip ≡ filter_return → visited t m w ≡ past_filter (rsp w.context) (fetched m (rsp w.context))

@@ -1,5 +1,5 @@
 -- What holds of every stack.
-use Rattle.std.specs.Prelude.{◌≡◌, ℕ, ◌+◌, ◌%◌, ◌^◌, ◌<◌, ◌≤◌, true, false, ◌⊎◌, List, [], ◌∷◌, ◌++◌, length, None}
+use Rattle.std.specs.Prelude.{◌≡◌, ℕ, ◌+◌, ◌^◌, ◌<◌, ◌≤◌, true, false, List, [], ◌∷◌, ◌++◌, length, None}
 use Rattle.flat_memory.specs.Memory.{Memory, with_bytes, first_refused, may_read}
 use Rattle.x64_machine.specs.declared.context.Context.{Context}
 use Rattle.x64_machine.specs.Contexts.{context_of}
@@ -12,7 +12,7 @@ use Rattle.seh_walk.specs.Walk as walk
 use Rattle.seh_walk.specs.Walk.{visited, saved_in, walk_in, is_search, filter_return, finally_return}
 use Rattle.seh_search.specs.Search.{search}
 use Rattle.seh_unwind.specs.Unwind.{unwind}
-use Rattle.raw_stack.specs.Stack.{StackFrame, StackItem, Framed, Searching, Unwinding, Stands, IsStack, Owned, Agree, IsWithin, after_frame, caller_frame, context_at}
+use Rattle.raw_stack.specs.Stack.{StackFrame, StackItem, Framed, Leaf, Searching, Unwinding, Stands, IsStack, Owned, Agree, IsWithin, after_frame, after_leaf, caller_frame, caller_of_leaf, context_at}
 use Rattle.raw_stack.specs.PlainWalks.{state, plain_search, plain_unwind}
 
 -- ---- what a walk meets
@@ -21,6 +21,11 @@ abbrev pub FrameIsVisited : Type 0
 FrameIsVisited =
     (t : Functions) (m : Memory) (c : Context) (row : ℕ) (f : StackFrame) → Stands t m c (Framed f)
     → visited t m (state c row) ≡ walk.Frame (caller_frame c f) (state (after_frame c f) 0)
+
+abbrev pub LeafIsVisited : Type 0
+LeafIsVisited =
+    (t : Functions) (m : Memory) (c : Context) (row back : ℕ) → Stands t m c (Leaf back)
+    → visited t m (state c row) ≡ walk.Frame (caller_of_leaf c back) (state (after_leaf c back) 0)
 
 abbrev pub SearchIsPassed : Type 0
 SearchIsPassed =

@@ -20,8 +20,10 @@ pub record StackFrame : Type 0 where
   pub offset : ℕ
   pub return_address : ℕ
 
+-- a frame; a leaf function, which has none, by its return address; a suspended search; a suspended unwinding
 pub data StackItem : Type 0 where
   Framed : StackFrame → StackItem
+  Leaf : ℕ → StackItem
   Searching : DispatchRecord → StackItem
   Unwinding : DispatchRecord → StackItem
 
@@ -31,21 +33,30 @@ pub data StackItem : Type 0 where
 abbrev pub after_frame : Context → StackFrame → Context
 after_frame c f = record { rip = f.return_address; kept = slice_set c.kept 0 (rsp c + f.size + 8) }
 
+-- a leaf function has pushed nothing: its return address is at RSP (Microsoft x64 ABI, "Function types")
+abbrev pub after_leaf : Context → ℕ → Context
+after_leaf c back = record { rip = back; kept = slice_set c.kept 0 (rsp c + 8) }
+
 -- after a search where its exception was raised, after an unwinding where that has come to
 abbrev pub context_after : Context → StackItem → Context
 context_after c (Framed f) = after_frame c f
+context_after c (Leaf back) = after_leaf c back
 context_after c (Searching r) = context_of r.saved
 context_after c (Unwinding r) = r.walk
 
 -- the row from which the frame after an item is asked
 abbrev pub row_after : StackItem → ℕ
 row_after (Framed f) = 0
+row_after (Leaf back) = 0
 row_after (Searching r) = 0
 row_after (Unwinding r) = r.row
 
 -- what the walk finds of a frame
 abbrev pub caller_frame : Context → StackFrame → CallerFrame
 caller_frame c f = record { frame = rsp c; context = after_frame c f; asked = Some f.entry.info }
+
+abbrev pub caller_of_leaf : Context → ℕ → CallerFrame
+caller_of_leaf c back = record { frame = rsp c; context = after_leaf c back; asked = None }
 
 -- ---- what stands in memory
 
@@ -64,6 +75,16 @@ pub record FrameStands (t : Functions) (m : Memory) (c : Context) (f : StackFram
   pub room : rsp c + f.size + 8 < 2 ^ 64
   pub returns : word m (rsp c + f.size) ≡ Ok f.return_address
 
+-- a leaf function, which has no entry in the function table
+pub record LeafStands (t : Functions) (m : Memory) (c : Context) (back : ℕ) : Type 0 where
+  pub live : (c.rip == 0) ≡ false
+  pub not_filter : (c.rip == filter_return) ≡ false
+  pub not_finally : (c.rip == finally_return) ≡ false
+  pub none : entry_of t c.rip ≡ None
+  pub kept : length c.kept ≡ 9
+  pub room : rsp c + 8 < 2 ^ 64
+  pub returns : word m (rsp c) ≡ Ok back
+
 -- a record at the return address of the host that its funclet has
 pub record RecordStands (m : Memory) (c : Context) (r : DispatchRecord) (address : ℕ) (searches : Bool) (next : Context) : Type 0 where
   pub at_host : c.rip ≡ address
@@ -74,6 +95,7 @@ pub record RecordStands (m : Memory) (c : Context) (r : DispatchRecord) (address
 
 abbrev pub Stands : Functions → Memory → Context → StackItem → Type 0
 Stands t m c (Framed f) = FrameStands t m c f
+Stands t m c (Leaf back) = LeafStands t m c back
 Stands t m c (Searching r) = RecordStands m c r filter_return true (context_of r.saved)
 Stands t m c (Unwinding r) = RecordStands m c r finally_return false r.walk
 
@@ -88,9 +110,10 @@ pub record IsWithin (a from to : ℕ) : Type 0 where
   pub low : from ≤ a
   pub high : a < to
 
--- of a frame its return address, of a record all but its home space
+-- of a function its return address, of a record all but its home space
 abbrev pub OwnedBy : Context → StackItem → ℕ → Type 0
 OwnedBy c (Framed f) a = IsWithin a (rsp c + f.size) (rsp c + f.size + 8)
+OwnedBy c (Leaf back) a = IsWithin a (rsp c) (rsp c + 8)
 OwnedBy c (Searching r) a = IsWithin a (rsp c + 32) (rsp c + 1568)
 OwnedBy c (Unwinding r) a = IsWithin a (rsp c + 32) (rsp c + 1568)
 

@@ -1,6 +1,6 @@
 //! What holds of every stack.
 
-ghost use Rattle.raw_stack.specs.Laws.{FrameIsVisited, SearchIsPassed, UnwindingIsPassed, StackIsOver, KeptByOtherStores, NothingBelowIsOwned, SlotsAreFree, RecordIsOneMore, SearchIsOfTheList, UnwindingIsOfTheList};
+ghost use Rattle.raw_stack.specs.Laws.{FrameIsVisited, LeafIsVisited, SearchIsPassed, UnwindingIsPassed, StackIsOver, KeptByOtherStores, NothingBelowIsOwned, SlotsAreFree, RecordIsOneMore, SearchIsOfTheList, UnwindingIsOfTheList};
 
 /// A walk visits the items of a stack in order, and nothing else: so searches and unwindings are those
 /// of the list. The stack stands as long as the code, the frames' return addresses and the records stay
@@ -8,6 +8,7 @@ ghost use Rattle.raw_stack.specs.Laws.{FrameIsVisited, SearchIsPassed, Unwinding
 /// record that is placed below a stack is one item more.
 pub fn laws()
     ensures frame { FrameIsVisited }
+    ensures leaf { LeafIsVisited }
     ensures search { SearchIsPassed }
     ensures unwinding { UnwindingIsPassed }
     ensures over { StackIsOver }

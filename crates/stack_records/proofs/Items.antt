@@ -51,10 +51,12 @@ search_is_one_more t fs program p m at r is items acts exception resumption aske
           record {
             own = record { fits = s.own.fits; room = misplaced_same m new at ∙ s.own.room };
             carries = s.carries;
+            resumes = s.resumes;
             onward = s.onward;
             address = s.address;
             aimed = s.aimed;
             before = s.before;
+            near = s.near;
           },
           outer.linked,
         );
@@ -80,6 +82,7 @@ unwinding_is_one_more t fs program p m at r is items acts rest target others on 
             purpose = s.purpose;
             row = s.row;
             aimed = s.aimed;
+            space = s.space;
           },
           outer.linked,
         );

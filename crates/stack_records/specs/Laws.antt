@@ -33,7 +33,7 @@ SearchIsOneMore =
     (t : Functions) (fs : List Funclet) (program : LinearProgram) (p : Plan) (m : Memory) (at : ℕ) (r : DispatchRecord) (is : List StackItem) (items : List Item) (acts : List Activation)
     (exception : Exception) (resumption : Resumption) (asked : Handler) (rest : List Handler) (others : List ℕ)
     → On t fs program p m (context_of r.saved) is items acts → is_search r.kind ≡ true → HasRoom m at r (rsp (context_of r.saved))
-    → SearchWaits t fs program p m (context_below filter_return at []) r exception asked rest is items
+    → SearchWaits t fs program p m (context_below filter_return at []) r exception resumption asked rest is items
     → On t fs program p (laid m at r filter_return) (context_below filter_return at others) (Searching r ∷ is) (Searches exception resumption asked rest ∷ items) acts
 
 -- an unwinding that waits, at the return address of its `__finally` block
@@ -42,7 +42,7 @@ UnwindingIsOneMore =
     (t : Functions) (fs : List Funclet) (program : LinearProgram) (p : Plan) (m : Memory) (at : ℕ) (r : DispatchRecord) (is : List StackItem) (items : List Item) (acts : List Activation)
     (rest : List Region) (target : Target) (others : List ℕ)
     → On t fs program p m r.walk is items acts → is_search r.kind ≡ false → HasRoom m at r (rsp r.walk)
-    → UnwindingWaits t fs program p m (context_below finally_return at []) r rest target is items
+    → UnwindingWaits t fs program p m (context_below finally_return at []) r rest target is items acts
     → On t fs program p (laid m at r finally_return) (context_below finally_return at others) (Unwinding r ∷ is) (Unwinds rest target ∷ items) acts
 
 abbrev pub LaidRecordLeavesOthers : Type 0

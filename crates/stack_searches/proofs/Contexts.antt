@@ -9,7 +9,7 @@ use Rattle.virtual_unwind.specs.Contexts.{rsp}
 use Rattle.virtual_unwind.specs.CallerOf.{Functions}
 use Rattle.seh_records.specs.declared.dispatch.DispatchRecord.{DispatchRecord}
 use Rattle.seh_records.specs.Laws.{Fits, AllSmall}
-use Rattle.raw_stack.specs.Stack.{StackFrame, FrameStands, after_frame}
+use Rattle.raw_stack.specs.Stack.{StackFrame, FrameStands, LeafStands, after_frame, after_leaf}
 use Rattle.stack_searches.specs.Searching.{IsWide}
 
 small_set : (kept : List ℕ) (v : ℕ) → IsWide kept → v < 2 ^ 64 → IsWide (slice_set kept 0 v)
@@ -22,6 +22,9 @@ small_set (k ∷ ks) v s lt = record { count = s.count; each = at }
 
 pub wide_after : (t : Functions) (m : Memory) (c : Context) (f : StackFrame) → FrameStands t m c f → IsWide c.kept → IsWide (after_frame c f).kept
 wide_after t m c f h s = small_set c.kept (rsp c + f.size + 8) s h.room
+
+pub wide_after_leaf : (t : Functions) (m : Memory) (c : Context) (back : ℕ) → LeafStands t m c back → IsWide c.kept → IsWide (after_leaf c back).kept
+wide_after_leaf t m c back h s = small_set c.kept (rsp c + 8) s h.room
 
 pub wide_of : (c : Cpu) → length c.registers ≡ 16 → AllSmall c.registers → IsWide (context_of c).kept
 wide_of c n h = record { count = refl; each = at }

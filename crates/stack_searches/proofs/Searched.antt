@@ -1,5 +1,7 @@
 -- The host's search asks the handlers that linear code meets, in their order.
 use Rattle.std.proofs.Common.{◌≡◌, ◌⊎◌, inl, inr, ℕ, suc, ◌+◌, ◌%◌, ◌^◌, ◌<◌, ◌≤◌, Bool, Option, Some, None, List, [], ◌∷◌, ◌++◌, length, refl, sym, ap, subst, ◌∙◌, arith}
+use Rattle.std.specs.Prelude.{filter, drop}
+use Rattle.std.proofs.Math.Seq.{drop-nil}
 use Rattle.flat_memory.specs.Memory.{Memory}
 use Rattle.x64_machine.specs.declared.context.Context.{Context}
 use Rattle.x64_machine.specs.Contexts.{context_of}
@@ -17,20 +19,20 @@ use Rattle.template_code.specs.declared.layout.Layout.{Layout}
 use Rattle.linear_code.specs.declared.program.Region.{Region}
 use Rattle.linear_code.specs.Program.{LinearProgram}
 use Rattle.linear_machine.specs.Frames.{BodyName, FunctionBody, FuncletBody, body_of, Frame, Handler, Item, Waits, Searches, Unwinds}
-use Rattle.linear_machine.specs.Regions.{regions_of, regions_at, regions_left, handlers_in, handlers}
-use Rattle.raw_stack.specs.Stack.{StackFrame, StackItem, Framed, Searching, Unwinding, FrameStands, IsStack, after_frame}
+use Rattle.linear_machine.specs.Regions.{holds, regions_of, regions_at, regions_left, handlers_in, handlers}
+use Rattle.raw_stack.specs.Stack.{StackFrame, StackItem, Framed, Leaf, Searching, Unwinding, FrameStands, LeafStands, IsStack, after_frame, after_leaf}
 use Rattle.raw_stack.specs.PlainWalks.{state, asked_row, chosen_or, plain_search}
 use Rattle.raw_stack.proofs.Keeping.{rises}
 use Rattle.raw_stack.proofs.Listing.{search_is_of_the_list}
-use Rattle.linked_stack.specs.ImagePlan.{Plan, AreRegions, IsFlagged, IsEntryOf, IsHandlerRow, Gives}
-use Rattle.linked_stack.specs.Linked.{Activation, IsActivation, activations_below, HasActivation, Reaches, BodyWaits, regions_from, IsAtRow, Onward, Aimed, Linked}
+use Rattle.linked_stack.specs.ImagePlan.{Plan, AreRegions, IsFlagged, IsEntryOf, IsGiven, IsHandlerRow, Gives}
+use Rattle.linked_stack.specs.Linked.{Activation, IsActivation, activations_below, HasActivation, Reaches, FrameWaits, LeafWaits, regions_from, IsAtRow, Onward, Aimed, Linked}
 use Rattle.linked_stack.specs.Frames.{NoHandler, FirstHandler}
 use Rattle.linked_stack.specs.Laws.{IsInstruction, left_from}
 use Rattle.linked_stack.proofs.Places.{row_before_short}
 use Rattle.linked_stack.proofs.Searched.{search_meets_the_handlers}
 use Rattle.stack_searches.specs.Searching.{IsWide, CanBeKept, Asks, Accepts, Meets, SearchedAs}
 use Rattle.stack_searches.specs.Laws.{StandsIn, SearchIsTheLists, SearchGoesOn}
-use Rattle.stack_searches.proofs.Contexts.{wide_after, wide_saved, wide_walk}
+use Rattle.stack_searches.proofs.Contexts.{wide_after, wide_after_leaf, wide_saved, wide_walk}
 use Rattle.stack_searches.proofs.Flags.{searched_all}
 
 pub activation_below : (name : BodyName) (acts : List Activation) (k base distance : ℕ) → IsActivation (activations_below name acts) k base distance → IsActivation acts k base distance
@@ -96,24 +98,26 @@ module _ (t : Functions) (fs : List Funclet) (program : LinearProgram) (p : Plan
 
 module _ (t : Functions) (fs : List Funclet) (program : LinearProgram) (p : Plan) (g : Gives t fs program p) where
   -- a waiting body's frame has the records of its body
-  pub entry_of_body : (m : Memory) (c : Context) (f : StackFrame) (b : Frame) (acts : List Activation) (body : BodyWaits t fs program p m c f b acts) → IsEntryOf t fs program p b.body body.code
-  entry_of_body m c f b acts body = g b.body body.code body.body
+  pub entry_of_body : (m : Memory) (c : Context) (f : StackFrame) (b : Frame) (below : List Item) (acts : List Activation) (body : FrameWaits t fs program p m c f b below acts) → IsEntryOf t fs program p b.body body.waits.code
+  entry_of_body m c f b below acts body = subst (λ x. IsGiven t fs program p b.body body.waits.code x) body.framed (g b.body body.waits.code body.waits.body)
 
-  pub flags_of_body : (m : Memory) (c : Context) (f : StackFrame) (b : Frame) (acts : List Activation) (body : BodyWaits t fs program p m c f b acts) → IsFlagged t fs program p f.entry.info
-  flags_of_body m c f b acts body = subst (λ (e : Entry). IsFlagged t fs program p e.info) (sym body.entry) (entry_of_body m c f b acts body).flagged
+  pub flags_of_body : (m : Memory) (c : Context) (f : StackFrame) (b : Frame) (below : List Item) (acts : List Activation) (body : FrameWaits t fs program p m c f b below acts) → IsFlagged t fs program p f.entry.info
+  flags_of_body m c f b below acts body = subst (λ (e : Entry). IsFlagged t fs program p e.info) (sym body.entry) (entry_of_body m c f b below acts body).flagged
 
-  pub few_of_body : (m : Memory) (c : Context) (f : StackFrame) (b : Frame) (acts : List Activation) (body : BodyWaits t fs program p m c f b acts) → length f.entry.info.scopes < 2 ^ 32
-  few_of_body m c f b acts body = subst (λ (e : Entry). length e.info.scopes < 2 ^ 32) (sym body.entry) (entry_of_body m c f b acts body).few
+  pub few_of_body : (m : Memory) (c : Context) (f : StackFrame) (b : Frame) (below : List Item) (acts : List Activation) (body : FrameWaits t fs program p m c f b below acts) → length f.entry.info.scopes < 2 ^ 32
+  few_of_body m c f b below acts body = subst (λ (e : Entry). length e.info.scopes < 2 ^ 32) (sym body.entry) (entry_of_body m c f b below acts body).few
 
-  pub instruction_of_body : (m : Memory) (c : Context) (f : StackFrame) (b : Frame) (acts : List Activation) (body : BodyWaits t fs program p m c f b acts) → IsInstruction t fs program p b.body b.next c.rip f.entry.info.scopes (regions_of (body_of program b.body))
-  instruction_of_body m c f b acts body =
+  pub instruction_of_body : (m : Memory) (c : Context) (f : StackFrame) (b : Frame) (below : List Item) (acts : List Activation) (body : FrameWaits t fs program p m c f b below acts) → IsInstruction t fs program p b.body b.next c.rip f.entry.info.scopes (regions_of (body_of program b.body))
+  instruction_of_body m c f b below acts body =
       record {
-        inside = body.instruction;
+        label = body.waits.label;
+        inside = body.waits.instruction;
+        same = body.waits.same;
         rows = subst (λ (e : Entry). AreRegions t fs program p b.body e.info.scopes (regions_of (body_of program b.body))) (sym body.entry)
-            (subst (λ (rs : List Region). AreRegions t fs program p b.body (p.entry b.body).info.scopes rs) (sym (ap regions_of body.body)) (entry_of_body m c f b acts body).rows);
+            (subst (λ (rs : List Region). AreRegions t fs program p b.body (p.entry b.body).info.scopes rs) (sym (ap regions_of body.waits.body)) (entry_of_body m c f b below acts body).rows);
       }
 
-  module _ (m : Memory) (c : Context) (f : StackFrame) (is : List StackItem) (b : Frame) (below : List Item) (acts : List Activation) (stands : FrameStands t m c f) (body : BodyWaits t fs program p m c f b acts) (wide : IsWide c.kept) where
+  module _ (m : Memory) (c : Context) (f : StackFrame) (is : List StackItem) (b : Frame) (below : List Item) (acts : List Activation) (stands : FrameStands t m c f) (body : FrameWaits t fs program p m c f b below acts) (wide : IsWide c.kept) where
     abbrev outer : SearchResult
     outer = plain_search t (after_frame c f) 0 is
 
@@ -136,7 +140,7 @@ module _ (t : Functions) (fs : List Funclet) (program : LinearProgram) (p : Plan
         }
     meets_here index row (Some k) target x e =
         let room = stands.room in
-        let few = few_of_body m c f b acts body in
+        let few = few_of_body m c f b below acts body in
         let short = row_before_short f.entry.info.scopes index row (ap (row_before f.entry.info.scopes) (let a : suc index ≡ index + 1 = omega arith in a) ∙ e) in
         record {
           to = c;
@@ -150,18 +154,18 @@ module _ (t : Functions) (fs : List Funclet) (program : LinearProgram) (p : Plan
           before = record { row = row; before = ap (λ (o : Option Entry). row_before (rows_of o) (index + 1)) stands.found ∙ e; jumps = x.to.jumps; target = x.to.target };
           funclet = x.funclet;
           named = x.named;
-          reaches = body_reaches t fs program p m b.body (rsp c) f.size b.activation acts stands.room body.activation;
+          reaches = body_reaches t fs program p m b.body (rsp c) f.size b.activation acts stands.room body.waits.activation;
           above = omega arith;
-          kept = record { frame_small = omega arith; row_small = omega arith; rip_small = body.small; registers = wide };
+          kept = record { frame_small = omega arith; row_small = omega arith; rip_small = body.waits.small; registers = wide };
         }
 
     -- from a row of this frame on
     pub from_row : (row : ℕ) → SearchedAs t fs program p m (activations_below b.body acts) (after_frame c f) is below outer (handlers program below None)
         → SearchedAs t fs program p m acts c (Framed f ∷ is) (Waits b ∷ below) (plain_search t c row (Framed f ∷ is)) (rest_from row)
-    from_row row out = by (search_meets_the_handlers t fs program p b.body b.next c.rip row f.entry.info.scopes (regions_of (body_of program b.body)) (instruction_of_body m c f b acts body))
+    from_row row out = by (search_meets_the_handlers t fs program p b.body b.next c.rip row f.entry.info.scopes (regions_of (body_of program b.body)) (instruction_of_body m c f b below acts body))
       where
         first : asked_row t c row f ≡ first_with_jump_target (rows_from (distance t.base c.rip) row f.entry.info.scopes)
-        first = searched_all t fs program p f.entry.info (distance t.base c.rip) row (flags_of_body m c f b acts body)
+        first = searched_all t fs program p f.entry.info (distance t.base c.rip) row (flags_of_body m c f b below acts body)
 
         by : NoHandler t fs program p (rows_from (distance t.base c.rip) row f.entry.info.scopes) (left_from b.next (regions_of (body_of program b.body)) row)
             ⊎ FirstHandler t fs program p b.body f.entry.info.scopes (rows_from (distance t.base c.rip) row f.entry.info.scopes) (left_from b.next (regions_of (body_of program b.body)) row) (left_from b.next (regions_of (body_of program b.body)))
@@ -176,6 +180,19 @@ module _ (t : Functions) (fs : List Funclet) (program : LinearProgram) (p : Plan
             (subst (λ (hs : List Handler). SearchedAs t fs program p m acts c (Framed f ∷ is) (Waits b ∷ below) (chosen t.base (rsp c) c (x.index, x.row)) (hs ++ handlers program below None)) (sym (x.handlers b.activation (length below)))
             (meets_here x.index x.row x.filter x.target x.is x.before))
 
+  -- a leaf function has no handler
+  module _ (m : Memory) (c : Context) (back : ℕ) (is : List StackItem) (b : Frame) (below : List Item) (acts : List Activation) (stands : LeafStands t m c back) (body : LeafWaits t fs program p m c b acts) where
+    pub none_from : (row : ℕ) → regions_from t fs program p b row ≡ []
+    none_from row = ap (λ (rs : List Region). filter (holds b.next) (drop row rs)) body.none ∙ ap (filter (holds b.next)) (drop-nil row)
+
+    pub past_leaf : (row : ℕ) → SearchedAs t fs program p m (activations_below b.body acts) (after_leaf c back) is below (plain_search t (after_leaf c back) 0 is) (handlers program below None)
+        → SearchedAs t fs program p m acts c (Leaf back ∷ is) (Waits b ∷ below) (plain_search t c row (Leaf back ∷ is)) (handlers_in (regions_from t fs program p b row) b.activation (length below) ++ handlers program below None)
+    past_leaf row out =
+        subst (λ (rs : List Region). SearchedAs t fs program p m acts c (Leaf back ∷ is) (Waits b ∷ below) (plain_search t c row (Leaf back ∷ is)) (handlers_in rs b.activation (length below) ++ handlers program below None)) (sym (none_from row))
+        (searched_outer t fs program p m acts (activations_below b.body acts) c (after_leaf c back) (Leaf back ∷ is) is (Waits b ∷ below) below (let r = rises t m c (Leaf back) stands in omega arith)
+        (activation_below b.body acts) (λ to row found o. inr o) (λ depth label frame address a. a)
+        (plain_search t c row (Leaf back ∷ is)) (plain_search t (after_leaf c back) 0 is) (handlers program below None) refl out)
+
   pub searched_plainly : (m : Memory) (acts : List Activation) (is : List StackItem) (items : List Item) (c : Context) (row : ℕ) (left : Option (List Region))
       → IsStack t m c is → Linked t fs program p m c is items acts → IsAtRow t fs program p row items left → IsWide c.kept
       → SearchedAs t fs program p m acts c is items (plain_search t c row is) (handlers program items left)
@@ -184,6 +201,10 @@ module _ (t : Functions) (fs : List Funclet) (program : LinearProgram) (p : Plan
       subst (λ (rs : List Region). SearchedAs t fs program p m acts c (Framed f ∷ is) (Waits b ∷ below) (plain_search t c row (Framed f ∷ is)) (handlers_in rs b.activation (length below) ++ handlers program below None)) (sym at)
       (from_row m c f is b below acts s.0 h.0 wide row
       (searched_plainly m (activations_below b.body acts) is below (after_frame c f) 0 None s.1 h.2 (at_first_row t fs program p below) (wide_after t m c f s.0 wide)))
+  searched_plainly m acts (Leaf back ∷ is) (Waits b ∷ below) c row left s h at wide =
+      subst (λ (rs : List Region). SearchedAs t fs program p m acts c (Leaf back ∷ is) (Waits b ∷ below) (plain_search t c row (Leaf back ∷ is)) (handlers_in rs b.activation (length below) ++ handlers program below None)) (sym at)
+      (past_leaf m c back is b below acts s.0 h.0 row
+      (searched_plainly m (activations_below b.body acts) is below (after_leaf c back) 0 None s.1 h.2 (at_first_row t fs program p below) (wide_after_leaf t m c back s.0 wide)))
   searched_plainly m acts (Searching r ∷ is) (Searches exception resumption asked rest ∷ below) c row left s h at wide =
       searched_outer t fs program p m acts acts c (context_of r.saved) (Searching r ∷ is) is (Searches exception resumption asked rest ∷ below) below (let q = rises t m c (Searching r) s.0 in omega arith)
       (λ k base distance i. i) (λ to row found o. o) (λ depth label frame address a. a) _ _ _ refl
@@ -196,6 +217,9 @@ module _ (t : Functions) (fs : List Funclet) (program : LinearProgram) (p : Plan
   searched_plainly m acts (Framed f ∷ is) [] c row left s h at wide = absurd h
   searched_plainly m acts (Framed f ∷ is) (Searches exception resumption asked rest ∷ below) c row left s h at wide = absurd h
   searched_plainly m acts (Framed f ∷ is) (Unwinds rest target ∷ below) c row left s h at wide = absurd h
+  searched_plainly m acts (Leaf back ∷ is) [] c row left s h at wide = absurd h
+  searched_plainly m acts (Leaf back ∷ is) (Searches exception resumption asked rest ∷ below) c row left s h at wide = absurd h
+  searched_plainly m acts (Leaf back ∷ is) (Unwinds rest target ∷ below) c row left s h at wide = absurd h
   searched_plainly m acts (Searching r ∷ is) [] c row left s h at wide = absurd h
   searched_plainly m acts (Searching r ∷ is) (Waits b ∷ below) c row left s h at wide = absurd h
   searched_plainly m acts (Searching r ∷ is) (Unwinds rest target ∷ below) c row left s h at wide = absurd h
@@ -217,6 +241,16 @@ module _ (t : Functions) (fs : List Funclet) (program : LinearProgram) (p : Plan
       searched_outer t fs program p m acts (activations_below b.body acts) c (after_frame c f) (Framed f ∷ is) is (Waits b ∷ below) below (let q = rises t m c (Framed f) s.0 in omega arith)
       (activation_below b.body acts) (λ to row found o. inr o) (λ depth label frame address a. inr a) _ _ found refl
       (goes_on m (activations_below b.body acts) is below (after_frame c f) to row found n s.1 h.2 (wide_after t m c f s.0 wide) o (omega arith))
+  goes_on m acts (Leaf back ∷ is) (Waits b ∷ below) c to row found n s h wide (inl o) lt =
+      subst (λ (x : Context). SearchedAs t fs program p m acts c (Leaf back ∷ is) (Waits b ∷ below) (search n t m (state x row)) found) o.same
+      (subst (λ (x : SearchResult). SearchedAs t fs program p m acts c (Leaf back ∷ is) (Waits b ∷ below) x found) (sym (search_is_of_the_list t m c row (Leaf back ∷ is) n s lt))
+      (subst (λ (x : List Handler). SearchedAs t fs program p m acts c (Leaf back ∷ is) (Waits b ∷ below) (plain_search t c row (Leaf back ∷ is)) x) (sym o.meets)
+      (past_leaf m c back is b below acts s.0 h.0 row
+      (searched_plainly m (activations_below b.body acts) is below (after_leaf c back) 0 None s.1 h.2 (at_first_row t fs program p below) (wide_after_leaf t m c back s.0 wide)))))
+  goes_on m acts (Leaf back ∷ is) (Waits b ∷ below) c to row found n s h wide (inr o) lt =
+      searched_outer t fs program p m acts (activations_below b.body acts) c (after_leaf c back) (Leaf back ∷ is) is (Waits b ∷ below) below (let q = rises t m c (Leaf back) s.0 in omega arith)
+      (activation_below b.body acts) (λ to row found o. inr o) (λ depth label frame address a. a) _ _ found refl
+      (goes_on m (activations_below b.body acts) is below (after_leaf c back) to row found n s.1 h.2 (wide_after_leaf t m c back s.0 wide) o (omega arith))
   goes_on m acts (Searching r ∷ is) (Searches exception resumption asked rest ∷ below) c to row found n s h wide o lt =
       searched_outer t fs program p m acts acts c (context_of r.saved) (Searching r ∷ is) is (Searches exception resumption asked rest ∷ below) below (let q = rises t m c (Searching r) s.0 in omega arith)
       (λ k base distance i. i) (λ to row found o. o) (λ depth label frame address a. a) _ _ found refl
@@ -229,6 +263,9 @@ module _ (t : Functions) (fs : List Funclet) (program : LinearProgram) (p : Plan
   goes_on m acts (Framed f ∷ is) [] c to row found n s h wide o lt = absurd h
   goes_on m acts (Framed f ∷ is) (Searches exception resumption asked rest ∷ below) c to row found n s h wide o lt = absurd h
   goes_on m acts (Framed f ∷ is) (Unwinds rest target ∷ below) c to row found n s h wide o lt = absurd h
+  goes_on m acts (Leaf back ∷ is) [] c to row found n s h wide o lt = absurd h
+  goes_on m acts (Leaf back ∷ is) (Searches exception resumption asked rest ∷ below) c to row found n s h wide o lt = absurd h
+  goes_on m acts (Leaf back ∷ is) (Unwinds rest target ∷ below) c to row found n s h wide o lt = absurd h
   goes_on m acts (Searching r ∷ is) [] c to row found n s h wide o lt = absurd h
   goes_on m acts (Searching r ∷ is) (Waits b ∷ below) c to row found n s h wide o lt = absurd h
   goes_on m acts (Searching r ∷ is) (Unwinds rest target ∷ below) c to row found n s h wide o lt = absurd h

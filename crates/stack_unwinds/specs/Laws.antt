@@ -1,5 +1,5 @@
 -- What holds of every unwinding.
-use Rattle.std.specs.Prelude.{◌≡◌, ℕ, ◌<◌, List, length, Option}
+use Rattle.std.specs.Prelude.{◌≡◌, ℕ, ◌+◌, ◌<◌, List, length, Option}
 use Rattle.seh_num.specs.declared.event.Event.{Event}
 use Rattle.flat_memory.specs.Memory.{Memory}
 use Rattle.x64_machine.specs.declared.context.Context.{Context}
@@ -24,5 +24,5 @@ UnwindingIsTheLists =
     (t : Functions) (fs : List Funclet) (program : LinearProgram) (p : Plan) (m : Memory) (c : Context) (is : List StackItem) (items : List Item) (acts : List Activation) (row : ℕ) (left : Option (List Region))
     (target : Target) (frame address : ℕ) (source : Memory) (events : List Event) (n : ℕ)
     → StandsIn t fs program p m c is items acts → IsAtRow t fs program p row items left → Aimed t fs program p target.depth target.label frame address c is items → length is < n
-    → UnwoundAs t fs program p m (record { target = target; frame = frame; address = address; low = rsp c; source = source; events = events })
+    → UnwoundAs t fs program p m (record { target = target; frame = frame; address = address; low = rsp c; depth = length acts + target.held; source = source; events = events })
     (hosts.unwind n t m frame address (state c row)) (λ then. linear.unwind program then target items left events (store_of source acts))

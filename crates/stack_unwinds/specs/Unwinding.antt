@@ -1,5 +1,5 @@
 -- What an unwinding of the host comes to, against that of linear code: the same `__finally` block, or the same landing.
-use Rattle.std.specs.Prelude.{◌≡◌, ◌⊎◌, ℕ, ◌+◌, ◌≤◌, true, List, [], ◌∷◌, Some}
+use Rattle.std.specs.Prelude.{◌≡◌, ◌⊎◌, ℕ, ◌+◌, ◌≤◌, true, List, [], ◌∷◌, length, Some}
 use Rattle.seh_num.specs.declared.event.Event.{Event}
 use Rattle.flat_memory.specs.Memory.{Memory}
 use Rattle.x64_machine.specs.declared.cpu.Cpu.{Cpu}
@@ -14,7 +14,7 @@ use Rattle.linear_code.specs.declared.program.Region.{Region}
 use Rattle.linear_code.specs.Program.{LinearProgram}
 use Rattle.linear_machine.specs.Frames.{Frame, Target, Item, Waits, Unwinds, Store, Configuration, Seen, Next}
 use Rattle.linear_machine.specs.Unwinding.{arrive, run_finally}
-use Rattle.raw_stack.specs.Stack.{StackItem, IsStack}
+use Rattle.raw_stack.specs.Stack.{StackFrame, StackItem, Framed, IsStack}
 use Rattle.linked_stack.specs.ImagePlan.{Plan, IsFunclet}
 use Rattle.linked_stack.specs.Linked.{Activation, locals_of, Reaches, IsAtRow, Aimed, Linked}
 use Rattle.stack_searches.specs.Searching.{IsWide, CanBeKept}
@@ -27,19 +27,22 @@ store_of source acts = record { memory = source; activations = locals_of acts }
 abbrev pub on_top : Frame → List Item → Memory → List Activation → List Event → Configuration
 on_top b below source acts events = record { frame = b; below = below; store = store_of source acts; events = events }
 
--- where an unwinding goes, and on what: its frame and the address where it lands, the lowest stack pointer, the source's memory and the events so far
+-- where an unwinding goes, and on what: its frame and the address where it lands, the lowest stack pointer, the depth where it begins, which is that of its activations with what is held, the source's memory and the events so far
 pub record Course : Type 0 where
   pub target : Target
   pub frame : ℕ
   pub address : ℕ
   pub low : ℕ
+  pub depth : ℕ
   pub source : Memory
   pub events : List Event
 
 module _ (t : Functions) (fs : List Funclet) (program : LinearProgram) (p : Plan) where
-  -- a `__finally` block of a body runs: the body waits with the regions that are left, and the target lies ahead
+  -- a `__finally` block of a body runs: the body waits with the regions that are left, and the target lies ahead, with what is held for the activations that were left
   pub record RunsBlock (m : Memory) (course : Course) (u : UnwindResult) (seen : Next → Seen) : Type 0 where
     pub block : ℕ
+    pub held : ℕ
+    pub more : course.target.held ≤ held
     pub left : List Region
     pub body : Frame
     pub below : List Item
@@ -47,10 +50,11 @@ module _ (t : Functions) (fs : List Funclet) (program : LinearProgram) (p : Plan
     pub row : ℕ
     pub is : List StackItem
     pub acts : List Activation
+    pub counted : length acts + held ≡ course.depth
     pub answer : u ≡ unwinds.Finally (p.funclet block) (rsp to) row to
     pub goes :
         (then : Next) → seen then
-        ≡ run_finally program block true course.target.held (Unwinds left course.target ∷ Waits body ∷ below) then (on_top body below course.source acts course.events)
+        ≡ run_finally program block true held (Unwinds left (record course.target { held = held }) ∷ Waits body ∷ below) then (on_top body below course.source acts course.events)
     pub stack : IsStack t m to is
     pub linked : Linked t fs program p m to is (Waits body ∷ below) acts
     pub at_row : IsAtRow t fs program p row (Waits body ∷ below) (Some left)
@@ -63,15 +67,19 @@ module _ (t : Functions) (fs : List Funclet) (program : LinearProgram) (p : Plan
 
   -- the unwinding lands in a body, which goes on
   pub record Lands (m : Memory) (course : Course) (u : UnwindResult) (seen : Next → Seen) : Type 0 where
+    pub held : ℕ
+    pub more : course.target.held ≤ held
     pub body : Frame
     pub below : List Item
     pub to : Context
+    pub framed : StackFrame
     pub is : List StackItem
     pub acts : List Activation
+    pub counted : length acts + held ≡ course.depth
     pub answer : u ≡ unwinds.Land to
-    pub goes : (then : Next) → seen then ≡ arrive course.target course.target.code then (on_top body below course.source acts course.events)
-    pub stack : IsStack t m to is
-    pub linked : Linked t fs program p m to is (Waits body ∷ below) acts
+    pub goes : (then : Next) → seen then ≡ arrive (record course.target { held = held }) course.target.code then (on_top body below course.source acts course.events)
+    pub stack : IsStack t m to (Framed framed ∷ is)
+    pub linked : Linked t fs program p m to (Framed framed ∷ is) (Waits body ∷ below) acts
     pub at_frame : course.frame ≡ rsp to
     pub at_address : course.address ≡ p.address body.body course.target.label
     pub lands : p.lands body.body course.target.label ≡ true

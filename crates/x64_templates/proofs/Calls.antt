@@ -112,7 +112,7 @@ pub call_reaches : (v : MachineView) (sp rip to : ℕ) (f : Flags) → sp_of v �
 call_reaches v sp rip to f at below n code =
     let i = call (rip + 5) to in
     let next : rip + size i ≡ rip + 5 = ap (λ (k : ℕ). rip + k) (call_size (rip + 5) to) in
-    one_reaches i v (pushed v sp (rip + 5)) rip to f f (short (rip + 5) to n) code
+    one_reaches i v (pushed v sp (rip + 5)) rip to f f (short (rip + 5) to n) refl code
     (ap (λ (a : ℕ). effect (machine v a f) i) next ∙ call_effect v sp (rip + 5) (distance (rip + 5) to) to f at below (arrives (rip + 5) to n))
 
 pub call_begins : (p : Frame) (first : ℕ) (v : MachineView) (rip to : ℕ) (f : Flags) (b : BodyState) → Roomy p → first + 4 ≤ p.counts.temporaries → sp_of v ≡ p.sp → Holds p v.memory b → HasBelow v.memory p.sp 8 → IsNear (return_at p.layout first rip) to → HasCode v.memory rip (begin_call p.layout first rip to) → CallBegun p first v rip to f b

@@ -38,7 +38,7 @@ use Rattle.x64_templates.proofs.Divisions.{half_set}
 use Rattle.x64_templates.proofs.Implements.{works}
 use Rattle.x64_templates.proofs.Cells.{put, sp_of, fetch_does}
 use Rattle.x64_templates.proofs.Bodies.{changes_then, keep_does, holds_after, changes_slot, holds_same, changes_same}
-use Rattle.x64_templates.proofs.Encoded.{Fine, fine_both, encodable_of, straight_of, keep_fine, work_fine, operands_fine, finish_fine}
+use Rattle.x64_templates.proofs.Encoded.{Fine, fine_both, encodable_of, straight_of, none_taking, keep_fine, work_fine, operands_fine, finish_fine}
 
 -- ---- code and its parts
 
@@ -98,7 +98,7 @@ pub record Reached (turns : ℕ) (v w : MachineView) (rip at : ℕ) (f : Flags) 
 pub runs_view : (is : List Instr) (v w : MachineView) (rip : ℕ) (f : Flags) → Fine is → HasCode v.memory rip is → Executes is v w → Reached (length is) v w rip (rip + sizes is) f
 runs_view is v w rip f fine code d =
     let r = d rip f in
-    let went = straight_runs is (machine v rip f) (machine w (rip + sizes is) r.0) (encodable_of is fine) (straight_of is fine) code.stands code.placed r.1 in
+    let went = straight_runs is (machine v rip f) (machine w (rip + sizes is) r.0) (encodable_of is fine) (straight_of is fine) (none_taking is fine) code.stands code.placed r.1 in
     record { left = r.0; comes = went.ran.comes }
 
 -- ---- both operands are brought to their registers

@@ -1,5 +1,5 @@
 -- Each instruction of an operation has a spelling, goes on to the next, and begins no epilogue.
-use Rattle.std.proofs.Common.{◌≡◌, ℕ, ◌^◌, ◌<◌, ◌≤◌, Bool, true, false, ltb, List, [], ◌∷◌, ◌++◌, length, Option, Some, None, refl, arith, length-append}
+use Rattle.std.proofs.Common.{◌≡◌, ℕ, ◌^◌, ◌<◌, Bool, true, false, ltb, List, [], ◌∷◌, ◌++◌, Option, Some, None, refl, arith}
 use Rattle.std.proofs.lemmas.Bool.{lt-ltb}
 use Rattle.seh_num.specs.declared.width.Width.{Width}
 use Rattle.seh_num.specs.declared.width.Width.TheVariants.{W8, W16, W32, W64}
@@ -25,9 +25,11 @@ use Rattle.c_operations.specs.Numbers.{width}
 use Rattle.linear_code.specs.BodyState.{Counts}
 use Rattle.linear_code.specs.Meaning.{IsSlot}
 use Rattle.template_code.specs.declared.layout.Layout.{Layout}
-use Rattle.x64_templates.specs.Straight.{is_straight, AllStraight, begins_epilogue}
+use Rattle.std.specs.Prelude.{◌&&◌}
+use Rattle.x64_instr.specs.declared.instruction.Instr.TheVariants as instrs
+use Rattle.x64_templates.specs.Straight.{is_straight, AllStraight, is_rsp_place, begins_epilogue, is_subtraction, is_number, takes_frame, NoneTakesFrame}
 use Rattle.template_code.specs.Operations.{compare, extended, pure_code, high_half, before, work}
-use Rattle.template_code.specs.Slots.{fetched, put_back, temporary_at, local_at, fetch_local, keep_local, fetch, keep, operands_code, finish_code, compute_code}
+use Rattle.template_code.specs.Slots.{fetched, put_back, temporary_at, local_at, fetch_local, keep_local, fetch, keep, operands_code, finish_code}
 use Rattle.x64_templates.specs.Frames.{HasBase, HasRoom}
 use Rattle.x64_templates.proofs.Cells.{reg}
 
@@ -47,6 +49,19 @@ encodable_of (i ∷ is) f = (f.0, encodable_of is f.3)
 pub straight_of : (is : List Instr) → Fine is → AllStraight is
 straight_of [] f = tt
 straight_of (i ∷ is) f = (f.1, straight_of is f.3)
+
+both_or_neither : (a b c : Bool) → c ≡ false → (a && (b && c)) ≡ false
+both_or_neither true true c e = e
+both_or_neither true false c e = refl
+both_or_neither false b c e = refl
+
+not_taking : (i : Instr) → begins_epilogue i ≡ false → takes_frame i ≡ false
+not_taking (instrs.Arithmetic o w to from) e = both_or_neither (is_subtraction o) (is_number from) (is_rsp_place to) e
+not_taking i e = refl
+
+pub none_taking : (is : List Instr) → Fine is → NoneTakesFrame is
+none_taking [] f = tt
+none_taking (i ∷ is) f = (not_taking i f.2, none_taking is f.3)
 
 pub near : (d : ℕ) → d < 2 ^ 31 → is_signed W32 W64 d ≡ true
 near d lt = let e : ltb d (2 ^ 31) ≡ true = lt-ltb d (2 ^ 31) lt in rw e refl

@@ -8,7 +8,7 @@ use Rattle.flat_memory.proofs.Stores.{untouched, stored_is_loaded}
 use Rattle.flat_memory.specs.declared.protection.Rights.{Rights}
 use Rattle.flat_memory.specs.declared.protection.Rights.TheVariants.{Nothing, Read, ReadWrite}
 use Rattle.flat_memory.specs.Protections.{is_readable, is_writable}
-use Rattle.linear_code.specs.BodyState.{BodyState, Counts}
+use Rattle.linear_code.specs.BodyState.{Counts}
 use Rattle.template_code.specs.declared.layout.Layout.{Layout}
 use Rattle.x64_templates.specs.Straight.{MachineView}
 use Rattle.x64_templates.specs.Frames.{slot_at, InTemporaries, InLocals, KeepsBase, KeepsReserved, Agrees, HoldsBody, IsBytes}

@@ -12,7 +12,7 @@ use Rattle.x64_instr.specs.declared.register.Reg.TheVariants.{Rcx}
 use Rattle.x64_instr.specs.declared.instruction.Instr.{Instr}
 use Rattle.x64_machine.specs.declared.cpu.Flags.{Flags}
 use Rattle.template_code.specs.Bytes.{spelled}
-use Rattle.x64_templates.proofs.PlacedCode.{bytes_kept, same_number, reaches_then}
+use Rattle.x64_templates.proofs.PlacedCode.{enters_then, bytes_kept, same_number}
 use Rattle.linear_code.specs.BodyState.{BodyState, Counts}
 use Rattle.template_code.specs.declared.layout.Layout.{Layout}
 use Rattle.x64_templates.specs.Straight.{MachineView, machine}
@@ -22,7 +22,7 @@ use Rattle.template_code.specs.Calls.{keep_register, filter_entry}
 use Rattle.x64_templates.specs.CallStates.{sp_of, moved}
 use Rattle.x64_templates.specs.EntryStates.{joined, body_in_memory}
 use Rattle.x64_templates.specs.Exceptions.{Reads}
-use Rattle.x64_templates.specs.Runs.{Reaches, HasCode}
+use Rattle.x64_templates.specs.Runs.{HasCode, Enters}
 use Rattle.template_code.proofs.Sizes.{sizes_append}
 use Rattle.x64_templates.proofs.Accesses.{digits}
 use Rattle.x64_templates.proofs.Computes.{code_split}
@@ -100,7 +100,7 @@ filter_view v sp b base d x = kept_at (kept_at (moved v sp) (sp + b) base) (sp +
 pub record FilterEntered (v : MachineView) (sp frame b base d x rip to : ℕ) (f : Flags) : Type 0 where
   pub after : MachineView
   pub flags : Flags
-  pub comes : Reaches 3 (machine v rip f) (machine after to flags)
+  pub comes : Enters 3 (machine v rip f) (machine after to flags)
   pub lowered : sp_of after ≡ sp
   pub keeps : KeepsBase (Some b) sp base after.memory
   pub pointers : Reads after.memory 8 (sp + d) x
@@ -123,8 +123,8 @@ filter_enters y v sp b base x rip f n at high lf lb lp apart is small isx smallx
     let place : rip + sizes first + sizes last ≡ rip + sizes (filter_entry y b) = omega (arith, sizes_append first last) in
     record {
       after = filter_view v sp b base y.pointers x;
-      flags = r.flags;
-      comes = subst (λ a. Reaches 3 (machine v rip f) (machine (filter_view v sp b base y.pointers x) a r.flags)) place (reaches_then 2 1 (machine v rip f) (machine w (rip + sizes first) e.flags) (machine (filter_view v sp b base y.pointers x) (rip + sizes first + sizes last) r.flags) e.comes r.comes);
+      flags = r.left;
+      comes = subst (λ a. Enters 3 (machine v rip f) (machine (filter_view v sp b base y.pointers x) a r.left)) place (enters_then 2 1 (machine v rip f) (machine w (rip + sizes first) e.flags) (machine (filter_view v sp b base y.pointers x) (rip + sizes first + sizes last) r.left) e.comes r.comes);
       lowered = sp_moved v sp n;
       keeps = (same_number (filter_view v sp b base y.pointers x).memory.byte w.memory.byte 8 (sp + b) (omega arith) (λ a p q. cell_beside w.memory (sp + y.pointers) x a (omega arith) (elim apart [ inl l ↦ inl (omega arith) | inr g ↦ inr (omega arith) ])) ∙ k.0, k.1);
       pointers = record {

@@ -5,7 +5,7 @@ use Rattle.seh_num.specs.Widths.{low}
 use Rattle.flat_memory.specs.Memory.{Memory, may_write}
 use Rattle.x64_instr.specs.declared.register.Reg.TheVariants.{Rax, Rcx}
 use Rattle.x64_machine.specs.declared.cpu.Flags.{Flags}
-use Rattle.x64_templates.proofs.PlacedCode.{reaches_then}
+use Rattle.x64_templates.proofs.PlacedCode.{enters_then}
 use Rattle.linear_code.specs.declared.slot.Slot.{Slot}
 use Rattle.linear_code.specs.BodyState.{BodyState, Counts, with_slot}
 use Rattle.template_code.specs.declared.layout.Layout.{Layout}
@@ -17,7 +17,7 @@ use Rattle.x64_templates.specs.Frames.{HasRoom, KeepsBase, KeepsReserved, HoldsB
 use Rattle.template_code.specs.Calls.{finally_entry}
 use Rattle.x64_templates.specs.CallStates.{sp_of, with_sp, moved}
 use Rattle.x64_templates.specs.EntryStates.{joined, body_in_memory}
-use Rattle.x64_templates.specs.Runs.{Reaches, HasCode, Frame, Roomy, Holds, IsThere}
+use Rattle.x64_templates.specs.Runs.{HasCode, Frame, Roomy, Holds, IsThere, Enters}
 use Rattle.template_code.proofs.Sizes.{sizes_append}
 use Rattle.x64_templates.proofs.Computes.{code_split}
 use Rattle.x64_templates.proofs.Returns.{sp_moved}
@@ -47,7 +47,7 @@ pub record FinallyEntered (p : Frame) (flag : Slot) (c : BodyState) (v : Machine
   pub after : MachineView
   pub flags : Flags
   pub temporaries : Slot → ℕ
-  pub comes : Reaches turns (machine v rip f) (machine after to flags)
+  pub comes : Enters turns (machine v rip f) (machine after to flags)
   pub rest : after.rest ≡ with_sp v.rest p.sp
   pub holds : Holds p after.memory (record { slots = with_slot (joined c.slots temporaries) flag (low W32 v.rcx); memory = c.memory })
 
@@ -79,7 +79,7 @@ finally_enters p yf nf spf b flag c v rip f k there n at is code =
       after = r.after;
       flags = r.flags;
       temporaries = temps;
-      comes = subst (λ a. Reaches (2 + length last) (machine v rip f) (machine r.after a r.flags)) place (reaches_then 2 (length last) (machine v rip f) (machine w (rip + sizes first) e.flags) (machine r.after (rip + sizes first + sizes last) r.flags) e.comes r.comes);
+      comes = subst (λ a. Enters (2 + length last) (machine v rip f) (machine r.after a r.flags)) place (enters_then 2 (length last) (machine v rip f) (machine w (rip + sizes first) e.flags) (machine r.after (rip + sizes first + sizes last) r.flags) e.comes r.comes);
       rest = r.rest;
       holds = r.holds;
     }

@@ -6,7 +6,7 @@ use Rattle.flat_memory.specs.Memory.{may_write}
 use Rattle.x64_instr.specs.declared.register.Reg.TheVariants.{Rax, Rcx}
 use Rattle.x64_instr.specs.declared.instruction.Instr.{Instr}
 use Rattle.x64_machine.specs.declared.cpu.Flags.{Flags}
-use Rattle.x64_templates.proofs.PlacedCode.{all_may, reaches_then}
+use Rattle.x64_templates.proofs.PlacedCode.{enters_then, all_may}
 use Rattle.linear_code.specs.declared.slot.Slot.{Slot}
 use Rattle.linear_code.specs.BodyState.{BodyState, with_slot}
 use Rattle.x64_templates.specs.Straight.{MachineView, machine}
@@ -16,12 +16,12 @@ use Rattle.template_code.specs.Slots.{keep}
 use Rattle.x64_templates.specs.Frames.{KeepsBase}
 use Rattle.template_code.specs.Calls.{enter_code, keep_register, keep_base, keep_parents_base}
 use Rattle.x64_templates.specs.CallStates.{sp_of, moved}
-use Rattle.x64_templates.specs.Runs.{Reaches, HasCode, Frame, Roomy, Holds, IsThere, ReachesBody}
+use Rattle.x64_templates.specs.Runs.{HasCode, Frame, Roomy, Holds, IsThere, ReachesBody, Enters}
 use Rattle.x64_templates.proofs.Straight.{executes_one}
 use Rattle.template_code.proofs.Sizes.{sizes_append}
 use Rattle.x64_templates.proofs.Cells.{put}
 use Rattle.x64_templates.proofs.Encoded.{near}
-use Rattle.x64_templates.proofs.Computes.{code_split, runs_view, leads_kept}
+use Rattle.x64_templates.proofs.Computes.{Reached, code_split, runs_view, leads_kept}
 use Rattle.x64_templates.proofs.Returns.{sp_moved, enter_run}
 use Rattle.x64_templates.proofs.Parameters.{kept_at, keeps_register}
 use Rattle.x64_templates.proofs.Funclets.{HasCell, base_kept, parents_base_kept}
@@ -29,7 +29,7 @@ use Rattle.x64_templates.proofs.Funclets.{HasCell, base_kept, parents_base_kept}
 -- RSP has fallen, and the base is kept
 pub record FuncletEntered (turns : ℕ) (v w : MachineView) (rip at : ℕ) (f : Flags) : Type 0 where
   pub flags : Flags
-  pub comes : Reaches turns (machine v rip f) (machine w at flags)
+  pub comes : Enters turns (machine v rip f) (machine w at flags)
 
 abbrev pub funclet_entry : ℕ → ℕ → List Instr
 funclet_entry frame b = enter_code frame ++ keep_base b
@@ -42,11 +42,11 @@ funclet_enters v sp frame b base rip f n at high lf lb is small cell code =
     let back : sp + frame - frame ≡ sp = omega arith in
     let w = moved v sp in
     let there = rip + sizes enter in
-    let first = subst (λ s. Reaches 1 (machine v rip f) (machine (moved v s) there e.flags)) back e.comes in
+    let first = subst (λ s. Enters 1 (machine v rip f) (machine (moved v s) there e.flags)) back e.comes in
     let u = kept_at w (sp + b) base in
     let r = runs_view (keep_base b) w u there e.flags (near b lb, refl, refl, tt) parts.1 (base_kept w sp b base (sp_moved v sp n) is small cell) in
     let place : there + sizes (keep_base b) ≡ rip + sizes (funclet_entry frame b) = omega (arith, sizes_append enter (keep_base b)) in
-    record { flags = r.left; comes = subst (λ a. Reaches 2 (machine v rip f) (machine u a r.left)) place (reaches_then 1 1 (machine v rip f) (machine w there e.flags) (machine u (there + sizes (keep_base b)) r.left) first r.comes) }
+    record { flags = r.left; comes = subst (λ a. Enters 2 (machine v rip f) (machine u a r.left)) place (enters_then 1 1 (machine v rip f) (machine w there e.flags) (machine u (there + sizes (keep_base b)) r.left) first r.comes) }
 
 -- inside another block, which keeps the base so far above its own RSP
 abbrev pub nested_funclet_entry : ℕ → ℕ → ℕ → List Instr
@@ -61,19 +61,19 @@ nested_funclet_enters v sp frame b base parent_sp parent rip f n at high lf lb l
     let back : sp + frame - frame ≡ sp = omega arith in
     let w = moved v sp in
     let there = rip + sizes enter in
-    let first = subst (λ s. Reaches 1 (machine v rip f) (machine (moved v s) there e.flags)) back e.comes in
+    let first = subst (λ s. Enters 1 (machine v rip f) (machine (moved v s) there e.flags)) back e.comes in
     let u = kept_at (put true w base) (sp + b) base in
     let r = runs_view rest w u there e.flags (near parent lp, refl, refl, (near b lb, refl, refl, tt)) parts.1 (parents_base_kept w sp b base parent_sp parent (sp_moved v sp n) is keeps ph small cell) in
     let place : there + sizes rest ≡ rip + sizes (nested_funclet_entry frame parent b) = omega (arith, sizes_append enter rest) in
-    record { flags = r.left; comes = subst (λ a. Reaches 3 (machine v rip f) (machine u a r.left)) place (reaches_then 1 2 (machine v rip f) (machine w there e.flags) (machine u (there + sizes rest) r.left) first r.comes) }
+    record { flags = r.left; comes = subst (λ a. Enters 3 (machine v rip f) (machine u a r.left)) place (enters_then 1 2 (machine v rip f) (machine w there e.flags) (machine u (there + sizes rest) r.left) first r.comes) }
 
 -- a filter keeps RCX, the address of its EXCEPTION_POINTERS
-pub pointers_kept : (v : MachineView) (sp d x rip : ℕ) (f : Flags) → sp_of v ≡ sp → v.rcx ≡ x → x < 2 ^ 64 → d < 2 ^ 31 → HasCell v.memory (sp + d) → HasCode v.memory rip (keep_register Rcx d ∷ []) → FuncletEntered 1 v (kept_at v (sp + d) x) rip (rip + sizes (keep_register Rcx d ∷ [])) f
+pub pointers_kept : (v : MachineView) (sp d x rip : ℕ) (f : Flags) → sp_of v ≡ sp → v.rcx ≡ x → x < 2 ^ 64 → d < 2 ^ 31 → HasCell v.memory (sp + d) → HasCode v.memory rip (keep_register Rcx d ∷ []) → Reached 1 v (kept_at v (sp + d) x) rip (rip + sizes (keep_register Rcx d ∷ [])) f
 pointers_kept v sp d x rip f at is small near_d cell code =
     let h = cell.high in
     let may = all_may (may_write v.memory) 8 (sp + d) (omega arith) (λ a p q. cell.writable a p q) in
     let r = runs_view (keep_register Rcx d ∷ []) v (kept_at v (sp + d) x) rip f (near d near_d, refl, refl, tt) code (keeps_register Rcx v d (sp + d) x is (let e : (sp_of v + 0 + d) % 2 ^ 64 ≡ sp + d = omega arith in e) may small) in
-    record { flags = r.left; comes = r.comes }
+    r
 
 -- a `__finally` block keeps ECX, its flag, in a local of the activation
 pub flag_run : (p : Frame) (flag : Slot) (v : MachineView) (rip : ℕ) (f : Flags) (b : BodyState) → Roomy p → IsThere p flag → sp_of v ≡ p.sp → Holds p v.memory b → HasCode v.memory rip ((move W32 Rax Rcx ∷ []) ++ keep p.layout flag) → ReachesBody p (length ((move W32 Rax Rcx ∷ []) ++ keep p.layout flag)) (machine v rip f) (rip + sizes ((move W32 Rax Rcx ∷ []) ++ keep p.layout flag)) v.rest (record { slots = with_slot b.slots flag (low W32 v.rcx); memory = b.memory })

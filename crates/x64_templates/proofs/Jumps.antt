@@ -1,9 +1,7 @@
 -- Jumps come to their labels.
 use Rattle.template_code.proofs.Sizes.{arrives, short, jump_if_size}
-use Rattle.std.proofs.Common.{◌≡◌, ℕ, ◌+◌, ◌-◌, ◌%◌, ◌^◌, ◌<◌, Bool, true, false, cond, ltb, leb, eqb, [], ◌∷◌, ◌++◌, length, Ok, refl, sym, ap, subst, ◌∙◌, arith, inl, inr, length-append}
-use Rattle.std.specs.Prelude.{◌&&◌, ◌||◌}
-use Rattle.std.proofs.lemmas.Bool.{cases_lt, lt-ltb, le-ltb, le-leb}
-use Rattle.seh_num.specs.declared.width.Width.TheVariants.{W32, W64}
+use Rattle.std.proofs.Common.{◌≡◌, ℕ, ◌+◌, ◌-◌, ◌%◌, ◌^◌, ◌<◌, Bool, true, false, cond, eqb, [], ◌∷◌, ◌++◌, length, Ok, refl, sym, ap, subst, ◌∙◌, arith, length-append}
+use Rattle.seh_num.specs.declared.width.Width.TheVariants.{W64}
 use Rattle.seh_num.specs.Widths.{low}
 use Rattle.flat_memory.specs.Memory.{Memory}
 use Rattle.x64_instr.specs.declared.register.Reg.TheVariants.{Rax}
@@ -11,7 +9,7 @@ use Rattle.x64_instr.specs.declared.instruction.Condition.TheVariants as conditi
 use Rattle.x64_instr.specs.declared.instruction.Target.TheVariants.{Relative}
 use Rattle.x64_instr.specs.declared.instruction.Instr.{Instr}
 use Rattle.x64_instr.specs.declared.instruction.Instr.TheVariants as instrs
-use Rattle.x64_encode.specs.Chosen.{chosen, is_encodable, is_signed}
+use Rattle.x64_encode.specs.Chosen.{chosen, is_encodable}
 use Rattle.x64_machine.specs.declared.cpu.Flags.{Flags}
 use Rattle.x64_machine.specs.Words.{subtracted}
 use Rattle.x64_machine.specs.Effect.{State, effect}
@@ -20,14 +18,13 @@ use Rattle.linear_code.specs.declared.slot.Slot.{Slot}
 use Rattle.linear_code.specs.declared.instruction.Instruction.TheVariants as instructions
 use Rattle.linear_code.specs.BodyState.{BodyState}
 use Rattle.linear_code.specs.Meaning.{Step, Next, JumpsTo, step}
-use Rattle.template_code.specs.declared.layout.Layout.{Layout}
-use Rattle.x64_templates.specs.Straight.{MachineView, machine}
+use Rattle.x64_templates.specs.Straight.{takes_frame, MachineView, machine}
 use Rattle.template_code.specs.Bytes.{size, sizes}
 use Rattle.template_code.specs.Slots.{fetch}
 use Rattle.template_code.specs.Jumps.{distance, jump, jump_equal, jump_code, compare_zero, test_code, jump_if_zero_code, separator_code, IsNear}
 use Rattle.x64_templates.specs.Frames.{IsBytes}
-use Rattle.x64_templates.specs.Runs.{Reaches, HasCode, Frame, Roomy, Holds, IsThere, ReachesBody}
-use Rattle.x64_templates.proofs.Straight.{one_runs}
+use Rattle.x64_templates.specs.Runs.{Reaches, Enters, HasCode, Frame, Roomy, Holds, IsThere, ReachesBody}
+use Rattle.x64_templates.proofs.Straight.{one_runs, one_enters_frame}
 use Rattle.template_code.proofs.Sizes.{sizes_append}
 use Rattle.x64_templates.proofs.Cells.{put, sp_of, fetch_does}
 use Rattle.x64_templates.proofs.Encoded.{fetch_fine}
@@ -35,12 +32,19 @@ use Rattle.x64_templates.proofs.Computes.{code_split, runs_view}
 
 -- ---- one instruction
 
-pub one_reaches : (i : Instr) (v w : MachineView) (rip at : ℕ) (f g : Flags) → is_encodable i ≡ true → HasCode v.memory rip (i ∷ []) → effect (machine v (rip + size i) f) i ≡ Ok (machine w at g) → Reaches 1 (machine v rip f) (machine w at g)
-one_reaches i v w rip at f g enc code e =
+pub one_reaches : (i : Instr) (v w : MachineView) (rip at : ℕ) (f g : Flags) → is_encodable i ≡ true → takes_frame i ≡ false → HasCode v.memory rip (i ∷ []) → effect (machine v (rip + size i) f) i ≡ Ok (machine w at g) → Reaches 1 (machine v rip f) (machine w at g)
+one_reaches i v w rip at f g enc inside code e =
     let p = bytes_split v.memory rip (chosen i) [] code.stands in
     let l = code.placed.low in
     let h = code.placed.high in
-    (one_runs i (machine v rip f) (machine w at g) (enc, tt) p.0 (record { low = l; high = omega arith }) e).comes
+    (one_runs i (machine v rip f) (machine w at g) (enc, tt) inside p.0 (record { low = l; high = omega arith }) e).comes
+
+pub one_enters : (i : Instr) (v w : MachineView) (rip at : ℕ) (f g : Flags) → is_encodable i ≡ true → HasCode v.memory rip (i ∷ []) → effect (machine v (rip + size i) f) i ≡ Ok (machine w at g) → Enters 1 (machine v rip f) (machine w at g)
+one_enters i v w rip at f g enc code e =
+    let p = bytes_split v.memory rip (chosen i) [] code.stands in
+    let l = code.placed.low in
+    let h = code.placed.high in
+    one_enters_frame i (machine v rip f) (machine w at g) (enc, tt) p.0 (record { low = l; high = omega arith }) e
 
 stays : (p : Frame) (turns : ℕ) (v w : MachineView) (rip at : ℕ) (f g : Flags) (b : BodyState) → Reaches turns (machine v rip f) (machine w at g) → w.rest ≡ v.rest → w.memory ≡ v.memory → Holds p v.memory b → ReachesBody p turns (machine v rip f) at v.rest b
 stays p turns v w rip at f g b comes rest same h = record {
@@ -62,13 +66,13 @@ pub jump_run : (p : Frame) (v : MachineView) (rip to : ℕ) (f : Flags) (b : Bod
 jump_run p v rip to f b near h code =
     let i = jump (rip + 5) to in
     let e : (rip + size i + distance (rip + 5) to) % 2 ^ 64 ≡ to = ap (λ (n : ℕ). (rip + n + distance (rip + 5) to) % 2 ^ 64) (jump_size (distance (rip + 5) to)) ∙ arrives (rip + 5) to near in
-    stays p 1 v v rip to f f b (one_reaches i v v rip to f f (short (rip + 5) to near) code (ap (λ (a : ℕ). Ok (machine v a f)) e)) refl refl h
+    stays p 1 v v rip to f f b (one_reaches i v v rip to f f (short (rip + 5) to near) refl code (ap (λ (a : ℕ). Ok (machine v a f)) e)) refl refl h
 
 pub separator_run : (p : Frame) (v : MachineView) (rip : ℕ) (f : Flags) (b : BodyState) → Holds p v.memory b → HasCode v.memory rip separator_code → ReachesBody p 1 (machine v rip f) (rip + sizes separator_code) v.rest b
 separator_run p v rip f b h code =
     let i = instrs.NoOperation in
     let z : rip + size i ≡ rip + (size i + 0) = omega arith in
-    stays p 1 v v rip (rip + (size i + 0)) f f b (one_reaches i v v rip (rip + (size i + 0)) f f refl code (ap (λ (a : ℕ). Ok (machine v a f)) z)) refl refl h
+    stays p 1 v v rip (rip + (size i + 0)) f f b (one_reaches i v v rip (rip + (size i + 0)) f f refl refl code (ap (λ (a : ℕ). Ok (machine v a f)) z)) refl refl h
 
 -- ---- a jump where a slot holds 0
 
@@ -80,7 +84,7 @@ unfolding subtracted
 zero_holds v lt = ap (λ (n : ℕ). eqb n 0) (let q : low W64 (low W64 v.rax + (2 ^ 64 - 0)) ≡ v.rax = omega arith in q)
 
 test_comes : (v : MachineView) (rip : ℕ) (f : Flags) → HasCode v.memory rip (compare_zero ∷ []) → Reaches 1 (machine v rip f) (machine v (rip + size compare_zero) (zero_flags v))
-test_comes v rip f code = one_reaches compare_zero v v rip (rip + size compare_zero) f (zero_flags v) refl code refl
+test_comes v rip f code = one_reaches compare_zero v v rip (rip + size compare_zero) f (zero_flags v) refl refl code refl
 
 -- by the flag, to the label or on
 branch_effect : (v : MachineView) (next d : ℕ) (f : Flags) (z : Bool) → f.zero ≡ z → effect (machine v next f) (instrs.JumpIf conditions.Equal d) ≡ Ok (machine v (cond z ((next + d) % 2 ^ 64) next) f)
@@ -92,7 +96,7 @@ branch_comes v rip to f z e near code =
     let i = jump_equal (rip + 6) to in
     let d = distance (rip + 6) to in
     let next : rip + size i ≡ rip + 6 = ap (λ (n : ℕ). rip + n) (jump_if_size d) in
-    one_reaches i v v rip (cond z to (rip + 6)) f f (short (rip + 6) to near) code
+    one_reaches i v v rip (cond z to (rip + 6)) f f (short (rip + 6) to near) refl code
     (branch_effect v (rip + size i) d f z e
     ∙ ap (λ (n : ℕ). Ok (machine v (cond z ((n + d) % 2 ^ 64) n) f)) next
     ∙ ap (λ (n : ℕ). Ok (machine v (cond z n (rip + 6)) f)) (arrives (rip + 6) to near))

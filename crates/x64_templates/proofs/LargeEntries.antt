@@ -97,7 +97,7 @@ enter_large_run v sp frame rip check f len at below touch small near high leaf c
     let word : low W32 (low W32 frame) ≡ frame = omega arith in
     let fits : ltb frame (2 ^ 32) ≡ true = lt-ltb frame (2 ^ 32) (omega arith) in
     let r1 : rip + size i ≡ rip + 5 = omega arith in
-    let first : Reaches 1 (machine v rip f) (machine v1 (rip + 5) f) = one_reaches i v v1 rip (rip + 5) f f fits p.0
+    let first : Reaches 1 (machine v rip f) (machine v1 (rip + 5) f) = one_reaches i v v1 rip (rip + 5) f f fits refl p.0
     (ap (λ (a : ℕ). Ok (machine (put true v a) (rip + size i) f)) word ∙ ap (λ (a : ℕ). Ok (machine v1 a f)) r1) in
     let second = subst (λ a. Reaches 1 (machine v1 (rip + 5) f) (machine (pushed v1 sp a) check f)) e3 (call_reaches v1 sp (rip + 5) check f at below (subst (λ a. IsNear a check) (sym e3) near) (subst (λ a. HasCode v.memory (rip + 5) (call a check ∷ [])) (sym e3) q.0)) in
     let sp2 : sp_of v2 ≡ sp - 8 = get_or-set_same v.rest 1 (sp - 8) 0 (omega arith) in
@@ -106,7 +106,7 @@ enter_large_run v sp frame rip check f len at below touch small near high leaf c
     let sp3 : sp_of v3 ≡ sp = get_or-set_same (set (set (set v.rest 1 (sp - 8)) 8 sp) 8 (sp - frame)) 1 sp 0 (let a = length-set v.rest 1 (sp - 8) in let b = length-set (set v.rest 1 (sp - 8)) 8 sp in let c = length-set (set (set v.rest 1 (sp - 8)) 8 sp) 8 (sp - frame) in omega arith) in
     let g = (subtracted W64 (low W64 (sp_of v3)) (low W64 v3.rax)).1 in
     let v4 = moved v3 (sp - frame) in
-    let last = one_reaches k v3 v4 (rip + 10) (rip + 10 + size k) third.0 g refl (pushed_keeps_code v1 sp (rip + 10) (rip + 10) (k ∷ []) below tail) (lower_by_rax v3 frame sp (rip + 10 + size k) third.0 sp3 refl e (omega arith)) in
+    let last = one_reaches k v3 v4 (rip + 10) (rip + 10 + size k) third.0 g refl refl (pushed_keeps_code v1 sp (rip + 10) (rip + 10) (k ∷ []) below tail) (lower_by_rax v3 frame sp (rip + 10 + size k) third.0 sp3 refl e (omega arith)) in
     let end : rip + 10 + size k ≡ rip + sizes (enter_large frame rip 0) = let s0 = call_size (rip + 10) 0 in omega arith in
     let flat = one_of_each v.rest (sp - 8) sp (sp - frame) sp (sp - frame) len in
     let all = reaches_then 1 7 (machine v rip f) (machine v1 (rip + 5) f) (machine v4 (rip + 10 + size k) g) first

@@ -1,4 +1,5 @@
 pub mod Leaves
+pub mod Registers
 pub mod PlacedCode
 pub mod Straight
 pub mod Compares
@@ -24,7 +25,6 @@ pub mod Entering
 pub mod Stretches
 pub mod Retries
 pub mod Quiet
-pub mod WholeCalls
 pub mod Probing
 pub mod LargeEntries
 pub mod LargeFunctions
@@ -33,6 +33,5 @@ pub mod FilterEntries
 pub mod FinallyEntries
 pub mod Services
 pub mod Passing
-pub mod Functions
 mod Witnesses
 mod Rows

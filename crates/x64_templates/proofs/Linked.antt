@@ -1,22 +1,12 @@
 -- Where the template of each instruction of a body is placed.
 use Rattle.template_code.proofs.Sizes.{template_sizes}
-use Rattle.std.proofs.Common.{◌≡◌, ℕ, zero, suc, ◌+◌, ◌-◌, ◌<◌, List, [], ◌∷◌, ◌++◌, length, get_or, refl, sym, subst, ◌∙◌, arith}
+use Rattle.std.proofs.Common.{◌≡◌, ℕ, zero, suc, ◌+◌, ◌<◌, List, [], ◌∷◌, length, get_or, subst, arith}
 use Rattle.flat_memory.specs.Memory.{Memory}
-use Rattle.x64_encode.specs.Chosen.{modrm}
-use Rattle.linear_code.specs.declared.slot.Slot.{Slot}
-use Rattle.linear_code.specs.declared.slot.Slot.TheVariants.{Temporary}
 use Rattle.linear_code.specs.declared.instruction.Instruction.{Instruction}
-use Rattle.linear_code.specs.declared.instruction.Instruction.TheVariants as instructions
 use Rattle.template_code.specs.declared.layout.Layout.{Layout}
-use Rattle.template_code.specs.Bytes.{size, sizes}
-use Rattle.template_code.specs.Slots.{keep}
-use Rattle.template_code.specs.Jumps.{jump, call}
-use Rattle.template_code.specs.Calls.{arguments_code, call_code, passing_code, passing_call_code, finally_arguments, address_to}
-use Rattle.template_code.specs.Template.{Links, template, template_size, body_size, offset_of, code_from}
+use Rattle.template_code.specs.Template.{Links, template, template_size, offset_of, code_from}
 use Rattle.x64_templates.specs.Runs.{HasCode}
-use Rattle.template_code.proofs.Sizes.{sizes_append}
 use Rattle.x64_templates.proofs.Computes.{code_split}
-use Rattle.template_code.proofs.Sizes.{jump_if_zero_size}
 
 -- the template of the instruction of a number is placed where the sizes of those before it say
 pub template_placed : (k : Links) (y : Layout) (m : Memory) (start : ℕ) (body : List Instruction) (number : ℕ) (otherwise : Instruction) → HasCode m start (code_from k y start body) → number < length body → HasCode m (start + offset_of y body number) (template k y (start + offset_of y body number) (get_or body number otherwise))

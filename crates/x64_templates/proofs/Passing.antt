@@ -12,11 +12,14 @@ use Rattle.linear_code.specs.BodyState.{BodyState}
 use Rattle.x64_templates.specs.Straight.{MachineView}
 use Rattle.template_code.specs.Slots.{temporary_at}
 use Rattle.template_code.specs.Calls.{stack_parameter, return_at}
-use Rattle.x64_templates.specs.CallStates.{HasBelow}
+use Rattle.x64_templates.specs.CallStates.{HasBelow, with_four, pushed}
 use Rattle.x64_templates.specs.EntryStates.{passed, InRegisters, OnStack}
 use Rattle.x64_templates.specs.Runs.{Frame, Roomy, Holds}
 use Rattle.x64_templates.proofs.Entries.{beside}
-use Rattle.x64_templates.proofs.WholeCalls.{called_view}
+
+-- the callee's view: the first four arguments in registers, and the return address pushed
+abbrev pub called_view : Frame → ℕ → MachineView → ℕ → BodyState → MachineView
+called_view p first v rip b = pushed (with_four v (b.slots (Temporary first)) (b.slots (Temporary (first + 1))) (b.slots (Temporary (first + 2))) (b.slots (Temporary (first + 3)))) p.sp (return_at p.layout first rip)
 
 six_apart : let six : ℕ = 6 in let five : ℕ = 5 in five ≢ six
 six_apart h = absurd (omega arith)

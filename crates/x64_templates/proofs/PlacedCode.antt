@@ -1,6 +1,6 @@
 -- Code at its place is fetched as it was placed, and one turn runs its first instruction.
-use Rattle.std.proofs.Common.{◌≡◌, ◌≢◌, ℕ, zero, suc, ◌+◌, ◌-◌, ◌*◌, ◌%◌, ◌^◌, ◌<◌, ◌≤◌, Bool, true, false, cond, eqb, ltb, List, [], ◌∷◌, ◌++◌, length, Option, None, Some, Ok, refl, sym, ap, subst, ◌∙◌, arith, add_assoc, length-append}
-use Rattle.std.proofs.lemmas.Bool.{ne_eqb, le-leb, le-ltb, lt-ltb}
+use Rattle.std.proofs.Common.{◌≡◌, ℕ, zero, suc, ◌+◌, ◌-◌, ◌*◌, ◌%◌, ◌^◌, ◌<◌, ◌≤◌, Bool, true, false, cond, ltb, List, [], ◌∷◌, ◌++◌, length, Option, None, Some, Ok, refl, sym, ap, subst, ◌∙◌, arith, length-append}
+use Rattle.std.proofs.lemmas.Bool.{le-leb, le-ltb, lt-ltb}
 use Rattle.std.proofs.lemmas.List.{append-nil}
 use Rattle.seh_num.specs.declared.width.Width.TheVariants.{W64}
 use Rattle.flat_memory.specs.declared.protection.Protection.{Protection}
@@ -13,12 +13,10 @@ use Rattle.x64_instr.proofs.Table as tables
 use Rattle.x64_encode.specs.Chosen.{chosen, is_encodable}
 use Rattle.x64_encode.proofs.Written as written
 use Rattle.host_layout.specs.Services.{in_host_page}
-use Rattle.x64_machine.specs.Effect.{State, Answer, ◌>>=◌, granted, with_rip, load, store, effect, is_trap, step}
-use Rattle.host_model.specs.HostStep.{host, turn}
-use Rattle.host_model.specs.Machine.{run}
+use Rattle.x64_machine.specs.Effect.{State, ◌>>=◌, granted, with_rip, load, store, effect, is_trap, step}
 use Rattle.x64_templates.specs.Placed.{IsCodeAt, IsPlaced}
 use Rattle.template_code.specs.Bytes.{thunk}
-use Rattle.x64_templates.specs.Runs.{Reaches}
+use Rattle.x64_templates.specs.Runs.{Runs, Reaches, Enters}
 
 -- ---- memory
 
@@ -102,23 +100,43 @@ no_trap instrs.Breakpoint s t e = absurd cc
 no_trap instrs.Undefined s t e = absurd cc
 no_trap i s t e = refl
 
--- one instruction that is placed at RIP
+-- an instruction that is placed at RIP is read
+pub reads : (s : State) (i : Instr) (bytes : List ℕ) → IsEncoding i bytes → length bytes ≤ 15 → IsCodeAt s.memory s.cpu.rip bytes → IsPlaced s.cpu.rip (s.cpu.rip + length bytes) → leading (executable s.memory 15 s.cpu.rip) ≡ Some (i, length bytes)
+reads s i bytes spells short stands placed =
+    let high = placed.high in
+    let f = fetches s.memory bytes 15 s.cpu.rip short stands (omega arith) in
+    ap leading f.1 ∙ leading-again i bytes f.0 spells
+
+-- and run
 pub steps : (s t : State) (i : Instr) (bytes : List ℕ) → IsEncoding i bytes → length bytes ≤ 15 → IsCodeAt s.memory s.cpu.rip bytes → IsPlaced s.cpu.rip (s.cpu.rip + length bytes) → effect (with_rip s (s.cpu.rip + length bytes)) i ≡ Ok t → step s ≡ Ok t
 unfolding step
 steps s t i bytes spells short stands placed e =
     let low = placed.low in
     let high = placed.high in
-    let f = fetches s.memory bytes 15 s.cpu.rip short stands (omega arith) in
-    let read : leading (executable s.memory 15 s.cpu.rip) ≡ Some (i, length bytes) = ap leading f.1 ∙ leading-again i bytes f.0 spells in
+    let read = reads s i bytes spells short stands placed in
     let rip : (s.cpu.rip + length bytes) % 2 ^ 64 ≡ s.cpu.rip + length bytes = omega arith in
     rw (outside_page s.cpu.rip low, read, no_trap i (with_rip s (s.cpu.rip + length bytes)) t e, rip) e
 
-pub one_turn : (s t : State) → s.cpu.rip ≢ 0 → step s ≡ Ok t → Reaches 1 s t
-unfolding run turn
-one_turn s t live e f k out =
-    let one : 1 + k ≡ suc k = omega arith in
-    let not_over : eqb s.cpu.rip 0 ≡ false = ne_eqb s.cpu.rip 0 live in
-    ap (λ n. run f [] n (host s) out) one ∙ rw (not_over, e, append-nil out) refl
+-- ---- runs
+
+pub no_turns : (s t : State) → s ≡ t → Reaches 0 s t
+no_turns s t e = e
+
+pub one_turn : (s t : State) → Runs s t → Reaches 1 s t
+one_turn s t r = (t, r, refl)
 
 pub reaches_then : (m n : ℕ) (s t u : State) → Reaches m s t → Reaches n t u → Reaches (m + n) s u
-reaches_then m n s t u a b f k out = ap (λ j. run f [] j (host s) out) (add_assoc m n k) ∙ a f (n + k) out ∙ b f k out
+reaches_then zero n s t u a b = let e : n ≡ 0 + n = omega arith in subst (λ k. Reaches k s u) e (subst (λ x. Reaches n x u) (sym a) b)
+reaches_then (suc m) n s t u a b =
+    let e : suc (m + n) ≡ suc m + n = omega arith in
+    subst (λ k. Reaches k s u) e (a.0, a.1, reaches_then m n a.0 t u a.2 b)
+
+pub reaches_enters : (n : ℕ) (s t : State) → Reaches n s t → Enters n s t
+reaches_enters zero s t a = a
+reaches_enters (suc n) s t a = (a.0, a.1.steps, a.2)
+
+pub enters_then : (m n : ℕ) (s t u : State) → Enters m s t → Reaches n t u → Enters (m + n) s u
+enters_then zero n s t u a b = let e : n ≡ 0 + n = omega arith in subst (λ k. Enters k s u) e (subst (λ x. Enters n x u) (sym a) (reaches_enters n t u b))
+enters_then (suc m) n s t u a b =
+    let e : suc (m + n) ≡ suc m + n = omega arith in
+    subst (λ k. Enters k s u) e (a.0, a.1, reaches_then m n a.0 t u a.2 b)

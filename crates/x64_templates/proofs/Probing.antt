@@ -107,5 +107,5 @@ check_run v sp n back rip f len rax at t b code =
     let r = runs_view is v w rip f check_fine parts.0 (check_does v sp n len rax at t) in
     let sp_w : sp_of w ≡ sp - 8 = sp_beside (set v.rest 8 sp) (sp - n) ∙ sp_beside v.rest sp ∙ at in
     let up : sp - 8 + 8 ≡ sp = omega arith in
-    let last = one_reaches instrs.Return w (moved w (sp - 8 + 8)) (rip + sizes is) back r.left r.left refl parts.1 (return_effect w (sp - 8) back (rip + sizes is + size instrs.Return) r.left sp_w (omega arith) b) in
+    let last = one_reaches instrs.Return w (moved w (sp - 8 + 8)) (rip + sizes is) back r.left r.left refl refl parts.1 (return_effect w (sp - 8) back (rip + sizes is + size instrs.Return) r.left sp_w (omega arith) b) in
     (r.left, subst (λ x. Reaches 5 (machine v rip f) (machine (moved w x) back r.left)) up (reaches_then 4 1 (machine v rip f) (machine w (rip + sizes is) r.left) (machine (moved w (sp - 8 + 8)) back r.left) r.comes last))

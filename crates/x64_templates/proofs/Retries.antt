@@ -1,9 +1,7 @@
 -- A fault in a body, and the operation made again.
-use Rattle.std.proofs.Common.{◌≡◌, ℕ, suc, ◌+◌, ◌*◌, ◌^◌, ◌<◌, ◌≤◌, Bool, List, ◌++◌, length, get_or, Option, Some, Err, sym, ap, subst, ◌∙◌, arith, length-append}
+use Rattle.std.proofs.Common.{◌≡◌, ℕ, suc, ◌+◌, ◌^◌, ◌<◌, ◌≤◌, Bool, List, ◌++◌, length, get_or, Option, Some, sym, ap, subst, ◌∙◌, arith, length-append}
 use Rattle.seh_num.specs.declared.event.Code.{Code}
 use Rattle.x64_machine.specs.declared.cpu.Flags.{Flags}
-use Rattle.x64_machine.specs.declared.outcome.Stop.TheVariants as stops
-use Rattle.x64_machine.specs.Effect as machines
 use Rattle.x64_templates.proofs.PlacedCode.{reaches_then}
 use Rattle.linear_code.specs.declared.slot.Slot.{Slot}
 use Rattle.linear_code.specs.declared.instruction.Instruction.{Instruction}
@@ -18,7 +16,7 @@ use Rattle.template_code.specs.Bytes.{sizes}
 use Rattle.template_code.specs.Slots.{operands_code, finish_code}
 use Rattle.template_code.specs.Template.{Links, template, template_size, offset_of}
 use Rattle.x64_templates.specs.Implements.{HasOperands}
-use Rattle.x64_templates.specs.Runs.{Reaches, HasCode, Frame, Roomy, Holds, ChangesOwn, ReachesBody, ReachesFault, Finished}
+use Rattle.x64_templates.specs.Runs.{HasCode, Frame, Roomy, Holds, ChangesOwn, ReachesBody, ReachesFault, Finished}
 use Rattle.x64_templates.specs.InstructionRuns.{InstructionDone, IsLinked}
 use Rattle.template_code.proofs.Sizes.{sizes_append}
 use Rattle.x64_templates.proofs.Cells.{sp_of}

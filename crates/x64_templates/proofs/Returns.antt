@@ -24,13 +24,13 @@ use Rattle.template_code.specs.Bytes.{size, sizes}
 use Rattle.template_code.specs.Slots.{fetch, keep}
 use Rattle.x64_templates.specs.Frames.{slot_at, HasBase, HasRoom, KeepsBase, KeepsReserved, Agrees, HoldsBody}
 use Rattle.template_code.specs.Calls.{enter_code, epilogue, return_code}
-use Rattle.x64_templates.specs.CallStates.{sp_of, with_sp, HasBack, moved}
-use Rattle.x64_templates.specs.Runs.{Reaches, HasCode, Frame, Roomy, Holds, IsThere, ReachesBody}
+use Rattle.x64_templates.specs.CallStates.{sp_of, HasBack, moved}
+use Rattle.x64_templates.specs.Runs.{Enters, Reaches, HasCode, Frame, Roomy, Holds, IsThere, ReachesBody}
 use Rattle.x64_templates.proofs.Straight.{executes_nothing}
 use Rattle.x64_templates.proofs.Cells.{put, slot_high, slot_bytes, fetch_does}
 use Rattle.x64_templates.proofs.Encoded.{fetch_fine, near}
 use Rattle.x64_templates.proofs.Computes.{code_split, runs_view, leads_kept}
-use Rattle.x64_templates.proofs.Jumps.{one_reaches}
+use Rattle.x64_templates.proofs.Jumps.{one_reaches, one_enters}
 use Rattle.x64_templates.specs.Returned.{Returned}
 
 -- ---- what lies above RSP, but for the source's memory, outlasts whatever runs below
@@ -95,14 +95,14 @@ lower_effect v n sp next f e le high =
 -- a body begins: its frame lies below the return address
 pub record FrameMade (v : MachineView) (sp frame rip : ℕ) (f : Flags) : Type 0 where
   pub flags : Flags
-  pub comes : Reaches 1 (machine v rip f) (machine (moved v (sp - frame)) (rip + sizes (enter_code frame)) flags)
+  pub comes : Enters 1 (machine v rip f) (machine (moved v (sp - frame)) (rip + sizes (enter_code frame)) flags)
 
 pub enter_run : (v : MachineView) (sp frame rip : ℕ) (f : Flags) → sp_of v ≡ sp → frame ≤ sp → sp < 2 ^ 64 → frame < 2 ^ 31 → HasCode v.memory rip (enter_code frame) → FrameMade v sp frame rip f
 enter_run v sp frame rip f at le high lt code =
     let i = instrs.Arithmetic arithmetic.Sub W64 (places.Register Rsp) (operands.Immediate frame) in
     let g = (subtracted W64 (low W64 (sp_of v)) (low W64 frame)).1 in
     let z : rip + size i ≡ rip + (size i + 0) = omega arith in
-    record { flags = g; comes = subst (λ a. Reaches 1 (machine v rip f) (machine (moved v (sp - frame)) a g)) z (one_reaches i v (moved v (sp - frame)) rip (rip + size i) f g (near frame lt) code (lower_effect v frame sp (rip + size i) f at le high)) }
+    record { flags = g; comes = subst (λ a. Enters 1 (machine v rip f) (machine (moved v (sp - frame)) a g)) z (one_enters i v (moved v (sp - frame)) rip (rip + size i) f g (near frame lt) code (lower_effect v frame sp (rip + size i) f at le high)) }
 
 -- a return: to the address at RSP, which rises by 8
 pub return_effect : (v : MachineView) (sp back next : ℕ) (f : Flags) → sp_of v ≡ sp → sp + 16 < 2 ^ 64 → HasBack v.memory sp back → effect (machine v next f) instrs.Return ≡ Ok (machine (moved v (sp + 8)) back f)
@@ -123,7 +123,7 @@ moved_twice v a b = ap (λ (r : List ℕ). let w : MachineView = record { rax = 
 epilogue_run : (v : MachineView) (sp frame back rip : ℕ) (f : Flags) → length v.rest ≡ 13 → sp_of v ≡ sp → frame < 2 ^ 31 → sp < 2 ^ 47 → HasBack v.memory (sp + frame) back → HasCode v.memory rip (epilogue frame) → (flags : Flags) × Reaches (length (epilogue frame)) (machine v rip f) (machine (moved v (sp + frame + 8)) back flags)
 epilogue_run v sp zero back rip f n at lt high b code =
     let z : sp + 0 ≡ sp = omega arith in
-    let last = one_reaches instrs.Return v (moved v (sp + 8)) rip back f f refl code (return_effect v sp back (rip + size instrs.Return) f at (omega arith) (subst (λ a. HasBack v.memory a back) z b)) in
+    let last = one_reaches instrs.Return v (moved v (sp + 8)) rip back f f refl refl code (return_effect v sp back (rip + size instrs.Return) f at (omega arith) (subst (λ a. HasBack v.memory a back) z b)) in
     (f, subst (λ a. Reaches 1 (machine v rip f) (machine (moved v (a + 8)) back f)) (sym z) last)
 epilogue_run v sp (suc m) back rip f n at lt high b code =
     let frame : ℕ = suc m in
@@ -132,8 +132,8 @@ epilogue_run v sp (suc m) back rip f n at lt high b code =
     let parts = code_split v.memory rip (i ∷ []) (instrs.Return ∷ []) code in
     let z : rip + size i ≡ rip + (size i + 0) = omega arith in
     let up = moved v (sp + frame) in
-    let first = subst (λ a. Reaches 1 (machine v rip f) (machine up a g)) z (one_reaches i v up rip (rip + size i) f g (near frame lt) parts.0 (raise_effect v frame sp (rip + size i) f at lt (omega arith))) in
-    let second = one_reaches instrs.Return up (moved up (sp + frame + 8)) (rip + sizes (i ∷ [])) back g g refl parts.1 (return_effect up (sp + frame) back (rip + sizes (i ∷ []) + size instrs.Return) g (sp_moved v (sp + frame) n) (omega arith) b) in
+    let first = subst (λ a. Reaches 1 (machine v rip f) (machine up a g)) z (one_reaches i v up rip (rip + size i) f g (near frame lt) refl parts.0 (raise_effect v frame sp (rip + size i) f at lt (omega arith))) in
+    let second = one_reaches instrs.Return up (moved up (sp + frame + 8)) (rip + sizes (i ∷ [])) back g g refl refl parts.1 (return_effect up (sp + frame) back (rip + sizes (i ∷ []) + size instrs.Return) g (sp_moved v (sp + frame) n) (omega arith) b) in
     (g, subst (λ w. Reaches 2 (machine v rip f) (machine w back g)) (moved_twice v (sp + frame) (sp + frame + 8)) (reaches_then 1 1 (machine v rip f) (machine up (rip + sizes (i ∷ [])) g) (machine (moved up (sp + frame + 8)) back g) first second))
 
 pub return_run : (p : Frame) (from : Slot) (v : MachineView) (back rip : ℕ) (f : Flags) (b : BodyState) → Roomy p → IsThere p from → length v.rest ≡ 13 → sp_of v ≡ p.sp → p.layout.frame < 2 ^ 31 → Holds p v.memory b → HasBack v.memory (p.sp + p.layout.frame) back → HasCode v.memory rip (return_code p.layout from) → Returned (length (return_code p.layout from)) v (p.sp + p.layout.frame + 8) back (b.slots from) rip f

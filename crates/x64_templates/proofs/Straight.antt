@@ -1,6 +1,6 @@
 -- Instructions that stand in memory are run one after another.
-use Rattle.template_code.proofs.Sizes.{sizes_spelled, sizes_append}
-use Rattle.std.proofs.Common.{◌≡◌, ◌≢◌, ℕ, suc, ◌+◌, ◌≤◌, false, List, [], ◌∷◌, ◌++◌, length, Ok, Err, refl, sym, ap, subst, ◌∙◌, arith, zero-add, length-append}
+use Rattle.template_code.proofs.Sizes.{sizes_append}
+use Rattle.std.proofs.Common.{◌≡◌, ◌≢◌, ℕ, suc, ◌+◌, ◌≤◌, false, List, [], ◌∷◌, ◌++◌, length, Ok, Err, refl, sym, ap, subst, ◌∙◌, arith}
 use Rattle.flat_memory.specs.declared.protection.Protection.{Protection}
 use Rattle.flat_memory.specs.Protections.{is_writable}
 use Rattle.flat_memory.specs.Memory.{Memory, may_write}
@@ -9,15 +9,14 @@ use Rattle.x64_encode.specs.Chosen.{chosen}
 use Rattle.x64_encode.proofs.Lengths.{longest}
 use Rattle.x64_machine.specs.declared.cpu.Flags.{Flags}
 use Rattle.x64_machine.specs.Effect.{State, Answer, ◌>>=◌, with_rip, effect}
-use Rattle.host_model.specs.HostStep.{host}
-use Rattle.host_model.specs.Machine.{run}
 use Rattle.x64_templates.specs.Placed.{IsCodeAt, IsPlaced}
 use Rattle.template_code.specs.Bytes.{spelled}
-use Rattle.x64_templates.specs.Runs.{Reaches}
-use Rattle.x64_templates.proofs.PlacedCode.{bytes_kept, Encodable, bytes_split, spells, steps, one_turn, reaches_then}
-use Rattle.x64_templates.specs.Straight.{AllStraight, effects, MachineView, machine, Executes}
+use Rattle.x64_templates.specs.Runs.{Steps, Reaches, Enters}
+use Rattle.x64_templates.proofs.PlacedCode.{bytes_kept, Encodable, bytes_split, spells, reads, steps, no_turns, one_turn, reaches_then}
+use Rattle.x64_templates.specs.Straight.{AllStraight, takes_frame, NoneTakesFrame, effects, MachineView, machine, Executes}
 use Rattle.template_code.specs.Bytes.{size, sizes}
 use Rattle.x64_templates.proofs.Leaves.{Left, leaves, bound}
+use Rattle.x64_templates.proofs.Registers.{registers_stay}
 
 -- ---- runs
 
@@ -45,12 +44,36 @@ pub ran_then : (m n : ℕ) (s t u : State) → Ran m s t → Ran n t u → Ran (
 ran_then m n s t u a b = record { comes = reaches_then m n s t u a.comes b.comes; left = left_then s.memory t u a.left b.left }
 
 -- one instruction, of whatever kind
-pub one_runs : (i : Instr) (s t : State) → Encodable (i ∷ []) → IsCodeAt s.memory s.cpu.rip (chosen i) → IsPlaced s.cpu.rip (s.cpu.rip + size i) → effect (with_rip s (s.cpu.rip + size i)) i ≡ Ok t → Ran 1 s t
+pub one_steps : (i : Instr) (s t : State) → Encodable (i ∷ []) → IsCodeAt s.memory s.cpu.rip (chosen i) → IsPlaced s.cpu.rip (s.cpu.rip + size i) → effect (with_rip s (s.cpu.rip + size i)) i ≡ Ok t → Steps s t
 unfolding size
-one_runs i s t enc stands placed e = record {
-  comes = one_turn s t (live s.cpu.rip (s.cpu.rip + length (chosen i)) placed) (steps s t i (chosen i) (spells i enc.0) (longest i) stands placed e);
+one_steps i s t enc stands placed e =
+    let l = leaves i (with_rip s (s.cpu.rip + length (chosen i))) t e in
+    let r = registers_stay i (with_rip s (s.cpu.rip + length (chosen i))) t e in
+    record {
+      live = live s.cpu.rip (s.cpu.rip + length (chosen i)) placed;
+      steps = steps s t i (chosen i) (spells i enc.0) (longest i) stands placed e;
+      protection = l.left.protection;
+      fixed = λ a fix. l.left.byte a fix;
+      count = r.count;
+      small = r.small;
+    }
+
+pub one_runs : (i : Instr) (s t : State) → Encodable (i ∷ []) → takes_frame i ≡ false → IsCodeAt s.memory s.cpu.rip (chosen i) → IsPlaced s.cpu.rip (s.cpu.rip + size i) → effect (with_rip s (s.cpu.rip + size i)) i ≡ Ok t → Ran 1 s t
+unfolding size
+one_runs i s t enc inside stands placed e = record {
+  comes = one_turn s t (record {
+    steps = one_steps i s t enc stands placed e;
+    instruction = i;
+    bytes = length (chosen i);
+    read = reads s i (chosen i) (spells i enc.0) (longest i) stands placed;
+    inside = inside;
+  });
   left = let l = leaves i (with_rip s (s.cpu.rip + length (chosen i))) t e in record { protection = l.left.protection; byte = l.left.byte };
 }
+
+-- the same for one that makes a frame
+pub one_enters_frame : (i : Instr) (s t : State) → Encodable (i ∷ []) → IsCodeAt s.memory s.cpu.rip (chosen i) → IsPlaced s.cpu.rip (s.cpu.rip + size i) → effect (with_rip s (s.cpu.rip + size i)) i ≡ Ok t → Enters 1 s t
+one_enters_frame i s t enc stands placed e = (t, one_steps i s t enc stands placed e, refl)
 
 within : (a n b c : ℕ) → IsPlaced a (a + n) → b + c ≤ n → IsPlaced (a + b) (a + b + c)
 within a n b c p le = let l = p.low in let h = p.high in record { low = omega arith; high = omega arith }
@@ -60,24 +83,24 @@ pub record Went (is : List Instr) (s t : State) : Type 0 where
   pub ran : Ran (length is) s t
   pub rip : t.cpu.rip ≡ s.cpu.rip + sizes is
 
-no_turns : (s t : State) → s ≡ t → Went [] s t
-no_turns s t e = subst (Went [] s) e (record { ran = record { comes = λ f k out. ap (λ j. run f [] j (host s) out) (zero-add k); left = nothing_left s }; rip = let z : s.cpu.rip ≡ s.cpu.rip + 0 = omega arith in z })
+went_nowhere : (s t : State) → s ≡ t → Went [] s t
+went_nowhere s t e = subst (Went [] s) e (record { ran = record { comes = no_turns s s refl; left = nothing_left s }; rip = let z : s.cpu.rip ≡ s.cpu.rip + 0 = omega arith in z })
 
 next_rip : (a b c n m : ℕ) → b ≡ a + n → c ≡ b + m → c ≡ a + (n + m)
 next_rip a b c n m p q = omega arith
 
-pub straight_runs : (is : List Instr) (s t : State) → Encodable is → AllStraight is → IsCodeAt s.memory s.cpu.rip (spelled is) → IsPlaced s.cpu.rip (s.cpu.rip + sizes is) → effects is s ≡ Ok t → Went is s t
+pub straight_runs : (is : List Instr) (s t : State) → Encodable is → AllStraight is → NoneTakesFrame is → IsCodeAt s.memory s.cpu.rip (spelled is) → IsPlaced s.cpu.rip (s.cpu.rip + sizes is) → effects is s ≡ Ok t → Went is s t
 unfolding effects size
-straight_runs [] s t enc str stands placed e = no_turns s t (let f : s ≡ t = cc in f)
-straight_runs (i ∷ is) s t enc str stands placed e =
+straight_runs [] s t enc str inside stands placed e = went_nowhere s t (let f : s ≡ t = cc in f)
+straight_runs (i ∷ is) s t enc str inside stands placed e =
     let next = s.cpu.rip + length (chosen i) in
     let b = bound (effect (with_rip s next) i) (effects is) t e in
     let l = leaves i (with_rip s next) b.0 b.1 in
     let parts = bytes_split s.memory s.cpu.rip (chosen i) (spelled is) stands in
-    let first = one_runs i s b.0 (enc.0, tt) parts.0 (let q : IsPlaced (s.cpu.rip + 0) (s.cpu.rip + 0 + length (chosen i)) = within s.cpu.rip (length (chosen i) + sizes is) 0 (length (chosen i)) placed (let le : 0 + length (chosen i) ≤ length (chosen i) + sizes is = omega arith in le) in let z : s.cpu.rip + 0 ≡ s.cpu.rip = omega arith in subst (λ a. IsPlaced a (a + length (chosen i))) z q) b.1 in
+    let first = one_runs i s b.0 (enc.0, tt) inside.0 parts.0 (let q : IsPlaced (s.cpu.rip + 0) (s.cpu.rip + 0 + length (chosen i)) = within s.cpu.rip (length (chosen i) + sizes is) 0 (length (chosen i)) placed (let le : 0 + length (chosen i) ≤ length (chosen i) + sizes is = omega arith in le) in let z : s.cpu.rip + 0 ≡ s.cpu.rip = omega arith in subst (λ a. IsPlaced a (a + length (chosen i))) z q) b.1 in
     let at : b.0.cpu.rip ≡ next = l.rip str.0 in
     let there = bytes_kept s.memory b.0.memory next (spelled is) (λ a fix. first.left.byte a fix) first.left.protection parts.1 in
-    let rest = straight_runs is b.0 t enc.1 str.1 (subst (λ a. IsCodeAt b.0.memory a (spelled is)) (sym at) there) (subst (λ a. IsPlaced a (a + sizes is)) (sym at) (within s.cpu.rip (length (chosen i) + sizes is) (length (chosen i)) (sizes is) placed (let le : length (chosen i) + sizes is ≤ length (chosen i) + sizes is = omega arith in le))) b.2 in
+    let rest = straight_runs is b.0 t enc.1 str.1 inside.1 (subst (λ a. IsCodeAt b.0.memory a (spelled is)) (sym at) there) (subst (λ a. IsPlaced a (a + sizes is)) (sym at) (within s.cpu.rip (length (chosen i) + sizes is) (length (chosen i)) (sizes is) placed (let le : length (chosen i) + sizes is ≤ length (chosen i) + sizes is = omega arith in le))) b.2 in
     record {
       ran = subst (λ n. Ran n s t) (let one : 1 + length is ≡ suc (length is) = omega arith in one) (ran_then 1 (length is) s b.0 t first rest.ran);
       rip = next_rip s.cpu.rip b.0.cpu.rip t.cpu.rip (length (chosen i)) (sizes is) at rest.rip;

@@ -1,5 +1,5 @@
 -- Several instructions of a body, one after another.
-use Rattle.std.proofs.Common.{◌≡◌, ℕ, zero, suc, ◌+◌, ◌<◌, ◌≤◌, Bool, true, false, cond, List, [], ◌∷◌, length, get_or, Option, Some, None, refl, sym, ap, subst, ◌∙◌, arith, inl, inr, zero-add}
+use Rattle.std.proofs.Common.{◌≡◌, ℕ, zero, suc, ◌+◌, ◌<◌, ◌≤◌, Bool, true, false, cond, List, [], ◌∷◌, length, get_or, Option, Some, None, refl, sym, ap, subst, ◌∙◌, arith, inl, inr}
 use Rattle.std.specs.Prelude.{◌⊎◌}
 use Rattle.std.proofs.lemmas.Bool.{cases_lt, lt-ltb, le-ltb}
 use Rattle.flat_memory.specs.declared.protection.Protection.{Protection}
@@ -8,11 +8,9 @@ use Rattle.flat_memory.specs.Memory.{Memory}
 use Rattle.x64_instr.specs.declared.instruction.Instr.{Instr}
 use Rattle.x64_machine.specs.declared.cpu.Flags.{Flags}
 use Rattle.x64_machine.specs.Effect.{State}
-use Rattle.host_model.specs.HostStep.{host}
-use Rattle.host_model.specs.Machine as machines
 use Rattle.x64_templates.specs.Placed.{IsCodeAt}
 use Rattle.template_code.specs.Bytes.{spelled}
-use Rattle.x64_templates.proofs.PlacedCode.{reaches_then}
+use Rattle.x64_templates.proofs.PlacedCode.{no_turns, reaches_then}
 use Rattle.linear_code.specs.declared.instruction.Instruction.{Instruction}
 use Rattle.linear_code.specs.declared.instruction.Instruction.TheVariants as instructions
 use Rattle.linear_code.specs.BodyState.{BodyState}
@@ -78,7 +76,7 @@ nothing_made p v at f b h = record {
   follows = record {
     after = v;
     flags = f;
-    comes = λ functions more shown. ap (λ j. machines.run functions [] j (host (machine v at f)) shown) (zero-add more);
+    comes = no_turns (machine v at f) (machine v at f) refl;
     rest = refl;
     holds = h;
     changes = record { protection = refl; byte = λ a own out. refl; bytes = λ x. x };

@@ -88,9 +88,9 @@ local_unwind_begins v sp rip target to f at below nt nc code =
     let e3 : rip + 10 + 5 ≡ rip + 15 = omega arith in
     let v1 = with_two v sp v.rdx in
     let v2 = with_two v sp target in
-    let first : Reaches 1 (machine v rip f) (machine v1 (rip + 3) f) = one_reaches i v v1 rip (rip + 3) f f refl p.0
+    let first : Reaches 1 (machine v rip f) (machine v1 (rip + 3) f) = one_reaches i v v1 rip (rip + 3) f f refl refl p.0
     (ap (λ (a : ℕ). Ok (machine (with_two v a v.rdx) (rip + size i) f)) (word sp (sp_of v) at below.high) ∙ ap (λ (a : ℕ). Ok (machine v1 a f)) r1) in
-    let second : Reaches 1 (machine v1 (rip + 3) f) (machine v2 (rip + 10) f) = one_reaches j v1 v2 (rip + 3) (rip + 10) f f (short (rip + 10) target nt) q.0
+    let second : Reaches 1 (machine v1 (rip + 3) f) (machine v2 (rip + 10) f) = one_reaches j v1 v2 (rip + 3) (rip + 10) f f (short (rip + 10) target nt) refl q.0
     (ap (λ (a : ℕ). effect (machine v1 a f) j) r2 ∙ address_effect v1 (rip + 10) target f nt) in
     let third = call_reaches v2 sp (rip + 10) to f at below (subst (λ a. IsNear a to) (sym e3) nc) (subst (λ a. HasCode v.memory (rip + 10) (call a to ∷ [])) (sym e3) (subst (λ a. HasCode v.memory a (k ∷ [])) e2 q.1)) in
     subst (λ a. Reaches 3 (machine v rip f) (machine (pushed v2 sp a) to f)) e3

@@ -1,11 +1,6 @@
 -- What a call, an entry and a return come to.
-use Rattle.std.specs.Prelude.{◌≡◌, ℕ, ◌+◌, ◌-◌, ◌^◌, ◌<◌, ◌≤◌, true, List, [], ◌++◌, set, get_or}
-use Rattle.seh_num.specs.declared.event.Event.{Event}
+use Rattle.std.specs.Prelude.{◌≡◌, ℕ, ◌+◌, ◌-◌, ◌^◌, ◌<◌, ◌≤◌, true, List, set, get_or}
 use Rattle.flat_memory.specs.Memory.{Memory, may_read, may_write, number_at, with_number, with_bytes}
-use Rattle.x64_machine.specs.Effect.{State}
-use Rattle.virtual_unwind.specs.CallerOf.{Functions}
-use Rattle.host_model.specs.HostStep.{host}
-use Rattle.host_model.specs.Machine.{run}
 use Rattle.x64_templates.specs.Straight.{MachineView}
 
 -- RSP
@@ -34,10 +29,6 @@ pub record HasBack (m : Memory) (sp back : ℕ) : Type 0 where
   pub number : number_at m.byte 8 sp ≡ back
   pub readable : (a : ℕ) → sp ≤ a → a < sp + 8 → may_read m a ≡ true
   pub small : back < 2 ^ 64
-
--- the run continues as from the other state, and shows these events on the way
-abbrev pub ReachesShowing : ℕ → State → State → List Event → Type 0
-ReachesShowing turns s t events = (f : Functions) (more : ℕ) (shown : List Event) → run f [] (turns + more) (host s) shown ≡ run f [] more (host t) (shown ++ events)
 
 abbrev pub moved : MachineView → ℕ → MachineView
 moved v sp = record { rax = v.rax; rcx = v.rcx; rdx = v.rdx; rest = with_sp v.rest sp; memory = v.memory }

@@ -1,5 +1,5 @@
 -- What holds of templates wherever they are placed.
-use Rattle.std.specs.Prelude.{◌≡◌, ℕ, suc, ◌+◌, ◌^◌, ◌<◌, ◌≤◌, Bool, List, ◌++◌, length, get_or, Option, Some}
+use Rattle.std.specs.Prelude.{◌≡◌, ℕ, suc, ◌+◌, ◌^◌, ◌<◌, ◌≤◌, Bool, List, length, get_or, Option, Some}
 use Rattle.seh_num.specs.declared.event.Code.{Code}
 use Rattle.flat_memory.specs.Memory.{Memory}
 use Rattle.x64_machine.specs.declared.cpu.Flags.{Flags}
@@ -13,14 +13,14 @@ use Rattle.linear_code.specs.Meaning.{Faults, HasSlots, step, run}
 use Rattle.template_code.specs.declared.layout.Layout.{Layout}
 use Rattle.x64_templates.specs.Straight.{MachineView, machine}
 use Rattle.template_code.specs.Bytes.{sizes}
-use Rattle.template_code.specs.Slots.{operands_code, finish_code, compute_code}
+use Rattle.template_code.specs.Slots.{operands_code, compute_code}
 use Rattle.template_code.specs.Jumps.{IsNear}
 use Rattle.template_code.specs.Calls.{return_at, begin_call, return_code, function_entry}
-use Rattle.template_code.specs.Template.{Links, template, template_size, body_size, code_from, offset_of}
+use Rattle.template_code.specs.Template.{Links, template, offset_of}
 use Rattle.x64_templates.specs.Frames.{HasRoom}
 use Rattle.x64_templates.specs.Implements.{HasOperands}
 use Rattle.x64_templates.specs.CallStates.{sp_of, with_sp, HasBelow, HasBack}
-use Rattle.x64_templates.specs.Runs.{HasCode, Frame, Roomy, Holds, IsThere, ReachesBody, Finished, Computed}
+use Rattle.x64_templates.specs.Runs.{HasCode, Frame, Roomy, Holds, IsThere, EntersBody, Computed}
 use Rattle.x64_templates.specs.InstructionRuns.{RunsAllTo, IsLinked}
 use Rattle.x64_templates.specs.EntryStates.{with_arguments, InRegisters, OnStack, IsFunction, body_in_memory, FreshFrame}
 use Rattle.x64_templates.specs.Returned.{CallBegun, Returned}
@@ -91,7 +91,7 @@ FunctionsEnter =
     → sp_of v ≡ p.sp + p.layout.frame → p.layout.frame < 2 ^ 31
     → FreshFrame p v.memory source → InRegisters v arguments → OnStack p v.memory count arguments
     → HasCode v.memory rip (function_entry p.layout count)
-    → ReachesBody p (length (function_entry p.layout count)) (machine v rip f)
+    → EntersBody p (length (function_entry p.layout count)) (machine v rip f)
     (rip + sizes (function_entry p.layout count)) (with_sp v.rest p.sp)
     (record { slots = with_arguments (body_in_memory p.layout p.sp p.base v.memory source).slots arguments 0 count; memory = source })
 

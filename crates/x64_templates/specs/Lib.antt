@@ -10,4 +10,5 @@ pub mod Exceptions
 pub mod Returned
 pub mod Retries
 pub mod Quiet
+pub mod Thunks
 pub mod Laws

@@ -1,5 +1,5 @@
 -- What a call and a return reach.
-use Rattle.std.specs.Prelude.{◌≡◌, ℕ, ◌+◌}
+use Rattle.std.specs.Prelude.{ℕ, ◌+◌}
 use Rattle.x64_machine.specs.declared.cpu.Flags.{Flags}
 use Rattle.linear_code.specs.declared.slot.Slot.TheVariants.{Temporary}
 use Rattle.linear_code.specs.BodyState.{BodyState}

@@ -1,16 +1,13 @@
 -- What a run comes to where the code of an operation is placed.
-use Rattle.std.specs.Prelude.{◌≡◌, ℕ, ◌+◌, Bool, List, [], Option, Err, length}
+use Rattle.std.specs.Prelude.{◌≡◌, ◌≢◌, ℕ, zero, suc, ◌+◌, Bool, false, List, Option, Some, Ok, Err, length}
 use Rattle.seh_num.specs.declared.event.Code.{Code}
-use Rattle.seh_num.specs.declared.event.Event.{Event}
-use Rattle.flat_memory.specs.Memory.{Memory}
+use Rattle.flat_memory.specs.Memory.{Memory, may_write, executable}
 use Rattle.x64_instr.specs.declared.instruction.Instr.{Instr}
+use Rattle.x64_instr.specs.Spelling.{leading}
 use Rattle.x64_machine.specs.declared.cpu.Flags.{Flags}
 use Rattle.x64_machine.specs.declared.outcome.Stop.TheVariants as stops
 use Rattle.x64_machine.specs.Effect.{State}
 use Rattle.x64_machine.specs.Effect as machines
-use Rattle.virtual_unwind.specs.CallerOf.{Functions}
-use Rattle.host_model.specs.HostStep.{host}
-use Rattle.host_model.specs.Machine.{run}
 use Rattle.x64_templates.specs.Placed.{IsCodeAt, IsPlaced}
 use Rattle.template_code.specs.Bytes.{spelled}
 use Rattle.linear_code.specs.declared.slot.Slot.{Slot}
@@ -19,15 +16,38 @@ use Rattle.linear_code.specs.BodyState.{BodyState, Counts, with_slot}
 use Rattle.c_operations.specs.Performed.{Outcome, Gives, Raises, Undefined}
 use Rattle.linear_code.specs.Meaning.{Step, Next, Faults, IsSlot}
 use Rattle.template_code.specs.declared.layout.Layout.{Layout}
-use Rattle.x64_templates.specs.Straight.{MachineView, machine}
+use Rattle.x64_templates.specs.Straight.{AreSmall, MachineView, machine, takes_frame}
 use Rattle.template_code.specs.Bytes.{sizes}
 use Rattle.template_code.specs.Slots.{operands_code, finish_code, compute_code}
 use Rattle.x64_templates.specs.Frames.{HasRoom, HoldsBody, Changes}
 use Rattle.x64_templates.specs.Implements.{HasOperands}
 
--- after this many turns the run continues as from the other state, whatever was shown and however many turns follow
+-- an instruction of the image is run, which changes no protection and no byte that may not be written, and leaves numbers of 64 bits in all registers
+pub record Steps (s u : State) : Type 0 where
+  pub live : s.cpu.rip ≢ 0
+  pub steps : machines.step s ≡ Ok u
+  pub protection : u.memory.protection ≡ s.memory.protection
+  pub fixed : (a : ℕ) → may_write s.memory a ≡ false → u.memory.byte a ≡ s.memory.byte a
+  pub count : length u.cpu.registers ≡ length s.cpu.registers
+  pub small : AreSmall s.cpu.registers → AreSmall u.cpu.registers
+
+-- and it isn't one that makes a frame: so no funclet begins here
+pub record Runs (s u : State) : Type 0 where
+  pub steps : Steps s u
+  pub instruction : Instr
+  pub bytes : ℕ
+  pub read : leading (executable s.memory 15 s.cpu.rip) ≡ Some (instruction, bytes)
+  pub inside : takes_frame instruction ≡ false
+
+-- so many such instructions lead from a state to another
 abbrev pub Reaches : ℕ → State → State → Type 0
-Reaches turns s t = (f : Functions) (more : ℕ) (shown : List Event) → run f [] (turns + more) (host s) shown ≡ run f [] more (host t) shown
+Reaches zero s t = s ≡ t
+Reaches (suc n) s t = (u : State) × Runs s u × Reaches n u t
+
+-- the same, but that the first one may make a frame
+abbrev pub Enters : ℕ → State → State → Type 0
+Enters zero s t = s ≡ t
+Enters (suc n) s t = (u : State) × Steps s u × Reaches n u t
 
 -- the code is placed here
 pub record HasCode (m : Memory) (at : ℕ) (code : List Instr) : Type 0 where
@@ -59,6 +79,15 @@ pub record ReachesBody (p : Frame) (turns : ℕ) (s : State) (to : ℕ) (others 
   pub after : MachineView
   pub flags : Flags
   pub comes : Reaches turns s (machine after to flags)
+  pub rest : after.rest ≡ others
+  pub holds : Holds p after.memory b
+  pub changes : ChangesOwn p s.memory after.memory
+
+-- the same from a function's first byte
+pub record EntersBody (p : Frame) (turns : ℕ) (s : State) (to : ℕ) (others : List ℕ) (b : BodyState) : Type 0 where
+  pub after : MachineView
+  pub flags : Flags
+  pub comes : Enters turns s (machine after to flags)
   pub rest : after.rest ≡ others
   pub holds : Holds p after.memory b
   pub changes : ChangesOwn p s.memory after.memory

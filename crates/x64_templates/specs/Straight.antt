@@ -1,9 +1,13 @@
 -- Instructions one after another.
-use Rattle.std.specs.Prelude.{◌≡◌, ℕ, ◌+◌, Bool, true, false, nat_eq, List, [], ◌∷◌, Ok}
+use Rattle.std.specs.Prelude.{◌≡◌, ℕ, ◌+◌, ◌^◌, ◌<◌, Bool, true, false, ◌&&◌, nat_eq, List, [], ◌∷◌, Ok}
 use Rattle.flat_memory.specs.Memory.{Memory}
 use Rattle.x64_instr.specs.declared.register.Reg.{Reg}
 use Rattle.x64_instr.specs.declared.operand.RegisterOrMemory.{RegisterOrMemory}
 use Rattle.x64_instr.specs.declared.operand.RegisterOrMemory.TheVariants as places
+use Rattle.x64_instr.specs.declared.operand.Operand.{Operand}
+use Rattle.x64_instr.specs.declared.operand.Operand.TheVariants as operands
+use Rattle.x64_instr.specs.declared.instruction.Operation.{Operation}
+use Rattle.x64_instr.specs.declared.instruction.Operation.TheVariants as operations
 use Rattle.x64_instr.specs.declared.instruction.Target.{Target}
 use Rattle.x64_instr.specs.declared.instruction.Target.TheVariants.{Relative, Indirect}
 use Rattle.x64_instr.specs.declared.instruction.Instr.{Instr}
@@ -45,10 +49,32 @@ begins_epilogue (instrs.Pop r) = true
 begins_epilogue instrs.Return = true
 begins_epilogue i = false
 
+-- RSP falls by a number: where a frame is made in one instruction
+abbrev pub is_subtraction : Operation → Bool
+is_subtraction operations.Sub = true
+is_subtraction o = false
+
+abbrev pub is_number : Operand → Bool
+is_number (operands.Immediate n) = true
+is_number from = false
+
+abbrev pub takes_frame : Instr → Bool
+takes_frame (instrs.Arithmetic o w to from) = is_subtraction o && (is_number from && is_rsp_place to)
+takes_frame i = false
+
+abbrev pub NoneTakesFrame : List Instr → Type 0
+NoneTakesFrame [] = Unit {0}
+NoneTakesFrame (i ∷ is) = (takes_frame i ≡ false) × NoneTakesFrame is
+
 -- what instructions do, one after another
 unfoldable pub effects : List Instr → State → Answer State
 effects [] s = Ok s
 effects (i ∷ is) s = effect (with_rip s (s.cpu.rip + size i)) i >>= effects is
+
+-- numbers of 64 bits
+abbrev pub AreSmall : List ℕ → Type 0
+AreSmall [] = Unit {0}
+AreSmall (v ∷ vs) = (v < 2 ^ 64) × AreSmall vs
 
 -- what templates work on: RAX, RCX, RDX, the other registers by their numbers from RBX on, and the memory
 pub record MachineView : Type 0 where

@@ -1,4 +1,4 @@
-use Rattle.raw_stack.proofs.Visiting.{frame_is_visited, search_is_passed, unwinding_is_passed, stack_is_over}
+use Rattle.raw_stack.proofs.Visiting.{frame_is_visited, leaf_is_visited, search_is_passed, unwinding_is_passed, stack_is_over}
 use Rattle.raw_stack.proofs.Keeping.{kept_by_other_stores, nothing_below_is_owned, slots_are_free}
 use Rattle.raw_stack.proofs.Placing.{record_is_one_more}
 use Rattle.raw_stack.proofs.Listing.{search_is_of_the_list, unwinding_is_of_the_list}
@@ -7,6 +7,7 @@ use Rattle.raw_stack.proofs.laws.laws.Goals as goal
 pub returns : goal.returns
 returns c = record {
   frame = frame_is_visited;
+  leaf = leaf_is_visited;
   search = search_is_passed;
   unwinding = unwinding_is_passed;
   over = stack_is_over;

@@ -1,0 +1,4 @@
+pub mod Sites
+pub mod Layouts
+pub mod Programs
+pub mod Bodies

@@ -1,0 +1,83 @@
+-- Where the code of a program's parts begins, and what comes before a body.
+use Rattle.std.specs.Prelude.{ℕ, Bool, true, false, nat_le, if◌then◌else◌, List, [], ◌∷◌, ◌++◌, slice_get, Option, Some, None}
+use Rattle.seh_num.specs.declared.width.Width.TheVariants.{W32}
+use Rattle.x64_instr.specs.declared.register.Reg.TheVariants.{Rax, Rcx}
+use Rattle.x64_instr.specs.declared.instruction.Instr.{Instr}
+use Rattle.c_operations.specs.declared.built_in.BuiltIn.{BuiltIn}
+use Rattle.linear_code.specs.declared.slot.Slot.TheVariants.{Local}
+use Rattle.linear_code.specs.declared.program.FuncletKind.{FuncletKind}
+use Rattle.linear_code.specs.declared.program.FuncletKind.TheVariants.{Filter, Finally}
+use Rattle.linear_code.specs.Program.{LinearProgram, LinearBody, LinearFunction, LinearFunclet}
+use Rattle.linear_machine.specs.Frames.{BodyName, FunctionBody, FuncletBody}
+use Rattle.template_code.specs.declared.layout.Layout.{Layout}
+use Rattle.template_code.specs.Operations.{move}
+use Rattle.template_code.specs.Slots.{keep}
+use Rattle.template_code.specs.Calls as calls
+use Rattle.template_code.specs.Calls.{enter_code, keep_register, parameters_code}
+use Rattle.template_code.specs.Probing.{enter_large}
+use Rattle.template_code.specs.Template.{Links, code_from}
+use Rattle.linked_stack.specs.ImagePlan.{Plan}
+
+-- the first bytes of functions, the thunks of the built-in functions and of `_local_unwind`, and `__chkstk`
+pub record Sites : Type 0 where
+  pub function : ℕ → ℕ
+  pub thunk : BuiltIn → ℕ
+  pub local_unwind : ℕ
+  pub check_stack : ℕ
+
+-- what the code of a body refers to
+abbrev pub links_of : Plan → Sites → BodyName → Links
+links_of p q name = record { label = p.address name; function = q.function; known = q.thunk; funclet = p.funclet; local_unwind = q.local_unwind }
+
+-- the first byte of a body's function or funclet
+abbrev pub begin_of : Plan → Sites → BodyName → ℕ
+begin_of p q (FunctionBody f) = q.function f
+begin_of p q (FuncletBody k) = p.funclet k
+
+-- ---- what comes before the first instruction
+
+-- the frame is made: a leaf function has none, and one above a page is probed
+abbrev pub making : ℕ → ℕ → ℕ → Bool → List Instr
+making size at check true = enter_code size
+making size at check false = enter_large size at check
+
+abbrev pub frame_code : ℕ → ℕ → ℕ → Bool → List Instr
+frame_code size at check true = []
+frame_code size at check false = making size at check (nat_le size 4096)
+
+-- where a funclet keeps the base, and where its parent does, if that is a funclet
+abbrev pub base_in : Layout → ℕ
+base_in y = elim y.base [ Some b ↦ b | None ↦ 0 ]
+
+abbrev pub parent_base : Plan → Option ℕ → Option ℕ
+parent_base p None = None
+parent_base p (Some parent) = (p.layout (FuncletBody parent)).base
+
+-- the base in RDX, or where the frame in RDX is a funclet's, the base that is kept there
+abbrev pub keep_base : Option ℕ → ℕ → List Instr
+keep_base None b = calls.keep_base b
+keep_base (Some parent) b = calls.keep_parents_base parent b
+
+-- a filter keeps the address of its EXCEPTION_POINTERS, a `__finally` block its flag
+abbrev pub keep_argument : Layout → FuncletKind → List Instr
+keep_argument y Filter = keep_register Rcx y.pointers ∷ []
+keep_argument y (Finally flag) = move W32 Rax Rcx ∷ keep y (Local flag)
+
+abbrev pub function_arguments : Layout → Option LinearFunction → List Instr
+function_arguments y None = []
+function_arguments y (Some f) = parameters_code y 0 f.parameters
+
+abbrev pub funclet_arguments : Plan → Layout → Option LinearFunclet → List Instr
+funclet_arguments p y None = []
+funclet_arguments p y (Some f) = keep_base (parent_base p f.parent) (base_in y) ++ keep_argument y f.kind
+
+abbrev pub arguments_code : LinearProgram → Plan → BodyName → List Instr
+arguments_code program p (FunctionBody f) = function_arguments (p.layout (FunctionBody f)) (slice_get program.functions f)
+arguments_code program p (FuncletBody k) = funclet_arguments p (p.layout (FuncletBody k)) (slice_get program.funclets k)
+
+abbrev pub entry_code : LinearProgram → Plan → Sites → BodyName → List Instr
+entry_code program p q name = frame_code (p.layout name).frame (begin_of p q name) q.check_stack (p.leaf name) ++ arguments_code program p name
+
+-- all of its code
+abbrev pub code_of : LinearProgram → Plan → Sites → BodyName → LinearBody → List Instr
+code_of program p q name b = entry_code program p q name ++ code_from (links_of p q name) (p.layout name) (p.address name 0) b.code

@@ -1,0 +1,6 @@
+pub mod Turns
+pub mod Steps
+pub mod Matches
+pub mod All
+pub mod NoMore
+pub mod Programs

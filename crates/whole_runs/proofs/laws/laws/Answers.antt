@@ -1,0 +1,5 @@
+use Rattle.whole_runs.proofs.Programs as lemma
+use Rattle.whole_runs.proofs.laws.laws.Goals as goal
+
+pub returns : goal.returns
+returns c = record { all = lemma.all; no_more = lemma.no_more; programs_all = lemma.programs_all; programs_no_more = lemma.programs_no_more; enough = lemma.enough }

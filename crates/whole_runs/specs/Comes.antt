@@ -1,0 +1,27 @@
+-- Turns of the machine one after another.
+use Rattle.std.specs.Prelude.{◌≡◌, ℕ, zero, suc, ◌==◌, false, List, [], ◌++◌}
+use Rattle.seh_num.specs.declared.event.Event.{Event}
+use Rattle.x64_machine.specs.Effect.{State}
+use Rattle.virtual_unwind.specs.CallerOf.{Functions}
+use Rattle.host_model.specs.declared.funclet.Funclet.{Funclet}
+use Rattle.host_model.specs.Turns.{Continues}
+use Rattle.host_model.specs.HostStep.{turn}
+
+-- a run has not ended in this state
+abbrev pub IsLive : State → Type 0
+IsLive s = (s.cpu.rip == 0) ≡ false
+
+-- a live state makes a turn, which shows the first of these events; the rest comes after it
+pub record Turns (t : Functions) (fs : List Funclet) (s : State) (events : List Event) (Rest : List Event → State → Type 0) : Type 0 where
+  pub live : IsLive s
+  pub state : State
+  pub first : List Event
+  pub others : List Event
+  pub turns : turn t fs s ≡ Continues state first
+  pub whole : events ≡ first ++ others
+  pub rest : Rest others state
+
+-- so many turns lead from a state to another, and show these events
+abbrev pub Comes : Functions → List Funclet → ℕ → State → List Event → State → Type 0
+Comes t fs zero s events u = (events ≡ []) × (s ≡ u)
+Comes t fs (suc n) s events u = Turns t fs s events (λ others v. Comes t fs n v others u)

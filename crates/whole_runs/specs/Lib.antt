@@ -1,0 +1,4 @@
+pub mod Comes
+pub mod Ends
+pub mod Matched
+pub mod Laws

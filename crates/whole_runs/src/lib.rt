@@ -1,0 +1,5 @@
+//! Whole runs of the machine against whole runs of linear code: what turns of the machine show for a step
+//! of linear code adds up to what a run shows, with every event and end and with no other.
+#![tactic(auto)]
+
+pub mod laws;
