@@ -10,7 +10,7 @@ use Rattle.c_checked.specs.Program.{Program, Function}
 use Rattle.c_checked.specs.Expression.{Lvalue, Local, Global, Indirection, Element}
 use Rattle.c_checked.specs.Statement.{Filter, Always, Funclet, Statements}
 use Rattle.c_model.specs.Source.{is_reserved}
-use Rattle.c_model.specs.State.{Exception, Result, Value, Normal, Returned, Broke, Continued, LeftTry, Target, End}
+use Rattle.c_model.specs.State.{Exception, Result, Value, Normal, Returned, Continued, LeftTry, Target, End}
 use Rattle.c_model.specs.Tasks as tasks
 use Rattle.c_model.specs.Tasks.{Handler, Task}
 use Rattle.source_machine.specs.Frames as frames

@@ -1,8 +1,7 @@
 -- Which programs are Tame.
-use Rattle.std.proofs.Common.{◌≡◌, ℕ, ◌+◌, ◌-◌, ◌≤◌, ◌<◌, sym, ap, ◌∙◌, subst, arith, inl, inr}
-use Rattle.std.specs.Prelude.{true, ℤ}
+use Rattle.std.proofs.Common.{◌≡◌, ℕ, ◌+◌, ◌-◌, ◌≤◌, sym, ap, ◌∙◌, subst, arith, inl, inr}
+use Rattle.std.specs.Prelude.{true}
 use Rattle.std.proofs.lemmas.Bool.{cases_lt}
-use Rattle.c_checked.specs.Program.{Program}
 use Rattle.c_model.specs.Meaning.{Shown, is_calm, Calm}
 use Rattle.c_model.proofs.MoreSteps.{calm_before, end_stays}
 use Rattle.calm_runs.specs.Laws.{TameIsCalm, EndedIsTame}
