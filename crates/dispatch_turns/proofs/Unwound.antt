@@ -100,8 +100,8 @@ module _ (t : Functions) (fs : List Funclet) (program : LinearProgram) (p : Plan
   by_code to (Some code) e = ap (by_purpose s r to) e.0 ∙ ap (λ v. Continues (at_landing s to v r.target) (events.Except (let c : Code = record { 0 = v } in c) ∷ [])) e.1
 
   value_small : (o : Option ℕ) → HasPurpose t fs program p o r → landing_value o < 2 ^ 64
-  value_small None e = omega arith
-  value_small (Some code) e = let f = h.room.fits.code in let g = e.1 in omega arith
+  value_small None e = none_small
+  value_small (Some code) e = let f = h.room.fits.code in let g : r.code.0 ≡ code = e.1 in let small : code < 2 ^ 64 = omega arith in small
 
   landed_sane : (to : Context) (v : ℕ) → IsWide to.kept → v < 2 ^ 64 → IsSane (at_landing s to v r.target)
   landed_sane to v wide small = record { rip_small = h.room.fits.target; count = refl; small = each }

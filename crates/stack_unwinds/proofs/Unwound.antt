@@ -29,7 +29,7 @@ use Rattle.raw_stack.proofs.Visiting.{set_head}
 use Rattle.raw_stack.proofs.Keeping.{rises}
 use Rattle.raw_stack.proofs.Listing.{unwinding_is_of_the_list}
 use Rattle.linked_stack.specs.ImagePlan.{Plan, Gives}
-use Rattle.linked_stack.specs.Linked.{Activation, locals_of, activations_below, home_end, HasActivation, FrameWaits, LeafWaits, IsAbove, regions_from, IsAtRow, Aimed, AimedHere, Linked}
+use Rattle.linked_stack.specs.Linked.{Activation, locals_of, activations_below, HasActivation, FrameWaits, LeafWaits, IsAbove, regions_from, IsAtRow, Aimed, AimedHere, Linked}
 use Rattle.linked_stack.specs.Frames.{NoBlock, Arrives, FirstBlock}
 use Rattle.linked_stack.specs.Laws.{left_from}
 use Rattle.linked_stack.proofs.Places.{row_before_short}
@@ -157,17 +157,17 @@ module _ (t : Functions) (fs : List Funclet) (program : LinearProgram) (p : Plan
       })
 
 -- past a function's body one activation more is held
-held_past : BodyName → ℕ → ℕ
+abbrev held_past : BodyName → ℕ → ℕ
 held_past (FunctionBody f) held = held + 1
 held_past (FuncletBody k) held = held
 
 grows_past : (name : BodyName) (held : ℕ) → held ≤ held_past name held
-grows_past (FunctionBody f) held = omega arith
-grows_past (FuncletBody k) held = omega arith
+grows_past (FunctionBody f) held = let e : held ≤ held + 1 = omega arith in e
+grows_past (FuncletBody k) held = let e : held ≤ held = omega arith in e
 
 counted_past : (m : Memory) (y : Layout) (sp size k : ℕ) (acts : List Activation) (name : BodyName) (held : ℕ) → HasActivation m y sp size k acts name → length (activations_below name acts) + held_past name held ≡ length acts + held
 counted_past m y sp size k [] (FunctionBody f) held h = absurd h
-counted_past m y sp size k (a ∷ outer) (FunctionBody f) held h = omega arith
+counted_past m y sp size k (a ∷ outer) (FunctionBody f) held h = let e : length outer + (held + 1) ≡ suc (length outer) + held = omega arith in e
 counted_past m y sp size k acts (FuncletBody j) held h = refl
 
 past_is : (name : BodyName) (target : Target) (held : ℕ) → target_past name (record target { held = held }) ≡ record target { held = held_past name held }
@@ -336,7 +336,7 @@ module _ (t : Functions) (fs : List Funclet) (program : LinearProgram) (p : Plan
         let here = on_top b below source acts events in
         ap (λ (rs : List Region). unwind_body program then (to_target held) (out held b.body below then) rs here) (at ∙ none_from t fs program p g m c back is b below acts stands body row)
         ∙ ap (λ x. pick x (linear.arrive (to_target held) target.code then here) (out held b.body below then (left_store b.body b.activation (store_of source acts)))) (ne_eqb target.depth (length below) away)
-        ∙ left_out held (rsp c) home_end b.activation acts b.body below then body.waits.activation
+        ∙ left_out held (rsp c) (p.layout b.body).temporaries b.activation acts b.body below then body.waits.activation
 
     host_left : plain_unwind t frame address c row (Leaf back ∷ is) ≡ plain_unwind t frame address (after_leaf c back) 0 is
     host_left =
@@ -362,7 +362,7 @@ module _ (t : Functions) (fs : List Funclet) (program : LinearProgram) (p : Plan
   unwound_plainly held acts (Leaf back ∷ is) (Waits b ∷ below) c row left s h at wide a e =
       past_leaf held c back is b below acts row left s.0 s.1 h.0 at a
       (unwound_plainly (held_past b.body held) (activations_below b.body acts) is below (after_leaf c back) 0 None s.1 h.2 (at_first_row t fs program p below) (wide_after_leaf t m c back s.0 wide) a
-      (counted_past m (p.layout b.body) (rsp c) home_end b.activation acts b.body held h.0.waits.activation ∙ e))
+      (counted_past m (p.layout b.body) (rsp c) (p.layout b.body).temporaries b.activation acts b.body held h.0.waits.activation ∙ e))
   unwound_plainly held acts (Searching r ∷ is) (Searches exception resumption asked rest ∷ below) c row left s h at wide a e =
       from_rear t fs program p m target held held frame address (rsp c) (rsp (context_of r.saved)) depth source events _ _ _ _ refl (λ then. refl) (omega arith) (let q = rises t m c (Searching r) s.0 in omega arith)
       (unwound_plainly held acts is below (context_of r.saved) 0 None s.1 h.1 (at_first_row t fs program p below) (wide_saved r h.0.own.fits) a e)

@@ -51,6 +51,7 @@ one_steps i s t enc stands placed e =
     let r = registers_stay i (with_rip s (s.cpu.rip + length (chosen i))) t e in
     record {
       live = live s.cpu.rip (s.cpu.rip + length (chosen i)) placed;
+      rip_small = let h = placed.high in omega arith;
       steps = steps s t i (chosen i) (spells i enc.0) (longest i) stands placed e;
       protection = l.left.protection;
       fixed = λ a fix. l.left.byte a fix;

@@ -1,5 +1,5 @@
 -- What a run comes to where the code of an operation is placed.
-use Rattle.std.specs.Prelude.{◌≡◌, ◌≢◌, ℕ, zero, suc, ◌+◌, Bool, false, List, Option, Some, Ok, Err, length}
+use Rattle.std.specs.Prelude.{◌≡◌, ◌≢◌, ℕ, zero, suc, ◌+◌, ◌^◌, ◌<◌, Bool, false, List, Option, Some, Ok, Err, length}
 use Rattle.seh_num.specs.declared.event.Code.{Code}
 use Rattle.flat_memory.specs.Memory.{Memory, may_write, executable}
 use Rattle.x64_instr.specs.declared.instruction.Instr.{Instr}
@@ -25,6 +25,7 @@ use Rattle.x64_templates.specs.Implements.{HasOperands}
 -- an instruction of the image is run, which changes no protection and no byte that may not be written, and leaves numbers of 64 bits in all registers
 pub record Steps (s u : State) : Type 0 where
   pub live : s.cpu.rip ≢ 0
+  pub rip_small : s.cpu.rip < 2 ^ 64
   pub steps : machines.step s ≡ Ok u
   pub protection : u.memory.protection ≡ s.memory.protection
   pub fixed : (a : ℕ) → may_write s.memory a ≡ false → u.memory.byte a ≡ s.memory.byte a
