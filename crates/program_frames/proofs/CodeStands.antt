@@ -53,7 +53,7 @@ code_length s at r near =
     let b = body_sizes k r.layout (at + entry_size r) r.body.code in
     omega (arith, sizes_spelled (routine_code s at r), sizes_append (entry_code at (check_stack_at s.text) r) (code_from k r.layout (at + entry_size r) r.body.code))
 
-routine_length : (s : SiteView) (at : ℕ) (r : RoutineView) → IsRoutineNear r → length (routine_bytes s at r) ≡ routine_size r
+pub routine_length : (s : SiteView) (at : ℕ) (r : RoutineView) → IsRoutineNear r → length (routine_bytes s at r) ≡ routine_size r
 unfolding routine_bytes
 routine_length s at r near = code_length s at r near
 
