@@ -1,8 +1,8 @@
 -- The body that runs, where an instruction of linear code begins.
-use Rattle.std.specs.Prelude.{◌≡◌, ℕ, ◌+◌, ◌*◌, ◌^◌, ◌<◌, ◌≤◌, Bool, true, false, List, [], ◌∷◌, length, Ok}
+use Rattle.std.specs.Prelude.{◌≡◌, ℕ, ◌+◌, ◌*◌, ◌^◌, ◌<◌, ◌≤◌, Bool, true, false, List, [], ◌∷◌, length, Some, Ok}
 use Rattle.host_layout.specs.declared.range.TheConstants.{STACK_END}
 use Rattle.flat_memory.specs.Memory.{Memory}
-use Rattle.x64_instr.specs.declared.register.Reg.TheVariants.{Rsp}
+use Rattle.x64_instr.specs.declared.register.Reg.TheVariants.{Rax, Rsp}
 use Rattle.x64_machine.specs.Contexts.{context_of}
 use Rattle.x64_machine.specs.Effect.{State, register}
 use Rattle.virtual_unwind.specs.CallerOf.{Functions}
@@ -57,9 +57,10 @@ module _ (t : Functions) (fs : List Funclet) (program : LinearProgram) (p : Plan
         (others : List ℕ) → length others ≡ 8
         → On t fs program p s.memory (context_below back (register s.cpu Rsp + (p.layout c.frame.body).frame + 8) others) is c.below (activations_below c.frame.body acts)
 
-  -- an instruction of linear code begins
+  -- an instruction of linear code begins; where an `__except` block has just taken over, RAX is the exception's code
   pub record Begins (s : State) (c : Configuration) : Type 0 where
     pub rip : s.cpu.rip ≡ p.address c.frame.body c.frame.next
     pub sane : IsSane s
     pub memory : IsMachineMemory t fs program p q s.memory c.store.memory
     pub body : InBody s c
+    pub landed : (code : ℕ) → c.frame.landed ≡ Some code → register s.cpu Rax ≡ code

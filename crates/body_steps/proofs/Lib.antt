@@ -9,5 +9,8 @@ pub mod Becoming
 pub mod Homes
 pub mod Next
 pub mod Activated
+pub mod Written
 pub mod Running
 pub mod Plain
+pub mod Computing
+pub mod Landing

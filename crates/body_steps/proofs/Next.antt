@@ -4,7 +4,7 @@ use Rattle.std.specs.Prelude.{◌⊎◌, slice_get, slice_index, slice_set, repl
 use Rattle.host_layout.specs.declared.range.TheConstants.{STACK_START, STACK_END}
 use Rattle.seh_num.specs.declared.event.Event.{Event}
 use Rattle.flat_memory.specs.Memory.{Memory}
-use Rattle.x64_instr.specs.declared.register.Reg.TheVariants.{Rsp}
+use Rattle.x64_instr.specs.declared.register.Reg.TheVariants.{Rax, Rsp}
 use Rattle.x64_machine.specs.Effect.{State, register}
 use Rattle.virtual_unwind.specs.Undone.{Answer, word}
 use Rattle.virtual_unwind.specs.CallerOf.{Functions}
@@ -341,7 +341,7 @@ module _ (t : Functions) (fs : List Funclet) (program : LinearProgram) (p : Plan
 
       -- ---- the next instruction
 
-      module _ (label : ℕ) (landed : Option ℕ) (events : List Event) (rip : u.cpu.rip ≡ p.address c.frame.body label) (inside : label < length code.code) (sane : IsSane u)
+      module _ (label : ℕ) (landed : Option ℕ) (events : List Event) (rip : u.cpu.rip ≡ p.address c.frame.body label) (inside : label < length code.code) (sane : IsSane u) (result : (value : ℕ) → landed ≡ Some value → register u.cpu Rax ≡ value)
           (caller : p.leaf c.frame.body ≡ true → CallerHasFrame p c.below) (owner : (k : ℕ) → c.frame.body ≡ FuncletBody k → OwnerHasFrame t fs program p c.frame.activation c.below b.body.acts) where
         abbrev next : Configuration
         next = further c b.body.acts label values ts landed d.memory events
@@ -370,6 +370,7 @@ module _ (t : Functions) (fs : List Funclet) (program : LinearProgram) (p : Plan
 
         pub begins_next : Begins t fs program p q u next
         begins_next = record {
+          landed = result;
           rip = rip;
           sane = sane;
           memory = record {

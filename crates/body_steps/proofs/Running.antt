@@ -78,6 +78,11 @@ each P (y ∷ xs) (suc i) x h e = each P xs i x h.1 e
 pub get_or_is : {A : Type 0} → (xs : List A) (i : ℕ) (x d : A) → slice_get xs i ≡ Some x → (get_or xs i d ≡ x) × (i < length xs)
 get_or_is xs i x d e = (get_or_from_slice_get xs i x d e, slice_get_within xs i x e)
 
+-- nothing has landed
+nothing : (landed : Option ℕ) (value : ℕ) → landed ≡ None → landed ≡ Some value → ⊥
+nothing None value e f = cc
+nothing (Some x) value e f = cc
+
 -- ---- the body's code
 
 module _ (t : Functions) (fs : List Funclet) (program : LinearProgram) (p : Plan) (q : Sites) (image : IsProgramImage t fs program p q) (roomy : HaveRoom program) where
@@ -168,14 +173,14 @@ module _ (t : Functions) (fs : List Funclet) (program : LinearProgram) (p : Plan
 
     module _ (around : Surroundings) where
       -- a run of so many turns to an instruction of the body, with these slots
-      pub to_label : (n label rip : ℕ) (d : BodyState) (values ts : List ℕ) (landed : Option ℕ) (events : List Event) → ReachesBody frame n s rip v.rest d → rip ≡ p.address name label → label < length code.code → rip < 2 ^ 64 → Leaves code d values ts
+      pub to_label : (n label rip : ℕ) (d : BodyState) (values ts : List ℕ) (landed : Option ℕ) (events : List Event) → ReachesBody frame n s rip v.rest d → rip ≡ p.address name label → label < length code.code → rip < 2 ^ 64 → Leaves code d values ts → landed ≡ None
           → (u : State) × (Comes t fs n s [] u) × (Begins t fs program p q u (further t fs program p q image c b.body.acts label values ts landed d.memory events))
-      to_label n label rip d values ts landed events r at lt small leaves =
+      to_label n label rip d values ts landed events r at lt small leaves free =
           let u : State = machine r.after rip r.flags in
           let keeps = reaches_keeps n s u r.comes in
           let sp : register u.cpu Rsp ≡ register s.cpu Rsp = ap (λ (xs : List ℕ). slice_index xs 1) r.rest ∙ dropped s.cpu.registers in
           let ran : Ran t fs program p q image s c b counted u d values ts = record { changed = record { changes = r.changes; keeps = keeps }; holds = r.holds; stack = sp; leaves = leaves } in (
             u,
             reaches_quietly t fs program p q image n s u r.comes b.memory.code (quiet_at label rip at lt small u refl),
-            begins_next t fs program p q image s c b counted u d values ts ran label landed events at lt (stays_sane s u keeps small b.sane) around.caller around.owner,
+            begins_next t fs program p q image s c b counted u d values ts ran label landed events at lt (stays_sane s u keeps small b.sane) (λ value e. absurd (nothing landed value free e)) around.caller around.owner,
           )

@@ -65,7 +65,7 @@ template_some y (instructions.JumpIfZero slot label) =
     let s = fetch_some y slot in
     omega (arith, sizes_append (fetch y Rax slot) (compare_zero ∷ jump_equal (0 + sizes (test_code y slot) + 6) 0 ∷ []))
 template_some y (instructions.Call function first count) = let s = passing_call_size y first count 0 0 in omega arith
-template_some y (instructions.CallBuiltIn function first) = let s = call_code_size y (Temporary first) first 0 0 in omega arith
+template_some y (instructions.CallBuiltIn function first) = let s = call_code_size y (Temporary first) first (0 + 5) 0 in omega arith
 template_some y (instructions.CallFinally funclet) = let s = call_size (0 + sizes finally_arguments + 5) 0 in omega arith
 template_some y (instructions.LocalUnwind label) = let s = call_size 15 0 in omega arith
 template_some y instructions.Separator = nop_some
