@@ -99,11 +99,11 @@ module _ (t : Functions) (fs : List Funclet) (program : LinearProgram) (p : Plan
           acts = acts;
           shown = sym (append-nil c.events);
           stands = subst (λ (xs : List (List ℕ)). let o : Configuration = record {
-            frame = record c.frame { next = label; temporaries = ts; landed = landed };
-            below = c.below;
-            store = record { memory = d.memory; activations = xs };
-            events = c.events;
-          } in Begins t fs program p q m.0 o) store m.2;
+              frame = record c.frame { next = label; temporaries = ts; landed = landed };
+              below = c.below;
+              store = record { memory = d.memory; activations = xs };
+              events = c.events;
+            } in Begins t fs program p q m.0 o) store m.2;
         }
 
     -- the same numbers in the locals
