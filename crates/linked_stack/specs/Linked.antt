@@ -1,5 +1,5 @@
 -- The plain list of what waits in linear code, as it stands in the machine's stack, item by item.
-use Rattle.std.specs.Prelude.{◌≡◌, ◌⊎◌, ℕ, suc, ◌+◌, ◌*◌, ◌%◌, ◌^◌, ◌<◌, ◌≤◌, true, false, not, ◌==◌, List, [], ◌∷◌, ◌++◌, length, drop, filter, slice_get, Option, Some, None, Ok}
+use Rattle.std.specs.Prelude.{◌≡◌, ◌⊎◌, ℕ, ◌+◌, ◌*◌, ◌%◌, ◌^◌, ◌<◌, ◌≤◌, true, false, not, ◌==◌, List, [], ◌∷◌, ◌++◌, length, drop, filter, slice_get, Option, Some, None, Ok}
 use Rattle.std.specs.List.{AllByRecursion}
 use Rattle.host_layout.specs.declared.range.TheConstants.{STACK_END}
 use Rattle.flat_memory.specs.Memory.{Memory}
@@ -17,10 +17,8 @@ use Rattle.seh_records.specs.Laws.{Fits}
 use Rattle.host_model.specs.declared.funclet.Funclet.{Funclet}
 use Rattle.host_model.specs.Dispatch.{row_before, rows_of, parameters, count}
 use Rattle.template_code.specs.declared.layout.Layout.{Layout}
-use Rattle.template_code.specs.Slots.{temporary_at, local_at}
 use Rattle.c_model.specs.State.{Exception}
 use Rattle.linear_code.specs.declared.program.Region.{Region}
-use Rattle.linear_code.specs.declared.program.FuncletKind.{FuncletKind}
 use Rattle.linear_code.specs.declared.program.FuncletKind.TheVariants as funclets
 use Rattle.linear_code.specs.Program.{LinearProgram, LinearBody, LinearFunclet}
 use Rattle.linear_machine.specs.Frames.{BodyName, FunctionBody, FuncletBody, body_of, Frame, Handler, Target, Resumption, Item, Waits, Searches, Unwinds}
