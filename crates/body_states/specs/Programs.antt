@@ -11,6 +11,7 @@ use Rattle.x64_machine.specs.declared.context.Context.{Context}
 use Rattle.x64_instr.specs.declared.register.Reg.TheVariants.{Rax, Rcx, Rdx}
 use Rattle.x64_machine.specs.declared.cpu.Cpu.{Cpu}
 use Rattle.x64_machine.specs.Effect.{register}
+use Rattle.eh_tables.specs.declared.code.UnwindOperation.TheVariants.{Allocate}
 use Rattle.eh_tables.specs.Tables.{Entry}
 use Rattle.virtual_unwind.specs.Contexts.{rsp}
 use Rattle.virtual_unwind.specs.CallerOf.{Functions, distance}
@@ -76,7 +77,9 @@ module _ (t : Functions) (fs : List Funclet) (program : LinearProgram) (p : Plan
   pub record HasAddresses (name : BodyName) (b : LinearBody) : Type 0 where
     pub first : p.address name 0 ≡ begin_of p q name + sizes (entry_code program p q name)
     pub labels : IsBody (links_of p q name) (p.layout name) (p.address name 0) b.code
+    pub rises : (label : ℕ) → label < length b.code → p.address name label < p.address name (label + 1)
     pub inside : IsInImage (begin_of p q name) (p.address name 0 + body_size (p.layout name) b.code)
+    pub not_first : (label k : ℕ) → label < length b.code → k < length program.funclets → p.address name label ≢ p.funclet k
 
   -- ---- memory
 
@@ -84,7 +87,7 @@ module _ (t : Functions) (fs : List Funclet) (program : LinearProgram) (p : Plan
   pub record HasService (m : Memory) (at : ℕ) (service : Service) : Type 0 where
     pub thunk : HasThunk m at (address_of service)
     pub inside : IsInImage at (at + 6)
-    pub slot : (a : ℕ) → at + 6 + thunk.away ≤ a → a < at + 6 + thunk.away + 8 → is_reserved program.globals a ≡ true
+    pub slot : IsInImage (at + 6 + thunk.away) (at + 6 + thunk.away + 8)
 
   -- all code of the program, with its thunks and `__chkstk`
   pub record HasProgram (m : Memory) : Type 0 where
@@ -125,6 +128,11 @@ module _ (t : Functions) (fs : List Funclet) (program : LinearProgram) (p : Plan
       → length c.kept ≡ 9 → rsp c + (p.layout name).frame + 8 < 2 ^ 64 → word m (rsp c + (p.layout name).frame) ≡ Ok back
       → IsFramed m name c back
 
+  -- the unwind codes of an entry are the allocation of its body's frame
+  pub record HasAllocation (name : BodyName) : Type 0 where
+    pub offset : ℕ
+    pub codes : (p.entry name).info.codes ≡ record { offset = offset; operation = Allocate (p.layout name).frame } ∷ []
+
   -- a leaf function has no entry
   abbrev pub LeavesStand : Type 0
   LeavesStand =
@@ -142,7 +150,8 @@ module _ (t : Functions) (fs : List Funclet) (program : LinearProgram) (p : Plan
   pub record ReturnsThere (b : Frame) (saved : Cpu) : Type 0 where
     pub first : ℕ
     pub calls : at_instruction b (instructions.CallBuiltIn RaiseException first)
-    pub here : saved.rip ≡ return_at (p.layout b.body) first (p.address b.body b.next)
+    pub here : saved.rip ≡ return_at (p.layout b.body) first (p.address b.body b.next + 5)
+    pub no_result : register saved Rax ≡ 0
 
   -- at the machine instruction that faulted, with the same operands in their registers: they are temporaries, which no filter changes
   pub record WorksAgain (b : Frame) (saved : Cpu) : Type 0 where
@@ -183,6 +192,8 @@ module _ (t : Functions) (fs : List Funclet) (program : LinearProgram) (p : Plan
     pub addresses : (name : BodyName) (b : LinearBody) → body_of program name ≡ Some b → HasAddresses name b
     pub check_stack : IsInImage q.check_stack (q.check_stack + sizes check_stack)
     pub lands : (name : BodyName) (b : LinearBody) (label : ℕ) → body_of program name ≡ Some b → label < length b.code → p.lands name label ≡ true
+    pub landings : (name : BodyName) (b : LinearBody) (label : ℕ) → body_of program name ≡ Some b → p.lands name label ≡ true → label < length b.code
+    pub allocations : (name : BodyName) (b : LinearBody) → body_of program name ≡ Some b → p.leaf name ≡ false → HasAllocation name
     pub frames : FramesStand
     pub leaves : LeavesStand
     pub funclets : FuncletsBegin

@@ -3,3 +3,8 @@ pub mod Stored
 pub mod Words
 pub mod Views
 pub mod Viewed
+pub mod Programs
+pub mod Reaching
+pub mod Becoming
+pub mod Homes
+pub mod Next

@@ -1,6 +1,6 @@
 -- The running body has a view: its slots as templates see them hold linear code's numbers.
-use Rattle.std.proofs.Common.{◌≡◌, ℕ, suc, ◌+◌, ◌*◌, ◌^◌, ◌<◌, ◌≤◌, Bool, true, false, Option, Some, None, List, [], ◌∷◌, length, refl, sym, ap, subst, ◌∙◌, arith}
-use Rattle.std.specs.Prelude.{slice_get, slice_index, drop, replicate}
+use Rattle.std.proofs.Common.{◌≡◌, ℕ, suc, ◌+◌, ◌*◌, ◌^◌, ◌<◌, ◌≤◌, Bool, true, false, Option, Some, None, List, [], ◌∷◌, length, refl, sym, ap, subst, ◌∙◌, arith, inl, inr}
+use Rattle.std.specs.Prelude.{◌⊎◌, slice_get, slice_index, drop, replicate}
 use Rattle.host_layout.specs.declared.range.TheConstants.{STACK_START, STACK_END}
 use Rattle.flat_memory.specs.Memory.{Memory, may_write}
 use Rattle.x64_instr.specs.declared.register.Reg.TheVariants.{Rax, Rcx, Rdx, Rsp}
@@ -16,13 +16,13 @@ use Rattle.linear_machine.specs.Frames.{BodyName, FunctionBody, FuncletBody, bod
 use Rattle.x64_templates.specs.Straight.{machine}
 use Rattle.raw_stack.specs.Laws.{context_below}
 use Rattle.linked_stack.specs.ImagePlan.{Plan}
-use Rattle.linked_stack.specs.Linked.{Activation, locals_of, activations_below, HasActivation}
+use Rattle.linked_stack.specs.Linked.{Activation, locals_of, activations_below, temporaries_end, HasActivation}
 use Rattle.linked_stack.proofs.Ends.{in_stack}
 use Rattle.body_states.specs.Sites.{Sites}
 use Rattle.linked_stack.specs.Laws.{Stands}
-use Rattle.body_states.specs.Layouts.{IsFuncletLayout, IsLayoutIf, IsLaidOut, IsFuncletPlan}
+use Rattle.body_states.specs.Layouts.{IsFunctionLayout, IsLeafLayout, IsFuncletLayout, IsLayoutIf, IsLaidOut, IsFuncletPlan}
 use Rattle.body_states.specs.Programs.{IsProgramImage}
-use Rattle.body_states.specs.Bodies.{slots_end, Begins}
+use Rattle.body_states.specs.Bodies.{slots_end, last_temporary, Begins}
 use Rattle.body_steps.specs.Views.{seen_by_templates, counts_of, HasView}
 use Rattle.body_steps.proofs.Views.{SlotsPlaced, function_placed, leaf_placed, funclet_placed, room_of, holds_of, local_is, temporary_is}
 
@@ -119,3 +119,71 @@ module _ (t : Functions) (fs : List Funclet) (program : LinearProgram) (p : Plan
         source = refl;
       };
     }
+
+    -- ---- which kind of body it is
+
+    pub record AsFunction : Type 0 where
+      pub number : ℕ
+      pub name : c.frame.body ≡ FunctionBody number
+      pub framed : p.leaf c.frame.body ≡ false
+      pub layout : IsFunctionLayout (p.layout c.frame.body) code
+      pub activation : HasActivation s.memory (p.layout c.frame.body) sp (p.layout c.frame.body).frame c.frame.activation b.body.acts (FunctionBody number)
+
+    pub record AsLeaf : Type 0 where
+      pub number : ℕ
+      pub name : c.frame.body ≡ FunctionBody number
+      pub leaf : p.leaf c.frame.body ≡ true
+      pub layout : IsLeafLayout (p.layout c.frame.body) code
+      pub activation : HasActivation s.memory (p.layout c.frame.body) sp (p.layout c.frame.body).temporaries c.frame.activation b.body.acts (FunctionBody number)
+
+    pub record AsFunclet : Type 0 where
+      pub number : ℕ
+      pub name : c.frame.body ≡ FuncletBody number
+      pub framed : p.leaf c.frame.body ≡ false
+      pub plan : IsFuncletPlan program p number code
+      pub layout : IsFuncletLayout (p.layout c.frame.body) (p.layout (FunctionBody plan.funclet.function)) code
+      pub activation : HasActivation s.memory (p.layout c.frame.body) sp (p.layout c.frame.body).frame c.frame.activation b.body.acts (FuncletBody number)
+
+    kind_by_leaf : (f : ℕ) (leaf : Bool) → c.frame.body ≡ FunctionBody f → p.leaf c.frame.body ≡ leaf → IsLaidOut program p (FunctionBody f) code → HasActivation s.memory (p.layout c.frame.body) sp (slots_end (p.layout c.frame.body) leaf) c.frame.activation b.body.acts (FunctionBody f)
+        → AsFunction ⊎ (AsLeaf ⊎ AsFunclet)
+    kind_by_leaf f true name is laid h = inr (inl (record {
+      number = f;
+      name = name;
+      leaf = is;
+      layout = subst (λ l. IsLayoutIf program p (p.layout c.frame.body) code l) is (subst (λ n. IsLayoutIf program p (p.layout n) code (p.leaf n)) (sym name) laid);
+      activation = h;
+    }))
+    kind_by_leaf f false name is laid h = inl (record {
+      number = f;
+      name = name;
+      framed = is;
+      layout = subst (λ l. IsLayoutIf program p (p.layout c.frame.body) code l) is (subst (λ n. IsLayoutIf program p (p.layout n) code (p.leaf n)) (sym name) laid);
+      activation = h;
+    })
+
+    kind_by_name : (name : BodyName) → c.frame.body ≡ name → HasActivation s.memory (p.layout c.frame.body) sp (slots_end (p.layout c.frame.body) (p.leaf c.frame.body)) c.frame.activation b.body.acts name → AsFunction ⊎ (AsLeaf ⊎ AsFunclet)
+    kind_by_name (FunctionBody f) name h = kind_by_leaf f (p.leaf c.frame.body) name refl (subst (λ n. IsLaidOut program p n code) name (image.laid_out c.frame.body code b.body.slots.body)) h
+    kind_by_name (FuncletBody k) name h =
+        let plan : IsFuncletPlan program p k code = subst (λ n. IsLaidOut program p n code) name (image.laid_out c.frame.body code b.body.slots.body) in
+        let framed : p.leaf c.frame.body ≡ false = ap p.leaf name ∙ plan.framed in
+        inr (inr (record {
+          number = k;
+          name = name;
+          framed = framed;
+          plan = plan;
+          layout = subst (λ n. IsFuncletLayout (p.layout n) (p.layout (FunctionBody plan.funclet.function)) code) (sym name) plan.layout;
+          activation = subst (λ l. HasActivation s.memory (p.layout c.frame.body) sp (slots_end (p.layout c.frame.body) l) c.frame.activation b.body.acts (FuncletBody k)) framed h;
+        }))
+
+    pub kind : AsFunction ⊎ (AsLeaf ⊎ AsFunclet)
+    kind = kind_by_name c.frame.body refl b.body.slots.activation
+
+    -- the temporaries have room
+    pub last_room : (p.layout c.frame.body).temporaries + 8 * code.temporaries ≤ last_temporary (p.layout c.frame.body) c.frame.body (p.leaf c.frame.body)
+    last_room = elim kind [
+      | inl f ↦ subst (λ l. (p.layout c.frame.body).temporaries + 8 * code.temporaries ≤ last_temporary (p.layout c.frame.body) c.frame.body l) (sym f.framed)
+          (subst (λ n. (p.layout c.frame.body).temporaries + 8 * code.temporaries ≤ temporaries_end (p.layout c.frame.body) n (p.layout c.frame.body).frame) (sym f.name) f.layout.temporaries)
+      | inr (inl f) ↦ subst (λ l. (p.layout c.frame.body).temporaries + 8 * code.temporaries ≤ last_temporary (p.layout c.frame.body) c.frame.body l) (sym f.leaf) (let a = f.layout.temporaries in let z = f.layout.few in omega arith)
+      | inr (inr f) ↦ subst (λ l. (p.layout c.frame.body).temporaries + 8 * code.temporaries ≤ last_temporary (p.layout c.frame.body) c.frame.body l) (sym f.framed)
+          (subst (λ n. (p.layout c.frame.body).temporaries + 8 * code.temporaries ≤ temporaries_end (p.layout c.frame.body) n (p.layout c.frame.body).frame) (sym f.name) f.layout.temporaries)
+    ]

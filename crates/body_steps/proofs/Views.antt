@@ -47,6 +47,7 @@ pub record KeepsWord (m : Memory) (y : Layout) (slot sp base : ℕ) : Type 0 whe
   pub below_temporaries : slot + 8 ≤ y.temporaries
   pub below_locals : sp + (slot + 8) ≤ base + y.locals
   pub in_stack : sp + slot + 8 ≤ STACK_END
+  pub above_frame : sp + y.frame + 8 ≤ base
 
 abbrev pub KeepsSlot : Memory → Layout → Option ℕ → (sp base : ℕ) → Type 0
 KeepsSlot m y None sp base = base ≡ sp
@@ -150,7 +151,7 @@ module _ (t : Functions) (fs : List Funclet) (program : LinearProgram) (p : Plan
         temporaries_small = omega arith;
         locals_small = omega arith;
         apart = inr (omega arith);
-        kept = subst (λ o. KeepsSlot m y o sp h.base) (sym h.some) (record { word_is = h.kept; below_temporaries = omega arith; below_locals = omega arith; in_stack = omega arith });
+        kept = subst (λ o. KeepsSlot m y o sp h.base) (sym h.some) (record { word_is = h.kept; below_temporaries = omega arith; below_locals = omega arith; in_stack = omega arith; above_frame = omega arith });
       }
 
 -- ---- what templates hold

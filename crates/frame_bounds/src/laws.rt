@@ -8,8 +8,8 @@ pub fn resolved_is_shallow()
     ensures shallow { ResolvedIsShallow }
 {}
 
-/// No body of an accepted text's program uses more than 1,000 words of 8 bytes, and each slot, function and
-/// funclet that its linear code names is there.
+/// No body of an accepted text's program uses more than 1,000 words of 8 bytes, 460 of them beside the
+/// locals, and each slot, function and funclet that its linear code names is there.
 pub fn accepted_is_small()
     ensures small { AcceptedIsSmall }
 {}

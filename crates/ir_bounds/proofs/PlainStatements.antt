@@ -189,12 +189,12 @@ module _ (program : Program) (linear : LinearProgram) (most n own : ℕ) (wide :
 
   -- ---- filters and `__finally` blocks
 
-  module _ (words : 4 + most + n ≤ 1000) where
+  module _ (few_temporaries : most ≤ 456) (few_locals : n ≤ 540) where
     pub small_body : (code : List Instruction) (regions : _) → AllGood most n code → IsSmallBody (record { locals = n; temporaries = temporaries_in code; passed = passed_in code; code = code; regions = regions })
     small_body code regions h =
         let t = temporaries_most most n code h in
         let p = passed_most most n code h in
-        record { words = omega arith; code = plain_all most n code h }
+        record { passed = p; temporaries = omega arith; locals = few_locals; code = plain_all most n code h }
 
     -- the funclets of a function are of its number, and their locals are its own
     pub record Fitting (owner : Owner) : Type 0 where

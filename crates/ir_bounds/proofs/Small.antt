@@ -57,12 +57,13 @@ module _ (program : Program) (h : functions_sound program.functions program.func
       let ps : length fn.parameters ≤ 8 = leb-true (length fn.parameters) 8 (both_right _ _ (both_left _ _ ok)) in
       let ls : length fn.locals ≤ 256 = leb-true (length fn.locals) 256 (both_right _ _ ok) in
       let wide : own_locals fn ≤ n = omega arith in
-      let words : 4 + 456 + n ≤ 1000 = omega arith in
+      let most : 456 ≤ 456 = omega arith in
+      let room : n ≤ 540 = omega arith in
       let code = statements_code (scope_of fn) fn.body 0 in
       let ends = constant 0 0 ∷ instructions.Return (Temporary 0) ∷ [] in
       let good = append 456 n code ends (statements_good program (lowered program) 456 n (own_locals fn) wide (omega arith) few fn.body (inside fn) (knows fn) (scope_of fn) (among fn) 0 (both_left _ _ (both_left _ _ ok)) (omega arith) (omega arith) shallow.parameters)
       (constant_good 456 n 0 0 (omega arith), ((omega arith, omega arith, tt), tt)) in
-      record { parameters = ps; body = small_body program (lowered program) 456 n (own_locals fn) wide (omega arith) few words (code ++ ends) (statements_regions fn.body 0) good }
+      record { parameters = ps; body = small_body program (lowered program) 456 n (own_locals fn) wide (omega arith) few most room (code ++ ends) (statements_regions fn.body 0) good }
 
   functions_small : (fs : List Function) → functions_sound program.functions fs ≡ true → AreShallow fs → AllByRecursion IsSmallFunction (map lowered_function fs)
   functions_small [] ok shallow = tt
@@ -77,10 +78,11 @@ module _ (program : Program) (h : functions_sound program.functions program.func
       let ps : length fn.parameters ≤ 8 = leb-true (length fn.parameters) 8 (both_right _ _ (both_left _ _ ok)) in
       let ls : length fn.locals ≤ 256 = leb-true (length fn.locals) 256 (both_right _ _ ok) in
       let wide : own_locals fn ≤ n = omega arith in
-      let words : 4 + 456 + n ≤ 1000 = omega arith in
+      let most : 456 ≤ 456 = omega arith in
+      let room : n ≤ 540 = omega arith in
       let l = length-map program.functions lowered_function in
       let owner : Owner = record { function = number; locals = n; parent = None } in
-      all_funclets_small program (lowered program) 456 n (own_locals fn) wide (omega arith) few words fn.body (inside fn) (knows fn) owner (record { function = omega arith; locals = refl; parent = tt }) (scope_of fn).names (among fn) j (both_left _ _ (both_left _ _ ok)) (omega arith) (omega arith) shallow.parameters f c
+      all_funclets_small program (lowered program) 456 n (own_locals fn) wide (omega arith) few most room fn.body (inside fn) (knows fn) owner (record { function = omega arith; locals = refl; parent = tt }) (scope_of fn).names (among fn) j (both_left _ _ (both_left _ _ ok)) (omega arith) (omega arith) shallow.parameters f c
 
   funclets_small : (fs : List Function) (number j : ℕ) → number + length fs ≤ length program.functions → functions_sound program.functions fs ≡ true → AreShallow fs
       → StandsAt (lowered program).funclets j (all_funclets number fs) → count_up (j + 1) (sound.all_funclets fs) ≡ true → AllByRecursion (IsSmallFunclet (lowered program)) (all_funclets number fs)

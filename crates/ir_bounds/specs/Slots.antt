@@ -1,5 +1,5 @@
 -- Linear code whose slots and arguments are within bounds.
-use Rattle.std.specs.Prelude.{ℕ, ◌+◌, ◌<◌, ◌≤◌, List, [], ◌∷◌, length, Option, Some, None}
+use Rattle.std.specs.Prelude.{ℕ, ◌<◌, ◌≤◌, List, length, Option, Some, None}
 use Rattle.std.specs.List.{AllByRecursion}
 use Rattle.c_operations.specs.declared.field.Field.{Field}
 use Rattle.c_operations.specs.declared.field.Field.TheVariants.{ExceptionInformation}
@@ -31,9 +31,11 @@ IsPlain n (instructions.Call function first count) = count ≤ 8
 IsPlain n (instructions.Return from) = IsAmong n from
 IsPlain n other = Unit {0}
 
--- a body uses at most 1,000 words
+-- a body uses at most 1,000 words, and beside the locals, which lie in the frame of a function alone, at most 460
 pub record IsSmallBody (b : LinearBody) : Type 0 where
-  pub words : b.passed + b.temporaries + b.locals ≤ 1000
+  pub passed : b.passed ≤ 4
+  pub temporaries : b.temporaries ≤ 456
+  pub locals : b.locals ≤ 540
   pub code : AllByRecursion (IsPlain b.locals) b.code
 
 -- ---- programs

@@ -99,7 +99,7 @@ own_target site label = record { depth = length site.below; label = label; code 
 
 -- a `__finally` block as a body of its own
 abbrev pub finally_site : ℕ → List Item → ℕ → Site
-finally_site j below held = record { body = FuncletBody j; regions = []; below = below; exception = no_exception; held = held + 1 }
+finally_site j below held = record { body = FuncletBody j; regions = []; below = below; exception = no_exception; held = held + 2 }
 
 module _ (program : Program) (linear : LinearProgram) (pace body : ℕ) where
   abbrev pub exit_way : Context → Site → jumps.Way → ℕ → Way

@@ -89,7 +89,7 @@ module _ (program : Program) (linear : LinearProgram) (pace body : ℕ) where
         let names' = finally_names names in
         let begins : Configuration = begin_finally j names.free flag held below (conf context site pc temps st store) in
         let place : ℕ → Configuration = λ m. record {
-          frame = record { body = FuncletBody j; next = 0; activation = context.activation; exception = no_exception; held = held + 1; temporaries = []; landed = None };
+          frame = record { body = FuncletBody j; next = 0; activation = context.activation; exception = no_exception; held = held + 2; temporaries = []; landed = None };
           below = below;
           store = base';
           events = st.events ++ events.Finally m flag ∷ [];
@@ -111,7 +111,7 @@ module _ (program : Program) (linear : LinearProgram) (pace body : ℕ) where
         (final_end j names below held flag context site pc temps (Stays program linear pace body names' shapes inner base') (Stays program linear pace body names shapes context base) (0 + statements_size last) out (λ st store p. out st store p) placed.1 (has_at linear (FuncletBody j) [] (statements_size last) (0 + statements_size last) (instructions.Return (Local names.free) ∷ []) (omega arith) placed.3) isf (at (place k)) asked x (all (within program n) last inner asked)
         (all_runs program linear pace body n bih (finally_scope names) z shapes inner fsite base' last 0 asked base' (omega arith) (omega arith) placed.2 (record { around = tt; exit = tt; loop_end = tt; loop_next = tt })
         (standing_finally program linear pace body names z shapes context site fsite base (statements_notes last) flag st store standing kept isf.same_found)
-        (noted_kept program linear pace body names names' z shapes context base (of_test flag) st store refl standing.env.shape standing.past kept) (ap (λ h. h + 1) same_held)))))))
+        (noted_kept program linear pace body names names' z shapes context base (of_test flag) st store refl standing.env.shape standing.past kept) (ap (λ h. h + 2) same_held)))))))
 
     pub body_next : BodyRuns program linear pace body (suc n)
     body_next = record {

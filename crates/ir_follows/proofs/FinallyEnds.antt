@@ -17,7 +17,7 @@ use Rattle.linear_code.specs.Program.{LinearProgram}
 use Rattle.linear_machine.specs.Frames.{FuncletBody, Item, Waits, Unwinds, Store, Configuration, Finished, Next, with_some, set_local, local_of, deeper}
 use Rattle.linear_machine.specs.Frames as machine
 use Rattle.linear_machine.specs.Regions.{handlers_in, handlers}
-use Rattle.linear_machine.specs.Unwinding.{flag_in, flag_of, begin_finally, run_finally, unwind}
+use Rattle.linear_machine.specs.Unwinding.{flag_in, flag_of, begin_finally, run_finally, target_past, unwind}
 use Rattle.linear_machine.specs.Searching.{target_of}
 use Rattle.linear_machine.specs.Instructions.{end_body}
 use Rattle.linear_machine.specs.Run.{instruction_in, exec}
@@ -92,7 +92,7 @@ module _ (program : Program) (linear : LinearProgram) (pace body : ℕ) where
         let isf : IsFunclet program linear pace body (k - 1) (finally_site (k - 1) below to.held) context site pc temps = record { named = refl; bare = refl; same_found = refl; onward = λ next target st store. refl } in
         after linear pace s s' from st 0 0 x (price 1 0 y y) (price 1 0 (x + y) (x + y)) w' (and_then (within program n (RunFinally k last true) context st) (λ st. Gives how st)) (omega arith, omega arith, omega arith)
         (onto linear pace s (unwound linear pace context inside to temps st store pc) s' from st 0 0 x
-        (λ j. starts linear (exec linear j) to (λ store. unwind linear (exec linear j) to site.below None st.events store) begin (end + 1) (k - 1) site.regions (conf context site pc temps st store) forth o
+        (λ j. starts linear (exec linear j) to (λ store. unwind linear (exec linear j) (target_past site.body to) site.below None st.events store) begin (end + 1) (k - 1) site.regions (conf context site pc temps st store) forth o
         ∙ run_is k scope.names true to.held below (exec linear j) (conf context site pc temps st store) placed.1) p)
         (then_held linear pace s' (λ mid store'. unwound linear pace context site to temps mid store' pc) to.held w' st (price 0 0 y y) (price 1 0 0 0) (price 1 0 y y) (within program n (RunFinally k last true) context st) (λ st. Gives how st)
         (omega arith, omega arith, omega arith, omega arith)
@@ -150,7 +150,7 @@ module _ (program : Program) (linear : LinearProgram) (pace body : ℕ) where
             reaches =
                 reaches_after linear pace (unwound linear pace context site to (v ∷ []) mid store' p.0) (at (conf context site label (v ∷ []) mid store')) (λ next. end_body linear next site.body v (conf context site label (v ∷ []) mid store')) mid mid mid 0 0 0 1 0 0 1 0 0 (omega arith) (omega arith)
                 (still linear pace (unwound linear pace context site to (v ∷ []) mid store' p.0) (at (conf context site label (v ∷ []) mid store')) mid mid 0 0 0 refl (omega arith) (prefix_self linear pace mid.events)
-                (λ j. comes_there linear (exec linear j) to (λ store. unwind linear (exec linear j) to site.below None mid.events store) site.regions (conf context site p.0 (v ∷ []) mid store') refl f.1))
+                (λ j. comes_there linear (exec linear j) to (λ store. unwind linear (exec linear j) (target_past site.body to) site.below None mid.events store) site.regions (conf context site p.0 (v ∷ []) mid store') refl f.1))
                 (stepped linear pace (conf context site label (v ∷ []) mid store') (λ next. end_body linear next site.body v (conf context site label (v ∷ []) mid store')) mid mid 1 0 0 refl (omega arith) (omega arith) refl (prefix_self linear pace mid.events)
                 (λ j. returns label v mid store' j f.2));
           },
@@ -179,7 +179,7 @@ module _ (program : Program) (linear : LinearProgram) (pace body : ℕ) where
           fits = kept;
           same = held;
           reaches = still linear pace (unwound linear pace context site to [] mid store' p.0) (at (conf context site label [] mid store')) mid mid 1 0 0 refl (omega arith) (prefix_self linear pace mid.events)
-              (λ j. comes_there linear (exec linear j) to (λ store. unwind linear (exec linear j) to site.below None mid.events store) site.regions (conf context site p.0 [] mid store') refl f.1);
+              (λ j. comes_there linear (exec linear j) to (λ store. unwind linear (exec linear j) (target_past site.body to) site.below None mid.events store) site.regions (conf context site p.0 [] mid store') refl f.1);
         }))
     by_jump s from x (UnwindsTo label) how st w steps f p go =
         let to = own_target site label in

@@ -15,7 +15,7 @@ use Rattle.linear_code.specs.Program.{LinearProgram, LinearFunction}
 use Rattle.linear_machine.specs.Frames.{FunctionBody, Item, Waits, Store, Configuration, Finished, Next, with_some, deeper}
 use Rattle.linear_machine.specs.Frames as machine
 use Rattle.linear_machine.specs.Regions.{regions_at, handlers_in, handlers}
-use Rattle.linear_machine.specs.Unwinding.{unwind}
+use Rattle.linear_machine.specs.Unwinding.{target_past, unwind}
 use Rattle.linear_machine.specs.Searching.{target_of}
 use Rattle.linear_machine.specs.Instructions.{begin_function}
 use Rattle.linear_machine.specs.Run.{exec}
@@ -126,6 +126,10 @@ module _ (program : Program) (linear : LinearProgram) (pace body : ℕ) where
     abbrev Kc : Kept
     Kc = Stays program linear pace body scope.names (shapes ++ new ∷ []) callee base'
 
+    -- the same where a target has left it
+    abbrev left_by_target : State → State
+    left_by_target st = record st { frames = take m st.frames; held = st.held + 1 }
+
     call_fits : scope.names.free ≡ new.own → (mid : State) (after : Store) → Kc mid after → Within program linear pace body shapes base (ended mid) (left after)
     call_fits e mid after p =
         let whole : NotesKept everywhere shapes base' after = λ j z h x l o.
@@ -172,6 +176,7 @@ module _ (program : Program) (linear : LinearProgram) (pace body : ℕ) where
     function_ends s st x done (Gives LeftTry mid) e has l1 l2 l3 label l4 a = absurd a
     function_ends s st x done (Gives (Target level exc) mid) e has l1 l2 l3 label l4 q =
         let to = target_of q.handler exc.code mid.held in
+        let past = target_past (FunctionBody k) to in
         let f : handlers linear csite.below None ≡ found linear pace context site = ap (λ rs. handlers_in rs context.activation (length site.below) ++ handlers linear site.below None) walked in
         let low : q.handler.depth < length csite.below = handlers_below linear csite.below None level q.handler q.picked in
         record {
@@ -197,8 +202,8 @@ module _ (program : Program) (linear : LinearProgram) (pace body : ℕ) where
                   y.0,
                   y.1,
                   y.2
-                      ∙ leaves linear (exec linear i) to (λ store. unwind linear (exec linear i) to csite.below None mid.events store) (conf callee csite q.pc q.temps mid q.store) low
-                      ∙ unwound_is program linear pace body to context site pc temps (ended mid) (left q.store) (exec linear i) walked,
+                      ∙ leaves linear (exec linear i) to (λ store. unwind linear (exec linear i) past csite.below None mid.events store) (conf callee csite q.pc q.temps mid q.store) low
+                      ∙ unwound_is program linear pace body past context site pc temps (left_by_target mid) (left q.store) (exec linear i) walked,
                 );
               };
         }

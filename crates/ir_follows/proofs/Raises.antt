@@ -19,7 +19,7 @@ use Rattle.linear_code.specs.Program.{LinearProgram, LinearFunclet}
 use Rattle.linear_machine.specs.Frames.{FuncletBody, Resumption, Item, Waits, Searches, Store, Finished, Next, pick, with_some, deeper}
 use Rattle.linear_machine.specs.Frames as machine
 use Rattle.linear_machine.specs.Regions.{regions_at, handlers_in, handlers}
-use Rattle.linear_machine.specs.Unwinding.{left_store, unwind_body, unwind}
+use Rattle.linear_machine.specs.Unwinding.{target_past, left_store, unwind_body, unwind}
 use Rattle.linear_machine.specs.Searching.{target_of, accept, begin_filter, consult, search, raise, resumed, answered}
 use Rattle.linear_machine.specs.Instructions.{end_funclet}
 use Rattle.linear_machine.specs.Run.{exec}
@@ -41,7 +41,7 @@ module _ (program : Program) (linear : LinearProgram) (pace body : ℕ) where
   pub unwound_is : (target : machine.Target) (context : Context) (site : Site) (pc : ℕ) (temps : List ℕ) (st : State) (store : Store) (next : Next) → regions_at linear site.body pc ≡ site.regions
       → unwind linear next target (Waits (frame_of context site pc temps) ∷ site.below) None st.events store ≡ unwound linear pace context site target temps st store pc next
   unwound_is target context site pc temps st store next t =
-      ap (λ rs. unwind_body linear next target (λ store. unwind linear next target site.below None st.events store) rs (conf context site pc temps st store)) t
+      ap (λ rs. unwind_body linear next target (λ store. unwind linear next (target_past site.body target) site.below None st.events store) rs (conf context site pc temps st store)) t
 
   -- a handler takes over for what was raised here
   accepted : (f : machine.Handler) (exc : Exception) (context : Context) (site : Site) (pc : ℕ) (temps : List ℕ) (st : State) (store : Store) (next : Next) → regions_at linear site.body pc ≡ site.regions → st.held ≡ site.held
@@ -106,9 +106,9 @@ module _ (program : Program) (linear : LinearProgram) (pace body : ℕ) where
 
       out : (next : Next) → unwound linear pace inner isite target q.temps st q.store q.pc next ≡ unwound linear pace context site target temps st q.store pc next
       out next =
-          ap (λ rs. unwind_body linear next target (λ store. unwind linear next target isite.below None st.events store) rs (conf inner isite q.pc q.temps st q.store)) e
-          ∙ leaves linear next target (λ store. unwind linear next target isite.below None st.events store) (conf inner isite q.pc q.temps st q.store) low
-          ∙ ap (λ name. unwind linear next target isite.below None st.events (left_store name inner.activation q.store)) b
+          ap (λ rs. unwind_body linear next target (λ store. unwind linear next (target_past isite.body target) isite.below None st.events store) rs (conf inner isite q.pc q.temps st q.store)) e
+          ∙ leaves linear next target (λ store. unwind linear next (target_past isite.body target) isite.below None st.events store) (conf inner isite q.pc q.temps st q.store) low
+          ∙ ap (λ name. unwind linear next (target_past name target) isite.below None st.events (left_store name inner.activation q.store)) b
           ∙ onward next target st q.store
 
   -- a funclet of a number, with these items below it, of which a search and an unwinding make what they make of a place
@@ -208,11 +208,11 @@ module _ (program : Program) (linear : LinearProgram) (pace body : ℕ) where
     ends_filter : (e : Expression) (v j : ℕ) (funclet : LinearFunclet) (inner : Context) (f : machine.Handler) (rest : List machine.Handler) (exc : Exception) (resumption : Resumption)
         (context : Context) (site : Site) (pc : ℕ) (temps : List ℕ) (mid : State) (store : Store) (k : ℕ) → slice_get linear.funclets j ≡ Some funclet → funclet.kind ≡ kinds.Filter
         → HasAt linear (FuncletBody j) [] (0 + expression_size e) (Return (Temporary 0) ∷ [])
-        → exec linear (suc k) (conf inner (record { body = FuncletBody j; regions = []; below = Searches exc resumption f rest ∷ Waits (frame_of context site pc temps) ∷ site.below; exception = exc; held = site.held + 1 }) (0 + expression_size e) (v ∷ []) mid store)
+        → exec linear (suc k) (conf inner (record { body = FuncletBody j; regions = []; below = Searches exc resumption f rest ∷ Waits (frame_of context site pc temps) ∷ site.below; exception = exc; held = site.held + 2 }) (0 + expression_size e) (v ∷ []) mid store)
         ≡ answered linear (exec linear k) v exc resumption f rest (conf context site pc temps (emit (events.Answer (signed W32 v)) (let_go mid)) store)
     unfolding with_some
     ends_filter e v j funclet inner f rest exc resumption context site pc temps mid store k there kind has =
-        let c = conf inner (record { body = FuncletBody j; regions = []; below = Searches exc resumption f rest ∷ Waits (frame_of context site pc temps) ∷ site.below; exception = exc; held = site.held + 1 }) (0 + expression_size e) (v ∷ []) mid store in
+        let c = conf inner (record { body = FuncletBody j; regions = []; below = Searches exc resumption f rest ∷ Waits (frame_of context site pc temps) ∷ site.below; exception = exc; held = site.held + 2 }) (0 + expression_size e) (v ∷ []) mid store in
         fetch linear pace c (Return (Temporary 0)) k has.0
         ∙ ap (λ o. with_some mid.events o (λ x. end_funclet linear (exec linear k) x.kind v c)) there
         ∙ ap (λ x. end_funclet linear (exec linear k) x v c) kind
@@ -225,14 +225,14 @@ module _ (program : Program) (linear : LinearProgram) (pace body : ℕ) where
         (value_ways (answers_search program linear pace body exc resumption f rest context site pc temps) (Within program linear pace body shapes base) context site) (source.run_filter (within program n) k e h exc context st)
     filter_runs k j e h f rest exc resumption names info z shapes context site base pc temps st store steps light t a fit around kept held =
         let below : List Item = Searches exc resumption f rest ∷ Waits (frame_of context site pc temps) ∷ site.below in
-        let isite : Site = record { body = FuncletBody j; regions = []; below = below; exception = exc; held = site.held + 1 } in
+        let isite : Site = record { body = FuncletBody j; regions = []; below = below; exception = exc; held = site.held + 2 } in
         let inner : Context = record { handlers = context.handlers; activation = h.activation; exception = exc; abnormal = h.abnormal } in
         let asked : State = emit (events.Filter k) (hold st) in
         let w = value_ways (answers_search program linear pace body exc resumption f rest context site pc temps) (Within program linear pace body shapes base) context site in
         let keep : ℕ → State → Outcome = λ v st. Gives (Value v) (emit (events.Answer (signed W32 v)) (let_go st)) in
         let o = with_value (within program n (Eval e) inner asked) keep in
         let place : ℕ → ℕ → machine.Configuration = λ act m. record {
-          frame = record { body = FuncletBody j; next = 0; activation = act; exception = exc; held = site.held + 1; temporaries = []; landed = None };
+          frame = record { body = FuncletBody j; next = 0; activation = act; exception = exc; held = site.held + 2; temporaries = []; landed = None };
           below = below;
           store = store;
           events = st.events ++ events.Filter m ∷ [];
@@ -257,7 +257,7 @@ module _ (program : Program) (linear : LinearProgram) (pace body : ℕ) where
         (then_value_out (at (place h.activation k)) (pushed inner isite (0 + expression_size e) []) (Within program linear pace body shapes base) j inner isite w pc temps asked
         (price 0 0 (expression_weight e) (expression_weight e)) (price 16 pace 0 0) (price 16 2 0 (2 + expression_weight e)) (within program n (Eval e) inner asked) keep
         (omega arith, omega arith, omega arith, omega arith) out (λ st store q. q)
-        (ih.eval e fit.names true fit.shape shapes inner isite base 0 [] asked store steps light fit.fits (has_front linear (FuncletBody j) [] 0 code (Return (Temporary 0) ∷ []) fit.code) env kept (ap (λ x. x + 1) held))
+        (ih.eval e fit.names true fit.shape shapes inner isite base 0 [] asked store steps light fit.fits (has_front linear (FuncletBody j) [] 0 code (Return (Temporary 0) ∷ []) fit.code) env kept (ap (λ x. x + 2) held))
         (λ v mid after lower fits same_held.
         let answer = events.Answer (signed W32 v) in
         let ended : State = emit answer (let_go mid) in

@@ -15,7 +15,7 @@ use Rattle.linear_code.specs.Program.{LinearProgram}
 use Rattle.linear_machine.specs.Frames.{BodyName, FuncletBody, Item, Waits, Unwinds, Store, Configuration, Seen, Finished, Next, with_some, set_local, deeper}
 use Rattle.linear_machine.specs.Frames as machine
 use Rattle.linear_machine.specs.Regions.{handlers_in, handlers}
-use Rattle.linear_machine.specs.Unwinding.{unwind}
+use Rattle.linear_machine.specs.Unwinding.{target_past, unwind}
 use Rattle.linear_machine.specs.Searching.{target_of}
 use Rattle.linear_machine.specs.Run.{exec}
 use Rattle.linear_runs.proofs.Stretch.{Part, at, Site, conf, Picked, Kept, Price, price, found, Reaches, unwound, Arrives, Claim, onto, stepped, first, fetch, prefix_self, after, sooner, reaches_after, reaches_more, arrives_more, finishes_more, stops_more}
@@ -57,7 +57,7 @@ module _ (program : Program) (linear : LinearProgram) (pace body : ℕ) where
         → Reaches linear pace s (unwound linear pace inner inside to temps st store pc) from st r e d → Reaches linear pace s (unwound linear pace context site to temps st store pc) from st r e d
     skip_region s from r e d to temps st store pc o p =
         onto linear pace s (unwound linear pace inner inside to temps st store pc) (unwound linear pace context site to temps st store pc) from st r e d
-        (λ j. skips linear (exec linear j) to (λ store. unwind linear (exec linear j) to site.below None st.events store) R target site.regions (conf context site pc temps st store) (is_except filter target) (is_block filter target) forth o) p
+        (λ j. skips linear (exec linear j) to (λ store. unwind linear (exec linear j) (target_past site.body to) site.below None st.events store) R target site.regions (conf context site pc temps st store) (is_except filter target) (is_block filter target) forth o) p
 
     skip_exit : (s : Part) (from : State) (p : Price) (way : jumps.Way) (v : ℕ) (st : State) → ExitFits linear site.body site.regions hi way
         → Arrives linear pace s from p kept site.held st (exit_way program linear pace body inner inside way v) → Arrives linear pace s from p kept site.held st (exit_way program linear pace body context site way v)
@@ -137,7 +137,7 @@ module _ (program : Program) (linear : LinearProgram) (pace body : ℕ) where
             let meets : Meets f.target (R ∷ site.regions) = subst (λ t. Meets t (R ∷ site.regions)) (sym q.2) (meets_own R target site.regions (is_except filter target)) in
             let come : Reaches linear pace s (at (landed_at exc st p.store)) from st 0 0 x =
             onto linear pace s (unwound linear pace inner inside own p.temps st p.store p.pc) (at (landed_at exc st p.store)) from st 0 0 x
-            (λ j. lands linear (exec linear j) own (λ store. unwind linear (exec linear j) own site.below None st.events store) (R ∷ site.regions) (conf context site p.pc p.temps st p.store) q.1 meets ∙ ap (λ t. exec linear j (at_target t)) q.2) p.reaches in
+            (λ j. lands linear (exec linear j) own (λ store. unwind linear (exec linear j) (target_past site.body own) site.below None st.events store) (R ∷ site.regions) (conf context site p.pc p.temps st p.store) q.1 meets ∙ ap (λ t. exec linear j (at_target t)) q.2) p.reaches in
             by_test true (eq-eqb level (length context.handlers) e)
             (after linear pace s (at (landed_at exc st p.store)) from st 0 0 x (price 1 0 y y) (price 2 0 (x + y) (x + y)) (statement_ways program linear pace body scope context site kept done) (go exc landed) (omega arith, omega arith, omega arith) come
             (sooner linear pace (at (landed_at exc st p.store)) st landed (price 1 0 y y) (statement_ways program linear pace body scope context site kept done) (go exc landed) refl (events.Except (record { 0 = exc.code }) ∷ [], refl)

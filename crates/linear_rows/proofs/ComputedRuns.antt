@@ -2,6 +2,7 @@
 use Rattle.std.proofs.Common.{refl}
 use Rattle.c_model.specs.Meaning.{computed}
 use Rattle.linear_machine.specs.Run.{computed_linear}
+use Rattle.linear_rows.specs.LeftActivations.{LeftActivations}
 use Rattle.linear_rows.specs.Rows.{SumAndReturn, NullStoreCaught, FilterThenFinally, ContinueSameOperand, ReturnFlags, LeaveFlags, DivisionFaults, DivisionByZero, RaiseInFilter, RaiseInFinally, ContinueNoncontinuable, FilterAskedOnce, CollidedTwice, TargetInOuterActivation, TwoFilters, BreakThroughFinally, ReturnThroughTwo, StoreAcrossPages, FaultAddress, ReservedAccess, Conversions, Operators, SixArguments, Loops, DeepRecursion, EndlessRecursion, SumToArgument}
 
 pub sum_and_return : SumAndReturn
@@ -111,3 +112,7 @@ endless_recursion = refl
 pub sum_to_argument : SumToArgument
 unfolding computed computed_linear
 sum_to_argument = (refl, refl)
+
+pub left_activations : LeftActivations
+unfolding computed computed_linear
+left_activations = ((refl, refl), (refl, refl))

@@ -1,6 +1,7 @@
 //! What the linear code of worked programs shows.
 #![tactic(auto)]
 
+ghost use Rattle.linear_rows.specs.LeftActivations.{LeftActivations};
 ghost use Rattle.linear_rows.specs.Rows.{SumAndReturn, NullStoreCaught, FilterThenFinally, ContinueSameOperand, ReturnFlags, LeaveFlags, DivisionFaults, DivisionByZero, RaiseInFilter, RaiseInFinally, ContinueNoncontinuable, FilterAskedOnce, CollidedTwice, TargetInOuterActivation, TwoFilters, BreakThroughFinally, ReturnThroughTwo, StoreAcrossPages, FaultAddress, ReservedAccess, Conversions, Operators, SixArguments, Loops, DeepRecursion, EndlessRecursion, SumToArgument};
 
 /// Each program shows by its linear code, in three turns a step, what it means.
@@ -32,4 +33,5 @@ pub fn rows()
     ensures deep_recursion { DeepRecursion }
     ensures endless_recursion { EndlessRecursion }
     ensures sum_to_argument { SumToArgument }
+    ensures left_activations { LeftActivations }
 {}

@@ -28,7 +28,7 @@ use Rattle.linear_code.specs.declared.program.RegionKind.TheVariants as kinds
 use Rattle.linear_code.specs.Program.{LinearProgram}
 use Rattle.linear_machine.specs.Frames.{BodyName, FunctionBody, FuncletBody, Handler, Target, Resumption, AfterCall, SameOperation, Item, Waits, Searches, Unwinds, Store, Configuration, Seen, Running, Finished, Stuck, Next, pick, with_some, deeper, read, with_temporary, with_temporaries, last_temporaries, at_label, forth}
 use Rattle.linear_machine.specs.Regions.{regions_at, regions_left, handlers}
-use Rattle.linear_machine.specs.Unwinding.{flag_of, begin_finally, run_finally, arrive, left_store, leave_region, unwind_body, unwind}
+use Rattle.linear_machine.specs.Unwinding.{flag_of, begin_finally, run_finally, arrive, target_past, left_store, leave_region, unwind_body, unwind}
 use Rattle.linear_machine.specs.Searching.{target_of, accept, begin_filter, consult, search, raise, resumed, answered, answer}
 use Rattle.linear_machine.specs.Instructions.{is_constant, operand, written, computed, compute, tested, waiting, begin_function, count_of, built_in, return, end_finally, end_funclet, end_body, not_landed, act}
 use Rattle.linear_machine.specs.Run.{instruction_at, exec}
@@ -96,8 +96,8 @@ module _ (program : LinearProgram) (f g : Next) (h : (c : Configuration) → Kee
   unwind_keeps : (target : Target) (items : List Item) (left : Option (List Region)) (es : List Event) (store : Store) → Keeps es (unwind program f target items left es store) (unwind program g target items left es store)
   unwind_keeps target [] left es store = keeps_stuck es
   unwind_keeps target (Waits b ∷ below) left es store =
-      unwind_body_keeps target (λ store. unwind program f target below None es store) (λ store. unwind program g target below None es store) (regions_left left (regions_at program b.body b.next))
-      (record { frame = b; below = below; store = store; events = es }) (unwind_keeps target below None es)
+      unwind_body_keeps target (λ store. unwind program f (target_past b.body target) below None es store) (λ store. unwind program g (target_past b.body target) below None es store)
+      (regions_left left (regions_at program b.body b.next)) (record { frame = b; below = below; store = store; events = es }) (unwind_keeps (target_past b.body target) below None es)
   unwind_keeps target (Searches exception resumption asked rest ∷ below) left es store = unwind_keeps target below None es store
   unwind_keeps target (Unwinds rest older ∷ below) left es store = unwind_keeps target below (Some rest) es store
 

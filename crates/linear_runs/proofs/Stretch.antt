@@ -555,8 +555,8 @@ module _ (linear : LinearProgram) (pace : ℕ) where
       → Claim (λ next. deeper' n held store st.events (s next)) st p w (deeper n st go)
   unfolding deeper
   deep_claim n held store s st p w go same held_same a =
-      let e : nat_lt 1000 (depth st + n) ≡ nat_lt 1000 (length store.activations + 2 * held + n) =
-      ap (λ k. nat_lt 1000 (k + 2 * st.held + n)) (sym same) ∙ ap (λ k. nat_lt 1000 (length store.activations + 2 * k + n)) held_same in
+      let e : nat_lt 1000 (depth st + n) ≡ nat_lt 1000 (length store.activations + held + n) =
+      ap (λ k. nat_lt 1000 (k + st.held + n)) (sym same) ∙ ap (λ k. nat_lt 1000 (length store.activations + k + n)) held_same in
       subst (λ b. Claim (λ next. pick b (Finished (Deep 1001) st.events) (s next)) st p w (choose (nat_lt 1000 (depth st + n)) (λ st. Gives (End (Some (Deep 1001))) st) go st)) e
       (deep_by (nat_lt 1000 (depth st + n)) s st p w go a)
 
@@ -566,7 +566,7 @@ module _ (linear : LinearProgram) (pace : ℕ) where
   shown_by false es seen p = p
 
   pub shown_deep : (n held : ℕ) (store : Store) (es : List Event) (seen : Seen) → ((rest : List Event) × (events_of seen ≡ es ++ rest)) → (rest : List Event) × (events_of (deeper' n held store es seen) ≡ es ++ rest)
-  shown_deep n held store es seen p = shown_by (nat_lt 1000 (length store.activations + 2 * held + n)) es seen p
+  shown_deep n held store es seen p = shown_by (nat_lt 1000 (length store.activations + held + n)) es seen p
 
   -- a condition
   pub chosen : (b : Bool) (c : Configuration) (t u : Part) (q r : Price) (w : Ways) (f g : State → Outcome) (st : State) → (1 + q.turns ≤ r.turns) × (r.extra + q.slack ≤ pace + q.extra + r.slack) × (r.extra + q.out ≤ pace + q.extra + r.out) → c.events ≡ st.events

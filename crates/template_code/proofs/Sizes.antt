@@ -93,7 +93,7 @@ template_sizes k y at (instructions.Jump label) = let a = jump_size (at + 5) (k.
 template_sizes k y at (instructions.JumpIfZero slot label) = jump_if_zero_size y slot at (k.label label) ∙ sym (jump_if_zero_size y slot 0 0)
 template_sizes k y at (instructions.Landing to) = refl
 template_sizes k y at (instructions.Call function first count) = passing_call_size y first count at (k.function function) ∙ sym (passing_call_size y first count 0 0)
-template_sizes k y at (instructions.CallBuiltIn function first) = call_code_size y (Temporary first) first at (k.known function) ∙ sym (call_code_size y (Temporary first) first 0 0)
+template_sizes k y at (instructions.CallBuiltIn function first) = let a = call_code_size y (Temporary first) first (at + 5) (k.known function) in let b = call_code_size y (Temporary first) first 5 0 in omega arith
 template_sizes k y at (instructions.CallFinally funclet) = let a = call_size (at + sizes finally_arguments + 5) (k.funclet funclet) in let b = call_size (0 + sizes finally_arguments + 5) 0 in omega arith
 template_sizes k y at (instructions.LocalUnwind label) = let a = call_size (at + 15) k.local_unwind in let b = call_size 15 0 in let c = address_size (at + 10) (k.label label) in let d = address_size 10 0 in omega arith
 template_sizes k y at instructions.Separator = refl

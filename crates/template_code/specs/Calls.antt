@@ -44,6 +44,13 @@ begin_call y first at to = arguments_code y first ++ (call (return_at y first at
 abbrev pub call_code : Layout → Slot → ℕ → ℕ → ℕ → List Instr
 call_code y result first at to = begin_call y first at to ++ keep y result
 
+-- a built-in function: RAX is 0 before the call, which one without a result leaves so
+abbrev pub clear_result : Instr
+clear_result = instrs.Move W32 (places.Register Rax) (operands.Immediate 0)
+
+abbrev pub call_built_in_code : Layout → ℕ → ℕ → ℕ → List Instr
+call_built_in_code y first at to = clear_result ∷ call_code y (Temporary first) first (at + 5) to
+
 -- n arguments past the fourth, from the one of a number on: from their temporaries to their places above the home space
 abbrev pub passing_code : Layout → ℕ → ℕ → ℕ → List Instr
 passing_code y first i zero = []

@@ -9,7 +9,7 @@ use Rattle.template_code.specs.declared.layout.Layout.{Layout}
 use Rattle.template_code.specs.Bytes.{sizes}
 use Rattle.template_code.specs.Slots.{keep, compute_code}
 use Rattle.template_code.specs.Jumps.{jump_code, jump_if_zero_code, separator_code}
-use Rattle.template_code.specs.Calls.{call_code, passing_call_code, call_finally_code, local_unwind_code, return_code, information_code}
+use Rattle.template_code.specs.Calls.{call_built_in_code, passing_call_code, call_finally_code, local_unwind_code, return_code, information_code}
 
 -- the addresses of everything that code refers to: the labels of the body, functions, thunks, `__finally` blocks, and the thunk of `_local_unwind`
 pub record Links : Type 0 where
@@ -26,7 +26,7 @@ template k y at (instructions.Landing to) = keep y to
 template k y at (instructions.Jump label) = jump_code at (k.label label)
 template k y at (instructions.JumpIfZero slot label) = jump_if_zero_code y slot at (k.label label)
 template k y at (instructions.Call function first count) = passing_call_code y first count at (k.function function)
-template k y at (instructions.CallBuiltIn function first) = call_code y (Temporary first) first at (k.known function)
+template k y at (instructions.CallBuiltIn function first) = call_built_in_code y first at (k.known function)
 template k y at (instructions.CallFinally funclet) = call_finally_code at (k.funclet funclet)
 template k y at (instructions.LocalUnwind label) = local_unwind_code at (k.label label) k.local_unwind
 template k y at instructions.Separator = separator_code

@@ -23,6 +23,9 @@ use x64_instr::register::Reg;
 /// The bytes of a jump or a call with a displacement.
 const JUMP_SIZE: u64 = 5;
 
+/// The bytes of a move of a number of 32 bits to a register.
+const MOVE_SIZE: u64 = 5;
+
 /// The bytes of a conditional jump with a displacement of 32 bits.
 const JUMP_IF_SIZE: u64 = 6;
 
@@ -145,7 +148,7 @@ fn put_begin_call(
 }
 
 /// Adds the same, and what brings its result to the first of the temporaries.
-pub fn put_call(
+fn put_call(
     code: &mut Vec<u8>,
     layout: &Layout,
     first: u64,
@@ -159,6 +162,23 @@ pub fn put_call(
 {
     put_begin_call(code, layout, first, at, to)?;
     put_keep(code, layout, Slot::Temporary(first))
+}
+
+/// Adds a call of a built-in function, before which RAX is 0: one without a result leaves it so.
+pub fn put_call_built_in(
+    code: &mut Vec<u8>,
+    layout: &Layout,
+    first: u64,
+    at: u64,
+    to: u64,
+) -> Result<(), AllocError>
+    requires arguments { AreArgumentsNear layout.now first 4 }
+    requires at { IsNear at }
+    requires to { IsNear to }
+    ensures { OnOk result (code.new.items ≡ code.old.items ++ spelled (spec.call_built_in_code layout.now first at to)) }
+{
+    put(code, &set(Width::W32, Reg::Rax, 0))?;
+    put_call(code, layout, first, at + MOVE_SIZE, to)
 }
 
 /// Adds a call of so many arguments in temporaries, whose result goes to the first of them.

@@ -7,8 +7,8 @@ ghost use Rattle.template_code.specs.Bytes.{spelled};
 ghost use Rattle.template_code.specs.Template.{template};
 
 use crate::calls::{
-    put_call, put_call_finally, put_information, put_jump, put_jump_if_zero, put_local_unwind,
-    put_passing_call, put_return,
+    put_call_built_in, put_call_finally, put_information, put_jump, put_jump_if_zero,
+    put_local_unwind, put_passing_call, put_return,
 };
 use crate::links::Links;
 use crate::put::put;
@@ -49,7 +49,7 @@ pub fn put_instruction(
             count,
         } => put_passing_call(code, layout, first, count, at, links.function(function)),
         Instruction::CallBuiltIn { function, first } => {
-            put_call(code, layout, first, at, links.built_in(function))
+            put_call_built_in(code, layout, first, at, links.built_in(function))
         }
         Instruction::CallFinally { funclet } => {
             put_call_finally(code, at, links.funclet(funclet))

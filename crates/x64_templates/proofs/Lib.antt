@@ -1,4 +1,5 @@
 pub mod Leaves
+pub mod Registers
 pub mod PlacedCode
 pub mod Straight
 pub mod Compares

@@ -16,7 +16,7 @@ use Rattle.x64_templates.proofs.Jumps.{one_reaches}
 use Rattle.x64_templates.proofs.Entries.{beside}
 use Rattle.x64_templates.proofs.LargeEntries.{fixed_beside, pushed_keeps_code}
 
-thunk_size : (away : ℕ) → size (thunk away) ≡ 6
+pub thunk_size : (away : ℕ) → size (thunk away) ≡ 6
 unfolding size modrm
 thunk_size away = refl
 

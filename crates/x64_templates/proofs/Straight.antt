@@ -16,6 +16,7 @@ use Rattle.x64_templates.proofs.PlacedCode.{bytes_kept, Encodable, bytes_split, 
 use Rattle.x64_templates.specs.Straight.{AllStraight, takes_frame, NoneTakesFrame, effects, MachineView, machine, Executes}
 use Rattle.template_code.specs.Bytes.{size, sizes}
 use Rattle.x64_templates.proofs.Leaves.{Left, leaves, bound}
+use Rattle.x64_templates.proofs.Registers.{registers_stay}
 
 -- ---- runs
 
@@ -47,11 +48,15 @@ pub one_steps : (i : Instr) (s t : State) → Encodable (i ∷ []) → IsCodeAt 
 unfolding size
 one_steps i s t enc stands placed e =
     let l = leaves i (with_rip s (s.cpu.rip + length (chosen i))) t e in
+    let r = registers_stay i (with_rip s (s.cpu.rip + length (chosen i))) t e in
     record {
       live = live s.cpu.rip (s.cpu.rip + length (chosen i)) placed;
+      rip_small = let h = placed.high in omega arith;
       steps = steps s t i (chosen i) (spells i enc.0) (longest i) stands placed e;
       protection = l.left.protection;
       fixed = λ a fix. l.left.byte a fix;
+      count = r.count;
+      small = r.small;
     }
 
 pub one_runs : (i : Instr) (s t : State) → Encodable (i ∷ []) → takes_frame i ≡ false → IsCodeAt s.memory s.cpu.rip (chosen i) → IsPlaced s.cpu.rip (s.cpu.rip + size i) → effect (with_rip s (s.cpu.rip + size i)) i ≡ Ok t → Ran 1 s t

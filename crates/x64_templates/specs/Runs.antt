@@ -1,5 +1,5 @@
 -- What a run comes to where the code of an operation is placed.
-use Rattle.std.specs.Prelude.{◌≡◌, ◌≢◌, ℕ, zero, suc, ◌+◌, Bool, false, List, Option, Some, Ok, Err, length}
+use Rattle.std.specs.Prelude.{◌≡◌, ◌≢◌, ℕ, zero, suc, ◌+◌, ◌^◌, ◌<◌, Bool, false, List, Option, Some, Ok, Err, length}
 use Rattle.seh_num.specs.declared.event.Code.{Code}
 use Rattle.flat_memory.specs.Memory.{Memory, may_write, executable}
 use Rattle.x64_instr.specs.declared.instruction.Instr.{Instr}
@@ -16,18 +16,21 @@ use Rattle.linear_code.specs.BodyState.{BodyState, Counts, with_slot}
 use Rattle.c_operations.specs.Performed.{Outcome, Gives, Raises, Undefined}
 use Rattle.linear_code.specs.Meaning.{Step, Next, Faults, IsSlot}
 use Rattle.template_code.specs.declared.layout.Layout.{Layout}
-use Rattle.x64_templates.specs.Straight.{MachineView, machine, takes_frame}
+use Rattle.x64_templates.specs.Straight.{AreSmall, MachineView, machine, takes_frame}
 use Rattle.template_code.specs.Bytes.{sizes}
 use Rattle.template_code.specs.Slots.{operands_code, finish_code, compute_code}
 use Rattle.x64_templates.specs.Frames.{HasRoom, HoldsBody, Changes}
 use Rattle.x64_templates.specs.Implements.{HasOperands}
 
--- an instruction of the image is run, which changes no protection and no byte that may not be written
+-- an instruction of the image is run, which changes no protection and no byte that may not be written, and leaves numbers of 64 bits in all registers
 pub record Steps (s u : State) : Type 0 where
   pub live : s.cpu.rip ≢ 0
+  pub rip_small : s.cpu.rip < 2 ^ 64
   pub steps : machines.step s ≡ Ok u
   pub protection : u.memory.protection ≡ s.memory.protection
   pub fixed : (a : ℕ) → may_write s.memory a ≡ false → u.memory.byte a ≡ s.memory.byte a
+  pub count : length u.cpu.registers ≡ length s.cpu.registers
+  pub small : AreSmall s.cpu.registers → AreSmall u.cpu.registers
 
 -- and it isn't one that makes a frame: so no funclet begins here
 pub record Runs (s u : State) : Type 0 where

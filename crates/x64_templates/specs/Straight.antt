@@ -1,5 +1,5 @@
 -- Instructions one after another.
-use Rattle.std.specs.Prelude.{◌≡◌, ℕ, ◌+◌, Bool, true, false, ◌&&◌, nat_eq, List, [], ◌∷◌, Ok}
+use Rattle.std.specs.Prelude.{◌≡◌, ℕ, ◌+◌, ◌^◌, ◌<◌, Bool, true, false, ◌&&◌, nat_eq, List, [], ◌∷◌, Ok}
 use Rattle.flat_memory.specs.Memory.{Memory}
 use Rattle.x64_instr.specs.declared.register.Reg.{Reg}
 use Rattle.x64_instr.specs.declared.operand.RegisterOrMemory.{RegisterOrMemory}
@@ -70,6 +70,11 @@ NoneTakesFrame (i ∷ is) = (takes_frame i ≡ false) × NoneTakesFrame is
 unfoldable pub effects : List Instr → State → Answer State
 effects [] s = Ok s
 effects (i ∷ is) s = effect (with_rip s (s.cpu.rip + size i)) i >>= effects is
+
+-- numbers of 64 bits
+abbrev pub AreSmall : List ℕ → Type 0
+AreSmall [] = Unit {0}
+AreSmall (v ∷ vs) = (v < 2 ^ 64) × AreSmall vs
 
 -- what templates work on: RAX, RCX, RDX, the other registers by their numbers from RBX on, and the memory
 pub record MachineView : Type 0 where

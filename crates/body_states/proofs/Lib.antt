@@ -1,0 +1,5 @@
+pub mod QuietTurns
+pub mod Moved
+pub mod Waiting
+pub mod Resumed
+pub mod Inside

@@ -1,0 +1,113 @@
+-- A body that runs stands on top of what waits below it, as one that waits.
+use Rattle.std.proofs.Common.{◌≡◌, ℕ, ◌+◌, ◌^◌, ◌<◌, ◌≤◌, Bool, true, false, List, [], ◌∷◌, length, Option, Some, None, Ok, refl, sym, ap, subst, ◌∙◌, arith}
+use Rattle.flat_memory.specs.Memory.{Memory}
+use Rattle.x64_instr.specs.declared.register.Reg.TheVariants.{Rsp, Rbx, Rbp, Rsi, Rdi, R12, R13, R14, R15}
+use Rattle.x64_machine.specs.declared.context.Context.{Context}
+use Rattle.x64_machine.specs.Contexts.{context_of}
+use Rattle.x64_machine.specs.Effect.{State, register}
+use Rattle.virtual_unwind.specs.Contexts.{rsp}
+use Rattle.virtual_unwind.specs.CallerOf.{Functions}
+use Rattle.virtual_unwind.specs.Undone.{word}
+use Rattle.host_model.specs.declared.funclet.Funclet.{Funclet}
+use Rattle.template_code.specs.declared.layout.Layout.{Layout}
+use Rattle.linear_code.specs.Program.{LinearProgram, LinearBody}
+use Rattle.linear_machine.specs.Frames.{BodyName, FunctionBody, FuncletBody, body_of, Waits, Configuration}
+use Rattle.linear_machine.specs.Regions.{regions_of}
+use Rattle.raw_stack.specs.Stack.{StackItem, Framed, Leaf}
+use Rattle.raw_stack.specs.Laws.{context_below}
+use Rattle.linked_stack.specs.ImagePlan.{Plan, IsGiven}
+use Rattle.linked_stack.specs.Linked.{Activation, activations_below, home_end, BodyWaits}
+use Rattle.linked_stack.proofs.Ends.{in_stack}
+use Rattle.stack_records.specs.Records.{IsData, On}
+use Rattle.body_states.specs.Sites.{Sites}
+use Rattle.body_states.specs.Layouts.{IsLayoutIf, IsLeafLayout, IsLaidOut}
+use Rattle.body_states.specs.Programs.{HasProgram, IsResumed, IsProgramImage, frame_with}
+use Rattle.body_states.specs.Bodies.{slots_end, last_temporary, InBody}
+
+module _ (t : Functions) (fs : List Funclet) (program : LinearProgram) (p : Plan) (q : Sites) where
+  -- ---- leaf functions
+
+  pub leaf_layout : (name : BodyName) (b : LinearBody) → p.leaf name ≡ true → IsLaidOut program p name b → IsLeafLayout (p.layout name) b
+  leaf_layout (FunctionBody f) b e h = subst (λ (leaf : Bool). IsLayoutIf program p (p.layout (FunctionBody f)) b leaf) e h
+  leaf_layout (FuncletBody k) b e h = let z : true ≡ false = sym e ∙ h.framed in absurd cc
+
+  no_regions : (name : BodyName) (b : LinearBody) → p.leaf name ≡ true → IsGiven t fs program p name b (p.leaf name) → b.regions ≡ []
+  no_regions name b e h = subst (λ (leaf : Bool). IsGiven t fs program p name b leaf) e h
+
+  -- ---- a body on top of the list
+
+  pub record OnTop (u : State) (c : Configuration) (acts : List Activation) : Type 0 where
+    pub is : List StackItem
+    pub on : On t fs program p u.memory (context_of u.cpu) is (Waits c.frame ∷ c.below) acts
+
+  module _ (image : IsProgramImage t fs program p q) where
+    framed_on_top : (u : State) (c : Configuration) (label : ℕ) (at : InBody t fs program p q u c) → IsResumed t fs program p q c.frame.body at.slots.code label u.cpu.rip → HasProgram t fs program p q u.memory → p.leaf c.frame.body ≡ false → OnTop u c at.acts
+    framed_on_top u c label at resumed has e =
+        let name = c.frame.body in
+        let y = p.layout name in
+        let sp = register u.cpu Rsp in
+        let b = at.slots.code in
+        let others = register u.cpu Rbx ∷ register u.cpu Rbp ∷ register u.cpu Rsi ∷ register u.cpu Rdi ∷ register u.cpu R12 ∷ register u.cpu R13 ∷ register u.cpu R14 ∷ register u.cpu R15 ∷ [] in
+        let rest = at.below others refl in
+        let top = in_stack t fs program p u.memory (context_below at.back (sp + y.frame + 8) others) at.is c.below (activations_below name at.acts) rest.stands.stack rest.stands.linked in
+        let f = image.frames u.memory name b label (context_of u.cpu) at.back at.slots.body e has resumed refl (omega arith) at.returns in
+        record {
+          is = Framed (frame_with (p.entry name) y.frame f.offset at.back) ∷ at.is;
+          on = record {
+            stands = record {
+              stack = (f.stands, rest.stands.stack);
+              linked = (
+                record {
+                  framed = e;
+                  entry = refl;
+                  waits = subst (λ (leaf : Bool). BodyWaits t fs program p u.memory (context_of u.cpu) (slots_end y leaf) (last_temporary y name leaf) c.frame at.acts) e at.slots;
+                  pointers = at.pointers;
+                },
+                at.above,
+                rest.stands.linked,
+              );
+            };
+            data_alone = rest.data_alone;
+          };
+        }
+
+    leaf_on_top : (u : State) (c : Configuration) (label : ℕ) (at : InBody t fs program p q u c) → IsResumed t fs program p q c.frame.body at.slots.code label u.cpu.rip → p.leaf c.frame.body ≡ true → OnTop u c at.acts
+    leaf_on_top u c label at resumed e =
+        let name = c.frame.body in
+        let y = p.layout name in
+        let sp = register u.cpu Rsp in
+        let b = at.slots.code in
+        let others = register u.cpu Rbx ∷ register u.cpu Rbp ∷ register u.cpu Rsi ∷ register u.cpu Rdi ∷ register u.cpu R12 ∷ register u.cpu R13 ∷ register u.cpu R14 ∷ register u.cpu R15 ∷ [] in
+        let none = leaf_layout name b e (image.laid_out name b at.slots.body) in
+        let up : sp + y.frame + 8 ≡ sp + 8 = let z = none.frame in omega arith in
+        let here : sp + y.frame ≡ sp = let z = none.frame in omega arith in
+        let rest : On t fs program p u.memory (context_below at.back (sp + 8) others) at.is c.below (activations_below name at.acts) = subst (λ a. On t fs program p u.memory (context_below at.back a others) at.is c.below (activations_below name at.acts)) up (at.below others refl) in
+        let top = in_stack t fs program p u.memory (context_below at.back (sp + 8) others) at.is c.below (activations_below name at.acts) rest.stands.stack rest.stands.linked in
+        let l = image.leaves u.memory name b label (context_of u.cpu) at.back at.slots.body e resumed refl (omega arith) (ap (word u.memory) (sym here) ∙ at.returns) in
+        record {
+          is = Leaf at.back ∷ at.is;
+          on = record {
+            stands = record {
+              stack = (l, rest.stands.stack);
+              linked = (
+                record {
+                  leaf = e;
+                  home = at.home e;
+                  none = ap regions_of at.slots.body ∙ no_regions name b e (image.gives name b at.slots.body);
+                  waits = subst (λ (leaf : Bool). BodyWaits t fs program p u.memory (context_of u.cpu) (slots_end y leaf) (last_temporary y name leaf) c.frame at.acts) e at.slots;
+                },
+                at.above,
+                rest.stands.linked,
+              );
+            };
+            data_alone = rest.data_alone;
+          };
+        }
+
+    -- where RIP is at a machine instruction of an instruction of its code
+    pub body_on_top : (u : State) (c : Configuration) (label : ℕ) (at : InBody t fs program p q u c) → IsResumed t fs program p q c.frame.body at.slots.code label u.cpu.rip → HasProgram t fs program p q u.memory → OnTop u c at.acts
+    body_on_top u c label at resumed has = by_leaf (p.leaf c.frame.body) refl
+      where
+        by_leaf : (leaf : Bool) → p.leaf c.frame.body ≡ leaf → OnTop u c at.acts
+        by_leaf false e = framed_on_top u c label at resumed has e
+        by_leaf true e = leaf_on_top u c label at resumed e

@@ -1,0 +1,20 @@
+-- What holds of each configuration that the linear code of a sound program comes to.
+use Rattle.seh_ir.specs.Lowered.{lowered}
+use Rattle.ir_typed.specs.Laws.{ReachedIsStacked, ReachedHasActivations, ReachedIsSmall, ReachedHasDepths}
+use Rattle.ir_typed.proofs.Lowered.{lowered_is_whole}
+use Rattle.ir_typed.proofs.Working.{reached_both}
+use Rattle.ir_typed.proofs.Numbers.{reached_small}
+use Rattle.ir_typed.proofs.DepthStatements.{bodies_lead}
+use Rattle.ir_typed.proofs.Deep.{reached_deep}
+
+pub is_stacked : ReachedIsStacked
+is_stacked program h c r = (reached_both (lowered program) (lowered_is_whole program h) c r).0
+
+pub has_activations : ReachedHasActivations
+has_activations program h c r = (reached_both (lowered program) (lowered_is_whole program h) c r).1
+
+pub is_small : ReachedIsSmall
+is_small program h c r = reached_small (lowered program) c r
+
+pub has_depths : ReachedHasDepths
+has_depths program h c r = reached_deep (lowered program) (lowered_is_whole program h) (bodies_lead program) c r

@@ -1,0 +1,10 @@
+pub mod Turns
+pub mod Ready
+pub mod Bodies
+pub mod Waiting
+pub mod Activations
+pub mod Small
+pub mod Depths
+pub mod Room
+pub mod Apart
+pub mod Laws

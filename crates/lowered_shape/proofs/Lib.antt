@@ -1,0 +1,4 @@
+pub mod Ranges
+pub mod Weights
+pub mod Numbers
+pub mod Shaped

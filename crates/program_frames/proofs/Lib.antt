@@ -1,0 +1,11 @@
+pub mod Loaded
+pub mod Code
+pub mod Inner
+pub mod Templates
+pub mod Links
+pub mod Waiting
+pub mod Arguments
+pub mod Layouts
+pub mod Rest
+pub mod Right
+pub mod Callers

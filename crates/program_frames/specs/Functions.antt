@@ -1,0 +1,46 @@
+-- The routines of a program as functions of the rules: the unwind info, the steps of the prologue, and the instructions behind it.
+use Rattle.std.specs.Prelude.{ℕ, ◌+◌, List, [], ◌∷◌, ◌++◌}
+use Rattle.x64_instr.specs.declared.instruction.Instr.{Instr}
+use Rattle.virtual_unwind.specs.Tail.{FetchedInstr}
+use Rattle.frame_rules.specs.Rules.{Function}
+use Rattle.frame_rules.specs.Plan.{Plan, spelled_by, prologue}
+use Rattle.frame_rules.specs.Bytes.{spell}
+use Rattle.pe_write.specs.declared.service.Service.{Service}
+use Rattle.linear_code.specs.Program.{LinearProgram}
+use Rattle.frame_layout.specs.declared.frame.Frame.{Frame}
+use Rattle.frame_layout.specs.Layout.{plan_of}
+use Rattle.template_code.specs.Jumps.{distance}
+use Rattle.template_code.specs.Probing.{check_stack}
+use Rattle.template_code.specs.Template.{code_from}
+use Rattle.program_link.specs.Text.{argument_code, check_stack_at, service_thunk}
+use Rattle.program_tables.specs.Placed.{Placed, body_begin, site_of}
+use Rattle.program_tables.specs.Entries.{entry_of}
+use Rattle.program_frames.specs.Standing.{links}
+
+-- ---- with a frame
+
+-- a large frame is taken by a call of `__chkstk`, which ends ten bytes from the begin
+abbrev pub plan : LinearProgram → Placed → Frame → Plan
+plan p x f = plan_of f (distance (x.begin + 10) (check_stack_at (site_of p).text))
+
+-- what it does with what it is called with, and its body
+abbrev pub rest_of : LinearProgram → Placed → List Instr
+rest_of p x = argument_code x.routine.layout x.routine.entry ++ code_from (links p x) x.routine.layout (body_begin x) x.routine.body.code
+
+abbrev pub function_of : LinearProgram → Placed → Frame → Function
+function_of p x f = record {
+  info = (entry_of (site_of p) x f).info;
+  steps = prologue spell (plan p x f);
+  rest = spelled_by spell (rest_of p x);
+}
+
+-- ---- without: leaf functions, the thunks of services, and `__chkstk`
+
+abbrev pub leaf : LinearProgram → Placed → List FetchedInstr
+leaf p x = spelled_by spell (rest_of p x)
+
+abbrev pub thunk_of : LinearProgram → Service → List FetchedInstr
+thunk_of p s = spelled_by spell (service_thunk (site_of p).text (site_of p).rdata s ∷ [])
+
+abbrev pub probe : List FetchedInstr
+probe = spelled_by spell check_stack

@@ -1,0 +1,31 @@
+-- What is read of the function table of a program's image.
+use Rattle.std.specs.Prelude.{◌≡◌, ℕ, ◌<◌, ◌≤◌, slice_get, Option, Some, None, Ok}
+use Rattle.eh_tables.specs.Tables.{tables, holding}
+use Rattle.pe_write.specs.Program.{image_of}
+use Rattle.linear_code.specs.Program.{LinearProgram}
+use Rattle.frame_layout.specs.declared.frame.Frame.{Frame}
+use Rattle.program_link.specs.Fits.{FitsProgram}
+use Rattle.program_link.specs.Linked.{first, linked}
+use Rattle.program_tables.specs.Placed.{Placed, end_of, site_of, placed}
+use Rattle.program_tables.specs.Ranges.{HasRegions}
+use Rattle.program_tables.specs.Entries.{entry_of, entries}
+
+-- the table of the image is that of its routines
+abbrev pub TablesAreRead : Type 0
+TablesAreRead = (p : LinearProgram) → FitsProgram p → HasRegions p → tables (image_of (linked p)) ≡ Ok (entries p)
+
+-- in the code of a routine with a frame its entry is found; in that of one without, and before the first one, none
+abbrev pub EntriesAreHeld : Type 0
+EntriesAreHeld =
+    (p : LinearProgram) (index : ℕ) (x : Placed) (f : Frame) (rva : ℕ)
+    → FitsProgram p → slice_get (placed p) index ≡ Some x → x.routine.frame ≡ Some f → x.begin ≤ rva → rva < end_of x
+    → holding rva (entries p) ≡ Some (entry_of (site_of p) x f)
+
+abbrev pub LeavesAreHeldByNone : Type 0
+LeavesAreHeldByNone =
+    (p : LinearProgram) (index : ℕ) (x : Placed) (rva : ℕ)
+    → FitsProgram p → slice_get (placed p) index ≡ Some x → x.routine.frame ≡ None → x.begin ≤ rva → rva < end_of x
+    → holding rva (entries p) ≡ None
+
+abbrev pub ThunksAreHeldByNone : Type 0
+ThunksAreHeldByNone = (p : LinearProgram) (rva : ℕ) → FitsProgram p → rva < first p.globals → holding rva (entries p) ≡ None

@@ -1,0 +1,4 @@
+pub mod Placed
+pub mod Ranges
+pub mod Entries
+pub mod Laws

@@ -1,0 +1,201 @@
+//! The programs of examples/, as they stand there, each with the text that stands beside it.
+
+use crate::ways::{WAYS, all_show};
+use std::test::Fail;
+
+/// An exception that a filter accepts, or nobody.
+const ACCEPTED: &str = r"
+# sum:
+int main(void){ put(2+3*4); return 7; }
+=> 0 14 / exit 7
+# accept:
+// A filter decides: above 0 it accepts, and the block of the __except runs.
+int main(void) {
+  __try {
+    RaiseException(0xE0000001, 0, 0, 0);
+    put(1);
+  } __except (GetExceptionCode() == 0xE0000001) {
+    put(2);
+  }
+  return 0;
+}
+=> 0 raise E0000001 0 / filter 1 / answer 1 / except E0000001 / 2 / exit 0
+# search:
+// A filter that answers 0 leaves the exception to the next one outside.
+int main(void) {
+  __try {
+    __try {
+      *(int *)0 = 1;
+    } __except (GetExceptionCode() == 0xC0000094) {
+      put(1);
+    }
+  } __except (GetExceptionCode() == 0xC0000005) {
+    put(2);
+  }
+  return 0;
+}
+=> 0 raise C0000005 0 write 0000000000000000 / filter 1 / answer 0 / filter 2 / answer 1 / except C0000005 / 2 / exit 0
+# order:
+// Filters run first, while all frames are live; the __finally blocks run after one has accepted.
+int say(int n) { put(n); return 1; }
+void inner(void) {
+  __try {
+    RaiseException(0xE0000001, 0, 0, 0);
+  } __finally {
+    put(20);
+  }
+}
+int main(void) {
+  __try {
+    inner();
+  } __except (say(10)) {
+    put(30);
+  }
+  return 0;
+}
+=> 0 raise E0000001 0 / filter 2 / 10 / answer 1 / finally 1 1 / 20 / except E0000001 / 30 / exit 0
+# unhandled:
+// Where no filter accepts, the run ends as unhandled, and no __finally block runs.
+int zero;
+int main(void) {
+  __try {
+    put(1 / zero);
+  } __finally {
+    put(8);
+  }
+  return 0;
+}
+=> 10 raise C0000094 0 / unhandled C0000094
+";
+
+/// A body that is left, and an exception that is continued.
+const LEFT: &str = r"
+# leave:
+// AbnormalTermination is 0 after __leave, and 1 after a return out of the body.
+int f(int n) {
+  __try {
+    if (n == 0) __leave;
+    return 5;
+  } __finally {
+    put(AbnormalTermination());
+  }
+  return 6;
+}
+int main(void) {
+  put(f(0));
+  put(f(1));
+  return 0;
+}
+=> 0 finally 1 0 / 0 / 6 / finally 1 1 / 1 / 5 / exit 0
+# loop:
+// A break or continue out of a __try runs its __finally block first.
+int main(void) {
+  int i;
+  for (i = 0; i < 3; ++i) {
+    __try {
+      if (i == 1) continue;
+      if (i == 2) break;
+      put(i);
+    } __finally {
+      put(10 + i);
+    }
+  }
+  put(i);
+  return 0;
+}
+=> 0 0 / finally 1 0 / 10 / finally 1 1 / 11 / finally 1 1 / 12 / 2 / exit 0
+# continue:
+// A filter that answers below 0 has the refused access made again, at the same address.
+int *p = 0x20000000;
+int mend(void) {
+  p = 0;
+  protect((void *)0x20000000, 2);
+  return EXCEPTION_CONTINUE_EXECUTION;
+}
+int main(void) {
+  __try {
+    put(*p);
+  } __except (mend()) {
+    put(9);
+  }
+  return 0;
+}
+=> 0 raise C0000005 0 read 0000000020000000 / filter 1 / answer -1 / 0 / exit 0
+# noncontinuable:
+// Continuing a noncontinuable exception raises C0000025 at the same place.
+int f(unsigned code) {
+  if (code == 0xC0000025) return EXCEPTION_EXECUTE_HANDLER;
+  return EXCEPTION_CONTINUE_EXECUTION;
+}
+int main(void) {
+  __try {
+    RaiseException(0xE0000003, 1, 0, 0);
+  } __except (f(GetExceptionCode())) {
+    put(3);
+  }
+  return 0;
+}
+=> 0 raise E0000003 1 / filter 1 / answer -1 / raise C0000025 1 / filter 1 / answer 1 / except C0000025 / 3 / exit 0
+";
+
+/// An exception in a filter and in a `__finally` block.
+const NESTED: &str = r"
+# nested:
+// An exception in a filter searches from there, then from the first raise; accepted, it takes its place.
+int count;
+int bad(void) {
+  count = count + 1;
+  if (count == 1) RaiseException(0xE0000002, 0, 0, 0);
+  return 0;
+}
+int main(void) {
+  __try {
+    __try {
+      RaiseException(0xE0000001, 0, 0, 0);
+    } __except (bad()) {
+      put(8);
+    }
+  } __except (GetExceptionCode() == 0xE0000002) {
+    put(count);
+  }
+  return 0;
+}
+=> 0 raise E0000001 0 / filter 1 / raise E0000002 0 / filter 1 / answer 0 / filter 2 / answer 1 / except E0000002 / 2 / exit 0
+# collided:
+// An exception in a __finally block that an unwinding runs: its own unwinding replaces the older one.
+int main(void) {
+  __try {
+    __try {
+      __try {
+        RaiseException(0xE0000001, 0, 0, 0);
+      } __finally {
+        RaiseException(0xE0000002, 0, 0, 0);
+      }
+    } __except (GetExceptionCode() == 0xE0000002) {
+      put(2);
+    }
+  } __except (1) {
+    put(1);
+  }
+  return 0;
+}
+=> 0 raise E0000001 0 / filter 2 / answer 0 / finally 1 1 / raise E0000002 0 / filter 2 / answer 1 / except E0000002 / 2 / exit 0
+";
+
+/// Search, filters and blocks.
+#[test]
+fn accepted(rt: HostRuntime) -> Result<(), Fail> {
+    all_show(&rt, rt.alloc(), &WAYS, ACCEPTED)
+}
+
+/// Jumps, and continued execution.
+#[test]
+fn left(rt: HostRuntime) -> Result<(), Fail> {
+    all_show(&rt, rt.alloc(), &WAYS, LEFT)
+}
+
+/// Nested exceptions and collided unwinding.
+#[test]
+fn nested(rt: HostRuntime) -> Result<(), Fail> {
+    all_show(&rt, rt.alloc(), &WAYS, NESTED)
+}
