@@ -76,6 +76,7 @@ module _ (t : Functions) (fs : List Funclet) (program : LinearProgram) (p : Plan
         filter = k;
         handler = f;
         rest = rest;
+        asked = e;
         state = new;
         turns =
             ap turn_of a.answer
