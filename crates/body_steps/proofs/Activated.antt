@@ -1,9 +1,9 @@
 -- The store with other numbers in the locals of one activation.
-use Rattle.std.proofs.Common.{◌≡◌, ℕ, zero, suc, ◌+◌, ◌<◌, ◌≤◌, Bool, true, false, Option, Some, None, List, [], ◌∷◌, ◌++◌, length, refl, sym, ap, subst, ◌∙◌, arith, inl, inr, length-append}
-use Rattle.std.specs.Prelude.{◌⊎◌, ◌==◌, slice_get, slice_set}
-use Rattle.std.proofs.lemmas.Bool.{cases_eq, eq-eqb, ne_eqb}
+use Rattle.std.proofs.Common.{◌≡◌, ℕ, zero, suc, ◌<◌, Some, List, [], ◌∷◌, ◌++◌, length, refl, sym, ap, subst, ◌∙◌, arith, inl, inr}
+use Rattle.std.specs.Prelude.{slice_get, slice_set}
+use Rattle.std.proofs.lemmas.Bool.{cases_eq}
 use Rattle.linked_stack.specs.Linked.{Activation, locals_of}
-use Rattle.body_steps.specs.Stores.{with_values_if, with_values}
+use Rattle.body_steps.specs.Stores.{with_values}
 use Rattle.body_steps.proofs.Activations.{locals_count}
 use Rattle.body_steps.proofs.Stored.{first_changes, later_changes}
 
@@ -26,12 +26,12 @@ pub activated : (acts : List Activation) (k : ℕ) (values : List ℕ) → k < l
 activated [] k values lt = absurd (omega arith)
 activated (a ∷ outer) k values lt = elim (cases_eq k (length outer)) [
   | inl e ↦
-    (let n : length (locals_of outer) ≡ k = locals_count outer ∙ sym e in
-    ap locals_of (first_changes a outer k values e) ∙ sym (subst (λ j. slice_set (locals_of outer ++ a.values ∷ []) j values ≡ locals_of outer ++ values ∷ []) n (set_last (locals_of outer) a.values values)))
+      (let n : length (locals_of outer) ≡ k = locals_count outer ∙ sym e in
+      ap locals_of (first_changes a outer k values e) ∙ sym (subst (λ j. slice_set (locals_of outer ++ a.values ∷ []) j values ≡ locals_of outer ++ values ∷ []) n (set_last (locals_of outer) a.values values)))
   | inr e ↦
-    (let small : k < length outer = omega arith in
-    let n = locals_count outer in
-    ap locals_of (later_changes a outer k values small) ∙ ap (λ xs. xs ++ a.values ∷ []) (activated outer k values small) ∙ sym (set_before (locals_of outer) (a.values ∷ []) k values (omega arith)))
+      (let small : k < length outer = omega arith in
+      let n = locals_count outer in
+      ap locals_of (later_changes a outer k values small) ∙ ap (λ xs. xs ++ a.values ∷ []) (activated outer k values small) ∙ sym (set_before (locals_of outer) (a.values ∷ []) k values (omega arith)))
 ]
 
 -- with the same numbers

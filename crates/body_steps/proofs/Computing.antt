@@ -1,6 +1,6 @@
 -- The step of an operation that doesn't fault, and of a landing.
-use Rattle.std.proofs.Common.{◌≡◌, ℕ, zero, suc, ◌+◌, ◌*◌, ◌^◌, ◌<◌, ◌≤◌, Bool, true, false, cond, Option, Some, None, List, [], ◌∷◌, ◌++◌, length, take, refl, sym, ap, subst, ◌∙◌, arith, inl, inr, length-append, length-take-le}
-use Rattle.std.specs.Prelude.{◌⊎◌, nat_le, slice_get, slice_index, slice_set, if◌then◌else◌}
+use Rattle.std.proofs.Common.{◌≡◌, ℕ, zero, ◌+◌, ◌≤◌, Bool, true, false, Option, Some, None, List, [], ◌∷◌, ◌++◌, length, take, refl, sym, ap, subst, ◌∙◌, arith, length-append, length-take-le}
+use Rattle.std.specs.Prelude.{nat_le, slice_get, slice_set, if◌then◌else◌}
 use Rattle.std.proofs.lemmas.Bool.{leb-true, le-leb}
 use Rattle.flat_memory.specs.Memory.{Memory}
 use Rattle.x64_machine.specs.Effect.{State}
@@ -19,7 +19,7 @@ use Rattle.linear_code.specs.Meaning.{IsSlot, kept}
 use Rattle.linear_code.specs.Program.{LinearProgram, LinearBody}
 use Rattle.linear_machine.specs.Frames as linear
 use Rattle.linear_machine.specs.Frames.{Configuration, Next, Store, read, write, with_temporary, with_temporaries, set_local, forth, with_some, Seen, Stuck}
-use Rattle.linear_machine.specs.Instructions.{is_constant, operand, written, computed, compute, act}
+use Rattle.linear_machine.specs.Instructions.{is_constant, operand, written, computed, act}
 use Rattle.linear_machine.specs.Run.{exec}
 use Rattle.template_code.specs.Bytes.{sizes}
 use Rattle.x64_instr.specs.declared.register.Reg.{Reg}
@@ -29,7 +29,7 @@ use Rattle.template_code.specs.Operations.{before}
 use Rattle.template_code.specs.Slots.{local_at, fetch_local, fetch, finish_code, compute_code}
 use Rattle.template_code.specs.Template.{template_size}
 use Rattle.template_code.proofs.Lengths.{compute_length}
-use Rattle.x64_templates.specs.Runs.{ReachesBody, Computed}
+use Rattle.x64_templates.specs.Runs.{Computed}
 use Rattle.x64_templates.proofs.Computes.{compute_run}
 use Rattle.linked_stack.specs.ImagePlan.{Plan}
 use Rattle.whole_runs.specs.Ends.{HasRule}
@@ -41,11 +41,11 @@ use Rattle.body_states.specs.Sites.{Sites}
 use Rattle.body_states.specs.Programs.{IsProgramImage}
 use Rattle.body_states.specs.Bodies.{turns_left, Begins}
 use Rattle.body_steps.specs.Views.{counts_of}
-use Rattle.body_steps.proofs.Viewed.{IsCounted, placed, count, room_here, holds_here, slots_here, locals_here}
+use Rattle.body_steps.proofs.Viewed.{IsCounted, count, room_here, holds_here, slots_here, locals_here}
 use Rattle.body_steps.proofs.Next.{Leaves}
 use Rattle.body_steps.proofs.Running.{code, frame, slots, v, sp_is, has_slots, template_here, next_address, Surroundings}
 use Rattle.body_steps.proofs.Written.{locals_after, temporaries_after, FitsAfter, local_after, temporary_after, locals_count_after, one_more}
-use Rattle.body_steps.proofs.Plain.{at_other, values_here, same_store, all_as_they_are, GoesInside, Reached, from_here, label_small, slots_now, IsRead, is_read, moves_to}
+use Rattle.body_steps.proofs.Plain.{at_other, same_store, GoesInside, from_here, label_small, is_read, moves_to}
 
 -- the size of its template, and that it isn't empty
 compute_size : (y : Layout) (to : Slot) (o : Operation) (first second : Slot) → template_size y (instructions.Compute to o first second) ≡ sizes (compute_code y to o first second)
@@ -70,7 +70,7 @@ exactly : (ts : List ℕ) (i value : ℕ) → i ≤ length ts → length (take i
 exactly ts i value le = omega (arith, length-append (take i ts) (value ∷ []), length-take-le i ts le)
 
 -- a constant reads nothing
-same_constant : (reserved : ℕ → Bool) (o : Operation) (a b x y : ℕ) (m : Memory) → is_constant o ≡ true → performed reserved o a b m ≡ performed reserved o x y m
+pub same_constant : (reserved : ℕ → Bool) (o : Operation) (a b x y : ℕ) (m : Memory) → is_constant o ≡ true → performed reserved o a b m ≡ performed reserved o x y m
 same_constant reserved (operations.Pure (Constant n)) a b x y m e = refl
 same_constant reserved o a b x y m e = absurd cc
 
@@ -81,7 +81,7 @@ module _ (t : Functions) (fs : List Funclet) (program : LinearProgram) (p : Plan
   abbrev now : BodyState
   now = slots t fs program p q image roomy s c b counted
 
-  abbrev outcome_here : Operation → Slot → Slot → Outcome
+  abbrev pub outcome_here : Operation → Slot → Slot → Outcome
   outcome_here o first second = performed (is_reserved program.globals) o (now.slots first) (now.slots second) c.store.memory
 
   -- linear code makes the same operation on the same numbers

@@ -1,5 +1,5 @@
 -- The beginning of an `__except` block: the exception's code, which is in RAX, goes to a slot.
-use Rattle.std.proofs.Common.{◌≡◌, ℕ, zero, suc, ◌+◌, ◌*◌, ◌^◌, ◌<◌, ◌≤◌, Bool, true, false, cond, Option, Some, None, List, [], ◌∷◌, ◌++◌, length, take, refl, sym, ap, subst, ◌∙◌, arith}
+use Rattle.std.proofs.Common.{◌≡◌, ℕ, ◌+◌, ◌^◌, ◌<◌, ◌≤◌, Option, Some, None, List, [], ◌∷◌, ◌++◌, length, take, refl, sym, ap, subst, ◌∙◌, arith}
 use Rattle.std.specs.Prelude.{slice_get, slice_set, if◌then◌else◌}
 use Rattle.std.proofs.lemmas.Bool.{le-leb}
 use Rattle.x64_instr.specs.declared.register.Reg.TheVariants.{Rax}
@@ -87,7 +87,7 @@ module _ (t : Functions) (fs : List Funclet) (program : LinearProgram) (p : Plan
       let y = p.layout c.frame.body in
       let rax : register s.cpu Rax ≡ value = b.landed value landed in
       let run = call_ends (frame t fs program p q image roomy s c b counted) to (v t fs program p q image roomy s c b counted) s.cpu.rip s.cpu.flags now (room_here t fs program p q image s c b counted) there (omega arith) (sp_is t fs program p q image roomy s c b counted) (holds_here t fs program p q image s c b counted)
-          (template_here t fs program p q image roomy s c b counted (instructions.Landing to) e) in
+      (template_here t fs program p q image roomy s c b counted (instructions.Landing to) e) in
       let len = keep_length y to in
       let more = one_more c.frame.temporaries to value fits in
       let size = landing_size y to in

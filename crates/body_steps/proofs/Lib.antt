@@ -14,3 +14,5 @@ pub mod Running
 pub mod Plain
 pub mod Computing
 pub mod Landing
+pub mod Around
+pub mod Steps

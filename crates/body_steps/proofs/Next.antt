@@ -1,6 +1,6 @@
 -- The next instruction of a body begins, in the memory that a template leaves.
-use Rattle.std.proofs.Common.{◌≡◌, ℕ, zero, suc, ◌+◌, ◌*◌, ◌^◌, ◌<◌, ◌≤◌, Bool, true, false, Option, Some, None, Ok, List, [], ◌∷◌, ◌++◌, length, refl, sym, ap, subst, ◌∙◌, arith, inl, inr}
-use Rattle.std.specs.Prelude.{◌⊎◌, slice_get, slice_index, slice_set, replicate}
+use Rattle.std.proofs.Common.{◌≡◌, ℕ, zero, suc, ◌+◌, ◌*◌, ◌<◌, ◌≤◌, true, Option, Some, None, Ok, List, [], ◌∷◌, length, refl, sym, ap, subst, ◌∙◌, arith, inl, inr}
+use Rattle.std.specs.Prelude.{◌⊎◌, slice_get, slice_index}
 use Rattle.host_layout.specs.declared.range.TheConstants.{STACK_START, STACK_END}
 use Rattle.seh_num.specs.declared.event.Event.{Event}
 use Rattle.flat_memory.specs.Memory.{Memory}
@@ -31,9 +31,9 @@ use Rattle.body_steps.proofs.Programs.{program_stays}
 use Rattle.body_states.specs.Layouts.{IsFunctionLayout, IsLayoutIf}
 use Rattle.body_states.specs.Sites.{Sites}
 use Rattle.body_states.specs.Programs.{IsProgramImage}
-use Rattle.body_states.specs.Bodies.{slots_end, InBody, Begins}
+use Rattle.body_states.specs.Bodies.{slots_end, Begins}
 use Rattle.body_steps.specs.Views.{counts_of, frame_at}
-use Rattle.body_steps.specs.Stores.{with_values_if, with_values, KeepsStackBut, OwnerHasFrame}
+use Rattle.body_steps.specs.Stores.{with_values, KeepsStackBut, OwnerHasFrame}
 use Rattle.body_steps.proofs.Homes.{CallerHasFrame, home_is_free}
 use Rattle.x64_templates.specs.Frames.{InTemporaries, InLocals}
 use Rattle.body_states.specs.Bodies.{last_temporary}

@@ -1,6 +1,6 @@
 -- The steps of linear code that need no dispatcher and no call.
-use Rattle.std.proofs.Common.{◌≡◌, ℕ, zero, suc, ◌+◌, ◌*◌, ◌^◌, ◌<◌, ◌≤◌, Bool, true, false, cond, eqb, Option, Some, None, Ok, List, [], ◌∷◌, ◌++◌, length, take, get_or, refl, sym, ap, subst, ◌∙◌, arith, inl, inr, length-append, length-take}
-use Rattle.std.specs.Prelude.{◌⊎◌, nat_eq, nat_le, slice_get, slice_index, slice_set}
+use Rattle.std.proofs.Common.{◌≡◌, ℕ, zero, suc, ◌+◌, ◌*◌, ◌^◌, ◌<◌, ◌≤◌, Bool, true, false, cond, Option, Some, None, List, [], ◌∷◌, length, take, refl, sym, ap, subst, ◌∙◌, arith, length-take}
+use Rattle.std.specs.Prelude.{nat_eq, slice_get, slice_index, slice_set}
 use Rattle.std.proofs.lemmas.List.{append-nil}
 use Rattle.std.proofs.lemmas.Option.{slice_get_within}
 use Rattle.seh_num.specs.declared.event.Event.{Event}
@@ -12,12 +12,12 @@ use Rattle.linear_code.specs.declared.slot.Slot.{Slot}
 use Rattle.linear_code.specs.declared.slot.Slot.TheVariants.{Local, Temporary}
 use Rattle.linear_code.specs.declared.instruction.Instruction.{Instruction}
 use Rattle.linear_code.specs.declared.instruction.Instruction.TheVariants as instructions
-use Rattle.linear_code.specs.BodyState.{BodyState, with_slot}
+use Rattle.linear_code.specs.BodyState.{BodyState}
 use Rattle.linear_code.specs.Meaning as meanings
 use Rattle.linear_code.specs.Meaning.{JumpsTo, IsSlot}
 use Rattle.ir_typed.specs.Ready.{IsHeld}
 use Rattle.linear_code.specs.Program.{LinearProgram, LinearBody}
-use Rattle.linear_machine.specs.Frames.{BodyName, FunctionBody, FuncletBody, body_of, Configuration, Next, local_of, read, at_label, forth, with_last, pick, with_some}
+use Rattle.linear_machine.specs.Frames.{body_of, Configuration, Next, local_of, read, at_label, forth, with_last, pick, with_some}
 use Rattle.linear_machine.specs.Instructions.{tested, act}
 use Rattle.template_code.specs.declared.layout.Layout.{Layout}
 use Rattle.x64_templates.specs.Straight.{machine}
@@ -27,17 +27,16 @@ use Rattle.template_code.specs.Template.{template_size, body_size, offset_of}
 use Rattle.body_steps.specs.Views.{counts_of}
 use Rattle.linked_stack.specs.ImagePlan.{Plan}
 use Rattle.linked_stack.specs.Linked.{locals_of}
-use Rattle.whole_runs.specs.Comes.{Comes}
 use Rattle.whole_runs.specs.Matched.{Moves}
 use Rattle.ir_typed.specs.Room.{HaveRoom}
 use Rattle.body_states.specs.Sites.{Sites, links_of}
 use Rattle.body_states.specs.Programs.{IsProgramImage}
-use Rattle.body_states.specs.Bodies.{held_below, turns_left, Begins}
+use Rattle.body_states.specs.Bodies.{turns_left, Begins}
 use Rattle.body_steps.specs.Stores.{with_values}
 use Rattle.body_steps.proofs.Activations.{locals_count}
 use Rattle.body_steps.proofs.Activated.{activated, same_activations}
 use Rattle.body_steps.proofs.Viewed.{IsCounted, placed, count, slots_here, locals_here}
-use Rattle.body_steps.proofs.Next.{Leaves, further}
+use Rattle.body_steps.proofs.Next.{Leaves}
 use Rattle.body_steps.proofs.Running.{code, frame, slots, v, same_state, done, has_slots, next_address, Surroundings, to_label}
 
 -- an instruction of a body begins within it
@@ -99,11 +98,11 @@ module _ (t : Functions) (fs : List Funclet) (program : LinearProgram) (p : Plan
           acts = acts;
           shown = sym (append-nil c.events);
           stands = subst (λ (xs : List (List ℕ)). let o : Configuration = record {
-              frame = record c.frame { next = label; temporaries = ts; landed = landed };
-              below = c.below;
-              store = record { memory = d.memory; activations = xs };
-              events = c.events;
-            } in Begins t fs program p q m.0 o) store m.2;
+            frame = record c.frame { next = label; temporaries = ts; landed = landed };
+            below = c.below;
+            store = record { memory = d.memory; activations = xs };
+            events = c.events;
+          } in Begins t fs program p q m.0 o) store m.2;
         }
 
     -- the same numbers in the locals

@@ -1,53 +1,42 @@
 -- A run of a template of the body that runs, and the turn of linear code that it is.
-use Rattle.std.proofs.Common.{◌≡◌, ◌≢◌, ℕ, zero, suc, ◌+◌, ◌*◌, ◌^◌, ◌<◌, ◌≤◌, Bool, true, false, Option, Some, None, Ok, List, [], ◌∷◌, ◌++◌, length, get_or, refl, sym, ap, subst, ◌∙◌, arith, inl, inr}
-use Rattle.std.specs.Prelude.{◌⊎◌, slice_get, slice_index, drop}
+use Rattle.std.proofs.Common.{◌≡◌, ℕ, zero, suc, ◌+◌, ◌^◌, ◌<◌, true, Option, Some, None, List, [], ◌∷◌, length, get_or, refl, sym, ap, subst, ◌∙◌, arith}
+use Rattle.std.specs.Prelude.{slice_get, slice_index, drop}
 use Rattle.std.specs.List.{AllByRecursion}
-use Rattle.std.proofs.lemmas.List.{append-nil}
 use Rattle.std.proofs.lemmas.Option.{slice_get_within, get_or_from_slice_get}
 use Rattle.seh_num.specs.declared.event.Event.{Event}
-use Rattle.flat_memory.specs.Memory.{Memory}
 use Rattle.x64_instr.specs.declared.register.Reg.TheVariants.{Rsp}
-use Rattle.x64_instr.specs.declared.instruction.Instr.{Instr}
-use Rattle.x64_machine.specs.declared.cpu.Flags.{Flags}
 use Rattle.x64_machine.specs.Effect.{State, register}
 use Rattle.virtual_unwind.specs.CallerOf.{Functions, distance}
 use Rattle.host_model.specs.declared.funclet.Funclet.{Funclet}
 use Rattle.host_model.specs.Funclets.{arrivals}
-use Rattle.linear_code.specs.declared.slot.Slot.TheVariants.{Local, Temporary}
 use Rattle.linear_code.specs.declared.instruction.Instruction.{Instruction}
 use Rattle.linear_code.specs.declared.instruction.Instruction.TheVariants as instructions
 use Rattle.linear_code.specs.BodyState.{BodyState}
 use Rattle.linear_code.specs.Meaning.{HasSlots, step}
 use Rattle.linear_code.specs.Program.{LinearProgram, LinearBody}
-use Rattle.linear_machine.specs.Frames.{BodyName, FunctionBody, FuncletBody, body_of, Configuration, Next}
-use Rattle.linear_machine.specs.Instructions.{act}
+use Rattle.linear_machine.specs.Frames.{BodyName, FuncletBody, Configuration}
 use Rattle.template_code.specs.declared.layout.Layout.{Layout}
-use Rattle.template_code.specs.Bytes.{sizes}
-use Rattle.template_code.specs.Template.{Links, template, template_size, body_size, code_from, offset_of, IsBody}
+use Rattle.template_code.specs.Template.{template, template_size, code_from, offset_of}
 use Rattle.template_code.proofs.Sizes.{offset_next}
 use Rattle.x64_templates.specs.Straight.{MachineView, machine}
 use Rattle.x64_templates.specs.CallStates.{sp_of}
-use Rattle.x64_templates.specs.Runs.{HasCode, Reaches, Frame, Holds, ReachesBody}
+use Rattle.x64_templates.specs.Runs.{HasCode, Frame, ReachesBody}
 use Rattle.x64_templates.proofs.Computes.{code_split}
 use Rattle.x64_templates.specs.InstructionRuns.{InstructionDone}
 use Rattle.x64_templates.proofs.InstructionRuns.{body_instruction_run}
 use Rattle.x64_templates.proofs.Linked.{template_placed}
 use Rattle.linked_stack.specs.ImagePlan.{Plan}
-use Rattle.dispatch_turns.specs.States.{IsSane}
 use Rattle.whole_runs.specs.Comes.{Comes}
-use Rattle.whole_runs.specs.Matched.{Moves}
-use Rattle.ir_typed.specs.Room as typed
 use Rattle.ir_typed.specs.Room.{HaveRoom}
-use Rattle.body_states.specs.Sites.{Sites, links_of, begin_of, entry_code, code_of}
+use Rattle.body_states.specs.Sites.{Sites, links_of, begin_of, entry_code}
 use Rattle.body_states.specs.Programs.{IsProgramImage}
-use Rattle.body_states.specs.Bodies.{held_below, turns_left, Begins}
+use Rattle.body_states.specs.Bodies.{Begins}
 use Rattle.body_states.proofs.QuietTurns.{reaches_quietly}
-use Rattle.body_steps.specs.Views.{seen_by_templates, counts_of, frame_at, state_of, HasView}
+use Rattle.body_steps.specs.Views.{seen_by_templates, counts_of, frame_at, state_of}
 use Rattle.body_steps.specs.Stores.{OwnerHasFrame}
 use Rattle.body_steps.proofs.Homes.{CallerHasFrame}
 use Rattle.body_steps.proofs.Viewed.{IsCounted, is_machine, room_here, holds_here, placed}
 use Rattle.body_steps.proofs.Reaching.{reaches_keeps, stays_sane}
-use Rattle.body_steps.proofs.Becoming.{Changed}
 use Rattle.body_steps.proofs.Next.{Leaves, further, Ran, begins_next}
 
 -- ---- registers

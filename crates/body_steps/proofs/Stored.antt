@@ -1,6 +1,6 @@
 -- Other numbers in the locals of one activation leave the list as it stands.
-use Rattle.std.proofs.Common.{◌≡◌, ℕ, zero, suc, ◌+◌, ◌*◌, ◌<◌, ◌≤◌, Bool, true, false, eqb, Option, Some, None, List, [], ◌∷◌, ◌++◌, length, refl, sym, ap, subst, ◌∙◌, arith, inl, inr, Ok}
-use Rattle.std.specs.Prelude.{◌⊎◌, ◌==◌, slice_get}
+use Rattle.std.proofs.Common.{◌≡◌, ℕ, suc, ◌+◌, ◌*◌, ◌<◌, ◌≤◌, Bool, true, false, Some, List, [], ◌∷◌, ◌++◌, length, refl, sym, ap, subst, ◌∙◌, arith, inl, inr}
+use Rattle.std.specs.Prelude.{◌==◌, slice_get}
 use Rattle.std.proofs.lemmas.Bool.{eq-eqb, ne_eqb}
 use Rattle.host_layout.specs.declared.range.TheConstants.{STACK_START, STACK_END}
 use Rattle.flat_memory.specs.Memory.{Memory}
@@ -19,9 +19,9 @@ use Rattle.raw_stack.proofs.Keeping.{rises}
 use Rattle.linked_stack.specs.ImagePlan.{Plan}
 use Rattle.linked_stack.specs.Linked.{Activation, locals_of, activations_below, HoldsWords, temporaries_end, HasActivation, HoldsLocals, IsActivation, HasBase, home_end, HasPointers, IsAbove, HasSpace, below_end, record_room, BodyWaits, FrameWaits, LeafWaits, Linked}
 use Rattle.linked_stack.specs.Laws.{Stands}
-use Rattle.linked_stack.proofs.Ends.{words_fit, end_within, in_stack}
-use Rattle.linked_stack.proofs.Kept.{ReadsSame, higher, words_kept, activation_kept, pointers_kept, body_kept, frame_kept, leaf_kept, own_kept, frame_stands, leaf_stands, record_stands, list_kept}
-use Rattle.linked_stack.proofs.Keeping.{KeepsRange, reads_other}
+use Rattle.linked_stack.proofs.Ends.{words_fit, in_stack}
+use Rattle.linked_stack.proofs.Kept.{ReadsSame, higher, words_kept, frame_kept, leaf_kept, own_kept, frame_stands, leaf_stands, record_stands, list_kept}
+use Rattle.linked_stack.proofs.Keeping.{reads_other}
 use Rattle.body_steps.specs.Stores.{with_values_if, with_values, KeepsStackBut, OwnerHasFrame, ActivationsAreStored}
 use Rattle.body_steps.proofs.Activations.{stand, locals_count, got_before, got_last}
 

@@ -1,13 +1,9 @@
 -- The running body has a view: its slots as templates see them hold linear code's numbers.
-use Rattle.std.proofs.Common.{◌≡◌, ℕ, suc, ◌+◌, ◌*◌, ◌^◌, ◌<◌, ◌≤◌, Bool, true, false, Option, Some, None, List, [], ◌∷◌, length, refl, sym, ap, subst, ◌∙◌, arith, inl, inr}
+use Rattle.std.proofs.Common.{◌≡◌, ℕ, ◌+◌, ◌*◌, ◌≤◌, Bool, true, false, Some, None, List, [], ◌∷◌, length, refl, sym, ap, subst, ◌∙◌, arith, inl, inr}
 use Rattle.std.specs.Prelude.{◌⊎◌, slice_get, slice_index, drop, replicate}
 use Rattle.host_layout.specs.declared.range.TheConstants.{STACK_START, STACK_END}
-use Rattle.flat_memory.specs.Memory.{Memory, may_write}
-use Rattle.x64_instr.specs.declared.register.Reg.TheVariants.{Rax, Rcx, Rdx, Rsp}
-use Rattle.x64_machine.specs.declared.cpu.Cpu.{Cpu}
-use Rattle.x64_machine.specs.Contexts.{context_of}
+use Rattle.x64_instr.specs.declared.register.Reg.TheVariants.{Rsp}
 use Rattle.x64_machine.specs.Effect.{State, register}
-use Rattle.virtual_unwind.specs.Contexts.{rsp}
 use Rattle.virtual_unwind.specs.CallerOf.{Functions}
 use Rattle.host_model.specs.declared.funclet.Funclet.{Funclet}
 use Rattle.linear_code.specs.Program.{LinearProgram, LinearBody}
@@ -16,7 +12,7 @@ use Rattle.linear_machine.specs.Frames.{BodyName, FunctionBody, FuncletBody, bod
 use Rattle.x64_templates.specs.Straight.{machine}
 use Rattle.raw_stack.specs.Laws.{context_below}
 use Rattle.linked_stack.specs.ImagePlan.{Plan}
-use Rattle.linked_stack.specs.Linked.{Activation, locals_of, activations_below, temporaries_end, HasActivation}
+use Rattle.linked_stack.specs.Linked.{locals_of, activations_below, temporaries_end, HasActivation}
 use Rattle.linked_stack.proofs.Ends.{in_stack}
 use Rattle.body_states.specs.Sites.{Sites}
 use Rattle.linked_stack.specs.Laws.{Stands}

@@ -1,10 +1,10 @@
 -- A slot is written: what linear code has then, and what templates leave.
-use Rattle.std.proofs.Common.{◌≡◌, ◌≢◌, ℕ, zero, suc, ◌+◌, ◌<◌, ◌≤◌, Bool, true, false, cond, eqb, leb, Option, Some, None, List, [], ◌∷◌, ◌++◌, length, take, refl, sym, ap, subst, ◌∙◌, arith, inl, inr, length-append, length-take-le}
-use Rattle.std.specs.Prelude.{◌⊎◌, nat_eq, nat_le, if◌then◌else◌, slice_get, slice_index, slice_set}
-use Rattle.std.proofs.lemmas.Bool.{cases_eq, eq-eqb, ne_eqb, eqb-true, le-leb}
+use Rattle.std.proofs.Common.{◌≡◌, ◌≢◌, ℕ, zero, suc, ◌+◌, ◌<◌, ◌≤◌, cond, Some, List, [], ◌∷◌, ◌++◌, length, take, refl, sym, ap, subst, ◌∙◌, arith, inl, inr, length-append, length-take-le}
+use Rattle.std.specs.Prelude.{◌⊎◌, slice_get, slice_index, slice_set}
+use Rattle.std.proofs.lemmas.Bool.{cases_eq, eq-eqb, ne_eqb}
 use Rattle.linear_code.specs.declared.slot.Slot.{Slot}
 use Rattle.linear_code.specs.declared.slot.Slot.TheVariants.{Local, Temporary}
-use Rattle.linear_code.specs.BodyState.{BodyState, same_slot, with_slot}
+use Rattle.linear_code.specs.BodyState.{with_slot}
 
 -- the numbers of the locals, and the temporaries, after a store into a slot
 abbrev pub locals_after : List ℕ → Slot → ℕ → List ℕ
