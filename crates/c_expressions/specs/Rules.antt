@@ -51,11 +51,16 @@ assigning_to s target at o fs a b = unless (is_lvalue s target) (start target) N
 abbrev pub allowed_call : Bool → ℕ → Fault → List FaultAt → Option TypedNode → ResolvedExpression
 allowed_call allowed at f fs a = only_where allowed at f (record { found = a; faults = fs })
 
--- an expression with several operands
+-- ---- kinds of expressions
+
+abbrev pub is_conditional_or_assignment : Expression → Bool
+is_conditional_or_assignment (trees.Conditional c at a b) = true
+is_conditional_or_assignment (trees.Assign a at o b) = true
+is_conditional_or_assignment other = false
+
+-- with several operands
 abbrev pub has_several : Expression → Bool
 has_several (trees.Index a at i) = true
 has_several (trees.Binary a at o b) = true
-has_several (trees.Conditional c at a b) = true
-has_several (trees.Assign a at o b) = true
 has_several (trees.Comma a at b) = true
-has_several other = false
+has_several other = is_conditional_or_assignment other

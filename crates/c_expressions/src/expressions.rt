@@ -6,11 +6,10 @@ ghost use Rattle.c_resolved.specs.Expressions as definitions;
 ghost use Rattle.c_resolved.specs.Expressions.{resolve_expression};
 ghost use Rattle.c_resolved.specs.Operators as operators;
 ghost use Rattle.c_syntax.specs.declared.expression.CType.{CType};
-ghost use Rattle.c_syntax.specs.Expression as trees;
 ghost use Rattle.c_syntax.specs.Expression.{expression};
 ghost use Rattle.c_expressions.specs.Calls.{passed_of, resolved_all};
 ghost use Rattle.c_expressions.specs.Kept.{least_of, kept};
-ghost use Rattle.c_expressions.specs.Rules.{has_several};
+ghost use Rattle.c_expressions.specs.Rules.{has_several, is_conditional_or_assignment};
 ghost use Rattle.c_expressions.specs.Views.{entity, names_of, wanted};
 ghost use Rattle.c_types.specs.Views.{typed_node};
 
@@ -28,7 +27,6 @@ use crate::wanted::{Wanted, built_in_wants, wanted_by};
 use c_checked::expression::{Expr as Checked, Fixity};
 use c_resolved::fault::Fault;
 use c_syntax::expression::Expr;
-use c_syntax::operator::Arithmetic;
 use c_types::typed::TypedNode;
 use std::alloc::{AllocError, Global};
 
@@ -176,65 +174,52 @@ fn several(
             let b = resolve(alloc, context, worst, right)?;
             rules::binary(alloc, worst, *at, *operator, a, b)
         }
-        Expr::Conditional {
-            condition,
-            at,
-            yes,
-            no,
-        } => conditional(alloc, context, worst, condition, *at, yes, no),
-        Expr::Assign {
-            target,
-            at,
-            operator,
-            value,
-        } => assignment(alloc, context, worst, target, *at, *operator, value),
         Expr::Comma { left, right, .. } => {
             let a = resolve(alloc, context, worst, left)?;
             let b = resolve(alloc, context, worst, right)?;
             rules::comma(alloc, a, b)
         }
-        _ => unreachable!(),
+        _ => conditional_or_assignment(alloc, context, worst, e),
     }
 }
 
-/// `condition ? yes : no`
+/// `condition ? yes : no` and `target = value`.
 #[cycle(expressions)]
-fn conditional(
+fn conditional_or_assignment(
     alloc: Global,
     context: &Context<'_, '_>,
     worst: &mut Least,
-    condition: &Expr,
-    at: u64,
-    yes: &Expr,
-    no: &Expr,
+    e: &Expr,
 ) -> Result<Option<TypedNode>, AllocError>
-    ensures found { IfOk result (λ r. option_map typed_node r ≡ (resolve_expression (names_of context.now) (trees.Conditional (expression condition.now) at (expression yes.now) (expression no.now))).found) }
-    ensures faults { OnOk result (least_of worst.new ≡ kept (least_of worst.old) (resolve_expression (names_of context.now) (trees.Conditional (expression condition.now) at (expression yes.now) (expression no.now))).faults) }
+    requires { is_conditional_or_assignment (expression e.now) ≡ true }
+    ensures found { IfOk result (λ r. option_map typed_node r ≡ (resolve_expression (names_of context.now) (expression e.now)).found) }
+    ensures faults { OnOk result (least_of worst.new ≡ kept (least_of worst.old) (resolve_expression (names_of context.now) (expression e.now)).faults) }
 {
-    let c = resolve(alloc, context, worst, condition)?;
-    let a = resolve(alloc, context, worst, yes)?;
-    let b = resolve(alloc, context, worst, no)?;
-    rules::conditional(alloc, worst, at, c, a, b)
-}
-
-/// `target = value`, or with an operator its compound form.
-#[cycle(expressions)]
-fn assignment(
-    alloc: Global,
-    context: &Context<'_, '_>,
-    worst: &mut Least,
-    target: &Expr,
-    at: u64,
-    operator: Option<Arithmetic>,
-    value: &Expr,
-) -> Result<Option<TypedNode>, AllocError>
-    ensures found { IfOk result (λ r. option_map typed_node r ≡ (resolve_expression (names_of context.now) (trees.Assign (expression target.now) at operator (expression value.now))).found) }
-    ensures faults { OnOk result (least_of worst.new ≡ kept (least_of worst.old) (resolve_expression (names_of context.now) (trees.Assign (expression target.now) at operator (expression value.now))).faults) }
-{
-    let a = resolve(alloc, context, worst, target)?;
-    let b = resolve(alloc, context, worst, value)?;
-    let place = place_of(operator, at, value);
-    assign(alloc, context, worst, target, place, operator, a, b)
+    match e {
+        Expr::Conditional {
+            condition,
+            at,
+            yes,
+            no,
+        } => {
+            let c = resolve(alloc, context, worst, condition)?;
+            let a = resolve(alloc, context, worst, yes)?;
+            let b = resolve(alloc, context, worst, no)?;
+            rules::conditional(alloc, worst, *at, c, a, b)
+        }
+        Expr::Assign {
+            target,
+            at,
+            operator,
+            value,
+        } => {
+            let a = resolve(alloc, context, worst, target)?;
+            let b = resolve(alloc, context, worst, value)?;
+            let place = place_of(*operator, *at, value);
+            assign(alloc, context, worst, target, place, *operator, a, b)
+        }
+        _ => unreachable!(),
+    }
 }
 
 /// The type and the node of an expression, if it breaks no rule; the least fault of those before and of
