@@ -1,7 +1,7 @@
 use Rattle.std.proofs.Common.{◌∙◌, ap, sym}
 use Rattle.std.specs.Prelude.{option_map}
 use Rattle.c_expressions.proofs.Passing.{missing_kept, fits_kept, unfit_kept}
-use Rattle.c_expressions.proofs.expressions.pass.Goals as goal
+use Rattle.c_expressions.proofs.calls.pass.Goals as goal
 use Rattle.c_expressions.specs.Kept.{least_of, kept}
 use Rattle.c_expressions.specs.Views.{wanted}
 use Rattle.c_resolved.specs.Expressions as definitions

@@ -1,7 +1,7 @@
 use Rattle.std.proofs.Common.{◌∙◌, ap, sym}
 use Rattle.std.specs.Prelude.{option_map}
 use Rattle.c_expressions.proofs.Ruled.{refused_kept}
-use Rattle.c_expressions.proofs.expressions.assign.Goals as goal
+use Rattle.c_expressions.proofs.places.assign.Goals as goal
 use Rattle.c_expressions.specs.Kept.{least_of, kept}
 use Rattle.c_expressions.specs.Rules.{assigning}
 use Rattle.c_expressions.specs.Views.{names_of}
