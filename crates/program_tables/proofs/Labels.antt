@@ -50,7 +50,7 @@ keep_some y (Temporary i) = let s = put_back_some (temporary_at y i) in omega ar
 keep_some y (Local i) = keep_local_some y.base (local_at y i)
 
 clear_some : 0 < size clear_result
-unfolding size
+unfolding size modrm opcode_register
 clear_some = omega arith
 
 nop_some : 0 < sizes separator_code
