@@ -21,7 +21,7 @@ use Rattle.program_link.specs.Near.{IsFrameNear}
 use Rattle.program_link.specs.Text.{routine_size, entry_size, routine_bytes, check_stack_at, bounds}
 use Rattle.program_link.specs.Linked.{text_begin, first, total, linked}
 use Rattle.program_link.proofs.Images.{no_routine}
-use Rattle.program_link.proofs.Bounds.{bounds_below}
+use Rattle.program_link.proofs.Bounds.{bounds_least, bounds_below}
 use Rattle.program_link.proofs.Entries.{routine_small}
 use Rattle.program_tables.specs.Placed.{Placed, body_begin, end_of, site_of, placed}
 use Rattle.program_tables.proofs.Labels.{template_some}
@@ -32,7 +32,7 @@ use Rattle.program_frames.specs.Standing.{image_base, template_at}
 use Rattle.program_frames.proofs.CodeStands.{IsThere, there, routine_length}
 use Rattle.program_shape.specs.Rows.{funclet_begin}
 use Rattle.program_shape.proofs.Placing.{bounds_rise}
-use Rattle.program_shape.proofs.Shape.{as_long, begin_is, funclet_is, funclet_size}
+use Rattle.program_shape.proofs.Shape.{no_funclet, as_long, begin_is, funclet_is, funclet_size}
 use Rattle.body_states.specs.Programs.{IsInImage}
 use Rattle.image_states.specs.Plans.{functions_of, funclets_of, routine_of, address_of, plan_of, sites_of}
 use Rattle.image_states.specs.Compiled.{IsCompiled}
@@ -43,14 +43,14 @@ use Rattle.image_states.proofs.Places.{IsBody, is_body}
 data_ends : (globals : List ℕ) → image_base + text_begin globals ≡ data_end globals
 data_ends globals = omega arith
 
-reserved : (globals : List ℕ) (a : ℕ) → image_base + text_begin globals ≤ a → a < IMAGE_RANGE_END → is_reserved globals a ≡ true
+pub reserved : (globals : List ℕ) (a : ℕ) → image_base + text_begin globals ≤ a → a < IMAGE_RANGE_END → is_reserved globals a ≡ true
 reserved globals a le lt =
     let e = data_ends globals in
     let past : is_data globals a ≡ false = and_right (leb 0x140001000 a) (ltb a (data_end globals)) (le-ltb a (data_end globals) (omega arith)) in
     or_right _ (is_between IMAGE_BASE IMAGE_RANGE_END a && not (is_data globals a))
-        (and_from (is_between IMAGE_BASE IMAGE_RANGE_END a) (not (is_data globals a))
-            (and_from (leb IMAGE_BASE a) (ltb a IMAGE_RANGE_END) (le-leb IMAGE_BASE a (omega arith)) (lt-ltb a IMAGE_RANGE_END lt))
-            (not_from_false (is_data globals a) past))
+    (and_from (is_between IMAGE_BASE IMAGE_RANGE_END a) (not (is_data globals a))
+    (and_from (leb IMAGE_BASE a) (ltb a IMAGE_RANGE_END) (le-leb IMAGE_BASE a (omega arith)) (lt-ltb a IMAGE_RANGE_END lt))
+    (not_from_false (is_data globals a) past))
 
 -- ---- routines
 
@@ -70,6 +70,21 @@ offset_most y [] zero = omega arith
 offset_most y [] (suc label) = omega arith
 offset_most y (i ∷ body) zero = omega arith
 offset_most y (i ∷ body) (suc label) = let l = offset_most y body label in omega arith
+
+pub offset_mono : (y : Layout) (body : List Instruction) (i j : ℕ) → i ≤ j → offset_of y body i ≤ offset_of y body j
+offset_mono y [] zero zero le = omega arith
+offset_mono y [] zero (suc j) le = omega arith
+offset_mono y [] (suc i) zero le = omega arith
+offset_mono y [] (suc i) (suc j) le = omega arith
+offset_mono y (b ∷ body) zero j le = omega arith
+offset_mono y (b ∷ body) (suc i) zero le = absurd (omega arith)
+offset_mono y (b ∷ body) (suc i) (suc j) le = let r = offset_mono y body i j (omega arith) in omega arith
+
+pub past : (y : Layout) (body : List Instruction) (i : ℕ) → length body ≤ i → offset_of y body i ≡ body_size y body
+past y [] zero le = refl
+past y [] (suc i) le = refl
+past y (b ∷ body) zero le = absurd (omega arith)
+past y (b ∷ body) (suc i) le = let r = past y body i (omega arith) in omega arith
 
 check_stack_size : sizes check_stack ≡ 21
 unfolding size modrm
@@ -129,8 +144,8 @@ module _ (program : LinearProgram) (c : IsCompiled program) (name : BodyName) (b
   body_inside = let h = here in let before = h.here in in_image program c x.begin (end_of x) (omega arith) (routine_end program x c.fits here)
 
 -- a funclet has code before its body
-entry_some : (program : LinearProgram) (c : IsCompiled program) (name : BodyName) (b : LinearBody) (is : body_of program name ≡ Some b) → {fl : LinearFunclet} → (routine_of program name).routine ≡ funclet program fl → 0 < entry_size (routine_of program name).routine
-entry_some program c name b is {fl} e =
+entry_some : (program : LinearProgram) (c : IsCompiled program) (name : BodyName) (b : LinearBody) (is : body_of program name ≡ Some b) (fl : LinearFunclet) → (routine_of program name).routine ≡ funclet program fl → 0 < entry_size (routine_of program name).routine
+entry_some program c name b is fl e =
     let h = here program c name b is in
     let x = routine_of program name in
     let framed : x.routine.frame ≡ Some (funclet_frame fl.body) = ap (λ (r : RoutineView). r.frame) e in
@@ -152,6 +167,14 @@ module _ (program : LinearProgram) (c : IsCompiled program) where
       let below = bounds_below (first program.globals) (routines program) n 0 no_routine (omega arith) in
       let begin = begin_is program fits k in
       let some = funclet_size program fits k lt in
+      omega arith
+
+  pub begin_least : (k : ℕ) → k < length program.funclets → 4096 ≤ funclet_begin program k
+  begin_least k lt =
+      let fits = c.fits in
+      let long = as_long program fits in
+      let least = bounds_least (first program.globals) (routines program) (length program.functions + k) 0 (omega arith) in
+      let begin = begin_is program fits k in
       omega arith
 
   -- a body's instruction is at no funclet's first byte
@@ -178,7 +201,7 @@ module _ (program : LinearProgram) (c : IsCompiled program) where
           | inr equal ↦
               let same' : p.index ≡ n = omega arith in
               let at = ap (λ (i : ℕ). get_or (bounds (first program.globals) rs) i 0) same' in
-              let entry = entry_some program c name b is (p.own ∙ ap (λ (i : ℕ). get_or rs i no_routine) same' ∙ funclet_is program fits k in') in
+              let entry = entry_some program c name b is (get_or program.funclets k no_funclet) (p.own ∙ ap (λ (i : ℕ). get_or rs i no_routine) same' ∙ funclet_is program fits k in') in
               omega arith
         ]
       ]

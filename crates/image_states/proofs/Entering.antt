@@ -89,9 +89,9 @@ module _ (program : LinearProgram) (c : IsCompiled program) where
       let lt = slice_get_within program.funclets k fl e in
       let fit = subst (FitsFunclet program) (get_or_from_slice_get program.funclets k fl fl e) (all_at (FitsFunclet program) program.funclets k fl c.fits.funclets lt) in
       let own : (r : RoutineView) → r ≡ funclet program fl → funclet_arguments (plan_of program) r.layout (Some fl) ≡ argument_code r.layout r.entry =
-          λ r same. subst (λ (q : RoutineView). funclet_arguments (plan_of program) q.layout (Some fl) ≡ argument_code q.layout q.entry) (sym same)
-              (ap (λ (o : Option ℕ). keep_base o (funclet_frame fl.body).kept ++ keep_argument (funclet program fl).layout fl.kind) (parent_is fl.parent fit.parent)
-              ∙ kind_same (funclet program fl).layout fl.kind (kept_by program fl.parent) (funclet_frame fl.body).kept refl) in
+      λ r same. subst (λ (q : RoutineView). funclet_arguments (plan_of program) q.layout (Some fl) ≡ argument_code q.layout q.entry) (sym same)
+      (ap (λ (o : Option ℕ). keep_base o (funclet_frame fl.body).kept ++ keep_argument (funclet program fl).layout fl.kind) (parent_is fl.parent fit.parent)
+      ∙ kind_same (funclet program fl).layout fl.kind (kept_by program fl.parent) (funclet_frame fl.body).kept refl) in
       own (routine_of program (FuncletBody k)).routine g.routine
 
   arguments_by_function : (f : ℕ) (o : Option LinearFunction) (b : LinearBody) → slice_get program.functions f ≡ o → function_body o ≡ Some b → function_arguments (routine_of program (FunctionBody f)).routine.layout o ≡ argument_code (routine_of program (FunctionBody f)).routine.layout (routine_of program (FunctionBody f)).routine.entry

@@ -1,6 +1,8 @@
 -- The frames of bodies that wait.
-use Rattle.std.proofs.Common.{◌≡◌, ℕ, ◌+◌, ◌-◌, ◌^◌, ◌<◌, ◌≤◌, Bool, true, false, List, [], ◌∷◌, ◌++◌, length, Option, Some, None, Ok, refl, sym, ap, subst, ◌∙◌, arith}
+use Rattle.std.proofs.Common.{◌≡◌, ℕ, zero, suc, ◌+◌, ◌-◌, ◌^◌, ◌<◌, ◌≤◌, Bool, true, false, List, [], ◌∷◌, ◌++◌, length, Option, Some, None, Ok, refl, sym, ap, subst, ◌∙◌, arith}
 use Rattle.std.specs.Prelude.{slice_get}
+use Rattle.std.specs.List.{AllByRecursion}
+use Rattle.program_tables.proofs.Lookups.{some_same, none_some}
 use Rattle.std.proofs.lemmas.Bool.{false≢true}
 use Rattle.flat_memory.specs.Memory.{Memory}
 use Rattle.x64_instr.specs.declared.instruction.Instr.{Instr}
@@ -28,9 +30,9 @@ use Rattle.program_tables.specs.Entries as tables
 use Rattle.program_frames.specs.Standing.{image_base, template_at, links, IsReturn, IsInBody}
 use Rattle.program_frames.specs.Laws.{stack_frame}
 use Rattle.program_frames.proofs.Layouts.{size_of, sized}
-use Rattle.program_frames.proofs.Waiting.{near_at, frame_stands, leaves_stand}
+use Rattle.program_frames.proofs.Waiting.{frame_stands, leaves_stand}
 use Rattle.body_states.specs.Programs.{frame_with, HasProgram, IsResumed, IsFramed, FramesStand, HasAllocation, LeavesStand}
-use Rattle.body_states.specs.Sites.{links_of}
+use Rattle.body_states.specs.Sites.{links_of, begin_of, code_of}
 use Rattle.image_states.specs.Plans.{functions_of, funclets_of, is_leaf, or_none, routine_of, address_of, plan_of, sites_of}
 use Rattle.image_states.specs.Compiled.{IsCompiled}
 use Rattle.image_states.proofs.Places.{IsBody}
@@ -54,13 +56,18 @@ framed_of : (o : Option Frame) → is_leaf o ≡ false → (f : Frame) × (o ≡
 framed_of (Some f) e = (f, refl)
 framed_of None e = absurd (false≢true (sym e))
 
-leaf_of : (o : Option Frame) → is_leaf o ≡ true → o ≡ None
+pub leaf_of : (o : Option Frame) → is_leaf o ≡ true → o ≡ None
 leaf_of (Some f) e = absurd (false≢true e)
 leaf_of None e = refl
 
 same_size : (o : Option Frame) → (or_none o).size ≡ size_of o
 same_size (Some f) = refl
 same_size None = refl
+
+near_at : (P : Instruction → Type 0) (is : List Instruction) (number : ℕ) (i : Instruction) → AllByRecursion P is → slice_get is number ≡ Some i → P i
+near_at P [] number i all e = absurd (none_some e)
+near_at P (j ∷ is) zero i all e = subst P (some_same e) all.0
+near_at P (j ∷ is) (suc number) i all e = near_at P is number i all.1 e
 
 module _ (program : LinearProgram) (c : IsCompiled program) where
   -- where a body waits is in its routine
@@ -92,8 +99,9 @@ module _ (program : LinearProgram) (c : IsCompiled program) where
   code_there name b is m has =
       let p = place program c name b is in
       let x = routine_of program name in
-      let code = stands_of m _ _ (has.code name b is).stands in
-      subst (λ (n : ℕ). Stands m n (spelled (routine_code (site_of program) x.begin x.routine))) p.begin (subst (λ (q : List Instr). Stands m _ (spelled q)) (code_same program c name b is) code)
+      let begin = begin_of (plan_of program) (sites_of program) name in
+      let code = stands_of m begin (spelled (code_of program (plan_of program) (sites_of program) name b)) (has.code name b is).stands in
+      subst (λ (n : ℕ). Stands m n (spelled (routine_code (site_of program) x.begin x.routine))) p.begin (subst (λ (q : List Instr). Stands m begin (spelled q)) (code_same program c name b is) code)
 
   pub frames_stand : FramesStand (functions_of program) (funclets_of program) program (plan_of program) (sites_of program)
   frames_stand m name b label k back is framed has r kept room returns =
@@ -103,9 +111,9 @@ module _ (program : LinearProgram) (c : IsCompiled program) where
       let size : x.routine.layout.frame ≡ f.0.size = sized program p.index x p.at ∙ ap size_of f.1 in
       let rva = template_at x label + sizes r.done in
       let here' : k.rip ≡ image_base + rva = r.here ∙ (let q : image_base + template_at x label + sizes r.done ≡ image_base + rva = omega arith in q) in
-      let s = frame_stands program m p.index x f.0 k rva back c.fits c.regions p.at f.1 (code_there name b is m has) (in_body name b is label k.rip r) here' kept (subst (λ (n : ℕ). rsp k + n + 8 < 2 ^ 64) size room) (subst (λ (n : ℕ). word m (rsp k + n) ≡ Ok back) size returns) in
+      let s = frame_stands program m p.index x f.0 k rva back c.fits c.ranges p.at f.1 (code_there name b is m has) (in_body name b is label k.rip r) here' kept (subst (λ (n : ℕ). rsp k + n + 8 < 2 ^ 64) size room) (subst (λ (n : ℕ). word m (rsp k + n) ≡ Ok back) size returns) in
       let same : stack_frame program x f.0 back ≡ frame_with (tables.entry_of (site_of program) x (or_none x.routine.frame)) x.routine.layout.frame (taking_size f.0.size) back =
-          λ i. frame_with (tables.entry_of (site_of program) x (or_none (sym f.1 i))) (sym size i) (taking_size f.0.size) back in
+      λ i. frame_with (tables.entry_of (site_of program) x (or_none (sym f.1 i))) (sym size i) (taking_size f.0.size) back in
       record { offset = taking_size f.0.size; stands = subst (FrameStands (functions_of program) m k) same s }
 
   pub leaves_stand' : LeavesStand (functions_of program) (funclets_of program) program (plan_of program) (sites_of program)
@@ -114,7 +122,7 @@ module _ (program : LinearProgram) (c : IsCompiled program) where
       let x = routine_of program name in
       let rva = template_at x label + sizes r.done in
       let here' : k.rip ≡ image_base + rva = r.here ∙ (let q : image_base + template_at x label + sizes r.done ≡ image_base + rva = omega arith in q) in
-      leaves_stand program m p.index x k rva back c.fits c.regions p.at (leaf_of x.routine.frame leaf) (record { body = in_body name b is label k.rip r; here = here'; kept = kept; room = room; returns = returns })
+      leaves_stand program m p.index x k rva back c.fits c.ranges p.at (leaf_of x.routine.frame leaf) (record { body = in_body name b is label k.rip r; here = here'; kept = kept; room = room; returns = returns })
 
   pub allocation : (name : BodyName) (b : LinearBody) → body_of program name ≡ Some b → HasAllocation (functions_of program) (funclets_of program) program (plan_of program) (sites_of program) name
   allocation name b is =

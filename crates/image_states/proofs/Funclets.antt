@@ -27,7 +27,8 @@ use Rattle.program_frames.specs.Standing.{image_base}
 use Rattle.program_frames.proofs.Waiting.{away}
 use Rattle.program_shape.specs.Rows.{rows_of, regions_in, regions, funclet_in, named, funclet_begin, IsRow, AreRows}
 use Rattle.program_shape.proofs.Shape.{rises, tables_have_shape, begin_is, as_long, funclet_size}
-use Rattle.body_states.specs.Programs.{is_finally, FuncletsBegin}
+use Rattle.body_states.specs.Programs.{FuncletsBegin}
+use Rattle.body_states.specs.Programs as states
 use Rattle.image_states.specs.Plans.{functions_of, funclets_of, plan_of, sites_of}
 use Rattle.image_states.specs.Compiled.{IsIn, IsCompiled}
 use Rattle.image_states.proofs.Inserting.{Mask, with_one, sub, same_sub, insert, all, arrives, arrives_at_none}
@@ -63,6 +64,10 @@ entries_rows [] fs = refl
 entries_rows (e ∷ es) fs = entries_rows es (of_rows e.info.scopes fs) ∙ sym (rows_both e.info.scopes (rows_of es) fs)
 
 -- ---- kinds
+
+abbrev pub is_finally : FuncletKind → Bool
+is_finally Filter = false
+is_finally (Finally flag) = true
 
 abbrev pub kind_if : Option LinearFunclet → Bool
 kind_if None = false
@@ -107,16 +112,16 @@ module _ (program : LinearProgram) (c : IsCompiled program) where
   functions_fit (f ∷ fs) index h =
       let here : slice_get program.functions index ≡ Some f = ap (slice_get program.functions) (let q : index ≡ index + 0 = omega arith in q) ∙ h 0 f refl in
       fit_both program f.body.regions (regions_in (function_bodies fs))
-          (fit_of program (FunctionBody index) f.body.regions (c.whole.bodies (FunctionBody index) f.body (ap function_body here)).regions)
-          (functions_fit fs (index + 1) (λ j g e. ap (slice_get program.functions) (let q : index + 1 + j ≡ index + suc j = omega arith in q) ∙ h (suc j) g e))
+      (fit_of program (FunctionBody index) f.body.regions (c.whole.bodies (FunctionBody index) f.body (ap function_body here)).regions)
+      (functions_fit fs (index + 1) (λ j g e. ap (slice_get program.functions) (let q : index + 1 + j ≡ index + suc j = omega arith in q) ∙ h (suc j) g e))
 
   funclets_fit : (fs : List LinearFunclet) (index : ℕ) → ((j : ℕ) (f : LinearFunclet) → slice_get fs j ≡ Some f → slice_get program.funclets (index + j) ≡ Some f) → AllFit program (regions_in (funclet_bodies fs))
   funclets_fit [] index h = tt
   funclets_fit (f ∷ fs) index h =
       let here : slice_get program.funclets index ≡ Some f = ap (slice_get program.funclets) (let q : index ≡ index + 0 = omega arith in q) ∙ h 0 f refl in
       fit_both program f.body.regions (regions_in (funclet_bodies fs))
-          (fit_of program (FuncletBody index) f.body.regions (c.whole.bodies (FuncletBody index) f.body (ap funclet_body here)).regions)
-          (funclets_fit fs (index + 1) (λ j g e. ap (slice_get program.funclets) (let q : index + 1 + j ≡ index + suc j = omega arith in q) ∙ h (suc j) g e))
+      (fit_of program (FuncletBody index) f.body.regions (c.whole.bodies (FuncletBody index) f.body (ap funclet_body here)).regions)
+      (funclets_fit fs (index + 1) (λ j g e. ap (slice_get program.funclets) (let q : index + 1 + j ≡ index + suc j = omega arith in q) ∙ h (suc j) g e))
 
   all_fit : AllFit program (regions program)
   all_fit = fit_both program (regions_in (function_bodies program.functions)) (regions_in (funclet_bodies program.funclets))
@@ -131,7 +136,7 @@ module _ (program : LinearProgram) (c : IsCompiled program) where
   abbrev b : ℕ → ℕ
   b = funclet_begin program
 
-  up : (j k : ℕ) → j < k → k < n → b j < b k
+  pub up : (j k : ℕ) → j < k → k < n → b j < b k
   up = rises program c.fits
 
   abbrev part : Mask → List Funclet
@@ -184,8 +189,12 @@ module _ (program : LinearProgram) (c : IsCompiled program) where
       ap (arrivals cpu (distance image_base a) 1) funclets_are
       ∙ arrives_at_none b (kind program) n up cpu (distance image_base a) 0 n (λ k le lt' e. none k (omega arith) (let q : distance image_base a ≡ b k = e in let s = begin_small k (omega arith) in omega arith))
 
+  same_kind : (k : FuncletKind) → is_finally k ≡ states.is_finally (functions_of program) (funclets_of program) program (plan_of program) (sites_of program) k
+  same_kind Filter = refl
+  same_kind (Finally flag) = refl
+
   pub funclets_begin : FuncletsBegin (functions_of program) (funclets_of program) program (plan_of program) (sites_of program)
   funclets_begin = record {
-    named = λ k f e cpu. at_funclet cpu k (slice_get_within program.funclets k f e) ∙ ap (λ (o : Option LinearFunclet). by_kind cpu (k + 1) (kind_if o) ∷ []) e;
+    named = λ k f e cpu. at_funclet cpu k (slice_get_within program.funclets k f e) ∙ ap (λ (o : Option LinearFunclet). by_kind cpu (k + 1) (kind_if o) ∷ []) e ∙ ap (λ (z : Bool). by_kind cpu (k + 1) z ∷ []) (same_kind f.kind);
     none = λ a lt none cpu. at_none cpu a lt none;
   }

@@ -5,3 +5,7 @@ pub mod Slots
 pub mod Entering
 pub mod Framed
 pub mod Inserting
+pub mod Funclets
+pub mod Giving
+pub mod Resuming
+pub mod Images

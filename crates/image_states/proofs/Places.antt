@@ -71,9 +71,9 @@ module _ (program : LinearProgram) (fits : FitsProgram program) where
       let zero-more : 0 + f ≡ f = omega arith in
       let count = functions_count program.main 0 program.functions in
       let own : get_or rs f no_routine ≡ leaf_if (not (f == program.main) && link.is_leaf fn.body) fn =
-          get_or_append_left (functions_from program.main 0 program.functions) (map (funclet program) program.funclets) no_routine f (omega arith)
-          ∙ function_from program.main 0 f program.functions fn no_routine e
-          ∙ ap (λ (k : ℕ). leaf_if (not (k == program.main) && link.is_leaf fn.body) fn) zero-more in
+      get_or_append_left (functions_from program.main 0 program.functions) (map (funclet program) program.funclets) no_routine f (omega arith)
+      ∙ function_from program.main 0 f program.functions fn no_routine e
+      ∙ ap (λ (k : ℕ). leaf_if (not (k == program.main) && link.is_leaf fn.body) fn) zero-more in
       record {
         at = h.there ∙ ap (λ (x : Placed). Some x) (sym is);
         routine = ap (λ (x : Placed). x.routine) is ∙ h.routine ∙ own;

@@ -20,8 +20,8 @@ use Rattle.image_states.proofs.Places.{IsFunction, is_function, IsFunclet, is_fu
 -- ---- functions
 
 leaf_few : (b : LinearBody) (other leaf : Bool) → (other && link.is_leaf b) ≡ leaf → leaf ≡ true → b.locals + b.temporaries ≤ 4
-leaf_few b other leaf e yes =
-    let p = and_parts other (link.is_leaf b) (e ∙ yes) in
+leaf_few b other leaf e holds =
+    let p = and_parts other (link.is_leaf b) (e ∙ holds) in
     leb-true (b.locals + b.temporaries) 4 (and_parts (nat_le (b.locals + b.temporaries) 4) ((length b.regions == 0) && not (has_call b.code)) p.1).0
 
 module _ (program : LinearProgram) (p : Plan) where
@@ -61,12 +61,12 @@ module _ (program : LinearProgram) (c : IsCompiled program) where
       let fit = subst FitsFunction (get_or_from_slice_get program.functions f fn fn e) (all_at FitsFunction program.functions f fn c.fits.functions lt) in
       let own = function_by program (plan_of program) leaf fn fit.body (leaf_few fn.body (not (f == program.main)) leaf refl) in
       subst (λ (d : LinearBody). IsLayoutIf program (plan_of program) (routine_of program (FunctionBody f)).routine.layout d (is_leaf (routine_of program (FunctionBody f)).routine.frame)) (some_same h)
-          (subst (λ (r : RoutineView). IsLayoutIf program (plan_of program) r.layout fn.body (is_leaf r.frame)) (sym g.routine) own)
+      (subst (λ (r : RoutineView). IsLayoutIf program (plan_of program) r.layout fn.body (is_leaf r.frame)) (sym g.routine) own)
 
   -- the function of a funclet has a frame
   owner_framed : (f : ℕ) (fn : LinearFunction) → slice_get program.functions f ≡ Some fn → link.is_leaf fn.body ≡ false → (routine_of program (FunctionBody f)).routine ≡ leaf_if false fn
-  owner_framed f fn e no =
-      (is_function program c.fits f fn e).routine ∙ ap (λ (b : Bool). leaf_if b fn) (and_right (not (f == program.main)) (link.is_leaf fn.body) no)
+  owner_framed f fn e bare =
+      (is_function program c.fits f fn e).routine ∙ ap (λ (b : Bool). leaf_if b fn) (and_right (not (f == program.main)) (link.is_leaf fn.body) bare)
 
   owner_there : (fl : LinearFunclet) (o : Option LinearFunction) → IsFuncletSized program fl → slice_get program.functions fl.function ≡ o → (fn : LinearFunction) × (slice_get program.functions fl.function ≡ Some fn)
   owner_there fl None sized e = absurd (none_some (sym (ap function_body e) ∙ sized.there))

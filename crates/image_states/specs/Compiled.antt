@@ -26,7 +26,7 @@ pub record IsFuncletSized (program : LinearProgram) (f : LinearFunclet) : Type 0
 pub record IsCompiled (program : LinearProgram) : Type 0 where
   pub fits : FitsProgram program
   pub small : end_at (sizes_of (linked program)) ≤ 2 ^ 28
-  pub regions : HasRegions program
+  pub ranges : HasRegions program
   pub names : NamesFunclets program
   pub all_named : (k : ℕ) → k < length program.funclets → IsIn k (named (regions program))
   pub whole : IsWhole program

@@ -1,0 +1,71 @@
+-- The image of a compiled program has its bodies where the plan says.
+use Rattle.std.proofs.Common.{◌≡◌, ℕ, ◌+◌, ◌<◌, ◌≤◌, List, length, Some, refl, sym, ap, subst, ◌∙◌, arith}
+use Rattle.std.proofs.lemmas.Bool.{lt-ltb, ltb-true}
+use Rattle.x64_instr.specs.declared.instruction.Instr.{Instr}
+use Rattle.linear_code.specs.Program.{LinearBody, LinearProgram}
+use Rattle.linear_machine.specs.Frames.{BodyName, body_of}
+use Rattle.template_code.specs.Bytes.{sizes}
+use Rattle.template_code.specs.Template.{body_size, offset_of}
+use Rattle.program_link.specs.Text.{entry_size, check_stack_at}
+use Rattle.program_link.specs.Text as texts
+use Rattle.program_link.proofs.Entries.{entry_sizes}
+use Rattle.program_tables.specs.Placed.{Placed, body_begin, end_of, site_of}
+use Rattle.program_frames.specs.Standing.{image_base}
+use Rattle.body_states.specs.Sites.{begin_of, entry_code}
+use Rattle.body_states.specs.Programs.{HasAddresses}
+use Rattle.image_states.specs.Plans.{functions_of, funclets_of, routine_of, address_of, plan_of, sites_of}
+use Rattle.image_states.specs.Compiled.{IsCompiled}
+use Rattle.image_states.specs.Laws.{ImagesArePrograms}
+use Rattle.image_states.proofs.Addresses.{InImage, check_stack_inside, place, here, label_rises, body_inside, not_first}
+use Rattle.image_states.proofs.Slots.{laid_out}
+use Rattle.image_states.proofs.Entering.{entry_same}
+use Rattle.image_states.proofs.Framed.{frames_stand, leaves_stand', allocation}
+use Rattle.image_states.proofs.Funclets.{funclets_begin}
+use Rattle.image_states.proofs.Giving.{gives}
+use Rattle.image_states.proofs.Resuming.{resumptions}
+
+module _ (program : LinearProgram) (c : IsCompiled program) (name : BodyName) (b : LinearBody) (is : body_of program name ≡ Some b) where
+  abbrev x : Placed
+  x = routine_of program name
+
+  first_is : address_of program name 0 ≡ begin_of (plan_of program) (sites_of program) name + sizes (entry_code program (plan_of program) (sites_of program) name)
+  first_is =
+      let p = place program c name b is in
+      let size = ap sizes (entry_same program c name b is) ∙ entry_sizes x.begin (check_stack_at (site_of program).text) x.routine (here program c name b is).near in
+      let begin = p.begin in
+      omega arith
+
+  labels_are : (number : ℕ) → address_of program name number ≡ address_of program name 0 + offset_of x.routine.layout b.code number
+  labels_are number = let e = ap (λ (d : LinearBody). offset_of x.routine.layout d.code number) (place program c name b is).body in omega arith
+
+  same_length : length x.routine.body.code ≡ length b.code
+  same_length = ap (λ (d : LinearBody). length d.code) (place program c name b is).body
+
+  rises : (label : ℕ) → label < length b.code → address_of program name label < address_of program name (label + 1)
+  rises label lt = let r = label_rises program c name b is label (let e = same_length in omega arith) in omega arith
+
+  inside : InImage program c (begin_of (plan_of program) (sites_of program) name) (address_of program name 0 + body_size x.routine.layout b.code)
+  inside =
+      let p = place program c name b is in
+      let size = ap (λ (d : LinearBody). body_size x.routine.layout d.code) p.body in
+      let end : image_base + end_of x ≡ address_of program name 0 + body_size x.routine.layout b.code = omega arith in
+      subst (λ (from : ℕ). InImage program c from (address_of program name 0 + body_size x.routine.layout b.code)) (sym p.begin)
+      (subst (InImage program c (image_base + x.begin)) end (body_inside program c name b is))
+
+  pub addresses : HasAddresses (functions_of program) (funclets_of program) program (plan_of program) (sites_of program) name b
+  addresses = record { first = first_is; labels = labels_are; rises = rises; inside = inside; not_first = λ label k lt lt'. not_first program c name b is label k lt lt' }
+
+pub images_are_programs : ImagesArePrograms
+images_are_programs program c = record {
+  gives = gives program c;
+  laid_out = laid_out program c;
+  addresses = λ name b is. addresses program c name b is;
+  check_stack = check_stack_inside program c;
+  lands = λ name b label is lt. lt-ltb label (length (routine_of program name).routine.body.code) (let e = same_length program c name b is in omega arith);
+  landings = λ name b label is l. (let lt = ltb-true label (length (routine_of program name).routine.body.code) l in let e = same_length program c name b is in omega arith);
+  allocations = λ name b is leaf. allocation program c name b is;
+  frames = frames_stand program c;
+  leaves = leaves_stand' program c;
+  funclets = funclets_begin program c;
+  resumptions = λ resumption b saved. resumptions program b saved resumption;
+}
