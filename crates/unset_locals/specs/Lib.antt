@@ -1,0 +1,4 @@
+pub mod Marks
+pub mod Alike
+pub mod Reads
+pub mod Laws
