@@ -1,0 +1,7 @@
+pub mod Lists
+pub mod Events
+pub mod Both
+pub mod Unwinding
+pub mod Steps
+pub mod Alike
+pub mod Facts
