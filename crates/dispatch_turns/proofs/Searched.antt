@@ -75,7 +75,9 @@ module _ (t : Functions) (fs : List Funclet) (program : LinearProgram) (p : Plan
       record {
         filter = k;
         handler = f;
+        asked = e;
         rest = rest;
+        asked = e;
         state = new;
         turns =
             ap turn_of a.answer

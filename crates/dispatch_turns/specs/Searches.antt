@@ -1,5 +1,5 @@
 -- What a turn that searches comes to, against the search of linear code.
-use Rattle.std.specs.Prelude.{◌≡◌, ℕ, ◌+◌, ◌%◌, ◌^◌, ◌<◌, List, [], ◌∷◌}
+use Rattle.std.specs.Prelude.{◌≡◌, ℕ, ◌+◌, ◌%◌, ◌^◌, ◌<◌, List, [], ◌∷◌, Some}
 use Rattle.seh_num.specs.declared.event.Event.TheVariants as events
 use Rattle.seh_num.specs.declared.end.RunEnd.TheVariants as ends
 use Rattle.x64_instr.specs.declared.register.Reg.TheVariants.{Rcx, Rsp}
@@ -28,7 +28,9 @@ module _ (t : Functions) (fs : List Funclet) (program : LinearProgram) (p : Plan
   pub record FilterBegins (s : State) (at : ℕ) (turn : Turn) (found : List Handler) (exception : Exception) (resumption : Resumption) (acts : List Activation) (c : Configuration) : Type 0 where
     pub filter : ℕ
     pub handler : Handler
+    pub asked : handler.filter ≡ Some filter
     pub rest : List Handler
+    pub asked : handler.filter ≡ Some filter
     pub state : State
     pub turns : turn ≡ Continues state (events.Filter (filter + 1) ∷ [])
     pub goes : (next : Next) → linear.search program next found exception resumption c ≡ deeper 2 c.frame.held c.store c.events (next (begin_filter filter handler rest exception resumption c))

@@ -56,6 +56,7 @@ mutual
   statement_numbers (TryExcept body filter block) =
       numbers_both (tries body) (with_filter filter ∷ tries block)
       ∙ (λ i. statements_numbers body i ++ (filter_number filter i ++ statements_numbers block i))
+      ∙ sym (append_assoc (funclets body) (filter_funclet filter) (funclets block))
   statement_numbers (TryFinally body k last) =
       numbers_both (tries body) (Finishes k ∷ tries last)
       ∙ (λ i. statements_numbers body i ++ (k ∷ statements_numbers last i))
@@ -96,7 +97,7 @@ mutual
       let z = filter_count owner (filter_names names) filter in
       let a = filter_funclets owner (filter_names names) filter in
       let b = statements_funclets owner (except_names names) block in
-      omega (arith, length-append (statements_funclets owner names body) (a ++ b), length-append a b, length-append (funclets body) (filter_funclet filter ++ funclets block), length-append (filter_funclet filter) (funclets block))
+      omega (arith, length-append (statements_funclets owner names body) (a ++ b), length-append a b, length-append (funclets body ++ filter_funclet filter) (funclets block), length-append (funclets body) (filter_funclet filter))
   statement_count owner names (TryFinally body k last) =
       let x = statements_count owner names body in
       let y = statements_count (in_funclet (k - 1) owner) (finally_names names) last in
@@ -237,8 +238,12 @@ counts p ok =
     let functions = sound.functions_sound p.functions p.functions in
     let main = sound.main_sound (slice_get p.functions p.main) in
     let up = count_up 1 (sound.all_funclets p.functions) in
-    let few = nat_le (length p.functions) 4096 && nat_le (length (sound.all_funclets p.functions)) 16384 && nat_le (length p.globals) 1048576 in
-    (and_parts up few (and_parts main (up && few) (and_parts functions (main && (up && few)) ok).1).1).0
+    let a = nat_le (length p.functions) 4096 in
+    let b = nat_le (length (sound.all_funclets p.functions)) 16384 in
+    let c = nat_le (length p.globals) 1048576 in
+    let all = (and_parts (functions && main && up && a && b) c ok).0 in
+    let most = (and_parts (functions && main && up && a) b all).0 in
+    (and_parts (functions && main) up (and_parts (functions && main && up) a most).0).1
 
 pub lowered_names_funclets : LoweredNamesFunclets
 lowered_names_funclets p ok =

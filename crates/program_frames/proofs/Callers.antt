@@ -37,7 +37,7 @@ use Rattle.program_tables.proofs.Table.{table, table_entries, tables_are_read}
 use Rattle.program_frames.specs.Standing.{image_base, HasText}
 use Rattle.program_frames.specs.Functions.{rest_of, function_of, leaf, thunk_of, probe}
 use Rattle.program_frames.specs.Laws.{IsFramed, FindsCaller, IsIn, FramesAreFound, LeavesAreFound, ThunksAreFound, ProbesAreFound}
-use Rattle.program_frames.proofs.Code.{there}
+use Rattle.program_frames.proofs.CodeStands.{there}
 use Rattle.program_frames.proofs.Layouts.{size_of}
 use Rattle.program_frames.proofs.Rest.{with_size}
 use Rattle.program_frames.proofs.Right.{sizes, right, stands, plan_near, rest_fine}

@@ -18,7 +18,10 @@ use Rattle.frame_rules.specs.Bytes.{Stands}
 use Rattle.linear_code.specs.Program.{LinearProgram}
 use Rattle.program_link.specs.Fits.{FitsProgram}
 use Rattle.program_link.specs.Linked.{text_begin, data_size, linked}
-use Rattle.program_tables.proofs.Table.{is, text_is, image_small}
+use Rattle.program_link.specs.Routines.{routines}
+use Rattle.program_link.proofs.Images.{rdata_fits, has_places}
+use Rattle.program_link.proofs.Nearness.{routines_near}
+use Rattle.program_tables.proofs.Table.{is, text_is, rdata_is}
 use Rattle.program_frames.specs.Standing.{image_base, HasText}
 use Rattle.program_frames.specs.Laws.{ImagesHaveText, TextsAreFixed}
 
@@ -42,7 +45,10 @@ module _ (p : LinearProgram) (fits : FitsProgram p) where
   text = record { address = text_at (sizes_of program); size = length code; raw = code; flags = 0x60000020 }
 
   low : r + 0x3000 < 2 ^ 32
-  low = let small = image_small p fits in omega arith
+  low =
+      let fit = rdata_fits p.globals (routines p) (length p.functions) p.main fits.globals (routines_near p fits) (has_places p fits) in
+      let e = rdata_is p fits in
+      omega arith
 
   here : (k : ℕ) → at + k ≡ image_base + text_at (sizes_of program) + k
   here k = omega arith

@@ -40,7 +40,7 @@ use Rattle.program_tables.specs.Placed.{Placed, end_of, body_begin, site_of, pla
 use Rattle.program_frames.specs.Standing.{image_base, HasText, links}
 use Rattle.program_frames.specs.Functions.{plan, rest_of, function_of}
 use Rattle.program_frames.specs.Laws.{IsFramed, FunctionsStand, FunctionsKeepTheRules}
-use Rattle.program_frames.proofs.Code.{IsThere, there, code_length, routine_stands}
+use Rattle.program_frames.proofs.CodeStands.{IsThere, there, code_length, routine_stands}
 use Rattle.program_frames.proofs.Inner.{AllInner}
 use Rattle.program_frames.proofs.Arguments.{arguments_inner}
 use Rattle.program_frames.proofs.Layouts.{size_of, sized}

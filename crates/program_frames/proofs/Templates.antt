@@ -98,7 +98,8 @@ template_inner k y at (instructions.Call function first count) links near here g
     inner_both passing (call_code y (Temporary first) first (at + sizes passing) (k.function function))
     (passing_inner y first 4 (count - 4) (omega arith) (omega arith))
     (call_inner y first (at + sizes passing) (k.function function) lt (omega arith) (links.function function))
-template_inner k y at (instructions.CallBuiltIn function first) links near here goes = call_inner y first at (k.known function) near.temporaries (omega arith) (links.known function)
+template_inner k y at (instructions.CallBuiltIn function first) links near here goes =
+    ((refl, (λ b. refl), (λ o. refl)), call_inner y first (at + 5) (k.known function) near.temporaries (omega arith) (links.known function))
 template_inner k y at (instructions.CallFinally funclet) links near here goes =
     ((refl, (λ b. refl), (λ o. refl)), ((refl, (λ b. refl), (λ o. refl)), ((near_signed (at + sizes finally_arguments + 5) (k.funclet funclet) (finally_near at here) (links.funclet funclet), (λ b. refl), (λ o. refl)), tt)))
 template_inner k y at (instructions.LocalUnwind label) links near here goes =

@@ -15,9 +15,11 @@ use Rattle.virtual_unwind.specs.CallerOf.{Functions, distance, entry_of}
 use Rattle.virtual_unwind.specs.declared.tail.Role.TheVariants.{Other}
 use Rattle.virtual_unwind.specs.declared.tail.Role.{Role}
 use Rattle.virtual_unwind.specs.Tail.{FetchedInstr, fetched_at, role_of, by_role, from_item, tail, tail_at}
+use Rattle.virtual_unwind.specs.Contexts.{rsp}
+use Rattle.virtual_unwind.specs.Undone.{word}
 use Rattle.seh_walk.specs.Walk.{filter_return, finally_return}
 use Rattle.host_model.specs.Machine.{functions_in}
-use Rattle.raw_stack.specs.Stack.{FrameStands}
+use Rattle.raw_stack.specs.Stack.{FrameStands, LeafStands}
 use Rattle.frame_rules.specs.Bytes.{spell, Stands}
 use Rattle.frame_rules.proofs.Bytes.{never_empty, items_stand}
 use Rattle.pe_write.specs.Program.{image_of}
@@ -39,12 +41,12 @@ use Rattle.program_tables.specs.Placed.{Placed, end_of, body_begin, site_of, pla
 use Rattle.program_tables.specs.Ranges.{HasRegions}
 use Rattle.program_tables.specs.Entries.{entries}
 use Rattle.program_tables.specs.Entries as tables
-use Rattle.program_tables.proofs.Lookups.{some_same, none_some, entries_are_held}
+use Rattle.program_tables.proofs.Lookups.{some_same, none_some, entries_are_held, leaves_are_held_by_none}
 use Rattle.program_tables.proofs.Prologues.{entry_least}
 use Rattle.program_tables.proofs.Table.{tables_are_read}
 use Rattle.program_frames.specs.Standing.{image_base, HasText, template_at, links, IsReturn, IsInBody}
-use Rattle.program_frames.specs.Laws.{IsWaiting, stack_frame, BodiesStand}
-use Rattle.program_frames.proofs.Code.{stands_split, code_split, IsThere, there, routine_stands, template_there}
+use Rattle.program_frames.specs.Laws.{IsWaiting, stack_frame, BodiesStand, IsLeafWaiting, LeavesStand}
+use Rattle.program_frames.proofs.CodeStands.{stands_split, code_split, IsThere, there, routine_stands, template_there}
 use Rattle.program_frames.proofs.Inner.{Inner, AllInner, inner_at}
 use Rattle.program_frames.proofs.Templates.{template_inner}
 use Rattle.program_frames.proofs.Links.{links_near}
@@ -62,6 +64,7 @@ tail_none (suc n) f at first m x e r =
     ∙ other_none (λ k. tail n false f m ((at + k) % 2 ^ 64)) first x (role_of f x.plain x.instr) r
 
 pub no_epilogue : (at : ℕ) (m : Memory) (i : Instr) → Inner i → Stands m at (chosen i) → at + 15 < 2 ^ 63 → tail_at 0 m at ≡ None
+unfolding tail_at
 no_epilogue at m i inner stands lt =
     let one = append-nil (chosen i) in
     let few = longest i in
@@ -80,48 +83,50 @@ size_some : (i : Instr) → Inner i → 0 < size i
 unfolding size
 size_some i inner = never_empty i inner.0
 
-pub record IsInner (m : Memory) (x : Placed) (rva : ℕ) : Type 0 where
-  pub item : Instr
+-- an instruction of a body
+pub record IsItem (x : Placed) (rva : ℕ) (item : Instr) : Type 0 where
   pub inner : Inner item
-  pub stands : Stands m (image_base + rva) (chosen item)
   pub past : body_begin x ≤ rva
   pub inside : rva < end_of x
 
-pub inner_there : (p : LinearProgram) (m : Memory) (x : Placed) (rva : ℕ) → FitsProgram p → HasText m p → IsThere (site_of p) (linked p).text (text_begin p.globals) x → IsInBody p x rva → IsInner m x rva
-inner_there p m x rva fits text h b =
+pub item_there : (p : LinearProgram) (x : Placed) (rva : ℕ) → FitsProgram p → IsThere (site_of p) (linked p).text (text_begin p.globals) x → (b : IsInBody p x rva) → IsItem x rva b.item
+item_there p x rva fits h b =
     let r = x.routine in
-    let s = site_of p in
     let y = r.layout in
     let k = links p x in
-    let begin = x.begin + entry_size r in
-    let entry = entry_code x.begin (check_stack_at s.text) r in
-    let t = template_there k y begin r.body.code b.number b.instruction b.there in
-    let sizes' = entry_sizes x.begin (check_stack_at s.text) r h.near in
+    let t = template_there k y (x.begin + entry_size r) r.body.code b.number b.instruction b.there in
     let size = template_sizes k y (template_at x b.number) b.instruction in
     let room = h.room in
     let small = routine_small r h.near in
     let in' = t.inside in
-    let at = t.here in
     let here = b.here in
     let whole = ap sizes b.parts in
     let near = near_at (IsInstructionNear y) r.body.code b.number b.instruction h.near.code b.there in
     let all = template_inner k y (template_at x b.number) b.instruction (links_near p x fits h) near (omega arith) b.goes_on in
     let inner : Inner b.item = inner_at b.done b.left b.item (subst AllInner b.parts all) in
+    let some = size_some b.item inner in
+    record { inner = inner; past = omega arith; inside = omega (arith, sizes_append b.done (b.item ∷ b.left)) }
+
+-- where its routine's code stands
+pub item_stands : (p : LinearProgram) (m : Memory) (x : Placed) (rva : ℕ) → Stands m (image_base + x.begin) (spelled (routine_code (site_of p) x.begin x.routine)) → IsThere (site_of p) (linked p).text (text_begin p.globals) x → (b : IsInBody p x rva) → Stands m (image_base + rva) (chosen b.item)
+item_stands p m x rva code h b =
+    let r = x.routine in
+    let s = site_of p in
+    let k = links p x in
+    let begin = x.begin + entry_size r in
+    let entry = entry_code x.begin (check_stack_at s.text) r in
+    let own = template k r.layout (template_at x b.number) b.instruction in
+    let t = template_there k r.layout begin r.body.code b.number b.instruction b.there in
+    let size = entry_sizes x.begin (check_stack_at s.text) r h.near in
+    let at = t.here in
+    let here = b.here in
     let base = image_base + x.begin in
-    let code = routine_stands p m x text h in
-    let body = (code_split m base entry (code_from k y begin r.body.code) code).1 in
-    let from = (code_split m (base + sizes entry) t.before (template k y (template_at x b.number) b.instruction ++ t.after) (subst (λ (q : List Instr). Stands m (base + sizes entry) (spelled q)) t.parts body)).1 in
-    let split : template k y (template_at x b.number) b.instruction ++ t.after ≡ b.done ++ ((b.item ∷ b.left) ++ t.after) = ap (λ (q : List Instr). q ++ t.after) b.parts ∙ append_assoc b.done (b.item ∷ b.left) t.after in
+    let body = (code_split m base entry (code_from k r.layout begin r.body.code) code).1 in
+    let from = (code_split m (base + sizes entry) t.before (own ++ t.after) (subst (λ (q : List Instr). Stands m (base + sizes entry) (spelled q)) t.parts body)).1 in
+    let split : own ++ t.after ≡ b.done ++ ((b.item ∷ b.left) ++ t.after) = ap (λ (q : List Instr). q ++ t.after) b.parts ∙ append_assoc b.done (b.item ∷ b.left) t.after in
     let last = (code_split m (base + sizes entry + sizes t.before) b.done ((b.item ∷ b.left) ++ t.after) (subst (λ (q : List Instr). Stands m (base + sizes entry + sizes t.before) (spelled q)) split from)).1 in
     let place : base + sizes entry + sizes t.before + sizes b.done ≡ image_base + rva = omega arith in
-    let one = (stands_split m (base + sizes entry + sizes t.before + sizes b.done) (chosen b.item) (spelled (b.left ++ t.after)) last).0 in
-    record {
-      item = b.item;
-      inner = inner;
-      stands = subst (λ (n : ℕ). Stands m n (chosen b.item)) place one;
-      past = omega arith;
-      inside = (let n = size_some b.item inner in omega (arith, sizes_append b.done (b.item ∷ b.left)));
-    }
+    subst (λ (n : ℕ). Stands m n (chosen b.item)) place (stands_split m (base + sizes entry + sizes t.before + sizes b.done) (chosen b.item) (spelled (b.left ++ t.after)) last).0
 
 -- ---- a frame
 
@@ -137,17 +142,18 @@ found_in p index x f rva fits regions e framed le lt small =
     ∙ ap (λ (n : ℕ). holding n (entries p)) (away rva small)
     ∙ entries_are_held p index x f rva fits e framed le lt
 
-pub bodies_stand : BodiesStand
-bodies_stand p m index x f c rva back fits regions e framed w =
+pub frame_stands : (p : LinearProgram) (m : Memory) (index : ℕ) (x : Placed) (f : Frame) (c : Context) (rva back : ℕ) → FitsProgram p → HasRegions p → slice_get (placed p) index ≡ Some x → x.routine.frame ≡ Some f
+    → Stands m (image_base + x.begin) (spelled (routine_code (site_of p) x.begin x.routine)) → IsInBody p x rva → c.rip ≡ image_base + rva → length c.kept ≡ 9 → rsp c + f.size + 8 < 2 ^ 64 → word m (rsp c + f.size) ≡ Ok back
+    → FrameStands (functions_in (image_of (linked p))) m c (stack_frame p x f back)
+frame_stands p m index x f c rva back fits regions e framed code body here kept room' returns =
     let h = there p index x fits e in
-    let i = inner_there p m x rva fits w.text h w.body in
+    let i = item_there p x rva fits h body in
     let room = h.room in
     let small = routine_small x.routine h.near in
     let past = i.past in
     let inside = i.inside in
     let size = subst IsFrameNear framed h.near.frame in
     let least = entry_least x.routine f h.near framed size.0 in
-    let here = w.here in
     let far : rva < 2 ^ 32 = omega arith in
     let away' : distance image_base c.rip ≡ rva = ap (distance image_base) here ∙ away rva far in
     record {
@@ -156,10 +162,42 @@ bodies_stand p m index x f c rva back fits regions e framed w =
       not_finally = ne_eqb c.rip finally_return (λ z. (let q : c.rip ≡ finally_return = z in absurd (omega arith)));
       found = ap (entry_of (functions_in (image_of (linked p)))) here ∙ found_in p index x f rva fits regions e framed (omega arith) inside far;
       past_prologue = le-ltb (distance image_base c.rip - x.begin) (taking_size f.size) (omega arith);
-      not_epilogue = ap (tail_at 0 m) here ∙ no_epilogue (image_base + rva) m i.item i.inner i.stands (omega arith);
+      not_epilogue = ap (tail_at 0 m) here ∙ no_epilogue (image_base + rva) m body.item i.inner (item_stands p m x rva code h body) (omega arith);
       codes = refl;
       no_register = refl;
       no_parents = refl;
+      kept = kept;
+      room = room';
+      returns = returns;
+    }
+
+pub bodies_stand : BodiesStand
+bodies_stand p m index x f c rva back fits regions e framed w =
+    frame_stands p m index x f c rva back fits regions e framed (routine_stands p m x w.text (there p index x fits e)) w.body w.here w.kept w.room w.returns
+
+-- ---- a leaf function
+
+pub none_in : (p : LinearProgram) (index : ℕ) (x : Placed) (rva : ℕ) → FitsProgram p → HasRegions p → slice_get (placed p) index ≡ Some x → x.routine.frame ≡ None → x.begin ≤ rva → rva < end_of x → rva < 2 ^ 32
+    → entry_of (functions_in (image_of (linked p))) (image_base + rva) ≡ None
+none_in p index x rva fits regions e none le lt small =
+    ap (λ (t : Table (List Entry)). holding (distance image_base (image_base + rva)) (or_none t)) (tables_are_read p fits regions)
+    ∙ ap (λ (n : ℕ). holding n (entries p)) (away rva small)
+    ∙ leaves_are_held_by_none p index x rva fits e none le lt
+
+pub leaves_stand : LeavesStand
+leaves_stand p m index x c rva back fits regions e none w =
+    let h = there p index x fits e in
+    let i = item_there p x rva fits h w.body in
+    let room = h.room in
+    let small = routine_small x.routine h.near in
+    let past = i.past in
+    let inside = i.inside in
+    let here = w.here in
+    record {
+      live = ne_eqb c.rip 0 (λ z. (let q : c.rip ≡ 0 = z in absurd (omega arith)));
+      not_filter = ne_eqb c.rip filter_return (λ z. (let q : c.rip ≡ filter_return = z in absurd (omega arith)));
+      not_finally = ne_eqb c.rip finally_return (λ z. (let q : c.rip ≡ finally_return = z in absurd (omega arith)));
+      none = ap (entry_of (functions_in (image_of (linked p)))) here ∙ none_in p index x rva fits regions e none (omega arith) inside (omega arith);
       kept = w.kept;
       room = w.room;
       returns = w.returns;

@@ -14,7 +14,7 @@ use Rattle.frame_rules.specs.Frame.{left_to}
 use Rattle.frame_rules.specs.Prologue.{items}
 use Rattle.frame_rules.specs.Rules.{IsRight, Stands, IsFound}
 use Rattle.frame_rules.specs.States.{registers, return_address, IsEntry, InBody, HasItems}
-use Rattle.raw_stack.specs.Stack.{StackFrame, FrameStands}
+use Rattle.raw_stack.specs.Stack.{StackFrame, FrameStands, LeafStands}
 use Rattle.pe_write.specs.declared.service.Service.{Service}
 use Rattle.pe_write.specs.Program.{image_of}
 use Rattle.linear_code.specs.Program.{LinearProgram}
@@ -61,6 +61,20 @@ BodiesStand =
     (p : LinearProgram) (m : Memory) (index : ℕ) (x : Placed) (f : Frame) (c : Context) (rva back : ℕ)
     → FitsProgram p → HasRegions p → slice_get (placed p) index ≡ Some x → x.routine.frame ≡ Some f → IsWaiting p m x f c rva back
     → FrameStands (functions_in (image_of (linked p))) m c (stack_frame p x f back)
+
+-- the same of a leaf function, which has neither
+pub record IsLeafWaiting (p : LinearProgram) (m : Memory) (x : Placed) (c : Context) (rva back : ℕ) : Type 0 where
+  pub body : IsInBody p x rva
+  pub here : c.rip ≡ image_base + rva
+  pub kept : length c.kept ≡ 9
+  pub room : rsp c + 8 < 2 ^ 64
+  pub returns : word m (rsp c) ≡ Ok back
+
+abbrev pub LeavesStand : Type 0
+LeavesStand =
+    (p : LinearProgram) (m : Memory) (index : ℕ) (x : Placed) (c : Context) (rva back : ℕ)
+    → FitsProgram p → HasRegions p → slice_get (placed p) index ≡ Some x → x.routine.frame ≡ None → IsLeafWaiting p m x c rva back
+    → LeafStands (functions_in (image_of (linked p))) m c back
 
 -- ---- every frame
 

@@ -1,6 +1,6 @@
 //! What holds of the frames of every program that can be linked.
 
-ghost use Rattle.program_frames.specs.Laws.{ImagesHaveText, TextsAreFixed, BodiesStand, FunctionsStand, FunctionsKeepTheRules, FramesAreFound, LeavesAreFound, ThunksAreFound, ProbesAreFound};
+ghost use Rattle.program_frames.specs.Laws.{ImagesHaveText, TextsAreFixed, BodiesStand, LeavesStand, FunctionsStand, FunctionsKeepTheRules, FramesAreFound, LeavesAreFound, ThunksAreFound, ProbesAreFound};
 
 /// The text of a program is in memory when its image is loaded, and may not be written.
 pub fn text()
@@ -9,9 +9,11 @@ pub fn text()
 {}
 
 /// At each instruction of its body a routine's frame stands: the function table has its entry there, and
-/// undoing that entry's one code finds its return address.
+/// undoing that entry's one code finds its return address. A leaf function has no entry, and its return
+/// address at RSP.
 pub fn bodies()
-    ensures { BodiesStand }
+    ensures framed { BodiesStand }
+    ensures leaves { LeavesStand }
 {}
 
 /// The routines of a program that have a frame keep the rules by which every frame can be unwound, with

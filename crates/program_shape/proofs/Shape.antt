@@ -39,16 +39,16 @@ drop_far zero xs far = far
 drop_far (suc n) [] far = tt
 drop_far (suc n) (x ∷ xs) far = drop_far n xs far.1
 
-functions_count : (main index : ℕ) (fs : List LinearFunction) → length (functions_from main index fs) ≡ length fs
+pub functions_count : (main index : ℕ) (fs : List LinearFunction) → length (functions_from main index fs) ≡ length fs
 functions_count main index [] = refl
 functions_count main index (f ∷ fs) = let c = functions_count main (suc index) fs in omega arith
 
-get_second : (a b : List RoutineView) (i j : ℕ) (d : RoutineView) → j ≡ length a + i → get_or (a ++ b) j d ≡ get_or b i d
+pub get_second : (a b : List RoutineView) (i j : ℕ) (d : RoutineView) → j ≡ length a + i → get_or (a ++ b) j d ≡ get_or b i d
 get_second [] b i j d e = ap (λ (n : ℕ). get_or b n d) (let q : j ≡ i = omega arith in q)
 get_second (r ∷ a) b i zero d e = absurd (omega arith)
 get_second (r ∷ a) b i (suc j) d e = get_second a b i j d (omega arith)
 
-abbrev no_funclet : LinearFunclet
+abbrev pub no_funclet : LinearFunclet
 no_funclet = record { kind = Filter; function = 0; parent = None; body = nothing }
 
 module _ (p : LinearProgram) (fits : FitsProgram p) where
@@ -67,22 +67,22 @@ module _ (p : LinearProgram) (fits : FitsProgram p) where
   rows : AreRows p (rows_of (entries p)) (regions p)
   rows = subst (AreRows p (rows_of (entries p))) (routines_regions p) (all_rows p far (infos_begin p) (first p.globals) rs (omega arith) (routines_bare p))
 
-  as_long : length rs ≡ n + length p.funclets
+  pub as_long : length rs ≡ n + length p.funclets
   as_long =
       let c = functions_count p.main 0 p.functions in
       omega (arith, length-append (functions_from p.main 0 p.functions) (map (funclet p) p.funclets), length-map p.funclets (funclet p))
 
   -- a funclet is the routine of its number behind the functions
-  funclet_is : (k : ℕ) → k < length p.funclets → get_or rs (n + k) no_routine ≡ funclet p (get_or p.funclets k no_funclet)
+  pub funclet_is : (k : ℕ) → k < length p.funclets → get_or rs (n + k) no_routine ≡ funclet p (get_or p.funclets k no_funclet)
   funclet_is k lt =
       let c = functions_count p.main 0 p.functions in
       get_second (functions_from p.main 0 p.functions) (map (funclet p) p.funclets) k (n + k) no_routine (omega arith)
       ∙ get_or-map (funclet p) p.funclets k no_funclet no_routine lt
 
-  begin_is : (k : ℕ) → funclet_begin p k ≡ get_or (bounds (first p.globals) rs) (n + k) 0
+  pub begin_is : (k : ℕ) → funclet_begin p k ≡ get_or (bounds (first p.globals) rs) (n + k) 0
   begin_is k = get_or-drop n (bounds (first p.globals) rs) k 0
 
-  funclet_size : (k : ℕ) → k < length p.funclets → 0 < routine_size (get_or rs (n + k) no_routine)
+  pub funclet_size : (k : ℕ) → k < length p.funclets → 0 < routine_size (get_or rs (n + k) no_routine)
   funclet_size k lt =
       let l = as_long in
       framed_room (get_or rs (n + k) no_routine) (funclet_frame (get_or p.funclets k no_funclet).body) (all_at IsRoutineNear rs (n + k) no_routine near (omega arith)) (ap (λ (r : RoutineView). r.frame) (funclet_is k lt))
@@ -115,7 +115,7 @@ module _ (p : LinearProgram) (fits : FitsProgram p) where
 
   -- ---- handlers that differ
 
-  rises : (j k : ℕ) → j < k → k < length p.funclets → funclet_begin p j < funclet_begin p k
+  pub rises : (j k : ℕ) → j < k → k < length p.funclets → funclet_begin p j < funclet_begin p k
   rises j k lt in' =
       let l = as_long in
       let b = bounds_rise (first p.globals) rs (n + j) (n + k) 0 no_routine (omega arith) (omega arith) in
@@ -124,7 +124,7 @@ module _ (p : LinearProgram) (fits : FitsProgram p) where
       let y = begin_is k in
       omega arith
 
-  apart : (j k : ℕ) → j < length p.funclets → k < length p.funclets → j ≢ k → funclet_begin p j ≢ funclet_begin p k
+  pub apart : (j k : ℕ) → j < length p.funclets → k < length p.funclets → j ≢ k → funclet_begin p j ≢ funclet_begin p k
   apart j k a b ne e = elim (cases_lt j k) [
     | inl lt ↦ let r = rises j k lt b in let q : funclet_begin p j ≡ funclet_begin p k = e in omega arith
     | inr le ↦ elim (cases_lt k j) [

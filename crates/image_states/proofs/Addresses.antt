@@ -1,0 +1,184 @@
+-- Where the bodies of a program's image are.
+use Rattle.std.proofs.Common.{◌≡◌, ◌≢◌, ℕ, zero, suc, ◌+◌, ◌-◌, ◌*◌, ◌/◌, ◌^◌, ◌<◌, ◌≤◌, ◌==◌, Bool, true, false, not, leb, ltb, List, [], ◌∷◌, ◌++◌, length, get_or, take, Option, Some, None, refl, sym, ap, subst, ◌∙◌, arith, inl, inr, length-append}
+use Rattle.std.specs.Prelude.{slice_get, ◌&&◌, ◌||◌}
+use Rattle.std.proofs.lemmas.Bool.{or_right, and_from, and_right, not_from_false, cases_lt, le-leb, lt-ltb, le-ltb}
+use Rattle.host_layout.specs.declared.range.TheConstants.{IMAGE_BASE, IMAGE_RANGE_END}
+use Rattle.c_model.specs.Source.{is_between, is_data, data_end, is_reserved}
+use Rattle.pe_write.specs.Program.{sizes_of, end_at}
+use Rattle.linear_code.specs.Program.{LinearBody, LinearFunclet, LinearProgram}
+use Rattle.linear_machine.specs.Frames.{BodyName, FuncletBody, body_of}
+use Rattle.linear_code.specs.declared.instruction.Instruction.{Instruction}
+use Rattle.template_code.specs.declared.layout.Layout.{Layout}
+use Rattle.x64_encode.specs.Chosen.{modrm}
+use Rattle.template_code.specs.Bytes.{size, sizes}
+use Rattle.template_code.specs.Probing.{check_stack}
+use Rattle.template_code.specs.Template.{template_size, body_size, offset_of}
+use Rattle.template_code.proofs.Sizes.{offset_next}
+use Rattle.x64_code.proofs.Nearby.{some_instruction}
+use Rattle.program_link.specs.Fits.{FitsProgram}
+use Rattle.program_link.specs.Routines.{RoutineView, funclet_frame, funclet, routines}
+use Rattle.program_link.specs.Near.{IsFrameNear}
+use Rattle.program_link.specs.Text.{routine_size, entry_size, routine_bytes, check_stack_at, bounds}
+use Rattle.program_link.specs.Linked.{text_begin, first, total, linked}
+use Rattle.program_link.proofs.Images.{no_routine}
+use Rattle.program_link.proofs.Bounds.{bounds_below}
+use Rattle.program_link.proofs.Entries.{routine_small}
+use Rattle.program_tables.specs.Placed.{Placed, body_begin, end_of, site_of, placed}
+use Rattle.program_tables.proofs.Labels.{template_some}
+use Rattle.program_tables.proofs.Infos.{taking_few}
+use Rattle.program_tables.proofs.Prologues.{entry_least}
+use Rattle.program_tables.proofs.Table.{text_is, end_inside}
+use Rattle.program_frames.specs.Standing.{image_base, template_at}
+use Rattle.program_frames.proofs.CodeStands.{IsThere, there, routine_length}
+use Rattle.program_shape.specs.Rows.{funclet_begin}
+use Rattle.program_shape.proofs.Placing.{bounds_rise}
+use Rattle.program_shape.proofs.Shape.{as_long, begin_is, funclet_is, funclet_size}
+use Rattle.body_states.specs.Programs.{IsInImage}
+use Rattle.image_states.specs.Plans.{functions_of, funclets_of, routine_of, address_of, plan_of, sites_of}
+use Rattle.image_states.specs.Compiled.{IsCompiled}
+use Rattle.image_states.proofs.Places.{IsBody, is_body}
+
+-- ---- what no access of the source reaches
+
+data_ends : (globals : List ℕ) → image_base + text_begin globals ≡ data_end globals
+data_ends globals = omega arith
+
+reserved : (globals : List ℕ) (a : ℕ) → image_base + text_begin globals ≤ a → a < IMAGE_RANGE_END → is_reserved globals a ≡ true
+reserved globals a le lt =
+    let e = data_ends globals in
+    let past : is_data globals a ≡ false = and_right (leb 0x140001000 a) (ltb a (data_end globals)) (le-ltb a (data_end globals) (omega arith)) in
+    or_right _ (is_between IMAGE_BASE IMAGE_RANGE_END a && not (is_data globals a))
+        (and_from (is_between IMAGE_BASE IMAGE_RANGE_END a) (not (is_data globals a))
+            (and_from (leb IMAGE_BASE a) (ltb a IMAGE_RANGE_END) (le-leb IMAGE_BASE a (omega arith)) (lt-ltb a IMAGE_RANGE_END lt))
+            (not_from_false (is_data globals a) past))
+
+-- ---- routines
+
+-- a routine ends within the text
+pub routine_end : (p : LinearProgram) (x : Placed) → FitsProgram p → IsThere (site_of p) (linked p).text (text_begin p.globals) x → end_of x ≤ first p.globals + total (routines p)
+routine_end p x fits h =
+    let long = routine_length (site_of p) x.begin x.routine h.near in
+    let l = ap length h.bytes in
+    let t = text_is p fits in
+    let here = h.here in
+    let bytes = routine_bytes (site_of p) x.begin x.routine in
+    omega (arith, length-append h.before (bytes ++ h.after), length-append bytes h.after)
+
+-- instructions one after another end with the body
+pub offset_most : (y : Layout) (body : List Instruction) (label : ℕ) → offset_of y body label ≤ body_size y body
+offset_most y [] zero = omega arith
+offset_most y [] (suc label) = omega arith
+offset_most y (i ∷ body) zero = omega arith
+offset_most y (i ∷ body) (suc label) = let l = offset_most y body label in omega arith
+
+check_stack_size : sizes check_stack ≡ 21
+unfolding size modrm
+check_stack_size = refl
+
+module _ (program : LinearProgram) (c : IsCompiled program) where
+  abbrev fits : FitsProgram program
+  fits = c.fits
+
+  abbrev pub InImage : ℕ → ℕ → Type 0
+  InImage from to = IsInImage (functions_of program) (funclets_of program) program (plan_of program) (sites_of program) from to
+
+  -- from the text's begin up to the end of the routines
+  pub in_image : (from to : ℕ) → text_begin program.globals ≤ from → to ≤ first program.globals + total (routines program) → InImage (image_base + from) (image_base + to)
+  in_image from to low high =
+      let end = end_inside program fits in
+      let small = c.small in
+      record { low = omega arith; high = omega arith; own = λ a le lt. reserved program.globals a (omega arith) (omega arith) }
+
+  pub check_stack_inside : InImage (sites_of program).check_stack ((sites_of program).check_stack + sizes check_stack)
+  check_stack_inside =
+      let long = check_stack_size in
+      let at = check_stack_at (site_of program).text in
+      let n : image_base + (at + sizes check_stack) ≡ (sites_of program).check_stack + sizes check_stack = omega arith in
+      subst (InImage (image_base + at)) n (in_image at (at + sizes check_stack) (omega arith) (omega arith))
+
+-- ---- a body
+
+module _ (program : LinearProgram) (c : IsCompiled program) (name : BodyName) (b : LinearBody) (is : body_of program name ≡ Some b) where
+  abbrev x : Placed
+  x = routine_of program name
+
+  pub place : IsBody program c.fits name b
+  place = is_body program c.fits name b is
+
+  pub here : IsThere (site_of program) (linked program).text (text_begin program.globals) x
+  here = there program place.index x c.fits place.at
+
+  -- one label after another
+  pub label_rises : (label : ℕ) → label < length x.routine.body.code → template_at x label < template_at x (label + 1)
+  label_rises label lt =
+      let next = offset_next x.routine.layout x.routine.body.code label some_instruction lt in
+      let some = template_some x.routine.layout (get_or x.routine.body.code label some_instruction) in
+      let e = ap (offset_of x.routine.layout x.routine.body.code) (let q : suc label ≡ label + 1 = omega arith in q) in
+      omega arith
+
+  -- all of them up to the body's end
+  pub label_inside : (label : ℕ) → template_at x label ≤ end_of x
+  label_inside label = let l = offset_most x.routine.layout x.routine.body.code label in omega arith
+
+  -- those of instructions before it
+  pub label_below : (label : ℕ) → label < length x.routine.body.code → template_at x label < end_of x
+  label_below label lt = let r = label_rises label lt in let l = label_inside (label + 1) in omega arith
+
+  -- the code of a body is in the image
+  pub body_inside : InImage program c (image_base + x.begin) (image_base + end_of x)
+  body_inside = let h = here in let before = h.here in in_image program c x.begin (end_of x) (omega arith) (routine_end program x c.fits here)
+
+-- a funclet has code before its body
+entry_some : (program : LinearProgram) (c : IsCompiled program) (name : BodyName) (b : LinearBody) (is : body_of program name ≡ Some b) → {fl : LinearFunclet} → (routine_of program name).routine ≡ funclet program fl → 0 < entry_size (routine_of program name).routine
+entry_some program c name b is {fl} e =
+    let h = here program c name b is in
+    let x = routine_of program name in
+    let framed : x.routine.frame ≡ Some (funclet_frame fl.body) = ap (λ (r : RoutineView). r.frame) e in
+    let size = subst IsFrameNear framed h.near.frame in
+    let least = entry_least x.routine (funclet_frame fl.body) h.near framed size.0 in
+    let few = taking_few (funclet_frame fl.body).size size.0 (let m = size.1 in omega arith) in
+    let four = few.0 in
+    omega arith
+
+-- ---- funclets begin elsewhere
+
+module _ (program : LinearProgram) (c : IsCompiled program) where
+  -- a funclet begins within the text
+  pub funclet_end : (k : ℕ) → k < length program.funclets → funclet_begin program k < first program.globals + total (routines program)
+  funclet_end k lt =
+      let fits = c.fits in
+      let long = as_long program fits in
+      let n = length program.functions + k in
+      let below = bounds_below (first program.globals) (routines program) n 0 no_routine (omega arith) in
+      let begin = begin_is program fits k in
+      let some = funclet_size program fits k lt in
+      omega arith
+
+  -- a body's instruction is at no funclet's first byte
+  pub not_first : (name : BodyName) (b : LinearBody) → body_of program name ≡ Some b → (label k : ℕ) → label < length b.code → k < length program.funclets → address_of program name label ≢ image_base + funclet_begin program k
+  not_first name b is label k lt in' e =
+      let q : address_of program name label ≡ image_base + funclet_begin program k = e in
+      let fits = c.fits in
+      let rs = routines program in
+      let x = routine_of program name in
+      let p = place program c name b is in
+      let same = ap (λ (d : LinearBody). length d.code) p.body in
+      let lt' : label < length x.routine.body.code = omega arith in
+      let below = label_below program c name b is label lt' in
+      let n = length program.functions + k in
+      let long = as_long program fits in
+      let begin = begin_is program fits k in
+      let bound = p.bound in
+      let some = funclet_size program fits k in' in
+      let size = ap (λ (r : RoutineView). routine_size r) p.own in
+      elim (cases_lt p.index n) [
+        | inl before ↦ let r = bounds_rise (first program.globals) rs p.index n 0 no_routine before (omega arith) in omega arith
+        | inr rest ↦ elim (cases_lt n p.index) [
+          | inl after ↦ let r = bounds_rise (first program.globals) rs n p.index 0 no_routine after (let low = p.below in omega arith) in omega arith
+          | inr equal ↦
+              let same' : p.index ≡ n = omega arith in
+              let at = ap (λ (i : ℕ). get_or (bounds (first program.globals) rs) i 0) same' in
+              let entry = entry_some program c name b is (p.own ∙ ap (λ (i : ℕ). get_or rs i no_routine) same' ∙ funclet_is program fits k in') in
+              omega arith
+        ]
+      ]

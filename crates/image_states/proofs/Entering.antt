@@ -1,0 +1,158 @@
+-- The code of a body, as its image has it and as the plan says.
+use Rattle.std.proofs.Common.{◌≡◌, ℕ, zero, suc, ◌+◌, ◌-◌, ◌*◌, ◌^◌, ◌<◌, ◌≤◌, ◌==◌, Bool, true, false, not, leb, List, [], ◌∷◌, ◌++◌, length, get_or, Option, Some, None, refl, sym, ap, subst, ◌∙◌, arith}
+use Rattle.std.specs.Prelude.{slice_get, ◌&&◌}
+use Rattle.std.specs.List.{AllByRecursion}
+use Rattle.std.proofs.lemmas.Option.{slice_get_within, get_or_from_slice_get, slice_get-get_or}
+use Rattle.seh_num.specs.declared.width.Width.TheVariants.{W32, W64}
+use Rattle.x64_instr.specs.declared.register.Reg.TheVariants.{Rax, Rsp}
+use Rattle.x64_instr.specs.declared.operand.RegisterOrMemory.TheVariants as places
+use Rattle.x64_instr.specs.declared.operand.Operand.TheVariants as operands
+use Rattle.x64_instr.specs.declared.instruction.Operation.TheVariants as arithmetic
+use Rattle.x64_instr.specs.declared.instruction.Instr.{Instr}
+use Rattle.x64_instr.specs.declared.instruction.Instr.TheVariants as instrs
+use Rattle.linear_code.specs.declared.instruction.Instruction.{Instruction}
+use Rattle.linear_code.specs.declared.program.FuncletKind.{FuncletKind}
+use Rattle.linear_code.specs.declared.program.FuncletKind.TheVariants.{Filter, Finally}
+use Rattle.linear_code.specs.Program.{LinearBody, LinearFunction, LinearFunclet, LinearProgram}
+use Rattle.linear_machine.specs.Frames.{BodyName, FunctionBody, FuncletBody, function_body, funclet_body, body_of}
+use Rattle.frame_rules.specs.Plan.{allocating}
+use Rattle.frame_layout.specs.declared.frame.Frame.{Frame}
+use Rattle.frame_layout.proofs.Sizes.{code_is}
+use Rattle.template_code.specs.declared.layout.Layout.{Layout}
+use Rattle.template_code.specs.Jumps.{distance}
+use Rattle.template_code.specs.Calls.{parameters_code}
+use Rattle.template_code.specs.Template.{Links, template_size, body_size, offset_of, code_from}
+use Rattle.x64_code.specs.Bodies.{label_list}
+use Rattle.x64_code.specs.Linking.{address_or}
+use Rattle.x64_code.specs.Entries as link_entries
+use Rattle.x64_code.proofs.Nearby.{all_at}
+use Rattle.program_link.specs.Fits.{FitsFunclet, FitsProgram}
+use Rattle.program_link.specs.Near.{IsFrameNear}
+use Rattle.program_link.specs.Routines.{RoutineView, leaf_if, funclet_frame, nothing, kept_by, HasParent, entry_of, funclet}
+use Rattle.program_link.specs.Routines as link
+use Rattle.program_link.specs.Text.{argument_code, entry_size, check_stack_at, own_addresses, routine_code}
+use Rattle.program_link.specs.Text as texts
+use Rattle.program_link.specs.Linked.{text_begin, linked}
+use Rattle.program_link.proofs.Entries.{entry_small, routine_small}
+use Rattle.program_tables.specs.Placed.{Placed, body_begin, end_of, site_of, placed}
+use Rattle.program_tables.proofs.Lookups.{some_same, none_some}
+use Rattle.program_frames.specs.Standing.{image_base, template_at, links}
+use Rattle.program_frames.proofs.CodeStands.{IsThere}
+use Rattle.program_frames.proofs.Layouts.{size_of, IsSized, sized}
+use Rattle.body_states.specs.Sites.{links_of, begin_of, making, frame_code, base_in, parent_base, keep_base, keep_argument, function_arguments, funclet_arguments, arguments_code, entry_code, code_of}
+use Rattle.image_states.specs.Plans.{is_leaf, routine_of, address_of, plan_of, sites_of}
+use Rattle.image_states.specs.Compiled.{IsCompiled}
+use Rattle.image_states.proofs.Places.{IsBody, is_function, is_funclet}
+use Rattle.image_states.proofs.Addresses.{place, here}
+use Rattle.image_states.proofs.Shifts.{AreMoved, call_moved, code_moved}
+
+-- ---- frames
+
+making_same : (n at check at' check' : ℕ) (small : Bool) → at' ≡ image_base + at → check' ≡ image_base + check → at + 10 < 2 ^ 48 → making n at' check' small ≡ allocating (distance (at + 10) check) n small
+making_same n at check at' check' true e f lt = refl
+making_same n at check at' check' false e f lt =
+    ap (λ (i : Instr). instrs.Move W32 (places.Register Rax) (operands.Immediate n) ∷ i ∷ instrs.Arithmetic arithmetic.Sub W64 (places.Register Rsp) (operands.Register Rax) ∷ [])
+    (call_moved image_base (omega arith) (at + 10) check (at' + 10) check' (omega arith) f (omega arith))
+
+frame_same : (o : Option Frame) (size at check at' check' : ℕ) → size ≡ size_of o → IsFrameNear o → at' ≡ image_base + at → check' ≡ image_base + check → at + 10 < 2 ^ 48 → frame_code size at' check' (is_leaf o) ≡ texts.frame_code at check o
+frame_same None size at check at' check' s near e f lt = refl
+frame_same (Some g) size at check at' check' s near e f lt =
+    ap (λ (n : ℕ). making n at' check' (leb n 4096)) s
+    ∙ making_same g.size at check at' check' (leb g.size 4096) e f lt
+    ∙ sym (code_is (distance (at + 10) check) g.size near.0)
+
+-- ---- arguments
+
+function_same : (leaf : Bool) (fn : LinearFunction) → parameters_code (leaf_if leaf fn).layout 0 fn.parameters ≡ argument_code (leaf_if leaf fn).layout (leaf_if leaf fn).entry
+function_same true fn = refl
+function_same false fn = refl
+
+base_same : (parent : Option ℕ) (b : ℕ) → keep_base parent b ≡ link_entries.keep_base parent b
+base_same None b = refl
+base_same (Some p) b = refl
+
+kind_same : (y : Layout) (k : FuncletKind) (parent : Option ℕ) (slot : ℕ) → y.base ≡ Some slot → keep_base parent slot ++ keep_argument y k ≡ argument_code y (entry_of k parent)
+kind_same y Filter parent slot e = (λ i. base_same parent slot i ++ keep_argument y Filter) ∙ ap (λ (o : Option ℕ). link_entries.keep_base parent (texts.base_of y o) ++ keep_argument y Filter) (sym e)
+kind_same y (Finally flag) parent slot e = (λ i. base_same parent slot i ++ keep_argument y (Finally flag)) ∙ ap (λ (o : Option ℕ). link_entries.keep_base parent (texts.base_of y o) ++ keep_argument y (Finally flag)) (sym e)
+
+module _ (program : LinearProgram) (c : IsCompiled program) where
+  parent_is : (parent : Option ℕ) → HasParent program parent → parent_base (plan_of program) parent ≡ kept_by program parent
+  parent_is None h = refl
+  parent_is (Some k) h =
+      let d : LinearFunclet = record { kind = Filter; function = 0; parent = None; body = nothing } in
+      let g = is_funclet program c.fits k (get_or program.funclets k d) (slice_get-get_or program.funclets k d h) in
+      ap (λ (r : RoutineView). r.layout.base) g.routine
+
+  funclet_same : (k : ℕ) (fl : LinearFunclet) → slice_get program.funclets k ≡ Some fl → funclet_arguments (plan_of program) (routine_of program (FuncletBody k)).routine.layout (Some fl) ≡ argument_code (routine_of program (FuncletBody k)).routine.layout (routine_of program (FuncletBody k)).routine.entry
+  funclet_same k fl e =
+      let g = is_funclet program c.fits k fl e in
+      let lt = slice_get_within program.funclets k fl e in
+      let fit = subst (FitsFunclet program) (get_or_from_slice_get program.funclets k fl fl e) (all_at (FitsFunclet program) program.funclets k fl c.fits.funclets lt) in
+      let own : (r : RoutineView) → r ≡ funclet program fl → funclet_arguments (plan_of program) r.layout (Some fl) ≡ argument_code r.layout r.entry =
+          λ r same. subst (λ (q : RoutineView). funclet_arguments (plan_of program) q.layout (Some fl) ≡ argument_code q.layout q.entry) (sym same)
+              (ap (λ (o : Option ℕ). keep_base o (funclet_frame fl.body).kept ++ keep_argument (funclet program fl).layout fl.kind) (parent_is fl.parent fit.parent)
+              ∙ kind_same (funclet program fl).layout fl.kind (kept_by program fl.parent) (funclet_frame fl.body).kept refl) in
+      own (routine_of program (FuncletBody k)).routine g.routine
+
+  arguments_by_function : (f : ℕ) (o : Option LinearFunction) (b : LinearBody) → slice_get program.functions f ≡ o → function_body o ≡ Some b → function_arguments (routine_of program (FunctionBody f)).routine.layout o ≡ argument_code (routine_of program (FunctionBody f)).routine.layout (routine_of program (FunctionBody f)).routine.entry
+  arguments_by_function f None b e h = absurd (none_some h)
+  arguments_by_function f (Some fn) b e h =
+      let g = is_function program c.fits f fn e in
+      let leaf = not (f == program.main) && link.is_leaf fn.body in
+      subst (λ (r : RoutineView). parameters_code r.layout 0 fn.parameters ≡ argument_code r.layout r.entry) (sym g.routine) (function_same leaf fn)
+
+  arguments_by_funclet : (k : ℕ) (o : Option LinearFunclet) (b : LinearBody) → slice_get program.funclets k ≡ o → funclet_body o ≡ Some b → funclet_arguments (plan_of program) (routine_of program (FuncletBody k)).routine.layout o ≡ argument_code (routine_of program (FuncletBody k)).routine.layout (routine_of program (FuncletBody k)).routine.entry
+  arguments_by_funclet k None b e h = absurd (none_some h)
+  arguments_by_funclet k (Some fl) b e h = funclet_same k fl e
+
+  arguments_same : (name : BodyName) (b : LinearBody) → body_of program name ≡ Some b → arguments_code program (plan_of program) name ≡ argument_code (routine_of program name).routine.layout (routine_of program name).routine.entry
+  arguments_same (FunctionBody f) b h = arguments_by_function f (slice_get program.functions f) b refl h
+  arguments_same (FuncletBody k) b h = arguments_by_funclet k (slice_get program.funclets k) b refl h
+
+-- ---- labels
+
+pub label_is : (y : Layout) (at : ℕ) (body : List Instruction) (l end : ℕ) → end ≡ at + body_size y body → address_or (label_list y at body) l end ≡ at + offset_of y body l
+label_is y at [] zero end e = omega arith
+label_is y at [] (suc l) end e = omega arith
+label_is y at (i ∷ body) zero end e = omega arith
+label_is y at (i ∷ body) (suc l) end e = let r = label_is y (at + template_size y i) body l end (omega arith) in omega arith
+
+-- ---- all of it
+
+module _ (program : LinearProgram) (c : IsCompiled program) (name : BodyName) (b : LinearBody) (is : body_of program name ≡ Some b) where
+  abbrev x : Placed
+  x = routine_of program name
+
+  abbrev check : ℕ
+  check = check_stack_at (site_of program).text
+
+  h : IsThere (site_of program) (linked program).text (text_begin program.globals) x
+  h = here program c name b is
+
+  pub entry_same : entry_code program (plan_of program) (sites_of program) name ≡ texts.entry_code x.begin check x.routine
+  entry_same =
+      let p = place program c name b is in
+      let room = h.room in
+      let size = sized program p.index x p.at in
+      (λ i. frame_same x.routine.frame x.routine.layout.frame x.begin check (begin_of (plan_of program) (sites_of program) name) (sites_of program).check_stack size h.near.frame p.begin refl (omega arith) i ++ arguments_same program c name b is i)
+
+  pub moved : AreMoved image_base (links program x) (links_of (plan_of program) (sites_of program) name)
+  moved = record {
+    label = λ l. (let e = label_is x.routine.layout (body_begin x) x.routine.body.code l (own_addresses x.begin x.routine).end (omega arith) in omega arith);
+    function = λ f. refl;
+    known = λ f. refl;
+    funclet = λ f. refl;
+    local_unwind = refl;
+  }
+
+  -- its code is the routine's
+  pub code_same : code_of program (plan_of program) (sites_of program) name b ≡ routine_code (site_of program) x.begin x.routine
+  code_same =
+      let p = place program c name b is in
+      let room = h.room in
+      let y = x.routine.layout in
+      let k = links_of (plan_of program) (sites_of program) name in
+      let at : address_of program name 0 ≡ image_base + body_begin x = omega arith in
+      let entry = entry_small x.routine h.near in
+      ap (λ (d : LinearBody). entry_code program (plan_of program) (sites_of program) name ++ code_from k y (address_of program name 0) d.code) (sym p.body)
+      ∙ (λ i. entry_same i ++ code_moved image_base (omega arith) (links program x) k y (body_begin x) (address_of program name 0) x.routine.body.code moved at (omega arith) h.near.code i)

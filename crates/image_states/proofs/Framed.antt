@@ -1,0 +1,125 @@
+-- The frames of bodies that wait.
+use Rattle.std.proofs.Common.{◌≡◌, ℕ, ◌+◌, ◌-◌, ◌^◌, ◌<◌, ◌≤◌, Bool, true, false, List, [], ◌∷◌, ◌++◌, length, Option, Some, None, Ok, refl, sym, ap, subst, ◌∙◌, arith}
+use Rattle.std.specs.Prelude.{slice_get}
+use Rattle.std.proofs.lemmas.Bool.{false≢true}
+use Rattle.flat_memory.specs.Memory.{Memory}
+use Rattle.x64_instr.specs.declared.instruction.Instr.{Instr}
+use Rattle.x64_machine.specs.declared.context.Context.{Context}
+use Rattle.eh_tables.specs.declared.code.UnwindOperation.TheVariants.{Allocate}
+use Rattle.eh_tables.specs.declared.code.UnwindCode.{UnwindCode}
+use Rattle.virtual_unwind.specs.Contexts.{rsp}
+use Rattle.virtual_unwind.specs.Undone.{word}
+use Rattle.raw_stack.specs.Stack.{StackFrame, FrameStands, LeafStands}
+use Rattle.frame_rules.specs.Bytes.{Stands}
+use Rattle.linear_code.specs.declared.instruction.Instruction.{Instruction}
+use Rattle.linear_code.specs.declared.instruction.Instruction.TheVariants as instructions
+use Rattle.linear_code.specs.Program.{LinearBody, LinearProgram}
+use Rattle.linear_machine.specs.Frames.{BodyName, body_of}
+use Rattle.frame_layout.specs.declared.frame.Frame.{Frame}
+use Rattle.frame_layout.specs.Layout.{taking_size}
+use Rattle.template_code.specs.Bytes.{spelled, sizes}
+use Rattle.x64_templates.specs.Placed.{IsCodeAt}
+use Rattle.x64_templates.specs.Quiet as quiet
+use Rattle.program_link.specs.Text.{routine_code}
+use Rattle.program_link.proofs.Entries.{routine_small}
+use Rattle.x64_code.specs.Near.{IsInstructionNear}
+use Rattle.program_tables.specs.Placed.{Placed, site_of, placed}
+use Rattle.program_tables.specs.Entries as tables
+use Rattle.program_frames.specs.Standing.{image_base, template_at, links, IsReturn, IsInBody}
+use Rattle.program_frames.specs.Laws.{stack_frame}
+use Rattle.program_frames.proofs.Layouts.{size_of, sized}
+use Rattle.program_frames.proofs.Waiting.{near_at, frame_stands, leaves_stand}
+use Rattle.body_states.specs.Programs.{frame_with, HasProgram, IsResumed, IsFramed, FramesStand, HasAllocation, LeavesStand}
+use Rattle.body_states.specs.Sites.{links_of}
+use Rattle.image_states.specs.Plans.{functions_of, funclets_of, is_leaf, or_none, routine_of, address_of, plan_of, sites_of}
+use Rattle.image_states.specs.Compiled.{IsCompiled}
+use Rattle.image_states.proofs.Places.{IsBody}
+use Rattle.image_states.proofs.Addresses.{place, here, label_inside}
+use Rattle.image_states.proofs.Entering.{moved, code_same}
+use Rattle.image_states.proofs.Shifts.{template_moved}
+
+-- ---- code that may not be written stands
+
+pub stands_of : (m : Memory) (at : ℕ) (bytes : List ℕ) → IsCodeAt m at bytes → Stands m at bytes
+stands_of m at [] h = tt
+stands_of m at (b ∷ bytes) h = (h.0, h.1, stands_of m (at + 1) bytes h.3)
+
+returns : (i : Instruction) → IsReturn i → quiet.IsReturn i
+returns (instructions.Return from) h = tt
+returns i h = absurd h
+
+-- ---- frames
+
+framed_of : (o : Option Frame) → is_leaf o ≡ false → (f : Frame) × (o ≡ Some f)
+framed_of (Some f) e = (f, refl)
+framed_of None e = absurd (false≢true (sym e))
+
+leaf_of : (o : Option Frame) → is_leaf o ≡ true → o ≡ None
+leaf_of (Some f) e = absurd (false≢true e)
+leaf_of None e = refl
+
+same_size : (o : Option Frame) → (or_none o).size ≡ size_of o
+same_size (Some f) = refl
+same_size None = refl
+
+module _ (program : LinearProgram) (c : IsCompiled program) where
+  -- where a body waits is in its routine
+  in_body : (name : BodyName) (b : LinearBody) (is : body_of program name ≡ Some b) (label rip : ℕ) → (r : IsResumed (functions_of program) (funclets_of program) program (plan_of program) (sites_of program) name b label rip)
+      → IsInBody program (routine_of program name) (template_at (routine_of program name) label + sizes r.done)
+  in_body name b is label rip r =
+      let p = place program c name b is in
+      let h = here program c name b is in
+      let x = routine_of program name in
+      let at : slice_get x.routine.body.code label ≡ Some r.instruction = ap (λ (d : LinearBody). slice_get d.code label) p.body ∙ r.there in
+      let near = near_at (IsInstructionNear x.routine.layout) x.routine.body.code label r.instruction h.near.code at in
+      let inside = label_inside program c name b is label in
+      let room = h.room in
+      let small = routine_small x.routine h.near in
+      record {
+        number = label;
+        instruction = r.instruction;
+        there = at;
+        goes_on = λ z. r.goes_on (returns r.instruction z);
+        done = r.done;
+        item = r.item;
+        left = r.left;
+        parts = sym (template_moved image_base (omega arith) (links program x) (links_of (plan_of program) (sites_of program) name) x.routine.layout (template_at x label) (address_of program name label) r.instruction (moved program c name b is) refl (omega arith) near) ∙ r.parts;
+        here = refl;
+      }
+
+  code_there : (name : BodyName) (b : LinearBody) (is : body_of program name ≡ Some b) (m : Memory) → HasProgram (functions_of program) (funclets_of program) program (plan_of program) (sites_of program) m
+      → Stands m (image_base + (routine_of program name).begin) (spelled (routine_code (site_of program) (routine_of program name).begin (routine_of program name).routine))
+  code_there name b is m has =
+      let p = place program c name b is in
+      let x = routine_of program name in
+      let code = stands_of m _ _ (has.code name b is).stands in
+      subst (λ (n : ℕ). Stands m n (spelled (routine_code (site_of program) x.begin x.routine))) p.begin (subst (λ (q : List Instr). Stands m _ (spelled q)) (code_same program c name b is) code)
+
+  pub frames_stand : FramesStand (functions_of program) (funclets_of program) program (plan_of program) (sites_of program)
+  frames_stand m name b label k back is framed has r kept room returns =
+      let p = place program c name b is in
+      let x = routine_of program name in
+      let f = framed_of x.routine.frame framed in
+      let size : x.routine.layout.frame ≡ f.0.size = sized program p.index x p.at ∙ ap size_of f.1 in
+      let rva = template_at x label + sizes r.done in
+      let here' : k.rip ≡ image_base + rva = r.here ∙ (let q : image_base + template_at x label + sizes r.done ≡ image_base + rva = omega arith in q) in
+      let s = frame_stands program m p.index x f.0 k rva back c.fits c.regions p.at f.1 (code_there name b is m has) (in_body name b is label k.rip r) here' kept (subst (λ (n : ℕ). rsp k + n + 8 < 2 ^ 64) size room) (subst (λ (n : ℕ). word m (rsp k + n) ≡ Ok back) size returns) in
+      let same : stack_frame program x f.0 back ≡ frame_with (tables.entry_of (site_of program) x (or_none x.routine.frame)) x.routine.layout.frame (taking_size f.0.size) back =
+          λ i. frame_with (tables.entry_of (site_of program) x (or_none (sym f.1 i))) (sym size i) (taking_size f.0.size) back in
+      record { offset = taking_size f.0.size; stands = subst (FrameStands (functions_of program) m k) same s }
+
+  pub leaves_stand' : LeavesStand (functions_of program) (funclets_of program) program (plan_of program) (sites_of program)
+  leaves_stand' m name b label k back is leaf r kept room returns =
+      let p = place program c name b is in
+      let x = routine_of program name in
+      let rva = template_at x label + sizes r.done in
+      let here' : k.rip ≡ image_base + rva = r.here ∙ (let q : image_base + template_at x label + sizes r.done ≡ image_base + rva = omega arith in q) in
+      leaves_stand program m p.index x k rva back c.fits c.regions p.at (leaf_of x.routine.frame leaf) (record { body = in_body name b is label k.rip r; here = here'; kept = kept; room = room; returns = returns })
+
+  pub allocation : (name : BodyName) (b : LinearBody) → body_of program name ≡ Some b → HasAllocation (functions_of program) (funclets_of program) program (plan_of program) (sites_of program) name
+  allocation name b is =
+      let p = place program c name b is in
+      let x = routine_of program name in
+      let size : (or_none x.routine.frame).size ≡ x.routine.layout.frame = same_size x.routine.frame ∙ sym (sized program p.index x p.at) in
+      let code : ℕ → UnwindCode = λ n. record { offset = taking_size (or_none x.routine.frame).size; operation = Allocate n } in
+      record { offset = taking_size (or_none x.routine.frame).size; codes = ap (λ (n : ℕ). code n ∷ []) size }

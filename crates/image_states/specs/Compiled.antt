@@ -1,0 +1,33 @@
+-- Linear programs whose image is what they mean.
+use Rattle.std.specs.Prelude.{◌≡◌, ℕ, ◌+◌, ◌^◌, ◌<◌, ◌≤◌, ◌⊎◌, false, List, [], ◌∷◌, length, slice_get, Some}
+use Rattle.pe_write.specs.Program.{sizes_of, end_at}
+use Rattle.linear_code.specs.Program.{LinearBody, LinearFunclet, LinearProgram}
+use Rattle.linear_machine.specs.Frames.{FunctionBody, body_of}
+use Rattle.ir_typed.specs.Bodies.{IsWhole}
+use Rattle.program_link.specs.Fits.{FitsProgram}
+use Rattle.program_link.specs.Routines.{is_leaf}
+use Rattle.program_link.specs.Linked.{linked}
+use Rattle.program_tables.specs.Ranges.{HasRegions}
+use Rattle.program_shape.specs.Rows.{named, regions, NamesFunclets}
+
+abbrev pub IsIn : ℕ → List ℕ → Type 0
+IsIn k [] = ⊥
+IsIn k (x ∷ xs) = (k ≡ x) ⊎ IsIn k xs
+
+-- a funclet's function has a frame, which has the locals that the funclet works on; its own is below a page
+pub record IsFuncletSized (program : LinearProgram) (f : LinearFunclet) : Type 0 where
+  pub function : LinearBody
+  pub there : body_of program (FunctionBody f.function) ≡ Some function
+  pub framed : is_leaf function ≡ false
+  pub locals : f.body.locals ≡ function.locals
+  pub words : f.body.passed + f.body.temporaries ≤ 500
+
+-- it can be linked, into an image of at most 256 MiB; its regions are ranges, which name each funclet once
+pub record IsCompiled (program : LinearProgram) : Type 0 where
+  pub fits : FitsProgram program
+  pub small : end_at (sizes_of (linked program)) ≤ 2 ^ 28
+  pub regions : HasRegions program
+  pub names : NamesFunclets program
+  pub all_named : (k : ℕ) → k < length program.funclets → IsIn k (named (regions program))
+  pub whole : IsWhole program
+  pub funclets : (k : ℕ) (f : LinearFunclet) → slice_get program.funclets k ≡ Some f → IsFuncletSized program f

@@ -1,0 +1,139 @@
+-- Where the image of a linked program has the code of its bodies.
+use Rattle.std.specs.Prelude.{ℕ, ◌+◌, Bool, true, false, ◌&&◌, ◌==◌, nat_lt, List, [], length, take, drop, slice_get, Option, Some, None}
+use Rattle.seh_num.specs.Widths.{low}
+use Rattle.x64_instr.specs.declared.register.Reg.TheVariants.{Rax, Rcx}
+use Rattle.x64_machine.specs.declared.cpu.Cpu.{Cpu}
+use Rattle.x64_machine.specs.Effect.{register}
+use Rattle.eh_tables.specs.Tables.{Entry}
+use Rattle.virtual_unwind.specs.CallerOf.{Functions}
+use Rattle.host_model.specs.declared.funclet.Funclet.{Funclet}
+use Rattle.host_model.specs.Funclets.{funclets}
+use Rattle.host_model.specs.Machine.{functions_in}
+use Rattle.pe_write.specs.Program.{image_of}
+use Rattle.c_operations.specs.declared.operation.Operation.{Operation}
+use Rattle.c_operations.specs.declared.operation.Operation.TheVariants as operations
+use Rattle.c_operations.specs.declared.built_in.BuiltIn.TheVariants.{RaiseException}
+use Rattle.c_operations.specs.Numbers.{width}
+use Rattle.linear_code.specs.declared.slot.Slot.TheVariants.{Temporary}
+use Rattle.linear_code.specs.declared.instruction.Instruction.{Instruction}
+use Rattle.linear_code.specs.declared.instruction.Instruction.TheVariants as instructions
+use Rattle.linear_code.specs.Program.{LinearProgram}
+use Rattle.linear_machine.specs.Frames as linear
+use Rattle.linear_machine.specs.Frames.{BodyName, FunctionBody, FuncletBody, body_of, Resumption, AfterCall, SameOperation}
+use Rattle.linear_machine.specs.Run.{instruction_in}
+use Rattle.frame_layout.specs.declared.frame.Frame.{Frame}
+use Rattle.template_code.specs.declared.layout.Layout.{Layout}
+use Rattle.template_code.specs.Bytes.{sizes}
+use Rattle.template_code.specs.Slots.{operands_code}
+use Rattle.template_code.specs.Calls.{return_at}
+use Rattle.x64_templates.specs.Straight.{MachineView}
+use Rattle.x64_templates.specs.Implements.{high_of}
+use Rattle.x64_code.specs.Linking.{address_or, thunk_of}
+use Rattle.program_link.specs.declared.routine.Entry.TheVariants as entries
+use Rattle.program_link.specs.Routines.{RoutineView, nothing}
+use Rattle.program_link.specs.Text.{thunks_at, check_stack_at}
+use Rattle.program_link.specs.Linked.{linked}
+use Rattle.program_tables.specs.Placed.{Placed, site_of, placed}
+use Rattle.program_tables.specs.Entries as tables
+use Rattle.program_frames.specs.Standing.{image_base, template_at}
+use Rattle.program_shape.specs.Rows.{funclet_begin}
+use Rattle.linked_stack.specs.ImagePlan.{Plan}
+use Rattle.body_states.specs.Sites.{Sites}
+use Rattle.body_states.specs.Programs.{view_of}
+
+-- ---- the function table, and the funclets that it names
+
+abbrev pub functions_of : LinearProgram → Functions
+functions_of program = functions_in (image_of (linked program))
+
+abbrev pub funclets_of : LinearProgram → List Funclet
+funclets_of program = funclets (tables.entries program)
+
+-- ---- the routine of a body
+
+abbrev pub no_layout : Layout
+no_layout = record { base = None; pointers = 0; locals = 0; temporaries = 0; frame = 0 }
+
+abbrev pub nowhere : Placed
+nowhere = record { routine = record { entry = entries.Function 0; frame = None; layout = no_layout; body = nothing }; begin = 0; info = 0 }
+
+abbrev pub or_nowhere : Option Placed → Placed
+or_nowhere (Some x) = x
+or_nowhere None = nowhere
+
+-- the functions come first
+abbrev pub routine_if : LinearProgram → BodyName → Option Placed
+routine_if program (FunctionBody f) = slice_get (take (length program.functions) (placed program)) f
+routine_if program (FuncletBody k) = slice_get (drop (length program.functions) (placed program)) k
+
+abbrev pub routine_of : LinearProgram → BodyName → Placed
+routine_of program name = or_nowhere (routine_if program name)
+
+-- ---- frames
+
+abbrev pub is_leaf : Option Frame → Bool
+is_leaf (Some f) = false
+is_leaf None = true
+
+abbrev pub no_frame : Frame
+no_frame = record { kept = 0; temporaries = 0; locals = 0; size = 0 }
+
+abbrev pub or_none : Option Frame → Frame
+or_none (Some f) = f
+or_none None = no_frame
+
+-- ---- where a body that was stopped by an exception goes on
+
+abbrev pub is_some : Option ℕ → ℕ → Bool
+is_some None v = false
+is_some (Some w) v = w == v
+
+-- a dividend's upper half is its sign
+abbrev pub is_ready : Operation → MachineView → Bool
+is_ready (operations.Divide s z) v = low (width z) v.rdx == high_of s (width z) v.rax
+is_ready (operations.Remainder s z) v = low (width z) v.rdx == high_of s (width z) v.rax
+is_ready o v = true
+
+-- after a call of RaiseException, by the address of the call's code
+abbrev pub returns_there : Layout → ℕ → Cpu → Option Instruction → Bool
+returns_there y at saved (Some (instructions.CallBuiltIn RaiseException first)) = (saved.rip == return_at y first (at + 5)) && (register saved Rax == 0)
+returns_there y at saved i = false
+
+-- at the machine instruction that faulted, with both operands in their registers
+abbrev pub works_again : Layout → ℕ → List ℕ → Cpu → Option Instruction → Bool
+works_again y at temporaries saved (Some (instructions.Compute to o (Temporary first) (Temporary second))) =
+    (saved.rip == at + sizes (operands_code y o (Temporary first) (Temporary second)))
+    && (is_some (slice_get temporaries first) (register saved Rax) && (is_some (slice_get temporaries second) (register saved Rcx) && is_ready o (view_of saved)))
+works_again y at temporaries saved i = false
+
+abbrev pub resumes_by : Layout → ℕ → List ℕ → Cpu → Option Instruction → Resumption → Bool
+resumes_by y at temporaries saved i AfterCall = returns_there y at saved i
+resumes_by y at temporaries saved i SameOperation = works_again y at temporaries saved i
+
+abbrev pub address_of : LinearProgram → BodyName → ℕ → ℕ
+address_of program name label = image_base + template_at (routine_of program name) label
+
+abbrev pub resumes : LinearProgram → Resumption → linear.Frame → Cpu → Bool
+resumes program resumption b saved =
+    resumes_by (routine_of program b.body).routine.layout (address_of program b.body b.next) b.temporaries saved (instruction_in (body_of program b.body) b.next) resumption
+
+-- ---- the plan
+
+abbrev pub plan_of : LinearProgram → Plan
+plan_of program = record {
+  address = address_of program;
+  funclet = λ k. image_base + funclet_begin program k;
+  leaf = λ name. is_leaf (routine_of program name).routine.frame;
+  entry = λ name. tables.entry_of (site_of program) (routine_of program name) (or_none (routine_of program name).routine.frame);
+  layout = λ name. (routine_of program name).routine.layout;
+  lands = λ name label. nat_lt label (length (routine_of program name).routine.body.code);
+  resumes = resumes program;
+}
+
+abbrev pub sites_of : LinearProgram → Sites
+sites_of program = record {
+  function = λ f. image_base + address_or (site_of program).functions f 0;
+  thunk = λ f. image_base + thunk_of (thunks_at (site_of program).text) f;
+  local_unwind = image_base + (thunks_at (site_of program).text).local_unwind;
+  check_stack = image_base + check_stack_at (site_of program).text;
+}
