@@ -44,16 +44,22 @@ module _ (program : LinearProgram) (i : Instruction) (marks : Marks) (c : Config
     seen = g (exec program 0) ∙ sym (e (exec program 0));
   }
   both_alike (Move d zs r e g) = record {
-    forth = λ d' t. (over d zs, record {
-      one = t;
-      other = g;
-      alike = subst (λ z. AreAlike (next_marks program i c z marks) z (over d zs)) (alike_is_same d d' (λ next. sym (e next) ∙ t next)) (over_alike (next_marks program i c d marks) d zs r);
-    });
-    back = λ d' t. (d, record {
-      one = e;
-      other = t;
-      alike = subst (λ z. AreAlike (next_marks program i c d marks) d z) (alike_is_same (over d zs) d' (λ next. sym (g next) ∙ t next)) (over_alike (next_marks program i c d marks) d zs r);
-    });
+    forth = λ d' t. (
+      over d zs,
+      record {
+        one = t;
+        other = g;
+        alike = subst (λ z. AreAlike (next_marks program i c z marks) z (over d zs)) (alike_is_same d d' (λ next. sym (e next) ∙ t next)) (over_alike (next_marks program i c d marks) d zs r);
+      },
+    );
+    back = λ d' t. (
+      d,
+      record {
+        one = e;
+        other = t;
+        alike = subst (λ z. AreAlike (next_marks program i c d marks) d z) (alike_is_same (over d zs) d' (λ next. sym (g next) ∙ t next)) (over_alike (next_marks program i c d marks) d zs r);
+      },
+    );
     end = λ seen t. absurd (ends_or_moves (λ next. act program i next c) seen d t e);
     back_end = λ seen t. absurd (ends_or_moves (λ next. act program i next (over c ys)) seen (over d zs) t g);
     seen = g (exec program 0) ∙ sym (e (exec program 0));
@@ -71,7 +77,7 @@ calls_are_alike program marks c d f first count function arguments values a e g 
     let ys = d.store.activations in
     let x = called c d f first function arguments values in
     let same : called_with c (over c ys) f first function arguments values ≡ called_with c d f first function arguments values =
-        ap (λ z. called_with c z f first function arguments values) (is_over marks c d a) in
+    ap (λ z. called_with c z f first function arguments values) (is_over marks c d a) in
     subst (λ z. AreAlike (next_marks program (instructions.Call f first count) c x marks) x z) same (record {
       frame = ap (λ k. record x.frame { activation = k }) (as_long marks c.store.activations ys a.activations);
       below = refl;

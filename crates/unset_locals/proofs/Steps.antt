@@ -86,7 +86,7 @@ module _ (program : LinearProgram) (marks : Marks) (before : List Event) where
 
   tested_both : (c : Configuration) (ys : List (List ℕ)) (slot : Slot) (label v : ℕ) → Adds before c.events → Alive marks c.store.activations ys
       → Both (After program marks before) (λ next. pick (nat_eq v 0) (next (at_label label (tested slot c))) (next (forth (tested slot c))))
-        (λ next. pick (nat_eq v 0) (next (at_label label (tested slot (over c ys)))) (next (forth (tested slot (over c ys)))))
+      (λ next. pick (nat_eq v 0) (next (at_label label (tested slot (over c ys)))) (next (forth (tested slot (over c ys)))))
   tested_both c ys (Local x) label v a h = both_ways c ys label v a h
   tested_both c ys (Temporary i) label v a h = both_ways (with_last (take i c.frame.temporaries) c) ys label v a h
 
@@ -118,17 +118,17 @@ module _ (program : LinearProgram) (marks : Marks) (c : Configuration) (ys : Lis
       let k = c.store.activations in
       let rest = function.body.locals - function.parameters in
       let locals : AreLocalsAlike (replicate (length arguments) true ++ replicate rest false) (arguments ++ zs) (arguments ++ values) =
-          begun_alike arguments zs values rest (length-replicate rest 0) n in
+      begun_alike arguments zs values rest (length-replicate rest 0) n in
       let made : AreActivationsAlike (marks ++ first_marks count function ∷ []) (k ++ (arguments ++ zs) ∷ []) (ys ++ (arguments ++ values) ∷ []) =
-          one_more marks k ys (first_marks count function) (arguments ++ zs) (arguments ++ values) h
-          (subst (λ j. AreLocalsAlike (replicate j true ++ replicate rest false) (arguments ++ zs) (arguments ++ values)) (last_count c.frame.temporaries first count arguments e) locals) in
+      one_more marks k ys (first_marks count function) (arguments ++ zs) (arguments ++ values) h
+      (subst (λ j. AreLocalsAlike (replicate j true ++ replicate rest false) (arguments ++ zs) (arguments ++ values)) (last_count c.frame.temporaries first count arguments e) locals) in
       subst (λ b. AreActivationsAlike (with_mark (flag_set program b (FunctionBody f)) (length k) (marks_left program (instructions.Call f first count) d marks)) (k ++ (arguments ++ zs) ∷ []) (ys ++ (arguments ++ values) ∷ []))
       (sym (quiet_events c.events c.events (adds_none c.events)))
       (subst (λ (o : Option LinearFunction). AreActivationsAlike (elim o [ Some function ↦ marks ++ first_marks count function ∷ [] | None ↦ marks ]) (k ++ (arguments ++ zs) ∷ []) (ys ++ (arguments ++ values) ∷ [])) (sym g) made)
 
   call_both : (f first count : ℕ) (function : LinearFunction) (arguments : List ℕ) → last_temporaries c.frame.temporaries first count ≡ Some arguments → slice_get program.functions f ≡ Some function
       → Both (Led (instructions.Call f first count)) (λ next. next (begin_function f function arguments c.frame.held (Waits (waiting c first).frame ∷ c.below) c.store c.events))
-        (λ next. next (begin_function f function arguments c.frame.held (Waits (waiting c first).frame ∷ c.below) (over_store c.store ys) c.events))
+      (λ next. next (begin_function f function arguments c.frame.held (Waits (waiting c first).frame ∷ c.below) (over_store c.store ys) c.events))
   call_both f first count function arguments e g =
       let below : List Item = Waits (waiting c first).frame ∷ c.below in
       let zs = zeros function in
@@ -171,7 +171,7 @@ module _ (program : LinearProgram) (marks : Marks) (c : Configuration) (ys : Lis
       (first_same (is_constant o) first second s) (λ a e.
       some_both R c.events y (operand (is_constant o) (over c ys) second) (λ next. done c next a) (λ next. done (over c ys) next a) (second_same (is_constant o) first second s) (λ b g.
       let r : outcome_of program o x y memory ≡ Some (performed (is_reserved program.globals) o a b memory) =
-          ap (λ z. outcome_of program o z y memory) e ∙ ap (λ z. outcome_of program o (Some a) z memory) g in
+      ap (λ z. outcome_of program o z y memory) e ∙ ap (λ z. outcome_of program o (Some a) z memory) g in
       subst (λ z. Both (AfterWrite program marks c.events (local_given z to) c.frame.activation) (λ next. done c next a b) (λ next. done (over c ys) next a b)) (sym r)
       (computed_both program marks c.events c ys to (performed (is_reserved program.globals) o a b memory) adds alive)))
 

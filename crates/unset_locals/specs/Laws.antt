@@ -35,7 +35,7 @@ CallsAreAlike = (program : LinearProgram) (marks : Marks) (c d : Configuration) 
     → AreAlike marks c d → last_temporaries c.frame.temporaries first count ≡ Some arguments → slice_get program.functions f ≡ Some function
     → length values ≡ function.body.locals - function.parameters
     → AreAlike (next_marks program (instructions.Call f first count) c (called c d f first function arguments values) marks)
-      (called c d f first function arguments values) (called_with c d f first function arguments values)
+    (called c d f first function arguments values) (called_with c d f first function arguments values)
 
 -- `main` with other numbers in the locals after its arguments
 abbrev pub started_with : LinearProgram → ℤ → LinearFunction → List ℕ → Configuration
