@@ -5,4 +5,4 @@ pub mod Unwinding
 pub mod Steps
 pub mod Alike
 pub mod Facts
-pub mod Twins
+pub mod Together

@@ -1,4 +1,4 @@
-use Rattle.unset_locals.proofs.Twins as lemma
+use Rattle.unset_locals.proofs.Together as lemma
 use Rattle.unset_locals.proofs.twins.twins_go_on.Goals as goal
 
 pub returns : goal.returns

@@ -89,8 +89,8 @@ twins_call program c d f first count function arguments values t at e g n long s
     let here : instruction_at program c ≡ Some i = sym (same_place program c d t.alike.frame) ∙ at in
     let own : last_temporaries c.frame.temporaries first count ≡ Some arguments = ap (λ (k : Frame). last_temporaries k.temporaries first count) (sym t.alike.frame) ∙ e in
     let held : nat_lt 1000 (length c.store.activations + c.frame.held + 1) ≡ false =
-        ap (λ (k : Frame). nat_lt 1000 (length c.store.activations + k.held + 1)) (sym t.alike.frame)
-        ∙ ap (λ m. nat_lt 1000 (m + d.frame.held + 1)) (sym (as_long t.marks c.store.activations d.store.activations t.alike.activations)) ∙ n in
+    ap (λ (k : Frame). nat_lt 1000 (length c.store.activations + k.held + 1)) (sym t.alike.frame)
+    ∙ ap (λ m. nat_lt 1000 (m + d.frame.held + 1)) (sym (as_long t.marks c.store.activations d.store.activations t.alike.activations)) ∙ n in
     let goes = call_goes program c f first count function arguments values own g held in
     let on = called c d f first function arguments values in
     let other = called d d f first function arguments values in
