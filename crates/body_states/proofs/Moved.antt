@@ -60,7 +60,7 @@ module _ (t : Functions) (fs : List Funclet) (program : LinearProgram) (p : Plan
       record {
         stack = (frame_moved t m rip sp os os' f n s.0, r.stack);
         linked = (
-          record { framed = l.0.framed; entry = l.0.entry; waits = waits_moved m rip sp f.size _ os os' b acts l.0.waits; pointers = l.0.pointers },
+          record { framed = l.0.framed; entry = l.0.entry; waits = waits_moved m rip sp f.size _ os os' b acts l.0.waits; pointers = l.0.pointers; returns = l.0.returns },
           l.1,
           r.linked,
         );
@@ -70,7 +70,7 @@ module _ (t : Functions) (fs : List Funclet) (program : LinearProgram) (p : Plan
       record {
         stack = (leaf_moved t m rip sp os os' back n s.0, r.stack);
         linked = (
-          record { leaf = l.0.leaf; home = l.0.home; none = l.0.none; waits = waits_moved m rip sp _ _ os os' b acts l.0.waits },
+          record { leaf = l.0.leaf; home = l.0.home; none = l.0.none; waits = waits_moved m rip sp _ _ os os' b acts l.0.waits; returns = l.0.returns },
           l.1,
           r.linked,
         );

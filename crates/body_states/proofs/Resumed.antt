@@ -134,6 +134,7 @@ module _ (t : Functions) (fs : List Funclet) (program : LinearProgram) (p : Plan
           above = above_same b b' name below refl l.1;
           home = λ yes. let z : true ≡ false = sym yes ∙ l.0.framed in absurd cc;
           back = f.return_address;
+          returns_to = l.0.returns;
           returns = subst (λ x. word m (x + y.frame) ≡ Ok f.return_address) (sym sp) (subst (λ n. word m (rsp c + n) ≡ Ok f.return_address) size s.0.returns);
           is = is;
           below = λ others n. on_moved t fs program p m (after_frame c f) (context_below f.return_address (register u.cpu Rsp + y.frame + 8) others) is below (activations_below name acts) n1 (omega arith) refl up
@@ -176,6 +177,7 @@ module _ (t : Functions) (fs : List Funclet) (program : LinearProgram) (p : Plan
           above = above_same b b' name below refl l.1;
           home = λ yes. subst (λ x. x + home_end ≤ STACK_END) (sym sp) l.0.home;
           back = back;
+          returns_to = l.0.returns;
           returns = subst (λ x. word m x ≡ Ok back) at s.0.returns;
           is = is;
           below = λ others n. on_moved t fs program p m (after_leaf c back) (context_below back (register u.cpu Rsp + y.frame + 8) others) is below (activations_below name acts) n1 (omega arith) refl up

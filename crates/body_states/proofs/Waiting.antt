@@ -62,6 +62,7 @@ module _ (t : Functions) (fs : List Funclet) (program : LinearProgram) (p : Plan
                   entry = refl;
                   waits = subst (λ (leaf : Bool). BodyWaits t fs program p u.memory (context_of u.cpu) (slots_end y leaf) (last_temporary y name leaf) c.frame at.acts) e at.slots;
                   pointers = at.pointers;
+                  returns = at.returns_to;
                 },
                 at.above,
                 rest.stands.linked,
@@ -95,6 +96,7 @@ module _ (t : Functions) (fs : List Funclet) (program : LinearProgram) (p : Plan
                   home = at.home e;
                   none = ap regions_of at.slots.body ∙ no_regions name b e (image.gives name b at.slots.body);
                   waits = subst (λ (leaf : Bool). BodyWaits t fs program p u.memory (context_of u.cpu) (slots_end y leaf) (last_temporary y name leaf) c.frame at.acts) e at.slots;
+                  returns = at.returns_to;
                 },
                 at.above,
                 rest.stands.linked,

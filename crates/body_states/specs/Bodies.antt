@@ -1,8 +1,8 @@
 -- The body that runs, where an instruction of linear code begins.
-use Rattle.std.specs.Prelude.{◌≡◌, ℕ, ◌+◌, ◌*◌, ◌^◌, ◌<◌, ◌≤◌, Bool, true, false, List, [], ◌∷◌, length, Ok}
+use Rattle.std.specs.Prelude.{◌≡◌, ℕ, ◌+◌, ◌*◌, ◌^◌, ◌<◌, ◌≤◌, Bool, true, false, List, [], ◌∷◌, length, Some, Ok}
 use Rattle.host_layout.specs.declared.range.TheConstants.{STACK_END}
 use Rattle.flat_memory.specs.Memory.{Memory}
-use Rattle.x64_instr.specs.declared.register.Reg.TheVariants.{Rsp}
+use Rattle.x64_instr.specs.declared.register.Reg.TheVariants.{Rax, Rsp}
 use Rattle.x64_machine.specs.Contexts.{context_of}
 use Rattle.x64_machine.specs.Effect.{State, register}
 use Rattle.virtual_unwind.specs.CallerOf.{Functions}
@@ -14,7 +14,7 @@ use Rattle.template_code.specs.declared.layout.Layout.{Layout}
 use Rattle.raw_stack.specs.Stack.{StackItem}
 use Rattle.raw_stack.specs.Laws.{context_below}
 use Rattle.linked_stack.specs.ImagePlan.{Plan}
-use Rattle.linked_stack.specs.Linked.{Activation, locals_of, activations_below, temporaries_end, home_end, BodyWaits, HasPointers, IsAbove}
+use Rattle.linked_stack.specs.Linked.{Activation, locals_of, activations_below, temporaries_end, home_end, BodyWaits, HasPointers, IsAbove, ReturnsTo}
 use Rattle.stack_records.specs.Records.{On}
 use Rattle.dispatch_turns.specs.States.{IsSane}
 use Rattle.body_states.specs.Sites.{Sites}
@@ -50,15 +50,17 @@ module _ (t : Functions) (fs : List Funclet) (program : LinearProgram) (p : Plan
     pub above : IsAbove t fs program p c.frame c.frame.body c.below
     pub home : p.leaf c.frame.body ≡ true → register s.cpu Rsp + home_end ≤ STACK_END
     pub back : ℕ
+    pub returns_to : ReturnsTo t fs program p c.below back
     pub returns : word s.memory (register s.cpu Rsp + (p.layout c.frame.body).frame) ≡ Ok back
     pub is : List StackItem
     pub below :
         (others : List ℕ) → length others ≡ 8
         → On t fs program p s.memory (context_below back (register s.cpu Rsp + (p.layout c.frame.body).frame + 8) others) is c.below (activations_below c.frame.body acts)
 
-  -- an instruction of linear code begins
+  -- an instruction of linear code begins; where an `__except` block has just taken over, RAX is the exception's code
   pub record Begins (s : State) (c : Configuration) : Type 0 where
     pub rip : s.cpu.rip ≡ p.address c.frame.body c.frame.next
     pub sane : IsSane s
     pub memory : IsMachineMemory t fs program p q s.memory c.store.memory
     pub body : InBody s c
+    pub landed : (code : ℕ) → c.frame.landed ≡ Some code → register s.cpu Rax ≡ code

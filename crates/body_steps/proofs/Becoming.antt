@@ -1,21 +1,19 @@
 -- After a run of a template the next instruction begins, with other numbers in the body's slots.
-use Rattle.std.proofs.Common.{◌≡◌, ℕ, zero, suc, ◌+◌, ◌*◌, ◌^◌, ◌<◌, ◌≤◌, Bool, true, false, Option, Some, None, Ok, List, [], ◌∷◌, ◌++◌, length, refl, sym, ap, subst, ◌∙◌, arith, inl, inr}
-use Rattle.std.specs.Prelude.{◌⊎◌, slice_get, slice_index}
-use Rattle.host_layout.specs.declared.range.TheConstants.{STACK_START, STACK_END, IMAGE_BASE, IMAGE_RANGE_END}
+use Rattle.std.proofs.Common.{◌≡◌, ℕ, suc, ◌+◌, ◌*◌, ◌<◌, ◌≤◌, Bool, true, false, Some, Ok, List, [], ◌∷◌, length, refl, sym, ap, subst, ◌∙◌, arith, inl, inr}
+use Rattle.std.specs.Prelude.{◌⊎◌, slice_get}
+use Rattle.host_layout.specs.declared.range.TheConstants.{STACK_START, STACK_END}
 use Rattle.flat_memory.specs.declared.protection.Protection.{Protection}
-use Rattle.flat_memory.specs.Protections.{is_readable, is_writable}
-use Rattle.flat_memory.specs.Memory.{Memory, may_read, may_write, number_at}
+use Rattle.flat_memory.specs.Protections.{is_writable}
+use Rattle.flat_memory.specs.Memory.{Memory, may_write, number_at}
 use Rattle.x64_machine.specs.Effect.{State}
 use Rattle.virtual_unwind.specs.Undone.{word}
 use Rattle.c_model.specs.Source.{is_reserved}
-use Rattle.linear_code.specs.declared.slot.Slot.TheVariants.{Local, Temporary}
-use Rattle.linear_code.specs.BodyState.{BodyState, Counts}
-use Rattle.linear_machine.specs.Frames.{BodyName, FunctionBody, FuncletBody}
+use Rattle.linear_code.specs.BodyState.{Counts}
 use Rattle.template_code.specs.declared.layout.Layout.{Layout}
 use Rattle.x64_templates.specs.Frames.{InTemporaries, InLocals, Changes}
 use Rattle.x64_templates.proofs.PlacedCode.{same_number}
 use Rattle.linked_stack.specs.Laws.{KeepsStack}
-use Rattle.linked_stack.specs.Linked.{Activation, locals_of, HoldsWords}
+use Rattle.linked_stack.specs.Linked.{Activation, HoldsWords}
 use Rattle.stack_records.specs.Records.{IsData}
 use Rattle.body_steps.specs.Stores.{KeepsStackBut}
 use Rattle.body_steps.proofs.Words.{may_read_written, word_is, word_of}

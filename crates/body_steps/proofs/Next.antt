@@ -1,10 +1,10 @@
 -- The next instruction of a body begins, in the memory that a template leaves.
-use Rattle.std.proofs.Common.{◌≡◌, ℕ, zero, suc, ◌+◌, ◌*◌, ◌^◌, ◌<◌, ◌≤◌, Bool, true, false, Option, Some, None, Ok, List, [], ◌∷◌, ◌++◌, length, refl, sym, ap, subst, ◌∙◌, arith, inl, inr}
-use Rattle.std.specs.Prelude.{◌⊎◌, slice_get, slice_index, slice_set, replicate}
+use Rattle.std.proofs.Common.{◌≡◌, ℕ, zero, suc, ◌+◌, ◌*◌, ◌<◌, ◌≤◌, true, Option, Some, None, Ok, List, [], ◌∷◌, length, refl, sym, ap, subst, ◌∙◌, arith, inl, inr}
+use Rattle.std.specs.Prelude.{◌⊎◌, slice_get, slice_index}
 use Rattle.host_layout.specs.declared.range.TheConstants.{STACK_START, STACK_END}
 use Rattle.seh_num.specs.declared.event.Event.{Event}
 use Rattle.flat_memory.specs.Memory.{Memory}
-use Rattle.x64_instr.specs.declared.register.Reg.TheVariants.{Rsp}
+use Rattle.x64_instr.specs.declared.register.Reg.TheVariants.{Rax, Rsp}
 use Rattle.x64_machine.specs.Effect.{State, register}
 use Rattle.virtual_unwind.specs.Undone.{Answer, word}
 use Rattle.virtual_unwind.specs.CallerOf.{Functions}
@@ -31,9 +31,9 @@ use Rattle.body_steps.proofs.Programs.{program_stays}
 use Rattle.body_states.specs.Layouts.{IsFunctionLayout, IsLayoutIf}
 use Rattle.body_states.specs.Sites.{Sites}
 use Rattle.body_states.specs.Programs.{IsProgramImage}
-use Rattle.body_states.specs.Bodies.{slots_end, InBody, Begins}
+use Rattle.body_states.specs.Bodies.{slots_end, Begins}
 use Rattle.body_steps.specs.Views.{counts_of, frame_at}
-use Rattle.body_steps.specs.Stores.{with_values_if, with_values, KeepsStackBut, OwnerHasFrame}
+use Rattle.body_steps.specs.Stores.{with_values, KeepsStackBut, OwnerHasFrame}
 use Rattle.body_steps.proofs.Homes.{CallerHasFrame, home_is_free}
 use Rattle.x64_templates.specs.Frames.{InTemporaries, InLocals}
 use Rattle.body_states.specs.Bodies.{last_temporary}
@@ -341,7 +341,7 @@ module _ (t : Functions) (fs : List Funclet) (program : LinearProgram) (p : Plan
 
       -- ---- the next instruction
 
-      module _ (label : ℕ) (landed : Option ℕ) (events : List Event) (rip : u.cpu.rip ≡ p.address c.frame.body label) (inside : label < length code.code) (sane : IsSane u)
+      module _ (label : ℕ) (landed : Option ℕ) (events : List Event) (rip : u.cpu.rip ≡ p.address c.frame.body label) (inside : label < length code.code) (sane : IsSane u) (result : (value : ℕ) → landed ≡ Some value → register u.cpu Rax ≡ value)
           (caller : p.leaf c.frame.body ≡ true → CallerHasFrame p c.below) (owner : (k : ℕ) → c.frame.body ≡ FuncletBody k → OwnerHasFrame t fs program p c.frame.activation c.below b.body.acts) where
         abbrev next : Configuration
         next = further c b.body.acts label values ts landed d.memory events
@@ -370,6 +370,7 @@ module _ (t : Functions) (fs : List Funclet) (program : LinearProgram) (p : Plan
 
         pub begins_next : Begins t fs program p q u next
         begins_next = record {
+          landed = result;
           rip = rip;
           sane = sane;
           memory = record {
@@ -386,6 +387,7 @@ module _ (t : Functions) (fs : List Funclet) (program : LinearProgram) (p : Plan
             above = above_next c.below c.frame.body c.frame label landed ts b.body.above;
             home = λ e. subst (λ x. x + home_end ≤ STACK_END) (sym r.stack) (b.body.home e);
             back = b.body.back;
+            returns_to = b.body.returns_to;
             returns = subst (λ x. word u.memory (x + y.frame) ≡ Ok b.body.back) (sym r.stack) returns;
             is = b.body.is;
             below = λ others eight.

@@ -1,16 +1,15 @@
 -- The program stays in a memory in which no byte of the image has changed.
-use Rattle.std.proofs.Common.{◌≡◌, ℕ, ◌+◌, ◌<◌, ◌≤◌, Bool, true, false, Option, Some, List, [], ◌∷◌, length, refl, sym, ap, subst, ◌∙◌, arith}
+use Rattle.std.proofs.Common.{◌≡◌, ℕ, ◌+◌, ◌<◌, ◌≤◌, true, Some, List, [], ◌∷◌, length, sym, ap, subst, ◌∙◌, arith}
 use Rattle.host_layout.specs.declared.range.TheConstants.{IMAGE_BASE, IMAGE_RANGE_END}
 use Rattle.host_layout.specs.declared.service.Service.{Service}
 use Rattle.host_layout.specs.declared.service.Service.TheVariants as services
 use Rattle.host_layout.specs.Services.{address_of}
 use Rattle.flat_memory.specs.declared.protection.Protection.{Protection}
 use Rattle.flat_memory.specs.Protections.{is_readable, is_writable}
-use Rattle.flat_memory.specs.Memory.{Memory, may_read, may_write, number_at}
+use Rattle.flat_memory.specs.Memory.{Memory}
 use Rattle.virtual_unwind.specs.CallerOf.{Functions}
 use Rattle.host_model.specs.declared.funclet.Funclet.{Funclet}
 use Rattle.x64_instr.specs.declared.instruction.Instr.{Instr}
-use Rattle.c_operations.specs.declared.built_in.BuiltIn.{BuiltIn}
 use Rattle.c_model.specs.Source.{is_reserved}
 use Rattle.linear_code.specs.Program.{LinearProgram, LinearBody}
 use Rattle.linear_machine.specs.Frames.{BodyName, body_of}
@@ -25,7 +24,7 @@ use Rattle.x64_templates.proofs.PlacedCode.{same_number}
 use Rattle.x64_templates.proofs.Services.{thunk_size}
 use Rattle.linked_stack.specs.ImagePlan.{Plan}
 use Rattle.body_states.specs.Sites.{Sites, links_of, begin_of, entry_code, code_of}
-use Rattle.body_states.specs.Programs.{service_of, IsInImage, HasAddresses, HasService, HasProgram, IsProgramImage}
+use Rattle.body_states.specs.Programs.{service_of, IsInImage, HasService, HasProgram, IsProgramImage}
 
 -- bytes of a range, and what may be done there
 pub record SameThere (m m' : Memory) (from to : ℕ) : Type 0 where

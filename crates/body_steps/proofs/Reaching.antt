@@ -1,9 +1,8 @@
 -- What a chain of steps keeps.
-use Rattle.std.proofs.Common.{◌≡◌, ℕ, zero, suc, ◌^◌, ◌<◌, false, List, [], ◌∷◌, length, refl, sym, ap, subst, ◌∙◌, arith}
-use Rattle.std.specs.Prelude.{slice_index}
+use Rattle.std.proofs.Common.{◌≡◌, ℕ, zero, suc, ◌^◌, ◌<◌, false, List, [], ◌∷◌, length, refl, ap, subst, ◌∙◌, arith}
 use Rattle.flat_memory.specs.declared.protection.Protection.{Protection}
 use Rattle.flat_memory.specs.Protections.{is_writable}
-use Rattle.flat_memory.specs.Memory.{Memory, may_write}
+use Rattle.flat_memory.specs.Memory.{may_write}
 use Rattle.x64_machine.specs.Effect.{State}
 use Rattle.seh_records.specs.Laws.{AllSmall}
 use Rattle.x64_templates.specs.Straight.{AreSmall}

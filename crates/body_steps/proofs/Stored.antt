@@ -1,6 +1,6 @@
 -- Other numbers in the locals of one activation leave the list as it stands.
-use Rattle.std.proofs.Common.{◌≡◌, ℕ, zero, suc, ◌+◌, ◌*◌, ◌<◌, ◌≤◌, Bool, true, false, eqb, Option, Some, None, List, [], ◌∷◌, ◌++◌, length, refl, sym, ap, subst, ◌∙◌, arith, inl, inr, Ok}
-use Rattle.std.specs.Prelude.{◌⊎◌, ◌==◌, slice_get}
+use Rattle.std.proofs.Common.{◌≡◌, ℕ, suc, ◌+◌, ◌*◌, ◌<◌, ◌≤◌, Bool, true, false, Some, List, [], ◌∷◌, ◌++◌, length, refl, sym, ap, subst, ◌∙◌, arith, inl, inr}
+use Rattle.std.specs.Prelude.{◌==◌, slice_get}
 use Rattle.std.proofs.lemmas.Bool.{eq-eqb, ne_eqb}
 use Rattle.host_layout.specs.declared.range.TheConstants.{STACK_START, STACK_END}
 use Rattle.flat_memory.specs.Memory.{Memory}
@@ -19,9 +19,9 @@ use Rattle.raw_stack.proofs.Keeping.{rises}
 use Rattle.linked_stack.specs.ImagePlan.{Plan}
 use Rattle.linked_stack.specs.Linked.{Activation, locals_of, activations_below, HoldsWords, temporaries_end, HasActivation, HoldsLocals, IsActivation, HasBase, home_end, HasPointers, IsAbove, HasSpace, below_end, record_room, BodyWaits, FrameWaits, LeafWaits, Linked}
 use Rattle.linked_stack.specs.Laws.{Stands}
-use Rattle.linked_stack.proofs.Ends.{words_fit, end_within, in_stack}
-use Rattle.linked_stack.proofs.Kept.{ReadsSame, higher, words_kept, activation_kept, pointers_kept, body_kept, frame_kept, leaf_kept, own_kept, frame_stands, leaf_stands, record_stands, list_kept}
-use Rattle.linked_stack.proofs.Keeping.{KeepsRange, reads_other}
+use Rattle.linked_stack.proofs.Ends.{words_fit, in_stack}
+use Rattle.linked_stack.proofs.Kept.{ReadsSame, higher, words_kept, frame_kept, leaf_kept, own_kept, frame_stands, leaf_stands, record_stands, list_kept}
+use Rattle.linked_stack.proofs.Keeping.{reads_other}
 use Rattle.body_steps.specs.Stores.{with_values_if, with_values, KeepsStackBut, OwnerHasFrame, ActivationsAreStored}
 use Rattle.body_steps.proofs.Activations.{stand, locals_count, got_before, got_last}
 
@@ -114,10 +114,11 @@ module _ (m m' : Memory) (t : Functions) (fs : List Funclet) (program : LinearPr
     entry = h.entry;
     waits = body_passed c f.size (temporaries_end (p.layout b.body) b.body f.size) b acts i h.waits;
     pointers = h.pointers;
+    returns = h.returns;
   }
 
-  leaf_passed : (c : Context) (b : Frame) (acts : List Activation) → passes acts b.body → LeafWaits t fs program p m' c b acts → LeafWaits t fs program p m' c b (with_values acts k values)
-  leaf_passed c b acts i h = record { leaf = h.leaf; home = h.home; none = h.none; waits = body_passed c (p.layout b.body).temporaries home_end b acts i h.waits }
+  leaf_passed : (c : Context) (back : ℕ) (b : Frame) (below : List Item) (acts : List Activation) → passes acts b.body → LeafWaits t fs program p m' c back b below acts → LeafWaits t fs program p m' c back b below (with_values acts k values)
+  leaf_passed c back b below acts i h = record { leaf = h.leaf; home = h.home; none = h.none; waits = body_passed c (p.layout b.body).temporaries home_end b acts i h.waits; returns = h.returns }
 
   -- ---- the activation's own frame
 
@@ -224,6 +225,7 @@ module _ (m m' : Memory) (t : Functions) (fs : List Funclet) (program : LinearPr
               entry = h.entry;
               waits = own_body c f.size (temporaries_end y b.body f.size) n b a outer name own le words locals temps h.waits;
               pointers = no_pointers y (rsp c) f.size n b below (subst (λ x. IsAbove t fs program p b x below) name above);
+              returns = h.returns;
             },
             above,
             subst (λ x. Linked t fs program p m' (after_frame c f) is below (activations_below x (record a { values = values } ∷ outer))) (sym name) outermost.linked,
@@ -248,14 +250,14 @@ module _ (m m' : Memory) (t : Functions) (fs : List Funclet) (program : LinearPr
 
     passes_leaf : (c : Context) (back : ℕ) (is : List StackItem) (b : Frame) (below : List Item) (acts : List Activation) → passes acts b.body
         → KeepsStackBut m m' (rsp c) from to → STACK_START ≤ rsp c → LeafStands t m c back → rsp c + home_end ≤ from
-        → LeafWaits t fs program p m c b acts → IsAbove t fs program p b b.body below → Stored (after_leaf c back) is below (activations_below b.body acts)
+        → LeafWaits t fs program p m c back b below acts → IsAbove t fs program p b b.body below → Stored (after_leaf c back) is below (activations_below b.body acts)
         → Stored c (Leaf back ∷ is) (Waits b ∷ below) acts
     passes_leaf c back is b below acts i keeps low leaf le h above rest =
         let r = below_them (rsp c) low end keeps in
         record {
           stack = (leaf_stands m m' from t fs program p c back r (omega arith) leaf, rest.stack);
           linked = (
-            leaf_passed c b acts i (leaf_kept m m' from t fs program p c b acts r le h),
+            leaf_passed c back b below acts i (leaf_kept m m' from t fs program p c back b below acts r le h),
             above,
             subst (λ x. Linked t fs program p m' (after_leaf c back) is below x) (sym (below_passed acts b.body i)) rest.linked,
           );
@@ -275,7 +277,7 @@ module _ (m m' : Memory) (t : Functions) (fs : List Funclet) (program : LinearPr
 
     leaf_upper : (c : Context) (back : ℕ) (is : List StackItem) (b : Frame) (below : List Item) (acts : List Activation) (name : BodyName) → b.body ≡ name → passes acts name
         → KeepsStackBut m m' (rsp c) from to → STACK_START ≤ rsp c → LeafStands t m c back → IsStack t m (after_leaf c back) is
-        → LeafWaits t fs program p m c b acts → IsAbove t fs program p b b.body below → Linked t fs program p m (after_leaf c back) is below (activations_below name acts)
+        → LeafWaits t fs program p m c back b below acts → IsAbove t fs program p b b.body below → Linked t fs program p m (after_leaf c back) is below (activations_below name acts)
         → Stored (after_leaf c back) is below (activations_below name acts)
         → Stored c (Leaf back ∷ is) (Waits b ∷ below) acts
     leaf_upper c back is b below acts name same i keeps low leaf stack h above linked rest =
@@ -298,7 +300,7 @@ module _ (m m' : Memory) (t : Functions) (fs : List Funclet) (program : LinearPr
 
     by_leaf : (c : Context) (back : ℕ) (is : List StackItem) (b : Frame) (below : List Item) (acts : List Activation) (name : BodyName) → b.body ≡ name → IsActivation acts k base distance → (k ≡ length (activations_below name acts) → p.leaf b.body ≡ false)
         → KeepsStackBut m m' (rsp c) from to → STACK_START ≤ rsp c → LeafStands t m c back → IsStack t m (after_leaf c back) is
-        → LeafWaits t fs program p m c b acts → IsAbove t fs program p b b.body below → Linked t fs program p m (after_leaf c back) is below (activations_below name acts)
+        → LeafWaits t fs program p m c back b below acts → IsAbove t fs program p b b.body below → Linked t fs program p m (after_leaf c back) is below (activations_below name acts)
         → (passes acts name → Stored (after_leaf c back) is below (activations_below name acts))
         → Stored c (Leaf back ∷ is) (Waits b ∷ below) acts
     by_leaf c back is b below [] name same i framed keeps low leaf stack h above linked rest = absurd i

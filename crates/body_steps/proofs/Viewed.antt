@@ -1,13 +1,9 @@
 -- The running body has a view: its slots as templates see them hold linear code's numbers.
-use Rattle.std.proofs.Common.{◌≡◌, ℕ, suc, ◌+◌, ◌*◌, ◌^◌, ◌<◌, ◌≤◌, Bool, true, false, Option, Some, None, List, [], ◌∷◌, length, refl, sym, ap, subst, ◌∙◌, arith, inl, inr}
+use Rattle.std.proofs.Common.{◌≡◌, ℕ, ◌+◌, ◌*◌, ◌≤◌, Bool, true, false, Some, None, List, [], ◌∷◌, length, refl, sym, ap, subst, ◌∙◌, arith, inl, inr}
 use Rattle.std.specs.Prelude.{◌⊎◌, slice_get, slice_index, drop, replicate}
 use Rattle.host_layout.specs.declared.range.TheConstants.{STACK_START, STACK_END}
-use Rattle.flat_memory.specs.Memory.{Memory, may_write}
-use Rattle.x64_instr.specs.declared.register.Reg.TheVariants.{Rax, Rcx, Rdx, Rsp}
-use Rattle.x64_machine.specs.declared.cpu.Cpu.{Cpu}
-use Rattle.x64_machine.specs.Contexts.{context_of}
+use Rattle.x64_instr.specs.declared.register.Reg.TheVariants.{Rsp}
 use Rattle.x64_machine.specs.Effect.{State, register}
-use Rattle.virtual_unwind.specs.Contexts.{rsp}
 use Rattle.virtual_unwind.specs.CallerOf.{Functions}
 use Rattle.host_model.specs.declared.funclet.Funclet.{Funclet}
 use Rattle.linear_code.specs.Program.{LinearProgram, LinearBody}
@@ -16,14 +12,15 @@ use Rattle.linear_machine.specs.Frames.{BodyName, FunctionBody, FuncletBody, bod
 use Rattle.x64_templates.specs.Straight.{machine}
 use Rattle.raw_stack.specs.Laws.{context_below}
 use Rattle.linked_stack.specs.ImagePlan.{Plan}
-use Rattle.linked_stack.specs.Linked.{Activation, locals_of, activations_below, temporaries_end, HasActivation}
+use Rattle.linked_stack.specs.Linked.{locals_of, activations_below, temporaries_end, HasActivation}
 use Rattle.linked_stack.proofs.Ends.{in_stack}
 use Rattle.body_states.specs.Sites.{Sites}
 use Rattle.linked_stack.specs.Laws.{Stands}
 use Rattle.body_states.specs.Layouts.{IsFunctionLayout, IsLeafLayout, IsFuncletLayout, IsLayoutIf, IsLaidOut, IsFuncletPlan}
 use Rattle.body_states.specs.Programs.{IsProgramImage}
 use Rattle.body_states.specs.Bodies.{slots_end, last_temporary, Begins}
-use Rattle.body_steps.specs.Views.{seen_by_templates, counts_of, HasView}
+use Rattle.x64_templates.specs.Runs.{Roomy, Holds}
+use Rattle.body_steps.specs.Views.{seen_by_templates, counts_of, frame_at, state_of, HasSlotsOf, HasView}
 use Rattle.body_steps.proofs.Views.{SlotsPlaced, function_placed, leaf_placed, funclet_placed, room_of, holds_of, local_is, temporary_is}
 
 -- a state is made of its registers
@@ -105,20 +102,21 @@ module _ (t : Functions) (fs : List Funclet) (program : LinearProgram) (p : Plan
     pub count : length placed.values ≡ code.locals
     count = values_count placed.values placed.number
 
-    pub has_view : HasView program p s c
-    has_view = record {
-      is_machine = is_machine s b.sane.count;
-      body = code;
-      there = b.body.slots.body;
-      base = placed.base;
-      room = room_of s.memory (p.layout c.frame.body) (counts_of code) sp c.frame.activation b.body.acts placed count;
-      holds = holds_of program.globals s.memory c.store.memory (p.layout c.frame.body) (counts_of code) sp c.frame.activation b.body.acts placed count b.memory.data_alone.bytes b.memory.stack b.memory.agrees;
-      slots = record {
-        locals = λ i lt. local_is s.memory (p.layout c.frame.body) code.temporaries sp i b.body.acts c b.body.store placed (let n = count in omega arith);
-        temporaries = λ i v e. temporary_is s.memory (p.layout c.frame.body) sp _ i v c.frame.temporaries b.body.slots.temporaries e;
-        source = refl;
-      };
+    pub room_here : Roomy (frame_at program p c.frame.body code sp placed.base)
+    room_here = room_of s.memory (p.layout c.frame.body) (counts_of code) sp c.frame.activation b.body.acts placed count
+
+    pub holds_here : Holds (frame_at program p c.frame.body code sp placed.base) s.memory (state_of program p s c placed.base)
+    holds_here = holds_of program.globals s.memory c.store.memory (p.layout c.frame.body) (counts_of code) sp c.frame.activation b.body.acts placed count b.memory.data_alone.bytes b.memory.stack b.memory.agrees
+
+    pub slots_here : HasSlotsOf program p c code (state_of program p s c placed.base)
+    slots_here = record {
+      locals = λ i lt. local_is s.memory (p.layout c.frame.body) code.temporaries sp i b.body.acts c b.body.store placed (let n = count in omega arith);
+      temporaries = λ i v e. temporary_is s.memory (p.layout c.frame.body) sp _ i v c.frame.temporaries b.body.slots.temporaries e;
+      source = refl;
     }
+
+    pub has_view : HasView program p s c
+    has_view = record { is_machine = is_machine s b.sane.count; body = code; there = b.body.slots.body; base = placed.base; room = room_here; holds = holds_here; slots = slots_here }
 
     -- ---- which kind of body it is
 
@@ -187,3 +185,8 @@ module _ (t : Functions) (fs : List Funclet) (program : LinearProgram) (p : Plan
       | inr (inr f) ↦ subst (λ l. (p.layout c.frame.body).temporaries + 8 * code.temporaries ≤ last_temporary (p.layout c.frame.body) c.frame.body l) (sym f.framed)
           (subst (λ n. (p.layout c.frame.body).temporaries + 8 * code.temporaries ≤ temporaries_end (p.layout c.frame.body) n (p.layout c.frame.body).frame) (sym f.name) f.layout.temporaries)
     ]
+
+    -- the locals that linear code has here are the activation's
+    pub locals_here : linear.locals_of c.store c.frame.activation ≡ placed.values
+    locals_here =
+        ap (λ x. elim (slice_get x c.frame.activation) [ Some locals ↦ locals | None ↦ [] ]) b.body.store ∙ ap (λ x. elim x [ Some locals ↦ locals | None ↦ [] ]) placed.number

@@ -1,43 +1,30 @@
 -- The running body as templates see it.
-use Rattle.std.proofs.Common.{◌≡◌, ℕ, zero, suc, ◌+◌, ◌*◌, ◌^◌, ◌<◌, ◌≤◌, Bool, true, false, Option, Some, None, Ok, List, [], ◌∷◌, ◌++◌, length, refl, sym, ap, subst, ◌∙◌, arith, inl, inr}
-use Rattle.std.specs.Prelude.{◌⊎◌, ◌||◌, slice_get, slice_index, nat_le, nat_lt, replicate}
+use Rattle.std.proofs.Common.{◌≡◌, ℕ, zero, suc, ◌+◌, ◌*◌, ◌^◌, ◌<◌, ◌≤◌, true, Option, Some, None, Ok, List, [], ◌∷◌, ◌++◌, length, refl, sym, ap, subst, ◌∙◌, arith, inl, inr}
+use Rattle.std.specs.Prelude.{◌⊎◌, slice_get, slice_index, nat_le, nat_lt}
 use Rattle.std.proofs.lemmas.Bool.{le-leb, lt-ltb}
 use Rattle.host_layout.specs.declared.range.TheConstants.{STACK_START, STACK_END}
 use Rattle.flat_memory.specs.Memory.{Memory, may_write, number_at}
-use Rattle.x64_instr.specs.declared.register.Reg.TheVariants.{Rsp}
-use Rattle.x64_machine.specs.Contexts.{context_of}
-use Rattle.x64_machine.specs.Effect.{State, register}
 use Rattle.virtual_unwind.specs.Contexts.{rsp}
 use Rattle.virtual_unwind.specs.Undone.{word}
 use Rattle.virtual_unwind.specs.CallerOf.{Functions}
 use Rattle.host_model.specs.declared.funclet.Funclet.{Funclet}
 use Rattle.c_model.specs.Source.{is_reserved}
-use Rattle.linear_code.specs.declared.slot.Slot.{Slot}
-use Rattle.linear_code.specs.declared.slot.Slot.TheVariants.{Local, Temporary}
 use Rattle.linear_code.specs.BodyState.{Counts}
 use Rattle.linear_code.specs.Program.{LinearProgram, LinearBody}
 use Rattle.linear_machine.specs.Frames as linear
 use Rattle.linear_machine.specs.Frames.{BodyName, FunctionBody, FuncletBody, body_of, Configuration, local_of}
 use Rattle.template_code.specs.declared.layout.Layout.{Layout}
-use Rattle.x64_templates.specs.Straight.{MachineView, machine}
 use Rattle.x64_templates.specs.Frames.{InTemporaries, InLocals, HasBase, HasRoom, KeepsBase, KeepsReserved, Agrees, IsBytes, HoldsBody}
 use Rattle.x64_templates.specs.EntryStates.{body_in_memory}
-use Rattle.x64_templates.specs.Runs.{Roomy, Holds}
 use Rattle.x64_templates.proofs.Entries.{holds_body_in_memory}
 use Rattle.x64_machine.specs.declared.context.Context.{Context}
 use Rattle.linear_machine.specs.Frames.{Item}
 use Rattle.raw_stack.specs.Stack.{StackItem}
 use Rattle.linked_stack.specs.Laws.{Stands}
-use Rattle.raw_stack.specs.Laws.{context_below}
 use Rattle.linked_stack.specs.ImagePlan.{Plan}
-use Rattle.linked_stack.specs.Linked.{Activation, locals_of, activations_below, HoldsWords, HasActivation, IsActivation, home_end, HasSpace, below_end}
+use Rattle.linked_stack.specs.Linked.{Activation, locals_of, HoldsWords, HasActivation, home_end}
 use Rattle.linked_stack.proofs.Ends.{words_fit, in_stack}
-use Rattle.body_states.specs.Sites.{Sites}
-use Rattle.body_states.specs.Layouts.{IsFunctionLayout, IsLeafLayout, IsFuncletLayout, IsLaidOut}
-use Rattle.body_states.specs.Programs.{IsProgramImage}
-use Rattle.body_states.specs.Bodies.{slots_end, last_temporary, InBody, Begins}
-use Rattle.body_steps.specs.Views.{seen_by_templates, counts_of, frame_at, state_of, HasSlotsOf, HasView}
-use Rattle.body_steps.specs.Stores.{ActivationStands}
+use Rattle.body_states.specs.Layouts.{IsFunctionLayout, IsLeafLayout, IsFuncletLayout}
 use Rattle.body_steps.proofs.Activations.{activations_stand, got_last, locals_count, words_shorter}
 use Rattle.body_steps.proofs.Words.{word_is, word_in}
 

@@ -1,2 +1,4 @@
 pub mod Views
 pub mod Stores
+pub mod Known
+pub mod Laws

@@ -1,21 +1,16 @@
 -- The running body as templates see it.
-use Rattle.std.specs.Prelude.{◌≡◌, ℕ, ◌<◌, ◌≤◌, List, length, drop, slice_get, Some}
-use Rattle.flat_memory.specs.Memory.{Memory}
+use Rattle.std.specs.Prelude.{◌≡◌, ℕ, ◌<◌, drop, slice_get, Some}
 use Rattle.x64_instr.specs.declared.register.Reg.TheVariants.{Rax, Rcx, Rdx, Rsp}
 use Rattle.x64_machine.specs.Effect.{State, register}
-use Rattle.virtual_unwind.specs.CallerOf.{Functions}
-use Rattle.host_model.specs.declared.funclet.Funclet.{Funclet}
 use Rattle.c_model.specs.Source.{is_reserved}
 use Rattle.linear_code.specs.declared.slot.Slot.TheVariants.{Local, Temporary}
 use Rattle.linear_code.specs.BodyState.{BodyState, Counts}
 use Rattle.linear_code.specs.Program.{LinearProgram, LinearBody}
 use Rattle.linear_machine.specs.Frames.{BodyName, body_of, Configuration, local_of}
-use Rattle.template_code.specs.declared.layout.Layout.{Layout}
 use Rattle.x64_templates.specs.Straight.{MachineView, machine}
 use Rattle.x64_templates.specs.EntryStates.{body_in_memory}
 use Rattle.x64_templates.specs.Runs.{Frame, Roomy, Holds}
 use Rattle.linked_stack.specs.ImagePlan.{Plan}
-use Rattle.body_states.specs.Sites.{Sites}
 
 -- a state by its registers as templates name them
 abbrev pub seen_by_templates : State → MachineView

@@ -2,3 +2,5 @@
 //! at most sixteen turns each, and the next instruction begins in a state that stands for linear code's.
 //! Begin reading with `specs/Laws`.
 #![tactic(auto)]
+
+pub mod laws;

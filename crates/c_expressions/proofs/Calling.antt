@@ -1,16 +1,18 @@
 -- Arguments of a call, one after another.
 use Rattle.std.proofs.Math.Seq.{drop-cons}
 use Rattle.std.proofs.lemmas.List.{drop_all}
-use Rattle.std.proofs.Common.{◌≡◌, ℕ, suc, ◌+◌, ◌<◌, ◌≤◌, true, false, nat_eq, List, [], ◌∷◌, ◌++◌, map, length, drop, get_or, add-one, subst, Option, Some, None, refl, sym, ap, ◌∙◌}
+use Rattle.std.proofs.Common.{◌≡◌, ℕ, Bool, suc, ◌+◌, ◌<◌, ◌≤◌, true, false, nat_eq, List, [], ◌∷◌, ◌++◌, map, length, drop, get_or, add-one, subst, Option, Some, None, refl, sym, ap, ◌∙◌}
 use Rattle.std.specs.Prelude.{option_map}
 use Rattle.c_checked.specs.Expression as nodes
 use Rattle.c_expressions.proofs.Kept.{kept_append}
 use Rattle.c_expressions.specs.Calls.{resolved_all, put_before, put_after}
 use Rattle.c_expressions.specs.Kept.{kept}
+use Rattle.c_expressions.specs.Rules.{allowed_call}
 use Rattle.c_expressions.specs.declared.wanted.Wanted.{Wanted as Wanted'}
 use Rattle.c_expressions.specs.Views.{wanted}
+use Rattle.c_resolved.specs.declared.fault.Fault.{Fault}
 use Rattle.c_resolved.specs.declared.fault.Fault.TheVariants.{ArgCount}
-use Rattle.c_resolved.specs.Expressions.{FaultAt, Names, Passed, Wanted, Argument, bad, unless, fault_at, faults_of, called, call_with, pass, pass_all, resolve_expression}
+use Rattle.c_resolved.specs.Expressions.{FaultAt, Names, Passed, Wanted, Argument, ResolvedExpression, bad, unless, only_where, fault_at, faults_of, called, call_with, pass, pass_all, resolve_expression}
 use Rattle.c_resolved.specs.Operators.{TypedNode, typed}
 use Rattle.c_syntax.specs.declared.expression.CType.{CType}
 use Rattle.c_syntax.specs.declared.expression.Expr.{Expr}
@@ -139,3 +141,22 @@ pub pass_next_to : (s : Names) (w0 : Option FaultAt) (whole : Passed) (done done
     → StillToPass s w0 whole done w (drop i wants) (drop i given) → StillToPass s w0 whole done' w2 (drop (i + 1) wants) (drop (i + 1) given)
 pass_next_to s w0 whole done done' w w1 w2 wants given i x e found one ed lw xw lg xg is k puts adds h =
     subst (λ d. StillToPass s w0 whole d w2 (drop (i + 1) wants) (drop (i + 1) given)) (sym ed) (pass_next s w0 whole done w w1 w2 wants given i x e found one lw xw lg xg is k puts adds h)
+
+-- ---- calls that have a meaning in some places alone
+
+found_alone : (b : Bool) (at : ℕ) (f : Fault) (j : ResolvedExpression) → (allowed_call b at f j.faults j.found).found ≡ (only_where b at f j).found
+found_alone true at f j = refl
+found_alone false at f j = refl
+
+faults_alone : (b : Bool) (at : ℕ) (f : Fault) (j : ResolvedExpression) → (allowed_call b at f j.faults j.found).faults ≡ (only_where b at f j).faults
+faults_alone true at f j = refl
+faults_alone false at f j = refl
+
+pub allowed_found : (b : Bool) (at : ℕ) (f : Fault) (j : ResolvedExpression) (a r : Option TypedNode) → a ≡ j.found
+    → ((fs : List FaultAt) → r ≡ (allowed_call b at f fs a).found) → r ≡ (only_where b at f j).found
+allowed_found b at f j a r is finds = finds j.faults ∙ ap (λ o. (allowed_call b at f j.faults o).found) is ∙ found_alone b at f j
+
+pub allowed_kept : (b : Bool) (at : ℕ) (f : Fault) (j : ResolvedExpression) (a : Option TypedNode) (first old new : Option FaultAt) → a ≡ j.found → old ≡ kept first j.faults
+    → ((g : Option FaultAt) (fs : List FaultAt) → old ≡ kept g fs → new ≡ kept g (allowed_call b at f fs a).faults) → new ≡ kept first (only_where b at f j).faults
+allowed_kept b at f j a first old new is so adds =
+    adds first j.faults so ∙ ap (λ o. kept first (allowed_call b at f j.faults o).faults) is ∙ ap (kept first) (faults_alone b at f j)

@@ -1,14 +1,16 @@
 -- What the code of a rule on types gives, and what it keeps, after operands with these faults.
-use Rattle.std.specs.Prelude.{◌≡◌, ℕ, List, Option, Some, None, option_map}
+use Rattle.std.specs.Prelude.{◌≡◌, ℕ, Bool, true, false, List, Option, Some, None, option_map}
 use Rattle.c_expressions.specs.declared.least.Least.{Least}
 use Rattle.c_expressions.specs.Kept.{least_of, kept}
-use Rattle.c_resolved.specs.Expressions.{FaultAt, Names, ResolvedExpression, unless, rule_1, rule_2, is_lvalue, operand_is_lvalue}
+use Rattle.c_resolved.specs.Expressions.{FaultAt, Names, ResolvedExpression, only_where, unless, rule_1, rule_2, is_lvalue, operand_is_lvalue}
 use Rattle.c_resolved.specs.Operators.{TypedNode, assigned, compound_assigned, incremented, unary_of}
 use Rattle.c_syntax.specs.declared.operator.Arithmetic.{Arithmetic}
 use Rattle.c_syntax.specs.declared.operator.Increment.{Increment}
 use Rattle.c_syntax.specs.declared.operator.UnaryOperator.{UnaryOperator}
+use Rattle.c_syntax.specs.Expression as trees
 use Rattle.c_syntax.specs.Expression.{Expression, start}
 use Rattle.c_checked.specs.declared.expression.Fixity.{Fixity}
+use Rattle.c_resolved.specs.declared.fault.Fault.{Fault}
 use Rattle.c_resolved.specs.declared.fault.Fault.TheVariants.{NotLvalue}
 use Rattle.c_types.specs.declared.typed.TypedNode.{TypedNode as TypedNode'}
 use Rattle.c_types.specs.Views.{typed_node}
@@ -44,3 +46,21 @@ preceding s at o e fs a = unless (operand_is_lvalue o s e) (start e) NotLvalue f
 
 abbrev pub assigning_to : Names → Expression → ℕ → Option Arithmetic → List FaultAt → Option TypedNode → Option TypedNode → ResolvedExpression
 assigning_to s target at o fs a b = unless (is_lvalue s target) (start target) NotLvalue fs (assigning o at fs a b)
+
+-- a call that is right in itself, but has a meaning in some places alone, after arguments with these faults
+abbrev pub allowed_call : Bool → ℕ → Fault → List FaultAt → Option TypedNode → ResolvedExpression
+allowed_call allowed at f fs a = only_where allowed at f (record { found = a; faults = fs })
+
+-- ---- kinds of expressions
+
+abbrev pub is_conditional_or_assignment : Expression → Bool
+is_conditional_or_assignment (trees.Conditional c at a b) = true
+is_conditional_or_assignment (trees.Assign a at o b) = true
+is_conditional_or_assignment other = false
+
+-- with several operands
+abbrev pub has_several : Expression → Bool
+has_several (trees.Index a at i) = true
+has_several (trees.Binary a at o b) = true
+has_several (trees.Comma a at b) = true
+has_several other = is_conditional_or_assignment other

@@ -1,7 +1,7 @@
 -- What the checker's values mean.
 use Rattle.std.specs.Prelude.{ℕ, List, [], ◌∷◌, ◌++◌, take, drop}
 use Rattle.std.specs.Borrow.{Bor}
-use Rattle.c_expressions.specs.declared.expressions.Context.{Context}
+use Rattle.c_expressions.specs.declared.context.Context.{Context}
 use Rattle.c_expressions.specs.declared.scopes.Entity.{Entity as Entity'}
 use Rattle.c_expressions.specs.declared.scopes.Entity.TheVariants as entities
 use Rattle.c_expressions.specs.declared.scopes.Scopes.{Scopes}

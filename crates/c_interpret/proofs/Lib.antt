@@ -1,10 +1,3 @@
-pub mod Stacks
 pub mod Reached
-pub mod Lists
-pub mod LocalsLemmas
-pub mod Handlers
-pub mod Finishing
-pub mod Operating
-pub mod Deep
 pub mod Meanings
 pub mod TextLemmas

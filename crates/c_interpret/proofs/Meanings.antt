@@ -11,7 +11,8 @@ use Rattle.c_model.specs.Expressions.{no_exception, enter}
 use Rattle.source_machine.specs.Frames as frames
 use Rattle.source_machine.specs.Machine.{Machine}
 use Rattle.source_machine.specs.Waiting.{comes_to}
-use Rattle.c_interpret.specs.Runs.{beginning, Ran, ShownPart, Means, MeansPart, end_of}
+use Rattle.source_machine.specs.Runs.{beginning}
+use Rattle.c_interpret.specs.Runs.{Ran, ShownPart, Means, MeansPart, end_of}
 
 -- the machine with which a program begins comes to what its run comes to
 pub begins : (p : Program) (arg : ℤ) (n : ℕ) (vs : List ℕ) → vs ≡ main_arguments (slice_get p.functions p.main) arg

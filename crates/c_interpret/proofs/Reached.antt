@@ -14,8 +14,8 @@ use Rattle.source_machine.specs.Laws.{is_over, distance}
 use Rattle.source_machine.proofs.KeepingSteps.{keeps_meaning}
 use Rattle.source_machine.proofs.Decreasing.{decreases}
 use Rattle.source_machine.proofs.WholeRuns.{shows_before}
-use Rattle.c_interpret.specs.declared.machine.Machine.{Machine as Machine'}
-use Rattle.c_interpret.specs.Machines.{machine_of}
+use Rattle.source_steps.specs.declared.machine.Machine.{Machine as Machine'}
+use Rattle.source_steps.specs.Machines.{machine_of}
 use Rattle.c_interpret.specs.Runs.{Turned, Ran, ShownPart}
 
 -- a fact holds where there is an error

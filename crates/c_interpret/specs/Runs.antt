@@ -1,23 +1,19 @@
 -- What runs of the machine show, and how they end.
-use Rattle.std.specs.Prelude.{◌≡◌, ℕ, List, [], ◌++◌, Option, Some, None}
+use Rattle.std.specs.Prelude.{◌≡◌, List, ◌++◌, Option, Some, None}
 use Rattle.seh_num.specs.declared.width.Width.TheVariants.{W32}
 use Rattle.seh_num.specs.declared.event.Event.{Event}
 use Rattle.seh_num.specs.Widths.{signed}
 use Rattle.c_checked.specs.Program.{Program}
 use Rattle.c_model.specs.declared.ended.Ended.{Ended}
 use Rattle.c_model.specs.declared.ended.Ended.TheVariants.{Exit}
-use Rattle.c_model.specs.State.{State, Result, Value, End, how_of, state_of}
-use Rattle.c_model.specs.Meaning.{does, start, Shown}
+use Rattle.c_model.specs.State.{Result, Value, End, how_of, state_of}
+use Rattle.c_model.specs.Meaning.{does, Shown}
 use Rattle.c_model.specs.Laws.{IsPrefixOf}
 use Rattle.source_machine.specs.Frames.{Next}
 use Rattle.source_machine.specs.Machine.{Machine, step}
 use Rattle.source_machine.specs.Waiting.{comes_to}
-use Rattle.c_interpret.specs.declared.machine.Machine.{Machine as Machine'}
-use Rattle.c_interpret.specs.Machines.{machine_of}
-
--- a machine that has done nothing yet
-abbrev pub beginning : Program → ℕ → Next → Machine
-beginning program n next = record { state = start program n; handlers = []; stack = []; next = next }
+use Rattle.source_steps.specs.declared.machine.Machine.{Machine as Machine'}
+use Rattle.source_steps.specs.Machines.{machine_of}
 
 -- a step was made, and the receiver took what it shows
 pub record Turned {X : Type 0} (took : X → List Event → X → Type 0) (program : Program) (m : Machine') (next : Next) (x : X) (m' : Machine') (next' : Next) (x' : X) : Type 0 where

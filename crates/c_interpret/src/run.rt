@@ -7,22 +7,23 @@ ghost use Rattle.c_model.specs.Source.{data_end as model_data_end};
 ghost use Rattle.c_model.specs.Meaning as meaning;
 ghost use Rattle.source_machine.specs.Frames as frames;
 ghost use Rattle.source_machine.specs.Laws.{is_over};
-ghost use Rattle.c_interpret.specs.Views as views;
-ghost use Rattle.c_interpret.specs.Machines.{machine_of, state_of};
+ghost use Rattle.source_plans.specs.Views as views;
+ghost use Rattle.source_steps.specs.Machines.{machine_of, state_of};
+ghost use Rattle.source_machine.specs.Runs as model_runs;
 ghost use Rattle.c_interpret.specs.Runs as runs;
 ghost use Rattle.c_interpret.specs.Runs.{Turned, Ran, ShownPart, Means, MeansPart};
 
-use crate::activations::Activations;
-use crate::calls::low_signed;
-use crate::frame::{Callee, Finish, Next, Outcome};
-use crate::machine::{Machine, Step};
-use crate::place::{NO_EXCEPTION, Place};
 use c_checked::checked::Checked;
 use c_model::ended::Ended;
 use seh_io::receiver::Events;
 use seh_num::extension::wrap;
 use seh_num::width::Width;
 use source_operations::memory::{data_end, first_memory};
+use source_plans::frame::{Callee, Finish, Next, Outcome};
+use source_plans::place::{NO_EXCEPTION, Place};
+use source_steps::activations::Activations;
+use source_steps::calls::low_signed;
+use source_steps::machine::{Machine, Step};
 use std::alloc::{AllocError, Global};
 
 /// How the run ended, if it is over.
@@ -91,7 +92,7 @@ fn first_machine<'p>(
     program: &'p Checked,
     budget: u64,
 ) -> Result<Machine<'p>, AllocError>
-    ensures { IfOk result (λ m. (next : frames.Next) → machine_of m next [] ≡ runs.beginning
+    ensures { IfOk result (λ m. (next : frames.Next) → machine_of m next [] ≡ model_runs.beginning
         (whole.program program.now) budget next) }
 {
     Ok(Machine {

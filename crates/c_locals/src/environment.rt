@@ -7,7 +7,7 @@ ghost use Rattle.c_expressions.specs.Kept.{least_of, kept};
 ghost use Rattle.c_expressions.specs.Views.{names_of, scopes_of};
 ghost use Rattle.c_locals.specs.Views.{reach, environment, numbering, within, in_loop, in_body, in_handler, in_last, names_within, filter_names_within};
 
-use c_expressions::expressions::Context;
+use c_expressions::context::Context;
 use c_expressions::least::Least;
 use c_expressions::scopes::Scopes;
 use c_operations::operation::Size;

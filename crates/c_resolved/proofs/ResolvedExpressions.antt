@@ -37,7 +37,7 @@ use Rattle.c_resolved.specs.declared.fault.Fault.{Fault}
 use Rattle.c_resolved.specs.declared.fault.Fault.TheVariants.{NotLvalue, TypeClash, ArgCount, CodeOutsideFilter, InfoOutsideFilter, AbnormalOutsideFinally}
 use Rattle.c_resolved.specs.Types.{plain, pointer_to, pointed, is_integer, is_scalar, is_sized_pointer, access_of, width_of, size_of}
 use Rattle.c_resolved.specs.Operators.{TypedNode, typed, only_if, int, as_is, as_index, unary_of, binary_of, cast_of, element_of, assigned, compound_assigned, incremented, conditional_of, comma_of, lvalue_of}
-use Rattle.c_resolved.specs.Expressions.{Entity, LocalVariable, GlobalVariable, GlobalArray, UserFunction, BuiltInFunction, CodeFunction, AbnormalFunction, BuiltInConstant, Names, FaultAt, fault_at, ResolvedExpression, ruled, rule_1, rule_2, rule_3, unless, integer_base, constant, literal, name, is_lvalue, is_global, is_addressable, operand_is_lvalue, unsigned, field, Wanted, OfType, ZeroLiteral, built_in_wants, built_in_result, fits, passed, Argument, Passed, before, spoiled, pass, pass_all, faults_of, called, call_with, call, changed, resolve_expression, resolve_arguments}
+use Rattle.c_resolved.specs.Expressions.{Entity, LocalVariable, GlobalVariable, GlobalArray, UserFunction, BuiltInFunction, CodeFunction, AbnormalFunction, BuiltInConstant, Names, FaultAt, fault_at, ResolvedExpression, ruled, rule_1, rule_2, rule_3, unless, integer_base, constant, literal, name, is_lvalue, is_global, is_addressable, operand_is_lvalue, unsigned, field, Wanted, OfType, ZeroLiteral, built_in_wants, built_in_result, fits, passed, Argument, Passed, before, spoiled, pass, pass_all, faults_of, called, call_with, only_where, call, changed, resolve_expression, resolve_arguments}
 use Rattle.c_resolved.specs.Program.{result_size}
 use Rattle.c_resolved.proofs.TypeFacts.{pointer_scalar, size_in_memory_is, pointer_to_pointer, can_become_scalar}
 use Rattle.c_resolved.proofs.Operands.{IsGood, GoodIf, HasSize, and_true, typed_good, as_type_has, has_size}
@@ -301,15 +301,20 @@ built_in_good S Put es p q = record { sound = and_true p q; sized = refl; zero =
 built_in_good S Protect es p q = record { sound = and_true p q; sized = refl; zero = λ z. absurd (cc) }
 built_in_good S RaiseException es p q = record { sound = and_true p q; sized = refl; zero = λ z. absurd (cc) }
 
+-- a call that has a meaning in some places alone, whose node has no arguments
+only_where_settled : (S : Scope) (b : Bool) (at : ℕ) (f : Fault) (ws : List Wanted) (t : CType) (n : nodes.Node) (args : List Argument) → AllSettled S args → (b ≡ true → IsGood S (typed t n))
+    → IsSettled S (only_where b at f (call_with at ws t (λ es. n) args))
+only_where_settled S b at f ws t n args g h =
+    let r = call_with at ws t (λ es. n) args in
+    unless_settled S b at f r.faults r λ e. call_with_settled S at ws t (λ es. n) args g (λ es p q. h e)
+
 call_settled : (S : Scope) (s : Names) → NamesFit S s → (at : ℕ) (e : Option Entity) (args : List Argument) → MeaningFits S.functions S.sizes e → AllSettled S args → IsSettled S (call s at e args)
 call_settled S s fit at (Some (UserFunction f t ps)) args h g = call_with_settled S at (map OfType ps) t (nodes.Call f) args g (λ es p q. user_good S f t ps es h p q)
 call_settled S s fit at (Some (BuiltInFunction k)) args h g = call_with_settled S at (built_in_wants k) (built_in_result k) (nodes.CallBuiltIn k) args g (λ es p q. built_in_good S k es p q)
 call_settled S s fit at (Some CodeFunction) args h g =
-    unless_settled S s.code at CodeOutsideFilter (faults_of args) (call_with at [] unsigned (λ es. nodes.ExceptionCode) args) λ e.
-    call_with_settled S at [] unsigned (λ es. nodes.ExceptionCode) args g (λ es p q. typed_good S unsigned nodes.ExceptionCode refl (fit.code e) refl)
+    only_where_settled S s.code at CodeOutsideFilter [] unsigned nodes.ExceptionCode args g λ e. typed_good S unsigned nodes.ExceptionCode refl (fit.code e) refl
 call_settled S s fit at (Some AbnormalFunction) args h g =
-    unless_settled S s.abnormal at AbnormalOutsideFinally (faults_of args) (call_with at [] int (λ es. nodes.AbnormalTermination) args) λ e.
-    call_with_settled S at [] int (λ es. nodes.AbnormalTermination) args g (λ es p q. typed_good S int nodes.AbnormalTermination refl (fit.abnormal e) refl)
+    only_where_settled S s.abnormal at AbnormalOutsideFinally [] int nodes.AbnormalTermination args g λ e. typed_good S int nodes.AbnormalTermination refl (fit.abnormal e) refl
 call_settled S s fit at other args h g = tt
 
 -- ---- expressions

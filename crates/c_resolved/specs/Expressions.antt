@@ -226,11 +226,15 @@ called t make p = record { found = elim p.found [ Some es ↦ Some (typed t (mak
 abbrev pub call_with : ℕ → List Wanted → CType → (Arguments → nodes.Node) → List Argument → ResolvedExpression
 call_with at ws t make args = unless (nat_eq (length ws) (length args)) at ArgCount (faults_of args) (called t make (pass_all ws args))
 
+-- a call that is right in itself, but has a meaning in some places alone
+abbrev pub only_where : Bool → ℕ → Fault → ResolvedExpression → ResolvedExpression
+only_where allowed at fault r = unless allowed at fault r.faults r
+
 abbrev pub call : Names → ℕ → Option Entity → List Argument → ResolvedExpression
 call s at (Some (UserFunction f t ps)) args = call_with at (map OfType ps) t (nodes.Call f) args
 call s at (Some (BuiltInFunction k)) args = call_with at (built_in_wants k) (built_in_result k) (nodes.CallBuiltIn k) args
-call s at (Some CodeFunction) args = unless s.code at CodeOutsideFilter (faults_of args) (call_with at [] unsigned (λ es. nodes.ExceptionCode) args)
-call s at (Some AbnormalFunction) args = unless s.abnormal at AbnormalOutsideFinally (faults_of args) (call_with at [] int (λ es. nodes.AbnormalTermination) args)
+call s at (Some CodeFunction) args = only_where s.code at CodeOutsideFilter (call_with at [] unsigned (λ es. nodes.ExceptionCode) args)
+call s at (Some AbnormalFunction) args = only_where s.abnormal at AbnormalOutsideFinally (call_with at [] int (λ es. nodes.AbnormalTermination) args)
 call s at other args = bad (fault_at at UnknownName ++ faults_of args)
 
 -- ---- expressions

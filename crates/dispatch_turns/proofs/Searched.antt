@@ -75,6 +75,7 @@ module _ (t : Functions) (fs : List Funclet) (program : LinearProgram) (p : Plan
       record {
         filter = k;
         handler = f;
+        asked = e;
         rest = rest;
         state = new;
         turns =

@@ -1,5 +1,5 @@
 -- What a turn that searches comes to, against the search of linear code.
-use Rattle.std.specs.Prelude.{◌≡◌, ℕ, ◌+◌, ◌%◌, ◌^◌, ◌<◌, List, [], ◌∷◌}
+use Rattle.std.specs.Prelude.{◌≡◌, ℕ, ◌+◌, ◌%◌, ◌^◌, ◌<◌, List, [], ◌∷◌, Some}
 use Rattle.seh_num.specs.declared.event.Event.TheVariants as events
 use Rattle.seh_num.specs.declared.end.RunEnd.TheVariants as ends
 use Rattle.x64_instr.specs.declared.register.Reg.TheVariants.{Rcx, Rsp}
@@ -28,6 +28,7 @@ module _ (t : Functions) (fs : List Funclet) (program : LinearProgram) (p : Plan
   pub record FilterBegins (s : State) (at : ℕ) (turn : Turn) (found : List Handler) (exception : Exception) (resumption : Resumption) (acts : List Activation) (c : Configuration) : Type 0 where
     pub filter : ℕ
     pub handler : Handler
+    pub asked : handler.filter ≡ Some filter
     pub rest : List Handler
     pub state : State
     pub turns : turn ≡ Continues state (events.Filter (filter + 1) ∷ [])

@@ -18,7 +18,7 @@ use Rattle.c_resolved.specs.Types.{plain}
 use Rattle.c_resolved.specs.declared.fault.Fault.{Fault}
 use Rattle.c_resolved.specs.declared.fault.Fault.TheVariants.{TypeClash}
 use Rattle.c_resolved.specs.Operators.{TypedNode, typed, compound_assigned, assigned, comma_of}
-use Rattle.c_resolved.specs.Expressions.{Entity, LocalVariable, GlobalVariable, GlobalArray, UserFunction, BuiltInFunction, CodeFunction, AbnormalFunction, BuiltInConstant, Names, FaultAt, ResolvedExpression, good, ruled, rule_1, rule_2, rule_3, unless, literal, name, field, Wanted, built_in_wants, fits, passed, Argument, Passed, before, spoiled, pass, pass_all, called, call_with, call, changed, resolve_expression, resolve_arguments, OfType, ZeroLiteral}
+use Rattle.c_resolved.specs.Expressions.{Entity, LocalVariable, GlobalVariable, GlobalArray, UserFunction, BuiltInFunction, CodeFunction, AbnormalFunction, BuiltInConstant, Names, FaultAt, ResolvedExpression, good, ruled, rule_1, rule_2, rule_3, unless, literal, name, field, Wanted, built_in_wants, fits, passed, Argument, Passed, before, spoiled, pass, pass_all, called, call_with, only_where, call, changed, resolve_expression, resolve_arguments, OfType, ZeroLiteral}
 use Rattle.ir_bounds.specs.Nesting.{expression_nesting, arguments_nesting, node_nesting, expression_reads, arguments_read, node_reads}
 use Rattle.frame_bounds.proofs.ShallowOperators.{nesting, reads, IsShallowIn, ShallowIf, deeper, binary_shallow, element_shallow, assigned_shallow, compound_shallow, comma_shallow, incremented_shallow, unary_shallow, cast_shallow, conditional_shallow}
 
@@ -31,6 +31,9 @@ ruled_shallow n at f fs (Some t) h = h
 unless_shallow : (n : ℕ) (b : Bool) (at : ℕ) (f : Fault) (fs : List FaultAt) (j : ResolvedExpression) → ShallowIf n j.found → ShallowIf n (unless b at f fs j).found
 unless_shallow n true at f fs j h = h
 unless_shallow n false at f fs j h = tt
+
+only_where_shallow : (n : ℕ) (b : Bool) (at : ℕ) (f : Fault) (r : ResolvedExpression) → ShallowIf n r.found → ShallowIf n (only_where b at f r).found
+only_where_shallow n b at f r h = unless_shallow n b at f r.faults r h
 
 -- where it holds only where the test does
 where_shallow : (n : ℕ) (b : Bool) (at : ℕ) (f : Fault) (fs : List FaultAt) (j : ResolvedExpression) → (b ≡ true → ShallowIf n j.found) → ShallowIf n (unless b at f fs j).found
@@ -124,8 +127,8 @@ with_shallow n at ws t make args h go = unless_shallow n (nat_eq (length ws) (le
 call_shallow : (s : Names) (n at : ℕ) (e : Option Entity) (args : List Argument) → ArgumentsShallow args n → ShallowIf n (call s at e args).found
 call_shallow s n at (Some (UserFunction f t ps)) args h = with_shallow n at (map OfType ps) t (nodes.Call f) args h (λ es. (omega arith, omega arith))
 call_shallow s n at (Some (BuiltInFunction k)) args h = with_shallow n at (built_in_wants k) _ (nodes.CallBuiltIn k) args h (λ es. (omega arith, omega arith))
-call_shallow s n at (Some CodeFunction) args h = unless_shallow n s.code at _ _ _ (with_shallow n at [] _ (λ es. nodes.ExceptionCode) args h (λ es. (omega arith, omega arith)))
-call_shallow s n at (Some AbnormalFunction) args h = unless_shallow n s.abnormal at _ _ _ (with_shallow n at [] _ (λ es. nodes.AbnormalTermination) args h (λ es. (omega arith, omega arith)))
+call_shallow s n at (Some CodeFunction) args h = only_where_shallow n s.code at _ _ (with_shallow n at [] _ (λ es. nodes.ExceptionCode) args h (λ es. (omega arith, omega arith)))
+call_shallow s n at (Some AbnormalFunction) args h = only_where_shallow n s.abnormal at _ _ (with_shallow n at [] _ (λ es. nodes.AbnormalTermination) args h (λ es. (omega arith, omega arith)))
 call_shallow s n at other args h = tt
 
 wider : (args : List Argument) (m n : ℕ) → m ≤ n → ArgumentsShallow args m → ArgumentsShallow args n

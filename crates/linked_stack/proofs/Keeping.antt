@@ -1,5 +1,5 @@
 -- The list outlives stores below the stack pointer, and all that leaves the stack from there up as it is.
-use Rattle.std.proofs.Common.{◌≡◌, ℕ, ◌+◌, ◌%◌, ◌^◌, ◌<◌, ◌≤◌, Bool, true, false, cond, Option, Some, Ok, List, refl, sym, ap, ◌∙◌, arith}
+use Rattle.std.proofs.Common.{◌≡◌, ℕ, ◌+◌, ◌^◌, ◌<◌, ◌≤◌, Bool, true, false, cond, Option, Some, Ok, List, refl, sym, ap, ◌∙◌, arith}
 use Rattle.std.specs.Prelude.{nat_lt}
 use Rattle.std.proofs.lemmas.Bool.{ltb-false}
 use Rattle.flat_memory.specs.declared.protection.Protection.{Protection}
@@ -16,7 +16,7 @@ use Rattle.linear_machine.specs.Frames.{BodyName, FunctionBody, FuncletBody}
 use Rattle.raw_stack.proofs.Unchanged.{SameCode, tail_at_same, refused_same, word_kept, word_same}
 use Rattle.linked_stack.specs.ImagePlan.{Plan}
 use Rattle.linked_stack.specs.Linked.{Activation, Leads, Reaches}
-use Rattle.linked_stack.specs.Laws.{KeepsAbove, KeptByStoresBelow, KeepsStack, KeptByOtherMemories}
+use Rattle.linked_stack.specs.Laws.{KeepsAbove, KeptByStoresBelow, KeptByOtherMemories}
 use Rattle.linked_stack.proofs.Kept.{ReadsSame, list_kept}
 
 -- ---- stores below the stack pointer

@@ -1,5 +1,5 @@
 -- The list stands in each memory that reads the same in the stack, from its stack pointer up, and has the same code.
-use Rattle.std.proofs.Common.{◌≡◌, ℕ, ◌+◌, ◌<◌, ◌≤◌, Bool, true, false, Ok, List, [], ◌∷◌, refl, ◌∙◌, arith}
+use Rattle.std.proofs.Common.{◌≡◌, ℕ, ◌+◌, ◌≤◌, Bool, true, false, Ok, List, [], ◌∷◌, ◌∙◌, arith}
 use Rattle.flat_memory.specs.Memory.{Memory}
 use Rattle.x64_machine.specs.declared.context.Context.{Context}
 use Rattle.x64_machine.specs.Contexts.{context_of}
@@ -84,13 +84,14 @@ module _ (m m' : Memory) (top : ℕ) where
           entry = h.entry;
           waits = body_kept c f.size (temporaries_end y b.body f.size) b acts r fits (omega arith) h.waits;
           pointers = pointers_kept y (rsp c) f.size below r fits h.pointers;
+          returns = h.returns;
         }
 
-    pub leaf_kept : (c : Context) (b : Frame) (acts : List Activation) → ReadsSame m m' (rsp c) top → rsp c + home_end ≤ top → LeafWaits t fs program p m c b acts → LeafWaits t fs program p m' c b acts
-    leaf_kept c b acts r fits h =
+    pub leaf_kept : (c : Context) (back : ℕ) (b : Frame) (below : List Item) (acts : List Activation) → ReadsSame m m' (rsp c) top → rsp c + home_end ≤ top → LeafWaits t fs program p m c back b below acts → LeafWaits t fs program p m' c back b below acts
+    leaf_kept c back b below acts r fits h =
         let home = h.home in
         let w = words_fit m (rsp c + (p.layout b.body).temporaries) (rsp c + home_end) b.temporaries h.waits.temporaries in
-        record { leaf = h.leaf; home = h.home; none = h.none; waits = body_kept c (p.layout b.body).temporaries home_end b acts r (omega arith) fits h.waits }
+        record { leaf = h.leaf; home = h.home; none = h.none; waits = body_kept c (p.layout b.body).temporaries home_end b acts r (omega arith) fits h.waits; returns = h.returns }
 
     pub own_kept : (at : ℕ) (d : DispatchRecord) → ReadsSame m m' at top → at + 1568 ≤ top → IsOwnRecord t fs program p m at d → IsOwnRecord t fs program p m' at d
     own_kept at d r fits h = record { fits = h.fits; room = r.places at (omega arith) fits ∙ h.room }
@@ -149,7 +150,7 @@ module _ (m m' : Memory) (t : Functions) (fs : List Funclet) (program : LinearPr
       let e = set_head c.kept (rsp c + 8) (omega arith) in
       let l = in_stack t fs program p m (after_leaf c back) is below (activations_below b.body acts) s.1 h.2 in
       let outer = list_kept (after_leaf c back) is below (activations_below b.body acts) (higher m m' 0x70800000 (rsp c) (rsp (after_leaf c back)) (omega arith) r) s.1 h.2 in
-      record { stack = (leaf_stands m m' 0x70800000 t fs program p c back r (omega arith) s.0, outer.stack); linked = (leaf_kept m m' 0x70800000 t fs program p c b acts r h.0.home h.0, h.1, outer.linked) }
+      record { stack = (leaf_stands m m' 0x70800000 t fs program p c back r (omega arith) s.0, outer.stack); linked = (leaf_kept m m' 0x70800000 t fs program p c back b below acts r h.0.home h.0, h.1, outer.linked) }
   list_kept c (Searching d ∷ is) (Searches exception resumption asked rest ∷ below) acts r s h =
       let a = s.0.above in
       let l = in_stack t fs program p m (context_of d.saved) is below acts s.1 h.1 in

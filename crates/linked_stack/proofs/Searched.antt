@@ -1,5 +1,5 @@
 -- In one frame a search asks the record of the first handler.
-use Rattle.std.proofs.Common.{◌≡◌, ◌⊎◌, inl, inr, ℕ, zero, suc, ◌+◌, Bool, true, false, cond, Option, Some, None, List, [], ◌∷◌, drop, refl, sym, ap, ◌∙◌, arith}
+use Rattle.std.proofs.Common.{◌≡◌, ◌⊎◌, inl, inr, ℕ, suc, ◌+◌, Bool, true, false, cond, Option, Some, None, List, [], ◌∷◌, drop, refl, ap, ◌∙◌, arith}
 use Rattle.std.specs.Prelude.{filter, ◌==◌, ◌++◌}
 use Rattle.std.specs.List.{AllByRecursion}
 use Rattle.eh_tables.specs.declared.scope.ScopeRecord.{ScopeRecord}
@@ -12,10 +12,9 @@ use Rattle.linear_code.specs.declared.program.Region.{Region}
 use Rattle.linear_code.specs.declared.program.RegionKind.{RegionKind}
 use Rattle.linear_code.specs.declared.program.RegionKind.TheVariants as kinds
 use Rattle.linear_code.specs.Program.{LinearProgram}
-use Rattle.linear_machine.specs.Frames.{BodyName, Handler}
+use Rattle.linear_machine.specs.Frames.{BodyName}
 use Rattle.linear_machine.specs.Regions.{holds, handlers_of, handlers_in}
-use Rattle.linear_machine.specs.Regions as regions
-use Rattle.linked_stack.specs.ImagePlan.{Plan, InCode, IsHandlerRow, IsOfKind, IsRegion, AreRegions}
+use Rattle.linked_stack.specs.ImagePlan.{Plan, InCode, IsHandlerRow, IsOfKind, AreRegions}
 use Rattle.linked_stack.specs.Frames.{NoHandler, FirstHandler}
 use Rattle.linked_stack.specs.Laws.{SearchMeetsTheHandlers}
 use Rattle.linked_stack.proofs.Places.{row_before_dropped, regions_dropped, dropped_again, all_dropped}

@@ -1,6 +1,6 @@
 -- In one frame an unwinding runs the same `__finally` block first, or leaves the frame or stops there.
-use Rattle.std.proofs.Common.{◌≡◌, ◌≢◌, ◌⊎◌, inl, inr, ℕ, zero, suc, ◌+◌, Bool, true, false, cond, Option, Some, None, List, [], ◌∷◌, length, drop, refl, sym, ap, ◌∙◌, arith}
-use Rattle.std.specs.Prelude.{filter, nat_eq, ◌==◌, ◌&&◌, ◌||◌}
+use Rattle.std.proofs.Common.{◌≡◌, ◌≢◌, ◌⊎◌, inl, inr, ℕ, suc, ◌+◌, Bool, true, false, cond, Some, List, [], ◌∷◌, length, drop, refl, sym, ap, ◌∙◌, arith}
+use Rattle.std.specs.Prelude.{filter, ◌==◌, ◌&&◌, ◌||◌}
 use Rattle.std.specs.List.{AllByRecursion}
 use Rattle.std.proofs.lemmas.Bool.{eq-eqb, ne_eqb}
 use Rattle.eh_tables.specs.declared.scope.ScopeRecord.{ScopeRecord}
@@ -13,10 +13,10 @@ use Rattle.linear_code.specs.declared.program.Region.{Region}
 use Rattle.linear_code.specs.declared.program.RegionKind.{RegionKind}
 use Rattle.linear_code.specs.declared.program.RegionKind.TheVariants as kinds
 use Rattle.linear_code.specs.Program.{LinearProgram}
-use Rattle.linear_machine.specs.Frames.{Target, Item, Waits, Unwinds, Store, Configuration, Seen, Next, pick}
+use Rattle.linear_machine.specs.Frames.{Target, Waits, Unwinds, Store, Configuration, Seen, Next, pick}
 use Rattle.linear_machine.specs.Regions.{holds, leads_to, stops}
 use Rattle.linear_machine.specs.Unwinding.{arrive, left_store, run_finally, leave_region, unwind_body}
-use Rattle.linked_stack.specs.ImagePlan.{Plan, InCode, IsFinallyRow, IsOfKind, IsRegion, AreRegions, target_rva}
+use Rattle.linked_stack.specs.ImagePlan.{Plan, InCode, IsFinallyRow, IsOfKind, AreRegions, target_rva}
 use Rattle.linked_stack.specs.Frames.{NoBlock, Arrives, FirstBlock}
 use Rattle.linked_stack.specs.Laws.{UnwindingRunsTheBlocks, UnwindingStopsAtTheTarget}
 use Rattle.linked_stack.proofs.Places.{row_before_dropped, regions_dropped, dropped_again, all_dropped}

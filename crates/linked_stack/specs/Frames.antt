@@ -1,5 +1,5 @@
 -- What searches and unwindings come to in a single frame, on both sides.
-use Rattle.std.specs.Prelude.{◌≡◌, ◌≢◌, ℕ, suc, ◌+◌, true, ◌∷◌, [], List, length, drop, filter, Option, Some, None}
+use Rattle.std.specs.Prelude.{◌≡◌, ℕ, ◌+◌, true, ◌∷◌, [], List, Option, Some, None}
 use Rattle.eh_tables.specs.declared.scope.ScopeRecord.{ScopeRecord}
 use Rattle.virtual_unwind.specs.CallerOf.{Functions}
 use Rattle.seh_walk.specs.Asked.{AskedRecord, first_with_jump_target, first_finally}
@@ -7,8 +7,8 @@ use Rattle.host_model.specs.declared.funclet.Funclet.{Funclet}
 use Rattle.host_model.specs.Dispatch.{row_before}
 use Rattle.linear_code.specs.declared.program.Region.{Region}
 use Rattle.linear_code.specs.Program.{LinearProgram}
-use Rattle.linear_machine.specs.Frames.{BodyName, Target, Item, Waits, Unwinds, Store, Configuration, Seen, Next}
-use Rattle.linear_machine.specs.Regions.{holds, handlers_in}
+use Rattle.linear_machine.specs.Frames.{BodyName, Target, Waits, Unwinds, Store, Configuration, Seen, Next}
+use Rattle.linear_machine.specs.Regions.{handlers_in}
 use Rattle.linear_machine.specs.Unwinding.{arrive, left_store, run_finally, unwind_body}
 use Rattle.linked_stack.specs.ImagePlan.{Plan, IsHandlerRow, IsFinallyRow}
 

@@ -1,5 +1,5 @@
 -- Where an image has the code of a linear program, and what its function table says of it.
-use Rattle.std.specs.Prelude.{◌≡◌, ◌⊎◌, ℕ, suc, ◌+◌, ◌%◌, ◌^◌, ◌<◌, ◌≤◌, Bool, true, false, ◌||◌, ◌==◌, List, [], ◌∷◌, length, slice_get, Option, Some, None}
+use Rattle.std.specs.Prelude.{◌≡◌, ◌⊎◌, ℕ, ◌+◌, ◌%◌, ◌^◌, ◌<◌, ◌≤◌, Bool, true, false, ◌||◌, ◌==◌, List, [], ◌∷◌, length, slice_get, Option, Some, None}
 use Rattle.seh_num.specs.declared.event.Event.TheVariants as events
 use Rattle.x64_machine.specs.declared.cpu.Cpu.{Cpu}
 use Rattle.eh_tables.specs.declared.scope.ScopeRecord.{ScopeRecord}
@@ -10,7 +10,6 @@ use Rattle.seh_walk.specs.Asked as rows
 use Rattle.seh_walk.specs.Asked.{is_end, is_searched, is_unwound}
 use Rattle.host_model.specs.declared.funclet.Funclet.{Funclet}
 use Rattle.host_model.specs.Funclets.{by_kind, arrivals}
-use Rattle.host_model.specs.Dispatch.{row_before}
 use Rattle.template_code.specs.declared.layout.Layout.{Layout}
 use Rattle.linear_code.specs.declared.program.Region.{Region}
 use Rattle.linear_code.specs.declared.program.RegionKind.{RegionKind}

@@ -1,5 +1,5 @@
 -- The plain list of what waits in linear code, as it stands in the machine's stack, item by item.
-use Rattle.std.specs.Prelude.{◌≡◌, ◌⊎◌, ℕ, suc, ◌+◌, ◌*◌, ◌%◌, ◌^◌, ◌<◌, ◌≤◌, true, false, not, ◌==◌, List, [], ◌∷◌, ◌++◌, length, drop, filter, slice_get, Option, Some, None, Ok}
+use Rattle.std.specs.Prelude.{◌≡◌, ◌⊎◌, ℕ, suc, ◌+◌, ◌-◌, ◌*◌, ◌%◌, ◌^◌, ◌<◌, ◌≤◌, true, false, not, ◌==◌, List, [], ◌∷◌, ◌++◌, length, drop, filter, slice_get, Option, Some, None, Ok}
 use Rattle.std.specs.List.{AllByRecursion}
 use Rattle.host_layout.specs.declared.range.TheConstants.{STACK_END}
 use Rattle.flat_memory.specs.Memory.{Memory}
@@ -17,13 +17,17 @@ use Rattle.seh_records.specs.Laws.{Fits}
 use Rattle.host_model.specs.declared.funclet.Funclet.{Funclet}
 use Rattle.host_model.specs.Dispatch.{row_before, rows_of, parameters, count}
 use Rattle.template_code.specs.declared.layout.Layout.{Layout}
+use Rattle.template_code.specs.Bytes.{sizes}
 use Rattle.template_code.specs.Slots.{temporary_at, local_at}
+use Rattle.template_code.specs.Calls.{return_at, passing_code, finally_arguments}
+use Rattle.linear_code.specs.declared.instruction.Instruction.{Instruction}
+use Rattle.linear_code.specs.declared.instruction.Instruction.TheVariants as instructions
 use Rattle.c_model.specs.State.{Exception}
 use Rattle.linear_code.specs.declared.program.Region.{Region}
-use Rattle.linear_code.specs.declared.program.FuncletKind.{FuncletKind}
 use Rattle.linear_code.specs.declared.program.FuncletKind.TheVariants as funclets
 use Rattle.linear_code.specs.Program.{LinearProgram, LinearBody, LinearFunclet}
 use Rattle.linear_machine.specs.Frames.{BodyName, FunctionBody, FuncletBody, body_of, Frame, Handler, Target, Resumption, Item, Waits, Searches, Unwinds}
+use Rattle.linear_machine.specs.Run.{instruction_in}
 use Rattle.linear_machine.specs.Regions.{holds, regions_of, regions_at, regions_left, handlers_in, handlers}
 use Rattle.raw_stack.specs.Stack.{StackFrame, StackItem, Framed, Leaf, Searching, Unwinding, after_frame, after_leaf}
 use Rattle.linked_stack.specs.ImagePlan.{Plan, InCode}
@@ -131,6 +135,12 @@ abbrev pub Leads : Memory → Layout → BodyName → (frame base : ℕ) → Typ
 Leads m y (FunctionBody f) frame base = frame ≡ base
 Leads m y (FuncletBody k) frame base = KeptIn m y frame base
 
+-- where the call that an instruction makes returns to
+abbrev pub return_of : Layout → ℕ → Option Instruction → Option ℕ
+return_of y at (Some (instructions.Call f first count)) = Some (return_at y first (at + sizes (passing_code y first 4 (count - 4))))
+return_of y at (Some (instructions.CallFinally k)) = Some (at + sizes finally_arguments + 5)
+return_of y at i = None
+
 module _ (t : Functions) (fs : List Funclet) (program : LinearProgram) (p : Plan) where
   -- activation number k, by the frame of a body
   pub record Reaches (m : Memory) (name : BodyName) (frame k : ℕ) (acts : List Activation) : Type 0 where
@@ -163,19 +173,27 @@ module _ (t : Functions) (fs : List Funclet) (program : LinearProgram) (p : Plan
   HasPointers m y sp size (Searches exception resumption asked rest ∷ below) = KeepsPointers m y sp size
   HasPointers m y sp size items = Unit {0}
 
+  -- what a body that waits has called returns to where its call ends; the first body returns to 0
+  abbrev pub ReturnsTo : List Item → ℕ → Type 0
+  ReturnsTo [] back = back ≡ 0
+  ReturnsTo (Waits w ∷ below) back = return_of (p.layout w.body) (p.address w.body w.next) (instruction_in (body_of program w.body) w.next) ≡ Some back
+  ReturnsTo items back = Unit {0}
+
   -- in a frame of its own, which has the body's entry
   pub record FrameWaits (m : Memory) (c : Context) (f : StackFrame) (b : Frame) (below : List Item) (acts : List Activation) : Type 0 where
     pub framed : p.leaf b.body ≡ false
     pub entry : f.entry ≡ p.entry b.body
     pub waits : BodyWaits m c f.size (temporaries_end (p.layout b.body) b.body f.size) b acts
     pub pointers : HasPointers m (p.layout b.body) (rsp c) f.size below
+    pub returns : ReturnsTo below f.return_address
 
   -- a leaf function, without one
-  pub record LeafWaits (m : Memory) (c : Context) (b : Frame) (acts : List Activation) : Type 0 where
+  pub record LeafWaits (m : Memory) (c : Context) (back : ℕ) (b : Frame) (below : List Item) (acts : List Activation) : Type 0 where
     pub leaf : p.leaf b.body ≡ true
     pub home : rsp c + home_end ≤ STACK_END
     pub none : regions_of (body_of program b.body) ≡ []
     pub waits : BodyWaits m c (p.layout b.body).temporaries home_end b acts
+    pub returns : ReturnsTo below back
 
   -- ---- what lies below a body
 
@@ -293,7 +311,7 @@ module _ (t : Functions) (fs : List Funclet) (program : LinearProgram) (p : Plan
   abbrev pub Linked : Memory → Context → List StackItem → List Item → List Activation → Type 0
   Linked m c [] [] acts = (acts ≡ []) × (rsp c ≤ STACK_END)
   Linked m c (Framed f ∷ is) (Waits b ∷ below) acts = FrameWaits m c f b below acts × IsAbove b b.body below × Linked m (after_frame c f) is below (activations_below b.body acts)
-  Linked m c (Leaf back ∷ is) (Waits b ∷ below) acts = LeafWaits m c b acts × IsAbove b b.body below × Linked m (after_leaf c back) is below (activations_below b.body acts)
+  Linked m c (Leaf back ∷ is) (Waits b ∷ below) acts = LeafWaits m c back b below acts × IsAbove b b.body below × Linked m (after_leaf c back) is below (activations_below b.body acts)
   Linked m c (Searching r ∷ is) (Searches exception resumption asked rest ∷ below) acts = SearchWaits m c r exception resumption asked rest is below × Linked m (context_of r.saved) is below acts
   Linked m c (Unwinding r ∷ is) (Unwinds rest target ∷ below) acts = UnwindingWaits m c r rest target is below acts × Linked m r.walk is below acts
   Linked m c is items acts = ⊥

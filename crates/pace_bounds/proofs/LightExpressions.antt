@@ -15,7 +15,7 @@ use Rattle.c_parse.specs.Nodes as counted
 use Rattle.c_parse.specs.Nodes.{nodes_of_arguments}
 use Rattle.c_resolved.specs.declared.fault.Fault.{Fault}
 use Rattle.c_resolved.specs.Operators.{TypedNode, compound_assigned, assigned, comma_of}
-use Rattle.c_resolved.specs.Expressions.{Entity, LocalVariable, GlobalVariable, GlobalArray, UserFunction, BuiltInFunction, CodeFunction, AbnormalFunction, BuiltInConstant, Names, FaultAt, ResolvedExpression, ruled, rule_1, rule_2, rule_3, unless, literal, name, field, Wanted, built_in_wants, fits, passed, Argument, Passed, before, spoiled, pass, pass_all, called, call_with, call, changed, resolve_expression, resolve_arguments, OfType, ZeroLiteral}
+use Rattle.c_resolved.specs.Expressions.{Entity, LocalVariable, GlobalVariable, GlobalArray, UserFunction, BuiltInFunction, CodeFunction, AbnormalFunction, BuiltInConstant, Names, FaultAt, ResolvedExpression, ruled, rule_1, rule_2, rule_3, unless, literal, name, field, Wanted, built_in_wants, fits, passed, Argument, Passed, before, spoiled, pass, pass_all, called, call_with, only_where, call, changed, resolve_expression, resolve_arguments, OfType, ZeroLiteral}
 use Rattle.ir_follows.specs.Weights.{expression_weight, node_weight, arguments_weight}
 use Rattle.pace_bounds.proofs.LightOperators.{weight, LightIf, lighter, binary_light, element_light, incremented_light, assigned_light, compound_light, unary_light, cast_light, conditional_light, comma_light}
 
@@ -28,6 +28,9 @@ ruled_light n at f fs (Some t) h = h
 unless_light : (n : ℕ) (b : Bool) (at : ℕ) (f : Fault) (fs : List FaultAt) (j : ResolvedExpression) → LightIf n j.found → LightIf n (unless b at f fs j).found
 unless_light n true at f fs j h = h
 unless_light n false at f fs j h = tt
+
+only_where_light : (n : ℕ) (b : Bool) (at : ℕ) (f : Fault) (r : ResolvedExpression) → LightIf n r.found → LightIf n (only_where b at f r).found
+only_where_light n b at f r h = unless_light n b at f r.faults r h
 
 rule_1_light : (m n at : ℕ) (rule : TypedNode → Option TypedNode) (fs : List FaultAt) (o : Option TypedNode) → LightIf m o → ((a : TypedNode) → weight a ≤ m → LightIf n (rule a)) → LightIf n (rule_1 at rule fs o).found
 rule_1_light m n at rule fs None h go = tt
@@ -106,8 +109,8 @@ with_light n at ws t make args h go = unless_light (1 + n) (nat_eq (length ws) (
 call_light : (s : Names) (n at : ℕ) (e : Option Entity) (args : List Argument) → ArgumentsLight args n → LightIf (1 + n) (call s at e args).found
 call_light s n at (Some (UserFunction f t ps)) args h = with_light n at (map OfType ps) t (nodes.Call f) args h (λ es. omega arith)
 call_light s n at (Some (BuiltInFunction k)) args h = with_light n at (built_in_wants k) _ (nodes.CallBuiltIn k) args h (λ es. omega arith)
-call_light s n at (Some CodeFunction) args h = unless_light (1 + n) s.code at _ _ _ (with_light n at [] _ (λ es. nodes.ExceptionCode) args h (λ es. omega arith))
-call_light s n at (Some AbnormalFunction) args h = unless_light (1 + n) s.abnormal at _ _ _ (with_light n at [] _ (λ es. nodes.AbnormalTermination) args h (λ es. omega arith))
+call_light s n at (Some CodeFunction) args h = only_where_light (1 + n) s.code at _ _ (with_light n at [] _ (λ es. nodes.ExceptionCode) args h (λ es. omega arith))
+call_light s n at (Some AbnormalFunction) args h = only_where_light (1 + n) s.abnormal at _ _ (with_light n at [] _ (λ es. nodes.AbnormalTermination) args h (λ es. omega arith))
 call_light s n at other args h = tt
 
 -- ---- expressions

@@ -13,9 +13,9 @@ use Rattle.template_code.specs.Bytes.{size, sizes}
 use Rattle.template_code.specs.Operations.{before, work}
 use Rattle.template_code.specs.Slots.{fetched, put_back, temporary_at, local_at, fetch_local, keep_local, fetch, keep, operands_code, finish_code}
 use Rattle.template_code.specs.Jumps.{compare_zero, jump_equal, test_code, separator_code}
-use Rattle.template_code.specs.Calls.{arguments_code, call_code, begin_call, passing_code, finally_arguments, epilogue}
+use Rattle.template_code.specs.Calls.{arguments_code, clear_result, call_code, begin_call, passing_code, finally_arguments, epilogue}
 use Rattle.template_code.specs.Template.{template_size, body_size}
-use Rattle.template_code.proofs.Sizes.{sizes_append, call_size, jump_size, call_code_size, passing_call_size, address_size}
+use Rattle.template_code.proofs.Sizes.{sizes_append, call_size, jump_size, passing_call_size, address_size}
 use Rattle.x64_code.specs.Bodies.{label_list}
 use Rattle.x64_code.specs.Linking.{address_or}
 
@@ -49,6 +49,10 @@ keep_some : (y : Layout) (x : Slot) → 0 < sizes (keep y x)
 keep_some y (Temporary i) = let s = put_back_some (temporary_at y i) in omega arith
 keep_some y (Local i) = keep_local_some y.base (local_at y i)
 
+clear_some : 0 < size clear_result
+unfolding size modrm opcode_register
+clear_some = omega arith
+
 nop_some : 0 < sizes separator_code
 unfolding size
 nop_some = omega arith
@@ -65,7 +69,7 @@ template_some y (instructions.JumpIfZero slot label) =
     let s = fetch_some y slot in
     omega (arith, sizes_append (fetch y Rax slot) (compare_zero ∷ jump_equal (0 + sizes (test_code y slot) + 6) 0 ∷ []))
 template_some y (instructions.Call function first count) = let s = passing_call_size y first count 0 0 in omega arith
-template_some y (instructions.CallBuiltIn function first) = let s = call_code_size y (Temporary first) first (0 + 5) 0 in omega arith
+template_some y (instructions.CallBuiltIn function first) = let s = clear_some in omega arith
 template_some y (instructions.CallFinally funclet) = let s = call_size (0 + sizes finally_arguments + 5) 0 in omega arith
 template_some y (instructions.LocalUnwind label) = let s = call_size 15 0 in omega arith
 template_some y instructions.Separator = nop_some

@@ -7,6 +7,8 @@
 #[cfg(test)]
 mod binary;
 #[cfg(test)]
+mod depths;
+#[cfg(test)]
 mod examples;
 #[cfg(test)]
 mod handlers;

@@ -11,6 +11,7 @@ use Rattle.c_model.specs.Laws.{IsPrefixOf}
 use Rattle.source_machine.specs.Frames as frames
 use Rattle.source_machine.specs.Frames.{Next, Over}
 use Rattle.source_machine.specs.Machine.{Machine, step}
+use Rattle.source_machine.specs.Runs.{after}
 use Rattle.source_machine.specs.Waiting.{reaches, comes_to}
 use Rattle.source_machine.specs.Laws.{is_over, distance, ShowsBefore}
 use Rattle.source_machine.proofs.KeepingSteps.{keeps_meaning}
@@ -40,3 +41,14 @@ within program (suc n) m near =
 
 pub shows_before : ShowsBefore
 shows_before program m = within program (suc (distance m)) m (omega arith)
+
+-- ---- many steps
+
+pub one_step_more : (program : Program) (k : ℕ) (m : Machine) → after program (suc k) m ≡ step program (after program k m)
+one_step_more program zero m = refl
+one_step_more program (suc k) m = one_step_more program k (step program m)
+
+-- wherever a run has come, it comes to the same
+pub all_keep : (program : Program) (k : ℕ) (m : Machine) → comes_to program (does program) (after program k m) ≡ comes_to program (does program) m
+all_keep program zero m = refl
+all_keep program (suc k) m = all_keep program k (step program m) ∙ keeps_meaning program m

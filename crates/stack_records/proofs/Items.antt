@@ -1,5 +1,5 @@
 -- A suspended search or unwinding is one item more.
-use Rattle.std.proofs.Common.{◌≡◌, ℕ, ◌+◌, ◌^◌, ◌<◌, ◌≤◌, true, false, List, [], ◌∷◌, refl, sym, subst, ◌∙◌, arith}
+use Rattle.std.proofs.Common.{ℕ, ◌^◌, ◌<◌, List, ◌∷◌, refl, sym, subst, ◌∙◌, arith}
 use Rattle.flat_memory.specs.Memory.{Memory, with_bytes}
 use Rattle.x64_machine.specs.declared.context.Context.{Context}
 use Rattle.x64_machine.specs.Contexts.{context_of}
@@ -17,7 +17,7 @@ use Rattle.linked_stack.specs.ImagePlan.{Plan}
 use Rattle.linked_stack.specs.Linked.{Activation}
 use Rattle.linked_stack.specs.Laws.{Stands}
 use Rattle.linked_stack.proofs.Keeping.{misplaced_same, kept_by_stores_below}
-use Rattle.stack_records.specs.Records.{On, HasRoom, laid}
+use Rattle.stack_records.specs.Records.{On, HasRoom}
 use Rattle.stack_records.specs.Laws.{RecordLeavesTheList, SearchIsOneMore, UnwindingIsOneMore}
 use Rattle.stack_records.proofs.Laying.{bytes, laid_is, keeps_above, data_laid, record_laid, placed_keeps_above, data_placed}
 

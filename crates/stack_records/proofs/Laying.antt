@@ -1,5 +1,5 @@
 -- The memory in which a record and a funclet's return address were laid.
-use Rattle.std.proofs.Common.{◌≡◌, ◌⊎◌, inl, inr, ℕ, zero, suc, ◌+◌, ◌-◌, ◌*◌, ◌/◌, ◌%◌, ◌^◌, ◌<◌, ◌≤◌, Bool, true, false, cond, Option, Some, None, Ok, refl, sym, ap, subst, ◌∙◌, arith}
+use Rattle.std.proofs.Common.{◌≡◌, ◌⊎◌, inl, inr, ℕ, ◌+◌, ◌-◌, ◌*◌, ◌/◌, ◌%◌, ◌^◌, ◌<◌, ◌≤◌, Bool, true, false, cond, Option, Some, None, Ok, refl, sym, ap, subst, ◌∙◌, arith}
 use Rattle.std.specs.Prelude.{nat_lt, nat_le, ◌&&◌}
 use Rattle.std.proofs.lemmas.Bool.{cases_lt, ltb-false}
 use Rattle.flat_memory.specs.Memory.{Memory, with_bytes, first_refused, may_read, may_write, with_number, is_among, distance, number_at, access, unless_refused}
@@ -7,9 +7,9 @@ use Rattle.flat_memory.specs.Laws.{IsApart}
 use Rattle.flat_memory.proofs.Stores.{untouched, stored_is_loaded, writable_is_readable}
 use Rattle.virtual_unwind.specs.Undone.{word, readable}
 use Rattle.seh_records.specs.declared.dispatch.DispatchRecord.{DispatchRecord}
-use Rattle.seh_records.specs.Words.{with_block, block_byte, byte_of}
+use Rattle.seh_records.specs.Words.{with_block, block_byte}
 use Rattle.seh_records.specs.Record.{misplaced, placed, fetched, return_address_at, words}
-use Rattle.seh_records.specs.Laws.{AreBytes, Fits}
+use Rattle.seh_records.specs.Laws.{AreBytes}
 use Rattle.seh_records.proofs.Runs.{none_front, none_within}
 use Rattle.seh_records.proofs.Places.{writable}
 use Rattle.seh_records.proofs.Placed.{placed_is_fetched, placing_leaves_others}

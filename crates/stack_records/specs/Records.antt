@@ -4,7 +4,6 @@ use Rattle.seh_num.specs.declared.width.Width.TheVariants.{W64}
 use Rattle.host_layout.specs.declared.range.TheConstants.{STACK_START, STACK_END}
 use Rattle.flat_memory.specs.Memory.{Memory, may_write, after_store}
 use Rattle.x64_machine.specs.declared.context.Context.{Context}
-use Rattle.virtual_unwind.specs.Contexts.{rsp}
 use Rattle.virtual_unwind.specs.CallerOf.{Functions}
 use Rattle.seh_records.specs.declared.dispatch.DispatchRecord.{DispatchRecord}
 use Rattle.seh_records.specs.Record.{misplaced, placed, return_address_at}

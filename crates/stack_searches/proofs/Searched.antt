@@ -1,5 +1,5 @@
 -- The host's search asks the handlers that linear code meets, in their order.
-use Rattle.std.proofs.Common.{◌≡◌, ◌⊎◌, inl, inr, ℕ, suc, ◌+◌, ◌%◌, ◌^◌, ◌<◌, ◌≤◌, Bool, Option, Some, None, List, [], ◌∷◌, ◌++◌, length, refl, sym, ap, subst, ◌∙◌, arith}
+use Rattle.std.proofs.Common.{◌≡◌, ◌⊎◌, inl, inr, ℕ, suc, ◌+◌, ◌%◌, ◌^◌, ◌<◌, ◌≤◌, Option, Some, None, List, [], ◌∷◌, ◌++◌, length, refl, sym, ap, subst, ◌∙◌, arith}
 use Rattle.std.specs.Prelude.{filter, drop}
 use Rattle.std.proofs.Math.Seq.{drop-nil}
 use Rattle.flat_memory.specs.Memory.{Memory}
@@ -8,18 +8,17 @@ use Rattle.x64_machine.specs.Contexts.{context_of}
 use Rattle.eh_tables.specs.declared.scope.ScopeRecord.{ScopeRecord}
 use Rattle.eh_tables.specs.Tables.{Entry}
 use Rattle.virtual_unwind.specs.Contexts.{rsp}
-use Rattle.virtual_unwind.specs.CallerOf.{Functions, distance, entry_of}
-use Rattle.seh_walk.specs.Asked.{AskedRecord, rows_from, first_with_jump_target}
+use Rattle.virtual_unwind.specs.CallerOf.{Functions, distance}
+use Rattle.seh_walk.specs.Asked.{rows_from, first_with_jump_target}
 use Rattle.seh_search.specs.declared.search_result.SearchResult.{SearchResult}
 use Rattle.seh_search.specs.declared.search_result.SearchResult.TheVariants as searches
 use Rattle.seh_search.specs.Search.{by_handler, chosen, search}
 use Rattle.host_model.specs.declared.funclet.Funclet.{Funclet}
 use Rattle.host_model.specs.Dispatch.{row_before, rows_of}
-use Rattle.template_code.specs.declared.layout.Layout.{Layout}
 use Rattle.linear_code.specs.declared.program.Region.{Region}
 use Rattle.linear_code.specs.Program.{LinearProgram}
 use Rattle.linear_machine.specs.Frames.{BodyName, FunctionBody, FuncletBody, body_of, Frame, Handler, Item, Waits, Searches, Unwinds}
-use Rattle.linear_machine.specs.Regions.{holds, regions_of, regions_at, regions_left, handlers_in, handlers}
+use Rattle.linear_machine.specs.Regions.{holds, regions_of, handlers_in, handlers}
 use Rattle.raw_stack.specs.Stack.{StackFrame, StackItem, Framed, Leaf, Searching, Unwinding, FrameStands, LeafStands, IsStack, after_frame, after_leaf}
 use Rattle.raw_stack.specs.PlainWalks.{state, asked_row, chosen_or, plain_search}
 use Rattle.raw_stack.proofs.Keeping.{rises}
@@ -30,8 +29,8 @@ use Rattle.linked_stack.specs.Frames.{NoHandler, FirstHandler}
 use Rattle.linked_stack.specs.Laws.{IsInstruction, left_from}
 use Rattle.linked_stack.proofs.Places.{row_before_short}
 use Rattle.linked_stack.proofs.Searched.{search_meets_the_handlers}
-use Rattle.stack_searches.specs.Searching.{IsWide, CanBeKept, Asks, Accepts, Meets, SearchedAs}
-use Rattle.stack_searches.specs.Laws.{StandsIn, SearchIsTheLists, SearchGoesOn}
+use Rattle.stack_searches.specs.Searching.{IsWide, Meets, SearchedAs}
+use Rattle.stack_searches.specs.Laws.{SearchIsTheLists, SearchGoesOn}
 use Rattle.stack_searches.proofs.Contexts.{wide_after, wide_after_leaf, wide_saved, wide_walk}
 use Rattle.stack_searches.proofs.Flags.{searched_all}
 
@@ -181,7 +180,7 @@ module _ (t : Functions) (fs : List Funclet) (program : LinearProgram) (p : Plan
             (meets_here x.index x.row x.filter x.target x.is x.before))
 
   -- a leaf function has no handler
-  module _ (m : Memory) (c : Context) (back : ℕ) (is : List StackItem) (b : Frame) (below : List Item) (acts : List Activation) (stands : LeafStands t m c back) (body : LeafWaits t fs program p m c b acts) where
+  module _ (m : Memory) (c : Context) (back : ℕ) (is : List StackItem) (b : Frame) (below : List Item) (acts : List Activation) (stands : LeafStands t m c back) (body : LeafWaits t fs program p m c back b below acts) where
     pub none_from : (row : ℕ) → regions_from t fs program p b row ≡ []
     none_from row = ap (λ (rs : List Region). filter (holds b.next) (drop row rs)) body.none ∙ ap (filter (holds b.next)) (drop-nil row)
 

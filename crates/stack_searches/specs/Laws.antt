@@ -1,5 +1,5 @@
 -- What holds of every search.
-use Rattle.std.specs.Prelude.{◌≡◌, ℕ, ◌<◌, List, length, Option}
+use Rattle.std.specs.Prelude.{ℕ, ◌<◌, List, length, Option}
 use Rattle.flat_memory.specs.Memory.{Memory}
 use Rattle.x64_machine.specs.declared.context.Context.{Context}
 use Rattle.virtual_unwind.specs.CallerOf.{Functions}

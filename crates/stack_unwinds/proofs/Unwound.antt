@@ -1,6 +1,6 @@
 -- The host's unwinding runs the `__finally` blocks of the linear code's, and lands where it lands.
-use Rattle.std.proofs.Common.{◌≡◌, ◌≢◌, ◌⊎◌, inl, inr, ℕ, suc, ◌+◌, ◌%◌, ◌^◌, ◌<◌, ◌≤◌, Bool, true, false, Option, Some, None, List, [], ◌∷◌, ◌++◌, length, refl, sym, ap, subst, ◌∙◌, arith, length-append}
-use Rattle.std.specs.Prelude.{nat_eq, nat_lt}
+use Rattle.std.proofs.Common.{◌≡◌, ◌≢◌, ◌⊎◌, inl, inr, ℕ, suc, ◌+◌, ◌%◌, ◌^◌, ◌<◌, ◌≤◌, Bool, true, false, Option, Some, None, List, [], ◌∷◌, length, refl, sym, ap, subst, ◌∙◌, arith, length-append}
+use Rattle.std.specs.Prelude.{nat_eq}
 use Rattle.std.proofs.lemmas.Bool.{le-ltb, eq-eqb, ne_eqb}
 use Rattle.std.proofs.lemmas.List.{take_at}
 use Rattle.seh_num.specs.declared.event.Event.{Event}
@@ -20,12 +20,11 @@ use Rattle.template_code.specs.declared.layout.Layout.{Layout}
 use Rattle.linear_code.specs.declared.program.Region.{Region}
 use Rattle.linear_code.specs.Program.{LinearProgram}
 use Rattle.linear_machine.specs.Frames.{BodyName, FunctionBody, FuncletBody, body_of, Frame, Target, Item, Waits, Searches, Unwinds, Store, Seen, Next, pick}
-use Rattle.linear_machine.specs.Regions.{regions_of, regions_at, regions_left}
+use Rattle.linear_machine.specs.Regions.{regions_of}
 use Rattle.linear_machine.specs.Unwinding as linear
 use Rattle.linear_machine.specs.Unwinding.{target_past, left_store, unwind_body}
 use Rattle.raw_stack.specs.Stack.{StackFrame, StackItem, Framed, Leaf, Searching, Unwinding, FrameStands, LeafStands, IsStack, after_frame, after_leaf, caller_frame, caller_of_leaf}
 use Rattle.raw_stack.specs.PlainWalks.{state, decided_or, plain_unwind}
-use Rattle.raw_stack.proofs.Visiting.{set_head}
 use Rattle.raw_stack.proofs.Keeping.{rises}
 use Rattle.raw_stack.proofs.Listing.{unwinding_is_of_the_list}
 use Rattle.linked_stack.specs.ImagePlan.{Plan, Gives}
@@ -38,7 +37,7 @@ use Rattle.stack_searches.specs.Searching.{IsWide}
 use Rattle.stack_searches.proofs.Contexts.{wide_after, wide_after_leaf, wide_saved, wide_walk}
 use Rattle.stack_searches.proofs.Flags.{unwound_all}
 use Rattle.stack_searches.proofs.Searched.{at_first_row, none_from, body_reaches, entry_of_body, flags_of_body, few_of_body, instruction_of_body}
-use Rattle.stack_unwinds.specs.Unwinding.{store_of, on_top, Course, RunsBlock, Lands, UnwoundAs}
+use Rattle.stack_unwinds.specs.Unwinding.{store_of, on_top, Course, RunsBlock, UnwoundAs}
 use Rattle.stack_unwinds.specs.Laws.{UnwindingIsTheLists}
 
 -- the locals that are left are those of the activations below
@@ -322,7 +321,7 @@ module _ (t : Functions) (fs : List Funclet) (program : LinearProgram) (p : Plan
 
   -- a leaf function is left: it has no regions, and isn't the target
   module _ (held : ℕ) (c : Context) (back : ℕ) (is : List StackItem) (b : Frame) (below : List Item) (acts : List Activation) (row : ℕ) (left : Option (List Region))
-      (stands : LeafStands t m c back) (rear : IsStack t m (after_leaf c back) is) (body : LeafWaits t fs program p m c b acts)
+      (stands : LeafStands t m c back) (rear : IsStack t m (after_leaf c back) is) (body : LeafWaits t fs program p m c back b below acts)
       (at : IsAtRow t fs program p row (Waits b ∷ below) left) (a : Aimed t fs program p target.depth target.label frame address (after_leaf c back) is below) where
     away : target.depth ≢ length below
     away e = let h = aimed_below t fs program p target.depth target.label frame address (after_leaf c back) is below a in absurd (omega arith)

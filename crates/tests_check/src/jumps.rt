@@ -169,7 +169,8 @@ fn jumps(rt: HostRuntime) -> Result<(), Fail> {
 }
 
 /// What means something in filters, `__except` blocks and `__finally` blocks alone (Microsoft C
-/// reference, "try-except statement", "try-finally statement"). A fault is at the name.
+/// reference, "try-except statement", "try-finally statement"). A fault is at the name; of two there, as
+/// where the count of the arguments is wrong too, the earlier rule is told.
 #[test]
 fn filters(rt: HostRuntime) -> Result<(), Fail> {
     for text in [
@@ -249,6 +250,26 @@ fn filters(rt: HostRuntime) -> Result<(), Fail> {
             "int main(void){ __try { } __except (GetExceptionInformation()->ExceptionRecord->ExceptionInformation[15]) { } return 0; }",
             Fault::TypeClash,
             101,
+        ),
+        (
+            "int main(void){ GetExceptionCode(1); return 0; }",
+            Fault::ArgCount,
+            16,
+        ),
+        (
+            "int main(void){ __try { } __except (GetExceptionCode(1)) { } return 0; }",
+            Fault::ArgCount,
+            36,
+        ),
+        (
+            "int main(void){ AbnormalTermination(1); return 0; }",
+            Fault::ArgCount,
+            16,
+        ),
+        (
+            "int main(void){ __try { } __finally { AbnormalTermination(1); } return 0; }",
+            Fault::ArgCount,
+            38,
         ),
     ] {
         let broken = Verdict::Broken(fault, at);

@@ -1,9 +1,9 @@
-use Rattle.std.proofs.Common.{◌≡◌, ◌∙◌, ◌+◌, ◌<◌, ◌≤◌, [], get_or, length, map, ap, sym, refl, subst, arith, nat_eq, false, true}
+use Rattle.std.proofs.Common.{◌≡◌, ◌∙◌, ◌+◌, ◌<◌, ◌≤◌, [], get_or, length, map, ap, sym, refl, subst, arith, rules, nat_eq, false, true, Some}
 use Rattle.std.proofs.lemmas.Result.{on_ok_weaker, IfOk-weaker}
 use Rattle.std.specs.Prelude.{option_map}
 use Rattle.c_expressions.proofs.Kept.{kept_more}
 use Rattle.c_expressions.proofs.Ruled.{two, three, on_any, assign_is}
-use Rattle.c_expressions.proofs.Calling.{StillToPass, none_passed, pass_next_to, all_passed_at, called_for, fused, same_counts, call_refused, call_passed, faults_on}
+use Rattle.c_expressions.proofs.Calling.{StillToPass, none_passed, pass_next_to, all_passed_at, called_for, fused, same_counts, call_refused, call_passed, faults_on, allowed_found, allowed_kept}
 use Rattle.c_expressions.proofs.expressions.+expressions.Goals as goal
 use Rattle.c_expressions.specs.Calls.{passed_of, resolved_all}
 use Rattle.c_expressions.specs.Kept.{least_of, kept}
@@ -16,26 +16,27 @@ use Rattle.c_syntax.specs.declared.expression.Expr.TheOpen.{Index as Index_F, Bi
 use Rattle.c_syntax.specs.declared.expression.Expr.TheVariants.{rolls-Index, rolls-Binary, rolls-Conditional, rolls-Comma, rolls-Assign}
 use Rattle.c_syntax.specs.declared.expression.Expr.TheViews.{roll-Expr}
 use Rattle.c_resolved.specs.declared.fault.Fault.TheVariants.{ArgCount, CodeOutsideFilter, AbnormalOutsideFinally}
-use Rattle.c_resolved.specs.Expressions.{resolve_expression, rule_2, rule_3, fault_at, faults_of, pass_all, unless, call_with, unsigned}
+use Rattle.c_resolved.specs.Expressions.{resolve_expression, rule_2, rule_3, fault_at, faults_of, pass_all, call_with, call, CodeFunction, AbnormalFunction, unsigned}
 use Rattle.c_resolved.specs.Operators.{int, element_of, binary_of, comma_of, conditional_of}
+use Rattle.c_types.specs.Views.{typed_node}
 use Rattle.c_syntax.specs.Expression as trees
 use Rattle.c_syntax.specs.Expression.{Expression, node, expression, start}
 
-pub resolve-returns-in_ok-i-in-Index-clause-faults : goal.resolve-returns-in_ok-i-in-Index-clause-faults
+pub several-returns-in_ok-i-in-Index-clause-faults : goal.several-returns-in_ok-i-in-Index-clause-faults
 unfolding roll-Expr Carrier.roll
-resolve-returns-in_ok-i-in-Index-clause-faults t c =
+several-returns-in_ok-i-in-Index-clause-faults t c =
     let x = c.in-Index in
     let s = names_of c.args.context.now in
     let q : expression c.args.e.now ≡ trees.Index (expression x.array.value) x.at (expression x.index.value) = ap expression c.in-Index.is ∙ ap expression (rolls-Index x.array x.at x.index) ∙ fold-roll-Expr Expression node (Index_F x.array x.at x.index) in
     rw q
     (on_ok_weaker c.element.result
     (λ h. two (least_of c.args.worst.now) _ _ _ (resolve_expression s (expression x.array.value)) (resolve_expression s (expression x.index.value)) (rule_2 x.at element_of) _ _
-    (rw c.deref-in-Index.ensures at c.in_ok-a-in-Index.ensures.faults) (rw c.deref-in-Index-2.ensures at c.in_ok-i-in-Index.ensures.faults)
-    (rw c.deref-in-Index.ensures at c.in_ok-a-in-Index.ensures.found) (rw c.deref-in-Index-2.ensures at c.in_ok-i-in-Index.ensures.found) h) c.element.ensures.faults)
+    (rw c.deref.ensures at c.in_ok-a-in-Index.ensures.faults) (rw c.deref-in-Index.ensures at c.in_ok-i-in-Index.ensures.faults)
+    (rw c.deref.ensures at c.in_ok-a-in-Index.ensures.found) (rw c.deref-in-Index.ensures at c.in_ok-i-in-Index.ensures.found) h) c.element.ensures.faults)
 
-pub resolve-returns-in_ok-b-in-Binary-clause-faults : goal.resolve-returns-in_ok-b-in-Binary-clause-faults
+pub several-returns-in_ok-b-in-Binary-clause-faults : goal.several-returns-in_ok-b-in-Binary-clause-faults
 unfolding roll-Expr Carrier.roll
-resolve-returns-in_ok-b-in-Binary-clause-faults t c =
+several-returns-in_ok-b-in-Binary-clause-faults t c =
     let x = c.in-Binary in
     let s = names_of c.args.context.now in
     let q : expression c.args.e.now ≡ trees.Binary (expression x.left.value) x.at x.operator (expression x.right.value) = ap expression c.in-Binary.is ∙ ap expression (rolls-Binary x.left x.at x.operator x.right) ∙ fold-roll-Expr Expression node (Binary_F x.left x.at x.operator x.right) in
@@ -45,21 +46,21 @@ resolve-returns-in_ok-b-in-Binary-clause-faults t c =
     (rw c.deref-in-Binary.ensures at c.in_ok-a-in-Binary.ensures.faults) (rw c.deref-in-Binary-2.ensures at c.in_ok-b-in-Binary.ensures.faults)
     (rw c.deref-in-Binary.ensures at c.in_ok-a-in-Binary.ensures.found) (rw c.deref-in-Binary-2.ensures at c.in_ok-b-in-Binary.ensures.found) h) c.binary.ensures.faults)
 
-pub resolve-returns-in_ok-b-in-Conditional-clause-faults : goal.resolve-returns-in_ok-b-in-Conditional-clause-faults
+pub conditional_or_assignment-returns-in_ok-b-in-Conditional-clause-faults : goal.conditional_or_assignment-returns-in_ok-b-in-Conditional-clause-faults
 unfolding roll-Expr Carrier.roll
-resolve-returns-in_ok-b-in-Conditional-clause-faults t c =
+conditional_or_assignment-returns-in_ok-b-in-Conditional-clause-faults t c =
     let x = c.in-Conditional in
     let s = names_of c.args.context.now in
     let q : expression c.args.e.now ≡ trees.Conditional (expression x.condition.value) x.at (expression x.yes.value) (expression x.no.value) = ap expression c.in-Conditional.is ∙ ap expression (rolls-Conditional x.condition x.at x.yes x.no) ∙ fold-roll-Expr Expression node (Conditional_F x.condition x.at x.yes x.no) in
     rw q
     (on_ok_weaker c.conditional.result
     (λ h. three (least_of c.args.worst.now) _ _ _ _ (resolve_expression s (expression x.condition.value)) (resolve_expression s (expression x.yes.value)) (resolve_expression s (expression x.no.value)) (rule_3 x.at conditional_of) _ _ _
-    (rw c.deref-in-Conditional.ensures at c.in_ok-c-in-Conditional.ensures.faults) (rw c.deref-in-Conditional-2.ensures at c.in_ok-a-in-Conditional.ensures.faults) (rw c.deref-in-Conditional-3.ensures at c.in_ok-b-in-Conditional.ensures.faults)
-    (rw c.deref-in-Conditional.ensures at c.in_ok-c-in-Conditional.ensures.found) (rw c.deref-in-Conditional-2.ensures at c.in_ok-a-in-Conditional.ensures.found) (rw c.deref-in-Conditional-3.ensures at c.in_ok-b-in-Conditional.ensures.found) h) c.conditional.ensures.faults)
+    (rw c.deref.ensures at c.in_ok-c-in-Conditional.ensures.faults) (rw c.deref-in-Conditional.ensures at c.in_ok-a-in-Conditional.ensures.faults) (rw c.deref-in-Conditional-2.ensures at c.in_ok-b-in-Conditional.ensures.faults)
+    (rw c.deref.ensures at c.in_ok-c-in-Conditional.ensures.found) (rw c.deref-in-Conditional.ensures at c.in_ok-a-in-Conditional.ensures.found) (rw c.deref-in-Conditional-2.ensures at c.in_ok-b-in-Conditional.ensures.found) h) c.conditional.ensures.faults)
 
-pub resolve-returns-in_ok-b-in-Comma-clause-faults : goal.resolve-returns-in_ok-b-in-Comma-clause-faults
+pub several-returns-in_ok-b-in-Comma-clause-faults : goal.several-returns-in_ok-b-in-Comma-clause-faults
 unfolding roll-Expr Carrier.roll
-resolve-returns-in_ok-b-in-Comma-clause-faults t c =
+several-returns-in_ok-b-in-Comma-clause-faults t c =
     let x = c.in-Comma in
     let s = names_of c.args.context.now in
     let ja = resolve_expression s (expression x.left.value) in
@@ -75,10 +76,6 @@ resolve-returns-in_ok-b-in-Comma-clause-faults t c =
 pub resolve_all-loop-e-preserved : goal.resolve_all-loop-e-preserved
 resolve_all-loop-e-preserved t c =
     faults_on (names_of c.args.context.now) _ _ _ c.args.given.now c.loop-e.e-index c.e-item.result c.loop-e-test.true c.e-item.is c.in_ok-resolve.ensures.faults c.loop-e.invariant
-
-pub refuse_call-returns-clause-faults : goal.refuse_call-returns-clause-faults
-refuse_call-returns-clause-faults t c =
-    kept_more (least_of c.args.worst.now) _ _ (faults_of (resolved_all (names_of c.args.context.now) c.args.given.now)) (fault_at c.args.at c.args.fault) c.in_ok-resolve_all.ensures c.add.ensures
 
 pub call_with-returns-then-same_count-clause-found : goal.call_with-returns-then-same_count-clause-found
 call_with-returns-then-same_count-clause-found t c =
@@ -123,9 +120,9 @@ pass_all-loop-e-init t c =
           (none_passed s (least_of c.args.worst.now) c.args.wants.now c.args.given.now),
     )
 
-pub resolve-returns-in_ok-b-in-Assign-clause-faults : goal.resolve-returns-in_ok-b-in-Assign-clause-faults
+pub conditional_or_assignment-returns-in_ok-b-in-Assign-clause-faults : goal.conditional_or_assignment-returns-in_ok-b-in-Assign-clause-faults
 unfolding roll-Expr Carrier.roll
-resolve-returns-in_ok-b-in-Assign-clause-faults t c =
+conditional_or_assignment-returns-in_ok-b-in-Assign-clause-faults t c =
     let x = c.in-Assign in
     let s = names_of c.args.context.now in
     let ja = resolve_expression s (expression x.target.value) in
@@ -139,30 +136,6 @@ resolve-returns-in_ok-b-in-Assign-clause-faults t c =
     (rw c.deref-in-Assign.ensures at c.in_ok-a-in-Assign.ensures.found) (rw c.deref-in-Assign-2.ensures at c.in_ok-b-in-Assign.ensures.found) h
     ∙ ap (λ j. kept first j.faults) (assign_is s (expression x.target.value) (expression x.value.value) x.at x.operator ja jb))
     (rw (c.deref-in-Assign-4.ensures, c.place_of-place.ensures, c.deref-in-Assign-3.ensures) at c.assign.ensures.faults))
-
-pub code_function-returns-then-context-clause-found : goal.code_function-returns-then-context-clause-found
-code_function-returns-then-context-clause-found t c =
-    let args = resolved_all (names_of c.args.context.now) c.args.given.now in
-    c.code_call.ensures ∙ c.in_ok-passed.ensures.found unsigned (λ es. nodes.ExceptionCode)
-    ∙ sym (ap (λ b. (unless b c.args.at CodeOutsideFilter (faults_of args) (call_with c.args.at [] unsigned (λ es. nodes.ExceptionCode) args)).found) c.if-context.true)
-
-pub code_function-returns-then-context-clause-faults : goal.code_function-returns-then-context-clause-faults
-code_function-returns-then-context-clause-faults t c =
-    let args = resolved_all (names_of c.args.context.now) c.args.given.now in
-    c.in_ok-passed.ensures.faults unsigned (λ es. nodes.ExceptionCode)
-    ∙ sym (ap (λ b. kept (least_of c.args.worst.now) (unless b c.args.at CodeOutsideFilter (faults_of args) (call_with c.args.at [] unsigned (λ es. nodes.ExceptionCode) args)).faults) c.if-context.true)
-
-pub abnormal_function-returns-then-context-clause-found : goal.abnormal_function-returns-then-context-clause-found
-abnormal_function-returns-then-context-clause-found t c =
-    let args = resolved_all (names_of c.args.context.now) c.args.given.now in
-    c.abnormal_call.ensures ∙ c.in_ok-passed.ensures.found int (λ es. nodes.AbnormalTermination)
-    ∙ sym (ap (λ b. (unless b c.args.at AbnormalOutsideFinally (faults_of args) (call_with c.args.at [] int (λ es. nodes.AbnormalTermination) args)).found) c.if-context.true)
-
-pub abnormal_function-returns-then-context-clause-faults : goal.abnormal_function-returns-then-context-clause-faults
-abnormal_function-returns-then-context-clause-faults t c =
-    let args = resolved_all (names_of c.args.context.now) c.args.given.now in
-    c.in_ok-passed.ensures.faults int (λ es. nodes.AbnormalTermination)
-    ∙ sym (ap (λ b. kept (least_of c.args.worst.now) (unless b c.args.at AbnormalOutsideFinally (faults_of args) (call_with c.args.at [] int (λ es. nodes.AbnormalTermination) args)).faults) c.if-context.true)
 
 pub pass_all-loop-e-preserved : goal.pass_all-loop-e-preserved
 pass_all-loop-e-preserved t c =
@@ -188,3 +161,43 @@ pass_all-returns-clause-found t c =
     let done = option_map (λ v. map nodes.expression v.items) c.loop-e.passed in
     fused nodes.arguments (λ v. map nodes.expression v.items) c.loop-e.passed
     ∙ (all_passed_at s (least_of c.args.worst.now) (pass_all (map wanted ws) (resolved_all s es)) done (least_of c.loop-e.worst) ws es i past' past c.loop-e.invariant.1).0
+
+pub call-returns-in_ok-passed-in-Some-CodeFunction-clause-found : goal.call-returns-in_ok-passed-in-Some-CodeFunction-clause-found
+call-returns-in_ok-passed-in-Some-CodeFunction-clause-found t c =
+    let s = names_of c.args.context.now in
+    let args = resolved_all s c.args.given.now in
+    let j = call_with c.args.at [] unsigned (λ es. nodes.ExceptionCode) args in
+    let found = c.code_call-found.ensures ∙ c.in_ok-passed-in-Some-CodeFunction.ensures.found unsigned (λ es. nodes.ExceptionCode) in
+    let told : option_map typed_node c.only_where.result ≡ (call s c.args.at (Some CodeFunction) args).found = allowed_found s.code c.args.at CodeOutsideFilter j _ _ found c.only_where.ensures.found in
+    search (rules, told)
+
+pub call-returns-in_ok-passed-in-Some-CodeFunction-clause-faults : goal.call-returns-in_ok-passed-in-Some-CodeFunction-clause-faults
+call-returns-in_ok-passed-in-Some-CodeFunction-clause-faults t c =
+    let s = names_of c.args.context.now in
+    let args = resolved_all s c.args.given.now in
+    let first = least_of c.args.worst.now in
+    let j = call_with c.args.at [] unsigned (λ es. nodes.ExceptionCode) args in
+    let found = c.code_call-found.ensures ∙ c.in_ok-passed-in-Some-CodeFunction.ensures.found unsigned (λ es. nodes.ExceptionCode) in
+    let so_far = c.in_ok-passed-in-Some-CodeFunction.ensures.faults unsigned (λ es. nodes.ExceptionCode) in
+    let told : least_of c.only_where.new.worst ≡ kept first (call s c.args.at (Some CodeFunction) args).faults = allowed_kept s.code c.args.at CodeOutsideFilter j _ first _ _ found so_far c.only_where.ensures.faults in
+    search (rules, told)
+
+pub call-returns-in_ok-passed-in-Some-AbnormalFunction-clause-found : goal.call-returns-in_ok-passed-in-Some-AbnormalFunction-clause-found
+call-returns-in_ok-passed-in-Some-AbnormalFunction-clause-found t c =
+    let s = names_of c.args.context.now in
+    let args = resolved_all s c.args.given.now in
+    let j = call_with c.args.at [] int (λ es. nodes.AbnormalTermination) args in
+    let found = c.abnormal_call-found.ensures ∙ c.in_ok-passed-in-Some-AbnormalFunction.ensures.found int (λ es. nodes.AbnormalTermination) in
+    let told : option_map typed_node c.only_where-in-Some-AbnormalFunction.result ≡ (call s c.args.at (Some AbnormalFunction) args).found = allowed_found s.abnormal c.args.at AbnormalOutsideFinally j _ _ found c.only_where-in-Some-AbnormalFunction.ensures.found in
+    search (rules, told)
+
+pub call-returns-in_ok-passed-in-Some-AbnormalFunction-clause-faults : goal.call-returns-in_ok-passed-in-Some-AbnormalFunction-clause-faults
+call-returns-in_ok-passed-in-Some-AbnormalFunction-clause-faults t c =
+    let s = names_of c.args.context.now in
+    let args = resolved_all s c.args.given.now in
+    let first = least_of c.args.worst.now in
+    let j = call_with c.args.at [] int (λ es. nodes.AbnormalTermination) args in
+    let found = c.abnormal_call-found.ensures ∙ c.in_ok-passed-in-Some-AbnormalFunction.ensures.found int (λ es. nodes.AbnormalTermination) in
+    let so_far = c.in_ok-passed-in-Some-AbnormalFunction.ensures.faults int (λ es. nodes.AbnormalTermination) in
+    let told : least_of c.only_where-in-Some-AbnormalFunction.new.worst ≡ kept first (call s c.args.at (Some AbnormalFunction) args).faults = allowed_kept s.abnormal c.args.at AbnormalOutsideFinally j _ first _ _ found so_far c.only_where-in-Some-AbnormalFunction.ensures.faults in
+    search (rules, told)

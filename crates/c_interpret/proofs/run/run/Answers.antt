@@ -1,7 +1,7 @@
 use Rattle.std.proofs.Common.{[]}
 use Rattle.c_checked.specs.Whole as whole
-use Rattle.c_interpret.specs.Machines.{machine_of}
-use Rattle.c_interpret.specs.Views.{next_of}
+use Rattle.source_steps.specs.Machines.{machine_of}
+use Rattle.source_plans.specs.Views.{next_of}
 use Rattle.c_interpret.proofs.Reached.{at_first, one_more, nearer, at_most, not_over, on_err}
 use Rattle.c_interpret.proofs.run.run.Goals as goal
 

@@ -1,8 +1,8 @@
 use Rattle.std.proofs.Common.{[]}
 use Rattle.c_checked.specs.Whole as whole
 use Rattle.source_machine.specs.Laws.{distance}
-use Rattle.c_interpret.specs.Views.{next_of}
-use Rattle.c_interpret.specs.Machines.{machine_of}
+use Rattle.source_plans.specs.Views.{next_of}
+use Rattle.source_steps.specs.Machines.{machine_of}
 use Rattle.c_interpret.proofs.Reached.{Reached}
 use Rattle.c_interpret.proofs.run.run.Given as goal
 

@@ -1,14 +1,14 @@
 use Rattle.std.proofs.Common.{◌≡◌, [], ap, ◌∙◌, false, w64}
 use Rattle.std.specs.Prelude.{slice_get}
 use Rattle.std.proofs.lemmas.Int.{to_z-of_z}
-use Rattle.c_interpret.specs.Runs.{beginning}
+use Rattle.source_machine.specs.Runs.{beginning}
 use Rattle.c_checked.specs.Whole as whole
 use Rattle.c_model.specs.Expressions.{no_exception}
 use Rattle.c_model.specs.Meaning.{does, main_arguments, ran}
 use Rattle.source_machine.specs.Frames as frames
 use Rattle.source_machine.specs.Waiting.{comes_to}
-use Rattle.c_interpret.specs.Machines.{machine_of}
-use Rattle.c_interpret.specs.Views as views
+use Rattle.source_steps.specs.Machines.{machine_of}
+use Rattle.source_plans.specs.Views as views
 use Rattle.c_interpret.proofs.Reached.{on_err}
 use Rattle.c_interpret.proofs.Meanings.{begins, means_of, part_of}
 use Rattle.c_interpret.proofs.run.run_program.Goals as goal

@@ -1,7 +1,7 @@
 use Rattle.std.proofs.Common.{[], ◌∷◌, ap, sym, ◌∙◌}
 use Rattle.std.proofs.lemmas.List.{append-nil}
-use Rattle.c_interpret.specs.Machines.{machine_of, shown_after}
-use Rattle.c_interpret.specs.Views as views
+use Rattle.source_steps.specs.Machines.{machine_of, shown_after}
+use Rattle.source_plans.specs.Views as views
 use Rattle.c_interpret.proofs.Reached.{on_err}
 use Rattle.c_interpret.proofs.run.turn.Goals as goal
 

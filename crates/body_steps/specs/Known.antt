@@ -1,0 +1,39 @@
+-- What is known of a program of linear code, and of a configuration that it comes to.
+use Rattle.std.specs.Prelude.{◌≡◌, ℕ, true, false, slice_get, Some}
+use Rattle.linear_code.specs.declared.instruction.Instruction.{Instruction}
+use Rattle.linear_code.specs.Program.{LinearProgram, LinearBody}
+use Rattle.linear_machine.specs.Frames.{BodyName, body_of, Configuration, Next}
+use Rattle.linear_machine.specs.Instructions.{act}
+use Rattle.linear_machine.specs.Run.{instruction_at}
+use Rattle.linked_stack.specs.ImagePlan.{Plan}
+use Rattle.ir_typed.specs.Ready.{CanGoOn}
+use Rattle.ir_typed.specs.Bodies.{IsWhole}
+use Rattle.ir_typed.specs.Waiting.{IsStacked}
+use Rattle.ir_typed.specs.Activations.{HasActivations}
+use Rattle.ir_typed.specs.Small.{HasSmallNumbers}
+use Rattle.ir_typed.specs.Depths.{HasDepths}
+use Rattle.ir_typed.specs.Room.{HaveRoom}
+use Rattle.ir_typed.specs.Apart.{AreApart, is_call}
+
+module _ (program : LinearProgram) where
+  -- a leaf function calls nothing (Microsoft x64 ABI, "Leaf functions")
+  abbrev pub LeavesCallNothing : Plan → Type 0
+  LeavesCallNothing p =
+      (name : BodyName) (b : LinearBody) (label : ℕ) (i : Instruction)
+      → body_of program name ≡ Some b → p.leaf name ≡ true → slice_get b.code label ≡ Some i → is_call i ≡ false
+
+  -- of the program
+  pub record IsWellMade (p : Plan) : Type 0 where
+    pub whole : IsWhole program
+    pub room : HaveRoom program
+    pub apart : AreApart program
+    pub leaves : LeavesCallNothing p
+
+  -- of a configuration, and of those after one turn
+  pub record IsKnown (c : Configuration) : Type 0 where
+    pub goes_on : CanGoOn program c
+    pub stacked : IsStacked program c
+    pub activations : HasActivations program c
+    pub small : HasSmallNumbers c
+    pub depths : HasDepths program c
+    pub next : (i : Instruction) (d : Configuration) → instruction_at program c ≡ Some i → ((next : Next) → act program i next c ≡ next d) → CanGoOn program d

@@ -1,0 +1,18 @@
+use Rattle.std.proofs.Common.{◌∙◌, ap, sym}
+use Rattle.std.specs.Prelude.{option_map}
+use Rattle.c_expressions.proofs.Ruled.{refused_kept}
+use Rattle.c_expressions.proofs.places.assign.Goals as goal
+use Rattle.c_expressions.specs.Kept.{least_of, kept}
+use Rattle.c_expressions.specs.Rules.{assigning}
+use Rattle.c_expressions.specs.Views.{names_of}
+use Rattle.c_resolved.specs.declared.fault.Fault.TheVariants.{NotLvalue}
+use Rattle.c_resolved.specs.Expressions.{fault_at, is_lvalue}
+use Rattle.c_syntax.specs.Expression.{expression, start}
+use Rattle.c_types.specs.Views.{typed_node}
+
+pub returns-clause-faults : goal.returns-clause-faults
+returns-clause-faults c = λ first fs p.
+    let s = names_of c.args.context.now in
+    let e = expression c.args.target.now in
+    refused_kept first (least_of c.args.worst.now) (least_of c.add.new.self) (is_lvalue s e) (start e) NotLvalue fs (assigning c.args.operator c.args.at fs (option_map typed_node c.args.a) (option_map typed_node c.args.b))
+    (sym c.is_lvalue.ensures ∙ c.if-is_lvalue.false) p (c.add.ensures ∙ ap (λ k. kept (least_of c.args.worst.now) (fault_at k NotLvalue)) c.start.ensures)

@@ -1,0 +1,151 @@
+//! Arguments as they are passed, and the nodes of calls.
+
+ghost use Rattle.std.specs.Prelude.{◌≡◌, ◌<◌, [], nat_eq, Some, slice_index_or as get_or, IfOk, List, Option, length, map, option_map};
+ghost use Rattle.c_checked.specs.Expression as nodes;
+ghost use Rattle.c_resolved.specs.Expressions as definitions;
+ghost use Rattle.c_resolved.specs.Expressions.{FaultAt};
+ghost use Rattle.c_resolved.specs.Operators as operators;
+ghost use Rattle.c_syntax.specs.Expression.{expression, start};
+ghost use Rattle.c_expressions.specs.Calls.{passed_of, put_after, PassesFirst};
+ghost use Rattle.c_expressions.specs.Kept.{least_of, kept};
+ghost use Rattle.c_expressions.specs.Rules.{Finds, Adds, allowed_call};
+ghost use Rattle.c_expressions.specs.Views.{wanted};
+ghost use Rattle.c_types.specs.Views.{typed_node};
+
+use crate::least::Least;
+use crate::wanted::{Wanted, built_in_result};
+use c_checked::expression::{Expr as Checked, Node};
+use c_operations::built_in::BuiltIn;
+use c_resolved::fault::Fault;
+use c_syntax::expression::{Base, CType, Expr};
+use c_types::typed::{TypedNode, typed};
+use c_types::types::plain;
+use std::alloc::{AllocError, Global};
+
+/// An argument as it is passed, if it is what is wanted at its place.
+pub fn pass(worst: &mut Least, want: Wanted, e: &Expr, found: Option<TypedNode>) -> Option<Checked>
+    ensures passed { (fs : List FaultAt) (rest : definitions.Passed) → PassesFirst (option_map nodes.expression result) rest (definitions.pass (wanted want) (start (expression e.now)) fs (option_map typed_node found) rest) }
+    ensures faults { (first : Option FaultAt) (fs : List FaultAt) (rest : definitions.Passed) → least_of worst.old ≡ kept first fs → kept (least_of worst.new) rest.faults ≡ kept first (definitions.pass (wanted want) (start (expression e.now)) fs (option_map typed_node found) rest).faults }
+{
+    match found {
+        None => None,
+        Some(a) => {
+            if want.fits(&a) {
+                return Some(want.passed(a));
+            }
+            worst.add(e.start(), Fault::TypeClash);
+            None
+        }
+    }
+}
+
+/// No arguments yet.
+pub fn no_arguments(alloc: Global) -> Option<Vec<Checked>>
+    ensures { option_map (λ v. map nodes.expression v.items) result ≡ Some [] }
+{
+    Some(Vec::new(alloc))
+}
+
+/// What is wanted at a place.
+pub fn want_at(wants: &[Wanted], i: usize) -> Wanted
+    requires { i < length wants.now }
+    ensures { result ≡ get_or wants.now i result }
+{
+    wants[i]
+}
+
+/// One more argument, if all are good.
+pub fn with_one(
+    passed: Option<Vec<Checked>>,
+    one: Option<Checked>,
+) -> Result<Option<Vec<Checked>>, AllocError>
+    ensures { IfOk result (λ r. option_map (λ v. map nodes.expression v.items) r ≡ put_after (option_map (λ v. map nodes.expression v.items) passed) (option_map nodes.expression one)) }
+{
+    match passed {
+        None => Ok(None),
+        Some(mut items) => match one {
+            None => Ok(None),
+            Some(e) => {
+                items.push(e)?;
+                Ok(Some(items))
+            }
+        },
+    }
+}
+
+/// Whether there are as many arguments as are wanted.
+pub fn same_count(wants: &[Wanted], given: &[Expr]) -> bool
+    ensures { result ≡ nat_eq (length wants.now) (length given.now) }
+{
+    wants.len() == given.len()
+}
+
+/// `GetExceptionCode()`, if its arguments are good.
+pub fn code_call(passed: Option<Vec<Checked>>) -> Option<TypedNode>
+    ensures { option_map typed_node result ≡ option_map (λ v. operators.typed definitions.unsigned nodes.ExceptionCode) passed }
+{
+    match passed {
+        Some(_) => Some(typed(plain(Base::Unsigned), Node::ExceptionCode)),
+        None => None,
+    }
+}
+
+/// `AbnormalTermination()`, if its arguments are good.
+pub fn abnormal_call(passed: Option<Vec<Checked>>) -> Option<TypedNode>
+    ensures { option_map typed_node result ≡ option_map (λ v. operators.typed operators.int nodes.AbnormalTermination) passed }
+{
+    match passed {
+        Some(_) => Some(typed(plain(Base::Int), Node::AbnormalTermination)),
+        None => None,
+    }
+}
+
+/// A call of a function of the text, if its arguments are good.
+pub fn user_call(function: u64, of: CType, passed: Option<Vec<Checked>>) -> Option<TypedNode>
+    ensures { option_map typed_node result ≡ option_map (λ v. operators.typed of (nodes.Call function (passed_of v.items))) passed }
+{
+    match passed {
+        Some(arguments) => Some(typed(
+            of,
+            Node::Call {
+                function,
+                arguments,
+            },
+        )),
+        None => None,
+    }
+}
+
+/// A call of a built-in function, if its arguments are good.
+pub fn built_in_call(function: BuiltIn, passed: Option<Vec<Checked>>) -> Option<TypedNode>
+    ensures { option_map typed_node result ≡ option_map (λ v. operators.typed (definitions.built_in_result function) (nodes.CallBuiltIn function (passed_of v.items))) passed }
+{
+    match passed {
+        Some(arguments) => Some(typed(
+            built_in_result(function),
+            Node::CallBuiltIn {
+                function,
+                arguments,
+            },
+        )),
+        None => None,
+    }
+}
+
+/// A call that is right in itself, where it has a meaning.
+pub fn only_where(
+    worst: &mut Least,
+    allowed: bool,
+    at: u64,
+    fault: Fault,
+    found: Option<TypedNode>,
+) -> Option<TypedNode>
+    ensures found { Finds result (λ fs. allowed_call allowed at fault fs (option_map typed_node found)) }
+    ensures faults { Adds worst.old worst.new (λ fs. allowed_call allowed at fault fs (option_map typed_node found)) }
+{
+    if allowed {
+        return found;
+    }
+    worst.add(at, fault);
+    None
+}

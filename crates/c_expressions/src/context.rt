@@ -1,0 +1,25 @@
+//! Where an expression is, and what a name means there.
+
+ghost use Rattle.std.specs.Prelude.{◌≡◌, option_map};
+ghost use Rattle.c_expressions.specs.Views.{entity, names_of};
+
+use crate::scopes::{Entity, Scopes, meaning, spelled};
+use c_syntax::expression::Identifier;
+
+/// Where an expression is: the text and the names there, and whether the exception's code, its record
+/// and AbnormalTermination mean something.
+#[derive(Clone, Copy)]
+pub struct Context<'t, 's> {
+    pub text: &'t [u8],
+    pub scopes: &'s Scopes<'t, 's>,
+    pub code: bool,
+    pub information: bool,
+    pub abnormal: bool,
+}
+
+/// What a name means there.
+pub fn named<'t>(context: &Context<'t, '_>, name: Identifier) -> Option<Entity<'t>>
+    ensures { option_map entity result ≡ (names_of context.now).entity name }
+{
+    meaning(spelled(context.text, name), context.scopes)
+}

@@ -1,0 +1,143 @@
+//! Operands that have to be lvalues (C11, 6.5.2.4, 6.5.3.1, 6.5.3.2 and 6.5.16).
+
+ghost use Rattle.std.specs.Prelude.{◌≡◌, IfOk, OnOk, option_map};
+ghost use Rattle.c_resolved.specs.Expressions as definitions;
+ghost use Rattle.c_resolved.specs.Expressions.{is_lvalue, is_addressable};
+ghost use Rattle.c_syntax.specs.Expression.{expression, start};
+ghost use Rattle.c_expressions.specs.Rules.{Finds, Adds, stepping, preceding, assigning_at, assigning_to};
+ghost use Rattle.c_expressions.specs.Views.{names_of};
+ghost use Rattle.c_types.specs.Views.{typed_node};
+
+use crate::context::{Context, named};
+use crate::least::Least;
+use crate::rules;
+use crate::scopes::Entity;
+use c_checked::expression::Fixity;
+use c_resolved::fault::Fault;
+use c_syntax::expression::Expr;
+use c_syntax::operator::{Arithmetic, Increment, UnaryOperator};
+use c_types::typed::TypedNode;
+use std::alloc::{AllocError, Global};
+
+/// Whether an expression is a variable, `*e` or `a[i]`, parentheses aside; of an unknown name no further
+/// rule is broken.
+fn is_lvalue(context: &Context<'_, '_>, e: &Expr) -> bool
+    ensures { result ≡ is_lvalue (names_of context.now) (expression e.now) }
+{
+    match e {
+        Expr::Variable(name) => match named(context, *name) {
+            None | Some(Entity::LocalVariable { .. }) | Some(Entity::GlobalVariable { .. }) => true,
+            Some(_) => false,
+        },
+        Expr::Parentheses { inner, .. } => is_lvalue(context, inner),
+        Expr::Index { .. } => true,
+        Expr::Unary { operator, .. } => is_indirection(*operator),
+        _ => false,
+    }
+}
+
+/// Whether an expression is an operand of `&`: a global variable, `*e` or `a[i]`.
+fn is_addressable(context: &Context<'_, '_>, e: &Expr) -> bool
+    ensures { result ≡ is_addressable (names_of context.now) (expression e.now) }
+{
+    match e {
+        Expr::Variable(name) => match named(context, *name) {
+            None | Some(Entity::GlobalVariable { .. }) => true,
+            Some(_) => false,
+        },
+        Expr::Parentheses { inner, .. } => is_addressable(context, inner),
+        Expr::Index { .. } => true,
+        Expr::Unary { operator, .. } => is_indirection(*operator),
+        _ => false,
+    }
+}
+
+fn is_indirection(operator: UnaryOperator) -> bool
+    ensures { result ≡ definitions.is_indirection operator }
+{
+    match operator {
+        UnaryOperator::Indirection => true,
+        _ => false,
+    }
+}
+
+/// Whether the operand of `&` is one.
+fn operand_is_lvalue(context: &Context<'_, '_>, operator: UnaryOperator, e: &Expr) -> bool
+    ensures { result ≡ definitions.operand_is_lvalue operator (names_of context.now) (expression e.now) }
+{
+    match operator {
+        UnaryOperator::AddressOf => is_addressable(context, e),
+        _ => true,
+    }
+}
+
+/// `++` or `--` of an operand.
+pub fn step(
+    context: &Context<'_, '_>,
+    worst: &mut Least,
+    at: u64,
+    fixity: Fixity,
+    operator: Increment,
+    operand: &Expr,
+    a: Option<TypedNode>,
+) -> Option<TypedNode>
+    ensures found { Finds result (λ fs. stepping (names_of context.now) at fixity operator (expression operand.now) fs (option_map typed_node a)) }
+    ensures faults { Adds worst.old worst.new (λ fs. stepping (names_of context.now) at fixity operator (expression operand.now) fs (option_map typed_node a)) }
+{
+    if is_lvalue(context, operand) {
+        return rules::increment(worst, at, fixity, operator, a);
+    }
+    worst.add(operand.start(), Fault::NotLvalue);
+    None
+}
+
+/// Another operator before its operand.
+pub fn unary(
+    alloc: Global,
+    context: &Context<'_, '_>,
+    worst: &mut Least,
+    at: u64,
+    operator: UnaryOperator,
+    operand: &Expr,
+    a: Option<TypedNode>,
+) -> Result<Option<TypedNode>, AllocError>
+    ensures found { IfOk result (λ r. Finds r (λ fs. preceding (names_of context.now) at operator (expression operand.now) fs (option_map typed_node a))) }
+    ensures faults { OnOk result (Adds worst.old worst.new (λ fs. preceding (names_of context.now) at operator (expression operand.now) fs (option_map typed_node a))) }
+{
+    if operand_is_lvalue(context, operator, operand) {
+        return rules::unary(alloc, worst, at, operator, a);
+    }
+    worst.add(operand.start(), Fault::NotLvalue);
+    Ok(None)
+}
+
+/// The place of a fault of types in an assignment: `=` has its value's, a compound form its own.
+pub fn place_of(operator: Option<Arithmetic>, at: u64, value: &Expr) -> u64
+    ensures { result ≡ assigning_at operator at (start (expression value.now)) }
+{
+    match operator {
+        Some(_) => at,
+        None => value.start(),
+    }
+}
+
+/// `target = value`, or with an operator its compound form.
+pub fn assign(
+    alloc: Global,
+    context: &Context<'_, '_>,
+    worst: &mut Least,
+    target: &Expr,
+    at: u64,
+    operator: Option<Arithmetic>,
+    a: Option<TypedNode>,
+    b: Option<TypedNode>,
+) -> Result<Option<TypedNode>, AllocError>
+    ensures found { IfOk result (λ r. Finds r (λ fs. assigning_to (names_of context.now) (expression target.now) at operator fs (option_map typed_node a) (option_map typed_node b))) }
+    ensures faults { OnOk result (Adds worst.old worst.new (λ fs. assigning_to (names_of context.now) (expression target.now) at operator fs (option_map typed_node a) (option_map typed_node b))) }
+{
+    if is_lvalue(context, target) {
+        return rules::assign(alloc, worst, operator, at, a, b);
+    }
+    worst.add(target.start(), Fault::NotLvalue);
+    Ok(None)
+}

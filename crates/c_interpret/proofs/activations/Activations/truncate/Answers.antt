@@ -1,6 +1,0 @@
-use Rattle.std.proofs.Common.{ℕ, List, ap, sym, ◌∙◌, map}
-use Rattle.std.proofs.lemmas.List.{take-map}
-use Rattle.c_interpret.proofs.activations.Activations.truncate.Goals as goal
-
-pub returns : goal.returns
-returns c = ap (map (λ locals. locals.items)) c.truncate.ensures.items ∙ sym (take-map (λ locals. locals.items) c.args.count c.args.self.now.frames.items)

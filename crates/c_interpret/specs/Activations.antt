@@ -1,6 +1,0 @@
--- What the activations stand for.
-use Rattle.std.specs.Prelude.{ℕ, List, map}
-use Rattle.c_interpret.specs.declared.activations.Activations.{Activations}
-
-abbrev pub frames_of : Activations → List (List ℕ)
-frames_of a = map (λ locals. locals.items) a.frames.items

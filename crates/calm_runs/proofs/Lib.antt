@@ -1,0 +1,4 @@
+pub mod StepsLeft
+pub mod Runs
+pub mod Tameness
+pub mod Computed

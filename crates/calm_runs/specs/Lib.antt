@@ -1,0 +1,4 @@
+pub mod Tame
+pub mod Plain
+pub mod Laws
+pub mod Rows

@@ -1,0 +1,6 @@
+pub mod Stacks
+pub mod LocalsLemmas
+pub mod Handlers
+pub mod Finishing
+pub mod Operating
+pub mod Deep

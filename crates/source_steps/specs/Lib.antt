@@ -1,0 +1,4 @@
+pub mod Locals
+pub mod Activations
+pub mod Machines
+pub mod Finished

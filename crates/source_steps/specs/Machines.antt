@@ -1,0 +1,31 @@
+-- What the code's machine stands for, with what was shown.
+use Rattle.std.specs.Prelude.{◌≡◌, ℕ, List, [], ◌∷◌, ◌++◌, map, reverse, Option, Some, None}
+use Rattle.seh_num.specs.declared.event.Event.{Event}
+use Rattle.x64_memory.specs.PageMaps.{memory_of}
+use Rattle.c_model.specs.State.{State}
+use Rattle.source_machine.specs.Frames as frames
+use Rattle.source_machine.specs.Machine.{Machine}
+use Rattle.source_steps.specs.declared.machine.Machine.{Machine as Machine'}
+use Rattle.source_steps.specs.Activations.{frames_of}
+use Rattle.source_plans.specs.Views.{handler_of, frame_of, next_of}
+use Rattle.source_plans.specs.declared.frame.Next.{Next as Next'}
+use Rattle.source_steps.specs.declared.machine.Step.{Step}
+
+abbrev pub state_of : Machine' → List Event → State
+state_of m es = record { steps_left = m.steps_left; memory = memory_of m.memory; frames = frames_of m.activations; held = m.held; events = es }
+
+-- with what is done next
+abbrev pub machine_of : Machine' → frames.Next → List Event → Machine
+machine_of m next es = record { state = state_of m es; handlers = map handler_of m.handlers.items; stack = reverse (map frame_of m.stack.items); next = next }
+
+abbrev pub shown_after : List Event → Option Event → List Event
+shown_after es None = es
+shown_after es (Some e) = es ++ e ∷ []
+
+-- a machine became another by a change, which shows nothing, and this is done next
+abbrev pub Moved : Machine' → Machine' → (Machine → Machine) → Next' → Type 0
+Moved m m' change next = (x : frames.Next) (es : List Event) → change (machine_of m x es) ≡ machine_of m' (next_of next) es
+
+-- the same, where the change may show an event
+abbrev pub Showed : Machine' → Machine' → (Machine → Machine) → Step → Type 0
+Showed m m' change step = (x : frames.Next) (es : List Event) → change (machine_of m x es) ≡ machine_of m' (next_of step.next) (shown_after es step.shown)

@@ -1,0 +1,130 @@
+//! Calls.
+
+ghost use Rattle.std.specs.Prelude.{◌≡◌, ◌++◌, [], ◌∷◌, List, IfOk, slice_get, option_map, get_or};
+ghost use Rattle.seh_num.specs.declared.width.Width.TheVariants.{W32};
+ghost use Rattle.seh_num.specs.Widths.{signed};
+ghost use Rattle.c_model.specs.Expressions.{raised};
+ghost use Rattle.seh_num.specs.declared.event.Event.{Event as Event'};
+ghost use Rattle.c_checked.specs.Program as programs;
+ghost use Rattle.c_checked.specs.Whole as whole;
+ghost use Rattle.source_machine.specs.Frames as frames;
+ghost use Rattle.source_machine.specs.Machine as model;
+ghost use Rattle.source_plans.specs.Views as views;
+ghost use Rattle.source_plans.specs.Views.{place_of};
+ghost use Rattle.source_steps.specs.Machines.{machine_of, shown_after, Moved, Showed};
+
+use crate::activations::with_zeros;
+use crate::machine::{Machine, Step, quiet, showing, too_deep};
+use c_checked::checked::Checked;
+use c_checked::function::Function;
+use c_operations::built_in::BuiltIn;
+use seh_num::event::Event;
+use seh_num::extension::sign_extend;
+use seh_num::width::Width;
+use source_plans::expressions::start;
+use source_plans::frame::{Callee, Frame, Next, Outcome, SequelFrame};
+use source_plans::place::{Exception, NO_EXCEPTION, Place};
+use source_plans::task::Task;
+use source_plans::values::of_test;
+use std::alloc::AllocError;
+use x64_memory::space::AddressSpace;
+
+/// A value of a list; 0 where there is none.
+fn value_at(values: &[u64], index: usize) -> u64
+    ensures { result ≡ get_or values.now index 0 }
+{
+    match values.get(index) {
+        None => 0,
+        Some(value) => *value,
+    }
+}
+
+/// The low 32 bits, as a signed number.
+pub fn low_signed(value: u64) -> i32
+    ensures { result ≡ signed W32 value }
+{
+    ((value % (1 << 32)) as u32).cast_signed()
+}
+
+/// What a call of RaiseException raises.
+fn raised(code: u64, flags: u64) -> Exception
+    ensures { views.exception_of result ≡ raised code flags }
+{
+    Exception {
+        code: (code % (1 << 32)) as u32,
+        flag: flags % 2 == 1,
+        access: None,
+    }
+}
+
+impl<'p> Machine<'p> {
+    /// A function's body in an activation of its own.
+    fn enter(&mut self, function: &'p Function, values: Vec<u64>) -> Result<Next<'p>, AllocError>
+        ensures { IfOk result (Moved self.old self.new (λ m. model.entered m (Some
+            (programs.function function.now)) values.items)) }
+    {
+        if self.is_deep(1) {
+            return Ok(too_deep());
+        }
+        let activation = self.activations.len();
+        let locals = with_zeros(values, function.locals.len())?;
+        self.activations.push(locals)?;
+        self.push(Frame::EndsCall(activation))?;
+        let place = Place {
+            activation,
+            exception: NO_EXCEPTION,
+            abnormal: false,
+        };
+        Ok(Next::Proceed(&function.body, 0, place))
+    }
+
+    /// A built-in function is called.
+    fn call_built_in(
+        &mut self,
+        function: BuiltIn,
+        values: &[u64],
+        place: Place,
+    ) -> Result<Step<'p>, AllocError>
+        ensures { IfOk result (Showed self.old self.new (λ m. model.built_in m function values.now
+            (place_of place))) }
+    {
+        let first = value_at(values, 0);
+        let second = value_at(values, 1);
+        match function {
+            BuiltIn::Put => {
+                let event = Event::Put(sign_extend(Width::W64, first));
+                Ok(showing(event, Next::Give(Outcome::Value(0))))
+            }
+            BuiltIn::Protect => {
+                let is_set = self.memory.protect(first, low_signed(second));
+                Ok(quiet(Next::Give(Outcome::Value(of_test(is_set)))))
+            }
+            BuiltIn::RaiseException => {
+                self.push(Frame::Sequel(SequelFrame::GivesZero))?;
+                let task = Task::Raise(raised(first, second));
+                Ok(quiet(start(task, place)))
+            }
+        }
+    }
+
+    /// A call, whose arguments are there.
+    pub fn call(
+        &mut self,
+        program: &'p Checked,
+        callee: Callee,
+        values: Vec<u64>,
+        place: Place,
+    ) -> Result<Step<'p>, AllocError>
+        ensures { IfOk result (Showed self.old self.new (λ m. model.called
+            (whole.program program.now) m (views.callee_of callee) values.items
+            (place_of place))) }
+    {
+        match callee {
+            Callee::BuiltIn(function) => self.call_built_in(function, &values, place),
+            Callee::Defined(index) => match program.functions.get(index as usize) {
+                None => Ok(quiet(Next::Give(Outcome::Value(0)))),
+                Some(function) => Ok(quiet(self.enter(function, values)?)),
+            },
+        }
+    }
+}

@@ -1,0 +1,253 @@
+//! Results go to what waits for them.
+
+ghost use Rattle.std.specs.Prelude.{◌≡◌, ◌+◌, ◌++◌, [], ◌∷◌, List, IfOk, OnOk, map, nat_eq};
+ghost use Rattle.c_model.specs.State as states;
+ghost use Rattle.c_model.specs.Tasks as tasks;
+ghost use Rattle.seh_num.specs.declared.event.Event.{Event as Event'};
+ghost use Rattle.c_checked.specs.Statement as trees;
+ghost use Rattle.source_machine.specs.Frames as frames;
+ghost use Rattle.source_machine.specs.Machine as model;
+ghost use Rattle.source_plans.specs.Views as views;
+ghost use Rattle.source_plans.specs.Views.{place_of, plan_of};
+ghost use Rattle.source_steps.specs.Machines.{machine_of, shown_after, Moved, Showed};
+ghost use Rattle.source_steps.specs.Finished.{resumed_from};
+
+use crate::machine::{Machine, Step, quiet, showing};
+use c_checked::statement::Stmt;
+use seh_num::event::{Code, Event};
+use source_plans::expressions::start;
+use source_plans::frame::{
+    AssignmentFrame, BodyFrame, Finish, Frame, Next, OperandFrame, Outcome, SequelFrame,
+    StatementFrame,
+};
+use source_plans::place::{Exception, Place};
+use source_plans::results::{
+    assignment_plan, body_plan, in_statement_plan, operand_plan, sequel_plan,
+};
+use source_plans::task::Task;
+use std::alloc::AllocError;
+
+/// A `__finally` block is to run.
+fn finally<'p>(number: u32, last: &'p Vec<Stmt>, abnormal: bool, place: Place) -> Next<'p>
+    ensures { views.next_of result ≡ frames.Start (tasks.RunFinally number
+        (views.all_statements last.now.items) abnormal) (place_of place) }
+{
+    start(
+        Task::RunFinally {
+            number,
+            last,
+            abnormal,
+        },
+        place,
+    )
+}
+
+impl<'p> Machine<'p> {
+    /// An activation that a target leaves is held. A run holds at most 1,000, so that there is room for one
+    /// more; a count that has none fails as want of memory does.
+    fn hold_activation(&mut self) -> Result<(), AllocError>
+        ensures { OnOk result (self.new ≡ record self.old { held = self.old.held + 1 }) }
+    {
+        match self.held.checked_add(1) {
+            None => Err(AllocError),
+            Some(held) => {
+                self.held = held;
+                Ok(())
+            }
+        }
+    }
+
+    /// The end of a call.
+    fn leave_call(&mut self, count: usize, how: Outcome) -> Result<Next<'p>, AllocError>
+        ensures { IfOk result (Moved self.old self.new (λ m. model.left_call m count
+            (views.result_of how))) }
+    {
+        self.activations.truncate(count);
+        match how {
+            Outcome::Normal => Ok(Next::Give(Outcome::Value(0))),
+            Outcome::Returned(value) => Ok(Next::Give(Outcome::Value(value))),
+            Outcome::Target(level, exception) => {
+                self.hold_activation()?;
+                Ok(Next::Give(Outcome::Target(level, exception)))
+            }
+            other => Ok(Next::Give(other)),
+        }
+    }
+
+    /// An exception's way leads past a `__try` with an `__except`, or ends at it.
+    fn land(
+        &mut self,
+        held: u64,
+        block: &'p Vec<Stmt>,
+        place: Place,
+        level: usize,
+        exception: Exception,
+    ) -> Step<'p>
+        ensures { Showed self.old self.new (λ m. model.landed m held
+            (views.all_statements block.now.items) (place_of place) (states.Target level
+            (views.exception_of exception))) result }
+    {
+        if level != self.handlers.len() {
+            return quiet(Next::Give(Outcome::Target(level, exception)));
+        }
+        self.held = held;
+        let inside = Place {
+            activation: place.activation,
+            exception,
+            abnormal: place.abnormal,
+        };
+        showing(
+            Event::Except(Code(exception.code)),
+            Next::Proceed(block, 0, inside),
+        )
+    }
+
+    /// The end of a `__try` with a `__finally`.
+    fn finish_try(
+        &mut self,
+        number: u32,
+        last: &'p Vec<Stmt>,
+        place: Place,
+        how: Outcome,
+    ) -> Result<Next<'p>, AllocError>
+        ensures { IfOk result (Moved self.old self.new (λ m. model.finished m number
+            (views.all_statements last.now.items) (place_of place) (views.result_of how))) }
+    {
+        match how {
+            Outcome::Normal => Ok(finally(number, last, false, place)),
+            Outcome::LeftTry => Ok(finally(number, last, false, place)),
+            other => {
+                self.push(Frame::Sequel(SequelFrame::GivesResult(other)))?;
+                Ok(finally(number, last, true, place))
+            }
+        }
+    }
+
+    /// A result goes to an operand's frame.
+    fn resume_operand(
+        &mut self,
+        frame: OperandFrame<'p>,
+        how: Outcome,
+    ) -> Result<Next<'p>, AllocError>
+        ensures { IfOk result (Moved self.old self.new (λ m. model.resumed m (frames.Operand
+            (views.operand_frame_of frame.entry)) (views.result_of how))) }
+    {
+        match how {
+            Outcome::Value(value) => {
+                let plan = operand_plan(frame, value)?;
+                self.follow(plan)
+            }
+            other => Ok(Next::Give(other)),
+        }
+    }
+
+    /// A result goes to a frame of an assignment.
+    fn resume_assignment(
+        &mut self,
+        frame: AssignmentFrame<'p>,
+        how: Outcome,
+    ) -> Result<Next<'p>, AllocError>
+        ensures { IfOk result (Moved self.old self.new (λ m. model.resumed m (frames.Assignment
+            (views.assignment_frame_of frame.entry)) (views.result_of how))) }
+    {
+        match how {
+            Outcome::Value(value) => self.follow(assignment_plan(frame, value)),
+            other => Ok(Next::Give(other)),
+        }
+    }
+
+    /// A result goes to a frame of a statement.
+    fn resume_statement(
+        &mut self,
+        frame: StatementFrame<'p>,
+        how: Outcome,
+    ) -> Result<Next<'p>, AllocError>
+        ensures { IfOk result (Moved self.old self.new (λ m. model.resumed m (frames.InStatement
+            (views.statement_frame_of frame.entry)) (views.result_of how))) }
+    {
+        match how {
+            Outcome::Value(value) => self.follow(in_statement_plan(frame, value)),
+            other => Ok(Next::Give(other)),
+        }
+    }
+
+    /// A result goes to a frame that waits for a normal end.
+    fn resume_sequel(
+        &mut self,
+        frame: SequelFrame<'p>,
+        how: Outcome,
+    ) -> Result<Next<'p>, AllocError>
+        ensures { IfOk result (Moved self.old self.new (λ m. model.resumed m (frames.Sequel
+            (views.sequel_frame_of frame.entry)) (views.result_of how))) }
+    {
+        match how {
+            Outcome::Normal => self.follow(sequel_plan(frame)),
+            other => Ok(Next::Give(other)),
+        }
+    }
+
+    /// A result goes to the end of a loop's body.
+    fn resume_body(&mut self, frame: BodyFrame<'p>, how: Outcome) -> Result<Next<'p>, AllocError>
+        ensures { IfOk result (Moved self.old self.new (λ m. model.resumed m (frames.Body
+            (views.body_frame_of frame.entry)) (views.result_of how))) }
+    {
+        match how {
+            Outcome::Normal => self.follow(body_plan(frame)),
+            Outcome::Continued => self.follow(body_plan(frame)),
+            Outcome::Broke => Ok(Next::Give(Outcome::Normal)),
+            other => Ok(Next::Give(other)),
+        }
+    }
+
+    /// A result goes to the end of a `__try` with an `__except`, whose handler is gone.
+    fn resume_landing(
+        &mut self,
+        held: u64,
+        block: &'p Vec<Stmt>,
+        place: Place,
+        how: Outcome,
+    ) -> Step<'p>
+        ensures { Showed self.old self.new (λ m. model.landed m held
+            (views.all_statements block.now.items) (place_of place)
+            (views.result_of how)) result }
+    {
+        match how {
+            Outcome::LeftTry => quiet(Next::Give(Outcome::Normal)),
+            Outcome::Target(level, exception) => self.land(held, block, place, level, exception),
+            other => quiet(Next::Give(other)),
+        }
+    }
+
+    /// A result goes to a frame that isn't a landing.
+    fn resume(&mut self, frame: Frame<'p>, how: Outcome) -> Result<Step<'p>, AllocError>
+        ensures { IfOk result (Showed self.old self.new (λ m. resumed_from m
+            (views.frame_of frame.entry) (views.result_of how))) }
+    {
+        match frame {
+            Frame::Operand(frame) => Ok(quiet(self.resume_operand(frame, how)?)),
+            Frame::Assignment(frame) => Ok(quiet(self.resume_assignment(frame, how)?)),
+            Frame::Statement(frame) => Ok(quiet(self.resume_statement(frame, how)?)),
+            Frame::Sequel(frame) => Ok(quiet(self.resume_sequel(frame, how)?)),
+            Frame::Body(frame) => Ok(quiet(self.resume_body(frame, how)?)),
+            Frame::EndsCall(count) => Ok(quiet(self.leave_call(count, how)?)),
+            Frame::Lands(held, block, place) => {
+                let _ = self.handlers.pop();
+                Ok(self.resume_landing(held, block, place, how))
+            }
+            Frame::Finishes(number, last, place) => {
+                Ok(quiet(self.finish_try(number, last, place, how)?))
+            }
+        }
+    }
+
+    /// A result goes to the newest frame; without one the run is over.
+    pub fn give(&mut self, how: Outcome) -> Result<Step<'p>, AllocError>
+        ensures { IfOk result (Showed self.old self.new (λ m. model.given m
+            (views.result_of how) m.stack)) }
+    {
+        match self.stack.pop() {
+            None => Ok(quiet(Next::Over(Finish::Gave(how)))),
+            Some(frame) => self.resume(frame, how),
+        }
+    }
+}

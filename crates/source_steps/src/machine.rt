@@ -1,0 +1,128 @@
+//! The machine, and what changes it.
+
+ghost use Rattle.std.specs.Prelude.{◌≡◌, ◌≤◌, ◌++◌, [], ◌∷◌, List, IfOk, OnOk};
+ghost use Rattle.c_model.specs.State as states;
+ghost use Rattle.c_model.specs.declared.ended.Ended.TheVariants as ends;
+ghost use Rattle.seh_num.specs.declared.event.Event.{Event as Event'};
+ghost use Rattle.source_machine.specs.Frames as frames;
+ghost use Rattle.source_machine.specs.Machine as model;
+ghost use Rattle.source_plans.specs.Views as views;
+ghost use Rattle.source_plans.specs.Views.{place_of};
+ghost use Rattle.source_steps.specs.Machines.{machine_of, state_of, shown_after, Moved, Showed};
+
+use crate::activations::Activations;
+use c_model::ended::Ended;
+use seh_num::event::Event;
+use source_plans::frame::{Finish, Frame, Next, Phase, Plan};
+use source_plans::place::{Handler, Place};
+use source_plans::task::Task;
+use std::alloc::AllocError;
+use x64_memory::page_map::PageMap;
+
+/// The greatest depth of a program: 1 for each live activation, and what is held beside them (own).
+const GREATEST_DEPTH: u64 = 1000;
+
+/// A machine that runs a program.
+#[derive(Drop)]
+pub struct Machine<'p> {
+    pub steps_left: u64,
+    pub memory: PageMap,
+    pub activations: Activations,
+    /// What is held of the depth beside the live activations: 2 for each filter and `__finally` block that
+    /// runs, or that a target has left, and 1 for each activation that one has left, until it lands.
+    pub held: u64,
+    /// The handlers around the place where the machine goes on, outermost first.
+    pub handlers: Vec<Handler<'p>>,
+    /// What waits, the newest last.
+    pub stack: Vec<Frame<'p>>,
+}
+
+/// What is done next, and what was shown.
+#[derive(Drop)]
+pub struct Step<'p> {
+    pub next: Next<'p>,
+    pub shown: Option<Event>,
+}
+
+/// A step that shows nothing.
+pub fn quiet<'p>(next: Next<'p>) -> Step<'p>
+    ensures next { views.next_of result.next ≡ views.next_of next.entry }
+    ensures shown { (es : List Event') → shown_after es result.shown ≡ es }
+{
+    Step { next, shown: None }
+}
+
+/// A step that shows an event.
+pub fn showing<'p>(event: Event, next: Next<'p>) -> Step<'p>
+    ensures next { views.next_of result.next ≡ views.next_of next.entry }
+    ensures shown { (es : List Event') → shown_after es result.shown ≡ es ++ event ∷ [] }
+{
+    Step {
+        next,
+        shown: Some(event),
+    }
+}
+
+/// The run is over, since the depth would rise above 1,000: to this depth.
+pub fn too_deep<'p>() -> Next<'p>
+    ensures { views.next_of result ≡ frames.Over (states.End (Some (ends.Deep 1001))) }
+{
+    Next::Over(Finish::Ended(Ended::Deep {
+        depth: GREATEST_DEPTH + 1,
+    }))
+}
+
+impl<'p> Machine<'p> {
+    /// Whether the depth would rise above the greatest, by so much.
+    pub fn is_deep(&self, more: u64) -> bool
+        requires { more ≤ 2 }
+        ensures { (es : List Event') → result ≡ model.is_deep (state_of self.now es) more }
+    {
+        let live = self.activations.len();
+        let held = self.held;
+        if live > 1000 {
+            return true;
+        }
+        if held > 1000 {
+            return true;
+        }
+        live as u64 + held + more > GREATEST_DEPTH
+    }
+
+    /// One more frame waits.
+    pub fn push(&mut self, frame: Frame<'p>) -> Result<(), AllocError>
+        ensures { OnOk result ((next : frames.Next) (x : frames.Next) (es : List Event')
+            → model.follow (machine_of self.old x es) (frames.Push
+            (views.frame_of frame.entry) next) ≡ machine_of self.new next es) }
+    {
+        self.stack.push(frame)?;
+        Ok(())
+    }
+
+    /// What a plan does.
+    pub fn follow(&mut self, plan: Plan<'p>) -> Result<Next<'p>, AllocError>
+        ensures { IfOk result (Moved self.old self.new (λ m. model.follow m
+            (views.plan_of plan.entry))) }
+    {
+        let Plan { pushed, next } = plan;
+        match pushed {
+            None => Ok(next),
+            Some(frame) => {
+                self.push(frame)?;
+                Ok(next)
+            }
+        }
+    }
+
+    /// A task's step.
+    pub fn start(&mut self, task: Task<'p>, place: Place) -> Next<'p>
+        ensures { Moved self.old self.new (λ m. model.started m (views.task_of task.entry)
+            (place_of place) m.state.steps_left) result }
+    {
+        if self.steps_left == 0 {
+            return Next::Over(Finish::OutOfSteps);
+        }
+        self.steps_left -= 1;
+        Next::Do(Phase::After, task, place)
+    }
+}

@@ -1,0 +1,149 @@
+//! The machine's steps.
+
+ghost use Rattle.std.specs.Prelude.{◌≡◌, List, IfOk};
+ghost use Rattle.seh_num.specs.declared.event.Event.{Event as Event'};
+ghost use Rattle.c_checked.specs.Program.{Program};
+ghost use Rattle.c_checked.specs.Whole as whole;
+ghost use Rattle.c_checked.specs.Expression as tree;
+ghost use Rattle.c_checked.specs.Statement as trees;
+ghost use Rattle.source_machine.specs.Frames as frames;
+ghost use Rattle.source_machine.specs.Machine as model;
+ghost use Rattle.c_model.specs.Source.{data_end as model_data_end};
+ghost use Rattle.source_plans.specs.Views as views;
+ghost use Rattle.source_plans.specs.Views.{place_of};
+ghost use Rattle.source_steps.specs.Machines.{machine_of, shown_after, Moved, Showed};
+
+use crate::machine::{Machine, Step, quiet};
+use c_checked::checked::Checked;
+use c_checked::statement::Declared;
+use source_plans::expressions::{expression_plan, find_plan, node_plan, pass_plan};
+use source_plans::frame::{Next, Outcome, Phase, Plan};
+use source_plans::place::Place;
+use source_plans::statements::{
+    declare_plan, do_plan, for_plan, initialise_plan, listed_plan, proceed_plan, statement_plan,
+};
+use source_plans::task::Task;
+use std::alloc::{AllocError, Global};
+
+impl<'p> Machine<'p> {
+    /// A task's beginning, after its step.
+    fn begin(&mut self, task: Task<'p>, place: Place) -> Result<Step<'p>, AllocError>
+        ensures { IfOk result (Showed self.old self.new (λ m. model.begun m
+            (views.task_of task.entry) (place_of place))) }
+    {
+        match task {
+            Task::Eval(expr) => self.planned(expression_plan(expr, place)),
+            Task::Locate(target) => Ok(quiet(Next::Find(target, place))),
+            Task::RunListed(stmts, index) => self.planned(listed_plan(stmts, index, place)),
+            Task::RunBoxed(stmt) => self.planned(statement_plan(stmt, place)),
+            Task::Declare(declared) => Ok(quiet(Next::DeclareName(declared, place))),
+            Task::ForIteration(of) => self.planned(for_plan(of, place)),
+            Task::DoIteration { body, condition } => {
+                self.planned(do_plan(body, condition, place))
+            }
+            Task::TryBody(stmts) => Ok(quiet(Next::Proceed(stmts, 0, place))),
+            Task::Raise(exception) => Ok(self.raise(exception, place)),
+            Task::RunFilter {
+                number,
+                value,
+                handler,
+                exception,
+            } => self.run_filter(number, value, handler, exception, place),
+            Task::RunFinally {
+                number,
+                last,
+                abnormal,
+            } => self.run_finally(number, last, abnormal, place),
+            Task::Retry {
+                operation,
+                first,
+                second,
+            } => Ok(quiet(Next::Operate(operation, first, second, place))),
+        }
+    }
+
+    /// What a plan does, which shows nothing.
+    fn planned(&mut self, plan: Plan<'p>) -> Result<Step<'p>, AllocError>
+        ensures { IfOk result (Showed self.old self.new (λ m. model.follow m
+            (views.plan_of plan.entry))) }
+    {
+        Ok(quiet(self.follow(plan)?))
+    }
+
+    /// A declared name is 0 first, in its own initialiser too.
+    fn declare(&mut self, declared: &'p Declared, place: Place) -> Result<Step<'p>, AllocError>
+        ensures { IfOk result (Showed self.old self.new (λ m. model.declared m
+            (trees.declared declared.now) (place_of place))) }
+    {
+        self.set_local(declared.local, 0, place);
+        self.planned(initialise_plan(declared, place))
+    }
+
+    /// A task, before or after its step.
+    fn take_up(
+        &mut self,
+        phase: Phase,
+        task: Task<'p>,
+        place: Place,
+    ) -> Result<Step<'p>, AllocError>
+        ensures { (p : Program) → IfOk result (Showed self.old self.new (λ m. model.done p m
+            (views.phased phase (views.task_of task.entry) (place_of place)))) }
+    {
+        match phase {
+            Phase::Before => Ok(quiet(self.start(task, place))),
+            Phase::After => self.begin(task, place),
+        }
+    }
+
+    /// What is done next is done, in memory whose globals' pages end at `data_end`.
+    pub fn step(
+        &mut self,
+        alloc: Global,
+        program: &'p Checked,
+        data_end: u64,
+        next: Next<'p>,
+    ) -> Result<Step<'p>, AllocError>
+        requires { data_end ≡ model_data_end program.now.globals.items }
+        ensures { IfOk result (Showed self.old self.new (λ m. model.done
+            (whole.program program.now) m (views.next_of next.entry))) }
+    {
+        match next {
+            Next::Over(how) => Ok(quiet(Next::Over(how))),
+            Next::Give(how) => self.give(how),
+            Next::Do(phase, task, place) => self.take_up(phase, task, place),
+            Next::Evaluate(node, place) => self.planned(node_plan(alloc, node, place)),
+            Next::Find(target, place) => self.planned(find_plan(target, place)),
+            Next::Fetch(target, address, place) => Ok(quiet(self.fetch(target, address, place)?)),
+            Next::Put(target, address, value, place) => {
+                Ok(quiet(self.put(target, address, value, place)))
+            }
+            Next::Operate(operation, first, second, place) => {
+                Ok(quiet(self.operate(data_end, operation, first, second, place)?))
+            }
+            Next::Pass(callee, values, arguments, next, place) => {
+                self.planned(pass_plan(callee, values, arguments, next, place))
+            }
+            Next::Call(callee, values, place) => self.call(program, callee, values, place),
+            Next::Proceed(stmts, next, place) => self.planned(proceed_plan(stmts, next, place)),
+            Next::DeclareEach(declared, next, place) => {
+                self.planned(declare_plan(declared, next, place))
+            }
+            Next::DeclareName(declared, place) => self.declare(declared, place),
+            Next::SetLocal(local, value, place) => {
+                self.set_local(local, value, place);
+                Ok(quiet(Next::Give(Outcome::Normal)))
+            }
+            Next::Guard(body, filter, block, place) => {
+                Ok(quiet(self.guard(body, filter, block, place)?))
+            }
+            Next::Answer(value) => Ok(self.answer(value)),
+            Next::LetGo => {
+                self.held = self.held.saturating_sub(2);
+                Ok(quiet(Next::Give(Outcome::Normal)))
+            }
+            Next::Search(level, exception, place) => {
+                Ok(quiet(self.search(level, exception, place)?))
+            }
+        }
+    }
+}

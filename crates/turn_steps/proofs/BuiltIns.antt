@@ -1,0 +1,60 @@
+-- A built-in function is called: RAX is cleared, the arguments are passed, and the thunk leads to the service.
+use Rattle.std.proofs.Common.{◌≡◌, ℕ, ◌+◌, ◌-◌, ◌^◌, ◌<◌, ◌≤◌, List, [], ◌∷◌, ◌++◌, Ok, refl, sym, ap, subst, ◌∙◌, arith}
+use Rattle.seh_num.specs.declared.width.Width.TheVariants.{W32}
+use Rattle.x64_encode.specs.Chosen.{opcode_register}
+use Rattle.x64_machine.specs.declared.cpu.Flags.{Flags}
+use Rattle.x64_machine.specs.Effect.{effect}
+use Rattle.linear_code.specs.declared.slot.Slot.TheVariants.{Temporary}
+use Rattle.linear_code.specs.BodyState.{BodyState}
+use Rattle.template_code.specs.Bytes.{size, sizes}
+use Rattle.template_code.specs.Slots.{keep}
+use Rattle.template_code.specs.Jumps.{IsNear}
+use Rattle.template_code.specs.Calls.{return_at, begin_call, call_code, clear_result, call_built_in_code}
+use Rattle.x64_templates.specs.Straight.{MachineView, machine}
+use Rattle.x64_templates.specs.CallStates.{sp_of, with_four, pushed, HasBelow}
+use Rattle.x64_templates.specs.Runs.{Reaches, HasCode, Frame, Roomy, Holds}
+use Rattle.x64_templates.specs.Thunks.{HasThunk}
+use Rattle.x64_templates.proofs.PlacedCode.{reaches_then}
+use Rattle.x64_templates.proofs.Computes.{code_split}
+use Rattle.x64_templates.proofs.Jumps.{one_reaches}
+use Rattle.x64_templates.proofs.Calls.{call_begins}
+use Rattle.x64_templates.proofs.Services.{thunk_reaches, pushed_thunk}
+
+abbrev pub cleared : MachineView → MachineView
+cleared v = record { rax = 0; rcx = v.rcx; rdx = v.rdx; rest = v.rest; memory = v.memory }
+
+clear_size : size clear_result ≡ 5
+unfolding size opcode_register
+clear_size = refl
+
+abbrev pub with_arguments_of : MachineView → BodyState → ℕ → MachineView
+with_arguments_of v b first = with_four (cleared v) (b.slots (Temporary first)) (b.slots (Temporary (first + 1))) (b.slots (Temporary (first + 2))) (b.slots (Temporary (first + 3)))
+
+-- the service is reached, with the return address at RSP
+pub record ServiceReached (p : Frame) (first : ℕ) (v : MachineView) (rip service : ℕ) (f : Flags) (b : BodyState) : Type 0 where
+  pub flags : Flags
+  pub comes : Reaches 7 (machine v rip f) (machine (pushed (with_arguments_of v b first) p.sp (return_at p.layout first (rip + 5))) service flags)
+
+pub service_reached : (p : Frame) (first : ℕ) (v : MachineView) (rip to service : ℕ) (f : Flags) (b : BodyState) → Roomy p → first + 4 ≤ p.counts.temporaries → sp_of v ≡ p.sp → Holds p v.memory b → HasBelow v.memory p.sp 8
+    → IsNear (return_at p.layout first (rip + 5)) to → HasCode v.memory rip (call_built_in_code p.layout first rip to) → HasThunk v.memory to service
+    → ServiceReached p first v rip service f b
+service_reached p first v rip to service f b room le at h below near code thunk =
+    let y = p.layout in
+    let call = call_code y (Temporary first) first (rip + 5) to in
+    let parts = code_split v.memory rip (clear_result ∷ []) call code in
+    let n = clear_size in
+    let next : rip + size clear_result ≡ rip + 5 = ap (λ (k : ℕ). rip + k) n in
+    let there : rip + sizes (clear_result ∷ []) ≡ rip + 5 = omega arith in
+    let rest = subst (λ a. HasCode v.memory a call) there parts.1 in
+    let begin = code_split v.memory (rip + 5) (begin_call y first (rip + 5) to) (keep y (Temporary first)) rest in
+    let w = cleared v in
+    let u = with_arguments_of v b first in
+    let back = return_at y first (rip + 5) in
+    let one : Reaches 1 (machine v rip f) (machine w (rip + 5) f) = one_reaches clear_result v w rip (rip + 5) f f refl refl parts.0 (ap (λ (a : ℕ). effect (machine v a f) clear_result) next) in
+    let five = call_begins p first w (rip + 5) to f b room le at h below near begin.0 in
+    let last = thunk_reaches (pushed u p.sp back) to service five.flags (pushed_thunk u p.sp back to service below thunk) in
+    record {
+      flags = five.flags;
+      comes = reaches_then 1 6 (machine v rip f) (machine w (rip + 5) f) (machine (pushed u p.sp back) service five.flags) one
+          (reaches_then 5 1 (machine w (rip + 5) f) (machine (pushed u p.sp back) to five.flags) (machine (pushed u p.sp back) service five.flags) five.comes last);
+    }

@@ -1,0 +1,92 @@
+-- An unwinding lands in a body, which goes on at the label.
+use Rattle.std.proofs.Common.{◌≡◌, true, ℕ, suc, ◌+◌, ◌^◌, ◌<◌, ◌≤◌, List, [], ◌∷◌, ◌++◌, length, Option, Some, None, refl, sym, ap, subst, ◌∙◌, arith, inl}
+use Rattle.std.proofs.lemmas.List.{append-nil}
+use Rattle.seh_num.specs.declared.event.Event.{Event}
+use Rattle.seh_num.specs.declared.event.Event.TheVariants as events
+use Rattle.flat_memory.specs.Memory.{Memory}
+use Rattle.x64_machine.specs.declared.context.Context.{Context}
+use Rattle.x64_machine.specs.Effect.{State}
+use Rattle.virtual_unwind.specs.Contexts.{rsp}
+use Rattle.virtual_unwind.specs.CallerOf.{Functions}
+use Rattle.seh_records.specs.declared.dispatch.DispatchRecord.{DispatchRecord}
+use Rattle.host_model.specs.declared.funclet.Funclet.{Funclet}
+use Rattle.host_model.specs.Turns.{Turn, Continues}
+use Rattle.host_model.specs.Dispatch.{at_landing}
+use Rattle.linear_code.specs.Program.{LinearProgram, LinearBody}
+use Rattle.linear_machine.specs.Frames.{BodyName, Frame, Target, Item, Waits, body_of, Configuration, Seen, Next}
+use Rattle.linear_machine.specs.Unwinding as linear
+use Rattle.linear_machine.specs.Unwinding.{arrive}
+use Rattle.raw_stack.specs.Stack.{StackFrame, StackItem, Framed}
+use Rattle.linked_stack.specs.ImagePlan.{Plan, InCode}
+use Rattle.linked_stack.specs.Linked.{Activation}
+use Rattle.stack_records.specs.Records.{On}
+use Rattle.stack_unwinds.specs.Unwinding.{store_of, on_top}
+use Rattle.dispatch_turns.specs.States.{IsSane}
+use Rattle.dispatch_turns.specs.Unwinds.{landing_value, landing_events, Unwound, LandsThere}
+use Rattle.body_states.specs.Sites.{Sites}
+use Rattle.body_states.specs.Programs.{IsMachineMemory, IsProgramImage}
+use Rattle.body_states.specs.Bodies.{Begins, turns_left}
+use Rattle.body_states.proofs.Resumed.{again, waits_in_body, no_front, all_front}
+use Rattle.body_states.proofs.Inside.{first_in_code}
+use Rattle.turn_steps.specs.Outcomes.{entry_turns, Stands, GoesOn}
+use Rattle.whole_runs.proofs.Matches.{LeadsTo}
+
+same_code : (a b : ℕ) → Some a ≡ Some b → a ≡ b
+same_code a b e = cc
+
+-- where linear code goes on
+abbrev pub landed : Frame → ℕ → Option ℕ → Frame
+landed body label None = record body { next = label }
+landed body label (Some code) = record body { next = label; temporaries = []; landed = Some code }
+
+abbrev pub arrival : Frame → List Item → ℕ → Option ℕ → Memory → List Activation → List Event → Configuration
+arrival body below label code source outer shown = on_top (landed body label code) below source outer (shown ++ landing_events code)
+
+pub arrives_there : (body : Frame) (below : List Item) (target : Target) (code : Option ℕ) (source : Memory) (outer : List Activation) (shown : List Event) (next : Next)
+    → arrive target code next (on_top body below source outer shown) ≡ next (arrival body below target.label code source outer shown)
+arrives_there body below target None source outer shown next = ap (λ (es : List Event). next (on_top (landed body target.label None) below source outer es)) (sym (append-nil shown))
+arrives_there body below target (Some code) source outer shown next = refl
+
+module _ (t : Functions) (fs : List Funclet) (program : LinearProgram) (p : Plan) (q : Sites) (image : IsProgramImage t fs program p q) where
+  -- the state of the machine stands for it
+  lands_in_body : (s : State) (to : Context) (framed : StackFrame) (is : List StackItem) (body : Frame) (below : List Item) (outer : List Activation) (rax address label : ℕ) (code : Option ℕ) (source : Memory) (shown : List Event)
+      → On t fs program p s.memory to (Framed framed ∷ is) (Waits body ∷ below) outer → address ≡ p.address body.body label → p.lands body.body label ≡ true → IsSane (at_landing s to rax address)
+      → IsMachineMemory t fs program p q s.memory source → rax ≡ landing_value code → (code ≡ None → body.landed ≡ None)
+      → Begins t fs program p q (at_landing s to rax address) (arrival body below label code source outer shown)
+  lands_in_body s to framed is body below outer rax address label code source shown on at lands sane memory is_code clear =
+      let w = on.stands.linked.0.waits in
+      let inside = subst (InCode p body.body label) (sym at) (first_in_code t fs program p q image body.body w.code label w.body (image.landings body.body w.code label w.body lands)) in
+      by_code code inside is_code clear
+    where
+      by_code : (code : Option ℕ) → InCode p body.body label address → rax ≡ landing_value code → (code ≡ None → body.landed ≡ None) → Begins t fs program p q (at_landing s to rax address) (arrival body below label code source outer shown)
+      by_code None inside is_code clear = record {
+        rip = at;
+        sane = sane;
+        memory = memory;
+        body = waits_in_body t fs program p q image (at_landing s to rax address) to (Framed framed ∷ is) body below outer label body.temporaries body.landed source (shown ++ []) on refl inside sane.rip_small (all_front s.memory body.temporaries);
+        landed = λ x e. let z = sym (clear refl) ∙ e in absurd cc;
+      }
+      by_code (Some code) inside is_code clear = record {
+        rip = at;
+        sane = sane;
+        memory = memory;
+        body = waits_in_body t fs program p q image (at_landing s to rax address) to (Framed framed ∷ is) body below outer label [] (Some code) source (shown ++ landing_events (Some code)) on refl inside sane.rip_small (no_front s.memory body.temporaries);
+        landed = λ x e. let z : code ≡ x = same_code code x e in is_code ∙ z;
+      }
+
+  pub lands_as : (s : State) (r : DispatchRecord) (turn : Turn) (w : Unwound) (left : ℕ) → (l : LandsThere t fs program p s r turn w) → IsMachineMemory t fs program p q s.memory w.source
+      → turns_left (arrival l.body l.below w.target.label w.target.code w.source l.outer w.shown) ≤ left → (w.target.code ≡ None → l.body.landed ≡ None)
+      → GoesOn t fs program p q turn (λ next. linear.unwind program next w.target w.items w.left w.shown (store_of w.source w.acts)) w.shown left
+  lands_as s r turn w left l memory few clear = record {
+    state = at_landing s l.to (landing_value w.target.code) r.target;
+    events = landing_events w.target.code;
+    turns = l.turns;
+    configuration = arrival l.body l.below w.target.label w.target.code w.source l.outer w.shown;
+    few = few;
+    acts = λ next. l.goes next ∙ arrives_there l.body l.below (record w.target { held = l.held }) w.target.code w.source l.outer w.shown next;
+    shown = refl;
+    leads = at_once (lands_in_body s l.to l.framed l.is l.body l.below l.outer (landing_value w.target.code) r.target w.target.label w.target.code w.source w.shown l.on l.at_address l.lands l.sane memory refl clear);
+  }
+    where
+      at_once : {u : State} {d : Configuration} → Begins t fs program p q u d → LeadsTo t fs entry_turns (Stands t fs program p q) u d
+      at_once {u} {d} h = record { turns = 0; few = omega arith; state = u; comes = (refl, refl); stands = inl h }

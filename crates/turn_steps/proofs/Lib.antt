@@ -1,0 +1,14 @@
+pub mod Memories
+pub mod Counted
+pub mod Outcomes
+pub mod Unlanded
+pub mod Landed
+pub mod Unwinding
+pub mod Searching
+pub mod Asked
+pub mod Answered
+pub mod Served
+pub mod Funclets
+pub mod Hosts
+pub mod BuiltIns
+pub mod Within

@@ -1,0 +1,173 @@
+-- From a turn's outcome to a step that is matched.
+use Rattle.std.proofs.Common.{◌≡◌, ℕ, suc, ◌+◌, ◌≤◌, Bool, true, false, List, [], ◌∷◌, ◌++◌, length, Some, refl, sym, ap, subst, ◌∙◌, arith, inl, inr, append_assoc}
+use Rattle.std.specs.Prelude.{nat_lt}
+use Rattle.std.proofs.lemmas.List.{append-nil}
+use Rattle.seh_num.specs.declared.event.Event.{Event}
+use Rattle.seh_num.specs.declared.end.RunEnd.TheVariants as ends
+use Rattle.x64_machine.specs.Effect.{State}
+use Rattle.virtual_unwind.specs.CallerOf.{Functions}
+use Rattle.host_model.specs.declared.funclet.Funclet.{Funclet}
+use Rattle.host_model.specs.Turns.{Turn, Continues, Ends, with_event}
+use Rattle.host_model.specs.Funclets.{arrived}
+use Rattle.host_model.specs.HostStep.{turn}
+use Rattle.c_model.specs.declared.ended.Ended.TheVariants as source
+use Rattle.c_model.specs.declared.ended.Ended.TheVariants.{Deep}
+use Rattle.linear_code.specs.declared.instruction.Instruction.{Instruction}
+use Rattle.linear_code.specs.Program.{LinearProgram}
+use Rattle.linear_machine.specs.Frames.{Configuration, Seen, Finished, Next, pick, deeper}
+use Rattle.linear_machine.specs.Instructions.{act}
+use Rattle.linked_stack.specs.ImagePlan.{Plan}
+use Rattle.whole_runs.specs.Comes.{IsLive, Comes}
+use Rattle.whole_runs.specs.Matched.{IsMatched}
+use Rattle.whole_runs.proofs.Turns.{comes_one, comes_then}
+use Rattle.whole_runs.proofs.Matches.{quietly_before, quietly_after}
+use Rattle.body_states.specs.Sites.{Sites}
+use Rattle.body_states.specs.Bodies.{turns_left}
+use Rattle.turn_steps.specs.Outcomes.{entry_turns, with_events, Stands, GoesOn, EntersFunclet, EndsRun, Outcome}
+
+-- an event that is shown first
+pub arrived_with : (t : Functions) (fs : List Funclet) (e : Event) (x : Turn) → arrived t fs (with_event e x) ≡ with_event e (arrived t fs x)
+arrived_with t fs e (Continues s es) = refl
+arrived_with t fs e (Ends es end) = refl
+
+pub with_one : (e : Event) (x : Turn) → with_event e x ≡ with_events (e ∷ []) x
+with_one e (Continues s es) = refl
+with_one e (Ends es end) = refl
+
+pub with_two : (e f : Event) (x : Turn) → with_event e (with_event f x) ≡ with_events (e ∷ f ∷ []) x
+with_two e f (Continues s es) = refl
+with_two e f (Ends es end) = refl
+
+pub with_none : (x : Turn) → x ≡ with_events [] x
+with_none (Continues s es) = refl
+with_none (Ends es end) = refl
+
+module _ (t : Functions) (fs : List Funclet) (program : LinearProgram) (p : Plan) (q : Sites) where
+  pub outcome_same : (x y : Turn) (seen other : Next → Seen) (es : List Event) (left : ℕ) → y ≡ x → ((next : Next) → other next ≡ seen next) → Outcome t fs program p q x seen es left → Outcome t fs program p q y other es left
+  outcome_same x y seen other es left e same (inl g) = inl (record {
+    state = g.state;
+    events = g.events;
+    turns = e ∙ g.turns;
+    configuration = g.configuration;
+    few = g.few;
+    acts = λ next. same next ∙ g.acts next;
+    shown = g.shown;
+    leads = g.leads;
+  })
+  outcome_same x y seen other es left e same (inr (inl g)) = inr (inl (record {
+    state = g.state;
+    event = g.event;
+    turns = e ∙ g.turns;
+    configuration = g.configuration;
+    more = g.more;
+    held = g.held;
+    store = g.store;
+    few = g.few;
+    acts = λ next. same next ∙ g.acts next;
+    shown = g.shown;
+    leads = g.leads;
+  }))
+  outcome_same x y seen other es left e same (inr (inr g)) = inr (inr (record { code = g.code; turns = e ∙ g.turns; acts = λ next. same next ∙ g.acts next }))
+
+  -- with more turns left
+  pub outcome_more : (x : Turn) (seen : Next → Seen) (es : List Event) (left more : ℕ) → left ≤ more → Outcome t fs program p q x seen es left → Outcome t fs program p q x seen es more
+  outcome_more x seen es left more le (inl g) =
+      let few = g.few in
+      inl (record { state = g.state; events = g.events; turns = g.turns; configuration = g.configuration; few = omega arith; acts = g.acts; shown = g.shown; leads = g.leads })
+  outcome_more x seen es left more le (inr (inl g)) = inr (inl (record {
+    state = g.state;
+    event = g.event;
+    turns = g.turns;
+    configuration = g.configuration;
+    more = g.more;
+    held = g.held;
+    store = g.store;
+    few = λ shallow. let few = g.few shallow in omega arith;
+    acts = g.acts;
+    shown = g.shown;
+    leads = g.leads;
+  }))
+  outcome_more x seen es left more le (inr (inr g)) = inr (inr g)
+
+  -- quiet turns, and one turn of the host, which shows some events before those of its outcome
+  module _ (pace k left : ℕ) (s u : State) (c : Configuration) (i : Instruction) (before : List Event) (x : Turn)
+      (quiet : Comes t fs k s [] u) (live : IsLive u) (turns : turn t fs u ≡ with_events before x) (enough : k + 1 + entry_turns + left ≤ pace + turns_left c) where
+    abbrev Matched : Type 0
+    Matched = IsMatched t fs program pace turns_left (Stands t fs program p q) s c i
+
+    abbrev step : Next → Seen
+    step next = act program i next c
+
+    reaches : (state : State) (events : List Event) → x ≡ Continues state events → Comes t fs (k + 1) s (before ++ events) state
+    reaches state events e = quietly_before t fs k 1 s u state (before ++ events) quiet (comes_one t fs u state (before ++ events) live (turns ∙ ap (with_events before) e))
+
+    matched_on : GoesOn t fs program p q x step (c.events ++ before) left → Matched
+    matched_on g =
+        let few = g.few in
+        let l = g.leads in
+        let most = l.few in
+        inl (record {
+          turns = k + 1 + l.turns;
+          some = omega arith;
+          configuration = g.configuration;
+          few = omega arith;
+          state = l.state;
+          events = before ++ g.events;
+          comes = quietly_after t fs (k + 1) l.turns s g.state l.state (before ++ g.events) (reaches g.state g.events g.turns) l.comes;
+          acts = g.acts;
+          shown = g.shown ∙ append_assoc c.events before g.events;
+          stands = l.stands;
+        })
+
+    matched_in : EntersFunclet t fs program p q x step (c.events ++ before) left → Matched
+    unfolding pick
+    matched_in g = by (nat_lt 1000 (length g.store.activations + g.held + g.more)) refl
+      where
+        by : (b : Bool) → nat_lt 1000 (length g.store.activations + g.held + g.more) ≡ b → Matched
+        by true deep = inr (inr (inr (record {
+          turns = k + 1;
+          few = omega arith;
+          state = g.state;
+          made = before ++ g.event ∷ [];
+          comes = reaches g.state (g.event ∷ []) g.turns;
+          events = before;
+          front = (g.event ∷ [], refl);
+          end = Deep 1001;
+          wild = refl;
+          acts = λ next. g.acts next ∙ ap (λ (b : Bool). pick b (Finished (Deep 1001) (c.events ++ before)) (next g.configuration)) deep;
+        })))
+        by false shallow =
+            let l = g.leads shallow in
+            let few = g.few shallow in
+            let most = l.few in
+            inl (record {
+              turns = k + 1 + l.turns;
+              some = omega arith;
+              configuration = g.configuration;
+              few = omega arith;
+              state = l.state;
+              events = before ++ g.event ∷ [];
+              comes = quietly_after t fs (k + 1) l.turns s g.state l.state (before ++ g.event ∷ []) (reaches g.state (g.event ∷ []) g.turns) l.comes;
+              acts = λ next. g.acts next ∙ ap (λ (b : Bool). pick b (Finished (Deep 1001) (c.events ++ before)) (next g.configuration)) shallow;
+              shown = g.shown ∙ append_assoc c.events before (g.event ∷ []);
+              stands = l.stands;
+            })
+
+    matched_out : EndsRun t fs program p q x step (c.events ++ before) → Matched
+    matched_out g = inr (inr (inl (record {
+      turns = k;
+      few = omega arith;
+      state = u;
+      events = [];
+      comes = quiet;
+      live = live;
+      last = before;
+      code = g.code;
+      ends = turns ∙ ap (with_events before) g.turns ∙ ap (λ (es : List Event). Ends es (ends.Unhandled g.code)) (append-nil before);
+      acts = g.acts;
+    })))
+
+    pub matched_by_turn : Outcome t fs program p q x step (c.events ++ before) left → Matched
+    matched_by_turn (inl g) = matched_on g
+    matched_by_turn (inr (inl g)) = matched_in g
+    matched_by_turn (inr (inr g)) = matched_out g

@@ -1,0 +1,102 @@
+-- A turn that searches: a filter begins, a handler takes over, or nobody does.
+use Rattle.std.proofs.Common.{◌≡◌, ℕ, zero, ◌+◌, ◌*◌, ◌%◌, ◌^◌, ◌<◌, ◌≤◌, Bool, true, false, List, [], ◌∷◌, ◌++◌, length, Option, Some, None, refl, sym, ap, subst, ◌∙◌, arith, inl, inr}
+use Rattle.seh_num.specs.declared.event.Event.{Event}
+use Rattle.seh_num.specs.declared.event.Event.TheVariants as events
+use Rattle.host_layout.specs.declared.range.TheConstants.{STACK_END}
+use Rattle.flat_memory.specs.Memory.{Memory}
+use Rattle.x64_machine.specs.Contexts.{context_of}
+use Rattle.x64_machine.specs.Effect.{State}
+use Rattle.virtual_unwind.specs.Contexts.{rsp}
+use Rattle.virtual_unwind.specs.CallerOf.{Functions}
+use Rattle.seh_records.specs.declared.dispatch.DispatchRecord.{DispatchRecord}
+use Rattle.seh_records.specs.Record.{placed}
+use Rattle.host_model.specs.declared.funclet.Funclet.{Funclet}
+use Rattle.host_model.specs.Turns.{Turn}
+use Rattle.host_model.specs.Funclets.{arrived}
+use Rattle.host_model.specs.Dispatch.{accepting, accepted, searches_on, unwinds_on}
+use Rattle.c_model.specs.State.{Exception}
+use Rattle.linear_code.specs.Program.{LinearProgram}
+use Rattle.linear_machine.specs.Frames.{Handler, Resumption, Waits, Searches, Store, Seen, Next, Configuration}
+use Rattle.linear_machine.specs.Searching as linear
+use Rattle.linear_machine.specs.Searching.{target_of, begin_filter, accept}
+use Rattle.linear_machine.specs.Unwinding.{unwind}
+use Rattle.linear_machine.specs.Run.{exec}
+use Rattle.raw_stack.specs.Stack.{StackItem}
+use Rattle.linked_stack.specs.ImagePlan.{Plan}
+use Rattle.linked_stack.specs.Linked.{Activation, locals_of, Aimed}
+use Rattle.linked_stack.proofs.Ends.{in_stack}
+use Rattle.stack_records.specs.Records.{HasRoom, IsUntouched}
+use Rattle.stack_unwinds.specs.Unwinding.{store_of}
+use Rattle.dispatch_turns.specs.Searches.{FilterBegins, TakesOver, NobodyTakesOver}
+use Rattle.dispatch_turns.specs.Unwinds.{Unwound}
+use Rattle.dispatch_turns.specs.Laws.{IsSearching}
+use Rattle.dispatch_turns.specs.Steps.{placed_in, from_body}
+use Rattle.dispatch_turns.proofs.Searched.{search_turns}
+use Rattle.dispatch_turns.proofs.Begun.{acceptance_unwinds}
+use Rattle.whole_runs.specs.Ends.{HasRule}
+use Rattle.body_states.specs.Sites.{Sites}
+use Rattle.body_states.specs.Programs.{IsMachineMemory, IsProgramImage}
+use Rattle.body_states.specs.Bodies.{held_below, turns_left}
+use Rattle.turn_steps.specs.Outcomes.{EntersFunclet, Outcome}
+use Rattle.turn_steps.specs.Entries.{FiltersBegin, BlocksBegin}
+use Rattle.turn_steps.proofs.Memories.{memory_untouched, placing}
+use Rattle.turn_steps.proofs.Outcomes.{outcome_same}
+use Rattle.turn_steps.proofs.Unwinding.{unwound}
+
+module _ (t : Functions) (fs : List Funclet) (program : LinearProgram) (p : Plan) (q : Sites) (image : IsProgramImage t fs program p q) (filters : FiltersBegin t fs program p q) (blocks : BlocksBegin t fs program p q) where
+  module _ (s : State) (at : ℕ) (r : DispatchRecord) (is : List StackItem) (acts : List Activation) (exception : Exception) (found : List Handler) (c : Configuration)
+      (h : IsSearching t fs program p s at r is acts exception found c) (memory : IsMachineMemory t fs program p q s.memory c.store.memory) (store : c.store.activations ≡ locals_of acts) where
+    same_store : store_of c.store.memory acts ≡ c.store
+    same_store = ap (λ (xs : List (List ℕ)). let x : Store = record { memory = c.store.memory; activations = xs } in x) (sym store)
+
+    -- ---- a handler takes over, in a frame of the list
+
+    pub taken_over : (f : Handler) (frame address : ℕ) → frame < 2 ^ 64 → address < 2 ^ 64 → Aimed t fs program p f.depth f.target frame address (context_of r.saved) is (Waits c.frame ∷ c.below)
+        → HasRule (accept program f exception (exec program zero) c)
+        → Outcome t fs program p q (arrived t fs (accepted t s at r frame address)) (λ next. accept program f exception next c) c.events (turns_left c)
+    taken_over f frame address frame_small address_small aimed rule =
+        let a = acceptance_unwinds t fs program p s at r frame address is acts exception found f c c.store.memory h frame_small address_small aimed in
+        let w = from_body (target_of f exception.code c.frame.held) c.frame c.below acts c.store.memory c.events in
+        let record' = accepting r frame address in
+        let room : HasRoom s.memory at record' (rsp (context_of r.saved)) = record { fits = a.unwinding.room.fits; below = h.room.below; small = h.room.small; room = h.room.room } in
+        let top = in_stack t fs program p s.memory (context_of r.saved) is (Waits c.frame ∷ c.below) acts h.on.stands.stack h.on.stands.linked in
+        let untouched = placing s.memory at record' (rsp (context_of r.saved)) h.on.data_alone room top in
+        let memory' = memory_untouched t fs program p q s.memory (placed s.memory at record') c.store.memory untouched memory a.unwinding.on.data_alone in
+        let same = λ (next : Next). ap (λ (x : Store). unwind program next (target_of f exception.code c.frame.held) (Waits c.frame ∷ c.below) None c.events x) (sym same_store) in
+        outcome_same t fs program p q (arrived t fs (unwinds_on t (placed_in s at record') at record')) (arrived t fs (accepted t s at r frame address))
+        (λ next. unwind program next w.target w.items w.left w.shown (store_of w.source w.acts)) (λ next. accept program f exception next c) c.events (turns_left c)
+        (ap (arrived t fs) a.turns) same
+        (unwound t fs program p q image blocks w (turns_left c) (omega arith) (λ e. absurd cc) (placed_in s at record') at record' is a.unwinding memory' (subst HasRule (same (exec program zero)) rule))
+
+    -- ---- a filter is asked
+
+    filter_enters : (turn : Turn) (resumption : Resumption) → FilterBegins t fs program p s at turn found exception resumption acts c → EntersFunclet t fs program p q turn (λ next. linear.search program next found exception resumption c) c.events (turns_left c)
+    filter_enters turn resumption f =
+        let memory' = memory_untouched t fs program p q s.memory f.state.memory c.store.memory f.untouched memory (f.arrives.on []).data_alone in
+        record {
+          state = f.state;
+          event = events.Filter (f.filter + 1);
+          turns = f.turns;
+          configuration = begin_filter f.filter f.handler f.rest exception resumption c;
+          more = 2;
+          held = c.frame.held;
+          store = c.store;
+          few = λ shallow. omega arith;
+          acts = f.goes;
+          shown = refl;
+          leads = λ shallow. filters f.state f.filter ((at + 80) % 2 ^ 64) f.handler f.rest exception resumption c acts f.arrives f.pointers f.asked memory' store shallow;
+        }
+
+    -- ---- all of them
+
+    pub searched : (resumption : Resumption) → p.resumes resumption c.frame r.saved ≡ true → HasRule (linear.search program (exec program zero) found exception resumption c)
+        → Outcome t fs program p q (arrived t fs (searches_on t s at r)) (λ next. linear.search program next found exception resumption c) c.events (turns_left c)
+    searched resumption resumes rule = elim (search_turns t fs program p s at r is acts exception resumption found c h resumes) [
+      | inl f ↦ inr (inl (filter_enters (arrived t fs (searches_on t s at r)) resumption f))
+      | inr x ↦ elim x [
+          | inl k ↦ outcome_same t fs program p q (arrived t fs (accepted t s at r k.frame k.address)) (arrived t fs (searches_on t s at r)) (λ next. accept program k.handler exception next c)
+              (λ next. linear.search program next found exception resumption c) c.events (turns_left c) k.turns k.goes
+              (taken_over k.handler k.frame k.address k.frame_small k.address_small k.aimed (subst HasRule (k.goes (exec program zero)) rule))
+          | inr z ↦ inr (inr (record { code = record { 0 = exception.code }; turns = z.turns; acts = z.goes }))
+        ]
+    ]

@@ -1,0 +1,86 @@
+-- What a turn of the dispatcher comes to, against what linear code goes on with.
+use Rattle.std.specs.Prelude.{◌≡◌, ◌⊎◌, ℕ, ◌+◌, ◌*◌, ◌≤◌, false, nat_lt, List, [], ◌∷◌, ◌++◌, length, None}
+use Rattle.seh_num.specs.declared.event.Code.{Code}
+use Rattle.seh_num.specs.declared.event.Event.{Event}
+use Rattle.seh_num.specs.declared.end.RunEnd.TheVariants as ends
+use Rattle.x64_machine.specs.Effect.{State}
+use Rattle.virtual_unwind.specs.CallerOf.{Functions}
+use Rattle.host_model.specs.declared.funclet.Funclet.{Funclet}
+use Rattle.host_model.specs.Turns.{Turn, Continues, Ends}
+use Rattle.c_model.specs.declared.ended.Ended.TheVariants as source
+use Rattle.linear_code.specs.Program.{LinearProgram}
+use Rattle.linear_machine.specs.Frames.{Item, Waits, Searches, Unwinds, Store, Configuration, Seen, Finished, Next, deeper}
+use Rattle.linked_stack.specs.ImagePlan.{Plan}
+use Rattle.dispatch_turns.specs.States.{IsSane}
+use Rattle.whole_runs.proofs.Matches.{LeadsTo}
+use Rattle.body_states.specs.Sites.{Sites}
+use Rattle.body_states.specs.Programs.{WorksAgain, IsMachineMemory}
+use Rattle.body_states.specs.Bodies.{InBody, Begins, turns_left}
+
+-- the most turns from a funclet's first byte, or from where a body goes on, to an instruction of linear code
+abbrev pub entry_turns : ℕ
+entry_turns = 6
+
+-- events before those of a turn
+abbrev pub with_events : List Event → Turn → Turn
+with_events before (Continues s es) = Continues s (before ++ es)
+with_events before (Ends es end) = Ends (before ++ es) end
+
+-- no body that waits has just taken over for an exception
+abbrev pub AreClear : List Item → Type 0
+AreClear [] = Unit {0}
+AreClear (Waits f ∷ below) = (f.landed ≡ None) × AreClear below
+AreClear (Searches exception resumption asked rest ∷ below) = AreClear below
+AreClear (Unwinds rest target ∷ below) = AreClear below
+
+module _ (t : Functions) (fs : List Funclet) (program : LinearProgram) (p : Plan) (q : Sites) where
+  -- in the midst of an operation that is made again: linear code is at its instruction, the machine at the instruction that had faulted, with the operands in its registers
+  pub record WorksOn (s : State) (c : Configuration) : Type 0 where
+    pub again : WorksAgain t fs program p q c.frame s.cpu
+    pub sane : IsSane s
+    pub memory : IsMachineMemory t fs program p q s.memory c.store.memory
+    pub body : InBody t fs program p q s c
+
+  -- a state of the machine stands for a configuration of linear code
+  abbrev pub Stands : State → Configuration → Type 0
+  Stands s c = Begins t fs program p q s c ⊎ WorksOn s c
+
+  -- after these events it comes to a body that goes on, in a configuration with no more than so many turns left
+  pub record GoesOn (turn : Turn) (seen : Next → Seen) (es : List Event) (left : ℕ) : Type 0 where
+    pub state : State
+    pub events : List Event
+    pub turns : turn ≡ Continues state events
+    pub configuration : Configuration
+    pub few : turns_left configuration ≤ left
+    pub acts : (next : Next) → seen next ≡ next configuration
+    pub shown : configuration.events ≡ es ++ events
+    pub leads : LeadsTo t fs entry_turns Stands state configuration
+
+  -- or to a funclet, which begins unless the depth would be too great
+  pub record EntersFunclet (turn : Turn) (seen : Next → Seen) (es : List Event) (left : ℕ) : Type 0 where
+    pub state : State
+    pub event : Event
+    pub turns : turn ≡ Continues state (event ∷ [])
+    pub configuration : Configuration
+    pub more : ℕ
+    pub held : ℕ
+    pub store : Store
+    pub few : nat_lt 1000 (length store.activations + held + more) ≡ false → turns_left configuration ≤ left
+    pub acts : (next : Next) → seen next ≡ deeper more held store es (next configuration)
+    pub shown : configuration.events ≡ es ++ event ∷ []
+    pub leads : nat_lt 1000 (length store.activations + held + more) ≡ false → LeadsTo t fs entry_turns Stands state configuration
+
+  -- or nobody handles the exception
+  pub record EndsRun (turn : Turn) (seen : Next → Seen) (es : List Event) : Type 0 where
+    pub code : Code
+    pub turns : turn ≡ Ends [] (ends.Unhandled code)
+    pub acts : (next : Next) → seen next ≡ Finished (source.Unhandled code) es
+
+  abbrev pub Outcome : Turn → (Next → Seen) → List Event → ℕ → Type 0
+  Outcome turn seen es left = GoesOn turn seen es left ⊎ (EntersFunclet turn seen es left ⊎ EndsRun turn seen es)
+
+  -- a turn shows some events before those of its outcome
+  pub record Shows (turn : Turn) (before : List Event) (seen : Next → Seen) (es : List Event) (left : ℕ) : Type 0 where
+    pub further : Turn
+    pub turns : turn ≡ with_events before further
+    pub outcome : Outcome further seen (es ++ before) left
