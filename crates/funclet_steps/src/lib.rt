@@ -1,5 +1,5 @@
-//! Steps of linear code that begin and end `__finally` blocks and filters: from a funclet's first byte to the
-//! first instruction of its body, the call of a block where its body goes on, and the block's return there.
+//! Steps of linear code that begin filters and `__finally` blocks and end blocks that a body has called: from a
+//! funclet's first byte to the first instruction of its body, and from a block's return on in the caller.
 //! Begin reading with `specs/Entries` and `specs/Laws`.
 #![tactic(auto)]
 
