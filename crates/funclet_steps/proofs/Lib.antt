@@ -1,0 +1,10 @@
+pub mod Making
+pub mod Standing
+pub mod Known
+pub mod Spaces
+pub mod Entering
+pub mod Filters
+pub mod Blocks
+pub mod Unwound
+pub mod Ended
+pub mod Steps
