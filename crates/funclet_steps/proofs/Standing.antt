@@ -47,6 +47,9 @@ same_regions (r ∷ rs) label = (refl, same_regions rs label)
 pub nothing_landed : (x : ℕ) → ◌≡◌ {A = Option ℕ} None (Some x) → ⊥
 nothing_landed x e = cc
 
+pub apart : true ≡ false → ⊥
+apart z = cc
+
 -- memory that differs within a part of the stack alone
 module _ (t : Functions) (fs : List Funclet) (program : LinearProgram) (p : Plan) (q : Sites) (image : IsProgramImage t fs program p q) (m m' source : Memory) (lo hi : ℕ) (w : Within lo hi m m') (low : STACK_START ≤ lo) (high : hi ≤ STACK_END) (memory : IsMachineMemory t fs program p q m source) where
   same_protection : (a : ℕ) → m'.protection a ≡ m.protection a
@@ -239,7 +242,7 @@ module _ (t : Functions) (fs : List Funclet) (program : LinearProgram) (p : Plan
       slots = slots;
       pointers = pointers;
       above = subst (λ o. FuncletIsAbove t fs program p k (first_frame k activation exception held) o items) (sym l.there) above;
-      home = λ e. let z : true ≡ false = sym e ∙ l.plan.framed in absurd cc;
+      home = λ e. absurd (apart (sym e ∙ l.plan.framed));
       back = a.back;
       returns_to = a.returns_to;
       returns = (let e = high in word_stays t fs program p q image s.memory u.memory store.memory sp (sp + y.frame) h.within h.low (omega arith) memory (sp + y.frame) a.back (let z = h.low in omega arith) (omega arith) (omega arith) (subst (λ x. word s.memory x ≡ Ok a.back) h.stack a.returns));
