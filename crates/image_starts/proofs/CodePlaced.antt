@@ -5,7 +5,7 @@ use Rattle.std.proofs.lemmas.List.{append-nil}
 use Rattle.host_layout.specs.declared.range.TheConstants.{IMAGE_BASE, IMAGE_RANGE_END}
 use Rattle.host_layout.specs.declared.service.Service.{Service}
 use Rattle.host_layout.specs.declared.service.Service.TheVariants as services
-use Rattle.host_layout.specs.Services.{address_of}
+use Rattle.host_layout.specs.Services.{address_of, service_named}
 use Rattle.flat_memory.specs.Protections.{is_readable, is_writable}
 use Rattle.flat_memory.specs.Memory.{Memory, number_at, may_read, may_write}
 use Rattle.x64_instr.specs.declared.instruction.Instr.{Instr}
@@ -49,20 +49,18 @@ use Rattle.image_states.specs.Plans.{functions_of, funclets_of, routine_of, plan
 use Rattle.image_states.specs.Compiled.{IsCompiled}
 use Rattle.image_states.proofs.Addresses.{InImage, in_image, reserved, place, here}
 use Rattle.image_states.proofs.Entering.{code_same}
-use Rattle.image_starts.proofs.Sections.{covered, below, above}
-use Rattle.image_starts.proofs.Sections as sections
+use Rattle.image_starts.proofs.Data.{tables_there}
 
 -- ---- code that may not be written
 
 code_at : (m : Memory) (at : ℕ) (bytes : List ℕ) → Stands m at bytes → ((k : ℕ) → k < length bytes → may_write m (at + k) ≡ false) → IsCodeAt m at bytes
 code_at m at [] s fixed = tt
 code_at m at (b ∷ bytes) s fixed =
-    let z : at ≡ at + 0 = omega arith in
-    (
+    let z : at ≡ at + 0 = omega arith in (
       s.0,
       s.1,
       ap (may_write m) z ∙ fixed 0 (omega arith),
-      code_at m (at + 1) bytes s.2 (λ k lt. (let e : at + 1 + k ≡ at + suc k = omega arith in ap (may_write m) e ∙ fixed (suc k) (omega arith)))
+      code_at m (at + 1) bytes s.2 (λ k lt. (let e : at + 1 + k ≡ at + suc k = omega arith in ap (may_write m) e ∙ fixed (suc k) (omega arith))),
     )
 
 pub code_split : (m : Memory) (at : ℕ) (a b : List ℕ) → IsCodeAt m at (a ++ b) → IsCodeAt m at a × IsCodeAt m (at + length a) b
@@ -169,12 +167,105 @@ module _ (program : LinearProgram) (c : IsCompiled program) where
 
   -- ---- slots
 
-  abbrev tables : Section
-  tables = record { address = r; size = 222; raw = import_tables r; flags = 0x40000040 }
+  readable : (a : ℕ) → image_base + r ≤ a → a < image_base + r + 222 → may_read m a ≡ true
+  unfolding mapped
+  readable a le lt = ap (λ (o : Option Section). is_readable (mode_in o a).rights) (tables_there program c a le lt)
 
-  tables_there : (a : ℕ) → image_base + r ≤ a → a < image_base + r + 222 → section_of image_base a (sections_of p) ≡ Some tables
-  tables_there a le lt =
-      let d = is program c.fits in
-      let w = d.whole in
-      sections.past image_base a _ _ (above image_base a (record { address = 0x1000; size = p.data_size; raw = _; flags = 0xC0000040 }) (omega arith))
-      ∙ ?
+  fixed : (a : ℕ) → image_base + r ≤ a → a < image_base + r + 222 → may_write m a ≡ false
+  unfolding mapped
+  fixed a le lt = ap (λ (o : Option Section). is_writable (mode_in o a).rights) (tables_there program c a le lt)
+
+  abbrev named : pe.Service → ℕ → Import
+  named v at = record { name = name_of v; slot = at }
+
+  abbrev i0 : Import
+  i0 = named imports.RaiseException (r + 88)
+
+  abbrev i1 : Import
+  i1 = named imports.CSpecificHandler (r + 88 + 8)
+
+  abbrev i2 : Import
+  i2 = named imports.LocalUnwind (r + 88 + 8 + 8)
+
+  abbrev i3 : Import
+  i3 = named imports.Protect (r + 88 + 8 + 8 + 8)
+
+  abbrev i4 : Import
+  i4 = named imports.Put (r + 88 + 8 + 8 + 8 + 8)
+
+  reads : (before : List Import) (i : Import) (later : List Import) (service : Service) → before ++ (i ∷ later) ≡ imports_of p → image_base + i.slot + 8 ≤ 2 ^ 64 → service_named i.name ≡ Some service → AllByRecursion (λ (j : Import). AreApart (image_base + i.slot) (image_base + j.slot)) later
+      → number_at m.byte 8 (image_base + i.slot) ≡ address_of service
+  unfolding mapped
+  reads before i later service same fits name apart =
+      ap (λ (is : List Import). number_at (with_slots image_base (stored_byte (image_of p)) is) 8 (image_base + i.slot)) (listed p (is program c.fits) ∙ sym same)
+      ∙ slots_read image_base (stored_byte (image_of p)) before i later service fits name apart
+
+  apart_after : (x y : ℕ) → x + 8 ≤ y → y + 8 ≤ 2 ^ 48 → AreApart (image_base + x) (image_base + y)
+  apart_after x y le small = record { apart = inl (omega arith); fits = omega arith }
+
+  raise_reads : number_at m.byte 8 (image_base + (r + 88)) ≡ address_of services.RaiseException
+  raise_reads =
+      let l = low in
+      reads [] i0 (i1 ∷ i2 ∷ i3 ∷ i4 ∷ []) services.RaiseException refl (omega arith) refl
+      (apart_after (r + 88) (r + 88 + 8) (omega arith) (omega arith), (apart_after (r + 88) (r + 88 + 8 + 8) (omega arith) (omega arith), (apart_after (r + 88) (r + 88 + 8 + 8 + 8) (omega arith) (omega arith), (apart_after (r + 88) (r + 88 + 8 + 8 + 8 + 8) (omega arith) (omega arith), tt))))
+
+  unwind_reads : number_at m.byte 8 (image_base + (r + 88 + 8 + 8)) ≡ address_of services.LocalUnwind
+  unwind_reads =
+      let l = low in
+      reads (i0 ∷ i1 ∷ []) i2 (i3 ∷ i4 ∷ []) services.LocalUnwind refl (omega arith) refl
+      (apart_after (r + 88 + 8 + 8) (r + 88 + 8 + 8 + 8) (omega arith) (omega arith), (apart_after (r + 88 + 8 + 8) (r + 88 + 8 + 8 + 8 + 8) (omega arith) (omega arith), tt))
+
+  protect_reads : number_at m.byte 8 (image_base + (r + 88 + 8 + 8 + 8)) ≡ address_of services.Protect
+  protect_reads =
+      let l = low in
+      reads (i0 ∷ i1 ∷ i2 ∷ []) i3 (i4 ∷ []) services.Protect refl (omega arith) refl (apart_after (r + 88 + 8 + 8 + 8) (r + 88 + 8 + 8 + 8 + 8) (omega arith) (omega arith), tt)
+
+  put_reads : number_at m.byte 8 (image_base + (r + 88 + 8 + 8 + 8 + 8)) ≡ address_of services.Put
+  put_reads = let l = low in reads (i0 ∷ i1 ∷ i2 ∷ i3 ∷ []) i4 [] services.Put refl (omega arith) refl tt
+
+  -- ---- thunks
+
+  abbrev Serves : ℕ → Service → Type 0
+  Serves at service = HasService (functions_of program) (funclets_of program) program (plan_of program) (sites_of program) m at service
+
+  -- the thunk at a place of the text, through a slot
+  serves : (v : pe.Service) (service : Service) (at n : ℕ) → IsCodeAt m (T + n) (t v) → at ≡ image_base + thunk_at s.text v → thunk_at s.text v ≡ s.text + n → n ≤ 24 → slot_of v ≤ 120 → 88 ≤ slot_of v
+      → number_at m.byte 8 (image_base + (r + slot_of v)) ≡ address_of service → Serves at service
+  serves v service at n code here' place' few high least bound =
+      let l = low in
+      let end = end_inside program c.fits in
+      let text' = text_is program c.fits in
+      let same = rdata_is program c.fits in
+      let away = r + slot_of v - (s.text + n + 6) in
+      let far : image_base + (r + slot_of v) ≡ at + 6 + away = omega arith in
+      let d : distance (thunk_at s.text v + 6) (s.rdata + slot_of v) ≡ away = omega arith in
+      let own : T + n ≡ at = omega arith in
+      let spells : t v ≡ spelled (thunk away ∷ []) = ap (λ (k : ℕ). chosen (thunk k)) d ∙ sym (append-nil (chosen (thunk away))) in
+      let long : length (t v) ≡ 6 = six v in
+      let wide : sizes (thunk away ∷ []) ≡ 6 = sym (sizes_spelled (thunk away ∷ [])) ∙ sym (ap length spells) ∙ long in
+      let stands = subst (λ (k : ℕ). IsCodeAt m k (spelled (thunk away ∷ []))) own (subst (IsCodeAt m (T + n)) spells code) in
+      record {
+        thunk = record {
+          away = away;
+          near = omega arith;
+          code = record { stands = stands; placed = record { low = omega arith; high = omega arith } };
+          readable = λ a le lt. readable a (omega arith) (omega arith);
+          fixed = λ a le lt. fixed a (omega arith) (omega arith);
+          bound = ap (number_at m.byte 8) (sym far) ∙ bound;
+        };
+        inside = record { low = omega arith; high = omega arith; own = λ a le lt. reserved program.globals a (omega arith) (omega arith) };
+        slot = record { low = omega arith; high = omega arith; own = λ a le lt. reserved program.globals a (omega arith) (omega arith) };
+      }
+
+  thunks : (f : BuiltIn) → Serves ((sites_of program).thunk f) (service_of f)
+  thunks Put = serves imports.Put services.Put ((sites_of program).thunk Put) 24 front.put refl (omega arith) (omega arith) (omega arith) (omega arith) (ap (λ (k : ℕ). number_at m.byte 8 (image_base + k)) (let q : r + 120 ≡ r + 88 + 8 + 8 + 8 + 8 = omega arith in q) ∙ put_reads)
+  thunks Protect = serves imports.Protect services.Protect ((sites_of program).thunk Protect) 18 front.protect refl (omega arith) (omega arith) (omega arith) (omega arith) (ap (λ (k : ℕ). number_at m.byte 8 (image_base + k)) (let q : r + 112 ≡ r + 88 + 8 + 8 + 8 = omega arith in q) ∙ protect_reads)
+  thunks RaiseException =
+      let z : T ≡ T + 0 = omega arith in
+      serves imports.RaiseException services.RaiseException ((sites_of program).thunk RaiseException) 0 (subst (λ (k : ℕ). IsCodeAt m k (t imports.RaiseException)) z front.raise) refl (omega arith) (omega arith) (omega arith) (omega arith) raise_reads
+
+  unwinds : Serves (sites_of program).local_unwind services.LocalUnwind
+  unwinds = serves imports.LocalUnwind services.LocalUnwind (sites_of program).local_unwind 12 front.unwind refl (omega arith) (omega arith) (omega arith) (omega arith) (ap (λ (k : ℕ). number_at m.byte 8 (image_base + k)) (let q : r + 104 ≡ r + 88 + 8 + 8 = omega arith in q) ∙ unwind_reads)
+
+  pub has_program : HasProgram (functions_of program) (funclets_of program) program (plan_of program) (sites_of program) m
+  has_program = record { code = body_code; thunks = thunks; local_unwind = unwinds; check_stack = check_code }

@@ -12,6 +12,7 @@ use Rattle.flat_memory.specs.Protections.{is_writable}
 use Rattle.flat_memory.specs.Memory.{Memory, may_write}
 use Rattle.pe_image.specs.Image.{Section, Image}
 use Rattle.pe_image.specs.Imports.{Import}
+use Rattle.pe_image.specs.Imports as importing
 use Rattle.pe_write.specs.ImportTables.{services, imported, import_tables}
 use Rattle.pe_write.specs.Program.{Program, IsProgram, image_of, sections_of, imports_of, parts_of, sizes_of, text_at, rdata_at, xdata_at, pdata_at, end_at, data_section, text_section, rdata_section, xdata_section, pdata_section}
 use Rattle.pe_write.specs.Written.{raw_size, raw_data, zeros, written, dos_header, file_header, standard_fields, windows_fields, directories, table_of}
@@ -48,8 +49,7 @@ raws p h =
     let a1 = bytes_back d (t ++ (r ++ (x ++ (q ++ [])))) all in
     let a2 = bytes_back t (r ++ (x ++ (q ++ []))) a1 in
     let a3 = bytes_back r (x ++ (q ++ [])) a2 in
-    let a4 = bytes_back x (q ++ []) a3 in
-    (
+    let a4 = bytes_back x (q ++ []) a3 in (
       bytes_front d (t ++ (r ++ (x ++ (q ++ [])))) all,
       (
         bytes_front p.text (zeros (raw_size (text_section p) - length p.text)) (bytes_front t (r ++ (x ++ (q ++ []))) a1),
@@ -68,31 +68,31 @@ or_none true b e = absurd (false≢true (sym e))
 or_none false b e = (refl, e)
 
 module _ (program : LinearProgram) (c : IsCompiled program) where
-  abbrev p : Program
+  abbrev pub p : Program
   p = linked program
 
-  abbrev image : Image
+  abbrev pub image : Image
   image = image_of p
 
-  abbrev m : Memory
+  abbrev pub m : Memory
   m = mapped image
 
-  abbrev r : ℕ
+  abbrev pub r : ℕ
   r = rdata_at (sizes_of p)
 
-  abbrev globals : Section
+  abbrev pub globals : Section
   globals = record { address = 0x1000; size = p.data_size; raw = raw_data (data_section p); flags = 0xC0000040 }
 
-  abbrev text : Section
+  abbrev pub text : Section
   text = record { address = text_at (sizes_of p); size = length p.text; raw = p.text; flags = 0x60000020 }
 
-  abbrev tables : Section
+  abbrev pub tables : Section
   tables = record { address = r; size = 222; raw = import_tables r; flags = 0x40000040 }
 
-  abbrev infos : Section
+  abbrev pub infos : Section
   infos = record { address = xdata_at (sizes_of p); size = length p.xdata; raw = p.xdata; flags = 0x40000040 }
 
-  abbrev functions : Section
+  abbrev pub functions : Section
   functions = record { address = pdata_at (sizes_of p); size = length p.pdata; raw = p.pdata; flags = 0x40000040 }
 
   low : end_at (sizes_of p) ≤ 2 ^ 28
@@ -118,6 +118,13 @@ module _ (program : LinearProgram) (c : IsCompiled program) where
       ∙ past image_base a tables (infos ∷ functions ∷ []) (above image_base a tables (omega arith))
       ∙ past image_base a infos (functions ∷ []) (above image_base a infos (omega arith))
       ∙ past image_base a functions [] (above image_base a functions (omega arith))
+
+  pub tables_there : (a : ℕ) → image_base + r ≤ a → a < image_base + r + 222 → section_of image_base a (sections_of p) ≡ Some tables
+  tables_there a le lt =
+      let text' = text_is program c.fits in
+      past image_base a globals (text ∷ tables ∷ infos ∷ functions ∷ []) (above image_base a globals (omega arith))
+      ∙ past image_base a text (tables ∷ infos ∷ functions ∷ []) (above image_base a text (omega arith))
+      ∙ here image_base a tables (infos ∷ functions ∷ []) (covered image_base a tables (omega arith) (omega arith))
 
   -- ---- slots lie in `.rdata`
 
@@ -148,16 +155,16 @@ module _ (program : LinearProgram) (c : IsCompiled program) where
   Place a = ((first_data ≤ a) × (a < data_end program.globals)) ⊎ ((a < first_data) ⊎ (IMAGE_RANGE_END ≤ a))
 
   place_by : (a : ℕ) → (b : Bool) → is_data program.globals a ≡ b → (is_between IMAGE_BASE IMAGE_RANGE_END a && not (is_data program.globals a)) ≡ false → Place a
-  place_by a true e no =
+  place_by a true e off =
       let q = and_parts (leb first_data a) (ltb a (data_end program.globals)) e in
       inl (leb-true first_data a q.0, ltb-true a (data_end program.globals) q.1)
-  place_by a false e no = elim (cases_lt a IMAGE_BASE) [
+  place_by a false e off = elim (cases_lt a IMAGE_BASE) [
     | inl lt ↦ inr (inl (omega arith))
     | inr le ↦ elim (cases_lt a IMAGE_RANGE_END) [
       | inl lt ↦
           let yes' : (is_between IMAGE_BASE IMAGE_RANGE_END a && not (is_data program.globals a)) ≡ true =
-              and_from (is_between IMAGE_BASE IMAGE_RANGE_END a) (not (is_data program.globals a)) (and_from (leb IMAGE_BASE a) (ltb a IMAGE_RANGE_END) (le-leb IMAGE_BASE a le) (lt-ltb a IMAGE_RANGE_END lt)) (ap not e) in
-          absurd (false≢true (sym no ∙ yes'))
+          and_from (is_between IMAGE_BASE IMAGE_RANGE_END a) (not (is_data program.globals a)) (and_from (leb IMAGE_BASE a) (ltb a IMAGE_RANGE_END) (le-leb IMAGE_BASE a le) (lt-ltb a IMAGE_RANGE_END lt)) (ap not e) in
+          absurd (false≢true (sym off ∙ yes'))
       | inr le' ↦ inr (inr le')
     ]
   ]
@@ -243,7 +250,7 @@ module _ (program : LinearProgram) (c : IsCompiled program) where
   pub data_alone : HasBytes program → IsData m
   unfolding mapped
   data_alone bytes = record {
-    bytes = slots_small image_base (stored_byte image) _ (λ a. stored_small image_base a (sections_of p) (raws p bytes));
+    bytes = slots_small image_base (stored_byte image) (importing.imports_of image) (λ a. stored_small image_base a (sections_of p) (raws p bytes));
     no_code = λ a. of_section (λ (o : Option Section). IsApart (mode_in o a)) image_base a (sections_of p) (apart_by a (in_stack a))
         ((λ e. refl), ((λ e. absurd (false≢true e)), ((λ e. absurd (false≢true e)), ((λ e. absurd (false≢true e)), ((λ e. absurd (false≢true e)), tt)))));
   }

@@ -102,7 +102,7 @@ get_zeros [] zero i = refl
 get_zeros [] (suc n) zero = refl
 get_zeros [] (suc n) (suc i) = get_zeros [] n i ∙ get_nothing i
   where
-    get_nothing : (j : ℕ) → get_or [] j 0 ≡ get_or [] (suc j) 0
+    get_nothing : (j : ℕ) → ◌≡◌ {A = ℕ} (get_or [] j 0) (get_or [] (suc j) 0)
     get_nothing zero = refl
     get_nothing (suc j) = refl
 get_zeros (x ∷ xs) n zero = refl

@@ -9,3 +9,4 @@ pub mod Funclets
 pub mod Giving
 pub mod Resuming
 pub mod Images
+pub mod Leaves

@@ -1,11 +1,10 @@
 -- What the image of a linked program is to the bridge from linear code to the machine.
-use Rattle.std.specs.Prelude.{◌≡◌, None}
-use Rattle.host_model.specs.Loading.{mapped, load_refusal}
-use Rattle.pe_write.specs.Program.{image_of}
-use Rattle.c_model.specs.Source.{first_memory}
-use Rattle.linear_code.specs.Program.{LinearProgram}
-use Rattle.body_states.specs.Programs.{IsMachineMemory, IsProgramImage}
-use Rattle.program_link.specs.Linked.{linked}
+use Rattle.std.specs.Prelude.{◌≡◌, ◌≢◌, ℕ, ◌<◌, true, false, length, slice_get, Some}
+use Rattle.linear_code.specs.declared.instruction.Instruction.{Instruction}
+use Rattle.linear_code.specs.Program.{LinearBody, LinearProgram}
+use Rattle.linear_machine.specs.Frames.{BodyName, FunctionBody, body_of}
+use Rattle.ir_typed.specs.Apart.{is_call}
+use Rattle.body_states.specs.Programs.{IsProgramImage}
 use Rattle.image_states.specs.Plans.{functions_of, funclets_of, plan_of, sites_of}
 use Rattle.image_states.specs.Compiled.{IsCompiled}
 
@@ -13,10 +12,17 @@ use Rattle.image_states.specs.Compiled.{IsCompiled}
 abbrev pub ImagesArePrograms : Type 0
 ImagesArePrograms = (program : LinearProgram) → IsCompiled program → IsProgramImage (functions_of program) (funclets_of program) program (plan_of program) (sites_of program)
 
--- the memory that a run starts with, beside the source's
-abbrev pub ImagesStart : Type 0
-ImagesStart = (program : LinearProgram) → IsCompiled program → IsMachineMemory (functions_of program) (funclets_of program) program (plan_of program) (sites_of program) (mapped (image_of (linked program))) (first_memory program.globals)
+-- a leaf function calls nothing (Microsoft x64 ABI, "Leaf functions")
+abbrev pub LeavesCallNothing : Type 0
+LeavesCallNothing =
+    (program : LinearProgram) → IsCompiled program
+    → (name : BodyName) (b : LinearBody) (label : ℕ) (i : Instruction)
+    → body_of program name ≡ Some b → (plan_of program).leaf name ≡ true → slice_get b.code label ≡ Some i → is_call i ≡ false
 
--- it loads
-abbrev pub ImagesLoad : Type 0
-ImagesLoad = (program : LinearProgram) → IsCompiled program → load_refusal (image_of (linked program)) ≡ None
+-- a function that has code begins elsewhere than a funclet
+abbrev pub FunctionsApart : Type 0
+FunctionsApart =
+    (program : LinearProgram) → IsCompiled program
+    → (f k : ℕ) (b : LinearBody)
+    → body_of program (FunctionBody f) ≡ Some b → 0 < length b.code → k < length program.funclets
+    → (sites_of program).function f ≢ (plan_of program).funclet k
