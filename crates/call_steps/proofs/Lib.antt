@@ -1,0 +1,13 @@
+pub mod Resuming
+pub mod Returning
+pub mod Outgoing
+pub mod Outward
+pub mod Begun
+pub mod Awaiting
+pub mod Calling
+pub mod Entered
+pub mod Prologues
+pub mod Callee
+pub mod Entries
+pub mod Called
+pub mod Steps
