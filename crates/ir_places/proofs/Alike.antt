@@ -1,5 +1,5 @@
 -- Where two tests leave the same of a list, they agree on each of its elements.
-use Rattle.std.proofs.Common.{◌≡◌, ℕ, ◌+◌, List, [], ◌∷◌, filter, refl, sym, subst}
+use Rattle.std.proofs.Common.{◌≡◌, ◌+◌, List, [], ◌∷◌, filter, refl, sym, subst}
 use Rattle.std.specs.List.{AllByRecursion}
 use Rattle.std.specs.Prelude.{Bool, true, false, cond}
 use Rattle.linear_machine.specs.Regions.{holds}
