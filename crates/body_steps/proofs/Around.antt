@@ -32,7 +32,7 @@ use Rattle.body_steps.proofs.Plain.{GoesInside}
 
 -- ---- lists
 
-some_is : {A : Type 0} → (x y : A) → Some x ≡ Some y → x ≡ y
+pub some_is : {A : Type 0} → (x y : A) → Some x ≡ Some y → x ≡ y
 some_is x y e = cc
 
 at_end : (xs : List ℕ) (k : ℕ) → slice_get (xs ++ k ∷ []) (length xs) ≡ Some k
@@ -45,12 +45,12 @@ in_front (x ∷ xs) k zero v e = e
 in_front (x ∷ xs) k (suc i) v e = in_front xs k i v e
 
 -- the label of an instruction is one of its body
-label_in : (o : Option LinearBody) (b : LinearBody) (label : ℕ) (i : Instruction) → o ≡ Some b → instruction_in o label ≡ Some i → slice_get b.code label ≡ Some i
+pub label_in : (o : Option LinearBody) (b : LinearBody) (label : ℕ) (i : Instruction) → o ≡ Some b → instruction_in o label ≡ Some i → slice_get b.code label ≡ Some i
 label_in None b label i e h = cc
 label_in (Some x) b label i e h = subst (λ y. slice_get y.code label ≡ Some i) (some_is x b e) h
 
 -- a body with an instruction is there
-body_there : (o : Option LinearBody) (label : ℕ) (i : Instruction) → instruction_in o label ≡ Some i → (b : LinearBody) × (o ≡ Some b)
+pub body_there : (o : Option LinearBody) (label : ℕ) (i : Instruction) → instruction_in o label ≡ Some i → (b : LinearBody) × (o ≡ Some b)
 body_there None label i h = cc
 body_there (Some b) label i h = (b, refl)
 
@@ -110,7 +110,7 @@ module _ (t : Functions) (fs : List Funclet) (program : LinearProgram) (p : Plan
       let no : true ≡ false = made.leaves w.body b.0 w.next (instructions.Call k first count) b.1 e (label_in (body_of program w.body) b.0 w.next (instructions.Call k first count) b.1 at) in
       no
 
-  leaf_or_funclet : (c : Configuration) (b : LinearBody) (name : BodyName) → body_of program name ≡ Some b → p.leaf name ≡ true → IsAbove program c.frame.exception c.frame.activation name c.below → CallerHasFrame p c.below
+  pub leaf_or_funclet : (c : Configuration) (b : LinearBody) (name : BodyName) → body_of program name ≡ Some b → p.leaf name ≡ true → IsAbove program c.frame.exception c.frame.activation name c.below → CallerHasFrame p c.below
   leaf_or_funclet c b (FuncletBody k) there leaf above = let plan : IsFuncletPlan program p k b = image.laid_out (FuncletBody k) b there in absurd (let no : true ≡ false = sym leaf ∙ plan.framed in cc)
   leaf_or_funclet c b (FunctionBody k) there leaf above = by c.below above
     where
@@ -121,14 +121,14 @@ module _ (t : Functions) (fs : List Funclet) (program : LinearProgram) (p : Plan
       by (Unwinds rest target ∷ below) h = absurd h
 
   -- the functions of the activations number k are no leaves
-  abbrev HaveFrames : ℕ → List ℕ → Type 0
+  abbrev pub HaveFrames : ℕ → List ℕ → Type 0
   HaveFrames k owners = (f : ℕ) → slice_get owners k ≡ Some f → p.leaf (FunctionBody f) ≡ false
 
   below_count : (acts : List Activation) (n : ℕ) → length acts ≡ suc n → length (activations_below (FunctionBody 0) acts) ≡ n
   below_count [] n e = cc
   below_count (a ∷ outer) n e = omega (arith, e)
 
-  owner_waits : (k : ℕ) (items : List Item) (acts : List Activation) → AreWaiting program items → length acts ≡ length (owners_of items) → HaveFrames k (owners_of items) → OwnerHasFrame t fs program p k items acts
+  pub owner_waits : (k : ℕ) (items : List Item) (acts : List Activation) → AreWaiting program items → length acts ≡ length (owners_of items) → HaveFrames k (owners_of items) → OwnerHasFrame t fs program p k items acts
   owner_waits k [] acts h n frames = tt
   owner_waits k (Searches exception resumption asked rest ∷ below) acts h n frames = owner_waits k below acts h.2 n frames
   owner_waits k (Unwinds rest target ∷ below) acts h n frames = owner_waits k below acts h.2 n frames

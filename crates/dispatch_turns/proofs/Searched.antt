@@ -77,7 +77,6 @@ module _ (t : Functions) (fs : List Funclet) (program : LinearProgram) (p : Plan
         handler = f;
         asked = e;
         rest = rest;
-        asked = e;
         state = new;
         turns =
             ap turn_of a.answer

@@ -30,7 +30,6 @@ module _ (t : Functions) (fs : List Funclet) (program : LinearProgram) (p : Plan
     pub handler : Handler
     pub asked : handler.filter ≡ Some filter
     pub rest : List Handler
-    pub asked : handler.filter ≡ Some filter
     pub state : State
     pub turns : turn ≡ Continues state (events.Filter (filter + 1) ∷ [])
     pub goes : (next : Next) → linear.search program next found exception resumption c ≡ deeper 2 c.frame.held c.store c.events (next (begin_filter filter handler rest exception resumption c))

@@ -3,7 +3,7 @@
 //! An activation counts 1, a filter or `__finally` block that runs 2, and each of them as much from when
 //! an unwinding has left it until that lands.
 
-use crate::ways::{MEANING, WAYS, all_show};
+use crate::ways::{COMPILED, MEANING, all_show};
 use std::test::Fail;
 
 /// As deep as may be.
@@ -59,7 +59,13 @@ int r(int n){ if (n == 0) RaiseException(0xE0000001,0,0,0); else r(n - 1); retur
 /// A program of depth 1,000 ends by itself.
 #[test]
 fn within(rt: HostRuntime) -> Result<(), Fail> {
-    all_show(&rt, rt.alloc(), &WAYS, WITHIN)
+    all_show(&rt, rt.alloc(), &MEANING, WITHIN)
+}
+
+/// Hundreds of frames are searched and unwound.
+#[test]
+fn unwound(rt: HostRuntime) -> Result<(), Fail> {
+    all_show(&rt, rt.alloc(), &COMPILED, WITHIN)
 }
 
 /// A step that would make the depth 1,001 ends the meaning.

@@ -40,7 +40,6 @@ use Rattle.dispatch_turns.specs.Returns.{filter_turn, with_answer, answered, lin
 use Rattle.dispatch_turns.proofs.Begun.{answers_go_on, finally_returns_unwind}
 use Rattle.dispatch_turns.proofs.Returned.{filter_returns}
 use Rattle.whole_runs.specs.Ends.{HasRule}
-use Rattle.whole_runs.proofs.Matches.{LeadsTo}
 use Rattle.body_states.specs.Sites.{Sites}
 use Rattle.body_states.specs.Programs.{IsMachineMemory, IsProgramImage}
 use Rattle.body_states.specs.Bodies.{held_below, turns_left}
@@ -156,12 +155,12 @@ module _ (t : Functions) (fs : List Funclet) (program : LinearProgram) (p : Plan
     filter_answered rule = elim (filter_returns t fs program p s r is acts exception resumption asked rest c answers) [
       | inl a ↦ record { before = event ∷ []; shown = asks_next a rule }
       | inr x ↦ elim x [
-          | inl a ↦ record { before = event ∷ []; shown = asked_takes_over a rule }
-          | inr y ↦ elim y [
-              | inl a ↦ record { before = event ∷ []; shown = is_continued a }
-              | inr a ↦ record { before = event ∷ raise_event noncontinuable ∷ []; shown = raised_anew a rule }
-            ]
+        | inl a ↦ record { before = event ∷ []; shown = asked_takes_over a rule }
+        | inr y ↦ elim y [
+          | inl a ↦ record { before = event ∷ []; shown = is_continued a }
+          | inr a ↦ record { before = event ∷ raise_event noncontinuable ∷ []; shown = raised_anew a rule }
         ]
+      ]
     ]
 
   -- ---- a `__finally` block has ended

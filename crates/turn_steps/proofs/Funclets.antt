@@ -21,6 +21,8 @@ use Rattle.linear_machine.specs.Frames.{Frame, Handler, Target, Resumption, Item
 use Rattle.linear_machine.specs.Instructions.{act, end_finally}
 use Rattle.linear_machine.specs.Run.{exec}
 use Rattle.raw_stack.specs.Stack.{StackItem, Unwinding}
+use Rattle.ir_typed.specs.Waiting.{IsStacked}
+use Rattle.ir_typed.specs.Activations.{HasActivations}
 use Rattle.linked_stack.specs.ImagePlan.{Plan}
 use Rattle.linked_stack.specs.Linked.{Activation, locals_of}
 use Rattle.stack_records.specs.Records.{On}
@@ -35,12 +37,9 @@ use Rattle.body_states.specs.Programs.{IsMachineMemory, IsProgramImage}
 use Rattle.body_states.specs.Bodies.{held_below, turns_left}
 use Rattle.turn_steps.specs.Outcomes.{AreClear, Stands}
 use Rattle.turn_steps.specs.Entries.{FiltersBegin, BlocksBegin, Continuations}
+use Rattle.turn_steps.specs.Laws.{waiting_below}
 use Rattle.turn_steps.proofs.Answered.{filter_answered, finally_ended}
 use Rattle.turn_steps.proofs.Served.{filter_turns, finally_turns, matched_when_shown}
-
--- the body that waits below a funclet, with what the funclet leaves in the store
-abbrev pub waiting_below : Configuration → Frame → List Item → Configuration
-waiting_below c w below = record { frame = w; below = below; store = c.store; events = c.events }
 
 module _ (t : Functions) (fs : List Funclet) (program : LinearProgram) (p : Plan) (q : Sites) (image : IsProgramImage t fs program p q) (filters : FiltersBegin t fs program p q) (blocks : BlocksBegin t fs program p q) where
   -- in at most 6 turns the machine comes to the host's return address of filters
@@ -50,13 +49,14 @@ module _ (t : Functions) (fs : List Funclet) (program : LinearProgram) (p : Plan
       → SearchIsAnswered t fs program p u r is acts exception resumption asked rest (waiting_below c w below)
       → IsMachineMemory t fs program p q u.memory c.store.memory → c.store.activations ≡ locals_of acts
       → ((next : Next) → act program i next c ≡ linear_answer program u exception resumption asked rest (waiting_below c w below) next) → HasRule (act program i (exec program zero) c)
+      → ((d : Configuration) → ((next : Next) → act program i next c ≡ next d) → IsStacked program d × HasActivations program d)
       → IsMatched t fs program 16 turns_left (Stands t fs program p q) s c i
-  filter_step continues k s u c i r is acts exception resumption asked rest w below quiet few at under answers memory store goes rule =
+  filter_step continues k s u c i r is acts exception resumption asked rest w below quiet few at under answers memory store goes rule known =
       let d = waiting_below c w below in
       let live : IsLive u = ap (λ a. a == 0) at in
       let a = filter_answered t fs program p q image filters blocks continues u r is acts exception resumption asked rest d answers memory store (subst HasRule (goes (exec program zero)) rule) in
       let less : turns_left d ≤ turns_left c = (let z = ap held_below under in omega arith) in
-      matched_when_shown t fs program p q 16 k (turns_left d + 3) s u c i (arrived t fs (filter_turn t u)) a.before (λ next. linear_answer program u exception resumption asked rest d next) quiet live (filter_turns t fs u at) a.shown goes (omega arith)
+      matched_when_shown t fs program p q 16 k (turns_left d + 3) s u c i (arrived t fs (filter_turn t u)) a.before (λ next. linear_answer program u exception resumption asked rest d next) quiet live (filter_turns t fs u at) a.shown goes (omega arith) known
 
   -- and to that of `__finally` blocks
   pub finally_step : (k : ℕ) (s u : State) (c : Configuration) (i : Instruction) (r : DispatchRecord) (is : List StackItem) (acts : List Activation) (rest : List Region) (target : Target) (f : Frame) (below : List Item)
@@ -64,8 +64,9 @@ module _ (t : Functions) (fs : List Funclet) (program : LinearProgram) (p : Plan
       → IsSane u → On t fs program p u.memory (context_of u.cpu) (Unwinding r ∷ is) (Unwinds rest target ∷ Waits f ∷ below) acts
       → IsMachineMemory t fs program p q u.memory c.store.memory → c.store.activations ≡ locals_of acts
       → ((next : Next) → act program i next c ≡ end_finally program next c.below c.events c.store) → HasRule (act program i (exec program zero) c)
+      → ((d : Configuration) → ((next : Next) → act program i next c ≡ next d) → IsStacked program d × HasActivations program d)
       → IsMatched t fs program 16 turns_left (Stands t fs program p q) s c i
-  finally_step k s u c i r is acts rest target f below quiet few at under clear sane on memory store goes rule =
+  finally_step k s u c i r is acts rest target f below quiet few at under clear sane on memory store goes rule known =
       let live : IsLive u = ap (λ a. a == 0) at in
       let a = finally_ended t fs program p q image filters blocks u r is acts rest target f below c sane on memory store under clear (subst HasRule (goes (exec program zero)) rule) in
-      matched_when_shown t fs program p q 16 k (turns_left c) s u c i (arrived t fs (finally_returned t u (register u.cpu Rsp) (fetched u.memory (register u.cpu Rsp)))) [] (λ next. end_finally program next c.below c.events c.store) quiet live (finally_turns t fs u at) a goes (omega arith)
+      matched_when_shown t fs program p q 16 k (turns_left c) s u c i (arrived t fs (finally_returned t u (register u.cpu Rsp) (fetched u.memory (register u.cpu Rsp)))) [] (λ next. end_finally program next c.below c.events c.store) quiet live (finally_turns t fs u at) a goes (omega arith) known

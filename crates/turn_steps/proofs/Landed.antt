@@ -28,8 +28,7 @@ use Rattle.body_states.specs.Programs.{IsMachineMemory, IsProgramImage}
 use Rattle.body_states.specs.Bodies.{Begins, turns_left}
 use Rattle.body_states.proofs.Resumed.{again, waits_in_body, no_front, all_front}
 use Rattle.body_states.proofs.Inside.{first_in_code}
-use Rattle.turn_steps.specs.Outcomes.{entry_turns, Stands, GoesOn}
-use Rattle.whole_runs.proofs.Matches.{LeadsTo}
+use Rattle.turn_steps.specs.Outcomes.{entry_turns, LeadsTo, Stands, GoesOn}
 
 same_code : (a b : ℕ) → Some a ≡ Some b → a ≡ b
 same_code a b e = cc

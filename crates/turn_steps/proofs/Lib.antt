@@ -11,4 +11,6 @@ pub mod Served
 pub mod Funclets
 pub mod Hosts
 pub mod BuiltIns
-pub mod Within
+pub mod Pushed
+pub mod Quiet
+pub mod Apart

@@ -16,6 +16,8 @@ use Rattle.linear_code.specs.declared.instruction.Instruction.{Instruction}
 use Rattle.linear_code.specs.Program.{LinearProgram}
 use Rattle.linear_machine.specs.Frames.{Configuration, Seen, Finished, Next, pick, deeper}
 use Rattle.linear_machine.specs.Instructions.{act}
+use Rattle.ir_typed.specs.Waiting.{IsStacked}
+use Rattle.ir_typed.specs.Activations.{HasActivations}
 use Rattle.linked_stack.specs.ImagePlan.{Plan}
 use Rattle.whole_runs.specs.Comes.{IsLive, Comes}
 use Rattle.whole_runs.specs.Matched.{IsMatched}
@@ -91,7 +93,8 @@ module _ (t : Functions) (fs : List Funclet) (program : LinearProgram) (p : Plan
 
   -- quiet turns, and one turn of the host, which shows some events before those of its outcome
   module _ (pace k left : ℕ) (s u : State) (c : Configuration) (i : Instruction) (before : List Event) (x : Turn)
-      (quiet : Comes t fs k s [] u) (live : IsLive u) (turns : turn t fs u ≡ with_events before x) (enough : k + 1 + entry_turns + left ≤ pace + turns_left c) where
+      (quiet : Comes t fs k s [] u) (live : IsLive u) (turns : turn t fs u ≡ with_events before x) (enough : k + 1 + entry_turns + left ≤ pace + turns_left c)
+      (known : (d : Configuration) → ((next : Next) → act program i next c ≡ next d) → IsStacked program d × HasActivations program d) where
     abbrev Matched : Type 0
     Matched = IsMatched t fs program pace turns_left (Stands t fs program p q) s c i
 
@@ -137,7 +140,9 @@ module _ (t : Functions) (fs : List Funclet) (program : LinearProgram) (p : Plan
           acts = λ next. g.acts next ∙ ap (λ (b : Bool). pick b (Finished (Deep 1001) (c.events ++ before)) (next g.configuration)) deep;
         })))
         by false shallow =
-            let l = g.leads shallow in
+            let moves = λ (next : Next). g.acts next ∙ ap (λ (b : Bool). pick b (Finished (Deep 1001) (c.events ++ before)) (next g.configuration)) shallow in
+            let facts = known g.configuration moves in
+            let l = g.leads shallow facts.0 facts.1 in
             let few = g.few shallow in
             let most = l.few in
             inl (record {
@@ -148,7 +153,7 @@ module _ (t : Functions) (fs : List Funclet) (program : LinearProgram) (p : Plan
               state = l.state;
               events = before ++ g.event ∷ [];
               comes = quietly_after t fs (k + 1) l.turns s g.state l.state (before ++ g.event ∷ []) (reaches g.state (g.event ∷ []) g.turns) l.comes;
-              acts = λ next. g.acts next ∙ ap (λ (b : Bool). pick b (Finished (Deep 1001) (c.events ++ before)) (next g.configuration)) shallow;
+              acts = moves;
               shown = g.shown ∙ append_assoc c.events before (g.event ∷ []);
               stands = l.stands;
             })

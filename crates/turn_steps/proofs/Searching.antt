@@ -84,7 +84,7 @@ module _ (t : Functions) (fs : List Funclet) (program : LinearProgram) (p : Plan
           few = λ shallow. omega arith;
           acts = f.goes;
           shown = refl;
-          leads = λ shallow. filters f.state f.filter ((at + 80) % 2 ^ 64) f.handler f.rest exception resumption c acts f.arrives f.pointers f.asked memory' store shallow;
+          leads = λ shallow stacked activations. filters f.state f.filter ((at + 80) % 2 ^ 64) f.handler f.rest exception resumption c acts f.arrives f.pointers f.asked memory' store shallow stacked activations;
         }
 
     -- ---- all of them
@@ -94,9 +94,9 @@ module _ (t : Functions) (fs : List Funclet) (program : LinearProgram) (p : Plan
     searched resumption resumes rule = elim (search_turns t fs program p s at r is acts exception resumption found c h resumes) [
       | inl f ↦ inr (inl (filter_enters (arrived t fs (searches_on t s at r)) resumption f))
       | inr x ↦ elim x [
-          | inl k ↦ outcome_same t fs program p q (arrived t fs (accepted t s at r k.frame k.address)) (arrived t fs (searches_on t s at r)) (λ next. accept program k.handler exception next c)
-              (λ next. linear.search program next found exception resumption c) c.events (turns_left c) k.turns k.goes
-              (taken_over k.handler k.frame k.address k.frame_small k.address_small k.aimed (subst HasRule (k.goes (exec program zero)) rule))
-          | inr z ↦ inr (inr (record { code = record { 0 = exception.code }; turns = z.turns; acts = z.goes }))
-        ]
+        | inl k ↦ outcome_same t fs program p q (arrived t fs (accepted t s at r k.frame k.address)) (arrived t fs (searches_on t s at r)) (λ next. accept program k.handler exception next c)
+            (λ next. linear.search program next found exception resumption c) c.events (turns_left c) k.turns k.goes
+            (taken_over k.handler k.frame k.address k.frame_small k.address_small k.aimed (subst HasRule (k.goes (exec program zero)) rule))
+        | inr z ↦ inr (inr (record { code = record { 0 = exception.code }; turns = z.turns; acts = z.goes }))
+      ]
     ]

@@ -25,6 +25,8 @@ use Rattle.linear_code.specs.declared.instruction.Instruction.{Instruction}
 use Rattle.linear_code.specs.Program.{LinearProgram}
 use Rattle.linear_machine.specs.Frames.{Configuration, Seen, Next}
 use Rattle.linear_machine.specs.Instructions.{act}
+use Rattle.ir_typed.specs.Waiting.{IsStacked}
+use Rattle.ir_typed.specs.Activations.{HasActivations}
 use Rattle.linked_stack.specs.ImagePlan.{Plan}
 use Rattle.dispatch_turns.specs.Returns.{filter_turn}
 use Rattle.whole_runs.specs.Comes.{IsLive, Comes}
@@ -71,7 +73,8 @@ module _ (t : Functions) (fs : List Funclet) where
     -- quiet turns lead to a turn of the host, which shows what the step shows
     pub matched_when_shown : (pace k left : ℕ) (s u : State) (c : Configuration) (i : Instruction) (x : Turn) (before : List Event) (seen : Next → Seen)
         → Comes t fs k s [] u → IsLive u → turn t fs u ≡ x → Shows t fs program p q x before seen c.events left → ((next : Next) → act program i next c ≡ seen next) → k + 1 + entry_turns + left ≤ pace + turns_left c
+        → ((d : Configuration) → ((next : Next) → act program i next c ≡ next d) → IsStacked program d × HasActivations program d)
         → IsMatched t fs program pace turns_left (Stands t fs program p q) s c i
-    matched_when_shown pace k left s u c i x before seen quiet live e shows acts enough =
-        matched_by_turn t fs program p q pace k left s u c i before shows.further quiet live (e ∙ shows.turns) enough
+    matched_when_shown pace k left s u c i x before seen quiet live e shows acts enough known =
+        matched_by_turn t fs program p q pace k left s u c i before shows.further quiet live (e ∙ shows.turns) enough known
         (outcome_same t fs program p q shows.further shows.further seen (λ next. act program i next c) (c.events ++ before) left refl acts shows.outcome)

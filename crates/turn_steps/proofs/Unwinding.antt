@@ -62,7 +62,7 @@ module _ (t : Functions) (fs : List Funclet) (program : LinearProgram) (p : Plan
           few = λ shallow. counted_back n d (not_deep (nat_lt 1000 (length c.store.activations + b.held + 2)) shallow (counting d) (subst (IsShort n) (goes counting) short));
           acts = goes;
           shown = refl;
-          leads = λ shallow. blocks b.state b.block flag b.held b.rest target c b.outer b.arrives is memory' refl shallow;
+          leads = λ shallow stacked activations. blocks b.state b.block flag b.held b.rest target c b.outer b.arrives is refl memory' refl shallow stacked activations;
         }
       where
         not_deep : (b : Bool) → b ≡ false → (x : Seen) → IsShort n (pick b (Finished (Deep 1001) w.shown) x) → IsShort n x

@@ -13,15 +13,16 @@ use Rattle.linear_code.specs.Program.{LinearProgram}
 use Rattle.linear_machine.specs.Frames.{Handler, Target, Resumption, Waits, Searches, Unwinds, Configuration}
 use Rattle.linear_machine.specs.Searching.{begin_filter, resumed}
 use Rattle.linear_machine.specs.Unwinding.{flag_of, begin_finally}
+use Rattle.ir_typed.specs.Waiting.{IsStacked}
+use Rattle.ir_typed.specs.Activations.{HasActivations}
 use Rattle.raw_stack.specs.Stack.{StackItem}
 use Rattle.linked_stack.specs.ImagePlan.{Plan}
 use Rattle.linked_stack.specs.Linked.{Activation, locals_of}
 use Rattle.stack_records.specs.Records.{On}
 use Rattle.dispatch_turns.specs.States.{IsSane, Arrives}
-use Rattle.whole_runs.proofs.Matches.{LeadsTo}
 use Rattle.body_states.specs.Sites.{Sites}
 use Rattle.body_states.specs.Programs.{IsMachineMemory}
-use Rattle.turn_steps.specs.Outcomes.{entry_turns, Stands}
+use Rattle.turn_steps.specs.Outcomes.{entry_turns, LeadsTo, Stands}
 
 module _ (t : Functions) (fs : List Funclet) (program : LinearProgram) (p : Plan) (q : Sites) where
   -- a filter begins, on what waits where its exception was raised
@@ -32,6 +33,7 @@ module _ (t : Functions) (fs : List Funclet) (program : LinearProgram) (p : Plan
       → register s.cpu Rcx ≡ register s.cpu Rsp + 88 → handler.filter ≡ Some k
       → IsMachineMemory t fs program p q s.memory c.store.memory → c.store.activations ≡ locals_of acts
       → nat_lt 1000 (length c.store.activations + c.frame.held + 2) ≡ false
+      → IsStacked program (begin_filter k handler rest exception resumption c) → HasActivations program (begin_filter k handler rest exception resumption c)
       → LeadsTo t fs entry_turns (Stands t fs program p q) s (begin_filter k handler rest exception resumption c)
 
   -- a `__finally` block begins, on the body that waits with the regions that are left
@@ -39,9 +41,10 @@ module _ (t : Functions) (fs : List Funclet) (program : LinearProgram) (p : Plan
   BlocksBegin =
       (s : State) (k flag held : ℕ) (rest : List Region) (target : Target) (c : Configuration) (acts : List Activation)
       → Arrives t fs program p s k c.frame.activation 1 (Unwinds rest target ∷ Waits c.frame ∷ c.below) acts
-      → flag_of (slice_get program.funclets k) ≡ Some flag
+      → flag_of (slice_get program.funclets k) ≡ Some flag → target.held ≡ held
       → IsMachineMemory t fs program p q s.memory c.store.memory → c.store.activations ≡ locals_of acts
       → nat_lt 1000 (length c.store.activations + held + 2) ≡ false
+      → IsStacked program (begin_finally k flag true held (Unwinds rest target ∷ Waits c.frame ∷ c.below) c) → HasActivations program (begin_finally k flag true held (Unwinds rest target ∷ Waits c.frame ∷ c.below) c)
       → LeadsTo t fs entry_turns (Stands t fs program p q) s (begin_finally k flag true held (Unwinds rest target ∷ Waits c.frame ∷ c.below) c)
 
   -- where an exception is continued, the body goes on from the saved state: after its call, whose result is kept, or with the same operation

@@ -2,3 +2,5 @@
 //! unwinds, and the returns of filters and `__finally` blocks that the dispatcher has called. Begin reading
 //! with `specs/Outcomes`.
 #![tactic(auto)]
+
+pub mod laws;

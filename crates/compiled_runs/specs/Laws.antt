@@ -1,0 +1,38 @@
+-- What whole runs of the machine show of a program whose linear code they match, step by step.
+use Rattle.std.specs.Prelude.{◌≡◌, ℕ, ◌+◌, ◌*◌, ◌≤◌, true, List, [], ℤ}
+use Rattle.x64_machine.specs.Effect.{State}
+use Rattle.virtual_unwind.specs.CallerOf.{Functions}
+use Rattle.host_model.specs.declared.funclet.Funclet.{Funclet}
+use Rattle.host_model.specs.HostStep.{host}
+use Rattle.host_model.specs.Machine.{run}
+use Rattle.c_checked.specs.Program.{Program}
+use Rattle.c_checked.specs.Sound.{IsSound}
+use Rattle.c_model.specs.Meaning.{meaning, Calm}
+use Rattle.linear_machine.specs.Frames.{Configuration}
+use Rattle.seh_ir.specs.Lowered.{lowered}
+use Rattle.ir_linked.specs.Pace.{pace_of}
+use Rattle.whole_runs.specs.Laws.{Begins, ShowsAll, ShowsNoMore}
+
+-- turns of the machine for a step of linear code, and before `main`
+abbrev pub pace : ℕ
+pace = 16
+
+abbrev pub most_before_main : ℕ
+most_before_main = 224
+
+-- in 256 n + 256 turns the machine shows what the program shows within n steps, and has ended as it ends
+abbrev pub MatchedRunsShowAll : Type 0
+MatchedRunsShowAll =
+    (t : Functions) (fs : List Funclet) (program : Program) → IsSound program
+    → (credit : Configuration → ℕ) (arg : ℤ) (first n : ℕ) (s : State)
+    → Begins t fs (lowered program) pace credit arg first s (16 * n + 2) → first ≤ most_before_main
+    → ShowsAll (meaning program arg n) (run t fs (256 * n + 256) (host s) [])
+
+-- in m turns it shows no more than the program shows within (m + 1) * K steps, where these are calm, and ends only as it ends
+abbrev pub MatchedRunsShowNoMore : Type 0
+MatchedRunsShowNoMore =
+    (t : Functions) (fs : List Funclet) (program : Program) → IsSound program
+    → (credit : Configuration → ℕ) (arg : ℤ) (first m n : ℕ) (s : State)
+    → Begins t fs (lowered program) pace credit arg first s m → (m + 1) * pace_of program ≤ n
+    → Calm program arg n ≡ true
+    → ShowsNoMore (meaning program arg n) (run t fs m (host s) [])

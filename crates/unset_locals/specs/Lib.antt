@@ -1,0 +1,5 @@
+pub mod Marks
+pub mod Alike
+pub mod Reads
+pub mod Laws
+pub mod Twins
