@@ -1,0 +1,4 @@
+pub mod Flags
+pub mod Quiet
+pub mod Followed
+pub mod Alike

@@ -1,0 +1,19 @@
+-- What is claimed of the bodies and the funclets of every lowered program.
+use Rattle.std.specs.Prelude.{◌≡◌, ℕ, ◌<◌, slice_get, Some}
+use Rattle.c_checked.specs.Program.{Program}
+use Rattle.linear_code.specs.declared.program.FuncletKind.TheVariants.{Finally}
+use Rattle.linear_code.specs.Program.{LinearBody, LinearFunclet}
+use Rattle.linear_machine.specs.Frames.{BodyName, body_of}
+use Rattle.seh_ir.specs.Lowered.{lowered}
+use Rattle.ir_places.specs.Followed.{IsFollowed}
+use Rattle.ir_places.specs.Alike.{HasSameRegions}
+
+abbrev pub LoweredIsFollowed : Type 0
+LoweredIsFollowed = (program : Program) (name : BodyName) (b : LinearBody) → body_of (lowered program) name ≡ Some b → IsFollowed b
+
+abbrev pub LoweredHasSameRegions : Type 0
+LoweredHasSameRegions = (program : Program) (name : BodyName) (b : LinearBody) → body_of (lowered program) name ≡ Some b → HasSameRegions b
+
+-- the flag that says how a `__finally` block is run (Microsoft C language reference, `AbnormalTermination`) is a local of its body
+abbrev pub LoweredHasFlags : Type 0
+LoweredHasFlags = (program : Program) (k flag : ℕ) (f : LinearFunclet) → slice_get (lowered program).funclets k ≡ Some f → f.kind ≡ Finally flag → flag < f.body.locals
