@@ -3,7 +3,7 @@ use Rattle.std.specs.Prelude.{ℕ, ◌^◌, Bool, true, nat_eq, nat_lt, List, []
 use Rattle.seh_num.specs.declared.width.Width.TheVariants.{W32}
 use Rattle.seh_num.specs.declared.event.Event.{Event}
 use Rattle.seh_num.specs.declared.event.Event.TheVariants as events
-use Rattle.seh_num.specs.Widths.{signed}
+use Rattle.seh_num.specs.Widths.{low, signed}
 use Rattle.c_checked.specs.Expression.{Expression}
 use Rattle.c_checked.specs.Statement.{Filter, Always, Funclet, Statements}
 use Rattle.c_model.specs.declared.ended.Ended.TheVariants.{Unhandled}
@@ -18,11 +18,11 @@ noncontinuable = record { code = 0xC0000025; flag = true; access = None }
 abbrev pub raise_event : Exception → Event
 raise_event exc = events.Raise (record { 0 = exc.code }) exc.flag exc.access
 
--- a filter's answer: above 0 takes over, 0 asks the next, and below 0 continues
+-- a filter's answer is an `int`, its low 32 bits: above 0 takes over, 0 asks the next, and below 0 continues
 abbrev pub answered : Does → ℕ → ℕ → Exception → Context → State → (State → Outcome) → Outcome
 answered does v level exc context st next =
-    choose (nat_eq v 0) next (
-    choose (nat_lt v (2 ^ 31)) (λ st. Gives (Target level exc) st) (
+    choose (nat_eq (low W32 v) 0) next (
+    choose (nat_lt (low W32 v) (2 ^ 31)) (λ st. Gives (Target level exc) st) (
     choose exc.flag (λ st. does (Raise noncontinuable) context st) (λ st. Gives Normal st))) st
 
 -- the handlers in order, innermost first, for an exception raised at this point

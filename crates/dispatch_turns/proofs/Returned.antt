@@ -47,12 +47,16 @@ module _ (t : Functions) (fs : List Funclet) (program : LinearProgram) (p : Plan
       ∙ ap (if_searching t s at r) h.on.stands.stack.0.kind
       ∙ ap (λ (x : ℤ). with_event (events.Answer x) (by_answer t s at r v (v == 0))) (signed_low (register s.cpu Rax))
 
+  -- EAX has 32 bits
+  low_answer : low W32 v ≡ v
+  low_answer = let x = register s.cpu Rax in let e : x % 2 ^ 32 % 2 ^ 32 ≡ x % 2 ^ 32 = omega arith in e
+
   linear : (a b d : Bool) → nat_eq v 0 ≡ a → nat_lt v (2 ^ 31) ≡ b → exception.flag ≡ d → (next : Next)
       → linear_answer program s exception resumption asked rest c next
       ≡ pick a (search program next rest exception resumption (answered s c)) (pick b (accept program asked exception next (answered s c)) (pick d (raise program next noncontinuable resumption (answered s c)) (next (resumed resumption (answered s c)))))
   linear a b d e f g next =
-      ap (λ x. pick x (search program next rest exception resumption (answered s c)) (pick (nat_lt v (2 ^ 31)) (accept program asked exception next (answered s c)) (pick exception.flag (raise program next noncontinuable resumption (answered s c)) (next (resumed resumption (answered s c)))))) e
-      ∙ ap (λ x. pick a (search program next rest exception resumption (answered s c)) (pick x (accept program asked exception next (answered s c)) (pick exception.flag (raise program next noncontinuable resumption (answered s c)) (next (resumed resumption (answered s c)))))) f
+      ap (λ x. pick x (search program next rest exception resumption (answered s c)) (pick (nat_lt (low W32 v) (2 ^ 31)) (accept program asked exception next (answered s c)) (pick exception.flag (raise program next noncontinuable resumption (answered s c)) (next (resumed resumption (answered s c)))))) (ap (λ n. nat_eq n 0) low_answer ∙ e)
+      ∙ ap (λ x. pick a (search program next rest exception resumption (answered s c)) (pick x (accept program asked exception next (answered s c)) (pick exception.flag (raise program next noncontinuable resumption (answered s c)) (next (resumed resumption (answered s c)))))) (ap (λ n. nat_lt n (2 ^ 31)) low_answer ∙ f)
       ∙ ap (λ x. pick a (search program next rest exception resumption (answered s c)) (pick b (accept program asked exception next (answered s c)) (pick x (raise program next noncontinuable resumption (answered s c)) (next (resumed resumption (answered s c)))))) g
 
   asks_the_next : nat_eq v 0 ≡ true → AsksTheNext t program s r exception resumption asked rest c

@@ -3,7 +3,7 @@ use Rattle.std.proofs.Common.{◌≡◌, ◌<◌, ◌≤◌, ℕ, suc, ◌+◌, 
 use Rattle.std.specs.Prelude.{Bool, true, false, nat_eq, nat_lt, slice_get, Option, Some, None}
 use Rattle.seh_num.specs.declared.width.Width.TheVariants.{W32}
 use Rattle.seh_num.specs.declared.event.Event.TheVariants as events
-use Rattle.seh_num.specs.Widths.{signed}
+use Rattle.seh_num.specs.Widths.{low, signed}
 use Rattle.c_checked.specs.Expression.{Expression}
 use Rattle.c_checked.specs.Statement.{Filter, Always, Funclet}
 use Rattle.c_checked.specs.Program.{Program}
@@ -177,7 +177,7 @@ module _ (program : Program) (linear : LinearProgram) (pace body : ℕ) where
         (normal_ways (resumes program linear pace body resumption context site pc temps) (Within program linear pace body shapes base) context site) st (price 0 1 0 (2 + expression_weight e)) (price 16 0 1 pace) (price 16 1 1 pace)
         (within program n (RunFilter k e h exc) context st) (λ v st. source.answered (within program n) v (length hs) exc context st (λ st. source.search (within program n) hs exc context st))
         (omega arith, omega arith, omega arith, omega arith) (ih.filter k j e h f rest exc resumption names info z shapes context site base pc temps st store steps t a fit around kept held)
-        (λ v mid after lower fits same. answered_runs (nat_eq v 0) (nat_lt v (2 ^ 31)) exc.flag hs f pre rest exc resumption names info z shapes context site base pc temps mid after len t w le (omega arith) around fits same
+        (λ v mid after lower fits same. answered_runs (nat_eq (low W32 v) 0) (nat_lt (low W32 v) (2 ^ 31)) exc.flag hs f pre rest exc resumption names info z shapes context site base pc temps mid after len t w le (omega arith) around fits same
         (go mid after (omega arith) fits same))
 
     pub search_runs : (hs : List Handler) (pre rest : List machine.Handler) (exc : Exception) (resumption : Resumption)

@@ -7,7 +7,7 @@ use Rattle.std.specs.Prelude.{Bool, true, false, nat_eq, nat_le, nat_lt, slice_g
 use Rattle.seh_num.specs.declared.event.Event.{Event}
 use Rattle.seh_num.specs.declared.event.Event.TheVariants as events
 use Rattle.seh_num.specs.declared.width.Width.TheVariants.{W32}
-use Rattle.seh_num.specs.Widths.{signed}
+use Rattle.seh_num.specs.Widths.{low, signed}
 use Rattle.c_operations.specs.declared.built_in.BuiltIn.{BuiltIn}
 use Rattle.c_operations.specs.declared.built_in.BuiltIn.TheVariants.{Put, Protect, RaiseException}
 use Rattle.c_operations.specs.declared.operation.Operation.{Operation}
@@ -174,8 +174,8 @@ module _ (program : LinearProgram) (whole : IsWhole program) (leads : (name : Bo
   answer_turn v (Searches exception resumption h rest ∷ Unwinds s' t ∷ below) es store s w = Halts (Stuck es) (λ next. refl)
   answer_turn v (Searches exception resumption h rest ∷ Waits f ∷ below) es store s w =
       let c : Configuration = record { frame = f; below = below; store = store; events = es ++ events.Answer (signed W32 v) ∷ [] } in
-      pick_turn Ok (nat_eq v 0) (λ next. search program next rest exception resumption c) _ (λ e. search_turn rest exception resumption c s.0.1 w)
-      (λ e. pick_turn Ok (nat_lt v (2 ^ 31)) (λ next. accept program h exception next c) _ (λ e. accept_turn h exception c s.0.0 w)
+      pick_turn Ok (nat_eq (low W32 v) 0) (λ next. search program next rest exception resumption c) _ (λ e. search_turn rest exception resumption c s.0.1 w)
+      (λ e. pick_turn Ok (nat_lt (low W32 v) (2 ^ 31)) (λ next. accept program h exception next c) _ (λ e. accept_turn h exception c s.0.0 w)
       (λ e. pick_turn Ok exception.flag (λ next. raise program next noncontinuable resumption c) (λ next. next (resumed resumption c)) (λ e. raise_turn noncontinuable resumption c s.2 w) (λ e. resumed_turn resumption c s.1 s.2 w)))
 
   return_turn : (k v : ℕ) (items : List Item) (es : List Event) (store : Store) → IsCalledBy program k items → Items items → Deep items → Turn Ok (λ next. return next v items es store)

@@ -5,7 +5,7 @@ use Rattle.std.specs.Prelude.{Bool, true, false, nat_eq, nat_lt, slice_get, slic
 use Rattle.seh_num.specs.declared.event.Event.{Event}
 use Rattle.seh_num.specs.declared.event.Event.TheVariants as events
 use Rattle.seh_num.specs.declared.width.Width.TheVariants.{W32, W64}
-use Rattle.seh_num.specs.Widths.{signed, wrapped}
+use Rattle.seh_num.specs.Widths.{low, signed, wrapped}
 use Rattle.c_operations.specs.declared.built_in.BuiltIn.{BuiltIn}
 use Rattle.c_operations.specs.declared.built_in.BuiltIn.TheVariants.{Put, Protect, RaiseException}
 use Rattle.c_operations.specs.declared.field.Field.{Field}
@@ -232,8 +232,8 @@ module _ (program : LinearProgram) where
   answer_turn v (Searches exception resumption h rest ∷ Waits f ∷ below) es store o =
       let c : Configuration = record { frame = f; below = below; store = store; events = es ++ events.Answer (signed W32 v) ∷ [] } in
       let p : at_rest c = (o.0.1, o.1) in
-      pick_turn HasSmallNumbers (nat_eq v 0) (λ next. search program next rest exception resumption c) _ (λ e. search_turn rest exception resumption c o.0.0 p)
-      (λ e. pick_turn HasSmallNumbers (nat_lt v (2 ^ 31)) (λ next. accept program h exception next c) _ (λ e. accept_turn h exception c o.0.0 p)
+      pick_turn HasSmallNumbers (nat_eq (low W32 v) 0) (λ next. search program next rest exception resumption c) _ (λ e. search_turn rest exception resumption c o.0.0 p)
+      (λ e. pick_turn HasSmallNumbers (nat_lt (low W32 v) (2 ^ 31)) (λ next. accept program h exception next c) _ (λ e. accept_turn h exception c o.0.0 p)
       (λ e. pick_turn HasSmallNumbers exception.flag (λ next. raise program next noncontinuable resumption c) (λ next. next (resumed resumption c)) (λ e. raise_turn noncontinuable resumption c anew p) (λ e. resumed_turn resumption c p)))
 
   return_turn : (v : ℕ) (items : List Item) (es : List Event) (store : Store) → v < 2 ^ 64 → Over items store → Turn HasSmallNumbers (λ next. return next v items es store)

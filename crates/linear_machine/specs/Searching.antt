@@ -3,7 +3,7 @@ use Rattle.std.specs.Prelude.{ℕ, suc, ◌+◌, ◌^◌, Bool, true, false, nat
 use Rattle.seh_num.specs.declared.width.Width.TheVariants.{W32}
 use Rattle.seh_num.specs.declared.event.Event.{Event}
 use Rattle.seh_num.specs.declared.event.Event.TheVariants as events
-use Rattle.seh_num.specs.Widths.{signed}
+use Rattle.seh_num.specs.Widths.{low, signed}
 use Rattle.linear_code.specs.Program.{LinearProgram}
 use Rattle.c_model.specs.declared.ended.Ended.TheVariants.{Unhandled}
 use Rattle.c_model.specs.State.{Exception}
@@ -48,11 +48,11 @@ abbrev pub resumed : Resumption → Configuration → Configuration
 resumed AfterCall c = forth (with_last (c.frame.temporaries ++ 0 ∷ []) c)
 resumed SameOperation c = c
 
--- a filter's answer ends the wait of its search: above 0 takes over, 0 asks the next, and below 0 continues
+-- a filter's answer, its low 32 bits, ends the wait of its search: above 0 takes over, 0 asks the next, and below 0 continues
 abbrev pub answered : LinearProgram → Next → ℕ → Exception → Resumption → Handler → List Handler → Configuration → Seen
 answered program next v exception resumption h rest c =
-    pick (nat_eq v 0) (search program next rest exception resumption c)
-    (pick (nat_lt v (2 ^ 31)) (accept program h exception next c)
+    pick (nat_eq (low W32 v) 0) (search program next rest exception resumption c)
+    (pick (nat_lt (low W32 v) (2 ^ 31)) (accept program h exception next c)
     (pick exception.flag (raise program next noncontinuable resumption c) (next (resumed resumption c))))
 
 abbrev pub answer : LinearProgram → Next → ℕ → List Item → List Event → Store → Seen

@@ -4,7 +4,7 @@ use Rattle.std.specs.Prelude.{◌^◌, Bool, true, false, nat_eq, nat_lt, slice_
 use Rattle.seh_num.specs.declared.width.Width.TheVariants.{W32, W64}
 use Rattle.seh_num.specs.declared.event.Event.{Event}
 use Rattle.seh_num.specs.declared.event.Event.TheVariants as events
-use Rattle.seh_num.specs.Widths.{signed}
+use Rattle.seh_num.specs.Widths.{low, signed}
 use Rattle.c_operations.specs.declared.built_in.BuiltIn.{BuiltIn}
 use Rattle.c_operations.specs.declared.built_in.BuiltIn.TheVariants.{Put, Protect, RaiseException}
 use Rattle.c_operations.specs.declared.operation.Operation.{Operation}
@@ -127,8 +127,8 @@ module _ (program : LinearProgram) (f g : Next) (h : (c : Configuration) → Kee
   answered_keeps : (v : ℕ) (exception : Exception) (resumption : Resumption) (x : Handler) (rest : List Handler) (c : Configuration)
       → Keeps c.events (answered program f v exception resumption x rest c) (answered program g v exception resumption x rest c)
   answered_keeps v exception resumption x rest c =
-      keeps_pick (nat_eq v 0) c.events _ _ _ _ (search_keeps rest exception resumption c)
-      (keeps_pick (nat_lt v (2 ^ 31)) c.events _ _ _ _ (accept_keeps x exception c)
+      keeps_pick (nat_eq (low W32 v) 0) c.events _ _ _ _ (search_keeps rest exception resumption c)
+      (keeps_pick (nat_lt (low W32 v) (2 ^ 31)) c.events _ _ _ _ (accept_keeps x exception c)
       (keeps_pick exception.flag c.events _ _ _ _ (raise_keeps noncontinuable resumption c) (resumed_keeps resumption c)))
 
   answer_keeps : (v : ℕ) (items : List Item) (es : List Event) (store : Store) → Keeps es (answer program f v items es store) (answer program g v items es store)

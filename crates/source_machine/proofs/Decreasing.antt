@@ -1,6 +1,8 @@
 -- Each step brings the machine nearer to its end.
 use Rattle.std.proofs.Common.{◌≡◌, ℕ, zero, suc, ◌+◌, ◌*◌, ◌<◌, List, [], ◌∷◌, length, refl, arith, lit<, Option, Some, None}
 use Rattle.std.specs.Prelude.{Bool, true, false, nat_eq, nat_lt, slice_get, ◌^◌}
+use Rattle.seh_num.specs.declared.width.Width.TheVariants.{W32}
+use Rattle.seh_num.specs.Widths.{low}
 use Rattle.c_operations.specs.declared.built_in.BuiltIn.{BuiltIn}
 use Rattle.c_operations.specs.declared.built_in.BuiltIn.TheVariants.{Put, Protect, RaiseException}
 use Rattle.c_operations.specs.declared.operation.Operation.{Operation}
@@ -174,7 +176,7 @@ in_statement_worth (frames.TestsFor k p) v = chosen_worth (nat_eq v 0) _ _ 22 (l
 in_statement_worth (frames.TestsDo s c p) v = chosen_worth (nat_eq v 0) _ _ 22 (lit< tt) (lit< tt)
 in_statement_worth frames.Returns v = lit< tt
 in_statement_worth frames.EndsFilter v = lit< tt
-in_statement_worth (frames.IsAnswered level exc p) v = answer_worth (nat_eq v 0) (nat_lt v (2 ^ 31)) exc.flag level exc p
+in_statement_worth (frames.IsAnswered level exc p) v = answer_worth (nat_eq (low W32 v) 0) (nat_lt (low W32 v) (2 ^ 31)) exc.flag level exc p
 
 sequel_plan_worth : (f : SequelFrame) → plan_worth (sequel_plan f) < 22
 unfolding plan_worth

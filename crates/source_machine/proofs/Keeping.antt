@@ -13,7 +13,9 @@ use Rattle.c_model.specs.Tasks.{Handler, Does}
 use Rattle.c_model.specs.Expressions.{of_test, ended_call, all}
 use Rattle.c_model.specs.Statements.{optional, in_loop, landing, finally_after}
 use Rattle.c_model.specs.Raises.{noncontinuable, answered, search}
+use Rattle.seh_num.specs.declared.width.Width.TheVariants.{W32}
 use Rattle.seh_num.specs.declared.event.Event.TheVariants as events
+use Rattle.seh_num.specs.Widths.{low}
 use Rattle.source_machine.specs.Frames as frames
 use Rattle.source_machine.specs.Frames.{Place, context_at, ForLoop, OperandFrame, AssignmentFrame, StatementFrame, SequelFrame, BodyFrame, Frame, Operand, Assignment, InStatement, Sequel, Body, EndsCall, Lands, Finishes, Next, Start, Give, Plan, Then, Push}
 use Rattle.source_machine.specs.Plans.{chosen, operand, gives, ends, evaluates, operand_plan, assignment_plan, evaluated, iterate, for_body, branch, answer_plan, in_statement_plan, sequel_plan, body_plan}
@@ -131,7 +133,7 @@ module _ (program : Program) (d : Does) where
   statement_keeps m (frames.TestsDo s c p) v = chosen_keeps (nat_eq v 0) m _ _ _ _ refl refl
   statement_keeps m frames.Returns v = refl
   statement_keeps m frames.EndsFilter v = refl
-  statement_keeps m (frames.IsAnswered level exc p) v = answer_keeps (nat_eq v 0) (nat_lt v (2 ^ 31)) exc.flag m level exc p
+  statement_keeps m (frames.IsAnswered level exc p) v = answer_keeps (nat_eq (low W32 v) 0) (nat_lt (low W32 v) (2 ^ 31)) exc.flag m level exc p
 
   -- ---- a normal end
 

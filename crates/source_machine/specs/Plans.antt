@@ -1,5 +1,6 @@
 -- What is done next where nothing but the program's text and a value decides it.
 use Rattle.std.specs.Prelude.{ℕ, ◌++◌, Bool, true, false, not, nat_eq, nat_lt, ◌-◌, ◌^◌, if◌then◌else◌, List, [], ◌∷◌, Option, Some, None}
+use Rattle.seh_num.specs.declared.width.Width.TheVariants.{W32}
 use Rattle.seh_num.specs.Widths.{low}
 use Rattle.c_operations.specs.declared.operation.Operation.TheVariants.{Load, Store}
 use Rattle.c_operations.specs.declared.operation.Pure.TheVariants.{Add}
@@ -182,7 +183,7 @@ in_statement_plan (frames.TestsFor k p) v = chosen (nat_eq v 0) ends (for_body k
 in_statement_plan (frames.TestsDo s c p) v = chosen (nat_eq v 0) ends (Then (Start (tasks.DoIteration s c) p))
 in_statement_plan frames.Returns v = Then (Give (Returned v))
 in_statement_plan frames.EndsFilter v = Then (frames.Answer v)
-in_statement_plan (frames.IsAnswered level exc p) v = answer_plan (nat_eq v 0) (nat_lt v (2 ^ 31)) exc.flag level exc p
+in_statement_plan (frames.IsAnswered level exc p) v = answer_plan (nat_eq (low W32 v) 0) (nat_lt (low W32 v) (2 ^ 31)) exc.flag level exc p
 
 abbrev pub sequel_plan : SequelFrame → Plan
 sequel_plan (frames.Continues ss p) = Then (frames.Proceed ss p)

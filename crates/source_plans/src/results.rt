@@ -20,6 +20,8 @@ use crate::values::{apart, converted, incremented_value, of_test, value_of};
 use c_checked::expression::Expr;
 use c_checked::statement::Stmt;
 use c_operations::operation::{Pure, Size};
+use seh_num::extension::zero_extend;
+use seh_num::width::Width;
 use source_operations::pure::result_of;
 use std::alloc::AllocError;
 
@@ -217,14 +219,15 @@ pub fn assignment_plan<'p>(frame: AssignmentFrame<'p>, value: u64) -> Plan<'p>
     }
 }
 
-/// A filter's answer: above 0 takes over, 0 asks the next, and below 0 continues.
+/// A filter's answer, an `int`: above 0 takes over, 0 asks the next, and below 0 continues.
 fn answer_plan<'p>(answer: u64, level: usize, exception: Exception, place: Place) -> Plan<'p>
     ensures { plan_of result ≡ plans.in_statement_plan (frames.IsAnswered level
         (views.exception_of exception) (place_of place)) answer }
 {
-    if answer == 0 {
+    let number = zero_extend(Width::W32, answer);
+    if number == 0 {
         then(Next::Search(level, exception, place))
-    } else if answer < 0x8000_0000 {
+    } else if number < 0x8000_0000 {
         then(Next::Give(Outcome::Target(level, exception)))
     } else if exception.flag {
         then(start(Task::Raise(NONCONTINUABLE), place))

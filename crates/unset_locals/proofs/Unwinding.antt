@@ -4,7 +4,7 @@ use Rattle.std.specs.Prelude.{Bool, true, false, nat_eq, nat_lt, drop, take, sli
 use Rattle.seh_num.specs.declared.event.Event.{Event}
 use Rattle.seh_num.specs.declared.event.Event.TheVariants as events
 use Rattle.seh_num.specs.declared.width.Width.TheVariants.{W32}
-use Rattle.seh_num.specs.Widths.{signed}
+use Rattle.seh_num.specs.Widths.{low, signed}
 use Rattle.c_model.specs.declared.ended.Ended.TheVariants as ends
 use Rattle.c_model.specs.State.{Exception}
 use Rattle.c_model.specs.Expressions.{of_test}
@@ -132,10 +132,10 @@ module _ (program : LinearProgram) (marks : Marks) (before : List Event) where
       → Both After (λ next. answered program next v exception resumption h rest c) (λ next. answered program next v exception resumption h rest (over c ys))
   answered_both v exception resumption h rest c ys a l =
       let on : Configuration → Next → Seen = λ d next. pick exception.flag (raise program next noncontinuable resumption d) (next (resumed resumption d)) in
-      let chosen : Configuration → Next → Seen = λ d next. pick (nat_lt v (2 ^ 31)) (accept program h exception next d) (on d next) in
-      pick_both After (nat_eq v 0) (λ next. search program next rest exception resumption c) (chosen c) (λ next. search program next rest exception resumption (over c ys)) (chosen (over c ys))
+      let chosen : Configuration → Next → Seen = λ d next. pick (nat_lt (low W32 v) (2 ^ 31)) (accept program h exception next d) (on d next) in
+      pick_both After (nat_eq (low W32 v) 0) (λ next. search program next rest exception resumption c) (chosen c) (λ next. search program next rest exception resumption (over c ys)) (chosen (over c ys))
       (search_both rest exception resumption c ys a l)
-      (pick_both After (nat_lt v (2 ^ 31)) (λ next. accept program h exception next c) (on c) (λ next. accept program h exception next (over c ys)) (on (over c ys)) (accept_both h exception c ys a l)
+      (pick_both After (nat_lt (low W32 v) (2 ^ 31)) (λ next. accept program h exception next c) (on c) (λ next. accept program h exception next (over c ys)) (on (over c ys)) (accept_both h exception c ys a l)
       (pick_both After exception.flag (λ next. raise program next noncontinuable resumption c) (λ next. next (resumed resumption c))
       (λ next. raise program next noncontinuable resumption (over c ys)) (λ next. next (resumed resumption (over c ys))) (raise_both noncontinuable resumption c ys a l) (resumed_both resumption c ys a l)))
 
