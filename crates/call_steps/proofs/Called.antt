@@ -221,6 +221,7 @@ module _ (t : Functions) (fs : List Funclet) (program : LinearProgram) (p : Plan
       data_alone = data_alone;
       agrees = inside.agrees;
       stack = may_stack;
+      arena = λ a e. ap (λ (g : Protection). g.execute) (protection_same a) ∙ b.memory.arena a e;
       code = program_stays t fs program p q image s.memory after.memory image_kept b.memory.code;
     }
 

@@ -242,7 +242,7 @@ module _ (t : Functions) (fs : List Funclet) (program : LinearProgram) (p : Plan
           let some = (returns_soon layout from).0 in
           let more = length-append w.temporaries (x ∷ []) in
           let z = resumes t fs program p q image roomy after w items outer c.store.memory c.events above b.body.is on sp_after sane_after
-          (record { data_alone = b.memory.data_alone; agrees = b.memory.agrees; stack = b.memory.stack; code = b.memory.code }) o there g first arguments calls within held free returns counts surrounded in
+          (record { data_alone = b.memory.data_alone; agrees = b.memory.agrees; stack = b.memory.stack; arena = b.memory.arena; code = b.memory.code }) o there g first arguments calls within held free returns counts surrounded in
           let credit : held_below c.below ≡ length w.temporaries + held_below items = ap held_below below in
           record {
             turns = n + 1;

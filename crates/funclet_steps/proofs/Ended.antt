@@ -220,7 +220,7 @@ module _ (t : Functions) (fs : List Funclet) (program : LinearProgram) (p : Plan
     begins = record {
       rip = back_is;
       sane = sane_after;
-      memory = record { data_alone = b.memory.data_alone; agrees = b.memory.agrees; stack = b.memory.stack; code = b.memory.code };
+      memory = record { data_alone = b.memory.data_alone; agrees = b.memory.agrees; stack = b.memory.stack; arena = b.memory.arena; code = b.memory.code };
       body = in_body;
       landed = λ value e. absurd (not_landed w.landed value free e);
     }

@@ -84,6 +84,7 @@ module _ (t : Functions) (fs : List Funclet) (program : LinearProgram) (p : Plan
     data_alone = record { bytes = w.bytes memory.data_alone.bytes; no_code = λ a e. no_more a (memory.data_alone.no_code a (ap (λ (x : Protection). is_writable x.rights) (sym (same_protection a)) ∙ e)) };
     agrees = record { byte = λ a r. w.byte a (outside a r) ∙ memory.agrees.byte a r; protection = λ a r. same_protection a ∙ memory.agrees.protection a r; guard = memory.agrees.guard };
     stack = stack_writable;
+    arena = λ a e. no_more a (memory.arena a e);
     code = program_stays t fs program p q image m m' (record { byte = λ a l h own. w.byte a (inr (omega arith)); protection = λ a l h own. same_protection a }) memory.code;
   }
 

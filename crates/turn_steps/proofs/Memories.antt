@@ -57,6 +57,7 @@ module _ (t : Functions) (fs : List Funclet) (program : LinearProgram) (p : Plan
       data_alone = data_alone;
       agrees = agrees;
       stack = λ a l u. still a ∙ h.stack a l u;
+      arena = λ a e. ap (λ (f : ℕ → Protection). (f a).execute) untouched.protection ∙ h.arena a e;
       code = program_kept t fs program p q m m' keeps_code h.code;
     }
 
