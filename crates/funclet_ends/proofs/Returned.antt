@@ -103,7 +103,7 @@ module _ (t : Functions) (fs : List Funclet) (program : LinearProgram) (p : Plan
     -- ---- a filter
 
     module _ (fits : FlagsFit program) (continues : Continuations t fs program p q) (kind : g.kind ≡ funclets.Filter)
-        (exception : Exception) (resumption : Resumption) (asked : Handler) (rest : List Handler) (w : Frame) (below : List Item) (under : c.below ≡ Searches exception resumption asked rest ∷ Waits w ∷ below) where
+        (exception : Exception) (resumption : Resumption) (asked : Handler) (rest : List Handler) (w : Frame) (below : List Item) (under : c.below ≡ Searches exception resumption asked rest ∷ Waits w ∷ below) (waits : AreWaiting program c.below) where
       abbrev waiting : List Item
       waiting = Searches exception resumption asked rest ∷ Waits w ∷ below
 
@@ -131,7 +131,7 @@ module _ (t : Functions) (fs : List Funclet) (program : LinearProgram) (p : Plan
       filter_returns =
           let at_host = on_top.at_host in
           filter_step t fs program p q image fits continues n s after c (instructions.Return from) on_top.dispatch on_top.others b.body.acts exception resumption asked rest w below
-          (quiet (omega arith)) few at_host under is_answered memory_after b.body.store answers rule known
+          (quiet (omega arith)) few at_host under (are_clear program c.below waits) is_answered memory_after b.body.store answers rule known
 
     -- ---- a `__finally` block that an unwinding runs
 

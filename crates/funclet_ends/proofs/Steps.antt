@@ -47,7 +47,7 @@ module _ (t : Functions) (fs : List Funclet) (program : LinearProgram) (p : Plan
       by_list (Searches exception resumption asked rest ∷ Unwinds x y ∷ below) e h = absurd h
       by_list (Searches exception resumption asked rest ∷ Waits w ∷ below) e h =
           filter_returns t fs program p q image made.room s c b (counted_here t fs program p q image made c known) k name from (code_at t fs program p q image made s c b known (instructions.Return from) at)
-          value.0 value.1 g there rule after fits continues h.0 exception resumption asked rest w below e
+          value.0 value.1 g there rule after fits continues h.0 exception resumption asked rest w below e known.stacked.below
       by_list (Unwinds rest target ∷ []) e h = absurd h
       by_list (Unwinds rest target ∷ Searches x y z w ∷ below) e h = absurd h
       by_list (Unwinds rest target ∷ Unwinds x y ∷ below) e h = absurd h

@@ -54,7 +54,7 @@ module _ (t : Functions) (fs : List Funclet) (program : LinearProgram) (p : Plan
   -- ---- a filter has answered
 
   module _ (continues : Continuations t fs program p q) (s : State) (r : DispatchRecord) (is : List StackItem) (acts : List Activation) (exception : Exception) (resumption : Resumption) (asked : Handler) (rest : List Handler) (c : Configuration)
-      (answers : SearchIsAnswered t fs program p s r is acts exception resumption asked rest c) (memory : IsMachineMemory t fs program p q s.memory c.store.memory) (store : c.store.activations ≡ locals_of acts) where
+      (answers : SearchIsAnswered t fs program p s r is acts exception resumption asked rest c) (memory : IsMachineMemory t fs program p q s.memory c.store.memory) (store : c.store.activations ≡ locals_of acts) (free : c.frame.landed ≡ None) where
     abbrev event : Event
     event = events.Answer (signed W32 (eax s))
 
@@ -107,7 +107,7 @@ module _ (t : Functions) (fs : List Funclet) (program : LinearProgram) (p : Plan
           few = resumed_few resumption;
           acts = a.goes;
           shown = shown_same resumption;
-          leads = l.1;
+          leads = λ known. l.1 known free;
         }))
       where
         continued_quietly : IsContinued t fs program p s r is acts exception resumption asked rest c → arrivals r.saved (distance t.base r.saved.rip) 1 fs ≡ []

@@ -43,16 +43,16 @@ module _ (t : Functions) (fs : List Funclet) (program : LinearProgram) (p : Plan
   -- in at most 6 turns the machine comes to the host's return address of filters
   pub filter_step : (continues : Continuations t fs program p q) (k : ℕ) (s u : State) (c : Configuration) (i : Instruction) (r : DispatchRecord) (is : List StackItem) (acts : List Activation)
       → (exception : Exception) (resumption : Resumption) (asked : Handler) (rest : List Handler) (w : Frame) (below : List Item)
-      → Comes t fs k s [] u → k ≤ 6 → u.cpu.rip ≡ filter_return → c.below ≡ Searches exception resumption asked rest ∷ Waits w ∷ below
+      → Comes t fs k s [] u → k ≤ 6 → u.cpu.rip ≡ filter_return → c.below ≡ Searches exception resumption asked rest ∷ Waits w ∷ below → AreClear c.below
       → SearchIsAnswered t fs program p u r is acts exception resumption asked rest (waiting_below c w below)
       → IsMachineMemory t fs program p q u.memory c.store.memory → c.store.activations ≡ locals_of acts
       → ((next : Next) → act program i next c ≡ linear_answer program u exception resumption asked rest (waiting_below c w below) next) → HasRule (act program i (exec program zero) c)
       → KnownNext program c i
       → IsMatched t fs program 16 turns_left (Stands t fs program p q) s c i
-  filter_step continues k s u c i r is acts exception resumption asked rest w below quiet few at under answers memory store goes rule known =
+  filter_step continues k s u c i r is acts exception resumption asked rest w below quiet few at under clear answers memory store goes rule known =
       let d = waiting_below c w below in
       let live : IsLive u = ap (λ a. a == 0) at in
-      let a = filter_answered t fs program p q image fits continues u r is acts exception resumption asked rest d answers memory store (subst HasRule (goes (exec program zero)) rule) in
+      let a = filter_answered t fs program p q image fits continues u r is acts exception resumption asked rest d answers memory store (subst AreClear under clear).0 (subst HasRule (goes (exec program zero)) rule) in
       let less : turns_left d ≤ turns_left c = (let z = ap held_below under in omega arith) in
       matched_when_shown t fs program p q 16 k (turns_left d + 3) s u c i (arrived t fs (filter_turn t u)) a.before (λ next. linear_answer program u exception resumption asked rest d next) quiet live (filter_turns t fs u at) a.shown goes (omega arith) known
 

@@ -48,7 +48,7 @@ FilterAnswersAreMatched =
     → IsProgramImage t fs program p q → FlagsFit program → Continuations t fs program p q
     → (k : ℕ) (s u : State) (c : Configuration) (i : Instruction) (r : DispatchRecord) (is : List StackItem) (acts : List Activation)
     (exception : Exception) (resumption : Resumption) (asked : Handler) (rest : List Handler) (w : Frame) (below : List Item)
-    → Comes t fs k s [] u → k ≤ 6 → u.cpu.rip ≡ filter_return → c.below ≡ Searches exception resumption asked rest ∷ Waits w ∷ below
+    → Comes t fs k s [] u → k ≤ 6 → u.cpu.rip ≡ filter_return → c.below ≡ Searches exception resumption asked rest ∷ Waits w ∷ below → AreClear c.below
     → SearchIsAnswered t fs program p u r is acts exception resumption asked rest (waiting_below c w below)
     → IsMachineMemory t fs program p q u.memory c.store.memory → c.store.activations ≡ locals_of acts
     → ((next : Next) → act program i next c ≡ linear_answer program u exception resumption asked rest (waiting_below c w below) next) → HasRule (act program i (exec program zero) c)
