@@ -28,14 +28,14 @@ use Rattle.body_states.specs.Layouts.{IsFuncletPlan}
 use Rattle.body_states.specs.Sites.{Sites}
 use Rattle.body_states.specs.Programs.{IsProgramImage}
 use Rattle.body_states.specs.Bodies.{turns_left, Begins}
-use Rattle.body_steps.specs.Known.{IsWellMade, IsKnown}
+use Rattle.body_steps.specs.Known.{IsWellMade, IsKnown, KnownNext}
 use Rattle.body_steps.specs.Laws.{pace}
 use Rattle.body_steps.specs.Stores.{OwnerHasFrame}
 use Rattle.body_steps.proofs.Activations.{locals_count}
 use Rattle.body_steps.proofs.Around.{some_is, label_in, body_there, owned_count, leaf_or_funclet, owner_waits, counted_here, code_at, ready_here}
 use Rattle.body_steps.proofs.Running.{each}
 use Rattle.call_steps.specs.Calls.{FunctionsApart, CallBegins}
-use Rattle.call_steps.specs.Laws.{KnownNext, ReturnsAreMatched, CallsBegin}
+use Rattle.call_steps.specs.Laws.{ReturnsAreMatched, CallsBegin}
 use Rattle.call_steps.proofs.Resuming.{IsSurrounded}
 use Rattle.call_steps.proofs.Returning as returning
 use Rattle.call_steps.proofs.Called.{call_acts}
