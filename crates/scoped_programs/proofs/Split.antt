@@ -2,7 +2,7 @@
 use Rattle.std.proofs.Common.{◌≡◌, ◌⊎◌, inl, inr, ℕ, refl, ◌<◌}
 use Rattle.std.proofs.lemmas.Bool.{eqb-true, eq-eqb, ltb-true}
 use Rattle.std.specs.Prelude.{Bool, true, false, ◌&&◌, ◌||◌, nat_eq}
-use Rattle.scoped_programs.specs.Scoped.{Seen, with_local, first_seen}
+use Rattle.scoped_programs.specs.Scoped.{Seen, with_local, IsPart, first_seen}
 
 pub both_left : (a b : Bool) → (a && b) ≡ true → a ≡ true
 both_left true b h = refl
@@ -17,10 +17,6 @@ both_hold true b h k = k
 both_hold false b h k = h
 
 -- ---- sets of locals
-
--- each local of the one is in the other
-abbrev pub IsPart : Seen → Seen → Type 0
-IsPart a b = (x : ℕ) → a x ≡ true → b x ≡ true
 
 either : (a b : Bool) → (a || b) ≡ true → (a ≡ true) ⊎ (b ≡ true)
 either true b h = inl refl
@@ -51,6 +47,12 @@ sees_before seen x y h = or_right (nat_eq y x) (seen y) h
 -- a parameter
 pub is_parameter : (parameters x : ℕ) → first_seen parameters x ≡ true → x < parameters
 is_parameter parameters x h = ltb-true x parameters h
+
+pub itself : (a : Seen) → IsPart a a
+itself a x h = h
+
+pub within : (a b c : Seen) → IsPart a b → IsPart b c → IsPart a c
+within a b c h k x e = k x (h x e)
 
 pub part_with : (a b : Seen) (x : ℕ) → IsPart a b → IsPart (with_local x a) (with_local x b)
 part_with a b x h y k = of (either (nat_eq y x) (a y) k)

@@ -12,6 +12,10 @@ Seen = ℕ → Bool
 abbrev pub with_local : ℕ → Seen → Seen
 with_local x seen y = nat_eq y x || seen y
 
+-- each local of the one is in the other
+abbrev pub IsPart : Seen → Seen → Type 0
+IsPart a b = (x : ℕ) → a x ≡ true → b x ≡ true
+
 -- a function's parameters are its first locals
 abbrev pub first_seen : ℕ → Seen
 first_seen parameters x = nat_lt x parameters
