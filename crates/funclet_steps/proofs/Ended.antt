@@ -43,7 +43,7 @@ use Rattle.funclet_steps.proofs.Leaving as leaving
 use Rattle.funclet_steps.proofs.Leaving.{returns_soon}
 
 -- an instruction of a body begins within it
-offset_most : (y : Layout) (body : List Instruction) (number : ℕ) → offset_of y body number ≤ body_size y body
+pub offset_most : (y : Layout) (body : List Instruction) (number : ℕ) → offset_of y body number ≤ body_size y body
 offset_most y [] zero = omega arith
 offset_most y [] (suc number) = omega arith
 offset_most y (i ∷ body) zero = omega arith
