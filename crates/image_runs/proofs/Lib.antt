@@ -1,0 +1,6 @@
+pub mod Known
+pub mod Carried
+pub mod Called
+pub mod Live
+pub mod Simulated
+pub mod Runs

@@ -1,0 +1,13 @@
+//! Laws of the runs of images of sound programs.
+
+ghost use Rattle.image_runs.specs.Laws.{TwinsAreKnown, TwinsSimulate, ImagesShowAll, ImagesShowNoMore};
+
+/// What the step laws ask of a configuration holds of the twin that the machine shows, and of the twin
+/// after a step; so steps that are matched from twins keep the relation, and whole runs of the image show
+/// what the program means, and nothing more.
+pub fn laws()
+    ensures known { TwinsAreKnown }
+    ensures simulate { TwinsSimulate }
+    ensures all { ImagesShowAll }
+    ensures no_more { ImagesShowNoMore }
+{}
