@@ -91,7 +91,7 @@ module _ (t : Functions) (fs : List Funclet) (program : LinearProgram) (p : Plan
     few = let z = (returns_soon (p.layout c.frame.body) from).1 in omega arith
 
     memory_after : IsMachineMemory t fs program p q after.memory c.store.memory
-    memory_after = record { data_alone = b.memory.data_alone; agrees = b.memory.agrees; stack = b.memory.stack; code = b.memory.code }
+    memory_after = b.memory
 
     ends : (next : Next) → act program (instructions.Return from) next c ≡ end_funclet program next g.kind x c
     unfolding with_some
