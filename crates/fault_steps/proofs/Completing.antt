@@ -10,11 +10,15 @@ use Rattle.x64_machine.specs.Effect.{State, register}
 use Rattle.virtual_unwind.specs.CallerOf.{Functions}
 use Rattle.host_model.specs.declared.funclet.Funclet.{Funclet}
 use Rattle.c_operations.specs.Performed.{Gives}
+use Rattle.c_operations.specs.declared.operation.Operation.{Operation}
 use Rattle.linear_code.specs.declared.slot.Slot.{Slot}
+use Rattle.linear_code.specs.declared.slot.Slot.TheVariants.{Temporary}
+use Rattle.template_code.specs.declared.layout.Layout.{Layout}
 use Rattle.linear_code.specs.declared.instruction.Instruction.{Instruction}
+use Rattle.linear_code.specs.declared.instruction.Instruction.TheVariants as instructions
 use Rattle.linear_code.specs.BodyState.{BodyState, with_slot}
 use Rattle.linear_code.specs.Meaning.{HasSlots}
-use Rattle.linear_code.specs.Program.{LinearProgram}
+use Rattle.linear_code.specs.Program.{LinearProgram, LinearBody}
 use Rattle.linear_machine.specs.Frames as linear
 use Rattle.linear_machine.specs.Frames.{Configuration, Next}
 use Rattle.linear_machine.specs.Instructions.{written, act}
@@ -23,7 +27,7 @@ use Rattle.template_code.specs.Bytes.{sizes}
 use Rattle.template_code.specs.Slots.{operands_code, finish_code}
 use Rattle.template_code.proofs.Lengths.{compute_length}
 use Rattle.x64_templates.specs.Straight.{machine}
-use Rattle.x64_templates.specs.Runs.{ReachesBody, Finished}
+use Rattle.x64_templates.specs.Runs.{ReachesBody, Finished, Frame}
 use Rattle.linked_stack.specs.ImagePlan.{Plan}
 use Rattle.linked_stack.specs.Linked.{locals_of}
 use Rattle.whole_runs.specs.Comes.{Comes}
@@ -38,10 +42,10 @@ use Rattle.body_steps.specs.Views.{seen_by_templates, counts_of}
 use Rattle.body_steps.specs.Stores.{with_values}
 use Rattle.body_steps.proofs.Activations.{locals_count}
 use Rattle.body_steps.proofs.Activated.{activated}
-use Rattle.body_steps.proofs.Viewed.{is_machine, placed}
+use Rattle.body_steps.proofs.Viewed.{IsCounted, is_machine, placed}
 use Rattle.body_steps.proofs.Reaching.{Keeps, reaches_keeps, stays_sane}
 use Rattle.body_steps.proofs.Next.{Leaves, further, Ran, begins_next}
-use Rattle.body_steps.proofs.Running.{dropped, frame, slots, has_slots, next_address, quiet_at}
+use Rattle.body_steps.proofs.Running.{Surroundings, dropped, has_slots, next_address, quiet_at}
 use Rattle.body_steps.proofs.Written.{locals_after, temporaries_after, FitsAfter, one_more}
 use Rattle.body_steps.proofs.Plain.{at_other, label_small}
 use Rattle.body_steps.proofs.Computing.{stored, writes, fits_when_read, leaves_stored}
@@ -50,7 +54,7 @@ use Rattle.turn_steps.specs.Outcomes.{WorksOn}
 use Rattle.fault_steps.specs.Operations.{ComesTo}
 use Rattle.fault_steps.proofs.Meant.{acts_as}
 use Rattle.fault_steps.proofs.Places.{some_finish, whole_size}
-use Rattle.fault_steps.proofs.Midst.{to_here, operation_here, first_here, second_here, here, free, begins_before, before, body, counted, around, at_here, made_here, same_outcome}
+use Rattle.fault_steps.proofs.Midst as midst
 
 some_length : (code : List Instr) → 1 ≤ sizes code → 1 ≤ length code
 some_length [] le = absurd (omega arith)
@@ -58,27 +62,58 @@ some_length (i ∷ is) le = omega arith
 
 module _ (t : Functions) (fs : List Funclet) (program : LinearProgram) (p : Plan) (q : Sites) (image : IsProgramImage t fs program p q) (made : IsWellMade program p)
     (s : State) (c : Configuration) (w : WorksOn t fs program p q s c) (known : IsKnown program c) where
+  abbrev to : Slot
+  to = w.again.to
+
+  abbrev o : Operation
+  o = w.again.operation
+
+  abbrev first : Slot
+  first = Temporary w.again.first
+
+  abbrev second : Slot
+  second = Temporary w.again.second
+
   abbrev i : Instruction
-  i = here t fs program p q image made s c w known
+  i = instructions.Compute to o first second
+
+  abbrev y : Layout
+  y = p.layout c.frame.body
 
   abbrev old : State
-  old = before t fs program p q image made s c w known
+  old = midst.before t fs program p q image made s c w known
 
   abbrev begins : Begins t fs program p q old c
-  begins = begins_before t fs program p q image made s c w known
+  begins = midst.begins_before t fs program p q image made s c w known
+
+  abbrev counted : IsCounted t fs program p q image c
+  counted = midst.counted t fs program p q image made s c w known
+
+  abbrev around : Surroundings t fs program p q image made.room old c begins counted
+  around = midst.around t fs program p q image made s c w known
+
+  abbrev body : LinearBody
+  body = midst.body t fs program p q image made s c w known
+
+  abbrev here : Frame
+  here = midst.frame_here t fs program p q image made s c w known
+
+  abbrev now : BodyState
+  now = midst.slots_now t fs program p q image made s c w known
 
   -- ---- a run of the template's rest to an instruction of the body
 
   is_there : c.frame.activation < length begins.body.acts
   is_there =
-      let n = slice_get_within (locals_of begins.body.acts) c.frame.activation (placed t fs program p q image old c begins (counted t fs program p q image made s c w known)).values (placed t fs program p q image old c begins (counted t fs program p q image made s c w known)).number in
+      let l = placed t fs program p q image old c begins counted in
+      let n = slice_get_within (locals_of begins.body.acts) c.frame.activation l.values l.number in
       let k = locals_count begins.body.acts in
       omega arith
 
   module _ (n label rip : ℕ) (d : BodyState) (values ts : List ℕ) (landed : Option ℕ)
-      (r : ReachesBody (frame t fs program p q image made.room old c begins (counted t fs program p q image made s c w known)) n s rip (seen_by_templates s).rest d)
-      (at : rip ≡ p.address c.frame.body label) (lt : label < length (body t fs program p q image made s c w known).code) (small : rip < 2 ^ 64)
-      (leaves : Leaves (body t fs program p q image made s c w known) d values ts) (nothing : landed ≡ None) where
+      (r : ReachesBody here n s rip (seen_by_templates s).rest d)
+      (at : rip ≡ p.address c.frame.body label) (lt : label < length body.code) (small : rip < 2 ^ 64)
+      (leaves : Leaves body d values ts) (nothing : landed ≡ None) where
     abbrev u : State
     u = machine r.after rip r.flags
 
@@ -88,7 +123,7 @@ module _ (t : Functions) (fs : List Funclet) (program : LinearProgram) (p : Plan
     sp : register u.cpu Rsp ≡ register s.cpu Rsp
     sp = ap (λ (xs : List ℕ). slice_index xs 1) r.rest ∙ dropped s.cpu.registers
 
-    ran : Ran t fs program p q image old c begins (counted t fs program p q image made s c w known) u d values ts
+    ran : Ran t fs program p q image old c begins counted u d values ts
     ran = record {
       changed = record { changes = r.changes; keeps = record { protection = keeps.protection; fixed = keeps.fixed; count = keeps.count; small = keeps.small } };
       holds = r.holds;
@@ -97,13 +132,13 @@ module _ (t : Functions) (fs : List Funclet) (program : LinearProgram) (p : Plan
     }
 
     quietly : Comes t fs n s [] u
-    quietly = reaches_quietly t fs program p q image n s u r.comes w.memory.code (quiet_at t fs program p q image made.room old c begins (counted t fs program p q image made s c w known) label rip at lt small u refl)
+    quietly = reaches_quietly t fs program p q image n s u r.comes w.memory.code (quiet_at t fs program p q image made.room old c begins counted label rip at lt small u refl)
 
     goes_on : Begins t fs program p q u (further t fs program p q image c begins.body.acts label values ts landed d.memory c.events)
     goes_on =
-        begins_next t fs program p q image old c begins (counted t fs program p q image made s c w known) u d values ts ran label landed c.events at lt (stays_sane s u keeps small w.sane)
+        begins_next t fs program p q image old c begins counted u d values ts ran label landed c.events at lt (stays_sane s u keeps small w.sane)
         (λ value e. let z : ◌≡◌ {A = Option ℕ} None (Some value) = sym nothing ∙ e in absurd cc)
-        (around t fs program p q image made s c w known).caller (around t fs program p q image made s c w known).owner
+        around.caller around.owner
 
     moves_on : ((next : Next) → act program i next c ≡ next (at_other t fs program p q image made.room c label values ts landed d.memory c.events)) → 1 ≤ n → n + 3 * length ts ≤ 16 + 3 * length c.frame.temporaries
         → Moves t fs program 16 turns_left (Begins t fs program p q) s c i
@@ -130,61 +165,58 @@ module _ (t : Functions) (fs : List Funclet) (program : LinearProgram) (p : Plan
 
   -- ---- the step
 
-  abbrev to : Slot
-  to = to_here t fs program p q image made s c w known
-
   abbrev finish : List Instr
-  finish = finish_code (p.layout c.frame.body) (operation_here t fs program p q image made s c w known) (to_here t fs program p q image made s c w known)
+  finish = finish_code y o to
 
-  module _ (value : ℕ) (m : Memory) (gives : ComesTo program c (operation_here t fs program p q image made s c w known) (first_here t fs program p q image made s c w known) (second_here t fs program p q image made s c w known) (Gives value m))
+  module _ (value : ℕ) (m : Memory) (gives : ComesTo program c o first second (Gives value m))
       (rule : HasRule (act program i (exec program zero) c)) where
     abbrev after : BodyState
-    after = record { slots = with_slot (slots t fs program p q image made.room old c begins (counted t fs program p q image made s c w known)).slots to value; memory = m }
+    after = record { slots = with_slot now.slots to value; memory = m }
 
-    run : ReachesBody (frame t fs program p q image made.room old c begins (counted t fs program p q image made s c w known)) (length finish) s (s.cpu.rip + sizes finish) (seen_by_templates s).rest after
+    run : ReachesBody here (length finish) s (s.cpu.rip + sizes finish) (seen_by_templates s).rest after
     run =
-        subst (λ x. ReachesBody (frame t fs program p q image made.room old c begins (counted t fs program p q image made s c w known)) (length finish) x (s.cpu.rip + sizes finish) (seen_by_templates s).rest after) (sym (is_machine s w.sane.count))
-        (subst (λ x. Finished (frame t fs program p q image made.room old c begins (counted t fs program p q image made s c w known)) (operation_here t fs program p q image made s c w known) to (seen_by_templates s) s.cpu.rip s.cpu.flags
-        (slots t fs program p q image made.room old c begins (counted t fs program p q image made s c w known)) x) (same_outcome t fs program p q image made s c w known (Gives value m) gives)
-        (made_here t fs program p q image made s c w known))
+        subst (λ x. ReachesBody here (length finish) x (s.cpu.rip + sizes finish) (seen_by_templates s).rest after) (sym (is_machine s w.sane.count))
+        (subst (λ x. Finished here o to (seen_by_templates s) s.cpu.rip s.cpu.flags
+        now x) (midst.same_outcome t fs program p q image made s c w known (Gives value m) gives)
+        (midst.made_here t fs program p q image made s c w known))
 
     meant : (next : Next) → act program i next c ≡ written (record c { store = record c.store { memory = m } }) to value next
-    meant = acts_as program c to (operation_here t fs program p q image made s c w known) (first_here t fs program p q image made s c w known) (second_here t fs program p q image made s c w known) (Gives value m) gives
+    meant = acts_as program c to o first second (Gives value m) gives
 
     fits : FitsAfter c.frame.temporaries to
-    fits = fits_when_read t fs program p q image made.room old c begins (counted t fs program p q image made s c w known) (around t fs program p q image made s c w known) to value m (subst HasRule (meant (exec program zero)) rule)
+    fits = fits_when_read t fs program p q image made.room old c begins counted around to value m (subst HasRule (meant (exec program zero)) rule)
 
-    acts : (next : Next) → act program i next c ≡ next (stored t fs program p q image made.room old c begins (counted t fs program p q image made s c w known) (around t fs program p q image made s c w known) to value m)
-    acts next = meant next ∙ writes t fs program p q image made.room old c begins (counted t fs program p q image made s c w known) (around t fs program p q image made s c w known) to value m fits next
+    acts : (next : Next) → act program i next c ≡ next (stored t fs program p q image made.room old c begins counted around to value m)
+    acts next = meant next ∙ writes t fs program p q image made.room old c begins counted around to value m fits next
 
-    within : c.frame.next + 1 < length (body t fs program p q image made s c w known).code
+    within : c.frame.next + 1 < length body.code
     within =
         goes_inside t fs program p q image made old c begins known i w.again.works
-        (stored t fs program p q image made.room old c begins (counted t fs program p q image made s c w known) (around t fs program p q image made s c w known) to value m) acts
-        (body t fs program p q image made s c w known) begins.body.slots.body
+        (stored t fs program p q image made.room old c begins counted around to value m) acts
+        body begins.body.slots.body
 
     next_at : s.cpu.rip + sizes finish ≡ p.address c.frame.body (c.frame.next + 1)
     next_at =
-        let ops = sizes (operands_code (p.layout c.frame.body) (operation_here t fs program p q image made s c w known) (first_here t fs program p q image made s c w known) (second_here t fs program p q image made s c w known)) in
+        let ops = sizes (operands_code y o first second) in
         omega (
           arith,
           w.again.here,
-          next_address t fs program p q image made.room old c begins (counted t fs program p q image made s c w known) i (at_here t fs program p q image made s c w known),
-          whole_size (p.layout c.frame.body) to (operation_here t fs program p q image made s c w known) (first_here t fs program p q image made s c w known) (second_here t fs program p q image made s c w known),
+          next_address t fs program p q image made.room old c begins counted i (midst.at_here t fs program p q image made s c w known),
+          whole_size y to o first second,
         )
 
     pub completed : Moves t fs program 16 turns_left (Begins t fs program p q) s c i
     completed =
-        let ops = operands_code (p.layout c.frame.body) (operation_here t fs program p q image made s c w known) (first_here t fs program p q image made s c w known) (second_here t fs program p q image made s c w known) in
-        let len = compute_length (p.layout c.frame.body) to (operation_here t fs program p q image made s c w known) (first_here t fs program p q image made s c w known) (second_here t fs program p q image made s c w known) in
+        let ops = operands_code y o first second in
+        let len = compute_length y to o first second in
         let more = one_more c.frame.temporaries to value fits in
-        let high = label_small t fs program p q image made.room old c begins (counted t fs program p q image made s c w known) (around t fs program p q image made s c w known) (c.frame.next + 1) within in
+        let high = label_small t fs program p q image made.room old c begins counted around (c.frame.next + 1) within in
         let at = next_at in
-        let there : HasSlots (counts_of (body t fs program p q image made s c w known)) i = has_slots t fs program p q image made.room old c begins (counted t fs program p q image made s c w known) i (at_here t fs program p q image made s c w known) in
+        let there : HasSlots (counts_of body) i = has_slots t fs program p q image made.room old c begins counted i (midst.at_here t fs program p q image made s c w known) in
         moves_on (length finish) (c.frame.next + 1) (s.cpu.rip + sizes finish) after
         (locals_after (linear.locals_of c.store c.frame.activation) to value) (temporaries_after c.frame.temporaries to value) c.frame.landed
         run at within (omega arith)
-        (leaves_stored t fs program p q image made.room old c begins (counted t fs program p q image made s c w known) (around t fs program p q image made s c w known) to value m (held_here t fs program p q image made old c begins known) fits there.0)
-        (free t fs program p q image made s c w known) acts
-        (some_length finish (some_finish (p.layout c.frame.body) (operation_here t fs program p q image made s c w known) to))
+        (leaves_stored t fs program p q image made.room old c begins counted around to value m (held_here t fs program p q image made old c begins known) fits there.0)
+        (midst.free t fs program p q image made s c w known) acts
+        (some_length finish (some_finish y o to))
         (omega (arith, length-append ops finish))

@@ -18,15 +18,17 @@ use Rattle.linear_code.specs.declared.slot.Slot.{Slot}
 use Rattle.linear_code.specs.declared.slot.Slot.TheVariants.{Temporary}
 use Rattle.linear_code.specs.declared.instruction.Instruction.{Instruction}
 use Rattle.linear_code.specs.declared.instruction.Instruction.TheVariants as instructions
+use Rattle.linear_code.specs.BodyState.{BodyState}
 use Rattle.linear_code.specs.declared.program.Region.{Region}
 use Rattle.linear_code.specs.Program.{LinearProgram, LinearBody}
 use Rattle.linear_machine.specs.Frames.{body_of, Configuration}
 use Rattle.linear_machine.specs.Regions.{holds, regions_of}
 use Rattle.linear_machine.specs.Instructions.{is_constant, operand}
+use Rattle.template_code.specs.declared.layout.Layout.{Layout}
 use Rattle.template_code.specs.Slots.{finish_code}
 use Rattle.x64_templates.specs.Straight.{MachineView}
 use Rattle.x64_templates.specs.Implements.{IsReady, HasOperands}
-use Rattle.x64_templates.specs.Runs.{HasCode, Finished}
+use Rattle.x64_templates.specs.Runs.{HasCode, Finished, Frame}
 use Rattle.x64_templates.proofs.Computes.{finish_run}
 use Rattle.raw_stack.specs.Laws.{context_below}
 use Rattle.linked_stack.specs.ImagePlan.{Plan, InCode}
@@ -94,23 +96,26 @@ ready_same (operations.Store z) v w a d h = tt
 
 module _ (t : Functions) (fs : List Funclet) (program : LinearProgram) (p : Plan) (q : Sites) (image : IsProgramImage t fs program p q) (made : IsWellMade program p)
     (s : State) (c : Configuration) (w : WorksOn t fs program p q s c) (known : IsKnown program c) where
-  abbrev pub to_here : Slot
-  to_here = w.again.to
+  abbrev to : Slot
+  to = w.again.to
 
-  abbrev pub operation_here : Operation
-  operation_here = w.again.operation
+  abbrev o : Operation
+  o = w.again.operation
 
-  abbrev pub first_here : Slot
-  first_here = Temporary w.again.first
+  abbrev first : Slot
+  first = Temporary w.again.first
 
-  abbrev pub second_here : Slot
-  second_here = Temporary w.again.second
+  abbrev second : Slot
+  second = Temporary w.again.second
 
-  abbrev pub here : Instruction
-  here = instructions.Compute to_here operation_here first_here second_here
+  abbrev y : Layout
+  y = p.layout c.frame.body
+
+  abbrev here : Instruction
+  here = instructions.Compute to o first second
 
   pub free : c.frame.landed ≡ None
-  free = nothing_landed program c to_here operation_here first_here second_here c.frame.landed known.stacked.landed w.again.works
+  free = nothing_landed program c to o first second c.frame.landed known.stacked.landed w.again.works
 
   pub there : slice_get w.body.slots.code.code c.frame.next ≡ Some here
   there = label_in (body_of program c.frame.body) w.body.slots.code c.frame.next here w.body.slots.body w.again.works
@@ -145,6 +150,13 @@ module _ (t : Functions) (fs : List Funclet) (program : LinearProgram) (p : Plan
   pub at_here : slice_get body.code c.frame.next ≡ Some here
   at_here = code_at t fs program p q image made before c begins_before known here w.again.works
 
+  -- its frame, and what its slots hold
+  abbrev pub frame_here : Frame
+  frame_here = frame t fs program p q image made.room before c begins_before counted
+
+  abbrev pub slots_now : BodyState
+  slots_now = slots t fs program p q image made.room before c begins_before counted
+
   -- ---- the operation is made
 
   pub first_small : register s.cpu Rax < 2 ^ 64
@@ -153,34 +165,34 @@ module _ (t : Functions) (fs : List Funclet) (program : LinearProgram) (p : Plan
   pub second_small : register s.cpu Rcx < 2 ^ 64
   second_small = let n = w.sane.count in w.sane.small 1 (omega arith)
 
-  pub operands_wait : HasOperands operation_here (register s.cpu Rax) (register s.cpu Rcx) (seen_by_templates s)
-  operands_wait = record { first = refl; second = refl; ready = ready_same operation_here (view_of s.cpu) (seen_by_templates s) refl refl w.again.ready }
+  pub operands_wait : HasOperands o (register s.cpu Rax) (register s.cpu Rcx) (seen_by_templates s)
+  operands_wait = record { first = refl; second = refl; ready = ready_same o (view_of s.cpu) (seen_by_templates s) refl refl w.again.ready }
 
-  pub code_here : HasCode s.memory s.cpu.rip (finish_code (p.layout c.frame.body) operation_here to_here)
+  pub code_here : HasCode s.memory s.cpu.rip (finish_code y o to)
   code_here =
-      subst (λ a. HasCode s.memory a (finish_code (p.layout c.frame.body) operation_here to_here)) (sym w.again.here)
-      (finish_stands t fs program p q image s.memory c.frame.body w.body.slots.code c.frame.next to_here operation_here first_here second_here w.memory.code w.body.slots.body there)
+      subst (λ a. HasCode s.memory a (finish_code y o to)) (sym w.again.here)
+      (finish_stands t fs program p q image s.memory c.frame.body w.body.slots.code c.frame.next to o first second w.memory.code w.body.slots.body there)
 
   abbrev pub outcome : Outcome
-  outcome = performed (is_reserved program.globals) operation_here (register s.cpu Rax) (register s.cpu Rcx) c.store.memory
+  outcome = performed (is_reserved program.globals) o (register s.cpu Rax) (register s.cpu Rcx) c.store.memory
 
-  pub made_here : Finished (frame t fs program p q image made.room before c begins_before counted) operation_here to_here (seen_by_templates s) s.cpu.rip s.cpu.flags
-      (slots t fs program p q image made.room before c begins_before counted) outcome
+  pub made_here : Finished frame_here o to (seen_by_templates s) s.cpu.rip s.cpu.flags
+      slots_now outcome
   made_here =
-      finish_run (frame t fs program p q image made.room before c begins_before counted) operation_here to_here (seen_by_templates s) s.cpu.rip s.cpu.flags (slots t fs program p q image made.room before c begins_before counted)
+      finish_run frame_here o to (seen_by_templates s) s.cpu.rip s.cpu.flags slots_now
       (register s.cpu Rax) (register s.cpu Rcx) (room_here t fs program p q image before c begins_before counted)
       (has_slots t fs program p q image made.room before c begins_before counted here at_here).0
       first_small second_small operands_wait (sp_is t fs program p q image made.room before c begins_before counted)
       (holds_here t fs program p q image before c begins_before counted) code_here
 
   -- on the same numbers as in linear code
-  pub same_outcome : (x : Outcome) → ComesTo program c operation_here first_here second_here x → outcome ≡ x
-  same_outcome x h = by (is_constant operation_here) refl h.reads_first h.reads_second
+  pub same_outcome : (x : Outcome) → ComesTo program c o first second x → outcome ≡ x
+  same_outcome x h = by (is_constant o) refl h.reads_first h.reads_second
     where
-      by : (constant : Bool) → is_constant operation_here ≡ constant → operand constant c first_here ≡ Some h.a → operand constant c second_here ≡ Some h.b → outcome ≡ x
-      by true k f g = same_constant (is_reserved program.globals) operation_here (register s.cpu Rax) (register s.cpu Rcx) h.a h.b c.store.memory k ∙ h.comes
+      by : (constant : Bool) → is_constant o ≡ constant → operand constant c first ≡ Some h.a → operand constant c second ≡ Some h.b → outcome ≡ x
+      by true k f g = same_constant (is_reserved program.globals) o (register s.cpu Rax) (register s.cpu Rcx) h.a h.b c.store.memory k ∙ h.comes
       by false k f g =
           let a : register s.cpu Rax ≡ h.a = some_is (register s.cpu Rax) h.a (sym w.again.has_first ∙ f) in
           let b : register s.cpu Rcx ≡ h.b = some_is (register s.cpu Rcx) h.b (sym w.again.has_second ∙ g) in
-          ap (λ z. performed (is_reserved program.globals) operation_here z (register s.cpu Rcx) c.store.memory) a
-          ∙ ap (λ z. performed (is_reserved program.globals) operation_here h.a z c.store.memory) b ∙ h.comes
+          ap (λ z. performed (is_reserved program.globals) o z (register s.cpu Rcx) c.store.memory) a
+          ∙ ap (λ z. performed (is_reserved program.globals) o h.a z c.store.memory) b ∙ h.comes

@@ -17,7 +17,12 @@ use Rattle.c_operations.specs.Performed.{Raises}
 use Rattle.c_model.specs.State.{Exception}
 use Rattle.c_model.specs.Raises.{raise_event}
 use Rattle.c_model.specs.Source.{is_reserved}
+use Rattle.c_operations.specs.declared.operation.Operation.{Operation}
+use Rattle.linear_code.specs.declared.slot.Slot.{Slot}
+use Rattle.linear_code.specs.declared.slot.Slot.TheVariants.{Temporary}
 use Rattle.linear_code.specs.declared.instruction.Instruction.{Instruction}
+use Rattle.linear_code.specs.declared.instruction.Instruction.TheVariants as instructions
+use Rattle.template_code.specs.declared.layout.Layout.{Layout}
 use Rattle.linear_code.specs.Program.{LinearProgram}
 use Rattle.linear_machine.specs.Frames.{SameOperation, Configuration, Next}
 use Rattle.linear_machine.specs.Searching.{raise}
@@ -40,7 +45,6 @@ use Rattle.body_states.specs.Bodies.{turns_left}
 use Rattle.body_steps.specs.Known.{IsWellMade, IsKnown, KnownNext}
 use Rattle.body_steps.specs.Views.{seen_by_templates}
 use Rattle.body_steps.proofs.Viewed.{is_machine}
-use Rattle.body_steps.proofs.Running.{frame, slots}
 use Rattle.funclet_steps.specs.Entries.{FlagsFit}
 use Rattle.turn_steps.specs.Outcomes.{WorksOn, Stands, Shows}
 use Rattle.turn_steps.proofs.Asked.{raised_as}
@@ -49,7 +53,7 @@ use Rattle.turn_steps.proofs.Served.{fault_turns, matched_when_shown}
 use Rattle.fault_steps.specs.Operations.{ComesTo}
 use Rattle.fault_steps.proofs.Meant.{acts_as}
 use Rattle.fault_steps.proofs.Places.{some_finish, is_some}
-use Rattle.fault_steps.proofs.Midst.{to_here, operation_here, first_here, second_here, here, there, begins_before, before, counted, first_small, second_small, code_here, outcome, made_here, same_outcome}
+use Rattle.fault_steps.proofs.Midst.{there, frame_here, slots_now, first_small, second_small, code_here, outcome, made_here, same_outcome}
 
 -- ---- what a fault raises
 
@@ -77,19 +81,34 @@ is_exception code access h = record { same_code = refl; same_flag = refl; same_a
 module _ (t : Functions) (fs : List Funclet) (program : LinearProgram) (p : Plan) (q : Sites) (image : IsProgramImage t fs program p q) (made : IsWellMade program p)
     (fits : FlagsFit program)
     (s : State) (c : Configuration) (w : WorksOn t fs program p q s c) (known : IsKnown program c) where
+  abbrev to : Slot
+  to = w.again.to
+
+  abbrev o : Operation
+  o = w.again.operation
+
+  abbrev first : Slot
+  first = Temporary w.again.first
+
+  abbrev second : Slot
+  second = Temporary w.again.second
+
   abbrev i : Instruction
-  i = here t fs program p q image made s c w known
+  i = instructions.Compute to o first second
+
+  abbrev y : Layout
+  y = p.layout c.frame.body
 
   abbrev ops : List Instr
-  ops = operands_code (p.layout c.frame.body) (operation_here t fs program p q image made s c w known) (first_here t fs program p q image made s c w known) (second_here t fs program p q image made s c w known)
+  ops = operands_code y o first second
 
   abbrev finish : List Instr
-  finish = finish_code (p.layout c.frame.body) (operation_here t fs program p q image made s c w known) (to_here t fs program p q image made s c w known)
+  finish = finish_code y o to
 
   -- RIP is at a machine instruction of the body's instruction
   resumed : IsResumed t fs program p q c.frame.body w.body.slots.code c.frame.next s.cpu.rip
   resumed =
-      let x = is_some finish (some_finish (p.layout c.frame.body) (operation_here t fs program p q image made s c w known) (to_here t fs program p q image made s c w known)) in
+      let x = is_some finish (some_finish y o to) in
       record {
         instruction = i;
         there = there t fs program p q image made s c w known;
@@ -110,26 +129,27 @@ module _ (t : Functions) (fs : List Funclet) (program : LinearProgram) (p : Plan
   live : IsLive s
   live = let l = (code_here t fs program p q image made s c w known).placed.low in ne_eqb s.cpu.rip 0 (λ e. absurd (omega arith))
 
-  module _ (code : Code) (access : Option (Bool × ℕ)) (raises : ComesTo program c (operation_here t fs program p q image made s c w known) (first_here t fs program p q image made s c w known) (second_here t fs program p q image made s c w known) (Raises code access)) where
+  module _ (code : Code) (access : Option (Bool × ℕ)) (raises : ComesTo program c o first second (Raises code access)) where
     is_raised : outcome t fs program p q image made s c w known ≡ Raises code access
     is_raised = same_outcome t fs program p q image made s c w known (Raises code access) raises
 
     faults : step s ≡ Err (stops.Fault code access)
     faults =
         ap step (is_machine s w.sane.count)
-        ∙ subst (λ x. Finished (frame t fs program p q image made.room (before t fs program p q image made s c w known) c (begins_before t fs program p q image made s c w known) (counted t fs program p q image made s c w known))
-        (operation_here t fs program p q image made s c w known) (to_here t fs program p q image made s c w known) (seen_by_templates s) s.cpu.rip s.cpu.flags
-        (slots t fs program p q image made.room (before t fs program p q image made s c w known) c (begins_before t fs program p q image made s c w known) (counted t fs program p q image made s c w known)) x) is_raised
+        ∙ subst (λ x. Finished (frame_here t fs program p q image made s c w known) o to (seen_by_templates s) s.cpu.rip s.cpu.flags (slots_now t fs program p q image made s c w known) x) is_raised
         (made_here t fs program p q image made s c w known)
 
     small : IsSmallOutcome (Raises code access)
-    small = subst IsSmallOutcome is_raised (outcome_small (is_reserved program.globals) (operation_here t fs program p q image made s c w known) _ _ c.store.memory (first_small t fs program p q image made s c w known) (second_small t fs program p q image made s c w known))
+    small =
+        subst IsSmallOutcome is_raised
+        (outcome_small (is_reserved program.globals) o _ _ c.store.memory (first_small t fs program p q image made s c w known) (second_small t fs program p q image made s c w known))
 
     acts : (next : Next) → act program i next c ≡ raise program next (exception_of code access) SameOperation c
-    acts = acts_as program c (to_here t fs program p q image made s c w known) (operation_here t fs program p q image made s c w known) (first_here t fs program p q image made s c w known) (second_here t fs program p q image made s c w known) (Raises code access) raises
+    acts = acts_as program c to o first second (Raises code access) raises
 
     shows : HasRule (act program i (exec program zero) c)
-        → Shows t fs program p q (arrived t fs (raised t s code 0 access s.cpu)) (raise_event (exception_of code access) ∷ []) (λ next. raise program next (exception_of code access) SameOperation c) c.events (turns_left c)
+        → Shows t fs program p q (arrived t fs (raised t s code 0 access s.cpu)) (raise_event (exception_of code access) ∷ [])
+        (λ next. raise program next (exception_of code access) SameOperation c) c.events (turns_left c)
     shows rule =
         raised_as t fs program p q image fits s s.cpu asks.is w.body.acts c asks.asks w.memory w.body.store code 0 access (exception_of code access) SameOperation
         (is_exception code access small) ((image.resumptions SameOperation c.frame s.cpu).says w.again) (subst HasRule (acts (exec program zero)) rule)

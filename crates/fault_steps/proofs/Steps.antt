@@ -35,7 +35,6 @@ use Rattle.turn_steps.specs.Outcomes.{WorksOn, Stands}
 use Rattle.fault_steps.specs.Operations.{ComesTo}
 use Rattle.fault_steps.specs.Laws.{RetriesAreMatched, ContinuationsAtOperations, OperationsAreMatched}
 use Rattle.fault_steps.proofs.Meant.{comes_to_something, undefined, not_constant, fault_reads}
-use Rattle.fault_steps.proofs.Midst.{to_here, operation_here, first_here, second_here, here}
 use Rattle.fault_steps.proofs.Fetching.{fetched}
 use Rattle.fault_steps.proofs.Raising.{raised_at_once}
 use Rattle.fault_steps.proofs.Completing.{completed}
@@ -67,34 +66,38 @@ begins_stands t fs program p q most s c i m = inl (record {
 
 module _ (t : Functions) (fs : List Funclet) (program : LinearProgram) (p : Plan) (q : Sites) (image : IsProgramImage t fs program p q) (made : IsWellMade program p)
     (fits : FlagsFit program) where
+  -- the instruction that is made again
+  abbrev again : (s : State) (c : Configuration) → WorksOn t fs program p q s c → Instruction
+  again s c w = instructions.Compute w.again.to w.again.operation (Temporary w.again.first) (Temporary w.again.second)
+
   -- ---- in the midst of an operation
 
   pub in_midst : (s : State) (c : Configuration) (w : WorksOn t fs program p q s c) (known : IsKnown program c)
-      → (x : Outcome) → ComesTo program c (operation_here t fs program p q image made s c w known) (first_here t fs program p q image made s c w known) (second_here t fs program p q image made s c w known) x
-      → HasRule (act program (here t fs program p q image made s c w known) (exec program zero) c) → KnownNext program c (here t fs program p q image made s c w known)
-      → IsMatched t fs program pace turns_left (Stands t fs program p q) s c (here t fs program p q image made s c w known)
-  in_midst s c w known (Gives value m) h rule next = begins_stands t fs program p q pace s c (here t fs program p q image made s c w known) (completed t fs program p q image made s c w known value m h rule)
+      → (x : Outcome) → ComesTo program c w.again.operation (Temporary w.again.first) (Temporary w.again.second) x
+      → HasRule (act program (again s c w) (exec program zero) c) → KnownNext program c (again s c w)
+      → IsMatched t fs program pace turns_left (Stands t fs program p q) s c (again s c w)
+  in_midst s c w known (Gives value m) h rule next = begins_stands t fs program p q pace s c (again s c w) (completed t fs program p q image made s c w known value m h rule)
   in_midst s c w known (Raises code access) h rule next =
-      matched_slower t fs program turns_left 7 pace (Stands t fs program p q) s c (here t fs program p q image made s c w known) (omega arith)
+      matched_slower t fs program turns_left 7 pace (Stands t fs program p q) s c (again s c w) (omega arith)
       (raised_at_once t fs program p q image made fits s c w known code access h rule next)
   in_midst s c w known (Undefined at) h rule next =
-      inr (inr (inr (undefined t fs program s c (to_here t fs program p q image made s c w known) (operation_here t fs program p q image made s c w known) (first_here t fs program p q image made s c w known) (second_here t fs program p q image made s c w known) at h)))
+      inr (inr (inr (undefined t fs program s c w.again.to w.again.operation (Temporary w.again.first) (Temporary w.again.second) at h)))
 
   pub retried : (s : State) (c : Configuration) (i : Instruction) → WorksOn t fs program p q s c → IsKnown program c → instruction_at program c ≡ Some i
       → HasRule (act program i (exec program zero) c) → KnownNext program c i → IsMatched t fs program pace turns_left (Stands t fs program p q) s c i
   retried s c i w known e = subst (λ j. HasRule (act program j (exec program zero) c) → KnownNext program c j → IsMatched t fs program pace turns_left (Stands t fs program p q) s c j) same
-      (λ rule next. let x = comes_to_something program c (to_here t fs program p q image made s c w known) (operation_here t fs program p q image made s c w known) (first_here t fs program p q image made s c w known) (second_here t fs program p q image made s c w known) (ready_at program c (here t fs program p q image made s c w known) known w.again.works) in
+      (λ rule next. let x = comes_to_something program c w.again.to w.again.operation (Temporary w.again.first) (Temporary w.again.second) (ready_at program c (again s c w) known w.again.works) in
       in_midst s c w known x.0 x.1 rule next)
     where
-      same : here t fs program p q image made s c w known ≡ i
-      same = some_is (here t fs program p q image made s c w known) i (sym w.again.works ∙ e)
+      same : again s c w ≡ i
+      same = some_is (again s c w) i (sym w.again.works ∙ e)
 
   -- one that faults takes no more turns than the host's own
   faults_in_midst : (s : State) (c : Configuration) (i : Instruction) (code : Code) (access : Option (Bool × ℕ)) → WorksOn t fs program p q s c → IsKnown program c → instruction_at program c ≡ Some i
       → Meets program c (Raises code access) i → HasRule (act program i (exec program zero) c) → KnownNext program c i → IsMatched t fs program 7 turns_left (Stands t fs program p q) s c i
   faults_in_midst s c i code access w known e =
       subst (λ j. Meets program c (Raises code access) j → HasRule (act program j (exec program zero) c) → KnownNext program c j → IsMatched t fs program 7 turns_left (Stands t fs program p q) s c j)
-      (some_is (here t fs program p q image made s c w known) i (sym w.again.works ∙ e))
+      (some_is (again s c w) i (sym w.again.works ∙ e))
       (λ h rule next. raised_at_once t fs program p q image made fits s c w known code access h rule next)
 
   -- ---- where an operation begins
