@@ -42,7 +42,8 @@ use Rattle.body_states.proofs.Waiting.{body_on_top}
 use Rattle.body_steps.specs.Stores.{KeepsStackBut}
 use Rattle.body_steps.proofs.Viewed.{IsCounted, sp_low}
 use Rattle.body_steps.proofs.Running.{next_address}
-use Rattle.call_steps.proofs.Resuming.{returns_at, call_template, offset_most}
+use Rattle.call_steps.proofs.Kept.{offset_most}
+use Rattle.call_steps.proofs.Resuming.{returns_at, call_template}
 use Rattle.call_steps.proofs.Begun.{same_itself}
 use Rattle.call_steps.proofs.Outgoing.{outgoing_is_free}
 

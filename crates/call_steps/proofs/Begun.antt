@@ -28,7 +28,7 @@ use Rattle.body_states.specs.Programs.{IsMachineMemory, IsProgramImage}
 use Rattle.body_states.specs.Bodies.{slots_end, last_temporary, Begins}
 use Rattle.body_steps.proofs.Activations.{locals_count}
 use Rattle.call_steps.specs.Calls.{begun}
-use Rattle.call_steps.proofs.Resuming.{nothing}
+use Rattle.call_steps.proofs.Kept.{nothing}
 
 pub same_itself : (rs : List Region) (label : ℕ) → AllByRecursion (λ (r : Region). holds label r ≡ holds label r) rs
 same_itself [] label = tt

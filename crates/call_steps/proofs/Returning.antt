@@ -58,7 +58,8 @@ use Rattle.body_steps.proofs.Words.{may_read_written, word_is}
 use Rattle.body_steps.proofs.Reaching.{reaches_keeps, stays_sane}
 use Rattle.body_steps.proofs.Viewed.{IsCounted, sp_low, frame_top, room_here, holds_here, slots_here}
 use Rattle.body_steps.proofs.Running.{code, y, v, frame, slots, same_state, template_here, has_slots, sp_is, index_of}
-use Rattle.call_steps.proofs.Resuming.{returns_at, IsSurrounded, answered, caller, resumes}
+use Rattle.call_steps.proofs.Kept.{IsSurrounded, answered}
+use Rattle.call_steps.proofs.Resuming.{returns_at, resumes}
 
 -- ---- how long a return takes
 

@@ -36,14 +36,14 @@ use Rattle.body_steps.proofs.Around.{some_is, label_in, body_there, owned_count,
 use Rattle.body_steps.proofs.Running.{each}
 use Rattle.call_steps.specs.Calls.{FunctionsApart, CallBegins}
 use Rattle.call_steps.specs.Laws.{ReturnsAreMatched, CallsBegin}
-use Rattle.call_steps.proofs.Resuming.{IsSurrounded}
+use Rattle.call_steps.proofs.Kept.{IsSurrounded}
 use Rattle.call_steps.proofs.Returning as returning
 use Rattle.call_steps.proofs.Called.{call_acts}
 use Rattle.call_steps.proofs.Called as called
 
 module _ (t : Functions) (fs : List Funclet) (program : LinearProgram) (p : Plan) (q : Sites) (image : IsProgramImage t fs program p q) (made : IsWellMade program p) where
   -- what is around a body, by what is known where it runs
-  surrounded : (d : Configuration) → IsKnown program d → (o : LinearBody) → body_of program d.frame.body ≡ Some o → (depth : ℕ) → depth ≡ length d.store.activations → IsSurrounded t fs program p q image made.room d.frame.body d.frame.activation d.below depth
+  pub surrounded : (d : Configuration) → IsKnown program d → (o : LinearBody) → body_of program d.frame.body ≡ Some o → (depth : ℕ) → depth ≡ length d.store.activations → IsSurrounded t fs program p q image made.room d.frame.body d.frame.activation d.below depth
   surrounded d known o there depth same = record {
     caller = λ leaf. leaf_or_funclet t fs program p q image made d o d.frame.body there leaf known.stacked.above;
     owner = owner;
