@@ -1,0 +1,5 @@
+pub mod Clear
+pub mod Waits
+pub mod Asking
+pub mod Raising
+pub mod Unwinding
