@@ -3,3 +3,5 @@ pub mod Waits
 pub mod Asking
 pub mod Raising
 pub mod Unwinding
+pub mod Quiet
+pub mod Continuing

@@ -1,6 +1,6 @@
 //! Laws of raises and of local unwinds.
 
-ghost use Rattle.raise_steps.specs.Laws.{RaisesAreMatched, LocalUnwindsAreMatched};
+ghost use Rattle.raise_steps.specs.Laws.{RaisesAreMatched, LocalUnwindsAreMatched, ContinuationsAfterCalls};
 
 /// Where a body calls RaiseException, or jumps out of a body with `__finally` blocks, the machine comes in
 /// at most eight turns to what linear code comes to; where the exception of a call is continued, the
@@ -8,4 +8,5 @@ ghost use Rattle.raise_steps.specs.Laws.{RaisesAreMatched, LocalUnwindsAreMatche
 pub fn laws()
     ensures raises { RaisesAreMatched }
     ensures unwinds { LocalUnwindsAreMatched }
+    ensures continuations { ContinuationsAfterCalls }
 {}
