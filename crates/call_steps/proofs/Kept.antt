@@ -1,35 +1,29 @@
 -- RAX goes to the temporary after those that a body has kept: where what it called has returned, the next instruction begins.
-use Rattle.std.proofs.Common.{◌≡◌, ◌≢◌, ℕ, zero, suc, ◌+◌, ◌-◌, ◌*◌, ◌^◌, ◌<◌, ◌≤◌, Bool, true, false, cond, eqb, Option, Some, None, Ok, List, [], ◌∷◌, ◌++◌, length, get_or, refl, sym, ap, subst, ◌∙◌, arith, inl, inr, length-append}
-use Rattle.std.specs.Prelude.{◌⊎◌, nat_eq, slice_get, slice_index, drop}
-use Rattle.std.proofs.lemmas.Bool.{cases_eq, cases_lt, eq-eqb, ne_eqb}
+use Rattle.std.proofs.Common.{◌≡◌, ℕ, zero, suc, ◌+◌, ◌^◌, ◌<◌, ◌≤◌, Bool, true, cond, Option, Some, None, List, [], ◌∷◌, ◌++◌, length, refl, sym, ap, subst, ◌∙◌, arith, inl, inr, length-append}
+use Rattle.std.specs.Prelude.{◌⊎◌, slice_get, slice_index}
+use Rattle.std.proofs.lemmas.Bool.{eq-eqb, ne_eqb}
 use Rattle.std.proofs.lemmas.Option.{slice_get_within}
 use Rattle.seh_num.specs.declared.event.Event.{Event}
 use Rattle.flat_memory.specs.Memory.{Memory}
 use Rattle.x64_instr.specs.declared.register.Reg.TheVariants.{Rax, Rsp}
 use Rattle.x64_instr.specs.declared.instruction.Instr.{Instr}
-use Rattle.x64_machine.specs.declared.cpu.Cpu.{Cpu}
-use Rattle.x64_machine.specs.declared.cpu.Flags.{Flags}
 use Rattle.x64_machine.specs.declared.context.Context.{Context}
 use Rattle.x64_machine.specs.Effect.{State, register}
 use Rattle.virtual_unwind.specs.Contexts.{rsp}
 use Rattle.virtual_unwind.specs.CallerOf.{Functions, distance}
 use Rattle.host_model.specs.declared.funclet.Funclet.{Funclet}
 use Rattle.host_model.specs.Funclets.{arrivals}
-use Rattle.linear_code.specs.declared.slot.Slot.TheVariants.{Local, Temporary}
+use Rattle.linear_code.specs.declared.slot.Slot.TheVariants.{Temporary}
 use Rattle.linear_code.specs.declared.instruction.Instruction.{Instruction}
-use Rattle.linear_code.specs.declared.instruction.Instruction.TheVariants as instructions
 use Rattle.linear_code.specs.BodyState.{BodyState, with_slot}
 use Rattle.linear_code.specs.Program.{LinearProgram, LinearBody}
 use Rattle.linear_machine.specs.Frames.{BodyName, FuncletBody, body_of, Frame, Item, Waits, Configuration}
-use Rattle.linear_machine.specs.Run.{instruction_in}
 use Rattle.template_code.specs.declared.layout.Layout.{Layout}
 use Rattle.template_code.specs.Bytes.{sizes}
 use Rattle.template_code.specs.Slots.{keep}
-use Rattle.template_code.specs.Jumps.{call}
-use Rattle.template_code.specs.Calls.{arguments_code, return_at, begin_call, call_code, passing_code}
-use Rattle.template_code.specs.Template.{Links, template, template_size, body_size, offset_of}
+use Rattle.template_code.specs.Template.{template, body_size, offset_of}
 use Rattle.template_code.proofs.Sizes.{sizes_append, template_sizes}
-use Rattle.x64_templates.specs.Straight.{MachineView, machine}
+use Rattle.x64_templates.specs.Straight.{machine}
 use Rattle.x64_templates.specs.Runs.{HasCode, Reaches, ReachesBody}
 use Rattle.x64_templates.proofs.Computes.{code_split}
 use Rattle.x64_templates.proofs.Returns.{call_ends}
@@ -42,19 +36,18 @@ use Rattle.dispatch_turns.specs.States.{IsSane}
 use Rattle.ir_typed.specs.Room.{HaveRoom}
 use Rattle.body_states.specs.Sites.{Sites, links_of}
 use Rattle.body_states.specs.Programs.{IsMachineMemory, IsProgramImage}
-use Rattle.body_states.specs.Bodies.{InBody, Begins}
+use Rattle.body_states.specs.Bodies.{Begins}
 use Rattle.body_states.proofs.Inside.{first_in_code}
 use Rattle.body_states.proofs.Resumed.{again, waits_in_body}
-use Rattle.body_steps.specs.Views.{seen_by_templates, counts_of}
+use Rattle.body_steps.specs.Views.{seen_by_templates}
 use Rattle.body_steps.specs.Stores.{OwnerHasFrame, with_values}
 use Rattle.body_steps.proofs.Activations.{locals_count}
 use Rattle.body_steps.proofs.Activated.{same_activations}
 use Rattle.body_steps.proofs.Homes.{CallerHasFrame}
 use Rattle.body_steps.proofs.Reaching.{Keeps, reaches_keeps, stays_sane}
-use Rattle.body_steps.proofs.Becoming.{Changed}
 use Rattle.body_steps.proofs.Viewed.{IsCounted, is_machine, placed, count, room_here, holds_here, slots_here, locals_here}
-use Rattle.body_steps.proofs.Next.{Leaves, further, Ran, begins_next}
-use Rattle.body_steps.proofs.Running.{code, name, y, v, base, frame, slots, template_here, has_slots, next_address, sp_is, quiet_at, get_or_is, dropped, Surroundings}
+use Rattle.body_steps.proofs.Next.{Leaves, Ran, begins_next}
+use Rattle.body_steps.proofs.Running.{code, y, v, frame, slots, template_here, next_address, sp_is, quiet_at, dropped, Surroundings}
 
 -- an instruction of a body begins within it
 pub offset_most : (y : Layout) (body : List Instruction) (number : ℕ) → offset_of y body number ≤ body_size y body

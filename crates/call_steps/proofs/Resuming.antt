@@ -1,5 +1,5 @@
 -- The body that waits for a call has its result: RAX goes to the temporary of the first argument, and the next instruction begins.
-use Rattle.std.proofs.Common.{◌≡◌, ℕ, ◌+◌, ◌-◌, ◌<◌, ◌≤◌, Some, None, List, [], ◌∷◌, ◌++◌, length, refl, sym, ap, ◌∙◌, arith, append_assoc}
+use Rattle.std.proofs.Common.{◌≡◌, ℕ, ◌+◌, ◌-◌, ◌<◌, Some, None, List, [], ◌∷◌, ◌++◌, length, sym, arith, append_assoc}
 use Rattle.std.specs.Prelude.{slice_get}
 use Rattle.seh_num.specs.declared.event.Event.{Event}
 use Rattle.flat_memory.specs.Memory.{Memory}

@@ -1,5 +1,5 @@
 -- A built-in function is called: the service is reached, and what it saves of the body stands on top of the list.
-use Rattle.std.proofs.Common.{◌≡◌, ℕ, ◌+◌, ◌-◌, ◌%◌, ◌^◌, ◌<◌, ◌≤◌, Some, List, [], ◌∷◌, ◌++◌, length, Option, Ok, refl, sym, ap, subst, ◌∙◌, arith, length-set, set}
+use Rattle.std.proofs.Common.{◌≡◌, ℕ, ◌+◌, ◌%◌, ◌^◌, ◌<◌, ◌≤◌, Some, List, [], ◌∷◌, length, Ok, refl, sym, ap, subst, ◌∙◌, arith, length-set, set}
 use Rattle.std.specs.Prelude.{◌==◌, false, slice_get, take}
 use Rattle.seh_num.specs.declared.width.Width.TheVariants.{W64}
 use Rattle.flat_memory.specs.Memory.{loaded}
@@ -16,7 +16,6 @@ use Rattle.host_model.specs.declared.funclet.Funclet.{Funclet}
 use Rattle.c_operations.specs.declared.built_in.BuiltIn.{BuiltIn}
 use Rattle.c_operations.specs.declared.built_in.BuiltIn.TheVariants.{Put, Protect, RaiseException}
 use Rattle.linear_code.specs.declared.slot.Slot.TheVariants.{Temporary}
-use Rattle.linear_code.specs.declared.instruction.Instruction.{Instruction}
 use Rattle.linear_code.specs.declared.instruction.Instruction.TheVariants as instructions
 use Rattle.linear_code.specs.BodyState.{BodyState}
 use Rattle.linear_code.specs.Program.{LinearProgram, LinearBody}
@@ -70,7 +69,7 @@ service_live Put = refl
 service_live Protect = refl
 service_live RaiseException = refl
 
-clear_size : size clear_result ≡ 5
+pub clear_size : size clear_result ≡ 5
 unfolding size opcode_register
 clear_size = refl
 

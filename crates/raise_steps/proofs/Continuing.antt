@@ -1,14 +1,12 @@
 -- Where the exception of a call of RaiseException is continued, the instruction after the call begins, with the result 0.
-use Rattle.std.proofs.Common.{◌≡◌, ℕ, suc, ◌+◌, ◌*◌, ◌^◌, ◌<◌, ◌≤◌, Bool, true, false, List, [], ◌∷◌, ◌++◌, length, get_or, Option, Some, None, refl, sym, ap, subst, ◌∙◌, arith, length-append}
+use Rattle.std.proofs.Common.{◌≡◌, ℕ, suc, ◌+◌, ◌*◌, ◌≤◌, Bool, true, false, List, [], ◌∷◌, ◌++◌, length, Some, None, refl, sym, ap, subst, ◌∙◌, arith, length-append}
 use Rattle.std.specs.Prelude.{slice_get}
-use Rattle.std.proofs.lemmas.Option.{slice_get_within}
 use Rattle.flat_memory.specs.Memory.{Memory}
-use Rattle.x64_instr.specs.declared.register.Reg.TheVariants.{Rax, Rsp}
+use Rattle.x64_instr.specs.declared.register.Reg.TheVariants.{Rsp}
 use Rattle.x64_instr.specs.declared.instruction.Instr.{Instr}
-use Rattle.x64_encode.specs.Chosen.{is_encodable, opcode_register}
 use Rattle.x64_machine.specs.declared.cpu.Cpu.{Cpu}
 use Rattle.x64_machine.specs.Contexts.{context_of}
-use Rattle.x64_machine.specs.Effect.{State, register}
+use Rattle.x64_machine.specs.Effect.{State}
 use Rattle.virtual_unwind.specs.CallerOf.{Functions, distance}
 use Rattle.host_model.specs.declared.funclet.Funclet.{Funclet}
 use Rattle.host_model.specs.Funclets.{arrivals}
@@ -18,11 +16,10 @@ use Rattle.linear_code.specs.declared.instruction.Instruction.{Instruction}
 use Rattle.linear_code.specs.declared.instruction.Instruction.TheVariants as instructions
 use Rattle.linear_code.specs.Meaning.{HasSlots}
 use Rattle.linear_code.specs.Program.{LinearProgram, LinearBody}
-use Rattle.linear_machine.specs.Frames as linear
 use Rattle.linear_machine.specs.Frames.{BodyName, FunctionBody, FuncletBody, body_of, AfterCall, Waits, Configuration}
 use Rattle.linear_machine.specs.Searching.{resumed}
 use Rattle.template_code.specs.declared.layout.Layout.{Layout}
-use Rattle.template_code.specs.Bytes.{size, sizes}
+use Rattle.template_code.specs.Bytes.{sizes}
 use Rattle.template_code.specs.Slots.{put_back, keep, temporary_at}
 use Rattle.template_code.specs.Jumps.{call}
 use Rattle.template_code.specs.Calls.{arguments_code, return_at, begin_call, clear_result}
@@ -38,7 +35,8 @@ use Rattle.linked_stack.specs.Linked.{Activation, locals_of}
 use Rattle.stack_records.specs.Records.{On}
 use Rattle.stack_unwinds.specs.Unwinding.{on_top}
 use Rattle.dispatch_turns.specs.States.{IsSane}
-use Rattle.ir_typed.specs.Depths.{after, depth_at, depth_in}
+use Rattle.whole_runs.proofs.Matches.{LeadsTo}
+use Rattle.ir_typed.specs.Depths.{depth_at, depth_in}
 use Rattle.ir_typed.proofs.Scans.{depth_next}
 use Rattle.body_states.specs.Layouts.{IsLayoutIf, IsLaidOut}
 use Rattle.body_states.specs.Sites.{Sites, links_of, begin_of, entry_code}
@@ -53,13 +51,10 @@ use Rattle.body_steps.proofs.Running.{each, get_or_is}
 use Rattle.body_steps.proofs.Viewed.{IsCounted}
 use Rattle.call_steps.proofs.Kept as kept
 use Rattle.call_steps.proofs.Steps.{surrounded}
-use Rattle.turn_steps.specs.Outcomes.{entry_turns, LeadsTo}
+use Rattle.funclet_steps.specs.Entries.{entry_turns}
 use Rattle.raise_steps.specs.Laws.{ContinuationsAfterCalls}
+use Rattle.raise_steps.proofs.Asking.{clear_size}
 use Rattle.raise_steps.proofs.Quiet.{quiet_code}
-
-clear_size : size clear_result ≡ 5
-unfolding size opcode_register
-clear_size = refl
 
 -- the locals of an activation
 abbrev locals_in : List (List ℕ) → ℕ → List ℕ

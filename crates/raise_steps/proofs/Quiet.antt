@@ -1,6 +1,6 @@
 -- Where an instruction stands that makes no frame, no funclet begins.
-use Rattle.std.proofs.Common.{◌≡◌, ℕ, ◌+◌, ◌^◌, ◌<◌, ◌≤◌, Bool, true, false, List, [], ◌∷◌, length, Option, Some, None, refl, sym, ap, subst, ◌∙◌, arith, inl, inr}
-use Rattle.std.specs.Prelude.{nat_le, slice_get}
+use Rattle.std.proofs.Common.{◌≡◌, ℕ, ◌^◌, ◌<◌, ◌≤◌, Bool, true, false, List, [], ◌∷◌, length, Option, Some, None, refl, sym, ap, subst, ◌∙◌, arith, inl, inr}
+use Rattle.std.specs.Prelude.{slice_get}
 use Rattle.std.proofs.lemmas.Bool.{le-leb}
 use Rattle.std.proofs.lemmas.Option.{slice_get_cases}
 use Rattle.seh_num.specs.declared.width.Width.TheVariants.{W64}
@@ -20,7 +20,7 @@ use Rattle.virtual_unwind.specs.CallerOf.{Functions, distance}
 use Rattle.host_model.specs.declared.funclet.Funclet.{Funclet}
 use Rattle.host_model.specs.Funclets.{arrivals}
 use Rattle.host_model.specs.Dispatch.{no_flags}
-use Rattle.linear_code.specs.Program.{LinearProgram, LinearBody, LinearFunclet}
+use Rattle.linear_code.specs.Program.{LinearProgram, LinearFunclet}
 use Rattle.linear_machine.specs.Frames.{FuncletBody, body_of, funclet_body}
 use Rattle.template_code.specs.Bytes.{size}
 use Rattle.template_code.specs.Calls.{enter_code}

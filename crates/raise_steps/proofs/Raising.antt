@@ -1,6 +1,6 @@
 -- A call of RaiseException: the exception is raised where the call returns to.
-use Rattle.std.proofs.Common.{◌≡◌, ℕ, zero, suc, ◌+◌, ◌*◌, ◌%◌, ◌^◌, ◌<◌, ◌≤◌, Bool, true, false, List, [], ◌∷◌, ◌++◌, length, drop, get_or, Option, Some, None, refl, sym, ap, subst, ◌∙◌, arith, length-take}
-use Rattle.std.specs.Prelude.{◌==◌, nat_eq, replicate, slice_get, slice_index, take, if◌then◌else◌}
+use Rattle.std.proofs.Common.{◌≡◌, ℕ, zero, suc, ◌+◌, ◌%◌, ◌^◌, ◌<◌, ◌≤◌, Bool, true, List, [], ◌∷◌, length, drop, get_or, Some, None, refl, sym, ap, subst, ◌∙◌, arith, length-take}
+use Rattle.std.specs.Prelude.{nat_eq, replicate, slice_get, slice_index, if◌then◌else◌}
 use Rattle.std.proofs.lemmas.Bool.{eq-eqb}
 use Rattle.std.proofs.lemmas.List.{get_or-drop}
 use Rattle.std.proofs.lemmas.Option.{slice_get-get_or}
@@ -32,13 +32,12 @@ use Rattle.whole_runs.specs.Matched.{IsMatched}
 use Rattle.body_states.specs.Sites.{Sites}
 use Rattle.body_states.specs.Programs.{IsProgramImage}
 use Rattle.body_states.specs.Bodies.{turns_left, Begins}
-use Rattle.body_steps.specs.Known.{IsWellMade, IsKnown}
+use Rattle.body_steps.specs.Known.{IsWellMade, IsKnown, KnownNext}
 use Rattle.body_steps.specs.Laws.{pace}
 use Rattle.body_steps.proofs.Around.{counted_here, ready_here}
 use Rattle.body_steps.proofs.Viewed.{slots_here}
-use Rattle.call_steps.specs.Laws.{KnownNext}
-use Rattle.turn_steps.specs.Outcomes.{Stands, Shows}
-use Rattle.turn_steps.specs.Entries.{FiltersBegin, BlocksBegin}
+use Rattle.funclet_steps.specs.Entries.{FlagsFit}
+use Rattle.turn_steps.specs.Outcomes.{Stands}
 use Rattle.turn_steps.proofs.Asked.{raised_as}
 use Rattle.turn_steps.proofs.Served.{raise_turns, matched_when_shown}
 use Rattle.raise_steps.specs.Laws.{RaisesAreMatched}
@@ -68,7 +67,7 @@ raise_acts program c first held next =
     ap (λ o. with_some c.events o (λ vs. built_in program next RaiseException vs (waiting c first))) last
 
 module _ (t : Functions) (fs : List Funclet) (program : LinearProgram) (p : Plan) (q : Sites) (image : IsProgramImage t fs program p q) (made : IsWellMade program p)
-    (filters : FiltersBegin t fs program p q) (blocks : BlocksBegin t fs program p q) where
+    (fits : FlagsFit program) where
   module _ (s : State) (c : Configuration) (b : Begins t fs program p q s c) (known : IsKnown program c) (first : ℕ) (at : instruction_at program c ≡ Some (instructions.CallBuiltIn RaiseException first)) where
     abbrev i : Instruction
     i = instructions.CallBuiltIn RaiseException first
@@ -118,15 +117,14 @@ module _ (t : Functions) (fs : List Funclet) (program : LinearProgram) (p : Plan
     pub raise_step : HasRule (act program i (exec program zero) c) → KnownNext program c i → IsMatched t fs program pace turns_left (Stands t fs program p q) s c i
     raise_step rule after =
         let asks = asking.asks t fs program p q image made s c b known RaiseException first at in
-        let shown = raised_as t fs program p q image filters blocks state (asking.saved t fs program p q image made s c b known RaiseException first at) asks.is b.body.acts (waiting c first) asks.asks
+        let shown = raised_as t fs program p q image fits state (asking.saved t fs program p q image made s c b known RaiseException first at) asks.is b.body.acts (waiting c first) asks.asks
         (asking.memory t fs program p q image made s c b known RaiseException first at) b.body.store code (register state.cpu Rdx % 2) None exception AfterCall is_exception resumes (subst HasRule (goes (exec program zero)) rule) in
         let less : turns_left (waiting c first) ≤ turns_left c = (let n = length-take first c.frame.temporaries in omega arith) in
         matched_when_shown t fs program p q 16 7 (turns_left (waiting c first)) s state c i
         (arrived t fs (raised t state code (register state.cpu Rdx % 2) None (asking.saved t fs program p q image made s c b known RaiseException first at))) (raise_event exception ∷ [])
         (λ next. raise program next exception AfterCall (waiting c first))
         (asking.comes t fs program p q image made s c b known RaiseException first at) (asking.live t fs program p q image made s c b known RaiseException first at)
-        (raise_turns t fs state back refl (asking.returns t fs program p q image made s c b known RaiseException first at)) shown goes (omega arith)
-        (λ d e. let k = after d e in (k.stacked, k.activations))
+        (raise_turns t fs state back refl (asking.returns t fs program p q image made s c b known RaiseException first at)) shown goes (omega arith) after
 
 pub raises_are_matched : RaisesAreMatched
-raises_are_matched t fs program p q image made filters blocks s c first b known at rule after = raise_step t fs program p q image made filters blocks s c b known first at rule after
+raises_are_matched t fs program p q image made fits s c first b known at rule after = raise_step t fs program p q image made fits s c b known first at rule after

@@ -1,6 +1,6 @@
 -- A local unwind: the host is asked with the body's own frame and the label's address, and saves the state after the call.
-use Rattle.std.proofs.Common.{◌≡◌, ℕ, zero, suc, ◌+◌, ◌-◌, ◌*◌, ◌%◌, ◌^◌, ◌<◌, ◌≤◌, Bool, true, false, List, [], ◌∷◌, ◌++◌, length, Option, Some, None, Ok, refl, sym, ap, subst, ◌∙◌, arith, inl, inr, length-set}
-use Rattle.std.specs.Prelude.{◌==◌, slice_get}
+use Rattle.std.proofs.Common.{◌≡◌, ℕ, zero, ◌+◌, ◌%◌, ◌^◌, ◌<◌, ◌≤◌, Bool, true, false, List, [], ◌∷◌, length, Option, Some, None, Ok, refl, sym, ap, subst, ◌∙◌, arith, inl, length-set}
+use Rattle.std.specs.Prelude.{slice_get}
 use Rattle.std.proofs.lemmas.List.{length-drop}
 use Rattle.std.proofs.lemmas.Option.{slice_get_within}
 use Rattle.seh_num.specs.declared.width.Width.TheVariants.{W64}
@@ -8,14 +8,13 @@ use Rattle.host_layout.specs.declared.range.TheConstants.{IMAGE_BASE, IMAGE_RANG
 use Rattle.host_layout.specs.declared.service.Service.TheVariants as services
 use Rattle.host_layout.specs.Services.{address_of}
 use Rattle.flat_memory.specs.Memory.{Memory, loaded}
-use Rattle.x64_instr.specs.declared.register.Reg.TheVariants.{Rcx, Rdx, Rsp}
+use Rattle.x64_instr.specs.declared.register.Reg.TheVariants.{Rcx, Rsp}
 use Rattle.x64_instr.specs.declared.instruction.Instr.TheVariants as instrs
 use Rattle.x64_encode.specs.Chosen.{modrm}
 use Rattle.x64_machine.specs.declared.context.Context.{Context}
 use Rattle.x64_machine.specs.declared.cpu.Cpu.{Cpu}
 use Rattle.x64_machine.specs.Contexts.{context_of}
 use Rattle.x64_machine.specs.Effect.{State, register}
-use Rattle.virtual_unwind.specs.Contexts.{rsp}
 use Rattle.virtual_unwind.specs.CallerOf.{Functions}
 use Rattle.host_model.specs.declared.funclet.Funclet.{Funclet}
 use Rattle.host_model.specs.Funclets.{arrived}
@@ -24,7 +23,7 @@ use Rattle.linear_code.specs.declared.slot.Slot.TheVariants.{Local}
 use Rattle.linear_code.specs.declared.instruction.Instruction.{Instruction}
 use Rattle.linear_code.specs.declared.instruction.Instruction.TheVariants as instructions
 use Rattle.linear_code.specs.Program.{LinearProgram, LinearBody}
-use Rattle.linear_machine.specs.Frames.{Frame, Item, Waits, Configuration, Next, body_of}
+use Rattle.linear_machine.specs.Frames.{Frame, Item, Waits, Configuration, body_of}
 use Rattle.linear_machine.specs.Instructions.{local_unwind, act}
 use Rattle.linear_machine.specs.Run.{instruction_at, exec}
 use Rattle.template_code.specs.declared.layout.Layout.{Layout}
@@ -54,16 +53,15 @@ use Rattle.body_states.specs.Programs.{IsResumed, IsMachineMemory, IsProgramImag
 use Rattle.body_states.specs.Bodies.{turns_left, InBody, Begins}
 use Rattle.body_states.proofs.QuietTurns.{reaches_quietly}
 use Rattle.body_states.proofs.Resumed.{all_front}
-use Rattle.body_steps.specs.Known.{IsWellMade, IsKnown}
+use Rattle.body_steps.specs.Known.{IsWellMade, IsKnown, KnownNext}
 use Rattle.body_steps.specs.Laws.{pace}
 use Rattle.body_steps.proofs.Around.{some_is, counted_here, code_at}
 use Rattle.body_steps.proofs.Reaching.{reaches_keeps, stays_sane}
 use Rattle.body_steps.proofs.Running.{v, same_state, template_here, next_address, sp_is}
 use Rattle.body_steps.proofs.Viewed.{IsCounted, sp_low, frame_top}
-use Rattle.call_steps.specs.Laws.{KnownNext}
 use Rattle.call_steps.proofs.Kept.{offset_most}
+use Rattle.funclet_steps.specs.Entries.{FlagsFit}
 use Rattle.turn_steps.specs.Outcomes.{AreClear, Stands}
-use Rattle.turn_steps.specs.Entries.{FiltersBegin, BlocksBegin}
 use Rattle.turn_steps.proofs.Apart.{apart_same}
 use Rattle.turn_steps.proofs.Asked.{unwound_to}
 use Rattle.turn_steps.proofs.Hosts.{Asks, asks_host}
@@ -110,7 +108,7 @@ aimed_first t fs program p m c (Leaf back ∷ is) b below acts label frame addre
 aimed_first t fs program p m c is b below acts label frame address l framed here = absurd l
 
 module _ (t : Functions) (fs : List Funclet) (program : LinearProgram) (p : Plan) (q : Sites) (image : IsProgramImage t fs program p q) (made : IsWellMade program p)
-    (follows : AreFollowed program) (stays : UnwindsStayInside program) (filters : FiltersBegin t fs program p q) (blocks : BlocksBegin t fs program p q) where
+    (follows : AreFollowed program) (stays : UnwindsStayInside program) (fits : FlagsFit program) where
   module _ (s : State) (c : Configuration) (b : Begins t fs program p q s c) (known : IsKnown program c) (label : ℕ) (at : instruction_at program c ≡ Some (instructions.LocalUnwind label)) where
     abbrev i : Instruction
     i = instructions.LocalUnwind label
@@ -321,12 +319,11 @@ module _ (t : Functions) (fs : List Funclet) (program : LinearProgram) (p : Plan
         let n = label_near label in
         let n1 = n.1 in
         let h = high_enough in
-        let shown = unwound_to t fs program p q image filters blocks state saved asks.is b.body.acts c asks.asks memory b.body.store sp target label (omega arith) (omega arith) aimed rule clear in
+        let shown = unwound_to t fs program p q image fits state saved asks.is b.body.acts c asks.asks memory b.body.store sp target label (omega arith) (omega arith) aimed rule clear in
         matched_when_shown t fs program p q 16 4 (turns_left c) s state c i
         (arrived t fs (unwound_locally t state sp target saved)) [] (λ next. local_unwind program next label c)
-        comes refl (local_unwind_turns t fs state back refl returns) shown (λ next. refl) (omega arith)
-        (λ d e. let k = after d e in (k.stacked, k.activations))
+        comes refl (local_unwind_turns t fs state back refl returns) shown (λ next. refl) (omega arith) after
 
 pub local_unwinds_are_matched : LocalUnwindsAreMatched
-local_unwinds_are_matched t fs program p q image made follows stays filters blocks s c label b known at rule after =
-    unwind_step t fs program p q image made follows stays filters blocks s c b known label at rule after
+local_unwinds_are_matched t fs program p q image made follows stays fits s c label b known at rule after =
+    unwind_step t fs program p q image made follows stays fits s c b known label at rule after

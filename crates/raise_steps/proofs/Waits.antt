@@ -1,11 +1,10 @@
 -- The body that runs is in its body too with the state that the host saves of it: RSP is the same, and RIP at the instruction or, where a call is the last of its code, at the next one.
-use Rattle.std.proofs.Common.{◌≡◌, ℕ, zero, suc, ◌+◌, ◌^◌, ◌<◌, ◌≤◌, true, List, [], ◌∷◌, length, Option, Some, None, Ok, refl, sym, subst, arith}
+use Rattle.std.proofs.Common.{◌≡◌, ℕ, zero, suc, ◌+◌, ◌^◌, ◌<◌, ◌≤◌, List, [], ◌∷◌, length, Option, Some, None, Ok, sym, subst, arith}
 use Rattle.std.specs.Prelude.{slice_get, take}
 use Rattle.host_layout.specs.declared.range.TheConstants.{STACK_END}
 use Rattle.flat_memory.specs.Memory.{Memory}
 use Rattle.x64_instr.specs.declared.register.Reg.TheVariants.{Rsp}
 use Rattle.x64_machine.specs.declared.cpu.Cpu.{Cpu}
-use Rattle.x64_machine.specs.Contexts.{context_of}
 use Rattle.x64_machine.specs.Effect.{State, register}
 use Rattle.virtual_unwind.specs.Undone.{word}
 use Rattle.virtual_unwind.specs.CallerOf.{Functions}
@@ -15,7 +14,7 @@ use Rattle.linear_code.specs.Program.{LinearProgram, LinearFunclet}
 use Rattle.linear_machine.specs.Frames.{BodyName, FunctionBody, FuncletBody, body_of, Frame, Item, Waits, Searches, Unwinds, Configuration, with_last}
 use Rattle.raw_stack.specs.Laws.{context_below}
 use Rattle.linked_stack.specs.ImagePlan.{Plan, InCode}
-use Rattle.linked_stack.specs.Linked.{activations_below, home_end, below_end, HoldsWords, HasActivation, HasSpace, SameRegions, BodyWaits, HasPointers, FuncletIsAbove, IsAbove}
+use Rattle.linked_stack.specs.Linked.{activations_below, home_end, below_end, HoldsWords, HasActivation, HasSpace, SameRegions, HasPointers, FuncletIsAbove, IsAbove}
 use Rattle.stack_records.specs.Records.{On}
 use Rattle.body_states.specs.Sites.{Sites}
 use Rattle.body_states.specs.Bodies.{slots_end, last_temporary, InBody, Begins}

@@ -20,21 +20,21 @@ use Rattle.stack_records.specs.Records.{On}
 use Rattle.dispatch_turns.specs.States.{IsSane}
 use Rattle.whole_runs.specs.Ends.{HasRule}
 use Rattle.whole_runs.specs.Matched.{IsMatched}
+use Rattle.whole_runs.proofs.Matches.{LeadsTo}
 use Rattle.body_states.specs.Sites.{Sites}
 use Rattle.body_states.specs.Programs.{IsMachineMemory, IsProgramImage}
 use Rattle.body_states.specs.Bodies.{turns_left, Begins}
-use Rattle.body_steps.specs.Known.{IsWellMade, IsKnown}
+use Rattle.body_steps.specs.Known.{IsWellMade, IsKnown, KnownNext}
 use Rattle.body_steps.specs.Laws.{pace}
-use Rattle.call_steps.specs.Laws.{KnownNext}
-use Rattle.turn_steps.specs.Outcomes.{entry_turns, LeadsTo, Stands}
-use Rattle.turn_steps.specs.Entries.{FiltersBegin, BlocksBegin}
+use Rattle.funclet_steps.specs.Entries.{entry_turns, FlagsFit}
+use Rattle.turn_steps.specs.Outcomes.{Stands}
 use Rattle.raise_steps.specs.Places.{UnwindsStayInside, AreFollowed}
 
 -- a call of RaiseException: its event is shown, and a filter or a `__finally` block begins, a handler takes over, or nobody does
 abbrev pub RaisesAreMatched : Type 0
 RaisesAreMatched =
     (t : Functions) (fs : List Funclet) (program : LinearProgram) (p : Plan) (q : Sites)
-    → IsProgramImage t fs program p q → IsWellMade program p → FiltersBegin t fs program p q → BlocksBegin t fs program p q
+    → IsProgramImage t fs program p q → IsWellMade program p → FlagsFit program
     → (s : State) (c : Configuration) (first : ℕ)
     → Begins t fs program p q s c → IsKnown program c → instruction_at program c ≡ Some (instructions.CallBuiltIn RaiseException first)
     → HasRule (act program (instructions.CallBuiltIn RaiseException first) (exec program zero) c) → KnownNext program c (instructions.CallBuiltIn RaiseException first)
@@ -44,7 +44,7 @@ RaisesAreMatched =
 abbrev pub LocalUnwindsAreMatched : Type 0
 LocalUnwindsAreMatched =
     (t : Functions) (fs : List Funclet) (program : LinearProgram) (p : Plan) (q : Sites)
-    → IsProgramImage t fs program p q → IsWellMade program p → AreFollowed program → UnwindsStayInside program → FiltersBegin t fs program p q → BlocksBegin t fs program p q
+    → IsProgramImage t fs program p q → IsWellMade program p → AreFollowed program → UnwindsStayInside program → FlagsFit program
     → (s : State) (c : Configuration) (label : ℕ)
     → Begins t fs program p q s c → IsKnown program c → instruction_at program c ≡ Some (instructions.LocalUnwind label)
     → HasRule (act program (instructions.LocalUnwind label) (exec program zero) c) → KnownNext program c (instructions.LocalUnwind label)
