@@ -1,8 +1,8 @@
-use Rattle.std.proofs.Common.{◌∙◌, ◌∷◌, [], List, sym, ap, arith}
+use Rattle.std.proofs.Common.{◌∙◌, ◌∷◌, [], sym, ap, arith}
 use Rattle.seh_num.specs.declared.event.Event.{Event}
 use Rattle.virtual_unwind.specs.CallerOf.{distance}
-use Rattle.seh_host.proofs.Ascending.{past_all, between, arrives}
-use Rattle.seh_host.proofs.funclets.arrival.Goals as goal
+use Rattle.image_funclets.proofs.Ascending.{past_all, between, arrives}
+use Rattle.image_funclets.proofs.arrival.arrival.Goals as goal
 
 pub returns-then-index-funclets : goal.returns-then-index-funclets
 returns-then-index-funclets c =

@@ -1,5 +1,5 @@
 -- The funclets of an image lie in the order of their addresses, so that one is found by halves.
-use Rattle.std.proofs.Common.{◌≡◌, ◌≢◌, ℕ, zero, suc, ◌+◌, ◌<◌, ◌≤◌, Bool, true, false, ltb, eqb, List, [], ◌∷◌, length, get_or, Option, Some, None, refl, sym, ap, subst, ◌∙◌, arith, inl, inr}
+use Rattle.std.proofs.Common.{◌≡◌, ◌≢◌, ℕ, zero, suc, ◌+◌, ◌<◌, ◌≤◌, Bool, true, false, eqb, List, [], ◌∷◌, length, get_or, refl, sym, ap, subst, ◌∙◌, arith, inl, inr}
 use Rattle.std.specs.List.Sorted.{IsNonDecreasingBy}
 use Rattle.std.proofs.lemmas.Bool.{cases_lt, cases_eq, ne_eqb, eq-eqb, lt-ltb, le-ltb}
 use Rattle.x64_machine.specs.declared.cpu.Cpu.{Cpu}
@@ -7,7 +7,7 @@ use Rattle.eh_tables.specs.declared.scope.ScopeRecord.{ScopeRecord}
 use Rattle.eh_tables.specs.Tables.{Entry}
 use Rattle.host_model.specs.declared.funclet.Funclet.{Funclet}
 use Rattle.host_model.specs.Funclets.{inserted, if_below, if_same, with_row, of_rows, of_entries, funclets, by_kind, if_here, arrivals}
-use Rattle.seh_host.specs.Placed.{AreAscending, place_in, if_above, unless_same}
+use Rattle.image_funclets.specs.Listed.{AreAscending}
 
 -- ---- each that is put to its place keeps the order
 
@@ -102,56 +102,6 @@ module _ (c : Cpu) (rva n : ℕ) (fs : List Funclet) (up : AreAscending 0 fs) (b
               absurd (omega arith)
         ]
       ])
-
--- ---- where a funclet is put
-
-placed_none : (a k i : ℕ) (xs : List Funclet) → i < length xs → ((j : ℕ) → j < i → (get_or xs j no_funclet).address < a) → (get_or xs i no_funclet).address ≡ a → place_in a k xs ≡ None
-placed_none a k i [] lt below is = absurd (omega arith)
-placed_none a k zero (x ∷ xs) lt below is = ap (unless_same (if_above k (place_in a (k + 1) xs) (ltb a x.address))) (eq-eqb x.address a is)
-placed_none a k (suc i) (x ∷ xs) lt below is =
-    let less = below 0 (omega arith) in
-    ap (unless_same (if_above k (place_in a (k + 1) xs) (ltb a x.address))) (ne_eqb x.address a (λ e. absurd (omega arith)))
-    ∙ ap (if_above k (place_in a (k + 1) xs)) (le-ltb a x.address (omega arith))
-    ∙ placed_none a (k + 1) i xs (omega arith) (λ j h. below (suc j) (omega arith)) is
-
-placed_some : (a k i : ℕ) (xs : List Funclet) → i ≤ length xs → ((j : ℕ) → j < i → (get_or xs j no_funclet).address < a) → ((j : ℕ) → i ≤ j → j < length xs → a < (get_or xs j no_funclet).address) → place_in a k xs ≡ Some (k + i)
-placed_some a k zero [] le below above = let e : k ≡ k + 0 = omega arith in ap (λ (n : ℕ). Some n) e
-placed_some a k (suc i) [] le below above = absurd (omega arith)
-placed_some a k zero (x ∷ xs) le below above =
-    let more = above 0 (omega arith) (omega arith) in
-    let e : k ≡ k + 0 = omega arith in
-    ap (unless_same (if_above k (place_in a (k + 1) xs) (ltb a x.address))) (ne_eqb x.address a (λ e. absurd (omega arith)))
-    ∙ ap (if_above k (place_in a (k + 1) xs)) (lt-ltb a x.address more)
-    ∙ ap (λ (n : ℕ). Some n) e
-placed_some a k (suc i) (x ∷ xs) le below above =
-    let less = below 0 (omega arith) in
-    let e : k + 1 + i ≡ k + suc i = omega arith in
-    ap (unless_same (if_above k (place_in a (k + 1) xs) (ltb a x.address))) (ne_eqb x.address a (λ e. absurd (omega arith)))
-    ∙ ap (if_above k (place_in a (k + 1) xs)) (le-ltb a x.address (omega arith))
-    ∙ placed_some a (k + 1) i xs (omega arith) (λ j h. below (suc j) (omega arith)) (λ j h g. above (suc j) (omega arith) (omega arith))
-    ∙ ap (λ (n : ℕ). Some n) e
-
-module _ (a n : ℕ) (xs : List Funclet) (up : AreAscending 0 xs) (within : n ≤ length xs) (below : (k : ℕ) (d : Funclet) → k < n → (get_or xs k d).address < a) (later : (k : ℕ) (d : Funclet) → n ≤ k → k < length xs → a ≤ (get_or xs k d).address) where
-  pub is_there : n < length xs → (get_or xs n no_funclet).address ≡ a → place_in a 0 xs ≡ None
-  is_there lt is = placed_none a 0 n xs lt (λ j h. below j no_funclet h) is
-
-  pub at_end : length xs ≤ n → place_in a 0 xs ≡ Some n
-  at_end le =
-      let e : 0 + n ≡ n = omega arith in
-      placed_some a 0 n xs within (λ j h. below j no_funclet h) (λ j h g. absurd (omega arith)) ∙ ap (λ (k : ℕ). Some k) e
-
-  pub goes_before : n < length xs → (get_or xs n no_funclet).address ≢ a → place_in a 0 xs ≡ Some n
-  goes_before lt other =
-      let e : 0 + n ≡ n = omega arith in
-      let least = later n no_funclet (omega arith) lt in
-      placed_some a 0 n xs within (λ j h. below j no_funclet h) (λ j h g. elim (cases_eq j n) [
-        | inl same ↦ elim (cases_eq (get_or xs j no_funclet).address a) [
-          | inl z ↦ absurd (other (ap (λ k. (get_or xs k no_funclet).address) (sym same) ∙ z))
-          | inr ne ↦ let at = later j no_funclet h g in omega (arith, ne)
-        ]
-        | inr ne ↦ let rising = rises 0 xs n j no_funclet up (omega (arith, ne)) g in omega arith
-      ])
-      ∙ ap (λ (k : ℕ). Some k) e
 
 -- ---- for searching
 

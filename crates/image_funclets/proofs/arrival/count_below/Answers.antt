@@ -1,7 +1,7 @@
 use Rattle.std.proofs.Common.{rules, ltb, ltb-true, ltb-false, arith}
 use Rattle.std.proofs.lemmas.List.Sorted.{IsPartitionPoint-from_clause, IsPartitionedBy-ltb}
-use Rattle.seh_host.proofs.Ascending.{addresses_rise}
-use Rattle.seh_host.proofs.funclets.count_below.Goals as goal
+use Rattle.image_funclets.proofs.Ascending.{addresses_rise}
+use Rattle.image_funclets.proofs.arrival.count_below.Goals as goal
 
 pub returns : goal.returns
 returns c =
