@@ -4,3 +4,4 @@ pub mod Called
 pub mod Live
 pub mod Simulated
 pub mod Runs
+pub mod Images

@@ -6,10 +6,11 @@ use Rattle.virtual_unwind.specs.CallerOf.{Functions}
 use Rattle.host_model.specs.declared.funclet.Funclet.{Funclet}
 use Rattle.c_checked.specs.Program.{Program}
 use Rattle.c_checked.specs.Sound.{IsSound}
+use Rattle.linear_code.specs.declared.slot.Slot.{Slot}
 use Rattle.linear_code.specs.declared.instruction.Instruction.{Instruction}
 use Rattle.linear_code.specs.declared.instruction.Instruction.TheVariants as instructions
 use Rattle.linear_code.specs.Program.{LinearProgram}
-use Rattle.linear_machine.specs.Frames.{Frame, Configuration, body_of}
+use Rattle.linear_machine.specs.Frames.{BodyName, FunctionBody, FuncletBody, Frame, Configuration, body_of}
 use Rattle.linear_machine.specs.Instructions.{act}
 use Rattle.linear_machine.specs.Run.{instruction_in, instruction_at, exec}
 use Rattle.linked_stack.specs.ImagePlan.{Plan}
@@ -22,18 +23,19 @@ use Rattle.unset_locals.specs.Twins.{AreTwins, GoAsTwins}
 use Rattle.unset_locals.proofs.Together.{twins_go_on}
 use Rattle.body_states.specs.Sites.{Sites}
 use Rattle.body_states.specs.Bodies.{turns_left, Begins}
-use Rattle.body_steps.specs.Known.{IsKnown}
+use Rattle.body_steps.specs.Known.{IsKnown, KnownNext}
 use Rattle.body_steps.specs.Laws.{pace, IsPlain}
 use Rattle.body_steps.proofs.Steps.{plain}
-use Rattle.call_steps.specs.Laws.{KnownNext}
-use Rattle.call_steps.proofs.Steps.{calls_begin}
+use Rattle.call_steps.proofs.Steps.{returns_are_matched, calls_begin}
+use Rattle.turn_steps.specs.Entries.{Continuations}
 use Rattle.turn_steps.specs.Outcomes.{Stands}
+use Rattle.funclet_ends.proofs.Steps.{funclet_returns_are_matched}
 use Rattle.compiled_images.specs.Sound.{IsSoundImage}
 use Rattle.image_runs.specs.Steps.{StepMatches, StepsAreMatched}
 use Rattle.image_runs.specs.Shown.{ShowsTwin}
 use Rattle.image_runs.specs.Laws.{TwinsSimulate}
 use Rattle.image_runs.proofs.Known.{known, known_next}
-use Rattle.image_runs.proofs.Carried.{moves_as, carried}
+use Rattle.image_runs.proofs.Carried.{moves_as, matched_as, carried}
 use Rattle.image_runs.proofs.Called.{called}
 use Rattle.image_runs.proofs.Live.{live}
 
@@ -47,6 +49,18 @@ plainly : (t : Functions) (fs : List Funclet) (program : LinearProgram) (p : Pla
 plainly t fs program p q image s d i b known at rule is_plain =
     inl (moves_as t fs program (Begins t fs program p q) (Stands t fs program p q) (λ u e h. inl h) s d i
     (plain t fs program p q image.image image.made s d i b known at is_plain rule))
+
+-- a return, of a function or of a funclet
+returned : (t : Functions) (fs : List Funclet) (program : LinearProgram) (p : Plan) (q : Sites) → IsSoundImage t fs program p q → Continuations t fs program p q
+    → (s : State) (d : Configuration) (from : Slot) → Begins t fs program p q s d → IsKnown program d → instruction_at program d ≡ Some (instructions.Return from)
+    → HasRule (act program (instructions.Return from) (exec program zero) d) → KnownNext program d (instructions.Return from) → StepMatches t fs program p q s d (instructions.Return from)
+returned t fs program p q image continuations s d from b known at rule next = by d.frame.body refl
+  where
+    by : (name : BodyName) → d.frame.body ≡ name → StepMatches t fs program p q s d (instructions.Return from)
+    by (FunctionBody f) e =
+        matched_as t fs program (Begins t fs program p q) (Stands t fs program p q) (λ u x h. inl h) s d (instructions.Return from)
+        (returns_are_matched t fs program p q image.image image.made s d f from b known e at next)
+    by (FuncletBody k) e = funclet_returns_are_matched t fs program p q image.image image.made image.flags continuations s d k from b known e at rule next
 
 module _ (program : Program) (sound : IsSound program) (reads : ReadsNoUnset (lowered program)) (t : Functions) (fs : List Funclet) (p : Plan) (q : Sites)
     (image : IsSoundImage t fs (lowered program) p q) (steps : StepsAreMatched t fs (lowered program) p q) where
@@ -96,7 +110,7 @@ module _ (program : Program) (sound : IsSound program) (reads : ReadsNoUnset (lo
     begun b instructions.Separator at go rule next =
         carried t fs linear p q c d twins s instructions.Separator go (plainly t fs linear p q image s d instructions.Separator b (known program sound reads c d twins) at rule tt)
     begun b (instructions.Return from) at go rule next =
-        carried t fs linear p q c d twins s (instructions.Return from) go (steps.returns s d (instructions.Return from) tt b (known program sound reads c d twins) at rule next)
+        carried t fs linear p q c d twins s (instructions.Return from) go (returned t fs linear p q image steps.continuations s d from b (known program sound reads c d twins) at rule next)
 
     step : Stands t fs linear p q s d → StepIsMatched t fs linear pace turns_left (ShowsTwin t fs linear p q) s c
     step (inl b) i at rule = begun b i (at_twin i at) (on_twin i at) (rule_twin i at rule) (known_next program sound reads c d twins i (at_twin i at))

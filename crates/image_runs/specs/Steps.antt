@@ -14,10 +14,10 @@ use Rattle.whole_runs.specs.Ends.{HasRule}
 use Rattle.whole_runs.specs.Matched.{IsMatched}
 use Rattle.body_states.specs.Sites.{Sites}
 use Rattle.body_states.specs.Bodies.{turns_left, Begins}
-use Rattle.body_steps.specs.Known.{IsKnown}
+use Rattle.body_steps.specs.Known.{IsKnown, KnownNext}
 use Rattle.body_steps.specs.Laws.{pace}
-use Rattle.call_steps.specs.Laws.{KnownNext}
 use Rattle.turn_steps.specs.Outcomes.{WorksOn, Stands}
+use Rattle.turn_steps.specs.Entries.{Continuations}
 
 -- ---- kinds of instructions
 
@@ -40,10 +40,6 @@ IsCallFinally i = ⊥
 abbrev pub IsLocalUnwind : Instruction → Type 0
 IsLocalUnwind (instructions.LocalUnwind label) = Unit {0}
 IsLocalUnwind i = ⊥
-
-abbrev pub IsReturn : Instruction → Type 0
-IsReturn (instructions.Return from) = Unit {0}
-IsReturn i = ⊥
 
 module _ (t : Functions) (fs : List Funclet) (program : LinearProgram) (p : Plan) (q : Sites) where
   abbrev pub StepMatches : State → Configuration → Instruction → Type 0
@@ -70,5 +66,5 @@ module _ (t : Functions) (fs : List Funclet) (program : LinearProgram) (p : Plan
     pub built_ins : BeginningsMatch IsBuiltIn
     pub blocks : BeginningsMatch IsCallFinally
     pub unwinds : BeginningsMatch IsLocalUnwind
-    pub returns : BeginningsMatch IsReturn
     pub retries : RetriesMatch
+    pub continuations : Continuations t fs program p q
