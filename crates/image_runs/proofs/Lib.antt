@@ -5,3 +5,4 @@ pub mod Live
 pub mod Simulated
 pub mod Runs
 pub mod Images
+pub mod Realised
