@@ -1,5 +1,5 @@
 -- The run of a linked image is that of the machine on its tables.
-use Rattle.std.proofs.Common.{◌≡◌, ℕ, ◌+◌, ◌*◌, List, [], Ok, refl, sym, ap, subst, ◌∙◌}
+use Rattle.std.proofs.Common.{◌≡◌, ℕ, ◌+◌, ◌*◌, List, [], sym, ap, subst, ◌∙◌}
 use Rattle.std.specs.Prelude.{ℤ, Result}
 use Rattle.pe_image.specs.declared.refusal.ImageErr.{ImageErr}
 use Rattle.pe_image.specs.Image.{Image}
@@ -9,7 +9,7 @@ use Rattle.eh_tables.specs.Tables.{Entry, or_none}
 use Rattle.host_model.specs.Loading.{start}
 use Rattle.host_model.specs.Funclets.{funclets}
 use Rattle.host_model.specs.HostStep.{host}
-use Rattle.host_model.specs.Machine.{Shown, run, machine_of, machine}
+use Rattle.host_model.specs.Machine.{run, machine_of, machine}
 use Rattle.c_checked.specs.Program.{Program}
 use Rattle.c_model.specs.Meaning.{meaning}
 use Rattle.linear_code.specs.Program.{LinearProgram}

@@ -1,8 +1,7 @@
 -- The image of a sound program does what the program means.
-use Rattle.std.proofs.Common.{◌≡◌, ℕ, ◌+◌, ◌≤◌, List, length, sym, ap, ◌∙◌, arith}
+use Rattle.std.proofs.Common.{ℕ, ◌≤◌, List, length, ap, arith}
 use Rattle.std.specs.Prelude.{pos}
-use Rattle.pe_write.specs.Program.{parts_of, image_of, sizes_of, end_at, IsProgram}
-use Rattle.pe_write.specs.Written.{written, end_of}
+use Rattle.pe_write.specs.Program.{parts_of, image_of, IsProgram}
 use Rattle.pe_write.proofs.Back.{written_length}
 use Rattle.pe_write.proofs.Programs.{size_is, can_be_written}
 use Rattle.c_checked.specs.Program.{Program}

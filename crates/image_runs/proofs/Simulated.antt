@@ -1,5 +1,5 @@
 -- The machine keeps showing a twin of the configuration that linear code is in.
-use Rattle.std.proofs.Common.{◌≡◌, ℕ, zero, ◌+◌, length, Some, inl, inr, sym, ap, subst, ◌∙◌}
+use Rattle.std.proofs.Common.{◌≡◌, ℕ, zero, ◌+◌, length, Some, refl, inl, inr, sym, ap, subst, ◌∙◌}
 use Rattle.std.specs.Prelude.{List}
 use Rattle.x64_machine.specs.Effect.{State}
 use Rattle.virtual_unwind.specs.CallerOf.{Functions}
