@@ -23,8 +23,7 @@ use Rattle.unset_locals.proofs.Alike.{is_over, marked_is_reached}
 use Rattle.unset_locals.proofs.Both.{over}
 use Rattle.unset_locals.proofs.Facts.{has_activations}
 use Rattle.unset_locals.proofs.Together.{twins_are_small, twins_go_on}
-use Rattle.body_steps.specs.Known.{IsKnown}
-use Rattle.call_steps.specs.Laws.{KnownNext}
+use Rattle.body_steps.specs.Known.{IsKnown, KnownNext}
 use Rattle.image_runs.specs.Laws.{TwinsAreKnown}
 
 module _ (program : LinearProgram) where

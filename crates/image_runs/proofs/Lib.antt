@@ -4,3 +4,5 @@ pub mod Called
 pub mod Live
 pub mod Simulated
 pub mod Runs
+pub mod Images
+pub mod Realised

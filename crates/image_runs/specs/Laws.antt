@@ -20,9 +20,8 @@ use Rattle.whole_runs.specs.Laws.{ShowsAll, ShowsNoMore}
 use Rattle.whole_runs.specs.Matched.{Simulates}
 use Rattle.body_states.specs.Sites.{Sites}
 use Rattle.body_states.specs.Bodies.{turns_left}
-use Rattle.body_steps.specs.Known.{IsKnown}
+use Rattle.body_steps.specs.Known.{IsKnown, KnownNext}
 use Rattle.body_steps.specs.Laws.{pace}
-use Rattle.call_steps.specs.Laws.{KnownNext}
 use Rattle.compiled_images.specs.Sound.{IsSoundImage}
 use Rattle.image_runs.specs.Steps.{StepsAreMatched}
 use Rattle.image_runs.specs.Shown.{ShowsTwin, MainBegins}

@@ -14,16 +14,12 @@ use Rattle.whole_runs.specs.Ends.{HasRule}
 use Rattle.whole_runs.specs.Matched.{IsMatched}
 use Rattle.body_states.specs.Sites.{Sites}
 use Rattle.body_states.specs.Bodies.{turns_left, Begins}
-use Rattle.body_steps.specs.Known.{IsKnown}
+use Rattle.body_steps.specs.Known.{IsKnown, KnownNext}
 use Rattle.body_steps.specs.Laws.{pace}
-use Rattle.call_steps.specs.Laws.{KnownNext}
-use Rattle.turn_steps.specs.Outcomes.{WorksOn, Stands}
+use Rattle.turn_steps.specs.Outcomes.{Stands}
+use Rattle.turn_steps.specs.Entries.{Continuations}
 
 -- ---- kinds of instructions
-
-abbrev pub IsCompute : Instruction → Type 0
-IsCompute (instructions.Compute to o first second) = Unit {0}
-IsCompute i = ⊥
 
 abbrev pub IsInformation : Instruction → Type 0
 IsInformation (instructions.Information to field) = Unit {0}
@@ -33,17 +29,9 @@ abbrev pub IsBuiltIn : Instruction → Type 0
 IsBuiltIn (instructions.CallBuiltIn f first) = Unit {0}
 IsBuiltIn i = ⊥
 
-abbrev pub IsCallFinally : Instruction → Type 0
-IsCallFinally (instructions.CallFinally k) = Unit {0}
-IsCallFinally i = ⊥
-
 abbrev pub IsLocalUnwind : Instruction → Type 0
 IsLocalUnwind (instructions.LocalUnwind label) = Unit {0}
 IsLocalUnwind i = ⊥
-
-abbrev pub IsReturn : Instruction → Type 0
-IsReturn (instructions.Return from) = Unit {0}
-IsReturn i = ⊥
 
 module _ (t : Functions) (fs : List Funclet) (program : LinearProgram) (p : Plan) (q : Sites) where
   abbrev pub StepMatches : State → Configuration → Instruction → Type 0
@@ -56,19 +44,9 @@ module _ (t : Functions) (fs : List Funclet) (program : LinearProgram) (p : Plan
       → Which i → Begins t fs program p q s c → IsKnown program c → instruction_at program c ≡ Some i
       → HasRule (act program i (exec program zero) c) → KnownNext program c i → StepMatches s c i
 
-  -- in the midst of an operation that is made again
-  abbrev pub RetriesMatch : Type 0
-  RetriesMatch =
-      (s : State) (c : Configuration) (i : Instruction)
-      → WorksOn t fs program p q s c → IsKnown program c → instruction_at program c ≡ Some i
-      → HasRule (act program i (exec program zero) c) → KnownNext program c i → StepMatches s c i
-
-  -- the steps that are still taken as premises
+  -- the steps that are still taken as premises, and that a body goes on after its call of RaiseException where the exception is continued
   pub record StepsAreMatched : Type 0 where
-    pub computes : BeginningsMatch IsCompute
     pub information : BeginningsMatch IsInformation
     pub built_ins : BeginningsMatch IsBuiltIn
-    pub blocks : BeginningsMatch IsCallFinally
     pub unwinds : BeginningsMatch IsLocalUnwind
-    pub returns : BeginningsMatch IsReturn
-    pub retries : RetriesMatch
+    pub continuations : Continuations t fs program p q
