@@ -10,7 +10,6 @@ use Rattle.linear_machine.specs.Frames.{BodyName, body_of}
 use Rattle.linked_stack.specs.ImagePlan.{Plan}
 use Rattle.seh_ir.specs.Lowered.{lowered}
 use Rattle.ir_bounds.specs.Nesting.{AreShallow}
-use Rattle.ir_places.specs.Followed.{IsFollowed}
 use Rattle.ir_places.specs.Alike.{HasSameRegions}
 use Rattle.program_link.specs.Fits.{FitsProgram}
 use Rattle.program_link.specs.Linked.{linked}
@@ -19,6 +18,8 @@ use Rattle.body_states.specs.Programs.{IsProgramImage}
 use Rattle.body_steps.specs.Known.{IsWellMade}
 use Rattle.call_steps.specs.Calls.{FunctionsApart}
 use Rattle.funclet_steps.specs.Entries.{FlagsFit, SeparatorsFollow}
+use Rattle.service_steps.specs.Static.{FiltersReadInformation}
+use Rattle.raise_steps.specs.Places.{UnwindsStayInside, AreFollowed}
 
 -- sound, nested within the limits, and within those of linking, with an image of at most 256 MiB
 pub record IsLinkable (program : Program) : Type 0 where
@@ -34,5 +35,7 @@ pub record IsSoundImage (t : Functions) (fs : List Funclet) (program : LinearPro
   pub apart : FunctionsApart program p q
   pub flags : FlagsFit program
   pub separators : SeparatorsFollow program
-  pub followed : (name : BodyName) (b : LinearBody) → body_of program name ≡ Some b → IsFollowed b
+  pub followed : AreFollowed program
+  pub inside : UnwindsStayInside program
+  pub informs : FiltersReadInformation program
   pub regions : (name : BodyName) (b : LinearBody) → body_of program name ≡ Some b → HasSameRegions b

@@ -36,13 +36,13 @@ module _ (program : Program) (l : IsLinkable program) (bytes : List ℕ) (read :
       ∙ ap (λ (es : List Entry). run (functions_of linear) (funclets es) m (host (start (image_of (linked linear)) arg)) []) (ap or_none (tables_are_read linear c.fits c.ranges))
 
 pub linked_images_show_all : LinkedImagesShowAll
-linked_images_show_all program l reads steps bytes read arg begins n =
+linked_images_show_all program l reads bytes read arg begins n =
     let linear = lowered program in
     subst (ShowsAll (meaning program arg n)) (sym (machine_is program l bytes read arg (256 * n + 256)))
-    (images_show_all (functions_of linear) (funclets_of linear) program (plan_of linear) (sites_of linear) l.sound reads (lowered_has_image program l) steps arg (start (image_of (linked linear)) arg) begins n)
+    (images_show_all (functions_of linear) (funclets_of linear) program (plan_of linear) (sites_of linear) l.sound reads (lowered_has_image program l) arg (start (image_of (linked linear)) arg) begins n)
 
 pub linked_images_show_no_more : LinkedImagesShowNoMore
-linked_images_show_no_more program l reads steps bytes read arg begins m n paces calm =
+linked_images_show_no_more program l reads bytes read arg begins m n paces calm =
     let linear = lowered program in
     subst (ShowsNoMore (meaning program arg n)) (sym (machine_is program l bytes read arg m))
-    (images_show_no_more (functions_of linear) (funclets_of linear) program (plan_of linear) (sites_of linear) l.sound reads (lowered_has_image program l) steps arg (start (image_of (linked linear)) arg) begins m n paces calm)
+    (images_show_no_more (functions_of linear) (funclets_of linear) program (plan_of linear) (sites_of linear) l.sound reads (lowered_has_image program l) arg (start (image_of (linked linear)) arg) begins m n paces calm)

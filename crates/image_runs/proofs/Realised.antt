@@ -31,8 +31,8 @@ compiled_realise program l reads bridge bytes w = record {
   is = w.read;
   fits = short program l bytes w;
   loads = images_load (lowered program) (lowered_is_compiled program l);
-  shows = λ arg n lt. linked_images_show_all program l reads bridge.steps bytes w.read (pos arg) (bridge.starts arg lt) n;
+  shows = λ arg n lt. linked_images_show_all program l reads bytes w.read (pos arg) (bridge.starts arg lt) n;
 }
 
 pub compiled_show_nothing_more : CompiledShowNothingMore
-compiled_show_nothing_more program l reads bridge bytes w = λ arg m n lt paces calm. linked_images_show_no_more program l reads bridge.steps bytes w.read (pos arg) (bridge.starts arg lt) m n paces calm
+compiled_show_nothing_more program l reads bridge bytes w = λ arg m n lt paces calm. linked_images_show_no_more program l reads bytes w.read (pos arg) (bridge.starts arg lt) m n paces calm

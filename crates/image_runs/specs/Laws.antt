@@ -23,7 +23,6 @@ use Rattle.body_states.specs.Bodies.{turns_left}
 use Rattle.body_steps.specs.Known.{IsKnown, KnownNext}
 use Rattle.body_steps.specs.Laws.{pace}
 use Rattle.compiled_images.specs.Sound.{IsSoundImage}
-use Rattle.image_runs.specs.Steps.{StepsAreMatched}
 use Rattle.image_runs.specs.Shown.{ShowsTwin, MainBegins}
 
 -- what the step laws ask of a configuration holds of a twin, and of the twin after each step
@@ -40,14 +39,14 @@ TwinsAreKnown =
 abbrev pub TwinsSimulate : Type 0
 TwinsSimulate =
     (t : Functions) (fs : List Funclet) (program : Program) (p : Plan) (q : Sites)
-    → IsSound program → ReadsNoUnset (lowered program) → IsSoundImage t fs (lowered program) p q → StepsAreMatched t fs (lowered program) p q
+    → IsSound program → ReadsNoUnset (lowered program) → IsSoundImage t fs (lowered program) p q
     → Simulates t fs (lowered program) pace turns_left (λ n. ShowsTwin t fs (lowered program) p q)
 
 -- in 256 n + 256 turns the machine shows what the program shows within n steps, and has ended as it ends
 abbrev pub ImagesShowAll : Type 0
 ImagesShowAll =
     (t : Functions) (fs : List Funclet) (program : Program) (p : Plan) (q : Sites)
-    → IsSound program → ReadsNoUnset (lowered program) → IsSoundImage t fs (lowered program) p q → StepsAreMatched t fs (lowered program) p q
+    → IsSound program → ReadsNoUnset (lowered program) → IsSoundImage t fs (lowered program) p q
     → (arg : ℤ) (s : State) → MainBegins t fs (lowered program) p q arg s → (n : ℕ)
     → ShowsAll (meaning program arg n) (run t fs (256 * n + 256) (host s) [])
 
@@ -55,7 +54,7 @@ ImagesShowAll =
 abbrev pub ImagesShowNoMore : Type 0
 ImagesShowNoMore =
     (t : Functions) (fs : List Funclet) (program : Program) (p : Plan) (q : Sites)
-    → IsSound program → ReadsNoUnset (lowered program) → IsSoundImage t fs (lowered program) p q → StepsAreMatched t fs (lowered program) p q
+    → IsSound program → ReadsNoUnset (lowered program) → IsSoundImage t fs (lowered program) p q
     → (arg : ℤ) (s : State) → MainBegins t fs (lowered program) p q arg s
     → (m n : ℕ) → (m + 1) * pace_of program ≤ n → Calm program arg n ≡ true
     → ShowsNoMore (meaning program arg n) (run t fs m (host s) [])
