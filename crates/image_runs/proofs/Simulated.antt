@@ -10,7 +10,7 @@ use Rattle.linear_code.specs.declared.slot.Slot.{Slot}
 use Rattle.linear_code.specs.declared.instruction.Instruction.{Instruction}
 use Rattle.linear_code.specs.declared.instruction.Instruction.TheVariants as instructions
 use Rattle.linear_code.specs.Program.{LinearProgram}
-use Rattle.linear_machine.specs.Frames.{BodyName, FunctionBody, FuncletBody, AfterCall, SameOperation, Frame, Configuration, body_of}
+use Rattle.linear_machine.specs.Frames.{BodyName, FunctionBody, FuncletBody, Frame, Configuration, body_of}
 use Rattle.linear_machine.specs.Instructions.{act}
 use Rattle.linear_machine.specs.Run.{instruction_in, instruction_at, exec}
 use Rattle.linked_stack.specs.ImagePlan.{Plan}
@@ -27,18 +27,14 @@ use Rattle.body_steps.specs.Known.{IsKnown, KnownNext}
 use Rattle.body_steps.specs.Laws.{pace, IsPlain}
 use Rattle.body_steps.proofs.Steps.{plain}
 use Rattle.call_steps.proofs.Steps.{returns_are_matched, calls_begin}
-use Rattle.turn_steps.specs.Entries.{Continuations}
 use Rattle.turn_steps.specs.Outcomes.{Stands}
 use Rattle.funclet_ends.proofs.Steps.{funclet_returns_are_matched}
 use Rattle.block_calls.proofs.Steps.{block_calls_are_matched}
 use Rattle.fault_steps.proofs.Steps.{operations, retries}
-use Rattle.fault_steps.proofs.Steps.{continuations as at_operations}
 use Rattle.service_steps.proofs.Steps.{information_is_matched, puts_are_matched, protects_are_matched}
 use Rattle.raise_steps.proofs.Raising.{raises_are_matched}
 use Rattle.raise_steps.proofs.Unwinding.{local_unwinds_are_matched}
-use Rattle.raise_steps.proofs.Continuing.{continuations_after_calls}
-use Rattle.funclet_steps.specs.Entries.{entry_turns}
-use Rattle.whole_runs.proofs.Matches.{LeadsTo}
+use Rattle.raise_steps.proofs.Joining.{bodies_go_on}
 use Rattle.c_operations.specs.declared.field.Field.{Field}
 use Rattle.c_operations.specs.declared.built_in.BuiltIn.{BuiltIn}
 use Rattle.c_operations.specs.declared.built_in.BuiltIn.TheVariants.{Put, Protect, RaiseException}
@@ -84,18 +80,6 @@ called_built_in t fs program p q image s d Protect first b known at rule next =
     moved t fs program p q s d (instructions.CallBuiltIn Protect first) (protects_are_matched t fs program p q image.image image.made s d first b known at)
 called_built_in t fs program p q image s d RaiseException first b known at rule next = raises_are_matched t fs program p q image.image image.made image.flags s d first b known at rule next
 
--- where an exception is continued, after a call or at the same operation
-continuations : (t : Functions) (fs : List Funclet) (program : LinearProgram) (p : Plan) (q : Sites) → IsSoundImage t fs program p q → Continuations t fs program p q
-continuations t fs program p q image s saved is acts AfterCall c on sane resumes memory same =
-    let r = continuations_after_calls t fs program p q image.image image.made s saved is acts c on sane resumes memory same in
-    (r.0, λ known none. begins_stands (r.1 known none))
-  where
-    begins_stands : {u : State} {d : Configuration} → LeadsTo t fs entry_turns (Begins t fs program p q) u d → LeadsTo t fs entry_turns (Stands t fs program p q) u d
-    begins_stands x = record { turns = x.turns; few = x.few; state = x.state; comes = x.comes; stands = inl x.stands }
-continuations t fs program p q image s saved is acts SameOperation c on sane resumes memory same =
-    let r = at_operations t fs program p q image.image image.made s saved is acts c on sane resumes memory same in
-    (r.0, λ known none. r.1)
-
 -- a return, of a function or of a funclet
 returned : (t : Functions) (fs : List Funclet) (program : LinearProgram) (p : Plan) (q : Sites) → IsSoundImage t fs program p q
     → (s : State) (d : Configuration) (from : Slot) → Begins t fs program p q s d → IsKnown program d → instruction_at program d ≡ Some (instructions.Return from)
@@ -106,7 +90,7 @@ returned t fs program p q image s d from b known at rule next = by d.frame.body 
     by (FunctionBody f) e =
         matched_as t fs program (Begins t fs program p q) (Stands t fs program p q) (λ u x h. inl h) s d (instructions.Return from)
         (returns_are_matched t fs program p q image.image image.made s d f from b known e at next)
-    by (FuncletBody k) e = funclet_returns_are_matched t fs program p q image.image image.made image.flags (continuations t fs program p q image) s d k from b known e at rule next
+    by (FuncletBody k) e = funclet_returns_are_matched t fs program p q image.image image.made image.flags (bodies_go_on t fs program p q image.image image.made) s d k from b known e at rule next
 
 -- a body calls its `__finally` block
 called_block : (t : Functions) (fs : List Funclet) (program : LinearProgram) (p : Plan) (q : Sites) → IsSoundImage t fs program p q
