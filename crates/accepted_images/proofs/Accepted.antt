@@ -1,5 +1,5 @@
 -- The program of an accepted text is sound, and names each local where it is declared.
-use Rattle.std.proofs.Common.{ℕ, ◌+◌, ◌*◌, ◌≤◌, List, arith}
+use Rattle.std.proofs.Common.{ℕ, ◌+◌, List, arith}
 use Rattle.std.proofs.lemmas.Nat.{mul-le}
 use Rattle.c_syntax.specs.Limits.{Within}
 use Rattle.c_syntax.specs.Program.{ExternalDeclaration}

@@ -95,7 +95,7 @@ module _ (program : Program) (l : IsLinkable program) where
     flags = flags;
     separators = λ name b label k is there. lowered_is_followed program name b is label (instructions.CallFinally k) there refl;
     followed = lowered_is_followed program;
-    inside = λ name b label to is there. lowered_stays_inside program name b is label to there;
+    inside = lowered_stays_inside program;
     informs = informs;
     regions = has_same_regions program;
   }

@@ -17,7 +17,7 @@ use Rattle.body_steps.specs.Known.{IsWellMade}
 use Rattle.call_steps.specs.Calls.{FunctionsApart}
 use Rattle.funclet_steps.specs.Entries.{FlagsFit, SeparatorsFollow}
 use Rattle.service_steps.specs.Static.{FiltersReadInformation}
-use Rattle.raise_steps.specs.Places.{UnwindsStayInside, AreFollowed}
+use Rattle.raise_steps.specs.Places.{StayInside, AreFollowed}
 
 -- sound, nested within the limits, and within those of linking
 pub record IsLinkable (program : Program) : Type 0 where
@@ -33,6 +33,6 @@ pub record IsSoundImage (t : Functions) (fs : List Funclet) (program : LinearPro
   pub flags : FlagsFit program
   pub separators : SeparatorsFollow program
   pub followed : AreFollowed program
-  pub inside : UnwindsStayInside program
+  pub inside : StayInside program
   pub informs : FiltersReadInformation program
   pub regions : (name : BodyName) (b : LinearBody) → body_of program name ≡ Some b → HasSameRegions b

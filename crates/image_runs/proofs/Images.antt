@@ -1,5 +1,5 @@
 -- The run of a linked image is that of the machine on its tables.
-use Rattle.std.proofs.Common.{◌≡◌, ℕ, ◌+◌, ◌*◌, List, [], sym, ap, subst, ◌∙◌}
+use Rattle.std.proofs.Common.{◌≡◌, ℕ, ◌+◌, ◌*◌, zero, List, [], refl, sym, ap, subst, ◌∙◌}
 use Rattle.std.specs.Prelude.{ℤ, Result, slice_get, get_or, Some}
 use Rattle.pe_image.specs.declared.refusal.ImageErr.{ImageErr}
 use Rattle.pe_image.specs.Image.{Image}
@@ -44,10 +44,10 @@ module _ (program : Program) (l : IsLinkable program) (bytes : List ℕ) (read :
 
 -- `main`, and that the machine comes to its beginning
 module _ (program : Program) (l : IsLinkable program) (octets : HasBytes (lowered program)) (arg : ℤ) where
-  no_function : LinearFunction
+  abbrev no_function : LinearFunction
   no_function = record { parameters = 0; body = nothing }
 
-  main_of : LinearFunction
+  abbrev main_of : LinearFunction
   main_of = get_or (lowered program).functions (lowered program).main no_function
 
   main_is : slice_get (lowered program).functions (lowered program).main ≡ Some main_of
@@ -57,7 +57,7 @@ module _ (program : Program) (l : IsLinkable program) (octets : HasBytes (lowere
   main_begins =
       let first = code.start (lowered program) arg main_of in
       mains_begin (lowered program) (lowered_is_compiled program l) octets (lowered_has_image program l).made arg main_of main_is
-      (goes_on program l.sound first (record { argument = arg; main = main_of; is_main = main_is; turns = 0; comes = refl }))
+      (goes_on program l.sound first (record { argument = arg; main = main_of; is_main = main_is; turns = zero; comes = refl }))
 
 pub linked_images_show_all : LinkedImagesShowAll
 linked_images_show_all program l reads bytes read octets arg n =

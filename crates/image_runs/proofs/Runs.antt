@@ -1,5 +1,5 @@
 -- Whole runs of images.
-use Rattle.std.proofs.Common.{ℕ, ◌+◌, ◌*◌, inl, refl}
+use Rattle.std.proofs.Common.{◌≡◌, ℕ, ◌+◌, ◌*◌, inl, refl}
 use Rattle.std.specs.Prelude.{List, slice_get, ℤ, Some}
 use Rattle.x64_machine.specs.Effect.{State}
 use Rattle.virtual_unwind.specs.CallerOf.{Functions}
