@@ -1,12 +1,11 @@
 -- The code of each kind of node, made piece by piece.
 use Rattle.std.proofs.Common.{◌≡◌, ℕ, zero, suc, ◌+◌, ◌<◌, List, [], ◌∷◌, ◌++◌, length, map, take, get_or, refl, sym, ap, subst, ◌∙◌, arith, append_assoc, length-append}
-use Rattle.std.proofs.lemmas.List.{take_all, append-nil}
+use Rattle.std.proofs.lemmas.List.{append-nil}
 use Rattle.c_operations.specs.declared.built_in.BuiltIn.{BuiltIn}
 use Rattle.c_operations.specs.declared.operation.Operation.{Operation}
-use Rattle.c_operations.specs.declared.operation.Operation.TheVariants.{Pure, Divide}
+use Rattle.c_operations.specs.declared.operation.Operation.TheVariants.{Pure}
 use Rattle.c_operations.specs.declared.operation.Pure.{Pure as Pure'}
-use Rattle.c_operations.specs.declared.operation.Pure.TheVariants.{Add, Subtract}
-use Rattle.c_operations.specs.declared.operation.Signedness.TheVariants.{Signed}
+use Rattle.c_operations.specs.declared.operation.Pure.TheVariants.{Add}
 use Rattle.c_operations.specs.declared.operation.Size.TheVariants.{Long}
 use Rattle.c_checked.specs.declared.expression.Access.{Access}
 use Rattle.c_checked.specs.declared.expression.Conversion.{Conversion}
@@ -18,7 +17,7 @@ use Rattle.linear_code.specs.declared.slot.Slot.TheVariants.{Temporary}
 use Rattle.linear_code.specs.declared.instruction.Instruction.{Instruction}
 use Rattle.linear_code.specs.declared.instruction.Instruction.TheVariants.{Jump, JumpIfZero, Call, CallBuiltIn}
 use Rattle.seh_ir.specs.declared.scope.Names.{Names}
-use Rattle.ir_sizes.specs.Sizes.{address_count, conversion_size, read_size, expression_size, locate_size, arguments_size}
+use Rattle.ir_sizes.specs.Sizes.{address_count, conversion_size, read_size, expression_size, locate_size}
 use Rattle.seh_ir.specs.Expressions.{constant, copy, combine, conversion_code, unary_code, read_code, write_code, choice_code, argument_count, expression_code, locate_code, arguments_code, node_code}
 use Rattle.seh_ir.specs.Pieces.{assigned, compound_begun, compound_ended, difference_ended, incremented, increment_ended}
 use Rattle.seh_ir.proofs.Codes.{joined, longer, begun_length, expression_length, locate_length}

@@ -1,12 +1,10 @@
 -- How long code is, and code after code.
-use Rattle.std.proofs.Common.{◌≡◌, ℕ, zero, suc, ◌+◌, ◌<◌, List, [], ◌∷◌, ◌++◌, length, map, take, get_or, Option, None, Some, refl, sym, ap, ◌∙◌, arith, append_assoc, length-append}
-use Rattle.c_operations.specs.declared.operation.Operation.{Operation}
+use Rattle.std.proofs.Common.{◌≡◌, ℕ, ◌+◌, List, [], ◌∷◌, ◌++◌, length, refl, ap, ◌∙◌, arith, append_assoc, length-append}
 use Rattle.c_operations.specs.declared.operation.Operation.TheVariants.{Pure, Divide}
 use Rattle.c_operations.specs.declared.operation.Pure.{Pure as Pure'}
 use Rattle.c_operations.specs.declared.operation.Pure.TheVariants.{First, Add, Subtract}
 use Rattle.c_operations.specs.declared.operation.Signedness.TheVariants.{Signed}
 use Rattle.c_operations.specs.declared.operation.Size.TheVariants.{Long}
-use Rattle.c_checked.specs.declared.expression.Fixity.{Fixity}
 use Rattle.c_checked.specs.declared.expression.Conversion.{Conversion}
 use Rattle.c_checked.specs.declared.expression.Conversion.TheVariants.{Kept, Extend, Scale}
 use Rattle.c_checked.specs.Expression as nodes

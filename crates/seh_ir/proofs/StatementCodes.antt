@@ -1,11 +1,10 @@
 -- How long the code of statements is, and the code of each kind of statement, made piece by piece.
 use Rattle.std.proofs.Common.{◌≡◌, ℕ, zero, suc, ◌+◌, ◌<◌, List, [], ◌∷◌, ◌++◌, length, map, take, get_or, Option, None, Some, refl, sym, ap, subst, ◌∙◌, arith, append_assoc, length-append}
-use Rattle.std.specs.Prelude.{◌-◌, option_map}
+use Rattle.std.specs.Prelude.{◌-◌}
 use Rattle.std.proofs.lemmas.List.{append-nil}
 use Rattle.c_checked.specs.declared.statement.Declared.{Declared as Declared'}
 use Rattle.c_checked.specs.declared.statement.Stmt.{Stmt}
 use Rattle.c_checked.specs.Expression.{Expression}
-use Rattle.c_checked.specs.Statement as tree
 use Rattle.c_checked.specs.Statement.{Declared, Filter, Statement, Declare, Block, Evaluate, If, IfElse, For, DoWhile, Return, Break, Continue, Leave, TryExcept, TryFinally, Statements, Empty, Then, statement, statements, declared}
 use Rattle.linear_code.specs.declared.slot.Slot.TheVariants.{Local, Temporary}
 use Rattle.linear_code.specs.declared.instruction.Instruction.{Instruction}
@@ -16,8 +15,8 @@ use Rattle.seh_ir.specs.declared.scope.Way.TheVariants.{Nowhere, Jumps, Unwinds}
 use Rattle.seh_ir.specs.declared.scope.Scope.{Scope}
 use Rattle.seh_ir.specs.Scope.{in_loop, in_try, in_except, in_guarded}
 use Rattle.ir_sizes.specs.Sizes.{expression_size, discarded_size, condition_size, returned_size, declared_size, all_declared_size, statement_size, statements_size}
-use Rattle.seh_ir.specs.Expressions.{copy, constant, expression_code}
-use Rattle.seh_ir.specs.Statements.{jump_code, return_code, leave_code, discarded_code, returned_code, condition_code, initialiser_code, declared_code, all_declared_code, landed, repeated, statement_code, statements_code}
+use Rattle.seh_ir.specs.Expressions.{copy, expression_code}
+use Rattle.seh_ir.specs.Statements.{jump_code, return_code, discarded_code, returned_code, condition_code, initialiser_code, declared_code, all_declared_code, landed, repeated, statement_code, statements_code}
 use Rattle.seh_ir.proofs.Codes.{joined, longer, more, two, expression_length}
 use Rattle.seh_ir.proofs.Arms.{after, after_one, after_expression}
 
@@ -129,36 +128,54 @@ Run scope s old new = new ≡ old ++ statement_code scope s (length old)
 of : (scope : Scope) (s t : Statement) (old new : List Instruction) → s ≡ t → Run scope t old new → Run scope s old new
 of scope s t old new e h = subst (λ x. Run scope x old new) (sym e) h
 
-pub if_is : (scope : Scope) (c : Expression) (s : Statement) (x : Statement) (size : ℕ) (old one two three : List Instruction) → x ≡ If c s → size ≡ statement_size s → one ≡ old ++ expression_code scope.names c 0 (length old) → two ≡ one ++ JumpIfZero (Temporary 0) (length one + (size + 1)) ∷ [] → three ≡ two ++ statement_code scope s (length two) → Run scope x old three
-if_is scope c s x size old one two three is z a b k =
-    let n = statement_size s in
-    let label = length one + (size + 1) in
-    let h = after_one (JumpIfZero (Temporary 0) label) one two three (λ at. statement_code scope s at) b k in
-    let e : label ≡ length one + 1 + n = omega arith in
-    of scope x (If c s) old three is
-    (after_expression scope.names c 0 old one three (λ at. JumpIfZero (Temporary 0) (at + 1 + n) ∷ statement_code scope s (at + 1)) a
-    (h ∙ ap (λ k. one ++ JumpIfZero (Temporary 0) k ∷ statement_code scope s (length one + 1)) e))
+-- a condition, a jump where it is 0, and a statement
+abbrev When : Scope → Expression → Statement → ℕ → ℕ → List Instruction
+When scope c s more at =
+    expression_code scope.names c 0 at ++ JumpIfZero (Temporary 0) (at + expression_size c + (statement_size s + more)) ∷ statement_code scope s (at + expression_size c + 1)
 
-pub if_else_is : (scope : Scope) (c : Expression) (s t : Statement) (x : Statement) (size other : ℕ) (old one two three four five : List Instruction) → x ≡ IfElse c s t → size ≡ statement_size s → other ≡ statement_size t → one ≡ old ++ expression_code scope.names c 0 (length old) → two ≡ one ++ JumpIfZero (Temporary 0) (length one + (size + 2)) ∷ [] → three ≡ two ++ statement_code scope s (length two) → four ≡ three ++ Jump (length three + (other + 1)) ∷ [] → five ≡ four ++ statement_code scope t (length four) → Run scope x old five
-if_else_is scope c s t x size other old one two three four five is y z a b k l m =
+pub when_is : (scope : Scope) (c : Expression) (s : Statement) (size more' : ℕ) (old one two three : List Instruction) → size ≡ statement_size s → one ≡ old ++ expression_code scope.names c 0 (length old) → two ≡ one ++ JumpIfZero (Temporary 0) (length one + (size + more')) ∷ [] → three ≡ two ++ statement_code scope s (length two) → three ≡ old ++ When scope c s more' (length old)
+when_is scope c s size more' old one two three z a b k =
+    let h = after_one (JumpIfZero (Temporary 0) (length one + (size + more'))) one two three (λ at. statement_code scope s at) b k in
+    after_expression scope.names c 0 old one three (λ at. JumpIfZero (Temporary 0) (at + (statement_size s + more')) ∷ statement_code scope s (at + 1)) a
+    (h ∙ ap (λ n. one ++ JumpIfZero (Temporary 0) (length one + (n + more')) ∷ statement_code scope s (length one + 1)) z)
+
+pub if_is : (scope : Scope) (c : Expression) (s : Statement) (x : Statement) (old new : List Instruction) → x ≡ If c s → new ≡ old ++ When scope c s 1 (length old) → Run scope x old new
+if_is scope c s x old new is a =
+    let then = length old + expression_size c in
+    let e : then + (statement_size s + 1) ≡ then + 1 + statement_size s = omega arith in
+    of scope x (If c s) old new is
+    (a ∙ ap (λ k. old ++ (expression_code scope.names c 0 (length old) ++ JumpIfZero (Temporary 0) k ∷ statement_code scope s (then + 1))) e)
+
+pub if_else_is : (scope : Scope) (c : Expression) (s t : Statement) (x : Statement) (other : ℕ) (old l1 l2 l3 : List Instruction) → x ≡ IfElse c s t → other ≡ statement_size t → l1 ≡ old ++ When scope c s 2 (length old) → l2 ≡ l1 ++ Jump (length l1 + (other + 1)) ∷ [] → l3 ≡ l2 ++ statement_code scope t (length l2) → Run scope x old l3
+if_else_is scope c s t x other old l1 l2 l3 is z a b k =
     let i = statement_size s in
     let j = statement_size t in
-    let label = length one + (size + 2) in
-    let end = length three + (other + 1) in
-    let g = after_one (Jump end) three four five (λ at. statement_code scope t at) l m in
-    let h = after_statement scope s two three five (λ at. Jump end ∷ statement_code scope t (at + 1)) k g in
-    let o = after_one (JumpIfZero (Temporary 0) label) one two five (λ at. statement_code scope s at ++ Jump end ∷ statement_code scope t (at + i + 1)) b h in
-    let u : length two ≡ length one + 1 = longer one two (JumpIfZero (Temporary 0) label ∷ []) 1 refl b in
-    let v : length three ≡ length two + i = longer two three (statement_code scope s (length two)) i (statement_length scope s (length two)) k in
-    let e : label ≡ length one + 1 + i + 1 = omega arith in
-    let f : end ≡ length one + 1 + i + 1 + j = omega arith in
-    of scope x (IfElse c s t) old five is
-    (after_expression scope.names c 0 old one five (λ at. JumpIfZero (Temporary 0) (at + 1 + i + 1) ∷ (statement_code scope s (at + 1) ++ Jump (at + 1 + i + 1 + j) ∷ statement_code scope t (at + 1 + i + 1))) a
-    (o ∙ ap (λ k. one ++ JumpIfZero (Temporary 0) label ∷ (statement_code scope s (length one + 1) ++ Jump k ∷ statement_code scope t (length one + 1 + i + 1))) f
-    ∙ ap (λ k. one ++ JumpIfZero (Temporary 0) k ∷ (statement_code scope s (length one + 1) ++ Jump (length one + 1 + i + 1 + j) ∷ statement_code scope t (length one + 1 + i + 1))) e))
+    let at = length old in
+    let nc = expression_size c in
+    let front = expression_code scope.names c 0 at in
+    let body = statement_code scope s (at + nc + 1) in
+    let over = JumpIfZero (Temporary 0) (at + nc + (i + 2)) in
+    let long = nc + (1 + i) in
+    let g = after_one (Jump (length l1 + (other + 1))) l1 l2 l3 (λ p. statement_code scope t p) b k in
+    let g' = g ∙ ap (λ n. l1 ++ Jump (length l1 + (n + 1)) ∷ statement_code scope t (length l1 + 1)) z in
+    let h = after (When scope c s 2 at) long old l1 l3 (λ p. Jump (p + (j + 1)) ∷ statement_code scope t (p + 1)) two_lengths a g' in
+    let rest = Jump (at + long + (j + 1)) ∷ statement_code scope t (at + long + 1) in
+    let e : at + nc + (i + 2) ≡ at + nc + 1 + i + 1 = omega arith in
+    let f : at + long + 1 ≡ at + nc + 1 + i + 1 = omega arith in
+    let m : at + long + (j + 1) ≡ at + nc + 1 + i + 1 + j = omega arith in
+    of scope x (IfElse c s t) old l3 is
+    (h ∙ ap (λ xs. old ++ xs) (append_assoc front (over ∷ body) rest)
+    ∙ ap (λ p. old ++ (front ++ JumpIfZero (Temporary 0) p ∷ (body ++ rest))) e
+    ∙ ap (λ p. old ++ (front ++ JumpIfZero (Temporary 0) (at + nc + 1 + i + 1) ∷ (body ++ Jump p ∷ statement_code scope t (at + long + 1)))) m
+    ∙ ap (λ p. old ++ (front ++ JumpIfZero (Temporary 0) (at + nc + 1 + i + 1) ∷ (body ++ Jump (at + nc + 1 + i + 1 + j) ∷ statement_code scope t p))) f)
+  where
+    two_lengths : length (When scope c s 2 (length old)) ≡ expression_size c + (1 + statement_size s)
+    two_lengths =
+        two (expression_code scope.names c 0 (length old)) (JumpIfZero (Temporary 0) (length old + expression_size c + (statement_size s + 2)) ∷ statement_code scope s (length old + expression_size c + 1)) (expression_size c) (1 + statement_size s) (expression_length scope.names c 0 (length old))
+        (more (JumpIfZero (Temporary 0) (length old + expression_size c + (statement_size s + 2))) (statement_code scope s (length old + expression_size c + 1)) (statement_size s) (statement_length scope s (length old + expression_size c + 1)))
 
-pub for_is : (scope : Scope) (ds : List Declared) (first c next : Option Expression) (s : Statement) (x : Statement) (nc ns nn turn last again end : ℕ) (old l0 l1 l2 l3 l4 l5 l6 : List Instruction) → x ≡ For ds first c next s → nc ≡ condition_size c → ns ≡ statement_size s → nn ≡ discarded_size next → turn ≡ nc + ns → last ≡ nn + 2 → again ≡ length l1 + turn → end ≡ again + last → l0 ≡ old ++ all_declared_code scope.names ds (length old) → l1 ≡ l0 ++ discarded_code scope.names first (length l0) → l2 ≡ l1 ++ condition_code scope.names c end (length l1) → l3 ≡ l2 ++ statement_code (in_loop end again scope) s (length l2) → l4 ≡ l3 ++ Separator ∷ [] → l5 ≡ l4 ++ discarded_code scope.names next (length l4) → l6 ≡ l5 ++ Jump (length l1) ∷ [] → Run scope x old l6
-for_is scope ds first c next s x nc0 ns0 nn0 turn last again end old l0 l1 l2 l3 l4 l5 l6 is zc zs zn t l a e h0 h1 h2 h3 h4 h5 h6 =
+pub for_is : (scope : Scope) (ds : List Declared) (first c next : Option Expression) (s : Statement) (nc ns nn turn last again end : ℕ) (old l0 l1 l2 l3 l4 l5 l6 : List Instruction) → nc ≡ condition_size c → ns ≡ statement_size s → nn ≡ discarded_size next → turn ≡ nc + ns → last ≡ nn + 2 → again ≡ length l1 + turn → end ≡ again + last → l0 ≡ old ++ all_declared_code scope.names ds (length old) → l1 ≡ l0 ++ discarded_code scope.names first (length l0) → l2 ≡ l1 ++ condition_code scope.names c end (length l1) → l3 ≡ l2 ++ statement_code (in_loop end again scope) s (length l2) → l4 ≡ l3 ++ Separator ∷ [] → l5 ≡ l4 ++ discarded_code scope.names next (length l4) → l6 ≡ l5 ++ Jump (length l1) ∷ [] → Run scope (For ds first c next s) old l6
+for_is scope ds first c next s nc0 ns0 nn0 turn last again end old l0 l1 l2 l3 l4 l5 l6 zc zs zn t l a e h0 h1 h2 h3 h4 h5 h6 =
     let names = scope.names in
     let nd = all_declared_size ds in
     let nf = discarded_size first in
@@ -180,11 +197,10 @@ for_is scope ds first c next s x nc0 ns0 nn0 turn last again end old l0 l1 l2 l3
     let r : end ≡ length l1 + nc + ns + 1 + nn + 1 = omega arith in
     let g2'' : l6 ≡ l1 ++ whole (length l1) (length l1 + nc) (length l1 + nc + ns) (length l1 + nc + ns + 1 + nn + 1) = g2' ∙ ap (λ k. l1 ++ whole (length l1) (length l1 + nc) k end) q ∙ ap (λ k. l1 ++ whole (length l1) (length l1 + nc) (length l1 + nc + ns) k) r in
     let g1 = after (discarded_code names first (length l0)) nf l0 l1 l6 (λ at. whole at (at + nc) (at + nc + ns) (at + nc + ns + 1 + nn + 1)) (discarded_length names first (length l0)) h1 g2'' in
-    of scope x (For ds first c next s) old l6 is
-    (after (all_declared_code names ds (length old)) nd old l0 l6 (λ at. discarded_code names first at ++ whole (at + nf) (at + nf + nc) (at + nf + nc + ns) (at + nf + nc + ns + 1 + nn + 1)) (all_declared_length names ds (length old)) h0 g1)
+    after (all_declared_code names ds (length old)) nd old l0 l6 (λ at. discarded_code names first at ++ whole (at + nf) (at + nf + nc) (at + nf + nc + ns) (at + nf + nc + ns + 1 + nn + 1)) (all_declared_length names ds (length old)) h0 g1
 
-pub do_is : (scope : Scope) (s : Statement) (c : Expression) (x : Statement) (size nc0 last again end : ℕ) (old l1 l2 l3 l4 : List Instruction) → x ≡ DoWhile s c → size ≡ statement_size s → nc0 ≡ expression_size c → last ≡ nc0 + 3 → again ≡ length old + size → end ≡ again + last → l1 ≡ old ++ statement_code (in_loop end again scope) s (length old) → l2 ≡ l1 ++ Separator ∷ [] → l3 ≡ l2 ++ expression_code scope.names c 0 (length l2) → l4 ≡ l3 ++ repeated end (length old) → Run scope x old l4
-do_is scope s c x size nc0 last again end old l1 l2 l3 l4 is z y l a e h1 h2 h3 h4 =
+pub do_is : (scope : Scope) (s : Statement) (c : Expression) (size nc0 last again end : ℕ) (old l1 l2 l3 l4 : List Instruction) → size ≡ statement_size s → nc0 ≡ expression_size c → last ≡ nc0 + 3 → again ≡ length old + size → end ≡ again + last → l1 ≡ old ++ statement_code (in_loop end again scope) s (length old) → l2 ≡ l1 ++ Separator ∷ [] → l3 ≡ l2 ++ expression_code scope.names c 0 (length l2) → l4 ≡ l3 ++ repeated end (length old) → Run scope (DoWhile s c) old l4
+do_is scope s c size nc0 last again end old l1 l2 l3 l4 z y l a e h1 h2 h3 h4 =
     let names = scope.names in
     let ns = statement_size s in
     let nc = expression_size c in
@@ -195,32 +211,46 @@ do_is scope s c x size nc0 last again end old l1 l2 l3 l4 is z y l a e h1 h2 h3 
     let p : again ≡ at + ns = omega arith in
     let q : end ≡ at + ns + 1 + nc + 2 = omega arith in
     let whole = λ (r t : ℕ). statement_code (in_loop t r scope) s at ++ Separator ∷ (expression_code names c 0 (at + ns + 1) ++ repeated t at) in
-    of scope x (DoWhile s c) old l4 is (g1 ∙ ap (λ k. old ++ whole k end) p ∙ ap (λ k. old ++ whole (at + ns) k) q)
+    g1 ∙ ap (λ k. old ++ whole k end) p ∙ ap (λ k. old ++ whole (at + ns) k) q
 
-pub return_is : (scope : Scope) (e : Option Expression) (x : Statement) (old one two : List Instruction) → x ≡ Return e → one ≡ old ++ returned_code scope.names e (length old) → two ≡ one ++ return_code scope.exit → Run scope x old two
-return_is scope e x old one two is a b = of scope x (Return e) old two is (joined old one two (returned_code scope.names e (length old)) (return_code scope.exit) a b)
+pub return_is : (scope : Scope) (e : Option Expression) (old one two : List Instruction) → one ≡ old ++ returned_code scope.names e (length old) → two ≡ one ++ return_code scope.exit → Run scope (Return e) old two
+return_is scope e old one two a b = joined old one two (returned_code scope.names e (length old)) (return_code scope.exit) a b
 
-pub except_is : (scope inner : Scope) (body : Statements) (filter : Filter) (block : Statements) (x : Statement) (size other rest both end : ℕ) (old l1 l2 l3 : List Instruction) → x ≡ TryExcept body filter block → size ≡ statements_size body → other ≡ statements_size block → rest ≡ other + 2 → both ≡ size + rest → inner ≡ in_except scope → end ≡ length old + both → l1 ≡ old ++ statements_code (in_try end scope) body (length old) → l2 ≡ l1 ++ landed end scope.names.free → l3 ≡ l2 ++ statements_code inner block (length l2) → Run scope x old l3
-except_is scope inner body filter block x size other rest both end old l1 l2 l3 is z y w v i e h1 h2 h3 =
+-- the body of a `__try` with the beginning of its `__except` block
+abbrev Tried : Scope → Statements → ℕ → ℕ → List Instruction
+Tried scope body block at =
+    statements_code (in_try (at + (statements_size body + (block + 2))) scope) body at ++ landed (at + (statements_size body + (block + 2))) scope.names.free
+
+pub tried_is : (scope : Scope) (body : Statements) (size block rest both end : ℕ) (old l1 l2 : List Instruction) → size ≡ statements_size body → rest ≡ block + 2 → both ≡ size + rest → end ≡ length old + both → l1 ≡ old ++ statements_code (in_try end scope) body (length old) → l2 ≡ l1 ++ landed end scope.names.free → l2 ≡ old ++ Tried scope body block (length old)
+tried_is scope body size block rest both end old l1 l2 z w v e h1 h2 =
+    let p : end ≡ length old + (statements_size body + (block + 2)) = omega arith in
+    joined old l1 l2 (statements_code (in_try end scope) body (length old)) (landed end scope.names.free) h1 h2
+    ∙ ap (λ t. old ++ (statements_code (in_try t scope) body (length old) ++ landed t scope.names.free)) p
+
+pub except_is : (scope inner : Scope) (body : Statements) (filter : Filter) (block : Statements) (x : Statement) (size : ℕ) (old l1 l2 : List Instruction) → x ≡ TryExcept body filter block → size ≡ statements_size block → inner ≡ in_except scope → l1 ≡ old ++ Tried scope body size (length old) → l2 ≡ l1 ++ statements_code inner block (length l1) → Run scope x old l2
+except_is scope inner body filter block x size old l1 l2 is z i h1 h2 =
     let nb = statements_size body in
     let nh = statements_size block in
     let at = length old in
+    let end = at + (nb + (size + 2)) in
     let free = scope.names.free in
-    let h3' = h3 ∙ ap (λ (k : Scope). l2 ++ statements_code k block (length l2)) i in
-    let g2 = after (landed end free) 2 l1 l2 l3 (λ k. statements_code (in_except scope) block k) refl h2 h3' in
-    let g1 = after_statements (in_try end scope) body old l1 l3 (λ k. landed end free ++ statements_code (in_except scope) block (k + 2)) h1 g2 in
+    let front = statements_code (in_try end scope) body at in
+    let long = two front (landed end free) nb 2 (statements_length (in_try end scope) body at) refl in
+    let h2' = h2 ∙ ap (λ (k : Scope). l1 ++ statements_code k block (length l1)) i in
+    let g = after (Tried scope body size at) (nb + 2) old l1 l2 (λ k. statements_code (in_except scope) block k) long h1 h2' in
     let p : end ≡ at + nb + 1 + 1 + nh = omega arith in
-    let q : at + nb + 2 ≡ at + nb + 1 + 1 = omega arith in
+    let q : at + (nb + 2) ≡ at + nb + 1 + 1 = omega arith in
     let whole = λ (t k : ℕ). statements_code (in_try t scope) body at ++ (landed t free ++ statements_code (in_except scope) block k) in
-    of scope x (TryExcept body filter block) old l3 is (g1 ∙ ap (λ t. old ++ whole t (at + nb + 2)) p ∙ ap (λ k. old ++ whole (at + nb + 1 + 1 + nh) k) q)
+    of scope x (TryExcept body filter block) old l2 is
+    (g ∙ ap (λ xs. old ++ xs) (append_assoc front (landed end free) (statements_code (in_except scope) block (at + (nb + 2))))
+    ∙ ap (λ t. old ++ whole t (at + (nb + 2))) p ∙ ap (λ k. old ++ whole (at + nb + 1 + 1 + nh) k) q)
 
-pub finally_is : (scope : Scope) (body : Statements) (k : ℕ) (last : Statements) (x : Statement) (size end : ℕ) (old one two : List Instruction) → x ≡ TryFinally body k last → size ≡ statements_size body → end ≡ length old + size → one ≡ old ++ statements_code (in_guarded end scope) body (length old) → two ≡ one ++ Separator ∷ CallFinally (k - 1) ∷ Separator ∷ [] → Run scope x old two
-finally_is scope body k last x size end old one two is z e a b =
+pub finally_is : (scope : Scope) (body : Statements) (k : ℕ) (last : Statements) (size end : ℕ) (old one two : List Instruction) → size ≡ statements_size body → end ≡ length old + size → one ≡ old ++ statements_code (in_guarded end scope) body (length old) → two ≡ one ++ Separator ∷ CallFinally (k - 1) ∷ Separator ∷ [] → Run scope (TryFinally body k last) old two
+finally_is scope body k last size end old one two z e a b =
     let p : end ≡ length old + statements_size body = omega arith in
     let tail = Separator ∷ CallFinally (k - 1) ∷ Separator ∷ [] in
-    of scope x (TryFinally body k last) old two is
-    (joined old one two (statements_code (in_guarded end scope) body (length old)) tail a b
-    ∙ ap (λ t. old ++ (statements_code (in_guarded t scope) body (length old) ++ tail)) p)
+    joined old one two (statements_code (in_guarded end scope) body (length old)) tail a b
+    ∙ ap (λ t. old ++ (statements_code (in_guarded t scope) body (length old) ++ tail)) p
 
 -- ---- lists, one element after another
 

@@ -1,5 +1,5 @@
 -- What is around a part of a program that is lowered.
-use Rattle.std.specs.Prelude.{ℕ, ◌+◌, Option, None, Some}
+use Rattle.std.specs.Prelude.{ℕ, ◌+◌, None, Some}
 use Rattle.seh_ir.specs.declared.scope.ExceptionSource.TheVariants.{NoException, OfFilter, KeptIn}
 use Rattle.seh_ir.specs.declared.scope.Names.{Names}
 use Rattle.seh_ir.specs.declared.scope.Way.{Way}

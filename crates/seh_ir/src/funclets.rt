@@ -20,7 +20,7 @@ use std::alloc::{AllocError, Global};
 
 /// The function that funclets belong to, with the locals of its activations, and the funclet whose body
 /// their regions are in.
-#[derive(Clone, Copy, Debug, PartialEq, Eq)]
+#[derive(Clone, Copy)]
 pub struct Owner {
     pub function: u64,
     pub locals: u64,

@@ -1,18 +1,28 @@
 //! Single instructions, and those of conversions, names and places.
 
 ghost use Rattle.std.specs.Prelude.{◌≡◌, ◌+◌, ◌++◌, [], ◌∷◌, length, OnOk, IfOk};
+ghost use Rattle.c_operations.specs.declared.operation.Operation.TheVariants as operations;
+ghost use Rattle.c_operations.specs.declared.operation.Pure.TheVariants as pures;
 ghost use Rattle.c_checked.specs.Expression as tree;
 ghost use Rattle.seh_ir.specs.Expressions as spec;
 
 use crate::scope::ExceptionSource;
 use c_checked::expression::{Access, Conversion, Fixity, Lvalue};
 use c_operations::field::Field;
-use c_operations::operation::{Operation, Pure, Size};
+use c_operations::operation::{Operation, Pure, Signedness, Size};
 use ir_sizes::sums::sum;
 use linear_code::instruction::Instruction;
 use linear_code::slot::Slot;
 use seh_num::width::Width;
 use std::alloc::AllocError;
+
+/// One instruction more.
+pub fn put(code: &mut Vec<Instruction>, instruction: Instruction) -> Result<(), AllocError>
+    ensures { OnOk result (code.new.items ≡ code.old.items ++ instruction ∷ []) }
+{
+    code.push(instruction)?;
+    Ok(())
+}
 
 pub fn constant(d: u64, n: u64) -> Instruction
     ensures { result ≡ spec.constant d n }
@@ -63,6 +73,20 @@ pub fn combine(d: u64, operation: Operation) -> Result<Instruction, AllocError>
     })
 }
 
+/// The low bits of a temporary, extended to a size.
+fn extend(d: u64, signedness: Signedness, from: Width, size: Size) -> Instruction
+    ensures { result ≡ spec.change d (operations.Pure (pures.Extend signedness from size)) }
+{
+    change(
+        d,
+        Operation::Pure(Pure::Extend {
+            signedness,
+            from,
+            size,
+        }),
+    )
+}
+
 pub fn convert(
     code: &mut Vec<Instruction>,
     conversion: Conversion,
@@ -76,30 +100,13 @@ pub fn convert(
             signedness,
             from,
             size,
-        } => {
-            code.push(change(
-                d,
-                Operation::Pure(Pure::Extend {
-                    signedness,
-                    from,
-                    size,
-                }),
-            ))?;
-            Ok(())
-        }
+        } => put(code, extend(d, signedness, from, size)),
         Conversion::Scale {
             signedness,
             from,
             by,
         } => {
-            code.push(change(
-                d,
-                Operation::Pure(Pure::Extend {
-                    signedness,
-                    from,
-                    size: Size::Long,
-                }),
-            ))?;
+            put(code, extend(d, signedness, from, Size::Long))?;
             code.push(constant(sum(d, 1)?, by))?;
             code.push(combine(d, Operation::Pure(Pure::Multiply(Size::Long)))?)?;
             Ok(())

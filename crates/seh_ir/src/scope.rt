@@ -7,7 +7,7 @@ use ir_sizes::sums::sum;
 use std::alloc::AllocError;
 
 /// Where the code of an exception is found.
-#[derive(Clone, Copy, Debug, PartialEq, Eq)]
+#[derive(Clone, Copy)]
 pub enum ExceptionSource {
     /// There is none.
     NoException,
@@ -18,7 +18,7 @@ pub enum ExceptionSource {
 }
 
 /// What GetExceptionCode and AbnormalTermination mean.
-#[derive(Clone, Copy, Debug, PartialEq, Eq)]
+#[derive(Clone, Copy)]
 pub struct Names {
     pub exception: ExceptionSource,
     /// The local of a `__finally` block's flag.
@@ -28,7 +28,7 @@ pub struct Names {
 }
 
 /// How a label is reached.
-#[derive(Clone, Copy, Debug, PartialEq, Eq)]
+#[derive(Clone, Copy)]
 pub enum Way {
     Nowhere,
     Jumps(u64),
@@ -37,7 +37,7 @@ pub enum Way {
 }
 
 /// The names; where `return`, `break`, `continue` and `__leave` lead.
-#[derive(Clone, Copy, Debug, PartialEq, Eq)]
+#[derive(Clone, Copy)]
 pub struct Scope {
     pub names: Names,
     pub exit: Way,

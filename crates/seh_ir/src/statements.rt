@@ -1,13 +1,17 @@
 //! The code of statements.
 
 ghost use Rattle.std.specs.Prelude.{◌≡◌, ◌+◌, ◌-◌, ◌++◌, [], ◌∷◌, map, length, OnOk, IfOk, option_map};
-ghost use Rattle.linear_code.specs.declared.instruction.Instruction.TheVariants.{CallFinally, Separator};
+ghost use Rattle.linear_code.specs.declared.slot.Slot.TheVariants.{Temporary};
+ghost use Rattle.linear_code.specs.declared.instruction.Instruction.TheVariants.{CallFinally, JumpIfZero, Separator};
 ghost use Rattle.c_checked.specs.Expression as tree;
 ghost use Rattle.c_checked.specs.Statement as statements;
+ghost use Rattle.ir_sizes.specs.Sizes as sizes;
+ghost use Rattle.seh_ir.specs.Scope as scopes;
+ghost use Rattle.seh_ir.specs.Expressions as expressions;
 ghost use Rattle.seh_ir.specs.Statements as spec;
 
 use crate::expressions::expression;
-use crate::instructions::{ahead, constant, copy};
+use crate::instructions::{ahead, constant, copy, put};
 use crate::pieces::{skip, test};
 use crate::scope::{Names, Scope, Way, in_except, in_guarded, in_loop, in_try};
 use c_checked::expression::Expr;
@@ -89,12 +93,22 @@ fn returned(
     ensures { OnOk result (code.new.items ≡ code.old.items ++ spec.returned_code names (option_map tree.expression expr.now) (length code.old.items)) }
 {
     match expr {
-        None => {
-            code.push(constant(0, 0))?;
-            Ok(())
-        }
+        None => put(code, constant(0, 0)),
         Some(e) => expression(code, names, e, 0),
     }
+}
+
+/// A `return`.
+fn leave_function(
+    code: &mut Vec<Instruction>,
+    scope: &Scope,
+    expr: &Option<Expr>,
+) -> Result<(), AllocError>
+    ensures { OnOk result (code.new.items ≡ code.old.items ++ spec.statement_code scope.now (statements.Return (option_map tree.expression expr.now)) (length code.old.items)) }
+{
+    returned(code, scope.names, expr)?;
+    end_return(code, scope.exit)?;
+    Ok(())
 }
 
 /// A condition, and a jump where it is 0.
@@ -215,6 +229,107 @@ pub fn statements(
     Ok(())
 }
 
+/// A condition, and a statement with a jump over it, and so many instructions more, where it is 0.
+#[cycle(statements)]
+fn when(
+    code: &mut Vec<Instruction>,
+    scope: &Scope,
+    then: &Stmt,
+    condition: &Expr,
+    more: u64,
+) -> Result<(), AllocError>
+    ensures { OnOk result (code.new.items ≡ code.old.items ++ (expressions.expression_code scope.now.names (tree.expression condition.now) 0 (length code.old.items) ++ JumpIfZero (Temporary 0) (length code.old.items + sizes.expression_size (tree.expression condition.now) + (sizes.statement_size (statements.statement then.now) + more)) ∷ spec.statement_code scope.now (statements.statement then.now) (length code.old.items + sizes.expression_size (tree.expression condition.now) + 1))) }
+{
+    let size = statement_size(then)?;
+    expression(code, scope.names, condition, 0)?;
+    test(code, 0, size, more)?;
+    statement(code, scope, then)?;
+    Ok(())
+}
+
+#[cycle(statements)]
+fn for_loop(
+    code: &mut Vec<Instruction>,
+    scope: &Scope,
+    body: &Stmt,
+    declared: &[Declared],
+    first: &Option<Expr>,
+    condition: &Option<Expr>,
+    next: &Option<Expr>,
+) -> Result<(), AllocError>
+    ensures { OnOk result (code.new.items ≡ code.old.items ++ spec.statement_code scope.now (statements.For (map statements.declared declared.now) (option_map tree.expression first.now) (option_map tree.expression condition.now) (option_map tree.expression next.now) (statements.statement body.now)) (length code.old.items)) }
+{
+    let turn = sum(condition_size(condition)?, statement_size(body)?)?;
+    let last = sum(discarded_size(next)?, 2)?;
+    declare_all(code, scope.names, declared)?;
+    discarded(code, scope.names, first)?;
+    let iteration = here(code);
+    let again = ahead(code, turn)?;
+    let end = sum(again, last)?;
+    tested(code, scope.names, condition, end)?;
+    statement(code, &in_loop(end, again, scope), body)?;
+    put(code, Instruction::Separator)?;
+    discarded(code, scope.names, next)?;
+    put(code, Instruction::Jump { label: iteration })?;
+    Ok(())
+}
+
+#[cycle(statements)]
+fn do_loop(
+    code: &mut Vec<Instruction>,
+    scope: &Scope,
+    body: &Stmt,
+    condition: &Expr,
+) -> Result<(), AllocError>
+    ensures { OnOk result (code.new.items ≡ code.old.items ++ spec.statement_code scope.now (statements.DoWhile (statements.statement body.now) (tree.expression condition.now)) (length code.old.items)) }
+{
+    let size = statement_size(body)?;
+    let last = sum(expression_size(condition)?, 3)?;
+    let begin = here(code);
+    let again = ahead(code, size)?;
+    let end = sum(again, last)?;
+    statement(code, &in_loop(end, again, scope), body)?;
+    put(code, Instruction::Separator)?;
+    expression(code, scope.names, condition, 0)?;
+    end_do(code, end, begin)?;
+    Ok(())
+}
+
+/// The body of a `__try` whose `__except` block has this size, with the beginning of that block.
+#[cycle(statements)]
+fn tried(
+    code: &mut Vec<Instruction>,
+    scope: &Scope,
+    body: &[Stmt],
+    block: u64,
+) -> Result<(), AllocError>
+    ensures { OnOk result (code.new.items ≡ code.old.items ++ (spec.statements_code (scopes.in_try (length code.old.items + (sizes.statements_size (statements.statements (map statements.statement body.now)) + (block + 2))) scope.now) (statements.statements (map statements.statement body.now)) (length code.old.items) ++ spec.landed (length code.old.items + (sizes.statements_size (statements.statements (map statements.statement body.now)) + (block + 2))) scope.now.names.free)) }
+{
+    let size = statements_size(body)?;
+    let both = sum(size, sum(block, 2)?)?;
+    let end = ahead(code, both)?;
+    statements(code, &in_try(end, scope), body)?;
+    land(code, end, scope.names.free)?;
+    Ok(())
+}
+
+/// A `__try` with a `__finally` block, whatever is in that block.
+#[cycle(statements)]
+fn try_finally(
+    code: &mut Vec<Instruction>,
+    scope: &Scope,
+    body: &[Stmt],
+    number: u32,
+) -> Result<(), AllocError>
+    ensures { OnOk result (code.new.items ≡ code.old.items ++ spec.statement_code scope.now (statements.TryFinally (statements.statements (map statements.statement body.now)) number statements.Empty) (length code.old.items)) }
+{
+    let size = statements_size(body)?;
+    let end = ahead(code, size)?;
+    statements(code, &in_guarded(end, scope), body)?;
+    call_finally(code, number)?;
+    Ok(())
+}
+
 #[cycle(statements)]
 fn statement(code: &mut Vec<Instruction>, scope: &Scope, stmt: &Stmt) -> Result<(), AllocError>
     ensures { OnOk result (code.new.items ≡ code.old.items ++ spec.statement_code scope.now (statements.statement stmt.now) (length code.old.items)) }
@@ -229,18 +344,12 @@ fn statement(code: &mut Vec<Instruction>, scope: &Scope, stmt: &Stmt) -> Result<
             otherwise,
         } => match otherwise {
             None => {
-                let size = statement_size(then)?;
-                expression(code, scope.names, condition, 0)?;
-                test(code, 0, size, 1)?;
-                statement(code, scope, then)?;
+                when(code, scope, then, condition, 1)?;
                 Ok(())
             }
             Some(other) => {
-                let size = statement_size(then)?;
                 let more = statement_size(other)?;
-                expression(code, scope.names, condition, 0)?;
-                test(code, 0, size, 2)?;
-                statement(code, scope, then)?;
+                when(code, scope, then, condition, 2)?;
                 skip(code, more, 1)?;
                 statement(code, scope, other)?;
                 Ok(())
@@ -252,60 +361,19 @@ fn statement(code: &mut Vec<Instruction>, scope: &Scope, stmt: &Stmt) -> Result<
             condition,
             next,
             body,
-        } => {
-            let turn = sum(condition_size(condition)?, statement_size(body)?)?;
-            let last = sum(discarded_size(next)?, 2)?;
-            declare_all(code, scope.names, declared)?;
-            discarded(code, scope.names, first)?;
-            let iteration = here(code);
-            let again = ahead(code, turn)?;
-            let end = sum(again, last)?;
-            tested(code, scope.names, condition, end)?;
-            statement(code, &in_loop(end, again, scope), body)?;
-            code.push(Instruction::Separator)?;
-            discarded(code, scope.names, next)?;
-            code.push(Instruction::Jump { label: iteration })?;
-            Ok(())
-        }
-        Stmt::Do { body, condition } => {
-            let size = statement_size(body)?;
-            let last = sum(expression_size(condition)?, 3)?;
-            let begin = here(code);
-            let again = ahead(code, size)?;
-            let end = sum(again, last)?;
-            statement(code, &in_loop(end, again, scope), body)?;
-            code.push(Instruction::Separator)?;
-            expression(code, scope.names, condition, 0)?;
-            end_do(code, end, begin)?;
-            Ok(())
-        }
-        Stmt::Return(expr) => {
-            returned(code, scope.names, expr)?;
-            end_return(code, scope.exit)?;
-            Ok(())
-        }
+        } => for_loop(code, scope, body, declared, first, condition, next),
+        Stmt::Do { body, condition } => do_loop(code, scope, body, condition),
+        Stmt::Return(expr) => leave_function(code, scope, expr),
         Stmt::Break => jump(code, scope.loop_end),
         Stmt::Continue => jump(code, scope.loop_next),
-        Stmt::Leave => {
-            code.push(leave(scope.leave))?;
-            Ok(())
-        }
+        Stmt::Leave => put(code, leave(scope.leave)),
         Stmt::TryExcept { body, handler, .. } => {
-            let size = statements_size(body)?;
-            let both = sum(size, sum(statements_size(handler)?, 2)?)?;
             let inner = in_except(scope)?;
-            let end = ahead(code, both)?;
-            statements(code, &in_try(end, scope), body)?;
-            land(code, end, scope.names.free)?;
+            let block = statements_size(handler)?;
+            tried(code, scope, body, block)?;
             statements(code, &inner, handler)?;
             Ok(())
         }
-        Stmt::TryFinally { body, number, .. } => {
-            let size = statements_size(body)?;
-            let end = ahead(code, size)?;
-            statements(code, &in_guarded(end, scope), body)?;
-            call_finally(code, *number)?;
-            Ok(())
-        }
+        Stmt::TryFinally { body, number, .. } => try_finally(code, scope, body, *number),
     }
 }

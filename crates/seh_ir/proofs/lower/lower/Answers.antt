@@ -1,7 +1,7 @@
-use Rattle.std.proofs.Common.{◌≡◌, ◌+◌, ℕ, ◌<◌, ◌≤◌, List, length, map, get_or, ap, subst, refl, ◌∙◌, arith}
+use Rattle.std.proofs.Common.{◌≡◌, ◌+◌, ◌<◌, List, length, map, get_or, ap, subst, ◌∙◌, arith}
 use Rattle.c_checked.specs.declared.function.Function.{Function}
 use Rattle.linear_code.specs.Program.{linear_function, linear_funclet}
-use Rattle.seh_ir.proofs.Lowering.{functions_next, all_next, mapped, whole_is}
+use Rattle.seh_ir.proofs.Lowering.{functions_next, all_next, mapped}
 use Rattle.seh_ir.proofs.lower.lower.Goals as goal
 
 pub loop-f-preserved : goal.loop-f-preserved
