@@ -1,0 +1,5 @@
+pub mod Walked
+pub mod Live
+pub mod Tops
+pub mod Standing
+pub mod Returns

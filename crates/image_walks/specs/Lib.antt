@@ -1,0 +1,4 @@
+pub mod Walked
+pub mod Live
+pub mod Returns
+pub mod Laws
