@@ -3,3 +3,4 @@ pub mod Live
 pub mod Tops
 pub mod Standing
 pub mod Returns
+pub mod Passing
