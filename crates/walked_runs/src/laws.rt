@@ -1,0 +1,10 @@
+//! Walks over the stacks of whole runs, and their ends.
+
+ghost use Rattle.walked_runs.specs.Laws.{RunsPassTheFrames, RunsEndAsPrograms};
+
+/// The run of a compiled image passes, for each step of linear code that goes on, a state in which the walk
+/// gives the frames that are live there. It never stops, and never meets the stack's limit.
+pub fn laws()
+    ensures passes { RunsPassTheFrames }
+    ensures ends { RunsEndAsPrograms }
+{}
