@@ -13,7 +13,7 @@ same_end : (a e : RunEnd) → Some a ≡ Some e → a ≡ e
 same_end a e h = cc
 
 -- the meaning has no other ends that a run may have
-of_meaning : (o : Option Ended) (e : RunEnd) → run_end_of o ≡ Some e → IsOfProgram e
+pub of_meaning : (o : Option Ended) (e : RunEnd) → run_end_of o ≡ Some e → IsOfProgram e
 of_meaning None e h = absurd cc
 of_meaning (Some (source.Exit v)) e h = subst IsOfProgram (same_end (ends.Exit v) e h) tt
 of_meaning (Some (source.Unhandled code)) e h = subst IsOfProgram (same_end (ends.Unhandled code) e h) tt
