@@ -1,0 +1,28 @@
+-- What is claimed of walks over the stack of a running image.
+use Rattle.std.specs.Prelude.{List}
+use Rattle.x64_machine.specs.Effect.{State}
+use Rattle.virtual_unwind.specs.CallerOf.{Functions}
+use Rattle.host_model.specs.declared.funclet.Funclet.{Funclet}
+use Rattle.linear_code.specs.Program.{LinearProgram}
+use Rattle.linear_machine.specs.Frames.{Configuration}
+use Rattle.linked_stack.specs.ImagePlan.{Plan}
+use Rattle.body_states.specs.Sites.{Sites}
+use Rattle.body_states.specs.Programs.{IsProgramImage}
+use Rattle.body_steps.specs.Known.{IsKnown}
+use Rattle.turn_steps.specs.Outcomes.{Stands}
+use Rattle.image_states.specs.Plans.{functions_of, funclets_of, plan_of, sites_of}
+use Rattle.image_states.specs.Compiled.{IsCompiled}
+use Rattle.image_walks.specs.Returns.{StandStill}
+use Rattle.image_walks.specs.Live.{WalkGives}
+
+-- in every state that stands for a configuration the walk gives the frames that are live there
+abbrev pub WalksGiveTheFrames : Type 0
+WalksGiveTheFrames =
+    (t : Functions) (fs : List Funclet) (program : LinearProgram) (p : Plan) (q : Sites)
+    → IsProgramImage t fs program p q → StandStill t fs program p q
+    → (s : State) (c : Configuration) → Stands t fs program p q s c → IsKnown program c
+    → WalkGives t fs program p s c
+
+-- of an image that is linked, a body that is about to return stands as at any other instruction
+abbrev pub LinkedStandStill : Type 0
+LinkedStandStill = (program : LinearProgram) → IsCompiled program → StandStill (functions_of program) (funclets_of program) program (plan_of program) (sites_of program)

@@ -1,0 +1,5 @@
+pub mod Walked
+pub mod Live
+pub mod Returns
+pub mod Passing
+pub mod Laws
