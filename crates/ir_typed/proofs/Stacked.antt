@@ -7,7 +7,7 @@ use Rattle.std.specs.Prelude.{Bool, true, false, cond, nat_eq, nat_lt, slice_get
 use Rattle.seh_num.specs.declared.event.Event.{Event}
 use Rattle.seh_num.specs.declared.event.Event.TheVariants as events
 use Rattle.seh_num.specs.declared.width.Width.TheVariants.{W32}
-use Rattle.seh_num.specs.Widths.{low, signed}
+use Rattle.seh_num.specs.Widths.{low as low_bits, signed}
 use Rattle.c_operations.specs.declared.built_in.BuiltIn.{BuiltIn}
 use Rattle.c_operations.specs.declared.built_in.BuiltIn.TheVariants.{Put, Protect, RaiseException}
 use Rattle.c_operations.specs.declared.operation.Operation.{Operation}
@@ -247,8 +247,8 @@ module _ (program : LinearProgram) (bodies : AreBodies program) where
   answer_turn v (Searches exception resumption h rest ∷ Unwinds s t ∷ below) es store w = Halts (Stuck es) (λ next. refl)
   answer_turn v (Searches exception resumption h rest ∷ Waits f ∷ below) es store w =
       let c : Configuration = record { frame = f; below = below; store = store; events = es ++ events.Answer (signed W32 v) ∷ [] } in
-      pick_turn Ok (nat_eq (low W32 v) 0) (λ next. search program next rest exception resumption c) _ (λ e. search_turn rest exception resumption c w.0.1 w.1 w.2)
-      (λ e. pick_turn Ok (nat_lt (low W32 v) (2 ^ 31)) (λ next. accept program h exception next c) _ (λ e. accept_turn h exception c w.0.0 w.2)
+      pick_turn Ok (nat_eq (low_bits W32 v) 0) (λ next. search program next rest exception resumption c) _ (λ e. search_turn rest exception resumption c w.0.1 w.1 w.2)
+      (λ e. pick_turn Ok (nat_lt (low_bits W32 v) (2 ^ 31)) (λ next. accept program h exception next c) _ (λ e. accept_turn h exception c w.0.0 w.2)
       (λ e. pick_turn Ok exception.flag (λ next. raise program next noncontinuable resumption c) (λ next. next (resumed resumption c)) (λ e. raise_turn noncontinuable resumption c w.1 w.2) (λ e. resumed_turn resumption c w.2)))
 
   return_turn : (v : ℕ) (items : List Item) (es : List Event) (store : Store) → Items items → Turn Ok (λ next. return next v items es store)
