@@ -1,12 +1,9 @@
 -- The image of a text, by the program that the text is.
-use Rattle.std.proofs.Common.{◌≡◌, ◌∙◌, ℕ, List, Option, Some, None, refl, sym, ap, subst}
+use Rattle.std.proofs.Common.{◌≡◌, ◌∙◌, ℕ, List, sym, ap, subst}
 use Rattle.c_checked.specs.Program.{Program}
-use Rattle.c_first.specs.First.{first}
-use Rattle.c_meaning.specs.Syntax.{Statement}
 use Rattle.c_resolved.specs.Program.{resolve}
 use Rattle.c_syntax.specs.Program.{ExternalDeclaration}
 use Rattle.c_text.specs.Texts.{IsAccepted, IsCheckedAs}
-use Rattle.image_link.specs.Realises.{Realises}
 use Rattle.linear_code.specs.Program.{LinearProgram}
 use Rattle.pe_image.specs.Reading.{IsImage}
 use Rattle.pe_write.specs.Program.{parts_of, image_of}
@@ -18,31 +15,18 @@ use Rattle.seh.specs.declared.refusal.Refusal.TheVariants as refusals
 use Rattle.seh.specs.Images.{IsLinkedTo, IsUnlinkable, IsCompiled, IsLinkRefusal, IsTextRefusal}
 use Rattle.seh_ir.specs.Lowered.{lowered}
 
-one : (p q : List Statement) → Some p ≡ Some q → p ≡ q
-one p q e = cc
-
--- of a program of the first part
-pub of_first : (text image : List ℕ) (whole : List ExternalDeclaration) (p : List Statement) → IsAccepted text whole → first text whole ≡ Some p → Realises image p → IsCompiled text image
-of_first text image whole p accepted is real = record {
-  whole = whole;
-  accepted = accepted;
-  realises = λ q that. subst (Realises image) (one p q (sym is ∙ that)) real;
-  linked = λ none. let e : Some p ≡ None = sym is ∙ none in absurd (cc);
-}
-
--- of each other program
-pub of_other : (text image : List ℕ) (whole : List ExternalDeclaration) (p : Program) → IsCheckedAs text whole p → first text whole ≡ None → IsLinkedTo p image → IsCompiled text image
-of_other text image whole p checked none link = record {
+-- an accepted text is compiled by its program's linear code
+pub of_checked : (text image : List ℕ) (whole : List ExternalDeclaration) (p : Program) → IsCheckedAs text whole p → IsLinkedTo p image → IsCompiled text image
+of_checked text image whole p checked link = record {
   whole = whole;
   accepted = checked.accepted;
-  realises = λ q that. let e : None ≡ Some q = sym none ∙ that in absurd (cc);
-  linked = λ other. subst (λ (r : Program). IsLinkedTo r image) checked.resolved link;
+  linked = subst (λ (r : Program). IsLinkedTo r image) checked.resolved link;
 }
 
-pub of_refusal : (text : List ℕ) (whole : List ExternalDeclaration) (p : Program) (e : Refusal) → IsCheckedAs text whole p → first text whole ≡ None → IsLinkRefusal p e → IsTextRefusal text e
-of_refusal text whole p refusals.TooLarge checked none h = record { whole = whole; accepted = checked.accepted; other = none; large = subst IsUnlinkable checked.resolved h }
-of_refusal text whole p refusals.NoMemory checked none h = tt
-of_refusal text whole p e checked none h = absurd h
+pub of_refusal : (text : List ℕ) (whole : List ExternalDeclaration) (p : Program) (e : Refusal) → IsCheckedAs text whole p → IsLinkRefusal p e → IsTextRefusal text e
+of_refusal text whole p refusals.TooLarge checked h = record { whole = whole; accepted = checked.accepted; large = subst IsUnlinkable checked.resolved h }
+of_refusal text whole p refusals.NoMemory checked h = tt
+of_refusal text whole p e checked h = absurd h
 
 -- ---- by linear code
 

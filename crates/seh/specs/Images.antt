@@ -1,12 +1,9 @@
 -- The image of a text.
-use Rattle.std.specs.Prelude.{◌≡◌, ℕ, List, Some, None}
+use Rattle.std.specs.Prelude.{◌≡◌, ℕ, List}
 use Rattle.c_checked.specs.Program.{Program}
-use Rattle.c_first.specs.First.{first}
-use Rattle.c_meaning.specs.Syntax.{Statement}
 use Rattle.c_resolved.specs.Program.{resolve}
 use Rattle.c_syntax.specs.Program.{ExternalDeclaration}
 use Rattle.c_text.specs.Texts.{IsAccepted, IsRefused}
-use Rattle.image_link.specs.Realises.{Realises}
 use Rattle.pe_image.specs.Reading.{IsImage}
 use Rattle.pe_write.specs.Program.{parts_of, image_of}
 use Rattle.pe_write.specs.Written.{written}
@@ -22,12 +19,11 @@ pub record IsLinkedTo (program : Program) (image : List ℕ) : Type 0 where
   pub bytes : image ≡ written (parts_of (linked (lowered program)))
   pub read : IsImage image (image_of (linked (lowered program)))
 
--- the image of an accepted text: where its program is of the first part the image does what the program means; each other program is linked by its linear code
+-- the image of an accepted text
 pub record IsCompiled (text image : List ℕ) : Type 0 where
   pub whole : List ExternalDeclaration
   pub accepted : IsAccepted text whole
-  pub realises : (program : List Statement) → first text whole ≡ Some program → Realises image program
-  pub linked : first text whole ≡ None → IsLinkedTo (resolve text whole).program image
+  pub linked : IsLinkedTo (resolve text whole).program image
 
 -- ---- refusals
 
@@ -35,11 +31,10 @@ pub record IsCompiled (text image : List ℕ) : Type 0 where
 abbrev pub IsUnlinkable : Program → Type 0
 IsUnlinkable program = FitsProgram (lowered program) → ⊥
 
--- the text is accepted, and its program isn't of the first part and can't be linked
+-- the text is accepted, and its program can't be linked
 pub record IsTooLarge (text : List ℕ) : Type 0 where
   pub whole : List ExternalDeclaration
   pub accepted : IsAccepted text whole
-  pub other : first text whole ≡ None
   pub large : IsUnlinkable (resolve text whole).program
 
 -- why a checked program isn't linked; want of memory says nothing

@@ -6,9 +6,7 @@ ghost use Rattle.seh.specs.Images.{IsLinkedTo, IsCompiled, IsLinkRefusal, IsText
 
 use crate::refusal::Refusal;
 use c_checked::checked::Checked;
-use c_first::first::{FirstErr, first_of};
 use c_text::accepting::accept;
-use image_link::link::compile as compile_first;
 use program_fits::fits;
 use program_link::link::compile_program;
 use seh_ir::lower::lower;
@@ -32,8 +30,7 @@ fn linked_image(alloc: Global, checked: &Checked) -> Result<Vec<u8>, Refusal>
     }
 }
 
-/// The image of a text: of one whose program is of the first part as `image_link` writes it, of each
-/// other one by its linear code.
+/// The image of an accepted text, or why it isn't compiled.
 pub fn image_of(alloc: Global, text: &[u8]) -> Result<Vec<u8>, Refusal>
     requires { length text.now ≤ 1048576 }
     ensures found { IfOk result (λ image. IsCompiled text.now image.items) }
@@ -43,12 +40,5 @@ pub fn image_of(alloc: Global, text: &[u8]) -> Result<Vec<u8>, Refusal>
         Ok(accepted) => accepted,
         Err(error) => return Err(Refusal::Text(error)),
     };
-    match first_of(alloc, text, &accepted.program.external_declarations) {
-        Ok(first) => match compile_first(alloc, &first) {
-            Ok(image) => Ok(image),
-            Err(_) => Err(Refusal::NoMemory),
-        },
-        Err(FirstErr::Unsupported) => linked_image(alloc, &accepted.checked),
-        Err(FirstErr::Memory) => Err(Refusal::NoMemory),
-    }
+    linked_image(alloc, &accepted.checked)
 }
