@@ -78,13 +78,13 @@ module _ (t : Functions) (fs : List Funclet) (program : LinearProgram) (p : Plan
   moved m (Searching r ∷ is) (Searches exception resumption asked rest ∷ below) acts rip sp os os' n s l =
       let w = l.0 in
       record {
-        stack = (record { at_host = s.0.at_host; fetches = s.0.fetches; kind = s.0.kind; above = s.0.above; small = s.0.small }, s.1);
+        stack = (record { at_host = s.0.at_host; fetches = s.0.fetches; pointers = s.0.pointers; kind = s.0.kind; above = s.0.above; small = s.0.small }, s.1);
         linked = (record { own = w.own; carries = w.carries; resumes = w.resumes; onward = w.onward; address = w.address; aimed = w.aimed; before = w.before; near = w.near }, l.1);
       }
   moved m (Unwinding r ∷ is) (Unwinds rest target ∷ below) acts rip sp os os' n s l =
       let w = l.0 in
       record {
-        stack = (record { at_host = s.0.at_host; fetches = s.0.fetches; kind = s.0.kind; above = s.0.above; small = s.0.small }, s.1);
+        stack = (record { at_host = s.0.at_host; fetches = s.0.fetches; pointers = s.0.pointers; kind = s.0.kind; above = s.0.above; small = s.0.small }, s.1);
         linked = (record { own = w.own; purpose = w.purpose; row = w.row; aimed = w.aimed; space = w.space }, l.1);
       }
   moved m is items acts rip sp os os' n s l = absurd l

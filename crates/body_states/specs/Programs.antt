@@ -1,6 +1,7 @@
 -- What an image has of a linear program: its code in memory, and what is known of its addresses.
 use Rattle.std.specs.Prelude.{◌≡◌, ◌≢◌, ℕ, ◌+◌, ◌^◌, ◌<◌, ◌≤◌, Bool, true, false, List, [], ◌∷◌, ◌++◌, length, drop, slice_get, Option, Some, Ok}
 use Rattle.host_layout.specs.declared.range.TheConstants.{IMAGE_BASE, IMAGE_RANGE_END, STACK_START, STACK_END}
+use Rattle.host_layout.specs.Ranges.{in_arena}
 use Rattle.host_layout.specs.declared.service.Service.{Service}
 use Rattle.host_layout.specs.declared.service.Service.TheVariants as services
 use Rattle.host_layout.specs.Services.{address_of}
@@ -96,11 +97,12 @@ module _ (t : Functions) (fs : List Funclet) (program : LinearProgram) (p : Plan
     pub local_unwind : HasService m q.local_unwind services.LocalUnwind
     pub check_stack : HasCode m q.check_stack check_stack
 
-  -- the machine's memory beside the source's: they agree where the source may look; the whole stack may be written
+  -- the machine's memory beside the source's: they agree where the source may look; the whole stack may be written; no page of the arena, whose rights a program may set, is code
   pub record IsMachineMemory (m source : Memory) : Type 0 where
     pub data_alone : IsData m
     pub agrees : Agrees (is_reserved program.globals) m source
     pub stack : (a : ℕ) → STACK_START ≤ a → a < STACK_END → may_write m a ≡ true
+    pub arena : (a : ℕ) → in_arena a ≡ true → (m.protection a).execute ≡ false
     pub code : HasProgram m
 
   -- ---- where a body waits

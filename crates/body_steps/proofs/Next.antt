@@ -40,7 +40,7 @@ use Rattle.body_states.specs.Bodies.{last_temporary}
 use Rattle.body_steps.proofs.Views.{KeepsSlot, SlotsPlaced}
 use Rattle.body_steps.proofs.Viewed.{IsCounted, placed, count, sp_low, frame_top, last_room, AsFunction, AsLeaf, AsFunclet, kind}
 use Rattle.body_steps.proofs.Stored.{first_changes, still_is, with_count, activations_are_stored}
-use Rattle.body_steps.proofs.Becoming.{words_are, Changed, slot_word, word_beside, stays_data, stack_kept, stack_kept_but, stack_written, image_kept}
+use Rattle.body_steps.proofs.Becoming.{words_are, Changed, slot_word, word_beside, no_more_code, stays_data, stack_kept, stack_kept_but, stack_written, image_kept}
 
 -- ---- the numbers of locals
 
@@ -377,6 +377,7 @@ module _ (t : Functions) (fs : List Funclet) (program : LinearProgram) (p : Plan
             data_alone = data_stays;
             agrees = r.holds.source;
             stack = stack_written program.globals s u y (counts_of code) sp c.frame.activation b.body.acts here cnt r.changed b.memory.data_alone b.memory.stack;
+            arena = λ a e. no_more_code program.globals s u y (counts_of code) sp c.frame.activation b.body.acts here cnt r.changed b.memory.data_alone b.memory.stack a (b.memory.arena a e);
             code = program_stays t fs program p q image s.memory u.memory (image_kept program.globals s u y (counts_of code) sp c.frame.activation b.body.acts here cnt r.changed b.memory.data_alone b.memory.stack) b.memory.code;
           };
           body = record {

@@ -37,3 +37,7 @@ module _ (program : LinearProgram) where
     pub small : HasSmallNumbers c
     pub depths : HasDepths program c
     pub next : (i : Instruction) (d : Configuration) → instruction_at program c ≡ Some i → ((next : Next) → act program i next c ≡ next d) → CanGoOn program d
+
+-- and of the configuration after a step
+abbrev pub KnownNext : LinearProgram → Configuration → Instruction → Type 0
+KnownNext program c i = (d : Configuration) → ((next : Next) → act program i next c ≡ next d) → IsKnown program d

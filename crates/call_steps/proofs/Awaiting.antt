@@ -1,13 +1,11 @@
 -- Where a function was called its caller waits on the list, in the memory that the callee has by then.
-use Rattle.std.proofs.Common.{◌≡◌, ℕ, zero, suc, ◌+◌, ◌-◌, ◌*◌, ◌^◌, ◌<◌, ◌≤◌, Bool, true, false, Option, Some, None, Ok, List, [], ◌∷◌, ◌++◌, length, refl, sym, ap, subst, ◌∙◌, arith}
+use Rattle.std.proofs.Common.{◌≡◌, ℕ, zero, suc, ◌+◌, ◌-◌, ◌*◌, ◌^◌, ◌<◌, ◌≤◌, false, Option, Some, None, List, [], ◌∷◌, ◌++◌, length, refl, sym, subst, ◌∙◌, arith}
 use Rattle.std.specs.Prelude.{slice_get, take}
 use Rattle.std.proofs.lemmas.List.{append_assoc}
-use Rattle.std.proofs.lemmas.Option.{slice_get_within}
-use Rattle.host_layout.specs.declared.range.TheConstants.{IMAGE_BASE, IMAGE_RANGE_END, STACK_START}
+use Rattle.host_layout.specs.declared.range.TheConstants.{IMAGE_BASE, IMAGE_RANGE_END}
 use Rattle.flat_memory.specs.Memory.{Memory}
 use Rattle.x64_instr.specs.declared.register.Reg.TheVariants.{Rsp}
 use Rattle.x64_instr.specs.declared.instruction.Instr.{Instr}
-use Rattle.x64_machine.specs.declared.context.Context.{Context}
 use Rattle.x64_machine.specs.Contexts.{context_of}
 use Rattle.x64_machine.specs.Effect.{State, register}
 use Rattle.virtual_unwind.specs.CallerOf.{Functions}
@@ -15,7 +13,7 @@ use Rattle.host_model.specs.declared.funclet.Funclet.{Funclet}
 use Rattle.linear_code.specs.declared.slot.Slot.TheVariants.{Temporary}
 use Rattle.linear_code.specs.declared.instruction.Instruction.TheVariants as instructions
 use Rattle.linear_code.specs.Program.{LinearProgram, LinearBody, LinearFunclet}
-use Rattle.linear_machine.specs.Frames.{BodyName, FunctionBody, FuncletBody, body_of, Frame, Item, Waits, Searches, Unwinds, Configuration}
+use Rattle.linear_machine.specs.Frames.{BodyName, FunctionBody, FuncletBody, body_of, Item, Waits, Searches, Unwinds, Configuration}
 use Rattle.linear_machine.specs.Instructions.{waiting}
 use Rattle.linear_machine.specs.Regions.{regions_of}
 use Rattle.template_code.specs.declared.layout.Layout.{Layout}
@@ -23,26 +21,26 @@ use Rattle.template_code.specs.Bytes.{sizes}
 use Rattle.template_code.specs.Slots.{put_back, keep, temporary_at}
 use Rattle.template_code.specs.Jumps.{call}
 use Rattle.template_code.specs.Calls.{arguments_code, return_at, begin_call, passing_code}
-use Rattle.template_code.specs.Template.{Links, template_size}
+use Rattle.template_code.specs.Template.{template_size}
 use Rattle.template_code.proofs.Sizes.{sizes_append, call_size}
 use Rattle.raw_stack.specs.Stack.{StackItem}
 use Rattle.raw_stack.specs.Laws.{context_below}
 use Rattle.linked_stack.specs.ImagePlan.{Plan}
-use Rattle.linked_stack.specs.Linked.{Activation, HoldsWords, IsAbove, FuncletIsAbove}
+use Rattle.linked_stack.specs.Linked.{HoldsWords, IsAbove, FuncletIsAbove}
 use Rattle.linked_stack.specs.Laws.{Stands}
 use Rattle.stack_records.specs.Records.{IsData, On}
 use Rattle.ir_typed.specs.Room.{HaveRoom}
-use Rattle.body_states.specs.Sites.{Sites, links_of}
+use Rattle.body_states.specs.Sites.{Sites}
 use Rattle.body_states.specs.Programs.{IsResumed, IsProgramImage}
 use Rattle.body_states.specs.Bodies.{InBody, Begins}
 use Rattle.body_states.proofs.Inside.{template_some}
 use Rattle.body_states.proofs.Moved.{on_moved}
-use Rattle.body_states.proofs.Resumed.{again}
 use Rattle.body_states.proofs.Waiting.{body_on_top}
 use Rattle.body_steps.specs.Stores.{KeepsStackBut}
 use Rattle.body_steps.proofs.Viewed.{IsCounted, sp_low}
 use Rattle.body_steps.proofs.Running.{next_address}
-use Rattle.call_steps.proofs.Resuming.{returns_at, call_template, offset_most}
+use Rattle.call_steps.proofs.Kept.{offset_most}
+use Rattle.call_steps.proofs.Resuming.{returns_at, call_template}
 use Rattle.call_steps.proofs.Begun.{same_itself}
 use Rattle.call_steps.proofs.Outgoing.{outgoing_is_free}
 

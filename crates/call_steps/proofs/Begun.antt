@@ -1,5 +1,5 @@
 -- A function begins: its frame stands below its return address, and on top of what waits.
-use Rattle.std.proofs.Common.{◌≡◌, ℕ, suc, ◌+◌, ◌*◌, ◌^◌, ◌<◌, ◌≤◌, Bool, true, false, Option, Some, None, Ok, List, [], ◌∷◌, ◌++◌, length, refl, sym, ap, subst, ◌∙◌, arith}
+use Rattle.std.proofs.Common.{◌≡◌, ℕ, suc, ◌+◌, ◌<◌, ◌≤◌, Bool, true, false, Some, None, Ok, List, [], ◌∷◌, length, refl, arith}
 use Rattle.std.specs.List.{AllByRecursion}
 use Rattle.seh_num.specs.declared.event.Event.{Event}
 use Rattle.host_layout.specs.declared.range.TheConstants.{STACK_END}
@@ -13,22 +13,22 @@ use Rattle.host_model.specs.declared.funclet.Funclet.{Funclet}
 use Rattle.c_model.specs.Expressions.{no_exception}
 use Rattle.linear_code.specs.declared.program.Region.{Region}
 use Rattle.linear_code.specs.Program.{LinearProgram, LinearBody}
-use Rattle.linear_machine.specs.Frames.{FunctionBody, body_of, Frame, Item, Waits, Searches, Unwinds, Configuration}
+use Rattle.linear_machine.specs.Frames.{FunctionBody, body_of, Item, Waits, Searches, Unwinds}
 use Rattle.linear_machine.specs.Regions.{holds, regions_of}
 use Rattle.template_code.specs.declared.layout.Layout.{Layout}
 use Rattle.raw_stack.specs.Stack.{StackItem}
 use Rattle.raw_stack.specs.Laws.{context_below}
 use Rattle.linked_stack.specs.ImagePlan.{Plan}
-use Rattle.linked_stack.specs.Linked.{Activation, locals_of, HasSpace, below_end, HoldsWords, home_end, HasActivation, BodyWaits, HasPointers, FunctionIsAbove, ReturnsTo}
+use Rattle.linked_stack.specs.Linked.{Activation, locals_of, HasSpace, below_end, HoldsWords, home_end, BodyWaits, HasPointers, FunctionIsAbove, ReturnsTo}
 use Rattle.stack_records.specs.Records.{On}
 use Rattle.dispatch_turns.specs.States.{IsSane}
 use Rattle.body_states.specs.Sites.{Sites}
-use Rattle.body_states.specs.Layouts.{IsFunctionLayout, IsLeafLayout, IsLayoutIf}
+use Rattle.body_states.specs.Layouts.{IsLayoutIf}
 use Rattle.body_states.specs.Programs.{IsMachineMemory, IsProgramImage}
 use Rattle.body_states.specs.Bodies.{slots_end, last_temporary, Begins}
 use Rattle.body_steps.proofs.Activations.{locals_count}
 use Rattle.call_steps.specs.Calls.{begun}
-use Rattle.call_steps.proofs.Resuming.{nothing}
+use Rattle.call_steps.proofs.Kept.{nothing}
 
 pub same_itself : (rs : List Region) (label : ℕ) → AllByRecursion (λ (r : Region). holds label r ≡ holds label r) rs
 same_itself [] label = tt

@@ -1,11 +1,11 @@
 -- A call of a function: the callee's first instruction begins, with its arguments in its first locals and what the stack held in the others.
-use Rattle.std.proofs.Common.{◌≡◌, ◌≢◌, ℕ, zero, suc, ◌+◌, ◌-◌, ◌*◌, ◌^◌, ◌<◌, ◌≤◌, Bool, true, false, Option, Some, None, Ok, List, [], ◌∷◌, ◌++◌, length, refl, sym, ap, subst, ◌∙◌, arith, inl, inr}
-use Rattle.std.specs.Prelude.{◌⊎◌, nat_eq, nat_lt, slice_get, drop, if◌then◌else◌}
+use Rattle.std.proofs.Common.{◌≡◌, ◌≢◌, ℕ, zero, suc, ◌+◌, ◌-◌, ◌*◌, ◌^◌, ◌<◌, ◌≤◌, Bool, true, false, Some, None, Ok, List, [], ◌∷◌, ◌++◌, length, refl, sym, ap, subst, ◌∙◌, arith, inl, inr}
+use Rattle.std.specs.Prelude.{nat_lt, slice_get, drop, if◌then◌else◌}
 use Rattle.std.proofs.lemmas.Bool.{cases_lt, lt-ltb, eq-eqb}
 use Rattle.std.proofs.lemmas.Option.{slice_get_within}
 use Rattle.std.proofs.lemmas.List.{length-drop, length-take}
-use Rattle.host_layout.specs.declared.range.TheConstants.{IMAGE_BASE, IMAGE_RANGE_END, STACK_START, STACK_END}
-use Rattle.flat_memory.specs.Memory.{Memory, may_write, number_at}
+use Rattle.host_layout.specs.declared.range.TheConstants.{STACK_START, STACK_END}
+use Rattle.flat_memory.specs.Memory.{may_write, number_at}
 use Rattle.flat_memory.specs.declared.protection.Protection.{Protection}
 use Rattle.flat_memory.specs.Protections.{is_writable}
 use Rattle.x64_instr.specs.declared.register.Reg.TheVariants.{Rsp}
@@ -14,33 +14,28 @@ use Rattle.virtual_unwind.specs.CallerOf.{Functions, distance}
 use Rattle.virtual_unwind.specs.Undone.{word}
 use Rattle.host_model.specs.declared.funclet.Funclet.{Funclet}
 use Rattle.host_model.specs.Funclets.{arrivals}
-use Rattle.c_model.specs.Source.{is_reserved}
-use Rattle.linear_code.specs.declared.slot.Slot.TheVariants.{Temporary}
 use Rattle.linear_code.specs.declared.instruction.Instruction.TheVariants as instructions
 use Rattle.linear_code.specs.Program.{LinearProgram, LinearBody, LinearFunction}
-use Rattle.linear_machine.specs.Frames.{FunctionBody, body_of, Item, Waits, Configuration, Seen, Next, with_some, pick, deeper, last_temporaries}
+use Rattle.linear_machine.specs.Frames.{FunctionBody, body_of, Waits, Configuration, Next, with_some, deeper, last_temporaries}
 use Rattle.linear_machine.specs.Run.{instruction_in}
 use Rattle.linear_machine.specs.Instructions.{begin_function, waiting, act}
 use Rattle.template_code.specs.declared.layout.Layout.{Layout}
 use Rattle.template_code.specs.Bytes.{sizes}
 use Rattle.template_code.specs.Calls.{return_at, passing_code}
-use Rattle.x64_templates.specs.Straight.{machine}
-use Rattle.x64_templates.specs.Runs.{Reaches}
 use Rattle.x64_templates.proofs.PlacedCode.{same_number}
 use Rattle.x64_templates.proofs.Entries.{pushed_back}
 use Rattle.raw_stack.specs.Laws.{context_below}
 use Rattle.linked_stack.specs.ImagePlan.{Plan}
-use Rattle.linked_stack.specs.Linked.{Activation, locals_of, HasSpace, below_end, home_end, HoldsWords, return_of, ReturnsTo}
+use Rattle.linked_stack.specs.Linked.{home_end, HoldsWords, return_of, ReturnsTo}
 use Rattle.stack_records.specs.Records.{IsData, On}
-use Rattle.dispatch_turns.specs.States.{IsSane}
 use Rattle.whole_runs.specs.Comes.{Comes}
 use Rattle.whole_runs.proofs.Turns.{comes_then}
 use Rattle.ir_typed.specs.Room.{HaveRoom}
 use Rattle.ir_typed.specs.Small.{AreSmall}
 use Rattle.body_states.specs.Sites.{Sites}
-use Rattle.body_states.specs.Layouts.{IsFunctionLayout, IsLeafLayout, IsLayoutIf}
+use Rattle.body_states.specs.Layouts.{IsLayoutIf}
 use Rattle.body_states.specs.Programs.{IsMachineMemory, IsProgramImage}
-use Rattle.body_states.specs.Bodies.{held_below, turns_left, slots_end, Begins}
+use Rattle.body_states.specs.Bodies.{turns_left, slots_end, Begins}
 use Rattle.body_states.proofs.QuietTurns.{reaches_quietly, enters_quietly, program_reaches}
 use Rattle.body_steps.specs.Stores.{KeepsStackBut}
 use Rattle.body_steps.proofs.Activations.{locals_count}
@@ -221,6 +216,7 @@ module _ (t : Functions) (fs : List Funclet) (program : LinearProgram) (p : Plan
       data_alone = data_alone;
       agrees = inside.agrees;
       stack = may_stack;
+      arena = λ a e. ap (λ (g : Protection). g.execute) (protection_same a) ∙ b.memory.arena a e;
       code = program_stays t fs program p q image s.memory after.memory image_kept b.memory.code;
     }
 

@@ -1,9 +1,9 @@
 -- A function is entered after its call: its frame is made, and its parameters go to their locals.
-use Rattle.std.proofs.Common.{◌≡◌, ◌≢◌, ℕ, zero, suc, ◌+◌, ◌-◌, ◌*◌, ◌^◌, ◌<◌, ◌≤◌, Bool, true, false, Option, Some, None, Ok, List, [], ◌∷◌, ◌++◌, length, get_or, set, refl, sym, ap, subst, ◌∙◌, arith, inl, inr, length-append}
+use Rattle.std.proofs.Common.{◌≡◌, ℕ, zero, suc, ◌+◌, ◌-◌, ◌*◌, ◌^◌, ◌<◌, ◌≤◌, true, false, Some, None, List, ◌++◌, length, refl, sym, ap, subst, ◌∙◌, arith, inl, inr, length-append}
 use Rattle.std.specs.Prelude.{◌⊎◌, slice_get, slice_index, nat_lt}
 use Rattle.std.proofs.lemmas.Bool.{cases_lt, lt-ltb, le-ltb}
 use Rattle.host_layout.specs.declared.range.TheConstants.{STACK_START, STACK_END}
-use Rattle.flat_memory.specs.Memory.{Memory, may_read, may_write, number_at}
+use Rattle.flat_memory.specs.Memory.{Memory, may_write, number_at}
 use Rattle.flat_memory.specs.declared.protection.Protection.{Protection}
 use Rattle.flat_memory.specs.Protections.{is_writable}
 use Rattle.x64_instr.specs.declared.register.Reg.TheVariants.{Rsp}
@@ -14,32 +14,26 @@ use Rattle.host_model.specs.declared.funclet.Funclet.{Funclet}
 use Rattle.c_model.specs.Source.{is_reserved}
 use Rattle.linear_code.specs.declared.slot.Slot.TheVariants.{Local, Temporary}
 use Rattle.linear_code.specs.declared.instruction.Instruction.TheVariants as instructions
-use Rattle.linear_code.specs.BodyState.{BodyState, Counts}
 use Rattle.linear_code.specs.Program.{LinearProgram, LinearBody, LinearFunction}
 use Rattle.linear_machine.specs.Frames.{FunctionBody, body_of, function_body, Configuration}
 use Rattle.template_code.specs.declared.layout.Layout.{Layout}
 use Rattle.template_code.specs.Bytes.{sizes, spelled}
 use Rattle.template_code.specs.Jumps.{IsNear}
-use Rattle.template_code.specs.Calls.{return_at, passing_code, stack_parameter, parameter_code, parameters_code, function_entry}
-use Rattle.template_code.specs.Probing.{check_stack, enter_large}
-use Rattle.template_code.proofs.Sizes.{sizes_append, call_size}
+use Rattle.template_code.specs.Calls.{return_at, passing_code, stack_parameter, parameter_code, parameters_code}
 use Rattle.x64_templates.specs.Straight.{MachineView, machine}
-use Rattle.x64_templates.specs.CallStates.{sp_of, with_sp, pushed, moved, HasBelow}
-use Rattle.x64_templates.specs.EntryStates.{with_arguments, InRegisters, OnStack, IsFunction, body_in_memory, FreshFrame}
+use Rattle.x64_templates.specs.CallStates.{HasBelow}
+use Rattle.x64_templates.specs.EntryStates.{with_arguments, OnStack, IsFunction, body_in_memory, FreshFrame}
 use Rattle.x64_templates.specs.Frames.{InTemporaries, InLocals, HasBase, KeepsBase, KeepsReserved, IsBytes, Agrees}
-use Rattle.x64_templates.specs.Runs.{HasCode, Reaches, Enters, Frame, Roomy, Holds, ChangesOwn, ReachesBody, EntersBody}
+use Rattle.x64_templates.specs.Runs.{HasCode, Reaches, Enters, Frame, Roomy, ReachesBody}
 use Rattle.x64_templates.proofs.PlacedCode.{bytes_kept, same_number, enters_then}
-use Rattle.x64_templates.proofs.Computes.{code_split}
-use Rattle.x64_templates.proofs.Returns.{sp_moved}
-use Rattle.x64_templates.proofs.Entries.{beside, pushed_agrees, pushed_bytes}
-use Rattle.x64_templates.proofs.Entering.{fresh_holds, parameters_run, function_enters}
+use Rattle.x64_templates.proofs.Entries.{pushed_agrees, pushed_bytes}
+use Rattle.x64_templates.proofs.Entering.{fresh_holds, parameters_run}
 use Rattle.linked_stack.specs.ImagePlan.{Plan}
 use Rattle.ir_typed.specs.Room.{HaveRoom}
-use Rattle.body_states.specs.Sites.{Sites, entry_code}
-use Rattle.body_states.specs.Layouts.{IsFunctionLayout, IsLeafLayout}
+use Rattle.body_states.specs.Sites.{Sites}
 use Rattle.body_states.specs.Programs.{IsProgramImage}
 use Rattle.body_states.specs.Bodies.{Begins}
-use Rattle.body_steps.specs.Views.{counts_of, frame_at}
+use Rattle.body_steps.specs.Views.{counts_of}
 use Rattle.body_steps.proofs.Views.{stack_is_reserved}
 use Rattle.body_steps.proofs.Words.{may_read_written}
 use Rattle.body_steps.proofs.Viewed.{IsCounted, holds_here}

@@ -1,10 +1,10 @@
 -- A caller passes its arguments and calls: at the callee's first byte they are in their registers and above its return address.
-use Rattle.std.proofs.Common.{◌≡◌, ℕ, zero, suc, ◌+◌, ◌-◌, ◌*◌, ◌^◌, ◌<◌, ◌≤◌, Bool, true, false, Option, Some, None, List, [], ◌∷◌, ◌++◌, length, get_or, set, refl, sym, ap, subst, ◌∙◌, arith, inl, inr, get_or-set_same, length-set}
+use Rattle.std.proofs.Common.{◌≡◌, ℕ, ◌+◌, ◌-◌, ◌*◌, ◌<◌, ◌≤◌, true, false, Option, Some, None, List, length, set, refl, sym, ap, subst, ◌∙◌, arith, inl, inr, get_or-set_same, length-set}
 use Rattle.std.specs.Prelude.{◌⊎◌, slice_get}
 use Rattle.std.proofs.lemmas.Bool.{cases_lt}
 use Rattle.std.proofs.lemmas.List.{length-drop}
 use Rattle.host_layout.specs.declared.range.TheConstants.{STACK_START, STACK_END}
-use Rattle.flat_memory.specs.Memory.{Memory, number_at, may_write}
+use Rattle.flat_memory.specs.Memory.{number_at, may_write}
 use Rattle.flat_memory.specs.declared.protection.Protection.{Protection}
 use Rattle.flat_memory.specs.Protections.{is_writable}
 use Rattle.x64_instr.specs.declared.register.Reg.TheVariants.{Rsp}
@@ -18,7 +18,7 @@ use Rattle.linear_code.specs.declared.slot.Slot.TheVariants.{Local, Temporary}
 use Rattle.linear_code.specs.declared.instruction.Instruction.TheVariants as instructions
 use Rattle.linear_code.specs.Meaning.{IsSlot}
 use Rattle.linear_code.specs.BodyState.{BodyState}
-use Rattle.linear_code.specs.Program.{LinearProgram, LinearBody}
+use Rattle.linear_code.specs.Program.{LinearProgram}
 use Rattle.linear_machine.specs.Frames.{Configuration}
 use Rattle.template_code.specs.declared.layout.Layout.{Layout}
 use Rattle.template_code.specs.Bytes.{sizes, spelled}
@@ -38,13 +38,13 @@ use Rattle.x64_templates.proofs.Passing.{passed_in_registers}
 use Rattle.x64_templates.proofs.Entries.{beside, pushed_agrees, pushed_bytes}
 use Rattle.linked_stack.specs.ImagePlan.{Plan}
 use Rattle.ir_typed.specs.Room.{HaveRoom}
-use Rattle.body_states.specs.Sites.{Sites, links_of}
+use Rattle.body_states.specs.Sites.{Sites}
 use Rattle.body_states.specs.Programs.{IsProgramImage}
 use Rattle.body_states.specs.Bodies.{Begins}
 use Rattle.body_steps.specs.Views.{counts_of}
 use Rattle.body_steps.proofs.Views.{KeepsSlot, stack_is_reserved}
 use Rattle.body_steps.proofs.Viewed.{IsCounted, AsFunction, AsFunclet, kind, placed, sp_low, frame_top, room_here, holds_here}
-use Rattle.body_steps.proofs.Running.{code, y, v, base, frame, slots, same_state, template_here, has_slots, sp_is}
+use Rattle.body_steps.proofs.Running.{v, base, frame, slots, same_state, template_here, has_slots, sp_is}
 use Rattle.call_steps.proofs.Outward.{HasOutgoing, AllPassed, passes, passing_fine}
 
 same_slot : (x z : ℕ) → Some x ≡ Some z → x ≡ z

@@ -1,11 +1,11 @@
 -- A function's parameters go to its locals, and its first instruction begins.
-use Rattle.std.proofs.Common.{◌≡◌, ◌≢◌, ℕ, zero, suc, ◌+◌, ◌-◌, ◌*◌, ◌^◌, ◌<◌, ◌≤◌, Bool, true, false, cond, eqb, Option, Some, None, Ok, List, [], ◌∷◌, ◌++◌, length, refl, sym, ap, subst, ◌∙◌, arith, inl, inr, length-append}
+use Rattle.std.proofs.Common.{◌≡◌, ℕ, zero, suc, ◌+◌, ◌-◌, ◌*◌, ◌<◌, ◌≤◌, Bool, cond, Some, Ok, List, [], ◌∷◌, ◌++◌, length, refl, sym, ap, subst, ◌∙◌, arith, inl, inr, length-append}
 use Rattle.std.specs.Prelude.{◌⊎◌, slice_get}
 use Rattle.std.proofs.lemmas.Bool.{cases_eq, eq-eqb, ne_eqb}
 use Rattle.std.proofs.lemmas.Option.{slice_get_within}
 use Rattle.flat_memory.specs.Memory.{Memory, number_at}
 use Rattle.linear_code.specs.declared.slot.Slot.{Slot}
-use Rattle.linear_code.specs.declared.slot.Slot.TheVariants.{Local, Temporary}
+use Rattle.linear_code.specs.declared.slot.Slot.TheVariants.{Local}
 use Rattle.linear_code.specs.BodyState.{with_slot}
 use Rattle.virtual_unwind.specs.Undone.{word}
 use Rattle.x64_templates.specs.EntryStates.{with_arguments}

@@ -1,3 +1,4 @@
+pub mod Kept
 pub mod Resuming
 pub mod Returning
 pub mod Outgoing

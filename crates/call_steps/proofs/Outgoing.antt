@@ -1,6 +1,5 @@
 -- The home space and the places of further arguments at the bottom of a caller's frame are its callee's (Microsoft x64 ABI, "Stack allocation"): a change of them leaves the list as it stands.
-use Rattle.std.proofs.Common.{◌≡◌, ℕ, ◌+◌, ◌*◌, ◌<◌, ◌≤◌, Bool, true, false, Option, Some, None, Ok, List, [], ◌∷◌, length, refl, sym, ap, subst, ◌∙◌, arith, inl, inr}
-use Rattle.std.specs.Prelude.{◌⊎◌}
+use Rattle.std.proofs.Common.{◌≡◌, ℕ, ◌+◌, ◌*◌, ◌≤◌, true, false, Option, Some, None, List, [], ◌∷◌, refl, sym, subst, ◌∙◌, arith, inr}
 use Rattle.host_layout.specs.declared.range.TheConstants.{STACK_START, STACK_END}
 use Rattle.flat_memory.specs.Memory.{Memory}
 use Rattle.x64_machine.specs.declared.context.Context.{Context}
@@ -13,12 +12,12 @@ use Rattle.linear_machine.specs.Frames.{BodyName, FunctionBody, FuncletBody, bod
 use Rattle.raw_stack.specs.Stack.{StackFrame, StackItem, Framed, Leaf, Searching, Unwinding, FrameStands, IsStack, after_frame}
 use Rattle.raw_stack.proofs.Visiting.{set_head}
 use Rattle.linked_stack.specs.ImagePlan.{Plan}
-use Rattle.linked_stack.specs.Linked.{Activation, activations_below, HoldsWords, temporaries_end, HasActivation, HasPointers, IsAbove, FrameWaits, Linked}
+use Rattle.linked_stack.specs.Linked.{Activation, activations_below, temporaries_end, HasActivation, HasPointers, IsAbove, Linked}
 use Rattle.linked_stack.specs.Laws.{Stands}
 use Rattle.linked_stack.proofs.Ends.{words_fit, end_within, in_stack}
 use Rattle.linked_stack.proofs.Kept.{ReadsSame, higher, words_kept, list_kept}
-use Rattle.linked_stack.proofs.Keeping.{KeepsRange, reads_other}
-use Rattle.body_states.specs.Layouts.{IsFunctionLayout, IsFuncletLayout, IsLayoutIf, IsLaidOut, AreLaidOut}
+use Rattle.linked_stack.proofs.Keeping.{reads_other}
+use Rattle.body_states.specs.Layouts.{IsFunctionLayout, IsLayoutIf, IsLaidOut, AreLaidOut}
 use Rattle.body_steps.specs.Stores.{KeepsStackBut}
 
 module _ (m m' : Memory) (t : Functions) (fs : List Funclet) (program : LinearProgram) (p : Plan) (laid : AreLaidOut program p) (room : ℕ) where

@@ -1,5 +1,5 @@
 -- Arguments from the fifth on go to their places at the bottom of the caller's frame, above the home space.
-use Rattle.std.proofs.Common.{◌≡◌, ℕ, zero, suc, ◌+◌, ◌*◌, ◌%◌, ◌^◌, ◌<◌, ◌≤◌, Bool, true, false, Option, Some, None, List, [], ◌∷◌, ◌++◌, length, refl, sym, ap, subst, ◌∙◌, arith, inl, inr}
+use Rattle.std.proofs.Common.{◌≡◌, ℕ, zero, suc, ◌+◌, ◌*◌, ◌%◌, ◌^◌, ◌<◌, ◌≤◌, true, false, Option, Some, None, [], ◌∷◌, refl, sym, ap, subst, ◌∙◌, arith, inl, inr}
 use Rattle.std.specs.Prelude.{◌⊎◌}
 use Rattle.std.proofs.lemmas.Bool.{cases_eq, cases_lt}
 use Rattle.flat_memory.specs.Memory.{Memory, may_write, number_at, with_number, with_bytes}
@@ -9,18 +9,18 @@ use Rattle.flat_memory.proofs.Stores.{untouched, stored_is_loaded}
 use Rattle.x64_templates.proofs.Accesses.{digits}
 use Rattle.x64_instr.specs.declared.register.Reg.TheVariants.{Rax, Rsp}
 use Rattle.linear_code.specs.declared.slot.Slot.{Slot}
-use Rattle.linear_code.specs.declared.slot.Slot.TheVariants.{Local, Temporary}
+use Rattle.linear_code.specs.declared.slot.Slot.TheVariants.{Temporary}
 use Rattle.linear_code.specs.BodyState.{BodyState}
-use Rattle.template_code.specs.Slots.{fetched, temporary_at, fetch}
+use Rattle.template_code.specs.Slots.{fetched, temporary_at}
 use Rattle.template_code.specs.Calls.{keep_register, passing_code}
-use Rattle.x64_templates.specs.Straight.{MachineView, machine, Executes}
+use Rattle.x64_templates.specs.Straight.{MachineView, Executes}
 use Rattle.x64_templates.specs.CallStates.{sp_of}
-use Rattle.x64_templates.specs.Frames.{slot_at, IsBytes, KeepsBase, Agrees}
+use Rattle.x64_templates.specs.Frames.{slot_at, IsBytes, KeepsBase}
 use Rattle.x64_templates.specs.Runs.{Frame, Roomy, Holds, IsThere}
 use Rattle.x64_templates.proofs.PlacedCode.{all_may, same_number}
 use Rattle.x64_templates.proofs.Straight.{executes_then, executes_nothing}
 use Rattle.x64_templates.proofs.Cells.{put, slot_high, fetch_does}
-use Rattle.x64_templates.proofs.Encoded.{Fine, fetch_fine, fine_both, near}
+use Rattle.x64_templates.proofs.Encoded.{Fine, near}
 use Rattle.x64_templates.proofs.Parameters.{kept_at, keeps_register}
 
 -- ---- a number that is stored below all slots

@@ -1,60 +1,44 @@
 -- The body that waits for a call has its result: RAX goes to the temporary of the first argument, and the next instruction begins.
-use Rattle.std.proofs.Common.{◌≡◌, ◌≢◌, ℕ, zero, suc, ◌+◌, ◌-◌, ◌*◌, ◌^◌, ◌<◌, ◌≤◌, Bool, true, false, cond, eqb, Option, Some, None, Ok, List, [], ◌∷◌, ◌++◌, length, get_or, refl, sym, ap, subst, ◌∙◌, arith, inl, inr, length-append}
-use Rattle.std.specs.Prelude.{◌⊎◌, nat_eq, slice_get, slice_index, drop}
-use Rattle.std.proofs.lemmas.Bool.{cases_eq, cases_lt, eq-eqb, ne_eqb}
-use Rattle.std.proofs.lemmas.Option.{slice_get_within}
+use Rattle.std.proofs.Common.{◌≡◌, ℕ, ◌+◌, ◌-◌, ◌<◌, Some, None, List, [], ◌∷◌, ◌++◌, length, sym, arith, append_assoc}
+use Rattle.std.specs.Prelude.{slice_get}
 use Rattle.seh_num.specs.declared.event.Event.{Event}
 use Rattle.flat_memory.specs.Memory.{Memory}
 use Rattle.x64_instr.specs.declared.register.Reg.TheVariants.{Rax, Rsp}
 use Rattle.x64_instr.specs.declared.instruction.Instr.{Instr}
-use Rattle.x64_machine.specs.declared.cpu.Cpu.{Cpu}
-use Rattle.x64_machine.specs.declared.cpu.Flags.{Flags}
 use Rattle.x64_machine.specs.declared.context.Context.{Context}
 use Rattle.x64_machine.specs.Effect.{State, register}
 use Rattle.virtual_unwind.specs.Contexts.{rsp}
 use Rattle.virtual_unwind.specs.CallerOf.{Functions, distance}
 use Rattle.host_model.specs.declared.funclet.Funclet.{Funclet}
 use Rattle.host_model.specs.Funclets.{arrivals}
-use Rattle.linear_code.specs.declared.slot.Slot.TheVariants.{Local, Temporary}
-use Rattle.linear_code.specs.declared.instruction.Instruction.{Instruction}
+use Rattle.linear_code.specs.declared.slot.Slot.TheVariants.{Temporary}
 use Rattle.linear_code.specs.declared.instruction.Instruction.TheVariants as instructions
-use Rattle.linear_code.specs.BodyState.{BodyState, with_slot}
+use Rattle.linear_code.specs.Meaning.{HasSlots}
 use Rattle.linear_code.specs.Program.{LinearProgram, LinearBody}
-use Rattle.linear_machine.specs.Frames.{BodyName, FuncletBody, body_of, Frame, Item, Waits, Configuration}
-use Rattle.linear_machine.specs.Run.{instruction_in}
+use Rattle.linear_machine.specs.Frames.{body_of, Frame, Item, Waits}
 use Rattle.template_code.specs.declared.layout.Layout.{Layout}
 use Rattle.template_code.specs.Bytes.{sizes}
 use Rattle.template_code.specs.Slots.{keep}
 use Rattle.template_code.specs.Jumps.{call}
-use Rattle.template_code.specs.Calls.{arguments_code, return_at, begin_call, call_code, passing_code}
-use Rattle.template_code.specs.Template.{Links, template, template_size, body_size, offset_of}
-use Rattle.template_code.proofs.Sizes.{sizes_append, call_size, passing_call_size, offset_next}
-use Rattle.x64_templates.specs.Straight.{MachineView, machine}
-use Rattle.x64_templates.specs.Runs.{HasCode, Reaches, ReachesBody}
-use Rattle.x64_templates.proofs.Computes.{code_split}
-use Rattle.x64_templates.proofs.Returns.{call_ends}
+use Rattle.template_code.specs.Calls.{arguments_code, return_at, begin_call, passing_code}
+use Rattle.template_code.specs.Template.{template_size}
+use Rattle.template_code.proofs.Sizes.{sizes_append, call_size, passing_call_size}
+use Rattle.x64_templates.specs.Runs.{Reaches}
 use Rattle.raw_stack.specs.Stack.{StackItem}
 use Rattle.linked_stack.specs.ImagePlan.{Plan}
-use Rattle.linked_stack.specs.Linked.{Activation, locals_of}
+use Rattle.linked_stack.specs.Linked.{Activation}
 use Rattle.stack_records.specs.Records.{On}
 use Rattle.stack_unwinds.specs.Unwinding.{on_top}
 use Rattle.dispatch_turns.specs.States.{IsSane}
 use Rattle.ir_typed.specs.Room.{HaveRoom}
-use Rattle.body_states.specs.Sites.{Sites, links_of}
+use Rattle.body_states.specs.Sites.{Sites}
 use Rattle.body_states.specs.Programs.{IsMachineMemory, IsProgramImage}
-use Rattle.body_states.specs.Bodies.{InBody, Begins}
-use Rattle.body_states.proofs.Inside.{first_in_code}
-use Rattle.body_states.proofs.Resumed.{again, waits_in_body}
-use Rattle.body_steps.specs.Views.{seen_by_templates, counts_of}
-use Rattle.body_steps.specs.Stores.{OwnerHasFrame, with_values}
-use Rattle.body_steps.proofs.Activations.{locals_count}
-use Rattle.body_steps.proofs.Activated.{same_activations}
-use Rattle.body_steps.proofs.Homes.{CallerHasFrame}
-use Rattle.body_steps.proofs.Reaching.{Keeps, reaches_keeps, stays_sane}
-use Rattle.body_steps.proofs.Becoming.{Changed}
-use Rattle.body_steps.proofs.Viewed.{IsCounted, is_machine, placed, count, room_here, holds_here, slots_here, locals_here}
-use Rattle.body_steps.proofs.Next.{Leaves, further, Ran, begins_next}
-use Rattle.body_steps.proofs.Running.{code, name, y, v, base, frame, slots, template_here, has_slots, next_address, sp_is, quiet_at, get_or_is, dropped, Surroundings}
+use Rattle.body_states.specs.Bodies.{Begins}
+use Rattle.body_steps.specs.Views.{counts_of}
+use Rattle.body_steps.proofs.Viewed.{IsCounted}
+use Rattle.body_steps.proofs.Running.{each}
+use Rattle.call_steps.proofs.Kept.{IsSurrounded, answered}
+use Rattle.call_steps.proofs.Kept as kept
 
 -- where a call that passes arguments on the stack returns to
 abbrev pub returns_at : Layout → (first count at : ℕ) → ℕ
@@ -64,197 +48,33 @@ pub call_template : (y : Layout) (f first count : ℕ) → template_size y (inst
 unfolding template_size
 call_template y f first count = passing_call_size y first count 0 0
 
--- an instruction of a body begins within it
-pub offset_most : (y : Layout) (body : List Instruction) (number : ℕ) → offset_of y body number ≤ body_size y body
-offset_most y [] zero = omega arith
-offset_most y [] (suc number) = omega arith
-offset_most y (i ∷ body) zero = omega arith
-offset_most y (i ∷ body) (suc number) = let r = offset_most y body number in omega arith
-
--- no exception was just taken over
-pub nothing : (landed : Option ℕ) (code : ℕ) → landed ≡ None → landed ≡ Some code → ⊥
-nothing landed code e h = let z : ◌≡◌ {A = Option ℕ} None (Some code) = sym e ∙ h in cc
-
--- ---- one more temporary
-
-got_more : (xs : List ℕ) (x : ℕ) (i v : ℕ) → slice_get (xs ++ x ∷ []) i ≡ Some v → ((i < length xs) × (slice_get xs i ≡ Some v)) ⊎ ((i ≡ length xs) × (x ≡ v))
-got_more [] x zero v e = inr (refl, the_same x v e)
-  where
-    the_same : (a b : ℕ) → Some a ≡ Some b → a ≡ b
-    the_same a b e = cc
-got_more [] x (suc i) v e = cc
-got_more (z ∷ xs) x zero v e = inl (omega arith, e)
-got_more (z ∷ xs) x (suc i) v e = elim (got_more xs x i v e) [
-  | inl w ↦ (let lt = w.0 in inl (omega arith, w.1))
-  | inr w ↦ (let n = w.0 in inr (omega arith, w.1))
-]
-
--- after a write of the temporary past the last, the slots are those of a list that is longer by one
-longer_leaves : (b : LinearBody) (d : BodyState) (values ts : List ℕ) (v : ℕ) → Leaves b d values ts → length ts < b.temporaries → Leaves b (record { slots = with_slot d.slots (Temporary (length ts)) v; memory = d.memory }) values (ts ++ v ∷ [])
-longer_leaves b d values ts v l lt = record {
-  count = l.count;
-  locals = l.locals;
-  few = omega (arith, length-append ts (v ∷ []));
-  temporaries = λ i x e. elim (got_more ts v i x e) [
-    | inl w ↦ (let small = w.0 in ap (λ (c : Bool). cond c v (d.slots (Temporary i))) (ne_eqb i (length ts) (λ n. absurd (omega arith))) ∙ l.temporaries i x w.1)
-    | inr w ↦ ap (λ (c : Bool). cond c v (d.slots (Temporary i))) (eq-eqb i (length ts) w.0) ∙ w.1
-  ];
-}
-
 module _ (t : Functions) (fs : List Funclet) (program : LinearProgram) (p : Plan) (q : Sites) (image : IsProgramImage t fs program p q) (roomy : HaveRoom program) where
-  -- what the frames below a body are like: a leaf's caller has one, and the function whose locals a funclet works on
-  pub record IsSurrounded (name : BodyName) (activation : ℕ) (items : List Item) (depth : ℕ) : Type 0 where
-    pub caller : p.leaf name ≡ true → CallerHasFrame p items
-    pub owner : (k : ℕ) → name ≡ FuncletBody k → (acts : List Activation) → length acts ≡ depth → OwnerHasFrame t fs program p activation items acts
-
-  -- linear code where the body that waited has the result
-  abbrev pub answered : Frame → List Item → Memory → List Activation → List Event → ℕ → Configuration
-  answered w items source acts es v = on_top (again w (w.next + 1) (w.temporaries ++ v ∷ []) w.landed) items source acts es
-
   -- after the callee's return RSP is the caller's, and the list stands from there on
   module _ (u : State) (w : Frame) (items : List Item) (acts : List Activation) (source : Memory) (es : List Event) (above : Context) (is : List StackItem)
       (on : On t fs program p u.memory above is (Waits w ∷ items) acts) (sp : register u.cpu Rsp ≡ rsp above) (sane : IsSane u) (memory : IsMachineMemory t fs program p q u.memory source)
       (o : LinearBody) (there : body_of program w.body ≡ Some o) (f first arguments : ℕ) (calls : slice_get o.code w.next ≡ Some (instructions.Call f first arguments)) (within : w.next + 1 < length o.code)
       (held : length w.temporaries ≡ first) (free : w.landed ≡ None) (back : u.cpu.rip ≡ returns_at (p.layout w.body) first arguments (p.address w.body w.next)) where
-    -- the same state, but that the instruction of the call begins
-    abbrev pub earlier : State
-    earlier = record { cpu = record { registers = u.cpu.registers; rip = p.address w.body w.next; flags = u.cpu.flags }; memory = u.memory }
+    abbrev layout : Layout
+    layout = p.layout w.body
 
-    abbrev pub caller : Configuration
-    caller = on_top w items source acts es
+    abbrev passing : List Instr
+    passing = passing_code layout first 4 (arguments - 4)
 
-    small_address : p.address w.body w.next < 2 ^ 64
-    small_address = let a = sane.rip_small in omega (arith, back)
+    abbrev beginning : List Instr
+    beginning = begin_call layout first (p.address w.body w.next + sizes passing) (q.function f)
 
-    pub waits : Begins t fs program p q earlier caller
-    waits =
-        let lt = slice_get_within o.code w.next (instructions.Call f first arguments) calls in
-        record {
-          rip = refl;
-          sane = record { rip_small = small_address; count = sane.count; small = sane.small };
-          memory = memory;
-          body = waits_in_body t fs program p q image earlier above is w items acts w.next w.temporaries w.landed source es on sp (first_in_code t fs program p q image w.body o w.next there lt) small_address (λ at end h. h);
-          landed = λ code e. absurd (nothing w.landed code free e);
-        }
+    fits : first < o.temporaries
+    fits = let h = each (HasSlots (counts_of o)) o.code w.next (instructions.Call f first arguments) (roomy w.body o there).slots calls in let few = h.0 in omega arith
 
-    module _ (counted : IsCounted t fs program p q image caller) (surrounded : IsSurrounded w.body w.activation items (length acts)) where
-      around : Surroundings t fs program p q image roomy earlier caller waits counted
-      around = record {
-        caller = surrounded.caller;
-        owner = λ k e. surrounded.owner k e waits.body.acts (omega (arith, locals_count waits.body.acts, locals_count acts, ap length waits.body.store));
-      }
+    back_is : u.cpu.rip ≡ p.address w.body w.next + sizes (passing ++ beginning)
+    back_is =
+        let at = p.address w.body w.next + sizes passing in
+        let five = call_size (return_at layout first at) (q.function f) in
+        omega (arith, back, sizes_append passing beginning, sizes_append (arguments_code layout first) (call (return_at layout first at) (q.function f) ∷ []))
 
-      same_code : (a b : LinearBody) → Some a ≡ Some b → a ≡ b
-      same_code a b e = cc
-
-      abbrev body : LinearBody
-      body = waits.body.slots.code
-
-      is_body : o ≡ body
-      is_body = same_code o body (sym there ∙ waits.body.slots.body)
-
-      calls_here : slice_get body.code w.next ≡ Some (instructions.Call f first arguments)
-      calls_here = subst (λ (b : LinearBody). slice_get b.code w.next ≡ Some (instructions.Call f first arguments)) is_body calls
-
-      abbrev place : ℕ
-      place = p.address w.body w.next
-
-      abbrev layout : Layout
-      layout = p.layout w.body
-
-      -- the code after the call
-      keeps_code : HasCode u.memory u.cpu.rip (keep layout (Temporary first))
-      keeps_code =
-          let links = links_of p q w.body in
-          let whole = template_here t fs program p q image roomy earlier caller waits counted (instructions.Call f first arguments) calls_here in
-          let passing = passing_code layout first 4 (arguments - 4) in
-          let target = links.function f in
-          let at = place + sizes passing in
-          let after = code_split u.memory place passing (call_code layout (Temporary first) first at target) whole in
-          let last = code_split u.memory at (begin_call layout first at target) (keep layout (Temporary first)) after.1 in
-          let five = call_size (return_at layout first at) target in
-          let long : at + sizes (begin_call layout first at target) ≡ u.cpu.rip = omega (arith, back, sizes_append (arguments_code layout first) (call (return_at layout first at) target ∷ [])) in
-          subst (λ x. HasCode u.memory x (keep layout (Temporary first))) long last.1
-
-      abbrev result : ℕ
-      result = register u.cpu Rax
-
-      same_state : u ≡ machine (seen_by_templates u) u.cpu.rip u.cpu.flags
-      same_state = is_machine u sane.count
-
-      room_slots : first + 4 ≤ body.temporaries
-      room_slots = (has_slots t fs program p q image roomy earlier caller waits counted (instructions.Call f first arguments) calls_here).0
-
-      -- RAX goes to its temporary
-      kept : ReachesBody (frame t fs program p q image roomy earlier caller waits counted) 1 (machine (seen_by_templates u) u.cpu.rip u.cpu.flags) (u.cpu.rip + sizes (keep layout (Temporary first))) (seen_by_templates u).rest
-          (record { slots = with_slot (slots t fs program p q image roomy earlier caller waits counted).slots (Temporary first) result; memory = source })
-      kept =
-          let r = room_slots in
-          call_ends (frame t fs program p q image roomy earlier caller waits counted) (Temporary first) (seen_by_templates u) u.cpu.rip u.cpu.flags (slots t fs program p q image roomy earlier caller waits counted)
-          (room_here t fs program p q image earlier caller waits counted) (omega arith) (result_small u.cpu.registers sane.count sane.small) (sp_is t fs program p q image roomy earlier caller waits counted)
-          (holds_here t fs program p q image earlier caller waits counted) keeps_code
-        where
-          result_small : (rs : List ℕ) → length rs ≡ 16 → ((i : ℕ) → i < length rs → slice_index rs i < 2 ^ 64) → slice_index rs 0 < 2 ^ 64
-          result_small rs n small = small 0 (omega arith)
-
-      next_place : u.cpu.rip + sizes (keep layout (Temporary first)) ≡ p.address w.body (w.next + 1)
-      next_place =
-          let n = next_address t fs program p q image roomy earlier caller waits counted (instructions.Call f first arguments) calls_here in
-          let z = call_template layout f first arguments in
-          omega (arith, back, n, z)
-
-      next_small : p.address w.body (w.next + 1) < 2 ^ 64
-      next_small =
-          let a = image.addresses w.body o there in
-          let r = a.rises (w.next + 1) within in
-          let high = a.inside.high in
-          let e = a.labels (w.next + 1) in
-          let most = offset_most layout o.code (w.next + 1) in
-          omega arith
-
-      abbrev values_here : List ℕ
-      values_here = (placed t fs program p q image earlier caller waits counted).values
-
-      as_they_were : Leaves body (slots t fs program p q image roomy earlier caller waits counted) values_here w.temporaries
-      as_they_were =
-          let s = slots_here t fs program p q image earlier caller waits counted in
-          let r = room_slots in
-          record {
-            count = count t fs program p q image earlier caller waits counted;
-            locals = λ i lt. s.locals i lt ∙ ap (λ xs. slice_index xs i) (locals_here t fs program p q image earlier caller waits counted);
-            few = omega (arith, held);
-            temporaries = s.temporaries;
-          }
-
-      leaves : Leaves body (record { slots = with_slot (slots t fs program p q image roomy earlier caller waits counted).slots (Temporary first) result; memory = source }) values_here (w.temporaries ++ result ∷ [])
-      leaves =
-          let r = room_slots in
-          subst (λ n. Leaves body (record { slots = with_slot (slots t fs program p q image roomy earlier caller waits counted).slots (Temporary n) result; memory = source }) values_here (w.temporaries ++ result ∷ [])) held
-          (longer_leaves body (slots t fs program p q image roomy earlier caller waits counted) values_here w.temporaries result as_they_were (omega (arith, held)))
-
-      same_locals : locals_of (with_values waits.body.acts w.activation values_here) ≡ locals_of acts
-      same_locals =
-          let n = slice_get_within (locals_of waits.body.acts) w.activation values_here (placed t fs program p q image earlier caller waits counted).number in
-          let k = locals_count waits.body.acts in
-          same_activations waits.body.acts w.activation values_here (omega arith) (placed t fs program p q image earlier caller waits counted).number ∙ sym waits.body.store
-
-      -- in one turn the next instruction begins
-      pub resumes : (z : State) × Reaches 1 u z × (arrivals z.cpu (distance t.base z.cpu.rip) 1 fs ≡ []) × (Begins t fs program p q z (answered w items source acts es result))
-      resumes =
-          let r = subst (λ x. ReachesBody (frame t fs program p q image roomy earlier caller waits counted) 1 x (u.cpu.rip + sizes (keep layout (Temporary first))) (seen_by_templates u).rest (record { slots = with_slot (slots t fs program p q image roomy earlier caller waits counted).slots (Temporary first) result; memory = source })) (sym same_state) kept in
-          let rip = u.cpu.rip + sizes (keep layout (Temporary first)) in
-          let z : State = machine r.after rip r.flags in
-          let k = reaches_keeps 1 u z r.comes in
-          let keeps : Keeps earlier z = record { protection = k.protection; fixed = k.fixed; count = k.count; small = k.small } in
-          let stack : register z.cpu Rsp ≡ register u.cpu Rsp = ap (λ (xs : List ℕ). slice_index xs 1) r.rest ∙ dropped u.cpu.registers in
-          let d : BodyState = record { slots = with_slot (slots t fs program p q image roomy earlier caller waits counted).slots (Temporary first) result; memory = source } in
-          let ts = w.temporaries ++ result ∷ [] in
-          let ran : Ran t fs program p q image earlier caller waits counted z d values_here ts = record { changed = record { changes = r.changes; keeps = keeps }; holds = r.holds; stack = stack; leaves = leaves } in
-          let inside : w.next + 1 < length body.code = subst (λ (b : LinearBody). w.next + 1 < length b.code) is_body within in
-          let small : rip < 2 ^ 64 = let n = next_small in omega (arith, next_place) in
-          let begins = begins_next t fs program p q image earlier caller waits counted z d values_here ts ran (w.next + 1) w.landed es next_place inside (stays_sane earlier z keeps small waits.sane) (λ code e. absurd (nothing w.landed code free e)) around.caller around.owner in (
-            z,
-            r.comes,
-            quiet_at t fs program p q image roomy earlier caller waits counted (w.next + 1) rip next_place inside small z refl,
-            subst (λ (xs : List (List ℕ)). let c : Configuration = record { frame = again w (w.next + 1) ts w.landed; below = items; store = record { memory = source; activations = xs }; events = es } in Begins t fs program p q z c) same_locals begins,
-          )
+    -- in one turn the next instruction begins
+    pub resumes : IsCounted t fs program p q image (on_top w items source acts es) → IsSurrounded t fs program p q image roomy w.body w.activation items (length acts)
+        → (z : State) × Reaches 1 u z × (arrivals z.cpu (distance t.base z.cpu.rip) 1 fs ≡ []) × (Begins t fs program p q z (answered t fs program p q image roomy w items source acts es (register u.cpu Rax)))
+    resumes counted surrounded =
+        kept.resumes t fs program p q image roomy u w items acts source es above is on sp sane memory o there (instructions.Call f first arguments) first (passing ++ beginning) calls
+        (sym (append_assoc passing beginning (keep layout (Temporary first)))) fits within held free back_is counted surrounded

@@ -1,29 +1,23 @@
 -- A function returns: to the body that waits for it, or out of `main`.
-use Rattle.std.proofs.Common.{◌≡◌, ◌≢◌, ℕ, zero, suc, ◌+◌, ◌-◌, ◌*◌, ◌^◌, ◌<◌, ◌≤◌, Bool, true, false, Option, Some, None, Ok, List, [], ◌∷◌, ◌++◌, length, refl, sym, ap, subst, ◌∙◌, arith, inl, inr, length-append}
-use Rattle.std.specs.Prelude.{◌⊎◌, get_or, slice_get, slice_index, drop, replicate}
+use Rattle.std.proofs.Common.{◌≡◌, ◌≢◌, ℕ, zero, suc, ◌+◌, ◌<◌, ◌≤◌, Option, Some, None, List, [], ◌∷◌, length, refl, sym, ap, subst, ◌∙◌, arith, length-append}
+use Rattle.std.specs.Prelude.{get_or, slice_get, replicate}
 use Rattle.std.proofs.lemmas.List.{append-nil, length-drop}
 use Rattle.std.proofs.lemmas.Option.{slice_get-get_or}
-use Rattle.seh_num.specs.declared.event.Event.{Event}
 use Rattle.seh_num.specs.declared.width.Width.TheVariants.{W32}
 use Rattle.seh_num.specs.Widths.{signed}
-use Rattle.host_layout.specs.declared.range.TheConstants.{STACK_START, STACK_END}
-use Rattle.flat_memory.specs.Memory.{Memory}
 use Rattle.x64_instr.specs.declared.register.Reg.TheVariants.{Rax, Rsp}
 use Rattle.x64_machine.specs.declared.context.Context.{Context}
-use Rattle.x64_machine.specs.declared.cpu.Cpu.{Cpu}
-use Rattle.x64_machine.specs.Contexts.{context_of}
 use Rattle.x64_machine.specs.Effect.{State, register}
 use Rattle.virtual_unwind.specs.CallerOf.{Functions, distance}
 use Rattle.host_model.specs.declared.funclet.Funclet.{Funclet}
 use Rattle.host_model.specs.Funclets.{arrivals}
 use Rattle.linear_code.specs.declared.slot.Slot.{Slot}
 use Rattle.linear_code.specs.declared.slot.Slot.TheVariants.{Local, Temporary}
-use Rattle.linear_code.specs.declared.instruction.Instruction.{Instruction}
 use Rattle.linear_code.specs.declared.instruction.Instruction.TheVariants as instructions
 use Rattle.linear_code.specs.Meaning.{IsSlot}
 use Rattle.linear_code.specs.declared.program.FuncletKind.TheVariants as kinds
 use Rattle.linear_code.specs.Program.{LinearProgram, LinearBody, LinearFunclet}
-use Rattle.linear_machine.specs.Frames.{BodyName, FunctionBody, FuncletBody, body_of, funclet_body, Frame, Item, Waits, Store, Configuration, Seen, Finished, Next, with_some, read}
+use Rattle.linear_machine.specs.Frames.{FunctionBody, FuncletBody, body_of, funclet_body, Frame, Item, Waits, Store, Configuration, Finished, Next, with_some, read}
 use Rattle.linear_machine.specs.Run.{instruction_in}
 use Rattle.linear_machine.specs.Unwinding.{left_store}
 use Rattle.linear_machine.specs.Instructions.{return, end_body, act}
@@ -38,7 +32,6 @@ use Rattle.x64_templates.specs.Runs.{Reaches}
 use Rattle.x64_templates.proofs.PlacedCode.{reaches_then}
 use Rattle.x64_templates.proofs.Entries.{number_small}
 use Rattle.x64_templates.proofs.Returns.{sp_moved, return_run}
-use Rattle.raw_stack.specs.Stack.{StackItem}
 use Rattle.raw_stack.specs.Laws.{context_below}
 use Rattle.linked_stack.specs.ImagePlan.{Plan}
 use Rattle.linked_stack.specs.Linked.{Activation, activations_below, return_of, ReturnsTo}
@@ -46,7 +39,6 @@ use Rattle.stack_records.specs.Records.{On}
 use Rattle.stack_unwinds.specs.Unwinding.{store_of, on_top}
 use Rattle.stack_unwinds.proofs.Unwound.{left_activations}
 use Rattle.dispatch_turns.specs.States.{IsSane}
-use Rattle.whole_runs.specs.Comes.{Comes}
 use Rattle.whole_runs.specs.Matched.{Moves, Exits}
 use Rattle.ir_typed.specs.Room.{HaveRoom}
 use Rattle.body_states.specs.Sites.{Sites}
@@ -57,8 +49,9 @@ use Rattle.body_steps.specs.Views.{counts_of}
 use Rattle.body_steps.proofs.Words.{may_read_written, word_is}
 use Rattle.body_steps.proofs.Reaching.{reaches_keeps, stays_sane}
 use Rattle.body_steps.proofs.Viewed.{IsCounted, sp_low, frame_top, room_here, holds_here, slots_here}
-use Rattle.body_steps.proofs.Running.{code, y, v, frame, slots, same_state, template_here, has_slots, sp_is, index_of}
-use Rattle.call_steps.proofs.Resuming.{returns_at, IsSurrounded, answered, caller, resumes}
+use Rattle.body_steps.proofs.Running.{y, v, frame, slots, same_state, template_here, has_slots, sp_is, index_of}
+use Rattle.call_steps.proofs.Kept.{IsSurrounded, answered}
+use Rattle.call_steps.proofs.Resuming.{returns_at, resumes}
 
 -- ---- how long a return takes
 
@@ -242,7 +235,7 @@ module _ (t : Functions) (fs : List Funclet) (program : LinearProgram) (p : Plan
           let some = (returns_soon layout from).0 in
           let more = length-append w.temporaries (x ∷ []) in
           let z = resumes t fs program p q image roomy after w items outer c.store.memory c.events above b.body.is on sp_after sane_after
-          (record { data_alone = b.memory.data_alone; agrees = b.memory.agrees; stack = b.memory.stack; code = b.memory.code }) o there g first arguments calls within held free returns counts surrounded in
+          (record { data_alone = b.memory.data_alone; agrees = b.memory.agrees; stack = b.memory.stack; arena = b.memory.arena; code = b.memory.code }) o there g first arguments calls within held free returns counts surrounded in
           let credit : held_below c.below ≡ length w.temporaries + held_below items = ap held_below below in
           record {
             turns = n + 1;

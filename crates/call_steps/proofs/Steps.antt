@@ -1,5 +1,5 @@
 -- Calls and returns, by what is known of the configuration.
-use Rattle.std.proofs.Common.{◌≡◌, ℕ, zero, suc, ◌+◌, ◌-◌, ◌<◌, ◌≤◌, Bool, true, false, Option, Some, None, List, [], ◌∷◌, length, refl, sym, ap, subst, ◌∙◌, arith, inl, inr}
+use Rattle.std.proofs.Common.{◌≡◌, ℕ, ◌+◌, ◌-◌, ◌<◌, ◌≤◌, Bool, true, false, Some, List, [], ◌∷◌, length, refl, sym, ap, subst, ◌∙◌, arith, inl, inr}
 use Rattle.std.specs.Prelude.{◌⊎◌, nat_lt, slice_get, get_or, drop}
 use Rattle.std.proofs.lemmas.Option.{slice_get_within, slice_get-get_or}
 use Rattle.x64_machine.specs.Effect.{State}
@@ -10,40 +10,39 @@ use Rattle.linear_code.specs.declared.slot.Slot.{Slot}
 use Rattle.linear_code.specs.declared.slot.Slot.TheVariants.{Local, Temporary}
 use Rattle.linear_code.specs.declared.instruction.Instruction.{Instruction}
 use Rattle.linear_code.specs.declared.instruction.Instruction.TheVariants as instructions
-use Rattle.linear_code.specs.Program.{LinearProgram, LinearBody, LinearFunction}
-use Rattle.linear_machine.specs.Frames.{BodyName, FunctionBody, FuncletBody, body_of, function_body, Item, Waits, Searches, Unwinds, Frame, Configuration, Next, Finished, pick, read, local_of}
-use Rattle.linear_machine.specs.Instructions.{waiting, begin_function, act}
+use Rattle.linear_code.specs.Program.{LinearProgram, LinearBody}
+use Rattle.linear_machine.specs.Frames.{FunctionBody, FuncletBody, body_of, function_body, Item, Waits, Searches, Unwinds, Frame, Configuration, Next, Finished, pick, read, local_of}
+use Rattle.linear_machine.specs.Instructions.{waiting, begin_function}
 use Rattle.linear_machine.specs.Run.{instruction_at}
 use Rattle.linked_stack.specs.ImagePlan.{Plan}
 use Rattle.linked_stack.specs.Linked.{Activation}
 use Rattle.whole_runs.specs.Matched.{Fails, IsMatched}
 use Rattle.whole_runs.proofs.Matches.{fails_at_once}
-use Rattle.ir_typed.specs.Apart.{is_call}
 use Rattle.ir_typed.specs.Bodies.{function_of, IsCallee, IsInstructionOf}
 use Rattle.ir_typed.specs.Ready.{IsHeld}
 use Rattle.ir_typed.specs.Room.{PassesWell}
-use Rattle.ir_typed.specs.Waiting.{IsAt, MayWait, IsCalledBy, IsAbove, AreWaiting}
+use Rattle.ir_typed.specs.Waiting.{MayWait, IsCalledBy, IsAbove, AreWaiting}
 use Rattle.ir_typed.specs.Activations.{with_own, owners_of, WorksOn}
 use Rattle.body_states.specs.Layouts.{IsFuncletPlan}
 use Rattle.body_states.specs.Sites.{Sites}
 use Rattle.body_states.specs.Programs.{IsProgramImage}
 use Rattle.body_states.specs.Bodies.{turns_left, Begins}
-use Rattle.body_steps.specs.Known.{IsWellMade, IsKnown}
+use Rattle.body_steps.specs.Known.{IsWellMade, IsKnown, KnownNext}
 use Rattle.body_steps.specs.Laws.{pace}
 use Rattle.body_steps.specs.Stores.{OwnerHasFrame}
 use Rattle.body_steps.proofs.Activations.{locals_count}
 use Rattle.body_steps.proofs.Around.{some_is, label_in, body_there, owned_count, leaf_or_funclet, owner_waits, counted_here, code_at, ready_here}
 use Rattle.body_steps.proofs.Running.{each}
 use Rattle.call_steps.specs.Calls.{FunctionsApart, CallBegins}
-use Rattle.call_steps.specs.Laws.{KnownNext, ReturnsAreMatched, CallsBegin}
-use Rattle.call_steps.proofs.Resuming.{IsSurrounded}
+use Rattle.call_steps.specs.Laws.{ReturnsAreMatched, CallsBegin}
+use Rattle.call_steps.proofs.Kept.{IsSurrounded}
 use Rattle.call_steps.proofs.Returning as returning
 use Rattle.call_steps.proofs.Called.{call_acts}
 use Rattle.call_steps.proofs.Called as called
 
 module _ (t : Functions) (fs : List Funclet) (program : LinearProgram) (p : Plan) (q : Sites) (image : IsProgramImage t fs program p q) (made : IsWellMade program p) where
   -- what is around a body, by what is known where it runs
-  surrounded : (d : Configuration) → IsKnown program d → (o : LinearBody) → body_of program d.frame.body ≡ Some o → (depth : ℕ) → depth ≡ length d.store.activations → IsSurrounded t fs program p q image made.room d.frame.body d.frame.activation d.below depth
+  pub surrounded : (d : Configuration) → IsKnown program d → (o : LinearBody) → body_of program d.frame.body ≡ Some o → (depth : ℕ) → depth ≡ length d.store.activations → IsSurrounded t fs program p q image made.room d.frame.body d.frame.activation d.below depth
   surrounded d known o there depth same = record {
     caller = λ leaf. leaf_or_funclet t fs program p q image made d o d.frame.body there leaf known.stacked.above;
     owner = owner;

@@ -1,27 +1,21 @@
 -- What is claimed of calls of functions and of their returns.
-use Rattle.std.specs.Prelude.{◌≡◌, ◌⊎◌, ℕ, zero, List, Some}
+use Rattle.std.specs.Prelude.{◌≡◌, ◌⊎◌, ℕ, List, Some}
 use Rattle.x64_machine.specs.Effect.{State}
 use Rattle.virtual_unwind.specs.CallerOf.{Functions}
 use Rattle.host_model.specs.declared.funclet.Funclet.{Funclet}
 use Rattle.linear_code.specs.declared.slot.Slot.{Slot}
-use Rattle.linear_code.specs.declared.instruction.Instruction.{Instruction}
 use Rattle.linear_code.specs.declared.instruction.Instruction.TheVariants as instructions
 use Rattle.linear_code.specs.Program.{LinearProgram}
-use Rattle.linear_machine.specs.Frames.{FunctionBody, Configuration, Next}
-use Rattle.linear_machine.specs.Instructions.{act}
+use Rattle.linear_machine.specs.Frames.{FunctionBody, Configuration}
 use Rattle.linear_machine.specs.Run.{instruction_at}
 use Rattle.linked_stack.specs.ImagePlan.{Plan}
 use Rattle.whole_runs.specs.Matched.{Fails, IsMatched}
 use Rattle.body_states.specs.Sites.{Sites}
 use Rattle.body_states.specs.Programs.{IsProgramImage}
 use Rattle.body_states.specs.Bodies.{turns_left, Begins}
-use Rattle.body_steps.specs.Known.{IsWellMade, IsKnown}
+use Rattle.body_steps.specs.Known.{IsWellMade, IsKnown, KnownNext}
 use Rattle.body_steps.specs.Laws.{pace}
 use Rattle.call_steps.specs.Calls.{FunctionsApart, CallBegins}
-
--- what is known of the configuration after a step
-abbrev pub KnownNext : LinearProgram → Configuration → Instruction → Type 0
-KnownNext program c i = (d : Configuration) → ((next : Next) → act program i next c ≡ next d) → IsKnown program d
 
 -- a function returns: to the body that waits for it, or out of `main`
 abbrev pub ReturnsAreMatched : Type 0

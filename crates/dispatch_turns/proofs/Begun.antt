@@ -206,7 +206,7 @@ raise_searches t fs program p s code flags access saved is acts exception c a e 
         on = record_leaves_the_list t fs program p s.memory at r (context_of saved) is (Waits c.frame ∷ c.below) acts a.on room;
         kind = refl;
         room = placed_room s.memory at r (rsp (context_of saved)) room;
-        carries = record { code = e.same_code; flag = flag_is flags exception.flag e.one_flag e.same_flag; count = ap count e.same_access; parameters = ap parameters e.same_access };
+        carries = record { code = e.same_code; flag = flag_is flags exception.flag e.one_flag e.same_flag; one_flag = e.one_flag; count = ap count e.same_access; parameters = ap parameters e.same_access };
         onward = onward_here t fs program p s.memory (context_of saved) is c.frame c.below acts a.on.stands.linked;
         near = near_of t fs program p s saved is (Waits c.frame ∷ c.below) acts a;
       };
@@ -281,7 +281,7 @@ answers_go_on t fs program p s r is acts exception resumption asked rest c h =
         on = record_leaves_the_list t fs program p s.memory at new (context_of r.saved) is (Waits c.frame ∷ c.below) acts outer new_room;
         kind = kind;
         room = placed_room s.memory at new above new_room;
-        carries = record { code = refl; flag = refl; count = refl; parameters = refl };
+        carries = record { code = refl; flag = refl; one_flag = omega arith; count = refl; parameters = refl };
         onward = onward_here t fs program p s.memory (context_of r.saved) is c.frame c.below acts h.on.stands.linked.1;
         near = waits.near;
       };

@@ -88,7 +88,7 @@ module _ (t : Functions) (fs : List Funclet) (program : LinearProgram) (p : Plan
             (λ others. search_is_one_more t fs program p s.memory at hand is items acts exception resumption f rest others h.on kind room
             (record {
               own = record { fits = hand_fits; room = h.room.room };
-              carries = record { code = h.carries.code; flag = h.carries.flag; count = h.carries.count; parameters = h.carries.parameters };
+              carries = record { code = h.carries.code; flag = h.carries.flag; one_flag = h.carries.one_flag; count = h.carries.count; parameters = h.carries.parameters };
               resumes = resumes;
               onward = a.onward;
               address = a.address;

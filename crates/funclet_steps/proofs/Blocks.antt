@@ -1,6 +1,6 @@
 -- A `__finally` block begins: it keeps the base and, in a local of its activation, its flag, and its first instruction follows.
-use Rattle.std.proofs.Common.{◌≡◌, ℕ, zero, suc, ◌+◌, ◌-◌, ◌*◌, ◌%◌, ◌^◌, ◌<◌, ◌≤◌, Bool, true, false, Option, Some, None, Ok, List, [], ◌∷◌, ◌++◌, length, refl, sym, ap, subst, ◌∙◌, arith, inl, inr}
-use Rattle.std.specs.Prelude.{◌⊎◌, nat_lt, slice_get, slice_index, slice_set}
+use Rattle.std.proofs.Common.{◌≡◌, ℕ, zero, suc, ◌+◌, ◌*◌, ◌<◌, ◌≤◌, Bool, true, false, Option, Some, None, List, [], ◌∷◌, length, refl, sym, ap, subst, ◌∙◌, arith}
+use Rattle.std.specs.Prelude.{slice_get, slice_index, slice_set}
 use Rattle.std.proofs.lemmas.Option.{slice_get_within}
 use Rattle.host_layout.specs.declared.range.TheConstants.{STACK_START, STACK_END}
 use Rattle.seh_num.specs.declared.width.Width.TheVariants.{W32}
@@ -25,8 +25,7 @@ use Rattle.template_code.specs.declared.layout.Layout.{Layout}
 use Rattle.template_code.specs.Bytes.{sizes}
 use Rattle.template_code.specs.Operations.{move}
 use Rattle.template_code.specs.Slots.{keep, keep_local, local_at}
-use Rattle.x64_templates.specs.Straight.{MachineView, machine}
-use Rattle.x64_templates.specs.CallStates.{sp_of}
+use Rattle.x64_templates.specs.Straight.{machine}
 use Rattle.x64_templates.specs.Runs.{HasCode, Enters, Frame, ReachesBody}
 use Rattle.x64_templates.proofs.PlacedCode.{enters_then}
 use Rattle.x64_templates.proofs.FuncletEntries.{flag_run}
@@ -54,7 +53,7 @@ use Rattle.body_steps.specs.Known.{IsKnown}
 use Rattle.funclet_steps.specs.Entries.{entry_turns, FlagsFit}
 use Rattle.funclet_steps.proofs.Making.{LeadsBy}
 use Rattle.funclet_steps.proofs.Standing.{ArrivesBelow, IsLaid, funclet_laid, HasFrame, first_frame, beginning, begins}
-use Rattle.funclet_steps.proofs.Known.{HasLocals, activation_at, as_many, is_there, no_leaf, parent_locals, leads_by, locals_counted, owner_framed}
+use Rattle.funclet_steps.proofs.Known.{HasLocals, activation_at, as_many, no_leaf, parent_locals, leads_by, locals_counted, owner_framed}
 use Rattle.funclet_steps.proofs.Entering.{HasEntered, entered, first_small, quiet_there}
 use Rattle.funclet_steps.proofs.Filters.{has_first, parent_is}
 

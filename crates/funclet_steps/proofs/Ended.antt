@@ -1,47 +1,35 @@
 -- A `__finally` block that a body has called returns: the body goes on after its call.
-use Rattle.std.proofs.Common.{◌≡◌, ◌≢◌, ℕ, zero, suc, ◌+◌, ◌-◌, ◌*◌, ◌^◌, ◌<◌, ◌≤◌, Bool, true, false, Option, Some, None, Ok, List, [], ◌∷◌, ◌++◌, length, get_or, refl, sym, ap, subst, ◌∙◌, arith, inl, inr, length-append}
-use Rattle.std.specs.Prelude.{slice_get, slice_index, drop, replicate}
-use Rattle.std.proofs.lemmas.List.{append-nil, length-drop}
-use Rattle.std.proofs.lemmas.Option.{slice_get_within}
-use Rattle.host_layout.specs.declared.range.TheConstants.{STACK_START, STACK_END}
-use Rattle.flat_memory.specs.Memory.{Memory}
-use Rattle.x64_instr.specs.declared.register.Reg.TheVariants.{Rax, Rsp}
+use Rattle.std.proofs.Common.{◌≡◌, ℕ, zero, suc, ◌+◌, ◌<◌, ◌≤◌, Option, Some, None, List, [], ◌∷◌, length, get_or, refl, sym, ap, subst, ◌∙◌, arith}
+use Rattle.std.specs.Prelude.{slice_get, replicate}
+use Rattle.std.proofs.lemmas.List.{append-nil}
+use Rattle.x64_instr.specs.declared.register.Reg.TheVariants.{Rsp}
 use Rattle.x64_machine.specs.declared.context.Context.{Context}
 use Rattle.x64_machine.specs.Effect.{State, register}
 use Rattle.virtual_unwind.specs.CallerOf.{Functions, distance}
 use Rattle.host_model.specs.declared.funclet.Funclet.{Funclet}
 use Rattle.host_model.specs.Funclets.{arrivals}
 use Rattle.linear_code.specs.declared.slot.Slot.{Slot}
-use Rattle.linear_code.specs.declared.slot.Slot.TheVariants.{Local, Temporary}
 use Rattle.linear_code.specs.declared.instruction.Instruction.{Instruction}
 use Rattle.linear_code.specs.declared.instruction.Instruction.TheVariants as instructions
-use Rattle.linear_code.specs.declared.program.FuncletKind.{FuncletKind}
 use Rattle.linear_code.specs.declared.program.FuncletKind.TheVariants as funclets
-use Rattle.linear_code.specs.Meaning.{IsSlot}
 use Rattle.linear_code.specs.Program.{LinearProgram, LinearBody, LinearFunclet}
-use Rattle.linear_machine.specs.Frames.{BodyName, FunctionBody, FuncletBody, body_of, Frame, Item, Waits, Store, Configuration, Next, with_some, read, forth}
+use Rattle.linear_machine.specs.Frames.{BodyName, FuncletBody, body_of, Frame, Item, Waits, Configuration, Next, with_some, read, forth}
 use Rattle.linear_machine.specs.Run.{instruction_in}
 use Rattle.linear_machine.specs.Instructions.{end_finally, end_funclet, end_body, act}
 use Rattle.template_code.specs.declared.layout.Layout.{Layout}
 use Rattle.template_code.specs.Bytes.{sizes}
 use Rattle.template_code.specs.Jumps.{call}
-use Rattle.template_code.specs.Calls.{finally_arguments, epilogue, return_code}
-use Rattle.template_code.specs.Slots.{fetch, fetch_local, local_at}
+use Rattle.template_code.specs.Calls.{finally_arguments, return_code}
 use Rattle.template_code.specs.Template.{template_size, body_size, offset_of}
 use Rattle.template_code.proofs.Sizes.{sizes_append, call_size, template_sizes, offset_next}
-use Rattle.x64_templates.specs.Straight.{MachineView, machine}
-use Rattle.x64_templates.specs.CallStates.{HasBack, with_sp, moved}
-use Rattle.x64_templates.specs.Returned.{Returned}
+use Rattle.x64_templates.specs.CallStates.{HasBack}
 use Rattle.x64_templates.specs.Runs.{Reaches}
-use Rattle.x64_templates.proofs.Entries.{number_small}
-use Rattle.x64_templates.proofs.Returns.{sp_moved, return_run}
 use Rattle.raw_stack.specs.Laws.{context_below}
 use Rattle.ir_typed.specs.Apart.{AreApart}
 use Rattle.ir_typed.specs.Room.{HaveRoom}
 use Rattle.linked_stack.specs.ImagePlan.{Plan, InCode}
 use Rattle.linked_stack.specs.Linked.{Activation, locals_of, activations_below, return_of, ReturnsTo}
 use Rattle.stack_records.specs.Records.{On}
-use Rattle.stack_unwinds.specs.Unwinding.{on_top}
 use Rattle.dispatch_turns.specs.States.{IsSane}
 use Rattle.whole_runs.specs.Matched.{Moves}
 use Rattle.body_states.specs.Sites.{Sites, links_of}
@@ -49,36 +37,13 @@ use Rattle.body_states.specs.Bodies.{held_below, turns_left, InBody, Begins}
 use Rattle.body_states.specs.Programs.{IsProgramImage}
 use Rattle.body_states.proofs.QuietTurns.{reaches_quietly}
 use Rattle.body_states.proofs.Resumed.{again, waits_in_body, all_front}
-use Rattle.body_steps.specs.Views.{counts_of}
-use Rattle.body_steps.proofs.Words.{may_read_written, word_is}
-use Rattle.body_steps.proofs.Reaching.{reaches_keeps, stays_sane}
-use Rattle.body_steps.proofs.Viewed.{IsCounted, sp_low, frame_top, room_here, holds_here, slots_here}
-use Rattle.body_steps.proofs.Running.{v, frame, slots, same_state, template_here, has_slots, sp_is, index_of, get_or_is}
-
--- ---- how long a return takes
-
-fetched_by : (o : Option ℕ) (d : ℕ) → length (fetch_local o Rax d) ≤ 2
-fetched_by None d = omega arith
-fetched_by (Some b) d = omega arith
-
-fetched_soon : (y : Layout) (x : Slot) → length (fetch y Rax x) ≤ 2
-fetched_soon y (Temporary i) = omega arith
-fetched_soon y (Local i) = fetched_by y.base (local_at y i)
-
-ends_soon : (n : ℕ) → (1 ≤ length (epilogue n)) × (length (epilogue n) ≤ 2)
-ends_soon zero = (omega arith, omega arith)
-ends_soon (suc n) = (omega arith, omega arith)
-
-returns_soon : (y : Layout) (x : Slot) → (1 ≤ length (return_code y x)) × (length (return_code y x) ≤ 4)
-returns_soon y x =
-    let n = length-append (fetch y Rax x) (epilogue y.frame) in
-    let a = fetched_soon y x in
-    let b = (ends_soon y.frame).0 in
-    let c = (ends_soon y.frame).1 in
-    (omega arith, omega arith)
+use Rattle.body_steps.proofs.Viewed.{IsCounted}
+use Rattle.body_steps.proofs.Running.{get_or_is}
+use Rattle.funclet_steps.proofs.Leaving as leaving
+use Rattle.funclet_steps.proofs.Leaving.{returns_soon}
 
 -- an instruction of a body begins within it
-offset_most : (y : Layout) (body : List Instruction) (number : ℕ) → offset_of y body number ≤ body_size y body
+pub offset_most : (y : Layout) (body : List Instruction) (number : ℕ) → offset_of y body number ≤ body_size y body
 offset_most y [] zero = omega arith
 offset_most y [] (suc number) = omega arith
 offset_most y (i ∷ body) zero = omega arith
@@ -123,50 +88,20 @@ module _ (t : Functions) (fs : List Funclet) (program : LinearProgram) (p : Plan
     abbrev n : ℕ
     n = length (return_code layout from)
 
-    is_there : IsSlot (counts_of b.body.slots.code) from
-    is_there = has_slots t fs program p q image roomy s c b counted (instructions.Return from) at
+    abbrev pub after : State
+    after = leaving.after t fs program p q image roomy s c b counted from at
 
     has_back : HasBack s.memory (sp + layout.frame) back
-    has_back =
-        let low = sp_low t fs program p q image s c b counted in
-        let top = frame_top t fs program p q image s c b counted in
-        let r = word_is s.memory (sp + layout.frame) back b.body.returns in
-        let small = number_small s.memory 8 (sp + layout.frame) b.memory.data_alone.bytes in
-        record {
-          number = r;
-          readable = λ a l u. may_read_written s.memory a (b.memory.stack a (omega arith) (omega arith));
-          small = omega (arith, r, small);
-        }
-
-    abbrev view : MachineView
-    view = v t fs program p q image roomy s c b counted
-
-    abbrev result : ℕ
-    result = (slots t fs program p q image roomy s c b counted).slots from
-
-    -- the state after it
-    pub run : Returned n view (sp + layout.frame + 8) back result s.cpu.rip s.cpu.flags
-    run =
-        let top = frame_top t fs program p q image s c b counted in
-        let low = sp_low t fs program p q image s c b counted in
-        return_run (frame t fs program p q image roomy s c b counted) from view back s.cpu.rip s.cpu.flags (slots t fs program p q image roomy s c b counted) (room_here t fs program p q image s c b counted)
-        is_there (length-drop 3 s.cpu.registers ∙ (let z = b.sane.count in omega arith)) (sp_is t fs program p q image roomy s c b counted) (omega arith) (holds_here t fs program p q image s c b counted) has_back
-        (template_here t fs program p q image roomy s c b counted (instructions.Return from) at)
-
-    abbrev after_view : MachineView
-    after_view = record { rax = result; rcx = view.rcx; rdx = view.rdx; rest = view.rest; memory = view.memory }
-
-    abbrev pub after : State
-    after = machine (moved after_view (sp + layout.frame + 8)) back run.flags
+    has_back = leaving.has_back t fs program p q image roomy s c b counted from at
 
     reaches : Reaches n s after
-    reaches = subst (λ z. Reaches n z after) (sym (same_state t fs program p q image roomy s c b counted)) run.comes
+    reaches = leaving.reaches t fs program p q image roomy s c b counted from at
 
     sp_after : register after.cpu Rsp ≡ sp + layout.frame + 8
-    sp_after = sym (index_of (with_sp view.rest (sp + layout.frame + 8)) 1) ∙ sp_moved view (sp + layout.frame + 8) (length-drop 3 s.cpu.registers ∙ (let z = b.sane.count in omega arith))
+    sp_after = leaving.sp_after t fs program p q image roomy s c b counted from at
 
     sane_after : IsSane after
-    sane_after = stays_sane s after (reaches_keeps n s after reaches) has_back.small b.sane
+    sane_after = leaving.sane_after t fs program p q image roomy s c b counted from at
 
     -- ---- the body that waits
 
@@ -220,7 +155,7 @@ module _ (t : Functions) (fs : List Funclet) (program : LinearProgram) (p : Plan
     begins = record {
       rip = back_is;
       sane = sane_after;
-      memory = record { data_alone = b.memory.data_alone; agrees = b.memory.agrees; stack = b.memory.stack; code = b.memory.code };
+      memory = record { data_alone = b.memory.data_alone; agrees = b.memory.agrees; stack = b.memory.stack; arena = b.memory.arena; code = b.memory.code };
       body = in_body;
       landed = λ value e. absurd (not_landed w.landed value free e);
     }

@@ -1,10 +1,9 @@
 -- A funclet's first turns: its frame is made, and keeps the base of its activation.
-use Rattle.std.proofs.Common.{◌≡◌, ℕ, zero, suc, ◌+◌, ◌-◌, ◌*◌, ◌^◌, ◌<◌, ◌≤◌, Bool, true, false, Option, Some, None, Ok, List, [], ◌∷◌, ◌++◌, length, refl, sym, ap, subst, ◌∙◌, arith, inl, inr}
-use Rattle.std.specs.Prelude.{◌⊎◌, slice_get, slice_index, drop, nat_le, replicate}
+use Rattle.std.proofs.Common.{◌≡◌, ℕ, ◌+◌, ◌-◌, ◌*◌, ◌^◌, ◌<◌, ◌≤◌, Some, None, List, [], ◌∷◌, ◌++◌, length, refl, sym, ap, subst, ◌∙◌, arith}
+use Rattle.std.specs.Prelude.{slice_index, drop, replicate}
 use Rattle.std.proofs.lemmas.Bool.{le-leb}
-use Rattle.std.proofs.lemmas.Option.{slice_get_within}
 use Rattle.host_layout.specs.declared.range.TheConstants.{STACK_START, STACK_END}
-use Rattle.flat_memory.specs.Memory.{Memory, may_write, number_at}
+use Rattle.flat_memory.specs.Memory.{Memory, number_at}
 use Rattle.x64_instr.specs.declared.register.Reg.TheVariants.{Rcx, Rdx, Rsp}
 use Rattle.x64_instr.specs.declared.instruction.Instr.{Instr}
 use Rattle.x64_machine.specs.declared.cpu.Flags.{Flags}
@@ -12,12 +11,12 @@ use Rattle.x64_machine.specs.Effect.{State, register}
 use Rattle.virtual_unwind.specs.CallerOf.{Functions, distance}
 use Rattle.host_model.specs.declared.funclet.Funclet.{Funclet}
 use Rattle.host_model.specs.Funclets.{arrivals}
-use Rattle.linear_code.specs.Program.{LinearProgram, LinearFunclet}
-use Rattle.linear_machine.specs.Frames.{BodyName, FuncletBody, body_of, funclet_body, Item}
+use Rattle.linear_code.specs.Program.{LinearProgram}
+use Rattle.linear_machine.specs.Frames.{FuncletBody, body_of, funclet_body, Item}
 use Rattle.template_code.specs.declared.layout.Layout.{Layout}
 use Rattle.template_code.specs.Bytes.{sizes}
 use Rattle.template_code.specs.Calls.{enter_code}
-use Rattle.template_code.specs.Template.{body_size, code_from}
+use Rattle.template_code.specs.Template.{code_from}
 use Rattle.template_code.proofs.Sizes.{sizes_append}
 use Rattle.x64_templates.specs.Straight.{MachineView, machine}
 use Rattle.x64_templates.specs.CallStates.{sp_of}
@@ -27,7 +26,6 @@ use Rattle.x64_templates.proofs.FilterEntries.{Within, within_keeps_code}
 use Rattle.linked_stack.specs.ImagePlan.{Plan}
 use Rattle.linked_stack.specs.Linked.{Activation, largest_frame, below_end, record_room}
 use Rattle.linked_stack.proofs.Ends.{in_stack}
-use Rattle.dispatch_turns.specs.States.{IsSane}
 use Rattle.body_states.specs.Sites as sites
 use Rattle.body_states.specs.Sites.{Sites, begin_of, links_of, making, frame_code, parent_base, keep_argument, base_in, funclet_arguments, arguments_code, entry_code, code_of}
 use Rattle.body_states.specs.Programs.{HasProgram, IsMachineMemory, IsProgramImage}

@@ -1,9 +1,9 @@
 -- A filter begins: it keeps the base and the address of its EXCEPTION_POINTERS, and its first instruction follows.
-use Rattle.std.proofs.Common.{◌≡◌, ℕ, zero, suc, ◌+◌, ◌-◌, ◌*◌, ◌%◌, ◌^◌, ◌<◌, ◌≤◌, Bool, true, false, Option, Some, None, Ok, List, [], ◌∷◌, ◌++◌, length, refl, sym, ap, subst, ◌∙◌, arith, inl, inr}
-use Rattle.std.specs.Prelude.{◌⊎◌, nat_lt, slice_get, slice_index}
+use Rattle.std.proofs.Common.{◌≡◌, ℕ, ◌+◌, ◌%◌, ◌^◌, ◌<◌, ◌≤◌, false, Option, Some, None, Ok, List, [], ◌∷◌, length, refl, sym, ap, subst, ◌∙◌, arith, inl}
+use Rattle.std.specs.Prelude.{nat_lt, slice_get}
 use Rattle.std.proofs.lemmas.Option.{slice_get_within}
-use Rattle.host_layout.specs.declared.range.TheConstants.{STACK_START, STACK_END}
-use Rattle.flat_memory.specs.Memory.{Memory, may_write, number_at}
+use Rattle.host_layout.specs.declared.range.TheConstants.{STACK_START}
+use Rattle.flat_memory.specs.Memory.{number_at}
 use Rattle.flat_memory.proofs.Stores.{stored_is_loaded}
 use Rattle.x64_instr.specs.declared.register.Reg.TheVariants.{Rcx, Rdx, Rsp}
 use Rattle.x64_instr.specs.declared.instruction.Instr.{Instr}
@@ -29,12 +29,11 @@ use Rattle.x64_templates.proofs.Parameters.{kept_at}
 use Rattle.x64_templates.proofs.Funclets.{HasCell}
 use Rattle.x64_templates.proofs.FuncletEntries.{pointers_kept}
 use Rattle.x64_templates.proofs.FilterEntries.{Within, within_then, within_cell}
-use Rattle.ir_typed.specs.Bodies.{IsFilter, parent_of, owner_of, IsFuncletOf}
+use Rattle.ir_typed.specs.Bodies.{parent_of, owner_of}
 use Rattle.linked_stack.specs.ImagePlan.{Plan, by_parent, parent_body}
 use Rattle.linked_stack.specs.Linked.{Activation, locals_of, IsActivation, HasSpace, below_end, KeepsPointers}
 use Rattle.raw_stack.specs.Laws.{context_below}
 use Rattle.dispatch_turns.specs.States.{IsSane, Arrives}
-use Rattle.whole_runs.specs.Comes.{Comes}
 use Rattle.whole_runs.proofs.Matches.{LeadsTo}
 use Rattle.body_states.specs.Sites.{Sites, parent_base, keep_argument}
 use Rattle.body_states.specs.Programs.{IsMachineMemory, IsProgramImage}

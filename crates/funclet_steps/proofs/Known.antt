@@ -1,7 +1,6 @@
 -- What is known of a funclet that begins, from the configuration in which it does.
-use Rattle.std.proofs.Common.{◌≡◌, ℕ, zero, suc, ◌+◌, ◌*◌, ◌^◌, ◌<◌, ◌≤◌, Bool, true, false, Option, Some, None, Ok, List, [], ◌∷◌, ◌++◌, length, refl, sym, ap, subst, ◌∙◌, arith, inl, inr, length-append}
-use Rattle.std.specs.Prelude.{◌⊎◌, slice_get, slice_set}
-use Rattle.std.proofs.lemmas.Option.{slice_get_within}
+use Rattle.std.proofs.Common.{◌≡◌, ℕ, zero, suc, false, Option, Some, None, List, [], ◌∷◌, ◌++◌, length, refl, sym, ap, subst, ◌∙◌, arith, inl, inr, length-append}
+use Rattle.std.specs.Prelude.{slice_get}
 use Rattle.flat_memory.specs.Memory.{Memory}
 use Rattle.virtual_unwind.specs.CallerOf.{Functions}
 use Rattle.host_model.specs.declared.funclet.Funclet.{Funclet}
@@ -9,7 +8,7 @@ use Rattle.linear_code.specs.declared.program.RegionKind.{RegionKind}
 use Rattle.linear_code.specs.declared.program.RegionKind.TheVariants as kinds
 use Rattle.linear_code.specs.declared.program.FuncletKind.{FuncletKind}
 use Rattle.linear_code.specs.declared.program.FuncletKind.TheVariants as funclets
-use Rattle.linear_code.specs.Program.{LinearProgram, LinearBody, LinearFunction, LinearFunclet}
+use Rattle.linear_code.specs.Program.{LinearProgram, LinearBody, LinearFunclet}
 use Rattle.linear_machine.specs.Frames.{BodyName, FunctionBody, FuncletBody, body_of, function_body, funclet_body, Frame, Handler, Item, Waits, Searches, Unwinds}
 use Rattle.ir_typed.specs.Bodies.{IsFilter, parent_of, function_of, owner_of, IsFuncletOf, IsKindOf}
 use Rattle.ir_typed.specs.Waiting.{Handles, IsHandler}
@@ -22,7 +21,6 @@ use Rattle.body_states.specs.Programs.{IsProgramImage}
 use Rattle.body_steps.specs.Stores.{OwnerHasFrame}
 use Rattle.body_steps.proofs.Activations.{got_before, got_last}
 use Rattle.funclet_steps.proofs.Making.{LeadsBy}
-use Rattle.funclet_steps.proofs.Standing.{IsLaid, funclet_laid}
 
 same_number : (a b : ℕ) → Some a ≡ Some b → a ≡ b
 same_number a b e = cc

@@ -6,5 +6,6 @@ pub mod Entering
 pub mod Filters
 pub mod Blocks
 pub mod Unwound
+pub mod Leaving
 pub mod Ended
 pub mod Steps

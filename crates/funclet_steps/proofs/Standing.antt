@@ -1,5 +1,5 @@
 -- A funclet's frame stands where it was made: below the return address that the funclet was given, on the list that stood there.
-use Rattle.std.proofs.Common.{◌≡◌, ℕ, zero, suc, ◌+◌, ◌*◌, ◌^◌, ◌<◌, ◌≤◌, Bool, true, false, Option, Some, None, Ok, List, [], ◌∷◌, length, refl, sym, ap, subst, ◌∙◌, arith, inl, inr}
+use Rattle.std.proofs.Common.{◌≡◌, ℕ, ◌+◌, ◌^◌, ◌<◌, ◌≤◌, true, false, Option, Some, None, Ok, List, [], ◌∷◌, length, refl, sym, ap, subst, ◌∙◌, arith, inl, inr}
 use Rattle.std.specs.Prelude.{◌⊎◌, slice_get}
 use Rattle.std.specs.List.{AllByRecursion}
 use Rattle.std.proofs.lemmas.Bool.{cases_lt}
@@ -8,7 +8,7 @@ use Rattle.seh_num.specs.declared.event.Event.{Event}
 use Rattle.flat_memory.specs.declared.protection.Protection.{Protection}
 use Rattle.flat_memory.specs.Protections.{is_writable}
 use Rattle.flat_memory.specs.Memory.{Memory, may_write, number_at}
-use Rattle.x64_instr.specs.declared.register.Reg.TheVariants.{Rax, Rcx, Rdx, Rsp}
+use Rattle.x64_instr.specs.declared.register.Reg.TheVariants.{Rcx, Rdx, Rsp}
 use Rattle.x64_machine.specs.Contexts.{context_of}
 use Rattle.x64_machine.specs.Effect.{State, register}
 use Rattle.virtual_unwind.specs.Undone.{word}
@@ -17,28 +17,27 @@ use Rattle.host_model.specs.declared.funclet.Funclet.{Funclet}
 use Rattle.c_model.specs.State.{Exception}
 use Rattle.c_model.specs.Source.{is_reserved}
 use Rattle.linear_code.specs.declared.program.Region.{Region}
-use Rattle.linear_code.specs.Program.{LinearProgram, LinearBody, LinearFunclet}
-use Rattle.linear_machine.specs.Frames.{BodyName, FunctionBody, FuncletBody, body_of, funclet_body, Frame, Item, Store, Configuration}
+use Rattle.linear_code.specs.Program.{LinearProgram, LinearFunclet}
+use Rattle.linear_machine.specs.Frames.{BodyName, FuncletBody, body_of, funclet_body, Frame, Item, Store, Configuration}
 use Rattle.linear_machine.specs.Regions.{holds, regions_of}
 use Rattle.template_code.specs.declared.layout.Layout.{Layout}
-use Rattle.x64_templates.specs.Frames.{Agrees}
 use Rattle.x64_templates.proofs.PlacedCode.{same_number}
 use Rattle.x64_templates.proofs.FilterEntries.{Within}
 use Rattle.raw_stack.specs.Stack.{StackItem}
 use Rattle.raw_stack.specs.Laws.{context_below}
 use Rattle.linked_stack.specs.ImagePlan.{Plan, InCode, IsFunclet}
-use Rattle.linked_stack.specs.Linked.{Activation, locals_of, Reaches, IsActivation, HasActivation, HoldsWords, HasSpace, below_end, HasPointers, FuncletIsAbove, IsAbove, BodyWaits, ReturnsTo, home_end}
+use Rattle.linked_stack.specs.Linked.{Activation, locals_of, Reaches, IsActivation, HasActivation, HoldsWords, HasSpace, below_end, HasPointers, FuncletIsAbove, BodyWaits, ReturnsTo}
 use Rattle.linked_stack.specs.Laws.{KeepsStack}
 use Rattle.linked_stack.proofs.Keeping.{kept_by_other_memories}
-use Rattle.stack_records.specs.Records.{IsData, On}
+use Rattle.stack_records.specs.Records.{On}
 use Rattle.dispatch_turns.specs.States.{IsSane, Arrives}
 use Rattle.body_states.specs.Sites.{Sites}
-use Rattle.body_states.specs.Layouts.{IsFuncletLayout, IsFuncletPlan}
+use Rattle.body_states.specs.Layouts.{IsFuncletPlan}
 use Rattle.body_states.specs.Programs.{IsMachineMemory, IsProgramImage}
 use Rattle.body_states.specs.Bodies.{slots_end, last_temporary, InBody, Begins}
 use Rattle.body_steps.proofs.Words.{word_is, word_of, may_read_written}
 use Rattle.body_steps.proofs.Views.{stack_is_reserved}
-use Rattle.body_steps.proofs.Programs.{KeepsImage, program_stays}
+use Rattle.body_steps.proofs.Programs.{program_stays}
 
 pub same_regions : (rs : List Region) (label : ℕ) → AllByRecursion (λ (r : Region). holds label r ≡ holds label r) rs
 same_regions [] label = tt
@@ -84,6 +83,7 @@ module _ (t : Functions) (fs : List Funclet) (program : LinearProgram) (p : Plan
     data_alone = record { bytes = w.bytes memory.data_alone.bytes; no_code = λ a e. no_more a (memory.data_alone.no_code a (ap (λ (x : Protection). is_writable x.rights) (sym (same_protection a)) ∙ e)) };
     agrees = record { byte = λ a r. w.byte a (outside a r) ∙ memory.agrees.byte a r; protection = λ a r. same_protection a ∙ memory.agrees.protection a r; guard = memory.agrees.guard };
     stack = stack_writable;
+    arena = λ a e. no_more a (memory.arena a e);
     code = program_stays t fs program p q image m m' (record { byte = λ a l h own. w.byte a (inr (omega arith)); protection = λ a l h own. same_protection a }) memory.code;
   }
 

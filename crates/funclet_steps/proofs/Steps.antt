@@ -1,24 +1,15 @@
 -- The steps that call a `__finally` block and return from it, by what is known of configurations.
-use Rattle.std.proofs.Common.{◌≡◌, ℕ, zero, suc, ◌+◌, ◌<◌, Bool, true, false, Option, Some, None, List, [], ◌∷◌, length, refl, sym, ap, subst, ◌∙◌, arith}
-use Rattle.std.specs.Prelude.{nat_lt, slice_get, slice_index}
-use Rattle.x64_machine.specs.Effect.{State}
-use Rattle.virtual_unwind.specs.CallerOf.{Functions}
-use Rattle.host_model.specs.declared.funclet.Funclet.{Funclet}
+use Rattle.std.proofs.Common.{◌≡◌, ℕ, zero, suc, ◌<◌, Option, Some, None, List, [], ◌∷◌, length, refl, subst, arith}
+use Rattle.std.specs.Prelude.{slice_get, slice_index}
 use Rattle.linear_code.specs.declared.slot.Slot.{Slot}
 use Rattle.linear_code.specs.declared.slot.Slot.TheVariants.{Local, Temporary}
 use Rattle.linear_code.specs.declared.instruction.Instruction.{Instruction}
 use Rattle.linear_code.specs.declared.instruction.Instruction.TheVariants as instructions
 use Rattle.linear_code.specs.Program.{LinearProgram, LinearBody}
-use Rattle.linear_machine.specs.Frames.{BodyName, FuncletBody, body_of, Frame, Item, Waits, Configuration, read, local_of}
-use Rattle.linear_machine.specs.Unwinding.{begin_finally}
-use Rattle.linear_machine.specs.Run.{instruction_in, instruction_at}
-use Rattle.ir_typed.specs.Bodies.{IsInstructionOf, IsFinally, IsFuncletOf}
+use Rattle.linear_machine.specs.Frames.{FuncletBody, body_of, Frame, Waits, Configuration, read, local_of}
+use Rattle.linear_machine.specs.Run.{instruction_in}
 use Rattle.ir_typed.specs.Ready.{IsHeld}
-use Rattle.ir_typed.specs.Waiting.{IsAt, IsAbove, IsWaiting, AreWaiting, IsBlockOf}
-use Rattle.linked_stack.specs.ImagePlan.{Plan}
-use Rattle.body_states.specs.Sites.{Sites}
-use Rattle.body_steps.specs.Known.{IsKnown}
-use Rattle.body_steps.proofs.Running.{each}
+use Rattle.ir_typed.specs.Waiting.{IsAt, IsAbove, AreWaiting, IsBlockOf}
 use Rattle.body_steps.proofs.Around.{counted_here, code_at, ready_here}
 use Rattle.funclet_steps.specs.Laws.{CalledFiltersBegin, CalledBlocksBegin, ReturnsOfBlocksAreMatched}
 use Rattle.funclet_steps.proofs.Filters.{filters_begin}
@@ -31,7 +22,7 @@ got_within [] i lt = absurd (omega arith)
 got_within (x ∷ vs) zero lt = refl
 got_within (x ∷ vs) (suc i) lt = got_within vs i (omega arith)
 
-reads_some : (c : Configuration) (from : Slot) → IsHeld (length c.frame.temporaries) from → (x : ℕ) × (read c from ≡ Some x)
+pub reads_some : (c : Configuration) (from : Slot) → IsHeld (length c.frame.temporaries) from → (x : ℕ) × (read c from ≡ Some x)
 reads_some c (Local i) h = (local_of c.store c.frame.activation i, refl)
 reads_some c (Temporary i) h = (slice_index c.frame.temporaries i, got_within c.frame.temporaries i h)
 

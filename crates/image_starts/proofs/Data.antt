@@ -4,8 +4,8 @@ use Rattle.std.specs.Prelude.{◌&&◌, ◌||◌, ◌⊎◌}
 use Rattle.std.specs.List.{AllByRecursion, flat_map}
 use Rattle.std.proofs.lemmas.Bool.{and_from, and_parts, and_left, and_right, or_left, lt-ltb, le-ltb, le-leb, lt-leb, ltb-true, leb-true, cases_lt, false≢true}
 use Rattle.std.proofs.lemmas.List.{get_or_past}
-use Rattle.host_layout.specs.declared.range.TheConstants.{GUARD_START, STACK_START, STACK_END, IMAGE_BASE, IMAGE_RANGE_END}
-use Rattle.host_layout.specs.Ranges.{in_stack, in_guard}
+use Rattle.host_layout.specs.declared.range.TheConstants.{GUARD_START, STACK_START, STACK_END, ARENA_START, ARENA_END, IMAGE_BASE, IMAGE_RANGE_END}
+use Rattle.host_layout.specs.Ranges.{in_stack, in_guard, in_arena}
 use Rattle.flat_memory.specs.declared.protection.Protection.{Protection}
 use Rattle.flat_memory.specs.declared.protection.Rights.TheVariants.{Nothing, ReadWrite}
 use Rattle.flat_memory.specs.Protections.{is_writable}
@@ -240,6 +240,16 @@ module _ (program : LinearProgram) (c : IsCompiled program) where
   stack_writes a le lt =
       ap (λ (o : Option Section). is_writable (mode_in o a).rights) (outside a (inl (omega arith)))
       ∙ ap (λ (b : Bool). is_writable (stack_mode b).rights) (and_from (leb STACK_START a) (ltb a STACK_END) (le-leb STACK_START a le) (lt-ltb a STACK_END lt))
+
+  -- ---- the arena
+
+  pub arena_alone : (a : ℕ) → in_arena a ≡ true → (m.protection a).execute ≡ false
+  unfolding mapped
+  arena_alone a e =
+      let q = and_parts (leb ARENA_START a) (ltb a ARENA_END) e in
+      let high : a < ARENA_END = ltb-true a ARENA_END q.1 in
+      let off : in_stack a ≡ false = and_left (leb STACK_START a) (ltb a STACK_END) (lt-leb STACK_START a (omega arith)) in
+      ap (λ (o : Option Section). (mode_in o a).execute) (outside a (inl (omega arith))) ∙ ap (λ (b : Bool). (stack_mode b).execute) off
 
   -- ---- data alone
 

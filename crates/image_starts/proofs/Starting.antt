@@ -17,11 +17,11 @@ use Rattle.program_tables.proofs.Table.{is, tables_are_read}
 use Rattle.image_states.specs.Compiled.{IsCompiled}
 use Rattle.image_starts.specs.Laws.{ImagesStart, ImagesLoad}
 use Rattle.image_starts.proofs.Sections.{covered, above, here, past}
-use Rattle.image_starts.proofs.Data.{globals, text, tables, infos, functions, agrees, stack_writes, data_alone}
+use Rattle.image_starts.proofs.Data.{globals, text, tables, infos, functions, agrees, stack_writes, arena_alone, data_alone}
 use Rattle.image_starts.proofs.CodePlaced.{has_program}
 
 pub images_start : ImagesStart
-images_start program c bytes = record { data_alone = data_alone program c bytes; agrees = agrees program c; stack = stack_writes program c; code = has_program program c }
+images_start program c bytes = record { data_alone = data_alone program c bytes; agrees = agrees program c; stack = stack_writes program c; arena = arena_alone program c; code = has_program program c }
 
 -- ---- the load
 

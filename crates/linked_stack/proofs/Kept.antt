@@ -129,6 +129,7 @@ module _ (m m' : Memory) (top : ℕ) where
     record_stands c d at kind next r fits s = record {
       at_host = s.at_host;
       fetches = r.records (rsp c) (omega arith) fits ∙ s.fetches;
+      pointers = r.words (rsp c + 80) (rsp c + 96) (omega arith) (omega arith) s.pointers;
       kind = s.kind;
       above = s.above;
       small = s.small;

@@ -1,5 +1,5 @@
 -- The plain list of what waits in linear code, as it stands in the machine's stack, item by item.
-use Rattle.std.specs.Prelude.{◌≡◌, ◌⊎◌, ℕ, suc, ◌+◌, ◌-◌, ◌*◌, ◌%◌, ◌^◌, ◌<◌, ◌≤◌, true, false, not, ◌==◌, List, [], ◌∷◌, ◌++◌, length, drop, filter, slice_get, Option, Some, None, Ok}
+use Rattle.std.specs.Prelude.{◌≡◌, ◌⊎◌, ℕ, ◌+◌, ◌-◌, ◌*◌, ◌%◌, ◌^◌, ◌<◌, ◌≤◌, true, false, not, ◌==◌, List, [], ◌∷◌, ◌++◌, length, drop, filter, slice_get, Option, Some, None, Ok}
 use Rattle.std.specs.List.{AllByRecursion}
 use Rattle.host_layout.specs.declared.range.TheConstants.{STACK_END}
 use Rattle.flat_memory.specs.Memory.{Memory}
@@ -18,7 +18,6 @@ use Rattle.host_model.specs.declared.funclet.Funclet.{Funclet}
 use Rattle.host_model.specs.Dispatch.{row_before, rows_of, parameters, count}
 use Rattle.template_code.specs.declared.layout.Layout.{Layout}
 use Rattle.template_code.specs.Bytes.{sizes}
-use Rattle.template_code.specs.Slots.{temporary_at, local_at}
 use Rattle.template_code.specs.Calls.{return_at, passing_code, finally_arguments}
 use Rattle.linear_code.specs.declared.instruction.Instruction.{Instruction}
 use Rattle.linear_code.specs.declared.instruction.Instruction.TheVariants as instructions
@@ -265,10 +264,11 @@ module _ (t : Functions) (fs : List Funclet) (program : LinearProgram) (p : Plan
     pub jumps : (row.jump_target == 0) ≡ false
     pub target : (t.base + row.jump_target) % 2 ^ 64 ≡ address
 
-  -- the record has the exception
+  -- the record has the exception; of its flags none but the first may be set
   pub record HasException (r : DispatchRecord) (exception : Exception) : Type 0 where
     pub code : r.code.0 ≡ exception.code
     pub flag : (r.flags % 2 == 0) ≡ not exception.flag
+    pub one_flag : r.flags < 2
     pub count : r.count ≡ count exception.access
     pub parameters : r.parameters ≡ parameters exception.access
 

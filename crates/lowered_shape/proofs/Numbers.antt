@@ -111,7 +111,7 @@ mutual
       let y = statements_count owner names ss in
       omega (arith, length-append (statement_funclets owner names s) (statements_funclets owner names ss), length-append (funclets_in s) (funclets ss))
 
-functions_count : (number : ℕ) (fs : List Function) → length (all_funclets number fs) ≡ length (sound.all_funclets fs)
+pub functions_count : (number : ℕ) (fs : List Function) → length (all_funclets number fs) ≡ length (sound.all_funclets fs)
 functions_count number [] = refl
 functions_count number (f ∷ fs) =
     let owner : Owner = record { function = number; locals = all_locals f; parent = None } in
@@ -233,7 +233,7 @@ all_small m (x ∷ xs) e = (go (ltb x m) refl, all_small m xs (omega arith))
 
 -- ---- programs
 
-counts : (p : Program) → IsSound p → count_up 1 (sound.all_funclets p.functions) ≡ true
+pub counts : (p : Program) → IsSound p → count_up 1 (sound.all_funclets p.functions) ≡ true
 counts p ok =
     let functions = sound.functions_sound p.functions p.functions in
     let main = sound.main_sound (slice_get p.functions p.main) in

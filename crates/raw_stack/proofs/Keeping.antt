@@ -25,6 +25,7 @@ record_same m byte c r at is next same s =
     record {
       at_host = s.at_host;
       fetches = fetched_by_its_bytes m (with_bytes m byte) (rsp c) (omega arith) refl (λ x p q. same x (within x (rsp c + 32) (rsp c + 1568) p q)) ∙ s.fetches;
+      pointers = word_same m byte (rsp c + 80) (omega arith) (λ x p q. same x (within x (rsp c + 32) (rsp c + 1568) (omega arith) (omega arith))) ∙ s.pointers;
       kind = s.kind;
       above = s.above;
       small = s.small;

@@ -1,17 +1,19 @@
 -- A record that is placed below a stack is one item more.
-use Rattle.std.proofs.Common.{◌≡◌, ◌⊎◌, ℕ, ◌+◌, ◌^◌, ◌<◌, ◌≤◌, Bool, true, false, List, refl, arith, inl, inr}
+use Rattle.std.proofs.Common.{◌≡◌, ◌⊎◌, ℕ, ◌+◌, ◌%◌, ◌^◌, ◌<◌, ◌≤◌, Bool, true, false, List, refl, sym, ap, ◌∙◌, arith, inl, inr}
 use Rattle.std.proofs.lemmas.Bool.{cases_lt}
-use Rattle.flat_memory.specs.Memory.{Memory}
+use Rattle.flat_memory.specs.Memory.{Memory, first_refused, may_read}
 use Rattle.x64_machine.specs.declared.context.Context.{Context}
 use Rattle.x64_machine.specs.Contexts.{context_of}
 use Rattle.virtual_unwind.specs.Contexts.{rsp}
 use Rattle.virtual_unwind.specs.CallerOf.{Functions}
 use Rattle.seh_records.specs.declared.dispatch.DispatchRecord.{DispatchRecord}
 use Rattle.seh_records.specs.Record.{placed}
+use Rattle.seh_records.proofs.Runs.{none_within}
 use Rattle.seh_records.proofs.Placed.{placed_is_fetched, placing_leaves_others}
 use Rattle.seh_walk.specs.Walk.{is_search, filter_return, finally_return}
 use Rattle.raw_stack.specs.Stack.{StackItem, IsStack, Owned, IsWithin, RecordStands}
 use Rattle.raw_stack.specs.Laws.{CanBePlaced, RecordIsOneMore, context_below}
+use Rattle.raw_stack.proofs.Pointers.{placed_points}
 use Rattle.raw_stack.proofs.Keeping.{kept_by_other_stores, nothing_below_is_owned}
 
 -- an executable byte isn't one of the record's
@@ -35,6 +37,7 @@ module _ (t : Functions) (m : Memory) (is : List StackItem) (r : DispatchRecord)
       record {
         at_host = refl;
         fetches = placed_is_fetched m at r top p.bytes p.fits p.readable;
+        pointers = placed_points m at r top (let e : (at + 80) % 2 ^ 64 ≡ at + 80 = omega arith in ap (first_refused (may_read m) 8) (sym e) ∙ none_within (may_read m) 1568 80 8 at (omega arith) (omega arith) p.readable);
         kind = kind;
         above = p.below;
         small = p.small;

@@ -53,7 +53,7 @@ refused_same may may' (suc n) a lt h =
     ap (λ b. cond b (first_refused may' n (next a)) (Some a)) (h a (omega arith) (omega arith))
     ∙ ap (λ (o : Option ℕ). cond (may a) o (Some a)) more
 
-number_same : (b d : ℕ → ℕ) (n a : ℕ) → a < 2 ^ 64 → ((i : ℕ) → i < n → b ((a + i) % 2 ^ 64) ≡ d ((a + i) % 2 ^ 64)) → number_at b n a ≡ number_at d n a
+pub number_same : (b d : ℕ → ℕ) (n a : ℕ) → a < 2 ^ 64 → ((i : ℕ) → i < n → b ((a + i) % 2 ^ 64) ≡ d ((a + i) % 2 ^ 64)) → number_at b n a ≡ number_at d n a
 unfolding number_at
 number_same b d zero a lt h = refl
 number_same b d (suc n) a lt h =

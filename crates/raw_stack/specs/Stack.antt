@@ -85,10 +85,11 @@ pub record LeafStands (t : Functions) (m : Memory) (c : Context) (back : ℕ) : 
   pub room : rsp c + 8 < 2 ^ 64
   pub returns : word m (rsp c) ≡ Ok back
 
--- a record at the return address of the host that its funclet has
+-- a record at the return address of the host that its funclet has; its EXCEPTION_POINTERS begin with the address of its EXCEPTION_RECORD
 pub record RecordStands (m : Memory) (c : Context) (r : DispatchRecord) (address : ℕ) (searches : Bool) (next : Context) : Type 0 where
   pub at_host : c.rip ≡ address
   pub fetches : fetched m (rsp c) ≡ Some r
+  pub pointers : word m (rsp c + 80) ≡ Ok (rsp c + 96)
   pub kind : is_search r.kind ≡ searches
   pub above : rsp c + 1568 ≤ rsp next
   pub small : rsp next < 2 ^ 64

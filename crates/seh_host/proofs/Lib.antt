@@ -7,8 +7,5 @@ pub mod Leading
 pub mod Returning
 pub mod Faults
 pub mod Turning
-pub mod Inserting
-pub mod Entries
 pub mod Loaded
 pub mod Writing
-pub mod Ascending

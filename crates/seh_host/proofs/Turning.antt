@@ -13,7 +13,8 @@ use Rattle.host_model.specs.HostStep.{turn, turned, over, host}
 use Rattle.seh_host.specs.declared.outcome.Outcome as code
 use Rattle.seh_host.specs.declared.outcome.Outcome.TheVariants as outcomes
 use Rattle.seh_host.specs.declared.outcome.Made.{Made}
-use Rattle.seh_host.specs.Outcomes.{listed, led, turn_of, made_turn}
+use Rattle.image_funclets.specs.Listed.{listed}
+use Rattle.seh_host.specs.Outcomes.{led, turn_of, made_turn}
 use Rattle.seh_host.specs.Running.{left}
 use Rattle.seh_host.specs.Turns.{over_if, over_cpu}
 

@@ -1,7 +1,6 @@
 pub mod Mapping
 pub mod Hosts
 pub mod Running
-pub mod Placed
 pub mod Turns
 pub mod Outcomes
 pub mod Writing

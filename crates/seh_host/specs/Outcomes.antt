@@ -1,5 +1,5 @@
 -- What the code's outcomes stand for.
-use Rattle.std.specs.Prelude.{ℕ, ◌+◌, ◌%◌, ◌^◌, List, [], ◌∷◌, ◌++◌, Option, Some, None, Result, Ok, Err}
+use Rattle.std.specs.Prelude.{ℕ, ◌+◌, ◌%◌, ◌^◌, List, [], ◌++◌, Option, Some, None, Result, Ok, Err}
 use Rattle.seh_num.specs.declared.width.Width.TheVariants.{W64}
 use Rattle.flat_memory.specs.declared.access.RefusedAccess.{RefusedAccess}
 use Rattle.x64_instr.specs.declared.register.Reg.TheVariants.{Rsp}
@@ -11,14 +11,11 @@ use Rattle.x64_machine.specs.declared.cpu.Cpu.{Cpu}
 use Rattle.x64_machine.specs.Effect.{register, with_register, state}
 use Rattle.seh_walk.specs.declared.stop_cause.StopCause.{StopCause}
 use Rattle.host_model.specs.Turns.{Turn, Continues, Ends}
+use Rattle.image_funclets.specs.Listed.{listed}
 use Rattle.seh_host.specs.declared.outcome.Outcome as code
 use Rattle.seh_host.specs.declared.outcome.Outcome.TheVariants as outcomes
 use Rattle.seh_host.specs.declared.outcome.Led.{Led}
 use Rattle.seh_host.specs.declared.outcome.Made.{Made}
-
-abbrev pub listed : Option Event → List Event
-listed None = []
-listed (Some e) = e ∷ []
 
 -- events before those of a turn
 abbrev pub led : List Event → Turn → Turn

@@ -5,7 +5,6 @@ pub mod advancing;
 pub mod answering;
 mod binding;
 pub mod dispatching;
-pub mod funclets;
 pub mod host;
 pub mod loading;
 pub mod mapping;

@@ -9,10 +9,10 @@ ghost use Rattle.seh_host.specs.Running.{running_of, first_running, image_of};
 
 use crate::LoadErr;
 use crate::binding::{bind_all, first_unknown};
-use crate::funclets::funclets_in;
 use crate::host::Host;
 use crate::mapping::{has_entry, has_place, regions};
 use eh_tables::Tables;
+use image_funclets::gathering::funclets_in;
 use pe_image::ImageView;
 use seh_num::extension::wrap;
 use seh_num::width::Width;

@@ -19,7 +19,7 @@ use Rattle.linked_stack.specs.Laws.{Stands}
 use Rattle.linked_stack.proofs.Keeping.{misplaced_same, kept_by_stores_below}
 use Rattle.stack_records.specs.Records.{On, HasRoom}
 use Rattle.stack_records.specs.Laws.{RecordLeavesTheList, SearchIsOneMore, UnwindingIsOneMore}
-use Rattle.stack_records.proofs.Laying.{bytes, laid_is, keeps_above, data_laid, record_laid, placed_keeps_above, data_placed}
+use Rattle.stack_records.proofs.Laying.{bytes, laid_is, keeps_above, data_laid, record_laid, pointers_laid, placed_keeps_above, data_placed}
 
 module _ (t : Functions) (fs : List Funclet) (program : LinearProgram) (p : Plan) (m : Memory) (at : ℕ) (r : DispatchRecord) (back : ℕ) (c : Context) (is : List StackItem) (items : List Item) (acts : List Activation) (on : On t fs program p m c is items acts) (room : HasRoom m at r (rsp c)) (small : back < 2 ^ 64) where
   -- what stood above still stands
@@ -44,7 +44,7 @@ search_is_one_more t fs program p m at r is items acts exception resumption aske
     (record {
       stands = record {
         stack = (
-          record { at_host = refl; fetches = record_laid m at r filter_return (rsp c) on.data_alone room small; kind = kind; above = room.below; small = room.small },
+          record { at_host = refl; fetches = record_laid m at r filter_return (rsp c) on.data_alone room small; pointers = pointers_laid m at r filter_return (rsp c) on.data_alone room small; kind = kind; above = room.below; small = room.small },
           outer.stack,
         );
         linked = (
@@ -73,7 +73,7 @@ unwinding_is_one_more t fs program p m at r is items acts rest target others on 
     (record {
       stands = record {
         stack = (
-          record { at_host = refl; fetches = record_laid m at r finally_return (rsp r.walk) on.data_alone room small; kind = kind; above = room.below; small = room.small },
+          record { at_host = refl; fetches = record_laid m at r finally_return (rsp r.walk) on.data_alone room small; pointers = pointers_laid m at r finally_return (rsp r.walk) on.data_alone room small; kind = kind; above = room.below; small = room.small },
           outer.stack,
         );
         linked = (

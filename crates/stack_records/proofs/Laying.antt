@@ -14,6 +14,8 @@ use Rattle.seh_records.proofs.Runs.{none_front, none_within}
 use Rattle.seh_records.proofs.Places.{writable}
 use Rattle.seh_records.proofs.Placed.{placed_is_fetched, placing_leaves_others}
 use Rattle.seh_records.proofs.Unmoved.{fetched_by_its_bytes}
+use Rattle.raw_stack.proofs.Unchanged.{word_kept}
+use Rattle.raw_stack.proofs.Pointers.{placed_points}
 use Rattle.linked_stack.specs.Laws.{KeepsAbove}
 use Rattle.stack_records.specs.Records.{IsData, HasRoom, IsUntouched, laid}
 use Rattle.stack_records.specs.Laws.{LaidRecordLeavesOthers, ReturnAddressIsLaid}
@@ -150,6 +152,14 @@ module _ (m : Memory) (at : ℕ) (r : DispatchRecord) (back above : ℕ) (data_a
   record_laid =
       fetched_by_its_bytes (placed m at r) (with_bytes m bytes) at top refl (λ x low high. after_placing x low)
       ∙ placed_is_fetched m at r top data_alone.bytes room.fits readable_record
+
+  pub pointers_laid : word (with_bytes m bytes) (at + 80) ≡ Ok (at + 96)
+  unfolding placed
+  pointers_laid =
+      let e : (at + 80) % 2 ^ 64 ≡ at + 80 = (let t = top in omega arith) in
+      let l = top in
+      word_kept (placed m at r) (with_bytes m bytes) (at + 80) (omega arith) (λ x p q. refl) (λ x p q. after_placing x (omega arith))
+      ∙ placed_points m at r top (ap (first_refused (may_read m) 8) (sym e) ∙ none_within (may_read m) 1568 80 8 at (omega arith) (omega arith) readable_record)
 
   pub word_laid : word (with_bytes m bytes) (return_address_at at) ≡ Ok back
   word_laid =

@@ -12,10 +12,13 @@ use eh_tables::{
 use pe_write::{Image, write};
 use std::alloc::{AllocError, Global};
 
-/// A page; no part of an image takes more.
+/// A page; neither the data nor the code of an image takes more.
 const PAGE: usize = 4096;
 
-/// Where the unwind infos begin: `.data`, `.text` and `.rdata` take a page each.
+/// Neither the unwind infos with their scope tables nor the function table take more.
+const MOST: usize = 1 << 24;
+
+/// Where the unwind infos begin: `.data`, `.text` and `.rdata` take a page each before them.
 const INFOS: u32 = 0x4000;
 
 /// A function: its code from `begin` to before `end`, relative to the image base, and its scope
@@ -78,7 +81,7 @@ fn tables(alloc: Global, parts: Parts<'_>) -> Result<(Vec<u8>, Vec<u8>), AllocEr
     let mut infos = Vec::new(alloc);
     let mut ranges = Vec::new(alloc);
     for function in parts.functions {
-        if function.scopes.len() > PAGE || infos.len() > PAGE {
+        if function.scopes.len() > MOST || infos.len() > MOST {
             return Err(AllocError);
         }
         ranges.push(RuntimeFunction {
@@ -96,13 +99,13 @@ fn tables(alloc: Global, parts: Parts<'_>) -> Result<(Vec<u8>, Vec<u8>), AllocEr
     Ok((infos, table))
 }
 
-/// The bytes of an image. There is no memory for a part of more than a page, nor for an image
-/// without code.
+/// The bytes of an image. There is no memory for parts that are larger than those limits, nor for an
+/// image without code.
 pub fn built(alloc: Global, parts: Parts<'_>) -> Result<Vec<u8>, AllocError> {
     let (infos, table) = tables(alloc, parts)?;
     let data = parts.data.to_vec(alloc)?;
     let text = parts.text.to_vec(alloc)?;
-    if data.len() > PAGE || text.len() > PAGE || infos.len() > PAGE || table.len() > PAGE {
+    if data.len() > PAGE || text.len() > PAGE || infos.len() > MOST || table.len() > MOST {
         return Err(AllocError);
     }
     if text.is_empty() {

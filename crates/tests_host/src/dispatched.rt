@@ -372,3 +372,45 @@ fn a_stack_ends_below_address_0(rt: HostRuntime) -> Result<(), Fail> {
     let lines = "raise C0000005 0 write 0000000000000000\nstack limit FFFFFFFFFFFFF9D8\n";
     shows(&rt, rt.alloc(), parts, lines)
 }
+
+// A hundred thousand rows whose filters fall by address, and then some below: what is gathered at a
+// row costs the logarithm of their number. The kind of a funclet is that of its first row.
+#[test]
+fn many_funclets_are_gathered(rt: HostRuntime) -> Result<(), Fail> {
+    // sub rsp,40; mov ecx,0xe0000001; xor edx,edx; call [RaiseException]; nop
+    // xor eax,eax; add rsp,40; ret; mov eax,1; ret; jmp [__C_specific_handler]
+    let text = [
+        0x48, 0x83, 0xEC, 0x28, 0xB9, 1, 0, 0, 0xE0, 0x31, 0xD2, 0xFF, 0x15, 0x47, 0x10, 0, 0,
+        0x90, 0x31, 0xC0, 0x48, 0x83, 0xC4, 0x28, 0xC3, 0xB8, 1, 0, 0, 0, 0xC3, 0xFF, 0x25, 0x3B,
+        0x10, 0, 0,
+    ];
+    let mut scopes = Vec::new(rt.alloc());
+    for n in 0..100_000_u32 {
+        scopes.push(scope(0x2000, 0x2001, 0x10_0000 - n, 0x2012))?;
+    }
+    for n in 0..20_u32 {
+        scopes.push(scope(0x2000, 0x2001, 0x1100 - n, 0x2012))?;
+        scopes.push(scope(0x2004, 0x2012, 0x2019, 0x2012))?;
+        scopes.push(scope(0x2000, 0x2001, 0x2019, 0))?;
+    }
+    let functions = [
+        Function {
+            begin: 0x2000,
+            end: 0x2019,
+            scopes: &scopes,
+        },
+        Function {
+            begin: 0x2019,
+            end: 0x201F,
+            scopes: &[],
+        },
+    ];
+    let parts = Parts {
+        data: &[],
+        text: &text,
+        handler: 0x201F,
+        functions: &functions,
+    };
+    let lines = "raise E0000001 0\nfilter 21\nanswer 1\nexcept E0000001\nexit 0\n";
+    shows(&rt, rt.alloc(), parts, lines)
+}

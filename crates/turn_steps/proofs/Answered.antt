@@ -1,11 +1,10 @@
 -- At the host's return addresses: a filter has answered, a `__finally` block has ended.
-use Rattle.std.proofs.Common.{◌≡◌, ℕ, zero, ◌+◌, ◌*◌, ◌^◌, ◌<◌, ◌≤◌, Bool, true, false, List, [], ◌∷◌, ◌++◌, length, Option, Some, None, refl, sym, ap, subst, ◌∙◌, arith, inl, inr, append_assoc, length-append}
+use Rattle.std.proofs.Common.{◌≡◌, ℕ, zero, ◌+◌, ◌*◌, ◌≤◌, Bool, true, List, [], ◌∷◌, ◌++◌, Option, Some, None, refl, sym, ap, subst, ◌∙◌, arith, inl, inr, append_assoc, length-append}
 use Rattle.std.proofs.lemmas.List.{append-nil}
 use Rattle.seh_num.specs.declared.width.Width.TheVariants.{W32}
 use Rattle.seh_num.specs.declared.event.Event.{Event}
 use Rattle.seh_num.specs.declared.event.Event.TheVariants as events
 use Rattle.seh_num.specs.Widths.{signed}
-use Rattle.flat_memory.specs.Memory.{Memory}
 use Rattle.x64_instr.specs.declared.register.Reg.TheVariants.{Rsp}
 use Rattle.x64_machine.specs.Contexts.{context_of}
 use Rattle.x64_machine.specs.Effect.{State, register}
@@ -16,19 +15,19 @@ use Rattle.seh_records.specs.Record.{placed, fetched}
 use Rattle.host_model.specs.declared.funclet.Funclet.{Funclet}
 use Rattle.host_model.specs.Turns.{Turn, Continues, with_event}
 use Rattle.host_model.specs.Funclets.{arrivals, arrived}
-use Rattle.host_model.specs.Dispatch.{eax, again, accepted, restored, raised_again, searches_on, unwinds_on, finally_returned, if_unwinding}
+use Rattle.host_model.specs.Dispatch.{eax, again, accepted, restored, searches_on, unwinds_on, finally_returned, if_unwinding}
 use Rattle.c_model.specs.State.{Exception}
 use Rattle.c_model.specs.Raises.{noncontinuable, raise_event}
 use Rattle.linear_code.specs.declared.program.Region.{Region}
 use Rattle.linear_code.specs.Program.{LinearProgram}
-use Rattle.linear_machine.specs.Frames.{Handler, Target, Resumption, AfterCall, SameOperation, Waits, Searches, Unwinds, Item, Frame, Store, Seen, Next, Configuration}
+use Rattle.linear_machine.specs.Frames.{Handler, Target, Resumption, AfterCall, SameOperation, Waits, Unwinds, Item, Frame, Store, Seen, Next, Configuration}
 use Rattle.linear_machine.specs.Regions.{handlers}
-use Rattle.linear_machine.specs.Searching.{search, accept, raise, resumed}
+use Rattle.linear_machine.specs.Searching.{search, accept, resumed}
 use Rattle.linear_machine.specs.Unwinding.{unwind}
 use Rattle.linear_machine.specs.Instructions.{end_finally}
 use Rattle.linear_machine.specs.Run.{exec}
-use Rattle.raw_stack.specs.Stack.{StackItem, Searching, Unwinding}
-use Rattle.linked_stack.specs.ImagePlan.{Plan, Gives}
+use Rattle.raw_stack.specs.Stack.{StackItem, Unwinding}
+use Rattle.linked_stack.specs.ImagePlan.{Plan}
 use Rattle.linked_stack.specs.Linked.{Activation, locals_of}
 use Rattle.linked_stack.proofs.Ends.{in_stack}
 use Rattle.stack_records.specs.Records.{On, HasRoom}
@@ -43,18 +42,19 @@ use Rattle.whole_runs.specs.Ends.{HasRule}
 use Rattle.body_states.specs.Sites.{Sites}
 use Rattle.body_states.specs.Programs.{IsMachineMemory, IsProgramImage}
 use Rattle.body_states.specs.Bodies.{held_below, turns_left}
-use Rattle.turn_steps.specs.Outcomes.{AreClear, entry_turns, with_events, Stands, Outcome, Shows}
-use Rattle.turn_steps.specs.Entries.{FiltersBegin, BlocksBegin, Continuations}
+use Rattle.funclet_steps.specs.Entries.{FlagsFit}
+use Rattle.turn_steps.specs.Outcomes.{AreClear, Outcome, Shows}
+use Rattle.turn_steps.specs.Entries.{Continuations}
 use Rattle.turn_steps.proofs.Memories.{memory_untouched, placing}
 use Rattle.turn_steps.proofs.Outcomes.{arrived_with, with_one, with_two, with_none, outcome_same, outcome_more}
 use Rattle.turn_steps.proofs.Unwinding.{unwound}
 use Rattle.turn_steps.proofs.Searching.{searched, taken_over}
 
-module _ (t : Functions) (fs : List Funclet) (program : LinearProgram) (p : Plan) (q : Sites) (image : IsProgramImage t fs program p q) (filters : FiltersBegin t fs program p q) (blocks : BlocksBegin t fs program p q) where
+module _ (t : Functions) (fs : List Funclet) (program : LinearProgram) (p : Plan) (q : Sites) (image : IsProgramImage t fs program p q) (fits : FlagsFit program) where
   -- ---- a filter has answered
 
   module _ (continues : Continuations t fs program p q) (s : State) (r : DispatchRecord) (is : List StackItem) (acts : List Activation) (exception : Exception) (resumption : Resumption) (asked : Handler) (rest : List Handler) (c : Configuration)
-      (answers : SearchIsAnswered t fs program p s r is acts exception resumption asked rest c) (memory : IsMachineMemory t fs program p q s.memory c.store.memory) (store : c.store.activations ≡ locals_of acts) where
+      (answers : SearchIsAnswered t fs program p s r is acts exception resumption asked rest c) (memory : IsMachineMemory t fs program p q s.memory c.store.memory) (store : c.store.activations ≡ locals_of acts) (free : c.frame.landed ≡ None) where
     abbrev event : Event
     event = events.Answer (signed W32 (eax s))
 
@@ -85,7 +85,7 @@ module _ (t : Functions) (fs : List Funclet) (program : LinearProgram) (p : Plan
         shows x a.turns
         (outcome_more t fs program p q (arrived t fs x) seen (c.events ++ event ∷ []) (turns_left c) (turns_left c + 3) (omega arith)
         (outcome_same t fs program p q (arrived t fs x) (arrived t fs x) (λ next. search program next rest exception resumption c') seen (c.events ++ event ∷ []) (turns_left c) refl a.goes
-        (searched t fs program p q image filters blocks s at r is acts exception rest c' go_on.next memory store resumption resumes (subst HasRule (a.goes (exec program zero)) rule))))
+        (searched t fs program p q image fits s at r is acts exception rest c' go_on.next memory store resumption resumes (subst HasRule (a.goes (exec program zero)) rule))))
 
     asked_takes_over : AskedTakesOver t fs program p s r is exception resumption asked rest c → HasRule (seen (exec program zero)) → Answers
     asked_takes_over a rule =
@@ -93,7 +93,7 @@ module _ (t : Functions) (fs : List Funclet) (program : LinearProgram) (p : Plan
         shows x a.turns
         (outcome_more t fs program p q (arrived t fs x) seen (c.events ++ event ∷ []) (turns_left c) (turns_left c + 3) (omega arith)
         (outcome_same t fs program p q (arrived t fs x) (arrived t fs x) (λ next. accept program asked exception next c') seen (c.events ++ event ∷ []) (turns_left c) refl a.goes
-        (taken_over t fs program p q image filters blocks s at r is acts exception rest c' go_on.next memory store asked r.frame a.address a.frame_small a.address_small a.aimed (subst HasRule (a.goes (exec program zero)) rule))))
+        (taken_over t fs program p q image fits s at r is acts exception rest c' go_on.next memory store asked r.frame a.address a.frame_small a.address_small a.aimed (subst HasRule (a.goes (exec program zero)) rule))))
 
     is_continued : IsContinued t fs program p s r is acts exception resumption asked rest c → Answers
     is_continued a =
@@ -107,7 +107,7 @@ module _ (t : Functions) (fs : List Funclet) (program : LinearProgram) (p : Plan
           few = resumed_few resumption;
           acts = a.goes;
           shown = shown_same resumption;
-          leads = l.1;
+          leads = λ known. l.1 known free;
         }))
       where
         continued_quietly : IsContinued t fs program p s r is acts exception resumption asked rest c → arrivals r.saved (distance t.base r.saved.rip) 1 fs ≡ []
@@ -143,7 +143,7 @@ module _ (t : Functions) (fs : List Funclet) (program : LinearProgram) (p : Plan
           outcome = subst (λ (es : List Event). Outcome t fs program p q y seen es (turns_left c + 3)) assoc
               (outcome_more t fs program p q y seen ((c.events ++ event ∷ []) ++ e ∷ []) (turns_left c) (turns_left c + 3) (omega arith)
               (outcome_same t fs program p q y y (λ next. search program next (handlers program (Waits c.frame ∷ c.below) None) noncontinuable resumption c2) seen ((c.events ++ event ∷ []) ++ e ∷ []) (turns_left c) refl a.goes
-              (searched t fs program p q image filters blocks (placed_in s at anew) at anew is acts noncontinuable (handlers program (Waits c.frame ∷ c.below) None) c2 g.anew memory' store resumption resumes (subst HasRule (a.goes (exec program zero)) rule))));
+              (searched t fs program p q image fits (placed_in s at anew) at anew is acts noncontinuable (handlers program (Waits c.frame ∷ c.below) None) c2 g.anew memory' store resumption resumes (subst HasRule (a.goes (exec program zero)) rule))));
         }
 
     -- whatever it answers
@@ -181,7 +181,7 @@ module _ (t : Functions) (fs : List Funclet) (program : LinearProgram) (p : Plan
       let same = λ (next : Next). ap (λ (items : List Item). end_finally program next items c.events c.store) under ∙ ap (λ (z : Store). unwind program next target (Waits f ∷ below) (Some rest) c.events z) same_store in
       let few : 3 * held_below (Waits f ∷ below) ≤ turns_left c = (let z = ap held_below under in omega arith) in
       let done = outcome_same t fs program p q x y (λ next. unwind program next w.target w.items w.left w.shown (store_of w.source w.acts)) (λ next. end_finally program next c.below c.events c.store) c.events (turns_left c) turns same
-      (unwound t fs program p q image blocks w (turns_left c) few (λ e. subst AreClear under clear) s at r is u memory (subst HasRule (same (exec program zero)) rule)) in
+      (unwound t fs program p q image fits w (turns_left c) few (λ e. subst AreClear under clear) s at r is u memory (subst HasRule (same (exec program zero)) rule)) in
       record {
         further = y;
         turns = with_none y;

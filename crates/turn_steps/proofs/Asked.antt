@@ -1,5 +1,5 @@
 -- A body asks the dispatcher: a raise and a local unwind.
-use Rattle.std.proofs.Common.{◌≡◌, ℕ, zero, ◌+◌, ◌*◌, ◌^◌, ◌<◌, ◌≤◌, Bool, true, false, List, [], ◌∷◌, ◌++◌, length, Option, Some, None, refl, sym, ap, subst, ◌∙◌, arith, inl, inr}
+use Rattle.std.proofs.Common.{◌≡◌, ℕ, zero, ◌^◌, ◌<◌, ◌≤◌, Bool, true, List, [], ◌∷◌, ◌++◌, length, Option, None, sym, ap, subst, ◌∙◌, arith}
 use Rattle.std.proofs.lemmas.List.{append-nil}
 use Rattle.seh_num.specs.declared.event.Code.{Code}
 use Rattle.seh_num.specs.declared.event.Event.{Event}
@@ -9,19 +9,16 @@ use Rattle.x64_machine.specs.Effect.{State}
 use Rattle.virtual_unwind.specs.Contexts.{rsp}
 use Rattle.virtual_unwind.specs.CallerOf.{Functions}
 use Rattle.seh_records.specs.declared.dispatch.Kind.TheVariants.{Search}
-use Rattle.seh_records.specs.declared.dispatch.DispatchRecord.{DispatchRecord}
 use Rattle.seh_records.specs.Record.{placed}
 use Rattle.host_model.specs.declared.funclet.Funclet.{Funclet}
-use Rattle.host_model.specs.Turns.{Turn, with_event}
 use Rattle.host_model.specs.Funclets.{arrived}
 use Rattle.host_model.specs.Dispatch.{place_of, new_record, raised, to_target, unwound_locally, searches_on, unwinds_on}
 use Rattle.c_model.specs.State.{Exception}
 use Rattle.c_model.specs.Raises.{raise_event}
 use Rattle.linear_code.specs.Program.{LinearProgram}
-use Rattle.linear_machine.specs.Frames.{Target, Resumption, Waits, Store, Seen, Next, Configuration}
+use Rattle.linear_machine.specs.Frames.{Target, Resumption, Waits, Store, Next, Configuration}
 use Rattle.linear_machine.specs.Regions.{handlers}
-use Rattle.linear_machine.specs.Searching as linear
-use Rattle.linear_machine.specs.Searching.{search, raise}
+use Rattle.linear_machine.specs.Searching.{raise}
 use Rattle.linear_machine.specs.Unwinding.{unwind}
 use Rattle.linear_machine.specs.Instructions.{local_unwind}
 use Rattle.linear_machine.specs.Run.{exec}
@@ -31,15 +28,14 @@ use Rattle.linked_stack.specs.Linked.{Activation, locals_of, Aimed}
 use Rattle.linked_stack.proofs.Ends.{in_stack}
 use Rattle.stack_records.specs.Records.{HasRoom}
 use Rattle.stack_unwinds.specs.Unwinding.{store_of}
-use Rattle.dispatch_turns.specs.Unwinds.{Unwound}
 use Rattle.dispatch_turns.specs.Steps.{placed_in, from_body, AsksHost, IsException}
 use Rattle.dispatch_turns.proofs.Begun.{raise_searches, local_unwind_unwinds}
 use Rattle.whole_runs.specs.Ends.{HasRule}
 use Rattle.body_states.specs.Sites.{Sites}
 use Rattle.body_states.specs.Programs.{IsMachineMemory, IsProgramImage}
 use Rattle.body_states.specs.Bodies.{turns_left}
-use Rattle.turn_steps.specs.Outcomes.{AreClear, with_events, Outcome, Shows}
-use Rattle.turn_steps.specs.Entries.{FiltersBegin, BlocksBegin}
+use Rattle.funclet_steps.specs.Entries.{FlagsFit}
+use Rattle.turn_steps.specs.Outcomes.{AreClear, Outcome, Shows}
 use Rattle.turn_steps.proofs.Memories.{memory_untouched, placing}
 use Rattle.turn_steps.proofs.Outcomes.{arrived_with, with_one, with_none, outcome_same}
 use Rattle.turn_steps.proofs.Unwinding.{unwound}
@@ -49,7 +45,7 @@ use Rattle.turn_steps.proofs.Searching.{searched}
 abbrev pub having_shown : Event → Configuration → Configuration
 having_shown e c = record { frame = c.frame; below = c.below; store = c.store; events = c.events ++ e ∷ [] }
 
-module _ (t : Functions) (fs : List Funclet) (program : LinearProgram) (p : Plan) (q : Sites) (image : IsProgramImage t fs program p q) (filters : FiltersBegin t fs program p q) (blocks : BlocksBegin t fs program p q) where
+module _ (t : Functions) (fs : List Funclet) (program : LinearProgram) (p : Plan) (q : Sites) (image : IsProgramImage t fs program p q) (fits : FlagsFit program) where
   module _ (s : State) (saved : Cpu) (is : List StackItem) (acts : List Activation) (c : Configuration)
       (asks : AsksHost t fs program p s saved is (Waits c.frame ∷ c.below) acts) (memory : IsMachineMemory t fs program p q s.memory c.store.memory) (store : c.store.activations ≡ locals_of acts) where
     top : rsp (context_of saved) ≤ 0x70800000
@@ -72,7 +68,7 @@ module _ (t : Functions) (fs : List Funclet) (program : LinearProgram) (p : Plan
         record {
           further = arrived t fs (searches_on t (placed_in s at r) at r);
           turns = ap (arrived t fs) a.turns ∙ arrived_with t fs e (searches_on t (placed_in s at r) at r) ∙ with_one e (arrived t fs (searches_on t (placed_in s at r) at r));
-          outcome = searched t fs program p q image filters blocks (placed_in s at r) at r is acts exception (handlers program (Waits c.frame ∷ c.below) None) c' found memory' store resumption resumes rule;
+          outcome = searched t fs program p q image fits (placed_in s at r) at r is acts exception (handlers program (Waits c.frame ∷ c.below) None) c' found memory' store resumption resumes rule;
         }
 
     -- a local unwind
@@ -94,7 +90,7 @@ module _ (t : Functions) (fs : List Funclet) (program : LinearProgram) (p : Plan
         let done = outcome_same t fs program p q (arrived t fs (unwinds_on t (placed_in s at r) at r)) (arrived t fs (unwound_locally t s frame address saved))
         (λ next. unwind program next w.target w.items w.left w.shown (store_of w.source w.acts)) (λ next. local_unwind program next label c) c.events (turns_left c)
         (ap (arrived t fs) a.turns) same
-        (unwound t fs program p q image blocks w (turns_left c) (omega arith) (λ e. clear) (placed_in s at r) at r is u memory' (subst HasRule (same (exec program zero)) rule)) in
+        (unwound t fs program p q image fits w (turns_left c) (omega arith) (λ e. clear) (placed_in s at r) at r is u memory' (subst HasRule (same (exec program zero)) rule)) in
         record {
           further = arrived t fs (unwound_locally t s frame address saved);
           turns = with_none (arrived t fs (unwound_locally t s frame address saved));

@@ -1,8 +1,6 @@
 -- Steps of linear code at the host's return addresses: a filter's return, and that of a `__finally` block above an unwinding.
-use Rattle.std.proofs.Common.{◌≡◌, ℕ, zero, ◌+◌, ◌*◌, ◌≤◌, Bool, true, false, List, [], ◌∷◌, ◌++◌, length, Option, Some, None, refl, sym, ap, subst, ◌∙◌, arith}
+use Rattle.std.proofs.Common.{◌≡◌, ℕ, zero, ◌+◌, ◌≤◌, List, [], ◌∷◌, ap, subst, arith}
 use Rattle.std.specs.Prelude.{◌==◌}
-use Rattle.seh_num.specs.declared.event.Event.{Event}
-use Rattle.flat_memory.specs.Memory.{Memory}
 use Rattle.x64_instr.specs.declared.register.Reg.TheVariants.{Rsp}
 use Rattle.x64_machine.specs.Contexts.{context_of}
 use Rattle.x64_machine.specs.Effect.{State, register}
@@ -21,8 +19,6 @@ use Rattle.linear_machine.specs.Frames.{Frame, Handler, Target, Resumption, Item
 use Rattle.linear_machine.specs.Instructions.{act, end_finally}
 use Rattle.linear_machine.specs.Run.{exec}
 use Rattle.raw_stack.specs.Stack.{StackItem, Unwinding}
-use Rattle.ir_typed.specs.Waiting.{IsStacked}
-use Rattle.ir_typed.specs.Activations.{HasActivations}
 use Rattle.linked_stack.specs.ImagePlan.{Plan}
 use Rattle.linked_stack.specs.Linked.{Activation, locals_of}
 use Rattle.stack_records.specs.Records.{On}
@@ -35,26 +31,28 @@ use Rattle.whole_runs.specs.Matched.{IsMatched}
 use Rattle.body_states.specs.Sites.{Sites}
 use Rattle.body_states.specs.Programs.{IsMachineMemory, IsProgramImage}
 use Rattle.body_states.specs.Bodies.{held_below, turns_left}
+use Rattle.body_steps.specs.Known.{KnownNext}
+use Rattle.funclet_steps.specs.Entries.{FlagsFit}
 use Rattle.turn_steps.specs.Outcomes.{AreClear, Stands}
-use Rattle.turn_steps.specs.Entries.{FiltersBegin, BlocksBegin, Continuations}
+use Rattle.turn_steps.specs.Entries.{Continuations}
 use Rattle.turn_steps.specs.Laws.{waiting_below}
 use Rattle.turn_steps.proofs.Answered.{filter_answered, finally_ended}
 use Rattle.turn_steps.proofs.Served.{filter_turns, finally_turns, matched_when_shown}
 
-module _ (t : Functions) (fs : List Funclet) (program : LinearProgram) (p : Plan) (q : Sites) (image : IsProgramImage t fs program p q) (filters : FiltersBegin t fs program p q) (blocks : BlocksBegin t fs program p q) where
+module _ (t : Functions) (fs : List Funclet) (program : LinearProgram) (p : Plan) (q : Sites) (image : IsProgramImage t fs program p q) (fits : FlagsFit program) where
   -- in at most 6 turns the machine comes to the host's return address of filters
   pub filter_step : (continues : Continuations t fs program p q) (k : ℕ) (s u : State) (c : Configuration) (i : Instruction) (r : DispatchRecord) (is : List StackItem) (acts : List Activation)
       → (exception : Exception) (resumption : Resumption) (asked : Handler) (rest : List Handler) (w : Frame) (below : List Item)
-      → Comes t fs k s [] u → k ≤ 6 → u.cpu.rip ≡ filter_return → c.below ≡ Searches exception resumption asked rest ∷ Waits w ∷ below
+      → Comes t fs k s [] u → k ≤ 6 → u.cpu.rip ≡ filter_return → c.below ≡ Searches exception resumption asked rest ∷ Waits w ∷ below → AreClear c.below
       → SearchIsAnswered t fs program p u r is acts exception resumption asked rest (waiting_below c w below)
       → IsMachineMemory t fs program p q u.memory c.store.memory → c.store.activations ≡ locals_of acts
       → ((next : Next) → act program i next c ≡ linear_answer program u exception resumption asked rest (waiting_below c w below) next) → HasRule (act program i (exec program zero) c)
-      → ((d : Configuration) → ((next : Next) → act program i next c ≡ next d) → IsStacked program d × HasActivations program d)
+      → KnownNext program c i
       → IsMatched t fs program 16 turns_left (Stands t fs program p q) s c i
-  filter_step continues k s u c i r is acts exception resumption asked rest w below quiet few at under answers memory store goes rule known =
+  filter_step continues k s u c i r is acts exception resumption asked rest w below quiet few at under clear answers memory store goes rule known =
       let d = waiting_below c w below in
       let live : IsLive u = ap (λ a. a == 0) at in
-      let a = filter_answered t fs program p q image filters blocks continues u r is acts exception resumption asked rest d answers memory store (subst HasRule (goes (exec program zero)) rule) in
+      let a = filter_answered t fs program p q image fits continues u r is acts exception resumption asked rest d answers memory store (subst AreClear under clear).0 (subst HasRule (goes (exec program zero)) rule) in
       let less : turns_left d ≤ turns_left c = (let z = ap held_below under in omega arith) in
       matched_when_shown t fs program p q 16 k (turns_left d + 3) s u c i (arrived t fs (filter_turn t u)) a.before (λ next. linear_answer program u exception resumption asked rest d next) quiet live (filter_turns t fs u at) a.shown goes (omega arith) known
 
@@ -64,9 +62,9 @@ module _ (t : Functions) (fs : List Funclet) (program : LinearProgram) (p : Plan
       → IsSane u → On t fs program p u.memory (context_of u.cpu) (Unwinding r ∷ is) (Unwinds rest target ∷ Waits f ∷ below) acts
       → IsMachineMemory t fs program p q u.memory c.store.memory → c.store.activations ≡ locals_of acts
       → ((next : Next) → act program i next c ≡ end_finally program next c.below c.events c.store) → HasRule (act program i (exec program zero) c)
-      → ((d : Configuration) → ((next : Next) → act program i next c ≡ next d) → IsStacked program d × HasActivations program d)
+      → KnownNext program c i
       → IsMatched t fs program 16 turns_left (Stands t fs program p q) s c i
   finally_step k s u c i r is acts rest target f below quiet few at under clear sane on memory store goes rule known =
       let live : IsLive u = ap (λ a. a == 0) at in
-      let a = finally_ended t fs program p q image filters blocks u r is acts rest target f below c sane on memory store under clear (subst HasRule (goes (exec program zero)) rule) in
+      let a = finally_ended t fs program p q image fits u r is acts rest target f below c sane on memory store under clear (subst HasRule (goes (exec program zero)) rule) in
       matched_when_shown t fs program p q 16 k (turns_left c) s u c i (arrived t fs (finally_returned t u (register u.cpu Rsp) (fetched u.memory (register u.cpu Rsp)))) [] (λ next. end_finally program next c.below c.events c.store) quiet live (finally_turns t fs u at) a goes (omega arith) known

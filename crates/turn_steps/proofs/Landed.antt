@@ -1,19 +1,17 @@
 -- An unwinding lands in a body, which goes on at the label.
-use Rattle.std.proofs.Common.{◌≡◌, true, ℕ, suc, ◌+◌, ◌^◌, ◌<◌, ◌≤◌, List, [], ◌∷◌, ◌++◌, length, Option, Some, None, refl, sym, ap, subst, ◌∙◌, arith, inl}
+use Rattle.std.proofs.Common.{◌≡◌, true, ℕ, ◌≤◌, List, [], ◌∷◌, ◌++◌, Option, Some, None, refl, sym, ap, subst, ◌∙◌, arith, inl}
 use Rattle.std.proofs.lemmas.List.{append-nil}
 use Rattle.seh_num.specs.declared.event.Event.{Event}
-use Rattle.seh_num.specs.declared.event.Event.TheVariants as events
 use Rattle.flat_memory.specs.Memory.{Memory}
 use Rattle.x64_machine.specs.declared.context.Context.{Context}
 use Rattle.x64_machine.specs.Effect.{State}
-use Rattle.virtual_unwind.specs.Contexts.{rsp}
 use Rattle.virtual_unwind.specs.CallerOf.{Functions}
 use Rattle.seh_records.specs.declared.dispatch.DispatchRecord.{DispatchRecord}
 use Rattle.host_model.specs.declared.funclet.Funclet.{Funclet}
-use Rattle.host_model.specs.Turns.{Turn, Continues}
+use Rattle.host_model.specs.Turns.{Turn}
 use Rattle.host_model.specs.Dispatch.{at_landing}
-use Rattle.linear_code.specs.Program.{LinearProgram, LinearBody}
-use Rattle.linear_machine.specs.Frames.{BodyName, Frame, Target, Item, Waits, body_of, Configuration, Seen, Next}
+use Rattle.linear_code.specs.Program.{LinearProgram}
+use Rattle.linear_machine.specs.Frames.{Frame, Target, Item, Waits, Configuration, Next}
 use Rattle.linear_machine.specs.Unwinding as linear
 use Rattle.linear_machine.specs.Unwinding.{arrive}
 use Rattle.raw_stack.specs.Stack.{StackFrame, StackItem, Framed}
@@ -23,12 +21,14 @@ use Rattle.stack_records.specs.Records.{On}
 use Rattle.stack_unwinds.specs.Unwinding.{store_of, on_top}
 use Rattle.dispatch_turns.specs.States.{IsSane}
 use Rattle.dispatch_turns.specs.Unwinds.{landing_value, landing_events, Unwound, LandsThere}
+use Rattle.whole_runs.proofs.Matches.{LeadsTo}
 use Rattle.body_states.specs.Sites.{Sites}
 use Rattle.body_states.specs.Programs.{IsMachineMemory, IsProgramImage}
 use Rattle.body_states.specs.Bodies.{Begins, turns_left}
-use Rattle.body_states.proofs.Resumed.{again, waits_in_body, no_front, all_front}
+use Rattle.body_states.proofs.Resumed.{waits_in_body, no_front, all_front}
 use Rattle.body_states.proofs.Inside.{first_in_code}
-use Rattle.turn_steps.specs.Outcomes.{entry_turns, LeadsTo, Stands, GoesOn}
+use Rattle.funclet_steps.specs.Entries.{entry_turns}
+use Rattle.turn_steps.specs.Outcomes.{Stands, GoesOn}
 
 same_code : (a b : ℕ) → Some a ≡ Some b → a ≡ b
 same_code a b e = cc
@@ -84,7 +84,7 @@ module _ (t : Functions) (fs : List Funclet) (program : LinearProgram) (p : Plan
     few = few;
     acts = λ next. l.goes next ∙ arrives_there l.body l.below (record w.target { held = l.held }) w.target.code w.source l.outer w.shown next;
     shown = refl;
-    leads = at_once (lands_in_body s l.to l.framed l.is l.body l.below l.outer (landing_value w.target.code) r.target w.target.label w.target.code w.source w.shown l.on l.at_address l.lands l.sane memory refl clear);
+    leads = λ known. at_once (lands_in_body s l.to l.framed l.is l.body l.below l.outer (landing_value w.target.code) r.target w.target.label w.target.code w.source w.shown l.on l.at_address l.lands l.sane memory refl clear);
   }
     where
       at_once : {u : State} {d : Configuration} → Begins t fs program p q u d → LeadsTo t fs entry_turns (Stands t fs program p q) u d

@@ -1,5 +1,5 @@
 -- What the dispatcher leaves of the machine's memory beside the source's.
-use Rattle.std.proofs.Common.{◌≡◌, ℕ, ◌+◌, ◌<◌, ◌≤◌, Bool, true, false, List, refl, sym, ap, subst, ◌∙◌, arith, inl, inr}
+use Rattle.std.proofs.Common.{◌≡◌, ℕ, ◌<◌, ◌≤◌, true, false, List, refl, sym, ap, ◌∙◌, arith, inl, inr}
 use Rattle.std.specs.Prelude.{◌⊎◌, nat_le, nat_lt}
 use Rattle.std.proofs.lemmas.Bool.{cases_lt, le-leb, lt-ltb}
 use Rattle.host_layout.specs.declared.range.TheConstants.{STACK_START, STACK_END}
@@ -57,6 +57,7 @@ module _ (t : Functions) (fs : List Funclet) (program : LinearProgram) (p : Plan
       data_alone = data_alone;
       agrees = agrees;
       stack = λ a l u. still a ∙ h.stack a l u;
+      arena = λ a e. ap (λ (f : ℕ → Protection). (f a).execute) untouched.protection ∙ h.arena a e;
       code = program_kept t fs program p q m m' keeps_code h.code;
     }
 

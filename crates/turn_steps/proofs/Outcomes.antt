@@ -1,5 +1,5 @@
 -- From a turn's outcome to a step that is matched.
-use Rattle.std.proofs.Common.{◌≡◌, ℕ, suc, ◌+◌, ◌≤◌, Bool, true, false, List, [], ◌∷◌, ◌++◌, length, Some, refl, sym, ap, subst, ◌∙◌, arith, inl, inr, append_assoc}
+use Rattle.std.proofs.Common.{◌≡◌, ℕ, ◌+◌, ◌≤◌, Bool, true, false, List, [], ◌∷◌, ◌++◌, length, refl, ap, ◌∙◌, arith, inl, inr, append_assoc}
 use Rattle.std.specs.Prelude.{nat_lt}
 use Rattle.std.proofs.lemmas.List.{append-nil}
 use Rattle.seh_num.specs.declared.event.Event.{Event}
@@ -10,22 +10,21 @@ use Rattle.host_model.specs.declared.funclet.Funclet.{Funclet}
 use Rattle.host_model.specs.Turns.{Turn, Continues, Ends, with_event}
 use Rattle.host_model.specs.Funclets.{arrived}
 use Rattle.host_model.specs.HostStep.{turn}
-use Rattle.c_model.specs.declared.ended.Ended.TheVariants as source
 use Rattle.c_model.specs.declared.ended.Ended.TheVariants.{Deep}
 use Rattle.linear_code.specs.declared.instruction.Instruction.{Instruction}
 use Rattle.linear_code.specs.Program.{LinearProgram}
-use Rattle.linear_machine.specs.Frames.{Configuration, Seen, Finished, Next, pick, deeper}
+use Rattle.linear_machine.specs.Frames.{Configuration, Seen, Finished, Next, pick}
 use Rattle.linear_machine.specs.Instructions.{act}
-use Rattle.ir_typed.specs.Waiting.{IsStacked}
-use Rattle.ir_typed.specs.Activations.{HasActivations}
 use Rattle.linked_stack.specs.ImagePlan.{Plan}
 use Rattle.whole_runs.specs.Comes.{IsLive, Comes}
 use Rattle.whole_runs.specs.Matched.{IsMatched}
-use Rattle.whole_runs.proofs.Turns.{comes_one, comes_then}
-use Rattle.whole_runs.proofs.Matches.{quietly_before, quietly_after}
+use Rattle.whole_runs.proofs.Turns.{comes_one}
+use Rattle.whole_runs.proofs.Matches.{LeadsTo, quietly_before, quietly_after}
 use Rattle.body_states.specs.Sites.{Sites}
-use Rattle.body_states.specs.Bodies.{turns_left}
-use Rattle.turn_steps.specs.Outcomes.{entry_turns, with_events, Stands, GoesOn, EntersFunclet, EndsRun, Outcome}
+use Rattle.body_states.specs.Bodies.{turns_left, Begins}
+use Rattle.body_steps.specs.Known.{KnownNext}
+use Rattle.funclet_steps.specs.Entries.{entry_turns}
+use Rattle.turn_steps.specs.Outcomes.{with_events, Stands, GoesOn, EntersFunclet, EndsRun, Outcome}
 
 -- an event that is shown first
 pub arrived_with : (t : Functions) (fs : List Funclet) (e : Event) (x : Turn) → arrived t fs (with_event e x) ≡ with_event e (arrived t fs x)
@@ -45,6 +44,10 @@ with_none (Continues s es) = refl
 with_none (Ends es end) = refl
 
 module _ (t : Functions) (fs : List Funclet) (program : LinearProgram) (p : Plan) (q : Sites) where
+  -- where a funclet's first instruction begins, the state stands for the configuration
+  pub begins_there : (s : State) (c : Configuration) → LeadsTo t fs entry_turns (Begins t fs program p q) s c → LeadsTo t fs entry_turns (Stands t fs program p q) s c
+  begins_there s c l = record { turns = l.turns; few = l.few; state = l.state; comes = l.comes; stands = inl l.stands }
+
   pub outcome_same : (x y : Turn) (seen other : Next → Seen) (es : List Event) (left : ℕ) → y ≡ x → ((next : Next) → other next ≡ seen next) → Outcome t fs program p q x seen es left → Outcome t fs program p q y other es left
   outcome_same x y seen other es left e same (inl g) = inl (record {
     state = g.state;
@@ -94,7 +97,7 @@ module _ (t : Functions) (fs : List Funclet) (program : LinearProgram) (p : Plan
   -- quiet turns, and one turn of the host, which shows some events before those of its outcome
   module _ (pace k left : ℕ) (s u : State) (c : Configuration) (i : Instruction) (before : List Event) (x : Turn)
       (quiet : Comes t fs k s [] u) (live : IsLive u) (turns : turn t fs u ≡ with_events before x) (enough : k + 1 + entry_turns + left ≤ pace + turns_left c)
-      (known : (d : Configuration) → ((next : Next) → act program i next c ≡ next d) → IsStacked program d × HasActivations program d) where
+      (known : KnownNext program c i) where
     abbrev Matched : Type 0
     Matched = IsMatched t fs program pace turns_left (Stands t fs program p q) s c i
 
@@ -107,7 +110,7 @@ module _ (t : Functions) (fs : List Funclet) (program : LinearProgram) (p : Plan
     matched_on : GoesOn t fs program p q x step (c.events ++ before) left → Matched
     matched_on g =
         let few = g.few in
-        let l = g.leads in
+        let l = g.leads (known g.configuration g.acts) in
         let most = l.few in
         inl (record {
           turns = k + 1 + l.turns;
@@ -141,8 +144,7 @@ module _ (t : Functions) (fs : List Funclet) (program : LinearProgram) (p : Plan
         })))
         by false shallow =
             let moves = λ (next : Next). g.acts next ∙ ap (λ (b : Bool). pick b (Finished (Deep 1001) (c.events ++ before)) (next g.configuration)) shallow in
-            let facts = known g.configuration moves in
-            let l = g.leads shallow facts.0 facts.1 in
+            let l = g.leads shallow (known g.configuration moves) in
             let few = g.few shallow in
             let most = l.few in
             inl (record {

@@ -1,9 +1,6 @@
 -- A turn that searches: a filter begins, a handler takes over, or nobody does.
-use Rattle.std.proofs.Common.{◌≡◌, ℕ, zero, ◌+◌, ◌*◌, ◌%◌, ◌^◌, ◌<◌, ◌≤◌, Bool, true, false, List, [], ◌∷◌, ◌++◌, length, Option, Some, None, refl, sym, ap, subst, ◌∙◌, arith, inl, inr}
-use Rattle.seh_num.specs.declared.event.Event.{Event}
+use Rattle.std.proofs.Common.{◌≡◌, ℕ, zero, ◌+◌, ◌%◌, ◌^◌, ◌<◌, true, List, [], ◌∷◌, None, refl, sym, ap, subst, arith, inl, inr}
 use Rattle.seh_num.specs.declared.event.Event.TheVariants as events
-use Rattle.host_layout.specs.declared.range.TheConstants.{STACK_END}
-use Rattle.flat_memory.specs.Memory.{Memory}
 use Rattle.x64_machine.specs.Contexts.{context_of}
 use Rattle.x64_machine.specs.Effect.{State}
 use Rattle.virtual_unwind.specs.Contexts.{rsp}
@@ -16,7 +13,7 @@ use Rattle.host_model.specs.Funclets.{arrived}
 use Rattle.host_model.specs.Dispatch.{accepting, accepted, searches_on, unwinds_on}
 use Rattle.c_model.specs.State.{Exception}
 use Rattle.linear_code.specs.Program.{LinearProgram}
-use Rattle.linear_machine.specs.Frames.{Handler, Resumption, Waits, Searches, Store, Seen, Next, Configuration}
+use Rattle.linear_machine.specs.Frames.{Handler, Resumption, Waits, Store, Next, Configuration}
 use Rattle.linear_machine.specs.Searching as linear
 use Rattle.linear_machine.specs.Searching.{target_of, begin_filter, accept}
 use Rattle.linear_machine.specs.Unwinding.{unwind}
@@ -25,10 +22,9 @@ use Rattle.raw_stack.specs.Stack.{StackItem}
 use Rattle.linked_stack.specs.ImagePlan.{Plan}
 use Rattle.linked_stack.specs.Linked.{Activation, locals_of, Aimed}
 use Rattle.linked_stack.proofs.Ends.{in_stack}
-use Rattle.stack_records.specs.Records.{HasRoom, IsUntouched}
+use Rattle.stack_records.specs.Records.{HasRoom}
 use Rattle.stack_unwinds.specs.Unwinding.{store_of}
-use Rattle.dispatch_turns.specs.Searches.{FilterBegins, TakesOver, NobodyTakesOver}
-use Rattle.dispatch_turns.specs.Unwinds.{Unwound}
+use Rattle.dispatch_turns.specs.Searches.{FilterBegins}
 use Rattle.dispatch_turns.specs.Laws.{IsSearching}
 use Rattle.dispatch_turns.specs.Steps.{placed_in, from_body}
 use Rattle.dispatch_turns.proofs.Searched.{search_turns}
@@ -36,14 +32,15 @@ use Rattle.dispatch_turns.proofs.Begun.{acceptance_unwinds}
 use Rattle.whole_runs.specs.Ends.{HasRule}
 use Rattle.body_states.specs.Sites.{Sites}
 use Rattle.body_states.specs.Programs.{IsMachineMemory, IsProgramImage}
-use Rattle.body_states.specs.Bodies.{held_below, turns_left}
+use Rattle.body_states.specs.Bodies.{turns_left}
+use Rattle.funclet_steps.specs.Entries.{FlagsFit}
+use Rattle.funclet_steps.proofs.Steps.{called_filters_begin}
 use Rattle.turn_steps.specs.Outcomes.{EntersFunclet, Outcome}
-use Rattle.turn_steps.specs.Entries.{FiltersBegin, BlocksBegin}
 use Rattle.turn_steps.proofs.Memories.{memory_untouched, placing}
-use Rattle.turn_steps.proofs.Outcomes.{outcome_same}
+use Rattle.turn_steps.proofs.Outcomes.{begins_there, outcome_same}
 use Rattle.turn_steps.proofs.Unwinding.{unwound}
 
-module _ (t : Functions) (fs : List Funclet) (program : LinearProgram) (p : Plan) (q : Sites) (image : IsProgramImage t fs program p q) (filters : FiltersBegin t fs program p q) (blocks : BlocksBegin t fs program p q) where
+module _ (t : Functions) (fs : List Funclet) (program : LinearProgram) (p : Plan) (q : Sites) (image : IsProgramImage t fs program p q) (fits : FlagsFit program) where
   module _ (s : State) (at : ℕ) (r : DispatchRecord) (is : List StackItem) (acts : List Activation) (exception : Exception) (found : List Handler) (c : Configuration)
       (h : IsSearching t fs program p s at r is acts exception found c) (memory : IsMachineMemory t fs program p q s.memory c.store.memory) (store : c.store.activations ≡ locals_of acts) where
     same_store : store_of c.store.memory acts ≡ c.store
@@ -66,7 +63,7 @@ module _ (t : Functions) (fs : List Funclet) (program : LinearProgram) (p : Plan
         outcome_same t fs program p q (arrived t fs (unwinds_on t (placed_in s at record') at record')) (arrived t fs (accepted t s at r frame address))
         (λ next. unwind program next w.target w.items w.left w.shown (store_of w.source w.acts)) (λ next. accept program f exception next c) c.events (turns_left c)
         (ap (arrived t fs) a.turns) same
-        (unwound t fs program p q image blocks w (turns_left c) (omega arith) (λ e. absurd cc) (placed_in s at record') at record' is a.unwinding memory' (subst HasRule (same (exec program zero)) rule))
+        (unwound t fs program p q image fits w (turns_left c) (omega arith) (λ e. absurd cc) (placed_in s at record') at record' is a.unwinding memory' (subst HasRule (same (exec program zero)) rule))
 
     -- ---- a filter is asked
 
@@ -84,7 +81,8 @@ module _ (t : Functions) (fs : List Funclet) (program : LinearProgram) (p : Plan
           few = λ shallow. omega arith;
           acts = f.goes;
           shown = refl;
-          leads = λ shallow stacked activations. filters f.state f.filter ((at + 80) % 2 ^ 64) f.handler f.rest exception resumption c acts f.arrives f.pointers f.asked memory' store shallow stacked activations;
+          leads = λ shallow known. begins_there t fs program p q f.state (begin_filter f.filter f.handler f.rest exception resumption c)
+              (called_filters_begin t fs program p q image f.state f.filter ((at + 80) % 2 ^ 64) f.handler f.rest exception resumption c acts f.arrives f.pointers f.asked memory' store shallow known);
         }
 
     -- ---- all of them

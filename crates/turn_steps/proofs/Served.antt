@@ -1,5 +1,5 @@
 -- The host's turns at its services, and steps of linear code that one of them matches.
-use Rattle.std.proofs.Common.{◌≡◌, ℕ, ◌+◌, ◌%◌, ◌≤◌, Bool, true, false, cond, List, [], ◌∷◌, ◌++◌, Option, Some, None, Ok, Err, refl, sym, ap, subst, ◌∙◌, arith}
+use Rattle.std.proofs.Common.{◌≡◌, ℕ, ◌+◌, ◌%◌, ◌≤◌, Bool, cond, List, [], ◌++◌, Option, None, Ok, Err, refl, ap, ◌∙◌}
 use Rattle.std.specs.Prelude.{Result}
 use Rattle.seh_num.specs.declared.width.Width.TheVariants.{W32, W64}
 use Rattle.seh_num.specs.declared.event.Code.{Code}
@@ -25,15 +25,15 @@ use Rattle.linear_code.specs.declared.instruction.Instruction.{Instruction}
 use Rattle.linear_code.specs.Program.{LinearProgram}
 use Rattle.linear_machine.specs.Frames.{Configuration, Seen, Next}
 use Rattle.linear_machine.specs.Instructions.{act}
-use Rattle.ir_typed.specs.Waiting.{IsStacked}
-use Rattle.ir_typed.specs.Activations.{HasActivations}
 use Rattle.linked_stack.specs.ImagePlan.{Plan}
 use Rattle.dispatch_turns.specs.Returns.{filter_turn}
 use Rattle.whole_runs.specs.Comes.{IsLive, Comes}
 use Rattle.whole_runs.specs.Matched.{IsMatched}
 use Rattle.body_states.specs.Sites.{Sites}
 use Rattle.body_states.specs.Bodies.{turns_left}
-use Rattle.turn_steps.specs.Outcomes.{entry_turns, with_events, Stands, Outcome, Shows}
+use Rattle.body_steps.specs.Known.{KnownNext}
+use Rattle.funclet_steps.specs.Entries.{entry_turns}
+use Rattle.turn_steps.specs.Outcomes.{Stands, Shows}
 use Rattle.turn_steps.proofs.Outcomes.{outcome_same, matched_by_turn}
 
 module _ (t : Functions) (fs : List Funclet) where
@@ -73,7 +73,7 @@ module _ (t : Functions) (fs : List Funclet) where
     -- quiet turns lead to a turn of the host, which shows what the step shows
     pub matched_when_shown : (pace k left : ℕ) (s u : State) (c : Configuration) (i : Instruction) (x : Turn) (before : List Event) (seen : Next → Seen)
         → Comes t fs k s [] u → IsLive u → turn t fs u ≡ x → Shows t fs program p q x before seen c.events left → ((next : Next) → act program i next c ≡ seen next) → k + 1 + entry_turns + left ≤ pace + turns_left c
-        → ((d : Configuration) → ((next : Next) → act program i next c ≡ next d) → IsStacked program d × HasActivations program d)
+        → KnownNext program c i
         → IsMatched t fs program pace turns_left (Stands t fs program p q) s c i
     matched_when_shown pace k left s u c i x before seen quiet live e shows acts enough known =
         matched_by_turn t fs program p q pace k left s u c i before shows.further quiet live (e ∙ shows.turns) enough known

@@ -1,5 +1,5 @@
 -- A jump out of regions lands in a body that has not just taken over for an exception.
-use Rattle.std.proofs.Common.{◌≡◌, ℕ, ◌+◌, Bool, true, false, List, [], ◌∷◌, length, Option, Some, None, refl, sym, ap, subst, ◌∙◌, arith}
+use Rattle.std.proofs.Common.{◌≡◌, ℕ, ◌+◌, Bool, true, false, List, [], ◌∷◌, length, Option, Some, None, refl, sym, ap, subst}
 use Rattle.std.specs.Prelude.{nat_lt, nat_eq, slice_get}
 use Rattle.seh_num.specs.declared.event.Event.{Event}
 use Rattle.seh_num.specs.declared.event.Event.TheVariants as events
@@ -8,9 +8,9 @@ use Rattle.linear_code.specs.declared.program.Region.{Region}
 use Rattle.linear_code.specs.declared.program.RegionKind.{RegionKind}
 use Rattle.linear_code.specs.declared.program.RegionKind.TheVariants as kinds
 use Rattle.linear_code.specs.Program.{LinearProgram}
-use Rattle.linear_machine.specs.Frames.{BodyName, FunctionBody, FuncletBody, Frame, Target, Item, Waits, Searches, Unwinds, Store, Configuration, Seen, Running, Finished, Stuck, Next, pick, with_some, deeper}
+use Rattle.linear_machine.specs.Frames.{BodyName, FunctionBody, FuncletBody, Target, Item, Waits, Searches, Unwinds, Store, Configuration, Seen, Running, Finished, Stuck, Next, pick, with_some, deeper}
 use Rattle.linear_machine.specs.Regions.{regions_at, regions_left, stops}
-use Rattle.linear_machine.specs.Unwinding.{flag_of, begin_finally, run_finally, arrive, target_past, left_store, leave_region, unwind_body, unwind}
+use Rattle.linear_machine.specs.Unwinding.{flag_of, begin_finally, arrive, target_past, left_store, leave_region, unwind_body, unwind}
 use Rattle.turn_steps.specs.Outcomes.{AreClear}
 
 abbrev pub marks : Option ℕ → List Event

@@ -1,7 +1,6 @@
 -- A turn that unwinds: a `__finally` block begins, or it lands.
-use Rattle.std.proofs.Common.{◌≡◌, ℕ, zero, ◌+◌, ◌*◌, ◌≤◌, Bool, true, false, List, [], ◌∷◌, ◌++◌, length, Option, Some, None, refl, sym, ap, subst, ◌∙◌, arith, inl, inr}
+use Rattle.std.proofs.Common.{◌≡◌, ℕ, zero, ◌+◌, ◌*◌, ◌≤◌, Bool, true, false, List, [], ◌∷◌, length, Option, Some, None, refl, ap, subst, ◌∙◌, inl, inr}
 use Rattle.std.specs.Prelude.{nat_lt, slice_get}
-use Rattle.seh_num.specs.declared.event.Event.{Event}
 use Rattle.seh_num.specs.declared.event.Event.TheVariants as events
 use Rattle.x64_machine.specs.Effect.{State}
 use Rattle.virtual_unwind.specs.CallerOf.{Functions}
@@ -25,15 +24,17 @@ use Rattle.dispatch_turns.proofs.Unwound.{unwind_turns}
 use Rattle.whole_runs.specs.Ends.{HasRule}
 use Rattle.body_states.specs.Sites.{Sites}
 use Rattle.body_states.specs.Programs.{IsMachineMemory, IsProgramImage}
-use Rattle.body_states.specs.Bodies.{held_below, turns_left}
+use Rattle.body_states.specs.Bodies.{held_below}
+use Rattle.funclet_steps.specs.Entries.{FlagsFit}
+use Rattle.funclet_steps.proofs.Steps.{called_blocks_begin}
 use Rattle.turn_steps.specs.Outcomes.{AreClear, EntersFunclet, Outcome}
-use Rattle.turn_steps.specs.Entries.{BlocksBegin}
 use Rattle.turn_steps.proofs.Memories.{memory_untouched}
+use Rattle.turn_steps.proofs.Outcomes.{begins_there}
 use Rattle.turn_steps.proofs.Counted.{counting, IsShort, counted_back, unwind_short}
 use Rattle.turn_steps.proofs.Unlanded.{noticing, IsBare, unmarked, unwind_bare}
 use Rattle.turn_steps.proofs.Landed.{landed, arrival, arrives_there, lands_as}
 
-module _ (t : Functions) (fs : List Funclet) (program : LinearProgram) (p : Plan) (q : Sites) (image : IsProgramImage t fs program p q) (blocks : BlocksBegin t fs program p q) where
+module _ (t : Functions) (fs : List Funclet) (program : LinearProgram) (p : Plan) (q : Sites) (image : IsProgramImage t fs program p q) (fits : FlagsFit program) where
   module _ (w : Unwound) (n : ℕ) (few : 3 * held_below w.items ≤ n) (clear : w.target.code ≡ None → AreClear w.items) where
     abbrev seen : Next → Seen
     seen next = linear.unwind program next w.target w.items w.left w.shown (store_of w.source w.acts)
@@ -62,7 +63,7 @@ module _ (t : Functions) (fs : List Funclet) (program : LinearProgram) (p : Plan
           few = λ shallow. counted_back n d (not_deep (nat_lt 1000 (length c.store.activations + b.held + 2)) shallow (counting d) (subst (IsShort n) (goes counting) short));
           acts = goes;
           shown = refl;
-          leads = λ shallow stacked activations. blocks b.state b.block flag b.held b.rest target c b.outer b.arrives is refl memory' refl shallow stacked activations;
+          leads = λ shallow known. begins_there t fs program p q b.state d (called_blocks_begin t fs program p q image fits b.state b.block flag b.rest target c b.outer b.arrives is memory' refl shallow known);
         }
       where
         not_deep : (b : Bool) → b ≡ false → (x : Seen) → IsShort n (pick b (Finished (Deep 1001) w.shown) x) → IsShort n x

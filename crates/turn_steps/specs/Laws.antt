@@ -19,8 +19,6 @@ use Rattle.linear_machine.specs.Frames.{Frame, Handler, Target, Resumption, Item
 use Rattle.linear_machine.specs.Searching.{raise}
 use Rattle.linear_machine.specs.Instructions.{act, end_finally, local_unwind}
 use Rattle.linear_machine.specs.Run.{exec}
-use Rattle.ir_typed.specs.Waiting.{IsStacked}
-use Rattle.ir_typed.specs.Activations.{HasActivations}
 use Rattle.raw_stack.specs.Stack.{StackItem, Unwinding}
 use Rattle.linked_stack.specs.ImagePlan.{Plan}
 use Rattle.linked_stack.specs.Linked.{Activation, locals_of, Aimed}
@@ -34,47 +32,45 @@ use Rattle.whole_runs.specs.Matched.{IsMatched}
 use Rattle.body_states.specs.Sites.{Sites}
 use Rattle.body_states.specs.Programs.{IsMachineMemory, IsProgramImage}
 use Rattle.body_states.specs.Bodies.{turns_left}
+use Rattle.body_steps.specs.Known.{KnownNext}
+use Rattle.funclet_steps.specs.Entries.{FlagsFit}
 use Rattle.turn_steps.specs.Outcomes.{AreClear, Stands, Shows}
-use Rattle.turn_steps.specs.Entries.{FiltersBegin, BlocksBegin, Continuations}
+use Rattle.turn_steps.specs.Entries.{Continuations}
 
 -- the body that waits below a funclet, with what the funclet leaves in the store
 abbrev pub waiting_below : Configuration → Frame → List Item → Configuration
 waiting_below c w below = record { frame = w; below = below; store = c.store; events = c.events }
 
--- what is known of the configuration to which a step leads
-abbrev pub NextIsStacked : LinearProgram → Configuration → Instruction → Type 0
-NextIsStacked program c i = (d : Configuration) → ((next : Next) → act program i next c ≡ next d) → IsStacked program d × HasActivations program d
-
 -- where a few turns that show nothing lead to the host's return address of filters, the step of linear code that ends the filter is matched, whatever the answer
 abbrev pub FilterAnswersAreMatched : Type 0
 FilterAnswersAreMatched =
     (t : Functions) (fs : List Funclet) (program : LinearProgram) (p : Plan) (q : Sites)
-    → IsProgramImage t fs program p q → FiltersBegin t fs program p q → BlocksBegin t fs program p q → Continuations t fs program p q
+    → IsProgramImage t fs program p q → FlagsFit program → Continuations t fs program p q
     → (k : ℕ) (s u : State) (c : Configuration) (i : Instruction) (r : DispatchRecord) (is : List StackItem) (acts : List Activation)
     (exception : Exception) (resumption : Resumption) (asked : Handler) (rest : List Handler) (w : Frame) (below : List Item)
-    → Comes t fs k s [] u → k ≤ 6 → u.cpu.rip ≡ filter_return → c.below ≡ Searches exception resumption asked rest ∷ Waits w ∷ below
+    → Comes t fs k s [] u → k ≤ 6 → u.cpu.rip ≡ filter_return → c.below ≡ Searches exception resumption asked rest ∷ Waits w ∷ below → AreClear c.below
     → SearchIsAnswered t fs program p u r is acts exception resumption asked rest (waiting_below c w below)
     → IsMachineMemory t fs program p q u.memory c.store.memory → c.store.activations ≡ locals_of acts
     → ((next : Next) → act program i next c ≡ linear_answer program u exception resumption asked rest (waiting_below c w below) next) → HasRule (act program i (exec program zero) c)
-    → NextIsStacked program c i → IsMatched t fs program 16 turns_left (Stands t fs program p q) s c i
+    → KnownNext program c i → IsMatched t fs program 16 turns_left (Stands t fs program p q) s c i
 
 -- and where they lead to that of `__finally` blocks, the step that ends the block
 abbrev pub FinallyReturnsAreMatched : Type 0
 FinallyReturnsAreMatched =
     (t : Functions) (fs : List Funclet) (program : LinearProgram) (p : Plan) (q : Sites)
-    → IsProgramImage t fs program p q → FiltersBegin t fs program p q → BlocksBegin t fs program p q
+    → IsProgramImage t fs program p q → FlagsFit program
     → (k : ℕ) (s u : State) (c : Configuration) (i : Instruction) (r : DispatchRecord) (is : List StackItem) (acts : List Activation) (rest : List Region) (target : Target) (f : Frame) (below : List Item)
     → Comes t fs k s [] u → k ≤ 6 → u.cpu.rip ≡ finally_return → c.below ≡ Unwinds rest target ∷ Waits f ∷ below → AreClear c.below
     → IsSane u → On t fs program p u.memory (context_of u.cpu) (Unwinding r ∷ is) (Unwinds rest target ∷ Waits f ∷ below) acts
     → IsMachineMemory t fs program p q u.memory c.store.memory → c.store.activations ≡ locals_of acts
     → ((next : Next) → act program i next c ≡ end_finally program next c.below c.events c.store) → HasRule (act program i (exec program zero) c)
-    → NextIsStacked program c i → IsMatched t fs program 16 turns_left (Stands t fs program p q) s c i
+    → KnownNext program c i → IsMatched t fs program 16 turns_left (Stands t fs program p q) s c i
 
 -- where a body asks the host, a raise shows its event, and then does what linear code does
 abbrev pub RaisesAreShown : Type 0
 RaisesAreShown =
     (t : Functions) (fs : List Funclet) (program : LinearProgram) (p : Plan) (q : Sites)
-    → IsProgramImage t fs program p q → FiltersBegin t fs program p q → BlocksBegin t fs program p q
+    → IsProgramImage t fs program p q → FlagsFit program
     → (s : State) (saved : Cpu) (is : List StackItem) (acts : List Activation) (c : Configuration)
     → AsksHost t fs program p s saved is (Waits c.frame ∷ c.below) acts → IsMachineMemory t fs program p q s.memory c.store.memory → c.store.activations ≡ locals_of acts
     → (code : Code) (flags : ℕ) (access : Option (Bool × ℕ)) (exception : Exception) (resumption : Resumption)
@@ -85,7 +81,7 @@ RaisesAreShown =
 abbrev pub LocalUnwindsAreShown : Type 0
 LocalUnwindsAreShown =
     (t : Functions) (fs : List Funclet) (program : LinearProgram) (p : Plan) (q : Sites)
-    → IsProgramImage t fs program p q → FiltersBegin t fs program p q → BlocksBegin t fs program p q
+    → IsProgramImage t fs program p q → FlagsFit program
     → (s : State) (saved : Cpu) (is : List StackItem) (acts : List Activation) (c : Configuration)
     → AsksHost t fs program p s saved is (Waits c.frame ∷ c.below) acts → IsMachineMemory t fs program p q s.memory c.store.memory → c.store.activations ≡ locals_of acts
     → (frame address label : ℕ) → frame < 2 ^ 64 → address < 2 ^ 64 → Aimed t fs program p (length c.below) label frame address (context_of saved) is (Waits c.frame ∷ c.below)

@@ -1,5 +1,5 @@
 -- What a turn of the dispatcher comes to, against what linear code goes on with.
-use Rattle.std.specs.Prelude.{◌≡◌, ◌⊎◌, ℕ, ◌+◌, ◌*◌, ◌≤◌, false, nat_lt, List, [], ◌∷◌, ◌++◌, length, None}
+use Rattle.std.specs.Prelude.{◌≡◌, ◌⊎◌, ℕ, ◌+◌, ◌≤◌, false, nat_lt, List, [], ◌∷◌, ◌++◌, length, None}
 use Rattle.seh_num.specs.declared.event.Code.{Code}
 use Rattle.seh_num.specs.declared.event.Event.{Event}
 use Rattle.seh_num.specs.declared.end.RunEnd.TheVariants as ends
@@ -10,31 +10,19 @@ use Rattle.host_model.specs.Turns.{Turn, Continues, Ends}
 use Rattle.c_model.specs.declared.ended.Ended.TheVariants as source
 use Rattle.linear_code.specs.Program.{LinearProgram}
 use Rattle.linear_machine.specs.Frames.{Item, Waits, Searches, Unwinds, Store, Configuration, Seen, Finished, Next, deeper}
-use Rattle.ir_typed.specs.Waiting.{IsStacked}
-use Rattle.ir_typed.specs.Activations.{HasActivations}
 use Rattle.linked_stack.specs.ImagePlan.{Plan}
 use Rattle.dispatch_turns.specs.States.{IsSane}
-use Rattle.whole_runs.specs.Comes.{Comes}
+use Rattle.whole_runs.proofs.Matches.{LeadsTo}
 use Rattle.body_states.specs.Sites.{Sites}
 use Rattle.body_states.specs.Programs.{WorksAgain, IsMachineMemory}
 use Rattle.body_states.specs.Bodies.{InBody, Begins, turns_left}
-
--- the most turns from a funclet's first byte, or from where a body goes on, to an instruction of linear code
-abbrev pub entry_turns : ℕ
-entry_turns = 6
+use Rattle.body_steps.specs.Known.{IsKnown}
+use Rattle.funclet_steps.specs.Entries.{entry_turns}
 
 -- events before those of a turn
 abbrev pub with_events : List Event → Turn → Turn
 with_events before (Continues s es) = Continues s (before ++ es)
 with_events before (Ends es end) = Ends (before ++ es) end
-
--- a state leads, by at most so many turns that show nothing, to one that stands for a configuration
-pub record LeadsTo (t : Functions) (fs : List Funclet) (most : ℕ) (Stands : State → Configuration → Type 0) (s : State) (c : Configuration) : Type 0 where
-  pub turns : ℕ
-  pub few : turns ≤ most
-  pub state : State
-  pub comes : Comes t fs turns s [] state
-  pub stands : Stands state c
 
 -- no body that waits has just taken over for an exception
 abbrev pub AreClear : List Item → Type 0
@@ -64,7 +52,7 @@ module _ (t : Functions) (fs : List Funclet) (program : LinearProgram) (p : Plan
     pub few : turns_left configuration ≤ left
     pub acts : (next : Next) → seen next ≡ next configuration
     pub shown : configuration.events ≡ es ++ events
-    pub leads : LeadsTo t fs entry_turns Stands state configuration
+    pub leads : IsKnown program configuration → LeadsTo t fs entry_turns Stands state configuration
 
   -- or to a funclet, which begins unless the depth would be too great
   pub record EntersFunclet (turn : Turn) (seen : Next → Seen) (es : List Event) (left : ℕ) : Type 0 where
@@ -78,7 +66,7 @@ module _ (t : Functions) (fs : List Funclet) (program : LinearProgram) (p : Plan
     pub few : nat_lt 1000 (length store.activations + held + more) ≡ false → turns_left configuration ≤ left
     pub acts : (next : Next) → seen next ≡ deeper more held store es (next configuration)
     pub shown : configuration.events ≡ es ++ event ∷ []
-    pub leads : nat_lt 1000 (length store.activations + held + more) ≡ false → IsStacked program configuration → HasActivations program configuration → LeadsTo t fs entry_turns Stands state configuration
+    pub leads : nat_lt 1000 (length store.activations + held + more) ≡ false → IsKnown program configuration → LeadsTo t fs entry_turns Stands state configuration
 
   -- or nobody handles the exception
   pub record EndsRun (turn : Turn) (seen : Next → Seen) (es : List Event) : Type 0 where

@@ -4,7 +4,7 @@ use Rattle.x64_machine.specs.Effect.{state}
 use Rattle.host_model.specs.Turns.{shown_in}
 use Rattle.host_model.specs.Funclets.{arrivals}
 use Rattle.host_model.specs.HostStep.{after}
-use Rattle.seh_host.specs.Outcomes.{listed}
+use Rattle.image_funclets.specs.Listed.{listed}
 use Rattle.seh_host.specs.Running.{left}
 use Rattle.seh_host.proofs.Turning.{goes_turn, ends_turn, left_over}
 use Rattle.seh_host.proofs.advancing.advance.Goals as goal

@@ -1,0 +1,4 @@
+pub mod Owners
+pub mod Named
+pub mod Compiled
+pub mod Images

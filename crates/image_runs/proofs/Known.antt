@@ -1,0 +1,74 @@
+-- What is known of a twin.
+use Rattle.std.proofs.Common.{◌≡◌, ℕ, List, Some, subst}
+use Rattle.c_checked.specs.Program.{Program}
+use Rattle.c_checked.specs.Sound.{IsSound}
+use Rattle.linear_code.specs.declared.instruction.Instruction.{Instruction}
+use Rattle.linear_code.specs.declared.instruction.Instruction.TheVariants as instructions
+use Rattle.linear_code.specs.Program.{LinearProgram}
+use Rattle.linear_machine.specs.Frames.{Configuration}
+use Rattle.linear_machine.specs.Run.{instruction_at}
+use Rattle.seh_ir.specs.Lowered.{lowered}
+use Rattle.ir_typed.specs.Turns.{IsReached}
+use Rattle.ir_typed.specs.Ready.{IsReady, CanGoOn}
+use Rattle.ir_typed.specs.Waiting.{IsStacked}
+use Rattle.ir_typed.specs.Depths.{HasDepths}
+use Rattle.ir_typed.proofs.Ready.{goes_on}
+use Rattle.ir_typed.proofs.Reached.{is_stacked, has_depths}
+use Rattle.ir_typed.proofs.Reached as reached
+use Rattle.unset_locals.specs.Marks.{Marks}
+use Rattle.unset_locals.specs.Alike.{AreAlike}
+use Rattle.unset_locals.specs.Reads.{ReadsNoUnset}
+use Rattle.unset_locals.specs.Twins.{AreTwins}
+use Rattle.unset_locals.proofs.Alike.{is_over, marked_is_reached}
+use Rattle.unset_locals.proofs.Both.{over}
+use Rattle.unset_locals.proofs.Facts.{has_activations}
+use Rattle.unset_locals.proofs.Together.{twins_are_small, twins_go_on}
+use Rattle.body_steps.specs.Known.{IsKnown, KnownNext}
+use Rattle.image_runs.specs.Laws.{TwinsAreKnown}
+
+module _ (program : LinearProgram) where
+  -- what speaks of frames, and of what waits, alone
+  ready_alike : (c : Configuration) (ys : List (List ℕ)) (i : Instruction) → IsReady program c i → IsReady program (over c ys) i
+  ready_alike c ys (instructions.Compute to o first second) h = h
+  ready_alike c ys (instructions.Information to field) h = h
+  ready_alike c ys (instructions.Jump label) h = h
+  ready_alike c ys (instructions.JumpIfZero slot label) h = h
+  ready_alike c ys (instructions.Call f first count) h = h
+  ready_alike c ys (instructions.CallBuiltIn f first) h = h
+  ready_alike c ys (instructions.CallFinally k) h = h
+  ready_alike c ys (instructions.LocalUnwind label) h = h
+  ready_alike c ys (instructions.Landing to) h = h
+  ready_alike c ys instructions.Separator h = h
+  ready_alike c ys (instructions.Return from) h = h
+
+  goes_on_alike : (marks : Marks) (c d : Configuration) → AreAlike marks c d → CanGoOn program c → CanGoOn program d
+  goes_on_alike marks c d a h = subst (CanGoOn program) (is_over marks c d a) (record { instruction = h.instruction; at = h.at; ready = ready_alike c d.store.activations h.instruction h.ready })
+
+  stacked_alike : (marks : Marks) (c d : Configuration) → AreAlike marks c d → IsStacked program c → IsStacked program d
+  stacked_alike marks c d a h = subst (IsStacked program) (is_over marks c d a) (record { above = h.above; below = h.below; landed = h.landed })
+
+  depths_alike : (marks : Marks) (c d : Configuration) → AreAlike marks c d → HasDepths program c → HasDepths program d
+  depths_alike marks c d a h = subst (HasDepths program) (is_over marks c d a) (record { held = h.held; below = h.below })
+
+module _ (program : Program) (sound : IsSound program) (reads : ReadsNoUnset (lowered program)) where
+  is_reached : (c d : Configuration) → AreTwins (lowered program) c d → IsReached (lowered program) c
+  is_reached c d t = marked_is_reached (lowered program) c t.marks t.marked
+
+  can_go_on : (c d : Configuration) → AreTwins (lowered program) c d → CanGoOn (lowered program) d
+  can_go_on c d t = goes_on_alike (lowered program) t.marks c d t.alike (goes_on program sound c (is_reached c d t))
+
+  pub known : (c d : Configuration) → AreTwins (lowered program) c d → IsKnown (lowered program) d
+  known c d t = record {
+    goes_on = can_go_on c d t;
+    stacked = stacked_alike (lowered program) t.marks c d t.alike (is_stacked program sound c (is_reached c d t));
+    activations = has_activations (lowered program) t.marks c d t.alike (reached.has_activations program sound c (is_reached c d t));
+    small = twins_are_small (lowered program) c d t;
+    depths = depths_alike (lowered program) t.marks c d t.alike (has_depths program sound c (is_reached c d t));
+    next = λ i e at acts. (let g = (twins_go_on (lowered program) reads c d t i at).back e acts in can_go_on g.on e g.twins);
+  }
+
+  pub known_next : (c d : Configuration) → AreTwins (lowered program) c d → (i : Instruction) → instruction_at (lowered program) d ≡ Some i → KnownNext (lowered program) d i
+  known_next c d t i at = λ e acts. (let g = (twins_go_on (lowered program) reads c d t i at).back e acts in known g.on e g.twins)
+
+pub twins_are_known : TwinsAreKnown
+twins_are_known program sound reads c d t = record { known = known program sound reads c d t; next = known_next program sound reads c d t }

@@ -1,0 +1,135 @@
+-- The machine keeps showing a twin of the configuration that linear code is in.
+use Rattle.std.proofs.Common.{◌≡◌, ℕ, zero, ◌+◌, length, Some, refl, inl, inr, sym, ap, subst, ◌∙◌}
+use Rattle.std.specs.Prelude.{List}
+use Rattle.x64_machine.specs.Effect.{State}
+use Rattle.virtual_unwind.specs.CallerOf.{Functions}
+use Rattle.host_model.specs.declared.funclet.Funclet.{Funclet}
+use Rattle.c_checked.specs.Program.{Program}
+use Rattle.c_checked.specs.Sound.{IsSound}
+use Rattle.linear_code.specs.declared.slot.Slot.{Slot}
+use Rattle.linear_code.specs.declared.instruction.Instruction.{Instruction}
+use Rattle.linear_code.specs.declared.instruction.Instruction.TheVariants as instructions
+use Rattle.linear_code.specs.Program.{LinearProgram}
+use Rattle.linear_machine.specs.Frames.{BodyName, FunctionBody, FuncletBody, Frame, Configuration, body_of}
+use Rattle.linear_machine.specs.Instructions.{act}
+use Rattle.linear_machine.specs.Run.{instruction_in, instruction_at, exec}
+use Rattle.linked_stack.specs.ImagePlan.{Plan}
+use Rattle.seh_ir.specs.Lowered.{lowered}
+use Rattle.whole_runs.specs.Ends.{HasRule}
+use Rattle.whole_runs.specs.Matched.{IsMatched, StepIsMatched}
+use Rattle.ir_typed.specs.Ready.{IsReady, CanGoOn}
+use Rattle.unset_locals.specs.Reads.{ReadsNoUnset}
+use Rattle.unset_locals.specs.Twins.{AreTwins, GoAsTwins}
+use Rattle.unset_locals.proofs.Together.{twins_go_on}
+use Rattle.body_states.specs.Sites.{Sites}
+use Rattle.body_states.specs.Bodies.{turns_left, Begins}
+use Rattle.body_steps.specs.Known.{IsKnown, KnownNext}
+use Rattle.body_steps.specs.Laws.{pace, IsPlain}
+use Rattle.body_steps.proofs.Steps.{plain}
+use Rattle.call_steps.proofs.Steps.{returns_are_matched, calls_begin}
+use Rattle.turn_steps.specs.Entries.{Continuations}
+use Rattle.turn_steps.specs.Outcomes.{Stands}
+use Rattle.funclet_ends.proofs.Steps.{funclet_returns_are_matched}
+use Rattle.block_calls.proofs.Steps.{block_calls_are_matched}
+use Rattle.fault_steps.proofs.Steps.{operations, retries}
+use Rattle.compiled_images.specs.Sound.{IsSoundImage}
+use Rattle.image_runs.specs.Steps.{StepMatches, StepsAreMatched}
+use Rattle.image_runs.specs.Shown.{ShowsTwin}
+use Rattle.image_runs.specs.Laws.{TwinsSimulate}
+use Rattle.image_runs.proofs.Known.{known, known_next}
+use Rattle.image_runs.proofs.Carried.{moves_as, matched_as, carried}
+use Rattle.image_runs.proofs.Called.{called}
+use Rattle.image_runs.proofs.Live.{live}
+
+same_instruction : (i j : Instruction) → Some i ≡ Some j → i ≡ j
+same_instruction i j e = cc
+
+-- a step within one body
+plainly : (t : Functions) (fs : List Funclet) (program : LinearProgram) (p : Plan) (q : Sites) → IsSoundImage t fs program p q
+    → (s : State) (d : Configuration) (i : Instruction) → Begins t fs program p q s d → IsKnown program d → instruction_at program d ≡ Some i
+    → HasRule (act program i (exec program zero) d) → IsPlain program d i → StepMatches t fs program p q s d i
+plainly t fs program p q image s d i b known at rule is_plain =
+    inl (moves_as t fs program (Begins t fs program p q) (Stands t fs program p q) (λ u e h. inl h) s d i
+    (plain t fs program p q image.image image.made s d i b known at is_plain rule))
+
+-- a return, of a function or of a funclet
+returned : (t : Functions) (fs : List Funclet) (program : LinearProgram) (p : Plan) (q : Sites) → IsSoundImage t fs program p q → Continuations t fs program p q
+    → (s : State) (d : Configuration) (from : Slot) → Begins t fs program p q s d → IsKnown program d → instruction_at program d ≡ Some (instructions.Return from)
+    → HasRule (act program (instructions.Return from) (exec program zero) d) → KnownNext program d (instructions.Return from) → StepMatches t fs program p q s d (instructions.Return from)
+returned t fs program p q image continuations s d from b known at rule next = by d.frame.body refl
+  where
+    by : (name : BodyName) → d.frame.body ≡ name → StepMatches t fs program p q s d (instructions.Return from)
+    by (FunctionBody f) e =
+        matched_as t fs program (Begins t fs program p q) (Stands t fs program p q) (λ u x h. inl h) s d (instructions.Return from)
+        (returns_are_matched t fs program p q image.image image.made s d f from b known e at next)
+    by (FuncletBody k) e = funclet_returns_are_matched t fs program p q image.image image.made image.flags continuations s d k from b known e at rule next
+
+-- a body calls its `__finally` block
+called_block : (t : Functions) (fs : List Funclet) (program : LinearProgram) (p : Plan) (q : Sites) → IsSoundImage t fs program p q
+    → (s : State) (d : Configuration) (k : ℕ) → Begins t fs program p q s d → IsKnown program d → instruction_at program d ≡ Some (instructions.CallFinally k)
+    → KnownNext program d (instructions.CallFinally k) → StepMatches t fs program p q s d (instructions.CallFinally k)
+called_block t fs program p q image s d k b known at next =
+    matched_as t fs program (Begins t fs program p q) (Stands t fs program p q) (λ u x h. inl h) s d (instructions.CallFinally k)
+    (block_calls_are_matched t fs program p q image.image image.made image.flags image.separators s d k b known at next)
+
+module _ (program : Program) (sound : IsSound program) (reads : ReadsNoUnset (lowered program)) (t : Functions) (fs : List Funclet) (p : Plan) (q : Sites)
+    (image : IsSoundImage t fs (lowered program) p q) (steps : StepsAreMatched t fs (lowered program) p q) where
+  abbrev linear : LinearProgram
+  linear = lowered program
+
+  module _ (s : State) (c d : Configuration) (twins : AreTwins linear c d) where
+    abbrev Goal : Instruction → Type 0
+    Goal i = IsMatched t fs linear pace turns_left (ShowsTwin t fs linear p q) s c i
+
+    -- the twin is at the same instruction, and knows what is asked
+    at_twin : (i : Instruction) → instruction_at linear c ≡ Some i → instruction_at linear d ≡ Some i
+    at_twin i at = ap (λ (f : Frame). instruction_in (body_of linear f.body) f.next) twins.alike.frame ∙ at
+
+    on_twin : (i : Instruction) → instruction_at linear c ≡ Some i → GoAsTwins linear i c d
+    on_twin i at = twins_go_on linear reads c d twins i (at_twin i at)
+
+    rule_twin : (i : Instruction) → (at : instruction_at linear c ≡ Some i) → HasRule (act linear i (exec linear zero) c) → HasRule (act linear i (exec linear zero) d)
+    rule_twin i at rule = subst HasRule (sym (on_twin i at).seen) rule
+
+    -- at the beginning of an instruction
+    begun : Begins t fs linear p q s d → (i : Instruction) → instruction_at linear d ≡ Some i → GoAsTwins linear i c d → HasRule (act linear i (exec linear zero) d) → KnownNext linear d i → Goal i
+    begun b (instructions.Compute to o first second) at go rule next =
+        carried t fs linear p q c d twins s (instructions.Compute to o first second) go (operations t fs linear p q image.image image.made image.flags s d to o first second (inl b) (known program sound reads c d twins) at rule next)
+    begun b (instructions.Information to field) at go rule next =
+        carried t fs linear p q c d twins s (instructions.Information to field) go (steps.information s d (instructions.Information to field) tt b (known program sound reads c d twins) at rule next)
+    begun b (instructions.Jump label) at go rule next =
+        carried t fs linear p q c d twins s (instructions.Jump label) go (plainly t fs linear p q image s d (instructions.Jump label) b (known program sound reads c d twins) at rule tt)
+    begun b (instructions.JumpIfZero slot label) at go rule next =
+        carried t fs linear p q c d twins s (instructions.JumpIfZero slot label) go (plainly t fs linear p q image s d (instructions.JumpIfZero slot label) b (known program sound reads c d twins) at rule tt)
+    begun b (instructions.Call f first count) at go rule next =
+        called t fs linear p q c d twins s f first count at (held (known program sound reads c d twins).goes_on f first count at) go (calls_begin t fs linear p q image.image image.made image.apart s d f first count b (known program sound reads c d twins) at)
+      where
+        ready : (i j : Instruction) → IsReady linear d i → i ≡ j → IsReady linear d j
+        ready i j h e = subst (IsReady linear d) e h
+
+        held : CanGoOn linear d → (f first count : ℕ) → instruction_at linear d ≡ Some (instructions.Call f first count) → length d.frame.temporaries ≡ first + count
+        held k f first count at = (ready k.instruction (instructions.Call f first count) k.ready (same_instruction k.instruction (instructions.Call f first count) (sym k.at ∙ at))).0
+    begun b (instructions.CallBuiltIn f first) at go rule next =
+        carried t fs linear p q c d twins s (instructions.CallBuiltIn f first) go (steps.built_ins s d (instructions.CallBuiltIn f first) tt b (known program sound reads c d twins) at rule next)
+    begun b (instructions.CallFinally k) at go rule next =
+        carried t fs linear p q c d twins s (instructions.CallFinally k) go (called_block t fs linear p q image s d k b (known program sound reads c d twins) at next)
+    begun b (instructions.LocalUnwind label) at go rule next =
+        carried t fs linear p q c d twins s (instructions.LocalUnwind label) go (steps.unwinds s d (instructions.LocalUnwind label) tt b (known program sound reads c d twins) at rule next)
+    begun b (instructions.Landing to) at go rule next =
+        carried t fs linear p q c d twins s (instructions.Landing to) go (plainly t fs linear p q image s d (instructions.Landing to) b (known program sound reads c d twins) at rule tt)
+    begun b instructions.Separator at go rule next =
+        carried t fs linear p q c d twins s instructions.Separator go (plainly t fs linear p q image s d instructions.Separator b (known program sound reads c d twins) at rule tt)
+    begun b (instructions.Return from) at go rule next =
+        carried t fs linear p q c d twins s (instructions.Return from) go (returned t fs linear p q image steps.continuations s d from b (known program sound reads c d twins) at rule next)
+
+    step : Stands t fs linear p q s d → StepIsMatched t fs linear pace turns_left (ShowsTwin t fs linear p q) s c
+    step (inl b) i at rule = begun b i (at_twin i at) (on_twin i at) (rule_twin i at rule) (known_next program sound reads c d twins i (at_twin i at))
+    step (inr w) i at rule =
+        carried t fs linear p q c d twins s i (on_twin i at)
+        (retries t fs linear p q image.image image.made image.flags s d i w (known program sound reads c d twins) (at_twin i at) (rule_twin i at rule) (known_next program sound reads c d twins i (at_twin i at)))
+
+pub twins_simulate : TwinsSimulate
+twins_simulate t fs program p q sound reads image steps = record {
+  live = λ s c r. live t fs (lowered program) p q image.image s r.twin r.stands;
+  steps = λ n s c r. step program sound reads t fs p q image steps s c r.twin r.twins r.stands;
+}

@@ -1,0 +1,5 @@
+pub mod Marked
+pub mod Kept
+pub mod Goes
+pub mod Acts
+pub mod Told
