@@ -8,13 +8,14 @@ use Rattle.seh_host.specs.Turns.{end_within}
 use Rattle.c_model.specs.Meaning.{meaning}
 use Rattle.c_resolved.specs.Program.{resolve}
 use Rattle.whole_runs.specs.Ends.{run_end_of}
+use Rattle.whole_runs.specs.Laws.{ShowsNoMore}
 use Rattle.seh.specs.Answers.{shown_by}
-use Rattle.seh.specs.Headline.{Headline}
+use Rattle.seh.specs.Headline.{Headline, NothingMore}
 
 pub headline : Headline
-headline source image compiled covered options arg n low enough =
+headline source image compiled options arg n low enough =
     let program = (resolve source compiled.whole).program in
-    let real = compiled.realises covered in
+    let real = compiled.realises in
     let k = 256 * n + 256 in
     let j = options.turns - k in
     let meant = meaning program (pos arg) n in
@@ -30,3 +31,9 @@ headline source image compiled covered options arg n low enough =
       ended = λ e is. ap (λ (x : Shown). end_within options.turns x.end) (covers.ends e is);
       whole = λ e is. ap (λ (x : Shown). text x.events (end_within options.turns x.end) options.trace) (covers.ends e is);
     }
+
+pub nothing_more : NothingMore
+nothing_more source image compiled options arg n low same paces calm =
+    let program = (resolve source compiled.whole).program in
+    subst (λ (a : ℤ). ShowsNoMore (meaning program (pos arg) n) (machine image a options.turns)) (sym same)
+    (compiled.no_more arg options.turns n low paces calm)

@@ -1,15 +1,15 @@
 -- What compiling and running come to together.
-use Rattle.std.specs.Prelude.{◌≡◌, ℕ, ◌+◌, ◌*◌, ◌^◌, ◌<◌, ◌≤◌, List, pos, Some}
+use Rattle.std.specs.Prelude.{◌≡◌, ℕ, ◌+◌, ◌*◌, ◌^◌, ◌<◌, ◌≤◌, true, List, pos, Some}
 use Rattle.seh_num.specs.declared.end.RunEnd.{RunEnd}
 use Rattle.seh_io.specs.Text.{text}
 use Rattle.host_model.specs.Laws.{Covers}
-use Rattle.c_model.specs.Meaning.{Shown, meaning}
+use Rattle.c_model.specs.Meaning.{Shown, meaning, Calm}
 use Rattle.c_resolved.specs.Program.{resolve}
 use Rattle.whole_runs.specs.Ends.{run_end_of}
+use Rattle.whole_runs.specs.Laws.{ShowsNoMore}
 use Rattle.command_line.specs.declared.command.RunOptions.{RunOptions}
-use Rattle.image_runs.specs.Realises.{Realises}
 use Rattle.seh.specs.Answers.{shown_by, end_by, text_by}
-use Rattle.seh.specs.Images.{IsCompiled, IsCovered}
+use Rattle.seh.specs.Images.{pace, IsCompiled}
 
 -- options with this argument, and with 256 turns for each of n steps and as many again
 pub record AreEnough (options : RunOptions) (arg n : ℕ) : Type 0 where
@@ -27,5 +27,14 @@ abbrev pub Headline : Type 0
 Headline =
     (source image : List ℕ) (compiled : IsCompiled source image)
     → let program = (resolve source compiled.whole).program in
-    IsCovered program → (options : RunOptions) (arg n : ℕ)
+    (options : RunOptions) (arg n : ℕ)
     → arg < 2 ^ 63 → AreEnough options arg n → ShowsMeaning (meaning program (pos arg) n) image options
+
+-- and nothing more: a run shows no event and has no end that the program hasn't within so many steps, where these touch no reserved byte and aren't too deep
+abbrev pub NothingMore : Type 0
+NothingMore =
+    (source image : List ℕ) (compiled : IsCompiled source image)
+    → let program = (resolve source compiled.whole).program in
+    (options : RunOptions) (arg n : ℕ)
+    → arg < 2 ^ 63 → options.argument ≡ pos arg → (options.turns + 1) * pace source ≤ n → Calm program (pos arg) n ≡ true
+    → ShowsNoMore (meaning program (pos arg) n) (shown_by options image)
