@@ -1,5 +1,5 @@
 -- Templates are the same wherever everything is moved by as much.
-use Rattle.std.proofs.Common.{◌≡◌, ℕ, ◌+◌, ◌-◌, ◌*◌, ◌%◌, ◌^◌, ◌<◌, ◌≤◌, List, [], ◌∷◌, ◌++◌, length, Option, None, refl, sym, ap, ◌∙◌, arith}
+use Rattle.std.proofs.Common.{◌≡◌, ℕ, ◌+◌, ◌-◌, ◌^◌, ◌<◌, ◌≤◌, List, [], ◌∷◌, ◌++◌, None, refl, ap, arith}
 use Rattle.std.specs.List.{AllByRecursion}
 use Rattle.seh_num.specs.declared.width.Width.TheVariants.{W64}
 use Rattle.x64_instr.specs.declared.register.Reg.TheVariants.{Rax, Rcx, Rdx, Rsp}
@@ -22,7 +22,8 @@ use Rattle.template_code.specs.Jumps.{distance, jump, jump_equal, call, compare_
 use Rattle.template_code.specs.Calls.{arguments_code, call_code, clear_result, passing_code, finally_arguments, address_to}
 use Rattle.template_code.specs.Template.{Links, template, template_size, code_from}
 use Rattle.x64_code.specs.Near.{IsInstructionNear}
-use Rattle.x64_code.proofs.Nearby.{test_small, arguments_small, passing_small, instruction_small}
+use Rattle.x64_code.specs.Rooms.{code_room}
+use Rattle.x64_code.proofs.Nearby.{test_small, arguments_small, passing_small, instruction_in_room}
 
 -- ---- distances
 
@@ -84,8 +85,8 @@ module _ (base : ℕ) (small : base ≤ 2 ^ 48) where
   template_moved k k' y at at' instructions.Separator links e lt near = refl
   template_moved k k' y at at' (instructions.Return from) links e lt near = refl
 
-  pub code_moved : (k k' : Links) (y : Layout) (at at' : ℕ) (is : List Instruction) → AreMoved base k k' → at' ≡ base + at → at + 256 * length is + 512 < 2 ^ 48 → AllByRecursion (IsInstructionNear y) is → code_from k' y at' is ≡ code_from k y at is
+  pub code_moved : (k k' : Links) (y : Layout) (at at' : ℕ) (is : List Instruction) → AreMoved base k k' → at' ≡ base + at → at + code_room is + 512 < 2 ^ 48 → AllByRecursion (IsInstructionNear y) is → code_from k' y at' is ≡ code_from k y at is
   code_moved k k' y at at' [] links e lt near = refl
   code_moved k k' y at at' (i ∷ is) links e lt near =
-      let few = instruction_small y i near.0 in
+      let few = instruction_in_room y i near.0 in
       λ j. template_moved k k' y at at' i links e (omega arith) near.0 j ++ code_moved k k' y (at + template_size y i) (at' + template_size y i) is links (omega arith) (omega arith) near.1 j

@@ -2,3 +2,4 @@ pub mod Flags
 pub mod Quiet
 pub mod Followed
 pub mod Alike
+pub mod Inside

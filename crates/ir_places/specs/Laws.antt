@@ -7,12 +7,16 @@ use Rattle.linear_machine.specs.Frames.{BodyName, body_of}
 use Rattle.seh_ir.specs.Lowered.{lowered}
 use Rattle.ir_places.specs.Followed.{IsFollowed}
 use Rattle.ir_places.specs.Alike.{HasSameRegions}
+use Rattle.ir_places.specs.Inside.{StaysInside}
 
 abbrev pub LoweredIsFollowed : Type 0
 LoweredIsFollowed = (program : Program) (name : BodyName) (b : LinearBody) → body_of (lowered program) name ≡ Some b → IsFollowed b
 
 abbrev pub LoweredHasSameRegions : Type 0
 LoweredHasSameRegions = (program : Program) (name : BodyName) (b : LinearBody) → body_of (lowered program) name ≡ Some b → HasSameRegions b
+
+abbrev pub LoweredStaysInside : Type 0
+LoweredStaysInside = (program : Program) (name : BodyName) (b : LinearBody) → body_of (lowered program) name ≡ Some b → StaysInside b
 
 -- the flag that says how a `__finally` block is run (Microsoft C language reference, `AbnormalTermination`) is a local of its body
 abbrev pub LoweredHasFlags : Type 0

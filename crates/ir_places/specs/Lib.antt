@@ -1,3 +1,4 @@
 pub mod Followed
 pub mod Alike
+pub mod Inside
 pub mod Laws

@@ -1,6 +1,6 @@
 //! Laws of places in the linear code of a program.
 
-ghost use Rattle.ir_places.specs.Laws.{LoweredIsFollowed, LoweredHasSameRegions, LoweredHasFlags};
+ghost use Rattle.ir_places.specs.Laws.{LoweredIsFollowed, LoweredHasSameRegions, LoweredStaysInside, LoweredHasFlags};
 
 /// An instruction that does nothing is after each that runs `__finally` blocks.
 pub fn lowered_is_followed()
@@ -10,6 +10,11 @@ pub fn lowered_is_followed()
 /// Each region that holds a call holds the instruction after it, and no other one does.
 pub fn lowered_has_same_regions()
     ensures same { LoweredHasSameRegions }
+{}
+
+/// Each local unwind goes to an instruction of its body.
+pub fn lowered_stays_inside()
+    ensures inside { LoweredStaysInside }
 {}
 
 /// The flag of each `__finally` block is one of the locals of its body.

@@ -18,7 +18,7 @@ const ARGUMENTS_LIMIT: u64 = 8;
 const WORDS_LIMIT: u64 = 1000;
 
 /// How many regions a body has at most (own).
-const REGIONS_LIMIT: usize = 1 << 20;
+const REGIONS_LIMIT: usize = 1 << 24;
 
 /// How many parameters an EXCEPTION_RECORD has (Windows headers, `winnt.h`).
 const RECORD_PARAMETERS: u64 = 15;

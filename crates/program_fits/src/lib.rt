@@ -11,7 +11,7 @@ mod body;
 mod room;
 
 use crate::body::fits_body;
-use crate::room::{has_tables_room, has_text_room};
+use crate::room::has_room;
 use linear_code::program::{FuncletKind, IrBody, IrFunclet, IrFunction, IrProgram};
 
 /// How many parameters a function has at most: those of the language (own).
@@ -97,6 +97,5 @@ pub fn fits(program: &IrProgram) -> bool
         && has_function(program, program.main)
         && fit_functions(program)
         && fit_funclets(program)
-        && has_text_room(program)
-        && has_tables_room(program)
+        && has_room(program)
 }

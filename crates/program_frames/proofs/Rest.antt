@@ -1,5 +1,5 @@
 -- The instructions behind a prologue lead from the body to the body.
-use Rattle.std.proofs.Common.{◌≡◌, ℕ, zero, suc, ◌+◌, ◌*◌, ◌^◌, ◌<◌, ◌≤◌, Bool, true, false, ◌&&◌, eqb, List, [], ◌∷◌, ◌++◌, length, Option, Some, None, refl, sym, ap, subst, ◌∙◌, arith}
+use Rattle.std.proofs.Common.{◌≡◌, ℕ, zero, suc, ◌+◌, ◌^◌, ◌<◌, Bool, true, ◌&&◌, List, [], ◌∷◌, ◌++◌, Some, refl, sym, ap, ◌∙◌, arith}
 use Rattle.std.specs.List.{AllByRecursion}
 use Rattle.std.proofs.lemmas.Bool.{and_parts, and_from, ne_eqb}
 use Rattle.x64_instr.specs.declared.register.Reg.TheVariants.{Rax}
@@ -7,8 +7,7 @@ use Rattle.x64_instr.specs.declared.instruction.Instr.{Instr}
 use Rattle.x64_instr.specs.declared.instruction.Instr.TheVariants as instrs
 use Rattle.x64_encode.specs.Chosen.{is_encodable}
 use Rattle.virtual_unwind.specs.Tail.{FetchedInstr, role_of}
-use Rattle.virtual_unwind.specs.declared.tail.Role.{Role}
-use Rattle.frame_rules.specs.Body.{Mode, Body, behind, is_body, written, may_write_all}
+use Rattle.frame_rules.specs.Body.{Body, behind, written, may_write_all}
 use Rattle.frame_rules.specs.States.{is_other}
 use Rattle.frame_rules.specs.Plan.{Plan, IsPlan, spelled_by, all_encodable, operations_of, is_inner, are_inner}
 use Rattle.frame_rules.specs.Plan as rules
@@ -19,15 +18,14 @@ use Rattle.frame_rules.proofs.Emitting.{inner_behind, epilogue_behind}
 use Rattle.linear_code.specs.declared.slot.Slot.{Slot}
 use Rattle.linear_code.specs.declared.instruction.Instruction.{Instruction}
 use Rattle.linear_code.specs.declared.instruction.Instruction.TheVariants as instructions
-use Rattle.frame_layout.specs.declared.frame.Frame.{Frame}
 use Rattle.frame_layout.specs.Layout.{plan_of}
 use Rattle.template_code.specs.declared.layout.Layout.{Layout}
 use Rattle.template_code.specs.Slots.{fetch}
 use Rattle.template_code.specs.Calls.{epilogue, return_code}
-use Rattle.template_code.specs.Template.{Links, template, template_size, body_size, code_from}
+use Rattle.template_code.specs.Template.{Links, template, template_size, code_from}
 use Rattle.x64_code.specs.Near.{IsInstructionNear}
-use Rattle.x64_code.proofs.Nearby.{instruction_small}
-use Rattle.program_frames.specs.Standing.{IsReturn}
+use Rattle.x64_code.specs.Rooms.{code_room}
+use Rattle.x64_code.proofs.Nearby.{instruction_in_room}
 use Rattle.program_frames.proofs.Inner.{Inner, AllInner, fetch_inner}
 use Rattle.program_frames.proofs.Templates.{AreLinksNear, template_inner}
 
@@ -118,8 +116,8 @@ module _ (n probe : ℕ) (is_plan : IsPlan (with_size n probe)) where
   template_fine k y at (instructions.LocalUnwind label) e links near lt = fine_inner _ (template_inner k y at (instructions.LocalUnwind label) links near lt (λ h. h))
   template_fine k y at instructions.Separator e links near lt = fine_inner _ (template_inner k y at instructions.Separator links near lt (λ h. h))
 
-  pub body_fine : (k : Links) (y : Layout) (at : ℕ) (is : List Instruction) → y.frame ≡ n → AreLinksNear k → AllByRecursion (IsInstructionNear y) is → at + 256 * length is + 256 < 2 ^ 31 → IsFine (code_from k y at is)
+  pub body_fine : (k : Links) (y : Layout) (at : ℕ) (is : List Instruction) → y.frame ≡ n → AreLinksNear k → AllByRecursion (IsInstructionNear y) is → at + code_room is + 256 < 2 ^ 31 → IsFine (code_from k y at is)
   body_fine k y at [] e links near lt = record { leads = λ rs. (rs, refl); encodable = refl }
   body_fine k y at (i ∷ is) e links near lt =
-      let small = instruction_small y i near.0 in
+      let small = instruction_in_room y i near.0 in
       fine_both (template k y at i) (code_from k y (at + template_size y i) is) (template_fine k y at i e links near.0 (omega arith)) (body_fine k y (at + template_size y i) is e links near.1 (omega arith))

@@ -16,13 +16,14 @@ use Rattle.template_code.specs.Operations.{move}
 use Rattle.template_code.specs.Slots.{fetched, keep, local_at}
 use Rattle.template_code.specs.Jumps.{distance}
 use Rattle.template_code.specs.Calls.{keep_register, parameter_register, stack_parameter, parameter_code, parameters_code}
-use Rattle.template_code.specs.Template.{template_size, body_size}
+use Rattle.template_code.specs.Template.{template_size}
 use Rattle.template_code.proofs.Sizes.{sizes_append, sizes_spelled}
 use Rattle.template_code.proofs.Lengths.{sizes_small, keep_length}
 use Rattle.x64_code.specs.Near.{AreNear, IsInstructionNear}
 use Rattle.x64_code.specs.Bodies.{label_list}
 use Rattle.x64_code.specs.Entries.{keep_base}
-use Rattle.x64_code.proofs.Nearby.{instruction_small}
+use Rattle.x64_code.specs.Rooms.{code_room}
+use Rattle.x64_code.proofs.Nearby.{instruction_in_room, code_in_room}
 use Rattle.program_link.specs.declared.routine.Entry.{Entry}
 use Rattle.program_link.specs.declared.routine.Entry.TheVariants as entries
 use Rattle.linear_code.specs.Program.{LinearFunction}
@@ -104,18 +105,14 @@ entry_small r near =
 
 -- ---- bodies
 
-pub body_small : (y : Layout) (body : List Instruction) → AllByRecursion (IsInstructionNear y) body → body_size y body ≤ 225 * length body
-body_small y [] near = omega arith
-body_small y (i ∷ is) near = let r = body_small y is near.1 in let s = instruction_small y i near.0 in omega arith
-
-pub labels_near : (y : Layout) (at : ℕ) (body : List Instruction) → AllByRecursion (IsInstructionNear y) body → at + 256 * length body < 2 ^ 30 → AreNear (label_list y at body)
+pub labels_near : (y : Layout) (at : ℕ) (body : List Instruction) → AllByRecursion (IsInstructionNear y) body → at + code_room body < 2 ^ 30 → AreNear (label_list y at body)
 labels_near y at [] near lt = tt
-labels_near y at (i ∷ is) near lt = let s = instruction_small y i near.0 in (omega arith, labels_near y (at + template_size y i) is near.1 (omega arith))
+labels_near y at (i ∷ is) near lt = let s = instruction_in_room y i near.0 in (omega arith, labels_near y (at + template_size y i) is near.1 (omega arith))
 
 -- ---- routines
 
 pub routine_small : (r : RoutineView) → IsRoutineNear r → routine_size r ≤ routine_room r
-routine_small r near = let e = entry_small r near in let b = body_small r.layout r.body.code near.code in omega arith
+routine_small r near = let e = entry_small r near in let b = code_in_room r.layout r.body.code near.code in omega arith
 
 after : (i : ℕ) → suc i ≡ i + 1
 after i = omega arith

@@ -1,20 +1,22 @@
 -- The image of routines that have room can be written.
-use Rattle.std.proofs.Common.{◌≡◌, ℕ, zero, suc, ◌+◌, ◌-◌, ◌^◌, ◌<◌, ◌≤◌, ◌==◌, Bool, true, false, not, List, [], ◌∷◌, ◌++◌, length, get_or, take, drop, map, None, Result, Ok, Err, refl, sym, ap, subst, ◌∙◌, arith, length-append}
+use Rattle.std.proofs.Common.{◌≡◌, ℕ, zero, suc, ◌+◌, ◌-◌, ◌*◌, ◌^◌, ◌<◌, ◌≤◌, ◌==◌, Bool, true, false, not, List, [], ◌∷◌, ◌++◌, length, get_or, take, drop, map, None, Result, Ok, Err, refl, sym, ap, subst, ◌∙◌, arith, length-append}
 use Rattle.std.specs.Prelude.{◌&&◌, IfOk}
 use Rattle.std.specs.List.{AllByRecursion}
 use Rattle.std.proofs.lemmas.Bool.{eq-eqb}
 use Rattle.linear_code.specs.Program.{LinearBody, LinearFunction, LinearFunclet, LinearProgram}
+use Rattle.x64_code.proofs.Nearby.{code_in_room}
 use Rattle.pe_write.specs.Program.{IsProgram, rdata_at, xdata_at}
 use Rattle.pe_write.specs.declared.sizes.Sizes.{Sizes}
 use Rattle.program_link.specs.declared.routine.Entry.TheVariants as entries
 use Rattle.program_link.specs.Routines.{RoutineView, is_leaf, framed, leaf_if, functions_from, funclet, routines}
 use Rattle.program_link.specs.Near.{IsRoutineNear, IsSiteNear, HasPlaces}
-use Rattle.program_link.specs.Text.{routine_size, bounds}
+use Rattle.program_link.specs.Text.{room, routine_size, bounds}
 use Rattle.program_link.specs.Tables.{infos_room}
 use Rattle.program_link.specs.Linked.{data_size, first, total, front_sizes, site, image_of}
-use Rattle.program_link.specs.Fits.{FitsProgram, tables_room, function_bodies, funclet_bodies}
-use Rattle.program_link.proofs.Entries.{framed_some}
-use Rattle.program_link.proofs.Nearness.{routines_room}
+use Rattle.program_link.specs.Fits.{FitsProgram, tables_room, function_bodies, funclet_bodies, program_tables_room}
+use Rattle.program_link.specs.Laws.{ImagesAreSmall}
+use Rattle.program_link.proofs.Entries.{entry_small, framed_some}
+use Rattle.program_link.proofs.Nearness.{routines_near, routines_room}
 use Rattle.program_link.proofs.Bounds.{bounds_length, bounds_end, bounds_least, bounds_below, total_small, bounds_near, take_near, drop_near, text_length, infos_length, tables_small, count_small}
 
 pub if_ok : {A E : Type 0} (P Q : A → Type 0) (r : Result A E) → ((x : A) → P x → Q x) → IfOk r P → IfOk r Q
@@ -128,19 +130,51 @@ both_tables : (a b : List RoutineView) → infos_room (a ++ b) ≡ infos_room a 
 both_tables [] b = omega arith
 both_tables (r ∷ a) b = let s = both_tables a b in omega arith
 
+tables_are : (p : LinearProgram) → infos_room (routines p) ≡ program_tables_room p
+tables_are p =
+    let u = functions_tables p.main 0 p.functions in
+    let v = funclets_tables p p.funclets in
+    omega (arith, both_tables (functions_from p.main 0 p.functions) (map (funclet p) p.funclets))
+
 pub has_places : (p : LinearProgram) → FitsProgram p → HasPlaces (routines p) (length p.functions) p.main
 has_places p fits =
     let c = functions_count p.main 0 p.functions in
     let a = functions_from p.main 0 p.functions in
     let b = map (funclet p) p.funclets in
     let lt = fits.main in
-    let t = fits.tables in
-    let u = functions_tables p.main 0 p.functions in
-    let v = funclets_tables p p.funclets in
+    let t = fits.small in
+    let u = tables_are p in
+    let v = routines_room p in
     record {
-      room = routines_room p fits;
-      tables = omega (arith, both_tables a b);
+      room = omega arith;
+      tables = omega arith;
       fewer = omega (arith, length-append a b);
       there = omega (arith, length-append a b);
       some = λ d. subst (λ (r : RoutineView). 0 < routine_size r) (sym (main_is p fits d)) (framed_some (get_or p.functions p.main no_function));
     }
+
+-- its entries take no more than what no entry of a routine needs of its room
+entries_small : (rs : List RoutineView) → AllByRecursion IsRoutineNear rs → total rs + 12 * length rs ≤ room rs
+entries_small [] near = omega arith
+entries_small (r ∷ rs) near =
+    let e = entry_small r near.0 in
+    let b = code_in_room r.layout r.body.code near.0.code in
+    let t = entries_small rs near.1 in
+    omega arith
+
+-- the image of a program that fits takes at most 256 MiB
+pub images_are_small : ImagesAreSmall
+images_are_small p fits =
+    let g = p.globals in
+    let rs = routines p in
+    let near = routines_near p fits in
+    let s = site g rs (length p.functions) in
+    let t = entries_small rs near in
+    let v = routines_room p in
+    let u = tables_are p in
+    let few = fits.globals in
+    let small = fits.small in
+    let text = text_length s rs near in
+    let xdata = infos_length s (first g) rs in
+    let pdata = tables_small s (xdata_at (front_sizes g rs)) (first g) rs in
+    omega arith

@@ -1,5 +1,5 @@
 -- Each routine of a program that fits is near, and all of them have room.
-use Rattle.std.proofs.Common.{◌≡◌, ℕ, suc, ◌+◌, ◌^◌, ◌<◌, ◌≤◌, ◌==◌, Bool, true, false, not, List, [], ◌∷◌, ◌++◌, length, map, Option, Some, None, refl, ap, arith}
+use Rattle.std.proofs.Common.{◌≡◌, ℕ, suc, ◌+◌, ◌<◌, ◌≤◌, ◌==◌, Bool, true, false, not, List, [], ◌∷◌, ◌++◌, length, map, Option, Some, None, refl, ap, arith}
 use Rattle.std.specs.Prelude.{◌&&◌}
 use Rattle.std.specs.List.{AllByRecursion}
 use Rattle.linear_code.specs.declared.slot.Slot.{Slot}
@@ -12,11 +12,12 @@ use Rattle.linear_code.specs.Program.{LinearBody, LinearFunction, LinearFunclet,
 use Rattle.template_code.specs.declared.layout.Layout.{Layout}
 use Rattle.x64_code.specs.Near.{IsBaseNear, IsSlotNear, IsInstructionNear}
 use Rattle.x64_code.specs.Entries.{IsParentNear}
+use Rattle.x64_code.specs.Rooms.{code_room}
 use Rattle.x64_code.proofs.Nearby.{all_at}
 use Rattle.program_link.specs.Routines.{RoutineView, is_leaf, function_frame, leaf_layout, function_layout, leaf, framed, leaf_if, functions_from, funclet_frame, nothing, function_body, funclet_body, kept_by, HasParent, entry_of, funclet_layout, funclet, routines}
 use Rattle.program_link.specs.Near.{IsEntryNear, IsRoutineNear}
 use Rattle.program_link.specs.Text as texts
-use Rattle.program_link.specs.Fits.{FitsSlot, FitsInstruction, FitsBody, FitsFunction, FitsKind, FitsFunclet, room, function_bodies, funclet_bodies, FitsProgram}
+use Rattle.program_link.specs.Fits.{FitsSlot, FitsInstruction, FitsBody, FitsFunction, FitsKind, FitsFunclet, room, function_bodies, funclet_bodies, text_room, FitsProgram}
 
 -- a layout all of whose parts are within 16,384 bytes
 record IsLow (y : Layout) : Type 0 where
@@ -131,7 +132,7 @@ functions_room : (main index : ℕ) (fs : List LinearFunction) → texts.room (f
 functions_room main index [] = refl
 functions_room main index (f ∷ fs) =
     let r = functions_room main (suc index) fs in
-    let s = ap (λ (b : LinearBody). length b.code) (same_body (not (index == main) && is_leaf f.body) f) in
+    let s = ap (λ (b : LinearBody). code_room b.code) (same_body (not (index == main) && is_leaf f.body) f) in
     omega arith
 
 funclets_room : (p : LinearProgram) (fs : List LinearFunclet) → texts.room (map (funclet p) fs) ≡ room (funclet_bodies fs)
@@ -142,9 +143,9 @@ both_room : (a b : List RoutineView) → texts.room (a ++ b) ≡ texts.room a + 
 both_room [] b = omega arith
 both_room (r ∷ a) b = let s = both_room a b in omega arith
 
-pub routines_room : (p : LinearProgram) → FitsProgram p → texts.room (routines p) < 2 ^ 29 + 2 ^ 28
-routines_room p fits =
-    let small = fits.small in
+-- all its routines have the room of its bodies
+pub routines_room : (p : LinearProgram) → texts.room (routines p) ≡ text_room p
+routines_room p =
     let a = functions_room p.main 0 p.functions in
     let b = funclets_room p p.funclets in
     omega (arith, both_room (functions_from p.main 0 p.functions) (map (funclet p) p.funclets))

@@ -1,5 +1,5 @@
--- Programs that can be linked: the limits that keep every frame within 8,192 bytes and every address of the image below 1 GiB (own).
-use Rattle.std.specs.Prelude.{ℕ, ◌+◌, ◌*◌, ◌^◌, ◌<◌, ◌≤◌, List, [], ◌∷◌, length}
+-- Programs that can be linked: the limits that keep every frame within 8,192 bytes and the image within 256 MiB (own).
+use Rattle.std.specs.Prelude.{ℕ, ◌+◌, ◌-◌, ◌*◌, ◌^◌, ◌<◌, ◌≤◌, List, [], ◌∷◌, length}
 use Rattle.std.specs.List.{AllByRecursion}
 use Rattle.linear_code.specs.declared.slot.Slot.{Slot}
 use Rattle.linear_code.specs.declared.slot.Slot.TheVariants.{Local, Temporary}
@@ -9,6 +9,7 @@ use Rattle.linear_code.specs.declared.program.FuncletKind.{FuncletKind}
 use Rattle.linear_code.specs.declared.program.FuncletKind.TheVariants.{Filter, Finally}
 use Rattle.linear_code.specs.Program.{LinearBody, LinearFunction, LinearFunclet, LinearProgram}
 use Rattle.x64_code.specs.Near.{IsFieldNear}
+use Rattle.x64_code.specs.Rooms.{code_room}
 use Rattle.program_link.specs.Routines.{HasParent}
 
 -- ---- instructions
@@ -32,7 +33,7 @@ FitsInstruction b other = Unit {0}
 pub record FitsBody (b : LinearBody) : Type 0 where
   pub words : b.passed + b.temporaries + b.locals ≤ 1000
   pub code : AllByRecursion (FitsInstruction b) b.code
-  pub regions : length b.regions ≤ 2 ^ 20
+  pub regions : length b.regions ≤ 2 ^ 24
 
 pub record FitsFunction (f : LinearFunction) : Type 0 where
   pub parameters : f.parameters ≤ 8
@@ -53,7 +54,7 @@ pub record FitsFunclet (p : LinearProgram) (f : LinearFunclet) : Type 0 where
 -- how many bytes bodies take at most, each with what comes before it
 abbrev pub room : List LinearBody → ℕ
 room [] = 0
-room (b ∷ bs) = 512 + 256 * length b.code + room bs
+room (b ∷ bs) = 512 + code_room b.code + room bs
 
 abbrev pub function_bodies : List LinearFunction → List LinearBody
 function_bodies [] = []
@@ -68,10 +69,16 @@ abbrev pub tables_room : List LinearBody → ℕ
 tables_room [] = 0
 tables_room (b ∷ bs) = 32 + 16 * length b.regions + tables_room bs
 
+abbrev pub text_room : LinearProgram → ℕ
+text_room p = room (function_bodies p.functions) + room (funclet_bodies p.funclets)
+
+abbrev pub program_tables_room : LinearProgram → ℕ
+program_tables_room p = tables_room (function_bodies p.functions) + tables_room (funclet_bodies p.funclets)
+
 pub record FitsProgram (p : LinearProgram) : Type 0 where
   pub globals : length p.globals ≤ 2 ^ 20
   pub main : p.main < length p.functions
   pub functions : AllByRecursion FitsFunction p.functions
   pub funclets : AllByRecursion (FitsFunclet p) p.funclets
-  pub small : room (function_bodies p.functions) + room (funclet_bodies p.funclets) < 2 ^ 29 + 2 ^ 28
-  pub tables : tables_room (function_bodies p.functions) + tables_room (funclet_bodies p.funclets) < 2 ^ 29
+  -- what is left of the 256 MiB is for the globals, the headers and the rest of each section's last page
+  pub small : text_room p + program_tables_room p ≤ 2 ^ 28 - 2 ^ 21

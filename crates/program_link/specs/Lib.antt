@@ -4,3 +4,4 @@ pub mod Tables
 pub mod Linked
 pub mod Near
 pub mod Fits
+pub mod Laws

@@ -25,7 +25,7 @@ pub record IsRoutineNear (r : RoutineView) : Type 0 where
   pub frame : IsFrameNear r.frame
   pub entry : IsEntryNear r.layout r.entry
   pub code : AllByRecursion (IsInstructionNear r.layout) r.body.code
-  pub regions : length r.body.regions ≤ 2 ^ 20
+  pub regions : length r.body.regions ≤ 2 ^ 24
 
 -- the addresses that routines refer to
 pub record IsSiteNear (s : SiteView) : Type 0 where

@@ -1,5 +1,5 @@
 -- The text of a program: the thunks of its services, `__chkstk`, and its routines.
-use Rattle.std.specs.Prelude.{ℕ, ◌+◌, ◌*◌, List, [], ◌∷◌, ◌++◌, length, Option, Some, None}
+use Rattle.std.specs.Prelude.{ℕ, ◌+◌, ◌*◌, List, [], ◌∷◌, ◌++◌, Option, Some, None}
 use Rattle.seh_num.specs.declared.width.Width.TheVariants.{W32}
 use Rattle.x64_instr.specs.declared.register.Reg.TheVariants.{Rax, Rcx}
 use Rattle.x64_instr.specs.declared.instruction.Instr.{Instr}
@@ -20,6 +20,7 @@ use Rattle.template_code.specs.Bytes.{spelled, thunk}
 use Rattle.template_code.specs.Probing.{check_stack}
 use Rattle.template_code.specs.Template.{Links, body_size, code_from}
 use Rattle.x64_code.specs.declared.links.Thunks.{Thunks}
+use Rattle.x64_code.specs.Rooms.{code_room}
 use Rattle.x64_code.specs.Bodies.{label_list}
 use Rattle.x64_code.specs.Entries.{keep_base}
 use Rattle.x64_code.specs.Linking.{Addresses, links_of}
@@ -55,7 +56,7 @@ routine_size r = entry_size r + body_size r.layout r.body.code
 
 -- how many bytes they take at most
 abbrev pub routine_room : RoutineView → ℕ
-routine_room r = 512 + 256 * length r.body.code
+routine_room r = 512 + code_room r.body.code
 
 abbrev pub room : List RoutineView → ℕ
 room [] = 0

@@ -5,6 +5,7 @@
 #![tactic(auto)]
 
 pub mod entry;
+pub mod laws;
 pub mod link;
 pub mod place;
 pub mod routine;

@@ -38,7 +38,7 @@ use Rattle.program_link.proofs.Bounds.{text_length, total_small, bounds_near, in
 use Rattle.program_link.proofs.Images.{is_program, tables_fit, rdata_fits, has_places, no_routine}
 use Rattle.program_link.proofs.Infos.{info_small}
 use Rattle.program_link.proofs.Nearness.{routines_near}
-use Rattle.program_link.proofs.Entries.{body_small, entry_small, routine_small}
+use Rattle.program_link.proofs.Entries.{entry_small, routine_small}
 use Rattle.program_tables.specs.Placed.{Placed, end_of, placed_from, site_of, infos_begin, placed}
 use Rattle.program_tables.specs.Ranges.{IsRange as IsRegionRange, HasRanges, HasRegions}
 use Rattle.program_tables.specs.Entries.{scopes_of, has_rows, unwind_of, entry_of, entry_if, entries_of, entries}
@@ -224,7 +224,7 @@ module _ (p : LinearProgram) (fits : FitsProgram p) where
 
   -- one of some regions, with its scope table
   scopes_by : (info at : ℕ) (r : RoutineView) (f : Frame) (regions : List Region) (front more : List ℕ)
-      → AllByRecursion (IsRegionRange (length r.body.code)) regions → length regions ≤ 2 ^ 20 → at + routine_size r ≤ first p.globals + total rs
+      → AllByRecursion (IsRegionRange (length r.body.code)) regions → length regions ≤ 2 ^ 24 → at + routine_size r ≤ first p.globals + total rs
       → program.xdata ≡ front ++ ((unwind_bytes (info_of f (trailer (thunk_at s.text CSpecificHandler) regions)) ++ scope_table s.funclets (own_addresses at r).labels (own_addresses at r).end regions) ++ more)
       → info ≡ xdata_at (sizes_of program) + length front
       → HasScopes image (record { range = record { begin = at; end = at + routine_size r; unwind_info = info }; info = info_of f (trailer (thunk_at s.text CSpecificHandler) regions); scopes = scope_records s.funclets (own_addresses at r).labels (own_addresses at r).end regions }) (has_rows regions)

@@ -5,3 +5,4 @@ pub mod Raising
 pub mod Unwinding
 pub mod Quiet
 pub mod Continuing
+pub mod Joining

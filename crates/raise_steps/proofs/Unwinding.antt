@@ -69,7 +69,7 @@ use Rattle.turn_steps.proofs.Memories.{memory_untouched}
 use Rattle.turn_steps.proofs.Pushed as pushing
 use Rattle.turn_steps.proofs.Quiet.{host_quiet}
 use Rattle.turn_steps.proofs.Served.{local_unwind_turns, matched_when_shown}
-use Rattle.raise_steps.specs.Places.{UnwindsStayInside, AreFollowed}
+use Rattle.raise_steps.specs.Places.{AreFollowed, StayInside}
 use Rattle.raise_steps.specs.Laws.{LocalUnwindsAreMatched}
 use Rattle.raise_steps.proofs.Clear.{clear_below}
 use Rattle.raise_steps.proofs.Waits.{in_body}
@@ -108,7 +108,7 @@ aimed_first t fs program p m c (Leaf back ∷ is) b below acts label frame addre
 aimed_first t fs program p m c is b below acts label frame address l framed here = absurd l
 
 module _ (t : Functions) (fs : List Funclet) (program : LinearProgram) (p : Plan) (q : Sites) (image : IsProgramImage t fs program p q) (made : IsWellMade program p)
-    (follows : AreFollowed program) (stays : UnwindsStayInside program) (fits : FlagsFit program) where
+    (follows : AreFollowed program) (stays : StayInside program) (fits : FlagsFit program) where
   module _ (s : State) (c : Configuration) (b : Begins t fs program p q s c) (known : IsKnown program c) (label : ℕ) (at : instruction_at program c ≡ Some (instructions.LocalUnwind label)) where
     abbrev i : Instruction
     i = instructions.LocalUnwind label
@@ -306,7 +306,7 @@ module _ (t : Functions) (fs : List Funclet) (program : LinearProgram) (p : Plan
     -- ---- the target is the body's own frame
 
     aims : AimedHere t fs program p (length c.below) label sp target (context_of saved) c.frame c.below
-    aims = record { at_depth = refl; at_frame = sym sp_saved; at_address = refl; lands = image.lands c.frame.body body label b.body.slots.body (stays c.frame.body body c.frame.next label b.body.slots.body here) }
+    aims = record { at_depth = refl; at_frame = sym sp_saved; at_address = refl; lands = image.lands c.frame.body body label b.body.slots.body (stays c.frame.body body b.body.slots.body c.frame.next label here) }
 
     aimed : Aimed t fs program p (length c.below) label sp target (context_of saved) asks.is (Waits c.frame ∷ c.below)
     aimed = aimed_first t fs program p state.memory (context_of saved) asks.is c.frame c.below b.body.acts label sp target asks.asks.on.stands.linked framed aims

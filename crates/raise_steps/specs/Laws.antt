@@ -28,7 +28,8 @@ use Rattle.body_steps.specs.Known.{IsWellMade, IsKnown, KnownNext}
 use Rattle.body_steps.specs.Laws.{pace}
 use Rattle.funclet_steps.specs.Entries.{entry_turns, FlagsFit}
 use Rattle.turn_steps.specs.Outcomes.{Stands}
-use Rattle.raise_steps.specs.Places.{UnwindsStayInside, AreFollowed}
+use Rattle.turn_steps.specs.Entries.{Continuations}
+use Rattle.raise_steps.specs.Places.{AreFollowed, StayInside}
 
 -- a call of RaiseException: its event is shown, and a filter or a `__finally` block begins, a handler takes over, or nobody does
 abbrev pub RaisesAreMatched : Type 0
@@ -44,7 +45,7 @@ RaisesAreMatched =
 abbrev pub LocalUnwindsAreMatched : Type 0
 LocalUnwindsAreMatched =
     (t : Functions) (fs : List Funclet) (program : LinearProgram) (p : Plan) (q : Sites)
-    → IsProgramImage t fs program p q → IsWellMade program p → AreFollowed program → UnwindsStayInside program → FlagsFit program
+    → IsProgramImage t fs program p q → IsWellMade program p → AreFollowed program → StayInside program → FlagsFit program
     → (s : State) (c : Configuration) (label : ℕ)
     → Begins t fs program p q s c → IsKnown program c → instruction_at program c ≡ Some (instructions.LocalUnwind label)
     → HasRule (act program (instructions.LocalUnwind label) (exec program zero) c) → KnownNext program c (instructions.LocalUnwind label)
@@ -60,3 +61,7 @@ ContinuationsAfterCalls =
     → IsMachineMemory t fs program p q s.memory c.store.memory → c.store.activations ≡ locals_of acts
     → (arrivals saved (distance t.base saved.rip) 1 fs ≡ [])
     × (IsKnown program (resumed AfterCall c) → c.frame.landed ≡ None → LeadsTo t fs entry_turns (Begins t fs program p q) (record { cpu = saved; memory = s.memory }) (resumed AfterCall c))
+
+-- and wherever one is continued, after a call or at the same operation
+abbrev pub BodiesGoOn : Type 0
+BodiesGoOn = (t : Functions) (fs : List Funclet) (program : LinearProgram) (p : Plan) (q : Sites) → IsProgramImage t fs program p q → IsWellMade program p → Continuations t fs program p q

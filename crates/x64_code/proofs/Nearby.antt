@@ -12,7 +12,9 @@ use Rattle.template_code.specs.Jumps.{distance, compare_zero, test_code}
 use Rattle.template_code.specs.Calls.{keep_register, arguments_code, passing_code, parameter_code, parameters_code}
 use Rattle.template_code.specs.Template.{Links, template, template_size, body_size, code_from}
 use Rattle.x64_code.specs.Near.{IsInstructionNear}
+use Rattle.x64_code.specs.Rooms.{instruction_room, code_room}
 use Rattle.x64_code.specs.Bodies.{label_list}
+use Rattle.x64_code.proofs.Rooms.{template_in_room}
 use Rattle.linear_code.specs.declared.instruction.Instruction.{Instruction}
 use Rattle.linear_code.specs.declared.instruction.Instruction.TheVariants as instructions
 use Rattle.template_code.specs.declared.layout.Layout.{Layout}
@@ -96,6 +98,14 @@ passes_few y (instructions.Return from) near = tt
 pub instruction_small : (y : Layout) (i : Instruction) → IsInstructionNear y i → template_size y i ≤ 225
 instruction_small y i near = template_small y i (passes_few y i near)
 
+-- no template takes more than its room
+pub instruction_in_room : (y : Layout) (i : Instruction) → IsInstructionNear y i → template_size y i ≤ instruction_room i
+instruction_in_room y i near = template_in_room y i (passes_few y i near)
+
+pub code_in_room : (y : Layout) (is : List Instruction) → AllByRecursion (IsInstructionNear y) is → body_size y is ≤ code_room is
+code_in_room y [] near = omega arith
+code_in_room y (i ∷ is) near = let a = instruction_in_room y i near.0 in let r = code_in_room y is near.1 in omega arith
+
 pub grown_template : (k : Links) (y : Layout) (at : ℕ) (i : Instruction) (old new : List ℕ) → new ≡ old ++ spelled (template k y at i) → length new - length old ≡ template_size y i
 grown_template k y at i old new e = grown old new (template k y at i) e ∙ template_sizes k y at i
 
@@ -113,6 +123,9 @@ after i = omega arith
 
 pub body_next : (k : Links) (y : Layout) (at i : ℕ) (body : List Instruction) (d : Instruction) → i < length body → code_from k y at (drop i body) ≡ template k y at (get_or body i d) ++ code_from k y (at + template_size y (get_or body i d)) (drop (i + 1) body)
 body_next k y at i body d lt = ap (code_from k y at) (drop-cons body i d lt) ∙ ap (λ (n : ℕ). template k y at (get_or body i d) ++ code_from k y (at + template_size y (get_or body i d)) (drop n body)) (after i)
+
+pub code_room_next : (i : ℕ) (body : List Instruction) (d : Instruction) → i < length body → code_room (drop i body) ≡ instruction_room (get_or body i d) + code_room (drop (i + 1) body)
+code_room_next i body d lt = ap code_room (drop-cons body i d lt) ∙ ap (λ (n : ℕ). instruction_room (get_or body i d) + code_room (drop n body)) (after i)
 
 pub labels_next : (y : Layout) (at i : ℕ) (body : List Instruction) (d : Instruction) → i < length body → label_list y at (drop i body) ≡ at ∷ label_list y (at + template_size y (get_or body i d)) (drop (i + 1) body)
 labels_next y at i body d lt = ap (label_list y at) (drop-cons body i d lt) ∙ ap (λ (n : ℕ). at ∷ label_list y (at + template_size y (get_or body i d)) (drop n body)) (after i)

@@ -1,14 +1,15 @@
 -- Where the instructions of a body begin.
-use Rattle.std.specs.Prelude.{ℕ, ◌+◌, ◌*◌, ◌^◌, ◌<◌, List, [], ◌∷◌, length}
+use Rattle.std.specs.Prelude.{ℕ, ◌+◌, ◌^◌, ◌<◌, List, [], ◌∷◌}
 use Rattle.linear_code.specs.declared.instruction.Instruction.{Instruction}
 use Rattle.template_code.specs.declared.layout.Layout.{Layout}
 use Rattle.template_code.specs.Template.{template_size}
+use Rattle.x64_code.specs.Rooms.{code_room}
 
 -- the addresses, one after another
 abbrev pub label_list : Layout → ℕ → List Instruction → List ℕ
 label_list y at [] = []
 label_list y at (i ∷ is) = at ∷ label_list y (at + template_size y i) is
 
--- no template takes more than 256 bytes
+-- no template takes more than its room
 abbrev pub HasRoom : ℕ → List Instruction → Type 0
-HasRoom start body = start + 256 * length body < 2 ^ 30
+HasRoom start body = start + code_room body < 2 ^ 30

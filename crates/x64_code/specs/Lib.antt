@@ -1,4 +1,5 @@
 pub mod Near
 pub mod Linking
 pub mod Entries
+pub mod Rooms
 pub mod Bodies

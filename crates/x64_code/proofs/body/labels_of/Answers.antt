@@ -3,7 +3,7 @@ use Rattle.template_code.specs.Template.{template_size}
 use Rattle.x64_code.specs.Bodies.{label_list}
 use Rattle.x64_code.specs.Linking.{links_of}
 use Rattle.x64_code.specs.Near.{IsInstructionNear}
-use Rattle.x64_code.proofs.Nearby.{some_instruction, all_at, instruction_small, grown_to, labels_next, size_next, label_added}
+use Rattle.x64_code.proofs.Nearby.{some_instruction, all_at, instruction_in_room, code_room_next, grown_to, labels_next, size_next, label_added}
 use Rattle.x64_code.proofs.body.labels_of.Goals as goal
 
 pub loop-instruction-preserved : goal.loop-instruction-preserved
@@ -18,7 +18,8 @@ loop-instruction-preserved c =
     let new = c.put_instruction.new.code.items in
     let start = c.args.start in
     let near = all_at (IsInstructionNear y) body i some_instruction c.requires.near lt in
-    let small = instruction_small y x near in
+    let small = instruction_in_room y x near in
+    let next = code_room_next i body some_instruction lt in
     let g = grown_to k y 0 x old new c.in_ok-put_instruction.ensures in
     let there : start + length old + template_size y x ≡ start + length new = omega arith in
     let len : start + c.len.result ≡ start + length old = (let a = c.len.ensures in let b = c.loop-instruction.scratch.ok in omega arith) in

@@ -2,7 +2,7 @@ use Rattle.std.proofs.Common.{◌≡◌, ℕ, ◌+◌, ◌-◌, ◌++◌, get_or
 use Rattle.template_code.specs.Template.{template, template_size, code_from}
 use Rattle.x64_code.specs.Linking.{links_of}
 use Rattle.x64_code.specs.Near.{IsInstructionNear}
-use Rattle.x64_code.proofs.Nearby.{stepped, some_instruction, all_at, instruction_small, grown_template, body_next}
+use Rattle.x64_code.proofs.Nearby.{stepped, some_instruction, all_at, instruction_in_room, code_room_next, grown_template, body_next}
 use Rattle.x64_code.proofs.body.put_body.Goals as goal
 
 pub loop-instruction-preserved : goal.loop-instruction-preserved
@@ -17,7 +17,8 @@ loop-instruction-preserved c =
     let old = c.loop-instruction.code.items in
     let new = c.put_instruction.new.code.items in
     let near = all_at (IsInstructionNear y) body i some_instruction c.requires.near lt in
-    let small = instruction_small y x near in
+    let small = instruction_in_room y x near in
+    let next = code_room_next i body some_instruction lt in
     let g = grown_template k y at x old new c.in_ok-put_instruction.ensures in
     let more = c.len.result - c.len-before.result in
     let there : at + template_size y x ≡ at + more = (let a = c.len.ensures in let b = c.len-before.ensures in omega arith) in

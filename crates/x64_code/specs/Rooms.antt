@@ -1,0 +1,29 @@
+-- How many bytes templates take at most.
+use Rattle.std.specs.Prelude.{ℕ, ◌+◌, List, [], ◌∷◌}
+use Rattle.linear_code.specs.declared.slot.Slot.{Slot}
+use Rattle.linear_code.specs.declared.slot.Slot.TheVariants.{Local, Temporary}
+use Rattle.linear_code.specs.declared.instruction.Instruction.{Instruction}
+use Rattle.linear_code.specs.declared.instruction.Instruction.TheVariants as instructions
+
+-- a slot brought to a register or back: a local of a funclet's function takes the base first
+abbrev pub slot_room : Slot → ℕ
+slot_room (Temporary i) = 8
+slot_room (Local i) = 16
+
+-- a call passes at most eight arguments
+abbrev pub instruction_room : Instruction → ℕ
+instruction_room (instructions.Compute to o first second) = slot_room to + slot_room first + slot_room second + 11
+instruction_room (instructions.Information to field) = slot_room to + 24
+instruction_room (instructions.Landing to) = slot_room to
+instruction_room (instructions.Jump label) = 5
+instruction_room (instructions.JumpIfZero slot label) = slot_room slot + 10
+instruction_room (instructions.Call function first count) = 109
+instruction_room (instructions.CallBuiltIn function first) = 50
+instruction_room (instructions.CallFinally funclet) = 13
+instruction_room (instructions.LocalUnwind label) = 15
+instruction_room instructions.Separator = 1
+instruction_room (instructions.Return from) = slot_room from + 8
+
+abbrev pub code_room : List Instruction → ℕ
+code_room [] = 0
+code_room (i ∷ is) = instruction_room i + code_room is
