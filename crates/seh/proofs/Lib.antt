@@ -1,6 +1,7 @@
 pub mod Shown
 pub mod Inputs
 pub mod Images
+pub mod Realised
 pub mod Compiled
 pub mod Headline
 pub mod Meanings

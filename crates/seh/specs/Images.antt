@@ -1,5 +1,6 @@
 -- The image of a text.
 use Rattle.std.specs.Prelude.{◌≡◌, ℕ, ◌+◌, ◌*◌, ◌^◌, ◌<◌, ◌≤◌, true, List, length, pos}
+use Rattle.std.specs.List.{AllByRecursion}
 use Rattle.c_checked.specs.Program.{Program}
 use Rattle.c_model.specs.Meaning.{meaning, Calm}
 use Rattle.c_resolved.specs.Program.{resolve}
@@ -20,6 +21,7 @@ use Rattle.whole_runs.specs.Laws.{ShowsNoMore}
 -- the bytes are those of the image that the linear code of a checked program is linked to
 pub record IsLinkedTo (program : Program) (image : List ℕ) : Type 0 where
   pub fits : FitsProgram (lowered program)
+  pub octets : AllByRecursion (λ b. b < 256) image
   pub bytes : image ≡ written (parts_of (linked (lowered program)))
   pub read : IsImage image (image_of (linked (lowered program)))
 

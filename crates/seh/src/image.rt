@@ -1,6 +1,7 @@
 //! The image of a text.
 
-ghost use Rattle.std.specs.Prelude.{◌≡◌, ◌≤◌, length, IfOk, IfErr};
+ghost use Rattle.std.specs.Prelude.{◌≡◌, ◌≤◌, ◌<◌, ℕ, length, IfOk, IfErr};
+ghost use Rattle.std.specs.List.{AllByRecursion};
 ghost use Rattle.c_checked.specs.Whole.{program};
 ghost use Rattle.seh.specs.Images.{IsLinkedTo, IsCompiled, IsLinkRefusal, IsTextRefusal};
 
@@ -11,6 +12,15 @@ use program_fits::fits;
 use program_link::link::compile_program;
 use seh_ir::lower::lower;
 use std::alloc::Global;
+
+/// Each byte of an image is below 256: what reads them knows it, and so it is told here.
+fn bytes_are_octets(bytes: &[u8])
+    ensures { AllByRecursion (λ (b : ℕ). b < 256) bytes.now }
+{
+    for byte in bytes {
+        let _octet = *byte;
+    }
+}
 
 /// The image that a checked program is linked to.
 fn linked_image(alloc: Global, checked: &Checked) -> Result<Vec<u8>, Refusal>
@@ -25,7 +35,10 @@ fn linked_image(alloc: Global, checked: &Checked) -> Result<Vec<u8>, Refusal>
         return Err(Refusal::TooLarge);
     }
     match compile_program(alloc, &linear) {
-        Ok(image) => Ok(image),
+        Ok(image) => {
+            bytes_are_octets(&image);
+            Ok(image)
+        }
         Err(_) => Err(Refusal::NoMemory),
     }
 }
