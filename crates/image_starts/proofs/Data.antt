@@ -241,6 +241,12 @@ module _ (program : LinearProgram) (c : IsCompiled program) where
       ap (λ (o : Option Section). is_writable (mode_in o a).rights) (outside a (inl (omega arith)))
       ∙ ap (λ (b : Bool). is_writable (stack_mode b).rights) (and_from (leb STACK_START a) (ltb a STACK_END) (le-leb STACK_START a le) (lt-ltb a STACK_END lt))
 
+  -- where it is 0 at first
+  pub stack_zero : (a : ℕ) → STACK_START ≤ a → a < STACK_END → m.byte a ≡ 0
+  stack_zero a le lt =
+      let l = low in
+      stored_there a (inl (omega arith)) ∙ ap (λ (o : Option Section). byte_in image_base o a) (outside a (inl (omega arith)))
+
   -- ---- the arena
 
   pub arena_alone : (a : ℕ) → in_arena a ≡ true → (m.protection a).execute ≡ false
