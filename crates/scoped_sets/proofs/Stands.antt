@@ -1,9 +1,9 @@
 -- Each part of a program stands beside its sets: its instructions lead to places that tell no more, its regions guard no more, and so it is in its filters and `__finally` blocks.
-use Rattle.std.proofs.Common.{◌≡◌, ◌⊎◌, inl, inr, ℕ, suc, ◌+◌, ◌-◌, ◌<◌, ◌≤◌, List, [], ◌∷◌, ◌++◌, length, refl, sym, ap, subst, ◌∙◌, arith, length-append, append_assoc}
-use Rattle.std.proofs.lemmas.Bool.{cases_lt, leb-true, ltb-true}
+use Rattle.std.proofs.Common.{◌≡◌, ℕ, suc, ◌+◌, ◌-◌, ◌<◌, ◌≤◌, List, [], ◌∷◌, ◌++◌, length, refl, sym, ap, subst, ◌∙◌, arith, length-append, append_assoc}
+use Rattle.std.proofs.lemmas.Bool.{leb-true, ltb-true}
 use Rattle.std.proofs.lemmas.List.{length-replicate}
 use Rattle.std.specs.List.{AllByRecursion}
-use Rattle.std.specs.Prelude.{true, false, replicate, slice_get, Option, Some, None}
+use Rattle.std.specs.Prelude.{true, false, replicate, slice_get, Some, None}
 use Rattle.c_checked.specs.Expression.{Expression}
 use Rattle.c_checked.specs.Sound.{Inside, funclets_in, funclets, filter_funclet, count_up, statement_sound, statements_sound}
 use Rattle.c_checked.specs.Statement.{Filter, Always, Funclet, Statement, Declare, Block, Evaluate, If, IfElse, For, DoWhile, Return, Break, Continue, Leave, TryExcept, TryFinally, Statements, Empty, Then}
@@ -22,10 +22,8 @@ use Rattle.linear_runs.proofs.Ranges.{Range, part_of, both_parts, no_part, one_p
 use Rattle.ir_sizes.specs.Sizes.{expression_size, discarded_size, statement_size, statements_size, statement_notes, statements_notes}
 use Rattle.seh_ir.specs.declared.funclets.Owner.{Owner}
 use Rattle.seh_ir.specs.declared.scope.Names.{Names}
-use Rattle.seh_ir.specs.declared.scope.Way.{Way}
-use Rattle.seh_ir.specs.declared.scope.Way.TheVariants.{Nowhere, Jumps, Unwinds}
 use Rattle.seh_ir.specs.declared.scope.Scope.{Scope}
-use Rattle.seh_ir.specs.Scope.{except_names, filter_names, finally_names, unwound, finally_scope, in_loop, in_try, in_except, in_guarded}
+use Rattle.seh_ir.specs.Scope.{except_names, filter_names, finally_names, finally_scope, in_loop, in_try, in_except, in_guarded}
 use Rattle.seh_ir.specs.Expressions.{expression_code}
 use Rattle.seh_ir.specs.Statements.{statement_code, statements_code}
 use Rattle.seh_ir.specs.Regions.{except_kind, region, statement_regions, statements_regions}
@@ -42,12 +40,13 @@ use Rattle.scoped_programs.specs.Scoped.{Seen, with_local, IsPart, after_all_dec
 use Rattle.scoped_programs.proofs.Split.{both_left, both_right, sees_own, sees_before, itself, within, part_with}
 use Rattle.set_locals.specs.Sets.{with_flag, function_locals, owner_locals, locals_at, Begins, Leads, Guards, IsSetBody}
 use Rattle.code_sets.specs.Places.{statement_sets, statements_sets, filter_sets, finally_sets, statement_funclet_sets, statements_funclet_sets, set_in}
-use Rattle.code_sets.proofs.Straight.{is_same, is_same_back, head_told, past_end, even_list, Fine, AllLead, both_lead, lead_at, straight}
+use Rattle.code_sets.proofs.Straight.{is_same, head_told, past_end, even_list, Fine, AllLead, both_lead, lead_at, straight}
 use Rattle.code_sets.proofs.Fine.{IsAround, expression_fine}
-use Rattle.code_sets.proofs.Shapes.{statements_long, filter_many, statement_many, statements_many, grows, all_grow, statements_first, begins, statements_above, above_at}
-use Rattle.code_sets.proofs.Pieces.{code_kept, flag_kept, below_with, around_declared, around_all_declared, declared_small, WayIn, LabelIn, jump_leads, leave_leads, discarded_leads, declared_leads}
+use Rattle.code_sets.proofs.Shapes.{statements_long, filter_many, statement_many, statements_many, grows, all_grow, statements_first, begins}
+use Rattle.code_sets.proofs.Pieces.{flag_kept, below_with, around_all_declared, WayIn, LabelIn, jump_leads, leave_leads, discarded_leads, declared_leads}
 use Rattle.code_sets.proofs.Choices.{if_parts, if_else_parts, returns_lead, then_parts}
 use Rattle.code_sets.proofs.Loops as loops
+use Rattle.scoped_sets.proofs.Around.{around_finally, around_filter, around_after, way_more, label_more, unwound_in, above_body}
 use Rattle.code_sets.proofs.Tries.{except_parts, finally_parts}
 
 module _ (linear : LinearProgram) (lists : BodyName → List Seen) (funclet_lists : List (List Seen)) (listed : (k : ℕ) (list : List Seen) → slice_get funclet_lists k ≡ Some list → lists (FuncletBody k) ≡ list) where
@@ -105,20 +104,6 @@ module _ (linear : LinearProgram) (lists : BodyName → List Seen) (funclet_list
 
   -- ---- places
 
-  way_more : (name : BodyName) (seen more : Seen) (w : Way) → IsPart seen more → WayIn linear lists name seen w → WayIn linear lists name more w
-  way_more name seen more Nowhere p h = tt
-  way_more name seen more (Jumps label) p h = within (sets name label) seen more h p
-  way_more name seen more (Unwinds label) p h = within (sets name label) seen more h p
-
-  label_more : (name : BodyName) (seen more : Seen) (w : Option ℕ) → IsPart seen more → LabelIn linear lists name seen w → LabelIn linear lists name more w
-  label_more name seen more None p h = tt
-  label_more name seen more (Some label) p h = within (sets name label) seen more h p
-
-  unwound_in : (name : BodyName) (seen : Seen) (w : Way) → WayIn linear lists name seen w → WayIn linear lists name seen (unwound w)
-  unwound_in name seen Nowhere h = h
-  unwound_in name seen (Jumps label) h = h
-  unwound_in name seen (Unwinds label) h = h
-
   pub locals_are : (name : BodyName) (owner : Owner) (scope : Scope) (before seen : Seen) → IsPlace name owner scope before seen → locals_at linear name ≡ owner.locals
   locals_are name owner scope before seen p = ap (owner_locals linear) p.owned ∙ p.room
 
@@ -128,10 +113,10 @@ module _ (linear : LinearProgram) (lists : BodyName → List Seen) (funclet_list
     owned = p.owned;
     room = p.room;
     around = a;
-    exit = way_more name seen seen' scope.exit g p.exit;
-    loop_end = way_more name seen seen' scope.loop_end g p.loop_end;
-    loop_next = way_more name seen seen' scope.loop_next g p.loop_next;
-    leave = label_more name seen seen' scope.leave g p.leave;
+    exit = way_more linear lists name seen seen' scope.exit g p.exit;
+    loop_end = way_more linear lists name seen seen' scope.loop_end g p.loop_end;
+    loop_next = way_more linear lists name seen seen' scope.loop_next g p.loop_next;
+    leave = label_more linear lists name seen seen' scope.leave g p.leave;
   }
 
   pub loop_place : (name : BodyName) (owner : Owner) (scope : Scope) (before seen : Seen) (end next : ℕ) → Told name end seen → Told name next seen → IsPlace name owner scope before seen → IsPlace name owner (in_loop end next scope) before seen
@@ -145,9 +130,9 @@ module _ (linear : LinearProgram) (lists : BodyName → List Seen) (funclet_list
     owned = p.owned;
     room = p.room;
     around = p.around;
-    exit = unwound_in name seen scope.exit p.exit;
-    loop_end = unwound_in name seen scope.loop_end p.loop_end;
-    loop_next = unwound_in name seen scope.loop_next p.loop_next;
+    exit = unwound_in linear lists name seen scope.exit p.exit;
+    loop_end = unwound_in linear lists name seen scope.loop_end p.loop_end;
+    loop_next = unwound_in linear lists name seen scope.loop_next p.loop_next;
     leave = e;
   }
 
@@ -160,20 +145,11 @@ module _ (linear : LinearProgram) (lists : BodyName → List Seen) (funclet_list
         owned = p.owned;
         room = p.room;
         around = record { part = within before seen more p.around.part g; below = below_with owner.locals free seen p.around.below lt; code = sees_own seen free; flag = flag_kept seen more scope.names.abnormal g p.around.flag };
-        exit = way_more name seen more scope.exit g p.exit;
-        loop_end = way_more name seen more scope.loop_end g p.loop_end;
-        loop_next = way_more name seen more scope.loop_next g p.loop_next;
-        leave = label_more name seen more scope.leave g p.leave;
+        exit = way_more linear lists name seen more scope.exit g p.exit;
+        loop_end = way_more linear lists name seen more scope.loop_end g p.loop_end;
+        loop_next = way_more linear lists name seen more scope.loop_next g p.loop_next;
+        leave = label_more linear lists name seen more scope.leave g p.leave;
       }
-
-  pub around_finally : (locals : ℕ) (names : Names) (before seen : Seen) → names.free < locals → IsAround locals names before seen → IsAround locals (finally_names names) before (with_local names.free seen)
-  around_finally locals names before seen lt a =
-      let more = with_local names.free seen in
-      let g = sees_before seen names.free in
-      record { part = within before seen more a.part g; below = below_with locals names.free seen a.below lt; code = code_kept seen more names.exception g a.code; flag = sees_own seen names.free }
-
-  around_filter : (locals : ℕ) (names : Names) (before seen : Seen) → IsAround locals names before seen → IsAround locals (filter_names names) before seen
-  around_filter locals names before seen a = record { part = a.part; below = a.below; code = tt; flag = a.flag }
 
   -- ---- whole bodies
 
@@ -248,35 +224,6 @@ module _ (linear : LinearProgram) (lists : BodyName → List Seen) (funclet_list
             (within (sets (FuncletBody (k - 1)) 0) seen (sets name label) first g, within (sets name target) seen (sets name label) t g)),
         one_part IsFine j x.fine,
       )
-
-  -- ---- statements
-
-  around_after : (s : Statement) (i : Inside) (locals : ℕ) (names : Names) (before seen : Seen) → length i.scope.sizes ≤ locals → statement_sound i s ≡ true → IsAround locals names before seen → IsAround locals names (after_statement before s) (after_statement seen s)
-  around_after (Declare d) i locals names before seen fits ok a = around_declared locals names before seen d.local (declared_small i.scope d locals fits ok) a
-  around_after (Block ss) i locals names before seen fits ok a = a
-  around_after (Evaluate e) i locals names before seen fits ok a = a
-  around_after (If c s) i locals names before seen fits ok a = a
-  around_after (IfElse c s t) i locals names before seen fits ok a = a
-  around_after (For ds first c next s) i locals names before seen fits ok a = a
-  around_after (DoWhile s c) i locals names before seen fits ok a = a
-  around_after (Return e) i locals names before seen fits ok a = a
-  around_after Break i locals names before seen fits ok a = a
-  around_after Continue i locals names before seen fits ok a = a
-  around_after Leave i locals names before seen fits ok a = a
-  around_after (TryExcept body filter block) i locals names before seen fits ok a = a
-  around_after (TryFinally body k last) i locals names before seen fits ok a = a
-
-  -- in the body of a `__try`, and at its end
-  above_body : (name : BodyName) (body : Statements) (free : ℕ) (seen : Seen) (at label : ℕ) → StandsAt (lists name) at (statements_sets free seen body) → sets name (at + statements_size body) ≡ seen → at ≤ label → label < at + statements_size body + 1
-      → IsPart seen (sets name label)
-  above_body name body free seen at label h e le lt = of (cases_lt label last)
-    where
-      last : ℕ
-      last = at + statements_size body
-
-      of : (label < last) ⊎ (last ≤ label) → IsPart seen (sets name label)
-      of (inl less) = let l = statements_long body free seen in above_at (lists name) at (statements_sets free seen body) seen h (statements_above body free seen seen (itself seen)) label le (omega arith)
-      of (inr more) = let same : last ≡ label = omega arith in subst (λ n. IsPart seen (sets name n)) same (is_same_back (sets name last) seen e)
 
   -- ---- `__finally` blocks
 
@@ -477,7 +424,7 @@ module _ (linear : LinearProgram) (lists : BodyName → List Seen) (funclet_list
         let nf = length (filter_funclet filter) in
         let x = statements_stand body name owner (record i { body = true }) (in_try out scope) before seen at j (try_place name owner scope before seen out q.leaves p) fits notes_body (both_left _ _ (both_left _ _ ok)) (both_left _ _ (both_left _ _ w))
         q.stands (is_same (sets name skip) seen q.end) fs.of_body in
-        let y = filter_stands name owner scope before seen p filter (j + nb) at target (both_right _ _ (both_left _ _ w)) fs.of_filter (λ label a b. above_body name body free seen at label q.stands q.end a b) q.target in
+        let y = filter_stands name owner scope before seen p filter (j + nb) at target (both_right _ _ (both_left _ _ w)) fs.of_filter (λ label a b. above_body linear lists name body free seen at label q.stands q.end a b) q.target in
         let z = statements_stand block name owner (record i { scope = record i.scope { code = true } }) (in_except scope) before more (target + 1) (j + nb + nf) (except_place name owner scope before seen room p) fits notes_block (both_right _ _ ok) (both_right _ _ w)
         q.block_stands (within (sets name out) seen more q.leaves (sees_before seen free)) fs.of_block in
         record {
@@ -506,7 +453,7 @@ module _ (linear : LinearProgram) (lists : BodyName → List Seen) (funclet_list
         record {
           leads = q.leads b.begun x.leads;
           regions = all_append (IsGuarded name) (statements_regions body at) (region at (ends + 1) (kinds.Finally (k - 1)) ∷ []) x.regions
-              ((λ label r. let g = in_region at (ends + 1) label (kinds.Finally (k - 1)) r in b.begun (sets name label) (above_body name body free seen at label q.stands q.end g.0 g.1)), tt);
+              ((λ label r. let g = in_region at (ends + 1) label (kinds.Finally (k - 1)) r in b.begun (sets name label) (above_body linear lists name body free seen at label q.stands q.end g.0 g.1)), tt);
           funclets = block_ranges j (funclets body) k (funclets last) x.funclets fine y.funclets;
         }
 

@@ -1,0 +1,4 @@
+pub mod BoundOperators
+pub mod BoundExpressions
+pub mod BoundStatements
+pub mod Fitting

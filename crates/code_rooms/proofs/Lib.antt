@@ -1,0 +1,3 @@
+pub mod ExpressionRooms
+pub mod StatementRooms
+pub mod Programs
