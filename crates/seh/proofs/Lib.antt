@@ -1,7 +1,6 @@
 pub mod Shown
 pub mod Inputs
 pub mod Images
-pub mod Realised
 pub mod Compiled
 pub mod Headline
 pub mod Meanings

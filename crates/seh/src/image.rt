@@ -3,15 +3,17 @@
 ghost use Rattle.std.specs.Prelude.{◌≡◌, ◌≤◌, ◌<◌, ℕ, length, IfOk, IfErr};
 ghost use Rattle.std.specs.List.{AllByRecursion};
 ghost use Rattle.c_checked.specs.Whole.{program};
-ghost use Rattle.seh.specs.Images.{IsLinkedTo, IsCompiled, IsLinkRefusal, IsTextRefusal};
+ghost use Rattle.program_link.specs.Fits.{FitsProgram};
+ghost use Rattle.image_runs.specs.Realises.{IsWritten};
+ghost use Rattle.seh.specs.Images.{IsCompiled, IsTextRefusal};
+ghost use Rattle.seh_ir.specs.Lowered.{lowered};
 
 use crate::refusal::Refusal;
 use c_checked::checked::Checked;
 use c_text::accepting::accept;
-use program_fits::fits;
 use program_link::link::compile_program;
 use seh_ir::lower::lower;
-use std::alloc::Global;
+use std::alloc::{AllocError, Global};
 
 /// Each byte of an image is below 256: what reads them knows it, and so it is told here.
 fn bytes_are_octets(bytes: &[u8])
@@ -23,24 +25,14 @@ fn bytes_are_octets(bytes: &[u8])
 }
 
 /// The image that a checked program is linked to.
-fn linked_image(alloc: Global, checked: &Checked) -> Result<Vec<u8>, Refusal>
-    ensures found { IfOk result (λ image. IsLinkedTo (program checked.now) image.items) }
-    ensures refused { IfErr result (λ e. IsLinkRefusal (program checked.now) e) }
+fn linked_image(alloc: Global, checked: &Checked) -> Result<Vec<u8>, AllocError>
+    requires { FitsProgram (lowered (program checked.now)) }
+    ensures { IfOk result (λ image. IsWritten image.items (program checked.now)) }
 {
-    let linear = match lower(alloc, checked) {
-        Ok(linear) => linear,
-        Err(_) => return Err(Refusal::NoMemory),
-    };
-    if !fits(&linear) {
-        return Err(Refusal::TooLarge);
-    }
-    match compile_program(alloc, &linear) {
-        Ok(image) => {
-            bytes_are_octets(&image);
-            Ok(image)
-        }
-        Err(_) => Err(Refusal::NoMemory),
-    }
+    let linear = lower(alloc, checked)?;
+    let image = compile_program(alloc, &linear)?;
+    bytes_are_octets(&image);
+    Ok(image)
 }
 
 /// The image of an accepted text, or why it isn't compiled.
@@ -53,5 +45,8 @@ pub fn image_of(alloc: Global, text: &[u8]) -> Result<Vec<u8>, Refusal>
         Ok(accepted) => accepted,
         Err(error) => return Err(Refusal::Text(error)),
     };
-    linked_image(alloc, &accepted.checked)
+    match linked_image(alloc, &accepted.checked) {
+        Ok(image) => Ok(image),
+        Err(_) => Err(Refusal::NoMemory),
+    }
 }
