@@ -11,6 +11,7 @@ use Rattle.ir_bounds.proofs.Small.{lowered_is_small}
 use Rattle.ir_typed.proofs.Lowered.{lowered_is_whole}
 use Rattle.ir_typed.proofs.Stacked.{all_at}
 use Rattle.program_link.specs.Routines.{has_call, is_leaf}
+use Rattle.program_link.proofs.Images.{images_are_small}
 use Rattle.lowered_shape.proofs.Ranges.{lowered_has_regions}
 use Rattle.lowered_shape.proofs.Numbers.{lowered_names_funclets}
 use Rattle.image_states.specs.Compiled.{IsFuncletSized}
@@ -40,7 +41,7 @@ sized program l k f e =
 pub lowered_is_compiled : LoweredIsCompiled
 lowered_is_compiled program l = record {
   fits = l.fits;
-  small = l.small;
+  small = images_are_small (lowered program) l.fits;
   ranges = lowered_has_regions program;
   names = lowered_names_funclets program l.sound;
   all_named = all_named program l.sound;

@@ -18,10 +18,18 @@ use Rattle.call_steps.specs.Calls.{FunctionsApart}
 use Rattle.ir_places.proofs.Alike.{has_same_regions}
 use Rattle.ir_places.proofs.Flags.{has_flags}
 use Rattle.ir_places.proofs.Followed.{lowered_is_followed}
+use Rattle.ir_places.proofs.Inside.{lowered_stays_inside}
+use Rattle.ir_places.proofs.Blind.{lowered_informs_filters}
 use Rattle.ir_typed.proofs.Apart.{lowered_is_apart}
 use Rattle.ir_typed.proofs.EveryBody.{every_body}
 use Rattle.ir_typed.proofs.Lowered.{lowered_is_whole}
-use Rattle.ir_typed.proofs.Room.{has_room}
+use Rattle.ir_typed.proofs.Room.{body_small, has_room}
+use Rattle.ir_typed.proofs.Stacked.{all_at}
+use Rattle.ir_bounds.specs.Slots.{IsField, IsPlain}
+use Rattle.x64_templates.specs.Exceptions as exceptions
+use Rattle.c_operations.specs.declared.field.Field.{Field}
+use Rattle.c_operations.specs.declared.field.Field.TheVariants as fields
+use Rattle.service_steps.specs.Static.{FiltersReadInformation}
 use Rattle.funclet_steps.specs.Entries.{FlagsFit}
 use Rattle.image_states.specs.Plans.{functions_of, funclets_of, plan_of, sites_of}
 use Rattle.image_states.proofs.Images.{images_are_programs}
@@ -36,6 +44,13 @@ flag_kind (Finally own) flag e = ap Finally (same_flag own flag e)
   where
     same_flag : (x y : ℕ) → Some x ≡ Some y → x ≡ y
     same_flag x y e = cc
+
+-- a field that may be read in linear code may be read by a template
+same_field : (field : Field) → IsField field → exceptions.IsField field
+same_field fields.ExceptionCode h = tt
+same_field fields.ExceptionFlags h = tt
+same_field fields.NumberParameters h = tt
+same_field (fields.ExceptionInformation k) h = h
 
 module _ (program : Program) (l : IsLinkable program) where
   abbrev linear : LinearProgram
@@ -61,6 +76,12 @@ module _ (program : Program) (l : IsLinkable program) where
   flags : FlagsFit linear
   flags k flag f at e = has_flags program k flag f at (flag_kind f.kind flag (sym (ap flag_of at) ∙ e))
 
+  informs : FiltersReadInformation linear
+  informs name b label to field is at =
+      let filter = lowered_informs_filters program l.sound name b label to field is at in
+      let plain = all_at (IsPlain b.locals) b.code label (instructions.Information to field) (body_small program l.sound l.shallow name b is).code at in
+      (record { number = filter.number; is = filter.is; funclet = filter.funclet; there = filter.there; kind = filter.kind }, same_field field plain.1)
+
   pub image : IsSoundImage (functions_of linear) (funclets_of linear) linear (plan_of linear) (sites_of linear)
   image = record {
     image = images_are_programs linear (lowered_is_compiled program l);
@@ -74,6 +95,8 @@ module _ (program : Program) (l : IsLinkable program) where
     flags = flags;
     separators = λ name b label k is there. lowered_is_followed program name b is label (instructions.CallFinally k) there refl;
     followed = lowered_is_followed program;
+    inside = lowered_stays_inside program;
+    informs = informs;
     regions = has_same_regions program;
   }
 

@@ -1,31 +1,29 @@
 -- Sound programs whose linear code has an image, and what the steps of the machine ask of that image.
-use Rattle.std.specs.Prelude.{◌≡◌, ◌^◌, ◌≤◌, List, Some}
+use Rattle.std.specs.Prelude.{◌≡◌, List, Some}
 use Rattle.c_checked.specs.Program.{Program}
 use Rattle.c_checked.specs.Sound.{IsSound}
 use Rattle.virtual_unwind.specs.CallerOf.{Functions}
 use Rattle.host_model.specs.declared.funclet.Funclet.{Funclet}
-use Rattle.pe_write.specs.Program.{sizes_of, end_at}
 use Rattle.linear_code.specs.Program.{LinearBody, LinearProgram}
 use Rattle.linear_machine.specs.Frames.{BodyName, body_of}
 use Rattle.linked_stack.specs.ImagePlan.{Plan}
 use Rattle.seh_ir.specs.Lowered.{lowered}
 use Rattle.ir_bounds.specs.Nesting.{AreShallow}
-use Rattle.ir_places.specs.Followed.{IsFollowed}
 use Rattle.ir_places.specs.Alike.{HasSameRegions}
 use Rattle.program_link.specs.Fits.{FitsProgram}
-use Rattle.program_link.specs.Linked.{linked}
 use Rattle.body_states.specs.Sites.{Sites}
 use Rattle.body_states.specs.Programs.{IsProgramImage}
 use Rattle.body_steps.specs.Known.{IsWellMade}
 use Rattle.call_steps.specs.Calls.{FunctionsApart}
 use Rattle.funclet_steps.specs.Entries.{FlagsFit, SeparatorsFollow}
+use Rattle.service_steps.specs.Static.{FiltersReadInformation}
+use Rattle.raise_steps.specs.Places.{StayInside, AreFollowed}
 
--- sound, nested within the limits, and within those of linking, with an image of at most 256 MiB
+-- sound, nested within the limits, and within those of linking
 pub record IsLinkable (program : Program) : Type 0 where
   pub sound : IsSound program
   pub shallow : AreShallow program.functions
   pub fits : FitsProgram (lowered program)
-  pub small : end_at (sizes_of (linked (lowered program))) ≤ 2 ^ 28
 
 -- what never changes while a program's image runs
 pub record IsSoundImage (t : Functions) (fs : List Funclet) (program : LinearProgram) (p : Plan) (q : Sites) : Type 0 where
@@ -34,5 +32,7 @@ pub record IsSoundImage (t : Functions) (fs : List Funclet) (program : LinearPro
   pub apart : FunctionsApart program p q
   pub flags : FlagsFit program
   pub separators : SeparatorsFollow program
-  pub followed : (name : BodyName) (b : LinearBody) → body_of program name ≡ Some b → IsFollowed b
+  pub followed : AreFollowed program
+  pub inside : StayInside program
+  pub informs : FiltersReadInformation program
   pub regions : (name : BodyName) (b : LinearBody) → body_of program name ≡ Some b → HasSameRegions b

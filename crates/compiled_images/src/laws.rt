@@ -2,9 +2,8 @@
 
 ghost use Rattle.compiled_images.specs.Laws.{LoweredIsCompiled, LoweredHasImage};
 
-/// Of a sound program that is nested within the limits, whose linear code can be linked into an image of at
-/// most 256 MiB, the linear code is as the image needs it; and all that steps of the machine ask of an image
-/// holds of its image.
+/// Of a sound program that is nested within the limits, whose linear code can be linked, the linear code is
+/// as the image needs it; and all that steps of the machine ask of an image holds of its image.
 pub fn laws()
     ensures compiled { LoweredIsCompiled }
     ensures image { LoweredHasImage }

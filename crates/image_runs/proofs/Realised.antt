@@ -1,5 +1,6 @@
 -- The image of a sound program does what the program means.
-use Rattle.std.proofs.Common.{ℕ, ◌≤◌, List, length, ap, arith}
+use Rattle.std.proofs.Common.{ℕ, ◌<◌, ◌≤◌, List, length, ap, subst, arith}
+use Rattle.std.specs.List.{AllByRecursion}
 use Rattle.std.specs.Prelude.{pos}
 use Rattle.pe_write.specs.Program.{parts_of, image_of, IsProgram}
 use Rattle.pe_write.proofs.Back.{written_length}
@@ -7,7 +8,9 @@ use Rattle.pe_write.proofs.Programs.{size_is, can_be_written}
 use Rattle.c_checked.specs.Program.{Program}
 use Rattle.seh_ir.specs.Lowered.{lowered}
 use Rattle.program_link.specs.Linked.{linked}
+use Rattle.program_link.proofs.Images.{images_are_small}
 use Rattle.program_tables.proofs.Table.{is}
+use Rattle.image_starts.specs.Laws.{HasBytes}
 use Rattle.image_starts.proofs.Starting.{images_load}
 use Rattle.compiled_images.specs.Sound.{IsLinkable}
 use Rattle.compiled_images.proofs.Compiled.{lowered_is_compiled}
@@ -22,17 +25,20 @@ short program l bytes w =
     let long = written_length (parts_of p) (can_be_written p q) in
     let size = size_is p q in
     let same = ap (λ (xs : List ℕ). length xs) w.written in
-    let small = l.small in
+    let small = images_are_small (lowered program) l.fits in
     omega arith
 
+octets : (program : Program) (bytes : List ℕ) → IsWritten bytes program → HasBytes (lowered program)
+octets program bytes w = subst (λ (xs : List ℕ). AllByRecursion (λ b. b < 256) xs) w.written w.octets
+
 pub compiled_realise : CompiledRealise
-compiled_realise program l reads bridge bytes w = record {
+compiled_realise program l reads bytes w = record {
   image = image_of (linked (lowered program));
   is = w.read;
   fits = short program l bytes w;
   loads = images_load (lowered program) (lowered_is_compiled program l);
-  shows = λ arg n lt. linked_images_show_all program l reads bridge.steps bytes w.read (pos arg) (bridge.starts arg lt) n;
+  shows = λ arg n lt. linked_images_show_all program l reads bytes w.read (octets program bytes w) (pos arg) n;
 }
 
 pub compiled_show_nothing_more : CompiledShowNothingMore
-compiled_show_nothing_more program l reads bridge bytes w = λ arg m n lt paces calm. linked_images_show_no_more program l reads bridge.steps bytes w.read (pos arg) (bridge.starts arg lt) m n paces calm
+compiled_show_nothing_more program l reads bytes w = λ arg m n lt paces calm. linked_images_show_no_more program l reads bytes w.read (octets program bytes w) (pos arg) m n paces calm

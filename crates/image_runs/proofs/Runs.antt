@@ -1,11 +1,12 @@
 -- Whole runs of images.
-use Rattle.std.proofs.Common.{ℕ, ◌+◌, ◌*◌, inl, refl}
-use Rattle.std.specs.Prelude.{List, ℤ}
+use Rattle.std.proofs.Common.{◌≡◌, ℕ, ◌+◌, ◌*◌, inl, refl}
+use Rattle.std.specs.Prelude.{List, slice_get, ℤ, Some}
 use Rattle.x64_machine.specs.Effect.{State}
 use Rattle.virtual_unwind.specs.CallerOf.{Functions}
 use Rattle.host_model.specs.declared.funclet.Funclet.{Funclet}
 use Rattle.c_checked.specs.Program.{Program}
 use Rattle.c_checked.specs.Sound.{IsSound}
+use Rattle.linear_code.specs.Program.{LinearFunction}
 use Rattle.linear_machine.specs.Run.{start}
 use Rattle.linked_stack.specs.ImagePlan.{Plan}
 use Rattle.seh_ir.specs.Lowered.{lowered}
@@ -19,32 +20,33 @@ use Rattle.body_states.specs.Sites.{Sites}
 use Rattle.body_states.specs.Bodies.{turns_left}
 use Rattle.body_steps.specs.Laws.{pace}
 use Rattle.compiled_images.specs.Sound.{IsSoundImage}
-use Rattle.image_runs.specs.Steps.{StepsAreMatched}
-use Rattle.image_runs.specs.Shown.{ShowsTwin, MainBegins}
+use Rattle.main_steps.specs.Starts.{MainBegins}
+use Rattle.image_runs.specs.Shown.{ShowsTwin}
 use Rattle.image_runs.specs.Laws.{ImagesShowAll, ImagesShowNoMore}
 use Rattle.image_runs.proofs.Simulated.{twins_simulate}
 
 module _ (t : Functions) (fs : List Funclet) (program : Program) (p : Plan) (q : Sites) (sound : IsSound program) (reads : ReadsNoUnset (lowered program))
-    (image : IsSoundImage t fs (lowered program) p q) (steps : StepsAreMatched t fs (lowered program) p q) (arg : ℤ) (s : State) (b : MainBegins t fs (lowered program) p q arg s) where
+    (image : IsSoundImage t fs (lowered program) p q) (arg : ℤ) (main : LinearFunction) (s : State)
+    (is_main : slice_get (lowered program).functions (lowered program).main ≡ Some main) (b : MainBegins t fs (lowered program) p q arg main s) where
   begins : (n : ℕ) → Begins t fs (lowered program) pace turns_left arg b.turns s n
   begins n = record {
-    main = b.main;
-    is_main = b.is_main;
+    main = main;
+    is_main = is_main;
     state = b.state;
     comes = b.comes;
     no_credit = refl;
-    follows = follows t fs (lowered program) pace turns_left (λ n. ShowsTwin t fs (lowered program) p q) (twins_simulate t fs program p q sound reads image steps) n b.state (start (lowered program) arg b.main)
+    follows = follows t fs (lowered program) pace turns_left (λ n. ShowsTwin t fs (lowered program) p q) (twins_simulate t fs program p q sound reads image) n b.state (start (lowered program) arg main)
         (record {
-          twin = started_with (lowered program) arg b.main b.values;
-          twins = twins_start (lowered program) arg b.main b.values b.is_main b.as_many b.small;
+          twin = started_with (lowered program) arg main b.values;
+          twins = twins_start (lowered program) arg main b.values is_main b.as_many b.small;
           stands = inl b.begins;
         });
   }
 
 pub images_show_all : ImagesShowAll
-images_show_all t fs program p q sound reads image steps arg s b n =
-    runs.all t fs program sound turns_left arg b.turns n s (begins t fs program p q sound reads image steps arg s b (16 * n + 2)) b.few
+images_show_all t fs program p q sound reads image arg main s is_main b n =
+    runs.all t fs program sound turns_left arg b.turns n s (begins t fs program p q sound reads image arg main s is_main b (16 * n + 2)) b.few
 
 pub images_show_no_more : ImagesShowNoMore
-images_show_no_more t fs program p q sound reads image steps arg s b m n paces calm =
-    runs.no_more t fs program sound turns_left arg b.turns m n s (begins t fs program p q sound reads image steps arg s b m) paces calm
+images_show_no_more t fs program p q sound reads image arg main s is_main b m n paces calm =
+    runs.no_more t fs program sound turns_left arg b.turns m n s (begins t fs program p q sound reads image arg main s is_main b m) paces calm

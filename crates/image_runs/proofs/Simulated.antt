@@ -16,7 +16,7 @@ use Rattle.linear_machine.specs.Run.{instruction_in, instruction_at, exec}
 use Rattle.linked_stack.specs.ImagePlan.{Plan}
 use Rattle.seh_ir.specs.Lowered.{lowered}
 use Rattle.whole_runs.specs.Ends.{HasRule}
-use Rattle.whole_runs.specs.Matched.{IsMatched, StepIsMatched}
+use Rattle.whole_runs.specs.Matched.{Moves, IsMatched, StepIsMatched}
 use Rattle.ir_typed.specs.Ready.{IsReady, CanGoOn}
 use Rattle.unset_locals.specs.Reads.{ReadsNoUnset}
 use Rattle.unset_locals.specs.Twins.{AreTwins, GoAsTwins}
@@ -27,13 +27,19 @@ use Rattle.body_steps.specs.Known.{IsKnown, KnownNext}
 use Rattle.body_steps.specs.Laws.{pace, IsPlain}
 use Rattle.body_steps.proofs.Steps.{plain}
 use Rattle.call_steps.proofs.Steps.{returns_are_matched, calls_begin}
-use Rattle.turn_steps.specs.Entries.{Continuations}
 use Rattle.turn_steps.specs.Outcomes.{Stands}
 use Rattle.funclet_ends.proofs.Steps.{funclet_returns_are_matched}
 use Rattle.block_calls.proofs.Steps.{block_calls_are_matched}
 use Rattle.fault_steps.proofs.Steps.{operations, retries}
+use Rattle.service_steps.proofs.Steps.{information_is_matched, puts_are_matched, protects_are_matched}
+use Rattle.raise_steps.proofs.Raising.{raises_are_matched}
+use Rattle.raise_steps.proofs.Unwinding.{local_unwinds_are_matched}
+use Rattle.raise_steps.proofs.Joining.{bodies_go_on}
+use Rattle.c_operations.specs.declared.field.Field.{Field}
+use Rattle.c_operations.specs.declared.built_in.BuiltIn.{BuiltIn}
+use Rattle.c_operations.specs.declared.built_in.BuiltIn.TheVariants.{Put, Protect, RaiseException}
 use Rattle.compiled_images.specs.Sound.{IsSoundImage}
-use Rattle.image_runs.specs.Steps.{StepMatches, StepsAreMatched}
+use Rattle.image_runs.specs.Steps.{StepMatches}
 use Rattle.image_runs.specs.Shown.{ShowsTwin}
 use Rattle.image_runs.specs.Laws.{TwinsSimulate}
 use Rattle.image_runs.proofs.Known.{known, known_next}
@@ -52,17 +58,39 @@ plainly t fs program p q image s d i b known at rule is_plain =
     inl (moves_as t fs program (Begins t fs program p q) (Stands t fs program p q) (λ u e h. inl h) s d i
     (plain t fs program p q image.image image.made s d i b known at is_plain rule))
 
+-- from the beginning of an instruction to that of the next one
+moved : (t : Functions) (fs : List Funclet) (program : LinearProgram) (p : Plan) (q : Sites) (s : State) (d : Configuration) (i : Instruction)
+    → Moves t fs program pace turns_left (Begins t fs program p q) s d i → StepMatches t fs program p q s d i
+moved t fs program p q s d i v = inl (moves_as t fs program (Begins t fs program p q) (Stands t fs program p q) (λ u x h. inl h) s d i v)
+
+-- a filter reads a field of its exception
+informed : (t : Functions) (fs : List Funclet) (program : LinearProgram) (p : Plan) (q : Sites) → IsSoundImage t fs program p q
+    → (s : State) (d : Configuration) (to : Slot) (field : Field) → Begins t fs program p q s d → IsKnown program d → instruction_at program d ≡ Some (instructions.Information to field)
+    → StepMatches t fs program p q s d (instructions.Information to field)
+informed t fs program p q image s d to field b known at =
+    moved t fs program p q s d (instructions.Information to field) (information_is_matched t fs program p q image.image image.made image.informs s d to field b known at)
+
+-- a call of a service
+called_built_in : (t : Functions) (fs : List Funclet) (program : LinearProgram) (p : Plan) (q : Sites) → IsSoundImage t fs program p q
+    → (s : State) (d : Configuration) (f : BuiltIn) (first : ℕ) → Begins t fs program p q s d → IsKnown program d → instruction_at program d ≡ Some (instructions.CallBuiltIn f first)
+    → HasRule (act program (instructions.CallBuiltIn f first) (exec program zero) d) → KnownNext program d (instructions.CallBuiltIn f first) → StepMatches t fs program p q s d (instructions.CallBuiltIn f first)
+called_built_in t fs program p q image s d Put first b known at rule next =
+    moved t fs program p q s d (instructions.CallBuiltIn Put first) (puts_are_matched t fs program p q image.image image.made s d first b known at)
+called_built_in t fs program p q image s d Protect first b known at rule next =
+    moved t fs program p q s d (instructions.CallBuiltIn Protect first) (protects_are_matched t fs program p q image.image image.made s d first b known at)
+called_built_in t fs program p q image s d RaiseException first b known at rule next = raises_are_matched t fs program p q image.image image.made image.flags s d first b known at rule next
+
 -- a return, of a function or of a funclet
-returned : (t : Functions) (fs : List Funclet) (program : LinearProgram) (p : Plan) (q : Sites) → IsSoundImage t fs program p q → Continuations t fs program p q
+returned : (t : Functions) (fs : List Funclet) (program : LinearProgram) (p : Plan) (q : Sites) → IsSoundImage t fs program p q
     → (s : State) (d : Configuration) (from : Slot) → Begins t fs program p q s d → IsKnown program d → instruction_at program d ≡ Some (instructions.Return from)
     → HasRule (act program (instructions.Return from) (exec program zero) d) → KnownNext program d (instructions.Return from) → StepMatches t fs program p q s d (instructions.Return from)
-returned t fs program p q image continuations s d from b known at rule next = by d.frame.body refl
+returned t fs program p q image s d from b known at rule next = by d.frame.body refl
   where
     by : (name : BodyName) → d.frame.body ≡ name → StepMatches t fs program p q s d (instructions.Return from)
     by (FunctionBody f) e =
         matched_as t fs program (Begins t fs program p q) (Stands t fs program p q) (λ u x h. inl h) s d (instructions.Return from)
         (returns_are_matched t fs program p q image.image image.made s d f from b known e at next)
-    by (FuncletBody k) e = funclet_returns_are_matched t fs program p q image.image image.made image.flags continuations s d k from b known e at rule next
+    by (FuncletBody k) e = funclet_returns_are_matched t fs program p q image.image image.made image.flags (bodies_go_on t fs program p q image.image image.made) s d k from b known e at rule next
 
 -- a body calls its `__finally` block
 called_block : (t : Functions) (fs : List Funclet) (program : LinearProgram) (p : Plan) (q : Sites) → IsSoundImage t fs program p q
@@ -73,7 +101,7 @@ called_block t fs program p q image s d k b known at next =
     (block_calls_are_matched t fs program p q image.image image.made image.flags image.separators s d k b known at next)
 
 module _ (program : Program) (sound : IsSound program) (reads : ReadsNoUnset (lowered program)) (t : Functions) (fs : List Funclet) (p : Plan) (q : Sites)
-    (image : IsSoundImage t fs (lowered program) p q) (steps : StepsAreMatched t fs (lowered program) p q) where
+    (image : IsSoundImage t fs (lowered program) p q) where
   abbrev linear : LinearProgram
   linear = lowered program
 
@@ -96,7 +124,7 @@ module _ (program : Program) (sound : IsSound program) (reads : ReadsNoUnset (lo
     begun b (instructions.Compute to o first second) at go rule next =
         carried t fs linear p q c d twins s (instructions.Compute to o first second) go (operations t fs linear p q image.image image.made image.flags s d to o first second (inl b) (known program sound reads c d twins) at rule next)
     begun b (instructions.Information to field) at go rule next =
-        carried t fs linear p q c d twins s (instructions.Information to field) go (steps.information s d (instructions.Information to field) tt b (known program sound reads c d twins) at rule next)
+        carried t fs linear p q c d twins s (instructions.Information to field) go (informed t fs linear p q image s d to field b (known program sound reads c d twins) at)
     begun b (instructions.Jump label) at go rule next =
         carried t fs linear p q c d twins s (instructions.Jump label) go (plainly t fs linear p q image s d (instructions.Jump label) b (known program sound reads c d twins) at rule tt)
     begun b (instructions.JumpIfZero slot label) at go rule next =
@@ -110,17 +138,17 @@ module _ (program : Program) (sound : IsSound program) (reads : ReadsNoUnset (lo
         held : CanGoOn linear d → (f first count : ℕ) → instruction_at linear d ≡ Some (instructions.Call f first count) → length d.frame.temporaries ≡ first + count
         held k f first count at = (ready k.instruction (instructions.Call f first count) k.ready (same_instruction k.instruction (instructions.Call f first count) (sym k.at ∙ at))).0
     begun b (instructions.CallBuiltIn f first) at go rule next =
-        carried t fs linear p q c d twins s (instructions.CallBuiltIn f first) go (steps.built_ins s d (instructions.CallBuiltIn f first) tt b (known program sound reads c d twins) at rule next)
+        carried t fs linear p q c d twins s (instructions.CallBuiltIn f first) go (called_built_in t fs linear p q image s d f first b (known program sound reads c d twins) at rule next)
     begun b (instructions.CallFinally k) at go rule next =
         carried t fs linear p q c d twins s (instructions.CallFinally k) go (called_block t fs linear p q image s d k b (known program sound reads c d twins) at next)
     begun b (instructions.LocalUnwind label) at go rule next =
-        carried t fs linear p q c d twins s (instructions.LocalUnwind label) go (steps.unwinds s d (instructions.LocalUnwind label) tt b (known program sound reads c d twins) at rule next)
+        carried t fs linear p q c d twins s (instructions.LocalUnwind label) go (local_unwinds_are_matched t fs linear p q image.image image.made image.followed image.inside image.flags s d label b (known program sound reads c d twins) at rule next)
     begun b (instructions.Landing to) at go rule next =
         carried t fs linear p q c d twins s (instructions.Landing to) go (plainly t fs linear p q image s d (instructions.Landing to) b (known program sound reads c d twins) at rule tt)
     begun b instructions.Separator at go rule next =
         carried t fs linear p q c d twins s instructions.Separator go (plainly t fs linear p q image s d instructions.Separator b (known program sound reads c d twins) at rule tt)
     begun b (instructions.Return from) at go rule next =
-        carried t fs linear p q c d twins s (instructions.Return from) go (returned t fs linear p q image steps.continuations s d from b (known program sound reads c d twins) at rule next)
+        carried t fs linear p q c d twins s (instructions.Return from) go (returned t fs linear p q image s d from b (known program sound reads c d twins) at rule next)
 
     step : Stands t fs linear p q s d → StepIsMatched t fs linear pace turns_left (ShowsTwin t fs linear p q) s c
     step (inl b) i at rule = begun b i (at_twin i at) (on_twin i at) (rule_twin i at rule) (known_next program sound reads c d twins i (at_twin i at))
@@ -129,7 +157,7 @@ module _ (program : Program) (sound : IsSound program) (reads : ReadsNoUnset (lo
         (retries t fs linear p q image.image image.made image.flags s d i w (known program sound reads c d twins) (at_twin i at) (rule_twin i at rule) (known_next program sound reads c d twins i (at_twin i at)))
 
 pub twins_simulate : TwinsSimulate
-twins_simulate t fs program p q sound reads image steps = record {
+twins_simulate t fs program p q sound reads image = record {
   live = λ s c r. live t fs (lowered program) p q image.image s r.twin r.stands;
-  steps = λ n s c r. step program sound reads t fs p q image steps s c r.twin r.twins r.stands;
+  steps = λ n s c r. step program sound reads t fs p q image s c r.twin r.twins r.stands;
 }

@@ -2,7 +2,6 @@
 use Rattle.std.specs.Prelude.{◌≡◌, ℕ, ◌+◌, ◌*◌, ◌≤◌, true, List, ℤ}
 use Rattle.pe_image.specs.Reading.{IsImage}
 use Rattle.pe_write.specs.Program.{image_of}
-use Rattle.host_model.specs.Loading.{start}
 use Rattle.host_model.specs.Machine.{machine}
 use Rattle.c_checked.specs.Program.{Program}
 use Rattle.c_model.specs.Meaning.{meaning, Calm}
@@ -11,31 +10,18 @@ use Rattle.ir_linked.specs.Pace.{pace_of}
 use Rattle.unset_locals.specs.Reads.{ReadsNoUnset}
 use Rattle.whole_runs.specs.Laws.{ShowsAll, ShowsNoMore}
 use Rattle.program_link.specs.Linked.{linked}
-use Rattle.image_states.specs.Plans.{functions_of, funclets_of, plan_of, sites_of}
+use Rattle.image_starts.specs.Laws.{HasBytes}
 use Rattle.compiled_images.specs.Sound.{IsLinkable}
-use Rattle.image_runs.specs.Steps.{StepsAreMatched}
-use Rattle.image_runs.specs.Shown.{MainBegins}
-
--- what is still taken as a premise of the image's steps
-abbrev pub StepsOfImage : Program → Type 0
-StepsOfImage program = StepsAreMatched (functions_of (lowered program)) (funclets_of (lowered program)) (lowered program) (plan_of (lowered program)) (sites_of (lowered program))
-
--- and of its beginning
-abbrev pub StartOfImage : Program → ℤ → Type 0
-StartOfImage program arg =
-    MainBegins (functions_of (lowered program)) (funclets_of (lowered program)) (lowered program) (plan_of (lowered program)) (sites_of (lowered program)) arg (start (image_of (linked (lowered program))) arg)
 
 -- in 256 n + 256 turns the image shows what the program shows within n steps, and has ended as it ends
 abbrev pub LinkedImagesShowAll : Type 0
 LinkedImagesShowAll =
-    (program : Program) → IsLinkable program → ReadsNoUnset (lowered program) → StepsOfImage program
-    → (bytes : List ℕ) → IsImage bytes (image_of (linked (lowered program))) → (arg : ℤ) → StartOfImage program arg
-    → (n : ℕ) → ShowsAll (meaning program arg n) (machine bytes arg (256 * n + 256))
+    (program : Program) → IsLinkable program → ReadsNoUnset (lowered program)
+    → (bytes : List ℕ) → IsImage bytes (image_of (linked (lowered program))) → HasBytes (lowered program) → (arg : ℤ) (n : ℕ) → ShowsAll (meaning program arg n) (machine bytes arg (256 * n + 256))
 
 -- in m turns it shows no more than (m + 1) * K steps show, where these are calm, and ends only as they end
 abbrev pub LinkedImagesShowNoMore : Type 0
 LinkedImagesShowNoMore =
-    (program : Program) → IsLinkable program → ReadsNoUnset (lowered program) → StepsOfImage program
-    → (bytes : List ℕ) → IsImage bytes (image_of (linked (lowered program))) → (arg : ℤ) → StartOfImage program arg
-    → (m n : ℕ) → (m + 1) * pace_of program ≤ n → Calm program arg n ≡ true
+    (program : Program) → IsLinkable program → ReadsNoUnset (lowered program)
+    → (bytes : List ℕ) → IsImage bytes (image_of (linked (lowered program))) → HasBytes (lowered program) → (arg : ℤ) (m n : ℕ) → (m + 1) * pace_of program ≤ n → Calm program arg n ≡ true
     → ShowsNoMore (meaning program arg n) (machine bytes arg m)

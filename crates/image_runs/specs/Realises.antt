@@ -17,7 +17,6 @@ use Rattle.whole_runs.specs.Ends.{run_end_of}
 use Rattle.whole_runs.specs.Laws.{ShowsNoMore}
 use Rattle.program_link.specs.Linked.{linked}
 use Rattle.compiled_images.specs.Sound.{IsLinkable}
-use Rattle.image_runs.specs.Images.{StepsOfImage, StartOfImage}
 
 -- the bytes are an image of at most 256 MiB that loads. For every argument and every n, what the program shows within n steps the image shows in at most 256 n + 256 turns: its events are the first events of the run, and where the program ends within n steps the run has ended in the same way with no other event.
 pub record Realises (bytes : List ℕ) (program : Program) : Type 0 where
@@ -41,13 +40,8 @@ pub record IsWritten (bytes : List ℕ) (program : Program) : Type 0 where
   pub written : bytes ≡ written (parts_of (linked (lowered program)))
   pub read : IsImage bytes (image_of (linked (lowered program)))
 
--- what is still taken as a premise: steps of the image, and its way to `main`
-pub record IsBridged (program : Program) : Type 0 where
-  pub steps : StepsOfImage program
-  pub starts : (arg : ℕ) → arg < 2 ^ 63 → StartOfImage program (pos arg)
-
 abbrev pub CompiledRealise : Type 0
-CompiledRealise = (program : Program) → IsLinkable program → ReadsNoUnset (lowered program) → IsBridged program → (bytes : List ℕ) → IsWritten bytes program → Realises bytes program
+CompiledRealise = (program : Program) → IsLinkable program → ReadsNoUnset (lowered program) → (bytes : List ℕ) → IsWritten bytes program → Realises bytes program
 
 abbrev pub CompiledShowNothingMore : Type 0
-CompiledShowNothingMore = (program : Program) → IsLinkable program → ReadsNoUnset (lowered program) → IsBridged program → (bytes : List ℕ) → IsWritten bytes program → ShowsNothingMore bytes program
+CompiledShowNothingMore = (program : Program) → IsLinkable program → ReadsNoUnset (lowered program) → (bytes : List ℕ) → IsWritten bytes program → ShowsNothingMore bytes program

@@ -1,6 +1,6 @@
 //! Laws of places in the linear code of a program.
 
-ghost use Rattle.ir_places.specs.Laws.{LoweredIsFollowed, LoweredHasSameRegions, LoweredStaysInside, LoweredHasFlags};
+ghost use Rattle.ir_places.specs.Laws.{LoweredIsFollowed, LoweredHasSameRegions, LoweredStaysInside, LoweredHasFlags, LoweredInformsFilters};
 
 /// An instruction that does nothing is after each that runs `__finally` blocks.
 pub fn lowered_is_followed()
@@ -20,4 +20,9 @@ pub fn lowered_stays_inside()
 /// The flag of each `__finally` block is one of the locals of its body.
 pub fn lowered_has_flags()
     ensures flags { LoweredHasFlags }
+{}
+
+/// Only filters read their exception.
+pub fn lowered_informs_filters()
+    ensures filters { LoweredInformsFilters }
 {}

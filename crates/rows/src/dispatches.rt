@@ -1,10 +1,15 @@
 //! What `exec --trace` shows of images with filters and `__finally` blocks.
 
-use crate::runs::answers_with;
+use crate::image::of_code;
+use crate::runs::{answers, answers_with};
 use eh_tables::ScopeRecord;
 use seh::status::Status;
 use std::test::Fail;
 use test_images::code::{CONTINUED_ACCESS, FILTER_AND_FINALLY, RAISE_IN_FINALLY};
+use test_images::forged::{
+    HARMS_KIND, HARMS_MARK, HARMS_ROW, HARMS_SAVED_STATE, PUSHES_AT_ADDRESS_8, RAISES_AT_THE_GUARD,
+    RETURNS_AS_FILTER, RETURNS_AS_FINALLY, UNWINDS_TO_NO_FRAME, plain, raising,
+};
 use test_images::{Function, Parts, built};
 
 fn scope(begin: u32, end: u32, handler_address: u32, jump_target: u32) -> ScopeRecord {
@@ -106,4 +111,58 @@ fn continued_accesses(rt: HostRuntime) -> Result<(), Fail> {
         lines,
         "",
     )
+}
+
+// The record of the raise is at 0x707FF990; the walk that meets it can't go on.
+#[test]
+fn harmed_records(rt: HostRuntime) -> Result<(), Fail> {
+    let cases: [(&[u8], &str); 4] = [
+        (HARMS_KIND, "stopped BadRecord 00000000707FF990\n"),
+        (HARMS_MARK, "stopped BadRecord 00000000707FF990\n"),
+        (HARMS_ROW, "stopped BadRecord 00000000707FF990\n"),
+        (HARMS_SAVED_STATE, "stopped Backward 00000000707FF990\n"),
+    ];
+    for (filter, line) in cases {
+        let bytes = raising(rt.alloc(), filter)?;
+        answers(&rt, rt.alloc(), &bytes, Status::Stopped, line, "")?;
+    }
+    Ok(())
+}
+
+#[test]
+fn no_records(rt: HostRuntime) -> Result<(), Fail> {
+    let cases: [(&[u8], Status, &str); 5] = [
+        (
+            RETURNS_AS_FILTER,
+            Status::Stopped,
+            "stopped BadRecord 00000000707FFFD8\n",
+        ),
+        (
+            RETURNS_AS_FINALLY,
+            Status::Stopped,
+            "stopped BadRecord 00000000707FFFD8\n",
+        ),
+        (
+            UNWINDS_TO_NO_FRAME,
+            Status::Stopped,
+            "stopped LostFrame 0000000000000000\n",
+        ),
+        (
+            RAISES_AT_THE_GUARD,
+            Status::StackLimit,
+            "stack limit 000000006FFFFFD8\n",
+        ),
+        (
+            PUSHES_AT_ADDRESS_8,
+            Status::StackLimit,
+            "stack limit FFFFFFFFFFFFF9D8\n",
+        ),
+    ];
+    for (text, status, line) in cases {
+        let bytes = plain(rt.alloc(), text)?;
+        answers(&rt, rt.alloc(), &bytes, status, line, "")?;
+    }
+    let bytes = of_code(rt.alloc(), PUSHES_AT_ADDRESS_8)?;
+    let line = "stack limit FFFFFFFFFFFFF9D8\n";
+    answers(&rt, rt.alloc(), &bytes, Status::StackLimit, line, "")
 }

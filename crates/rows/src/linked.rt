@@ -14,6 +14,10 @@ const OPTIONAL: usize = 0x58;
 
 const RDATA: usize = 0x600;
 
+/// Where the jump target of the first scope record stands, of a `main` that has one `__try` and is
+/// the second function: after 8 bytes of the first info, 12 of the second and the table's count.
+const JUMP_TARGET: usize = 0x800 + 24 + 12;
+
 /// How many bytes it has: the headers, and a block of 512 for each section but `.data`.
 const SIZE: usize = 3072;
 
@@ -83,4 +87,17 @@ fn cut_images(rt: HostRuntime) -> Result<(), Fail> {
         }
     }
     Ok(())
+}
+
+// The one scope record's jump target is in `.data`.
+#[test]
+fn landings_in_data(rt: HostRuntime) -> Result<(), Fail> {
+    let alloc = rt.alloc();
+    let text = "void g(void){ RaiseException(0xE0000001,0,0,0); } \
+        int main(void){ __try{ g(); } __except(1){ put(1); } return 0; }";
+    let image = compiled(alloc, text)?;
+    answers(&rt, alloc, &image, Status::Done, "1\nexit 0\n", "")?;
+    let changed = edited(image, JUMP_TARGET, &[0, 0x10, 0, 0]);
+    let line = "stopped Illegal 0000000140001000\n";
+    answers(&rt, alloc, &changed, Status::Stopped, line, "")
 }

@@ -1,8 +1,10 @@
-//! Images for tests, made by hand: code with functions, scope records and funclets ([`code`]), and
-//! the images of such code ([`built`]), as the product's own writers write them.
+//! Images for tests, made by hand: code with functions, scope records and funclets ([`code`]), code
+//! that harms the dispatcher's records ([`forged`]), and the images of such code ([`built`]), as the
+//! product's own writers write them.
 #![tactic(auto)]
 
 mod building;
 pub mod code;
+pub mod forged;
 
 pub use building::{Function, Parts, built};

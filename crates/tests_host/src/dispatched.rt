@@ -12,6 +12,10 @@ use test_images::code::{
     ACCEPTED_FAULT, CONTINUED_ACCESS, CONTINUED_IN_VAIN, CONTINUED_RAISE, FILTER_AND_FINALLY,
     LOCAL_UNWIND, RAISE_IN_FILTER, RAISE_IN_FINALLY,
 };
+use test_images::forged::{
+    HARMS_KIND, HARMS_MARK, HARMS_ROW, HARMS_SAVED_STATE, PUSHES_AT_ADDRESS_8, RAISES_AT_THE_GUARD,
+    RETURNS_AS_FILTER, RETURNS_AS_FINALLY, UNWINDS_TO_NO_FRAME, plain, raising,
+};
 use test_images::{Function, Parts, built};
 
 fn scope(begin: u32, end: u32, handler_address: u32, jump_target: u32) -> ScopeRecord {
@@ -26,7 +30,11 @@ fn scope(begin: u32, end: u32, handler_address: u32, jump_target: u32) -> ScopeR
 /// Runs an image with its trace, and compares the text.
 fn shows(rt: &impl Abort, alloc: Global, parts: Parts<'_>, text: &str) -> Result<(), Fail> {
     let bytes = built(alloc, parts)?;
-    let view = ImageView::read(alloc, &bytes)?;
+    shows_of(rt, alloc, &bytes, text)
+}
+
+fn shows_of(rt: &impl Abort, alloc: Global, bytes: &[u8], text: &str) -> Result<(), Fail> {
+    let view = ImageView::read(alloc, bytes)?;
     let mut host = load(alloc, &view, 0)?;
     let mut out = VecSink::new(alloc);
     let _end = run(&mut host, 100, true, &mut out)?;
@@ -230,43 +238,25 @@ fn a_handler_accepts_a_fault_at_once(rt: HostRuntime) -> Result<(), Fail> {
     shows(&rt, rt.alloc(), parts, lines)
 }
 
-/// What a function of this code and no scope records shows; the code ends with the handler's thunk.
+/// What a function of this code and no scope records shows.
 fn shows_plain(rt: &impl Abort, alloc: Global, text: &[u8], lines: &str) -> Result<(), Fail> {
-    let functions = [Function {
-        begin: 0x2000,
-        end: 0x2020,
-        scopes: &[],
-    }];
-    let parts = Parts {
-        data: &[],
-        text,
-        handler: 0x2020,
-        functions: &functions,
-    };
-    shows(rt, alloc, parts, lines)
+    let bytes = plain(alloc, text)?;
+    shows_of(rt, alloc, &bytes, lines)
 }
 
 #[test]
 fn no_record_is_at_the_returns(rt: HostRuntime) -> Result<(), Fail> {
-    // mov eax, the filter return, then the finally return; jmp rax
-    for text in [
-        [0xB8, 0x60, 0, 0xF0, 0x7F, 0xFF, 0xE0],
-        [0xB8, 0x70, 0, 0xF0, 0x7F, 0xFF, 0xE0],
-    ] {
+    for text in [RETURNS_AS_FILTER, RETURNS_AS_FINALLY] {
         let lines = "stopped BadRecord 00000000707FFFD8\n";
-        shows_plain(&rt, rt.alloc(), &text, lines)?;
+        shows_plain(&rt, rt.alloc(), text, lines)?;
     }
     Ok(())
 }
 
 #[test]
 fn no_record_is_placed_past_the_stack(rt: HostRuntime) -> Result<(), Fail> {
-    // mov esp,0x70000600; mov ecx,0xe0000001; xor edx,edx; call [RaiseException]
-    let text = [
-        0xBC, 0, 6, 0, 0x70, 0xB9, 1, 0, 0, 0xE0, 0x31, 0xD2, 0xFF, 0x15, 0x46, 0x10, 0, 0,
-    ];
     let lines = "raise E0000001 0\nstack limit 000000006FFFFFD8\n";
-    shows_plain(&rt, rt.alloc(), &text, lines)
+    shows_plain(&rt, rt.alloc(), RAISES_AT_THE_GUARD, lines)
 }
 
 #[test]
@@ -281,64 +271,29 @@ fn an_exception_is_unhandled(rt: HostRuntime) -> Result<(), Fail> {
 
 #[test]
 fn an_unwinding_loses_its_frame(rt: HostRuntime) -> Result<(), Fail> {
-    // sub rsp,40; xor ecx,ecx; xor edx,edx; call [_local_unwind]
-    let text = [
-        0x48, 0x83, 0xEC, 0x28, 0x31, 0xC9, 0x31, 0xD2, 0xFF, 0x15, 0x5A, 0x10, 0, 0,
-    ];
     let lines = "stopped LostFrame 0000000000000000\n";
-    shows_plain(&rt, rt.alloc(), &text, lines)
+    shows_plain(&rt, rt.alloc(), UNWINDS_TO_NO_FRAME, lines)
 }
 
-/// What a raise shows to whose record the filter does harm. The code is that of `main`, which raises
-/// E0000001 in a `__try`, from 0x2000 to 0x2012; the filter; and the handler's thunk.
+/// What a raise shows to whose record the filter does harm.
 fn harms(rt: &impl Abort, alloc: Global, filter: &[u8], lines: &str) -> Result<(), Fail> {
-    let mut text = Vec::new(alloc);
-    // sub rsp,40; mov ecx,0xe0000001; xor edx,edx; call [RaiseException]; int3
-    text.extend_from_slice(&[
-        0x48, 0x83, 0xEC, 0x28, 0xB9, 1, 0, 0, 0xE0, 0x31, 0xD2, 0xFF, 0x15, 0x47, 0x10, 0, 0, 0xCC,
-    ])?;
-    text.extend_from_slice(filter)?;
-    let thunk = 0x2000 + (text.len() % 256) as u32;
-    text.extend_from_slice(&[0xFF, 0x25])?;
-    text.extend_from_slice(&(0x305A - thunk).to_le_bytes())?;
-    let record = scope(0x2004, 0x2012, 0x2012, 0x2011);
-    shows_one(
-        rt,
-        alloc,
-        &[],
-        &text,
-        record,
-        [0x2012, 0x2012, thunk],
-        lines,
-    )
+    let bytes = raising(alloc, filter)?;
+    shows_of(rt, alloc, &bytes, lines)
 }
 
-// The record is at 0x707FF990, and RCX is 80 bytes above it.
 #[test]
 fn harmed_records_are_refused(rt: HostRuntime) -> Result<(), Fail> {
-    // mov qword [rcx-40],2; mov eax,1; ret: the kind
-    let kind = [0x48, 0xC7, 0x41, 0xD8, 2, 0, 0, 0, 0xB8, 1, 0, 0, 0, 0xC3];
     let lines = "raise E0000001 0\nfilter 1\nstopped BadRecord 00000000707FF990\n";
-    harms(&rt, rt.alloc(), &kind, lines)?;
-    // mov byte [rcx-48],0; mov eax,1; ret: the mark
-    let mark = [0xC6, 0x41, 0xD0, 0, 0xB8, 1, 0, 0, 0, 0xC3];
-    harms(&rt, rt.alloc(), &mark, lines)?;
-    // mov qword [rcx-24],0; mov eax,1; ret: the next record of the scope table
-    let row = [0x48, 0xC7, 0x41, 0xE8, 0, 0, 0, 0, 0xB8, 1, 0, 0, 0, 0xC3];
+    harms(&rt, rt.alloc(), HARMS_KIND, lines)?;
+    harms(&rt, rt.alloc(), HARMS_MARK, lines)?;
     let lines = "raise E0000001 0\nfilter 1\nanswer 1\nstopped BadRecord 00000000707FF990\n";
-    harms(&rt, rt.alloc(), &row, lines)
+    harms(&rt, rt.alloc(), HARMS_ROW, lines)
 }
 
 #[test]
 fn a_walk_does_not_go_back(rt: HostRuntime) -> Result<(), Fail> {
-    // sub rsp,40; mov rax,[rcx+8]; lea rdx,[rcx-80]; mov [rax+0x98],rdx: RSP of the saved state is
-    // the record's own address; mov ecx,0xe0000002; xor edx,edx; call [RaiseException]
-    let filter = [
-        0x48, 0x83, 0xEC, 0x28, 0x48, 0x8B, 0x41, 8, 0x48, 0x8D, 0x51, 0xB0, 0x48, 0x89, 0x90,
-        0x98, 0, 0, 0, 0xB9, 2, 0, 0, 0xE0, 0x31, 0xD2, 0xFF, 0x15, 0x26, 0x10, 0, 0, 0xCC,
-    ];
     let lines = "raise E0000001 0\nfilter 1\nraise E0000002 0\nstopped Backward 00000000707FF990\n";
-    harms(&rt, rt.alloc(), &filter, lines)
+    harms(&rt, rt.alloc(), HARMS_SAVED_STATE, lines)
 }
 
 #[test]
@@ -361,16 +316,8 @@ fn a_landing_is_no_code(rt: HostRuntime) -> Result<(), Fail> {
 
 #[test]
 fn a_stack_ends_below_address_0(rt: HostRuntime) -> Result<(), Fail> {
-    // mov rsp,8; push rax
-    let text = [0x48, 0xC7, 0xC4, 8, 0, 0, 0, 0x50];
-    let parts = Parts {
-        data: &[],
-        text: &text,
-        handler: 0x2020,
-        functions: &[],
-    };
     let lines = "raise C0000005 0 write 0000000000000000\nstack limit FFFFFFFFFFFFF9D8\n";
-    shows(&rt, rt.alloc(), parts, lines)
+    shows_plain(&rt, rt.alloc(), PUSHES_AT_ADDRESS_8, lines)
 }
 
 // A hundred thousand rows whose filters fall by address, and then some below: what is gathered at a
