@@ -1,57 +1,59 @@
 -- The image of a text, by the program that the text is.
-use Rattle.std.proofs.Common.{◌≡◌, ◌∙◌, ℕ, List, Option, Some, None, refl, sym, ap, subst}
+use Rattle.std.proofs.Common.{◌≡◌, ◌≤◌, ◌<◌, ◌∙◌, ℕ, List, length, sym, ap, subst, arith}
+use Rattle.std.specs.List.{AllByRecursion}
+use Rattle.accepted_images.proofs.Accepted.{realise, nothing_more}
 use Rattle.c_checked.specs.Program.{Program}
-use Rattle.c_first.specs.First.{first}
-use Rattle.c_meaning.specs.Syntax.{Statement}
+use Rattle.c_parse.specs.Nodes.{nodes_of}
+use Rattle.c_parse.proofs.Beyond.{few_tokens}
+use Rattle.c_parse.proofs.Nodes as nodes
 use Rattle.c_resolved.specs.Program.{resolve}
 use Rattle.c_syntax.specs.Program.{ExternalDeclaration}
 use Rattle.c_text.specs.Texts.{IsAccepted, IsCheckedAs}
-use Rattle.image_link.specs.Realises.{Realises}
+use Rattle.code_bounds.proofs.Fitting.{texts_fit}
+use Rattle.image_runs.specs.Realises.{IsWritten}
 use Rattle.linear_code.specs.Program.{LinearProgram}
 use Rattle.pe_image.specs.Reading.{IsImage}
 use Rattle.pe_write.specs.Program.{parts_of, image_of}
 use Rattle.pe_write.specs.Written.{written}
 use Rattle.program_link.specs.Fits.{FitsProgram}
 use Rattle.program_link.specs.Linked.{linked}
-use Rattle.seh.specs.declared.refusal.Refusal.{Refusal}
-use Rattle.seh.specs.declared.refusal.Refusal.TheVariants as refusals
-use Rattle.seh.specs.Images.{IsLinkedTo, IsUnlinkable, IsCompiled, IsLinkRefusal, IsTextRefusal}
+use Rattle.seh.specs.Images.{IsCompiled}
 use Rattle.seh_ir.specs.Lowered.{lowered}
-
-one : (p q : List Statement) → Some p ≡ Some q → p ≡ q
-one p q e = cc
-
--- of a program of the first part
-pub of_first : (text image : List ℕ) (whole : List ExternalDeclaration) (p : List Statement) → IsAccepted text whole → first text whole ≡ Some p → Realises image p → IsCompiled text image
-of_first text image whole p accepted is real = record {
-  whole = whole;
-  accepted = accepted;
-  realises = λ q that. subst (Realises image) (one p q (sym is ∙ that)) real;
-  linked = λ none. let e : Some p ≡ None = sym is ∙ none in absurd (cc);
-}
-
--- of each other program
-pub of_other : (text image : List ℕ) (whole : List ExternalDeclaration) (p : Program) → IsCheckedAs text whole p → first text whole ≡ None → IsLinkedTo p image → IsCompiled text image
-of_other text image whole p checked none link = record {
-  whole = whole;
-  accepted = checked.accepted;
-  realises = λ q that. let e : None ≡ Some q = sym none ∙ that in absurd (cc);
-  linked = λ other. subst (λ (r : Program). IsLinkedTo r image) checked.resolved link;
-}
-
-pub of_refusal : (text : List ℕ) (whole : List ExternalDeclaration) (p : Program) (e : Refusal) → IsCheckedAs text whole p → first text whole ≡ None → IsLinkRefusal p e → IsTextRefusal text e
-of_refusal text whole p refusals.TooLarge checked none h = record { whole = whole; accepted = checked.accepted; other = none; large = subst IsUnlinkable checked.resolved h }
-of_refusal text whole p refusals.NoMemory checked none h = tt
-of_refusal text whole p e checked none h = absurd h
 
 -- ---- by linear code
 
-pub of_linear : (program : Program) (p : LinearProgram) (image : List ℕ) → p ≡ lowered program → FitsProgram p → image ≡ written (parts_of (linked p)) → IsImage image (image_of (linked p)) → IsLinkedTo program image
-of_linear program p image e fits bytes read = record {
-  fits = subst FitsProgram e fits;
-  bytes = bytes ∙ ap (λ (q : LinearProgram). written (parts_of (linked q))) e;
+pub of_linear : (program : Program) (p : LinearProgram) (image : List ℕ) → p ≡ lowered program → AllByRecursion (λ b. b < 256) image → image ≡ written (parts_of (linked p)) → IsImage image (image_of (linked p)) → IsWritten image program
+of_linear program p image e octets bytes read = record {
+  octets = octets;
+  written = bytes ∙ ap (λ (q : LinearProgram). written (parts_of (linked q))) e;
   read = subst (λ (q : LinearProgram). IsImage image (image_of (linked q))) e read;
 }
 
-pub unlinkable : (program : Program) (p : LinearProgram) → p ≡ lowered program → (FitsProgram p → ⊥) → IsUnlinkable program
-unlinkable program p e large fits = large (subst FitsProgram (sym e) fits)
+-- ---- of accepted texts
+
+-- a program has no more nodes than its text has bytes
+few : (text : List ℕ) (whole : List ExternalDeclaration) → IsAccepted text whole → nodes_of whole ≤ length text
+few text whole a =
+    let tokens = few_tokens text a.read.tokens a.read.lexed in
+    let count = nodes.program text whole a.read.tokens a.read.derives in
+    omega arith
+
+-- each is within the limits of linking
+pub accepted_fits : (text : List ℕ) (whole : List ExternalDeclaration) (p : Program) → length text ≤ 1048576 → IsCheckedAs text whole p → FitsProgram (lowered p)
+accepted_fits text whole p short checked =
+    let a = checked.accepted in
+    subst (λ (r : Program). FitsProgram (lowered r)) (sym checked.resolved)
+    (texts_fit text a.read.tokens whole a.read.lexed a.read.derives a.read.within a.rules short)
+
+pub of_checked : (text image : List ℕ) (whole : List ExternalDeclaration) (p : Program) → length text ≤ 1048576 → IsCheckedAs text whole p → IsWritten image p → IsCompiled text image
+of_checked text image whole p short checked link =
+    let a = checked.accepted in
+    let w : IsWritten image (resolve text whole).program = subst (λ (r : Program). IsWritten image r) checked.resolved link in
+    let fits = texts_fit text a.read.tokens whole a.read.lexed a.read.derives a.read.within a.rules short in
+    record {
+      whole = whole;
+      accepted = a;
+      linked = w;
+      realises = realise text whole image a.read.within a.rules fits w;
+      no_more = nothing_more text whole image a.read.within a.rules fits w (length text) (few text whole a);
+    }

@@ -5,24 +5,35 @@ use Rattle.host_model.specs.Laws.{Covers}
 use Rattle.host_model.specs.Machine.{Shown, machine}
 use Rattle.host_model.proofs.Longer.{covers_then, images_cover}
 use Rattle.seh_host.specs.Turns.{end_within}
-use Rattle.c_meaning.specs.Meaning.{meaning}
+use Rattle.c_model.specs.Meaning.{meaning}
+use Rattle.c_resolved.specs.Program.{resolve}
+use Rattle.whole_runs.specs.Ends.{run_end_of}
+use Rattle.whole_runs.specs.Laws.{ShowsNoMore}
 use Rattle.seh.specs.Answers.{shown_by}
-use Rattle.seh.specs.Headline.{Headline}
+use Rattle.seh.specs.Headline.{Headline, NothingMore}
 
 pub headline : Headline
-headline source image compiled program is options arg n low enough =
-    let real = compiled.realises program is in
+headline source image compiled options arg n low enough =
+    let program = (resolve source compiled.whole).program in
+    let real = compiled.realises in
     let k = 256 * n + 256 in
     let j = options.turns - k in
     let meant = meaning program (pos arg) n in
+    let end = run_end_of meant.end in
     let le = enough.turns in
     let same : k + j ≡ options.turns = omega arith in
-    let covers : Covers meant.events meant.end (shown_by options image) =
-    subst (λ (m : ℕ). Covers meant.events meant.end (machine image options.argument m)) same
-    (subst (λ (a : ℤ). Covers meant.events meant.end (machine image a (k + j))) (sym enough.argument)
-    (covers_then meant.events meant.end (machine image (pos arg) k) (machine image (pos arg) (k + j)) (real.shows arg n low) (images_cover image (pos arg) k j))) in
+    let covers : Covers meant.events end (shown_by options image) =
+    subst (λ (m : ℕ). Covers meant.events end (machine image options.argument m)) same
+    (subst (λ (a : ℤ). Covers meant.events end (machine image a (k + j))) (sym enough.argument)
+    (covers_then meant.events end (machine image (pos arg) k) (machine image (pos arg) (k + j)) (real.shows arg n low) (images_cover image (pos arg) k j))) in
     record {
       covers = covers;
       ended = λ e is. ap (λ (x : Shown). end_within options.turns x.end) (covers.ends e is);
       whole = λ e is. ap (λ (x : Shown). text x.events (end_within options.turns x.end) options.trace) (covers.ends e is);
     }
+
+pub nothing_more : NothingMore
+nothing_more source image compiled options arg n low same paces calm =
+    let program = (resolve source compiled.whole).program in
+    subst (λ (a : ℤ). ShowsNoMore (meaning program (pos arg) n) (machine image a options.turns)) (sym same)
+    (compiled.no_more arg options.turns n low paces calm)

@@ -20,6 +20,5 @@ of_image options text image out out' (Err r) compiled h = absurd h
 -- a text that wasn't compiled
 pub of_refusal : (options : RunOptions) (text : List ℕ) (out : Stream) (e : Refusal) → IsTextRefusal text e → IsTextRunAnswer options text out out (Err e)
 of_refusal options text out (refusals.Text e) h = (h, refl)
-of_refusal options text out refusals.TooLarge h = (h, refl)
 of_refusal options text out refusals.NoMemory h = refl
 of_refusal options text out e h = absurd h

@@ -23,7 +23,6 @@ lost_all limit source source' bytes input = (
 pub from_text : (text : List ℕ) (source source' out out' : Stream) (answer : Result Outcome Refusal) → IsInput text_limit source source' text → IsCompileAnswer text out out' answer → IsInputAnswer text_limit IsCompileAnswer source source' out out' answer
 from_text text source source' out out' (Ok done) input h = record { bytes = text; input = input; comes = h }
 from_text text source source' out out' (Err (refusals.Text e)) input h = record { bytes = text; input = input; comes = h }
-from_text text source source' out out' (Err refusals.TooLarge) input h = record { bytes = text; input = input; comes = h }
 from_text text source source' out out' (Err refusals.WriteFault) input h = record { bytes = text; input = input; comes = h }
 from_text text source source' out out' (Err refusals.NoMemory) input h = (lost_all text_limit source source' text input, h)
 from_text text source source' out out' (Err r) input h = absurd h
@@ -32,7 +31,6 @@ from_text text source source' out out' (Err r) input h = absurd h
 pub from_run : (options : RunOptions) (text : List ℕ) (source source' out out' : Stream) (answer : Result Outcome Refusal) → IsInput text_limit source source' text → IsTextRunAnswer options text out out' answer → IsInputAnswer text_limit (IsTextRunAnswer options) source source' out out' answer
 from_run options text source source' out out' (Ok done) input h = record { bytes = text; input = input; comes = h }
 from_run options text source source' out out' (Err (refusals.Text e)) input h = record { bytes = text; input = input; comes = h }
-from_run options text source source' out out' (Err refusals.TooLarge) input h = record { bytes = text; input = input; comes = h }
 from_run options text source source' out out' (Err (refusals.Image e)) input h = record { bytes = text; input = input; comes = h }
 from_run options text source source' out out' (Err (refusals.Load e)) input h = record { bytes = text; input = input; comes = h }
 from_run options text source source' out out' (Err refusals.WriteFault) input h = record { bytes = text; input = input; comes = h }

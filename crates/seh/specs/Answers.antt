@@ -20,7 +20,7 @@ use Rattle.seh.specs.declared.outcome.Outcome.{Outcome}
 use Rattle.seh.specs.declared.outcome.Outcome.TheVariants.{Compiled, Ran, Viewed}
 use Rattle.seh.specs.declared.refusal.Refusal.{Refusal}
 use Rattle.seh.specs.declared.refusal.Refusal.TheVariants as refusals
-use Rattle.seh.specs.Images.{IsCompiled, IsTooLarge}
+use Rattle.seh.specs.Images.{IsCompiled}
 use Rattle.seh.specs.Streams.{Stream}
 
 -- a text has at most so many bytes
@@ -91,7 +91,6 @@ IsShowAnswer bytes out out' answer = ⊥
 abbrev pub IsCompileAnswer : Judged
 IsCompileAnswer text out out' (Ok Compiled) = (image : List ℕ) × IsCompiled text image × Grew out.bytes image out'.bytes
 IsCompileAnswer text out out' (Err (refusals.Text e)) = IsRefusedText text e × Quiet out out'
-IsCompileAnswer text out out' (Err refusals.TooLarge) = IsTooLarge text × Quiet out out'
 IsCompileAnswer text out out' (Err refusals.WriteFault) = (image : List ℕ) × IsCompiled text image × Rose out.faults out'.faults × ((count : ℕ) × TookPart out.bytes image out'.bytes count)
 IsCompileAnswer text out out' (Err refusals.NoMemory) = Quiet out out'
 IsCompileAnswer text out out' answer = ⊥
@@ -101,7 +100,6 @@ IsCompileAnswer text out out' answer = ⊥
 -- what comes of a text that is compiled in memory and run: what comes of its image, or the refusal of the text
 abbrev pub IsTextRunAnswer : RunOptions → Judged
 IsTextRunAnswer options text out out' (Err (refusals.Text e)) = IsRefusedText text e × Quiet out out'
-IsTextRunAnswer options text out out' (Err refusals.TooLarge) = IsTooLarge text × Quiet out out'
 IsTextRunAnswer options text out out' (Err refusals.NoMemory) = Quiet out out'
 IsTextRunAnswer options text out out' answer = (image : List ℕ) × IsCompiled text image × IsRunAnswer options image out out' answer
 

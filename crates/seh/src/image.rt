@@ -1,39 +1,41 @@
 //! The image of a text.
 
-ghost use Rattle.std.specs.Prelude.{◌≡◌, ◌≤◌, length, IfOk, IfErr};
+ghost use Rattle.std.specs.Prelude.{◌≡◌, ◌≤◌, ◌<◌, ℕ, length, IfOk, IfErr};
+ghost use Rattle.std.specs.List.{AllByRecursion};
 ghost use Rattle.c_checked.specs.Whole.{program};
-ghost use Rattle.seh.specs.Images.{IsLinkedTo, IsCompiled, IsLinkRefusal, IsTextRefusal};
+ghost use Rattle.program_link.specs.Fits.{FitsProgram};
+ghost use Rattle.image_runs.specs.Realises.{IsWritten};
+ghost use Rattle.seh.specs.Images.{IsCompiled, IsTextRefusal};
+ghost use Rattle.seh_ir.specs.Lowered.{lowered};
 
 use crate::refusal::Refusal;
 use c_checked::checked::Checked;
-use c_first::first::{FirstErr, first_of};
 use c_text::accepting::accept;
-use image_link::link::compile as compile_first;
-use program_fits::fits;
 use program_link::link::compile_program;
 use seh_ir::lower::lower;
-use std::alloc::Global;
+use std::alloc::{AllocError, Global};
 
-/// The image that a checked program is linked to.
-fn linked_image(alloc: Global, checked: &Checked) -> Result<Vec<u8>, Refusal>
-    ensures found { IfOk result (λ image. IsLinkedTo (program checked.now) image.items) }
-    ensures refused { IfErr result (λ e. IsLinkRefusal (program checked.now) e) }
+/// Each byte of an image is below 256: what reads them knows it, and so it is told here.
+fn bytes_are_octets(bytes: &[u8])
+    ensures { AllByRecursion (λ (b : ℕ). b < 256) bytes.now }
 {
-    let linear = match lower(alloc, checked) {
-        Ok(linear) => linear,
-        Err(_) => return Err(Refusal::NoMemory),
-    };
-    if !fits(&linear) {
-        return Err(Refusal::TooLarge);
-    }
-    match compile_program(alloc, &linear) {
-        Ok(image) => Ok(image),
-        Err(_) => Err(Refusal::NoMemory),
+    for byte in bytes {
+        let _octet = *byte;
     }
 }
 
-/// The image of a text: of one whose program is of the first part as `image_link` writes it, of each
-/// other one by its linear code.
+/// The image that a checked program is linked to.
+fn linked_image(alloc: Global, checked: &Checked) -> Result<Vec<u8>, AllocError>
+    requires { FitsProgram (lowered (program checked.now)) }
+    ensures { IfOk result (λ image. IsWritten image.items (program checked.now)) }
+{
+    let linear = lower(alloc, checked)?;
+    let image = compile_program(alloc, &linear)?;
+    bytes_are_octets(&image);
+    Ok(image)
+}
+
+/// The image of an accepted text, or why it isn't compiled.
 pub fn image_of(alloc: Global, text: &[u8]) -> Result<Vec<u8>, Refusal>
     requires { length text.now ≤ 1048576 }
     ensures found { IfOk result (λ image. IsCompiled text.now image.items) }
@@ -43,12 +45,8 @@ pub fn image_of(alloc: Global, text: &[u8]) -> Result<Vec<u8>, Refusal>
         Ok(accepted) => accepted,
         Err(error) => return Err(Refusal::Text(error)),
     };
-    match first_of(alloc, text, &accepted.program.external_declarations) {
-        Ok(first) => match compile_first(alloc, &first) {
-            Ok(image) => Ok(image),
-            Err(_) => Err(Refusal::NoMemory),
-        },
-        Err(FirstErr::Unsupported) => linked_image(alloc, &accepted.checked),
-        Err(FirstErr::Memory) => Err(Refusal::NoMemory),
+    match linked_image(alloc, &accepted.checked) {
+        Ok(image) => Ok(image),
+        Err(_) => Err(Refusal::NoMemory),
     }
 }

@@ -1,11 +1,17 @@
 //! What the commands come to together.
 
-ghost use Rattle.seh.specs.Headline.{Headline};
+ghost use Rattle.seh.specs.Headline.{Headline, NothingMore};
 
-/// The headline: where `compile` answered with an image for a text whose program is of the first part,
-/// each run of `exec` on it with an argument from 0 to below 2^63 and at least `256 * n + 256` turns
-/// shows first what the text's program shows within n steps. Where the program ends within n steps, the
-/// run has the same end, and its whole text is that of the program's meaning.
+/// The headline: where `compile` answered with an image for a text, each run of `exec` on it with an
+/// argument from 0 to below 2^63 and at least `256 * n + 256` turns shows first what the text's program
+/// shows within n steps. Where the program returns or dies of an exception within n steps, the run has
+/// the same end, and its whole text is that of the program's meaning.
+///
+/// And nothing more: the events of a run are the first that the program shows within
+/// `(turns + 1) * (8 * L + 256)` steps, with L the length of the text in bytes, and where it has ended
+/// the program has ended so, as long as within these steps it touches no reserved byte and is never
+/// more than 1,000 deep.
 pub fn headline()
-    ensures { Headline }
+    ensures shows { Headline }
+    ensures nothing_more { NothingMore }
 {}

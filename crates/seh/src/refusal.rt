@@ -26,8 +26,6 @@ pub enum Refusal {
     TooLong { limit: u64 },
     /// The text isn't accepted.
     Text(TextErr),
-    /// The program's code or tables are too large for an image.
-    TooLarge,
     /// The bytes are no image.
     Image(ImageErr),
     /// The image can't be loaded, or its function table can't be read.
@@ -48,7 +46,6 @@ impl Refusal {
             Refusal::ReadFault => Status::ReadFault,
             Refusal::TooLong { .. } => Status::TooLong,
             Refusal::Text(error) => text_status(error),
-            Refusal::TooLarge => Status::Refused,
             Refusal::Image(ImageErr::Memory) | Refusal::Load(LoadErr::Memory) => Status::NoMemory,
             Refusal::Image(_) | Refusal::Load(_) => Status::Image,
             Refusal::WriteFault => Status::WriteFault,
@@ -274,7 +271,6 @@ fn refusal_text(refusal: &Refusal) -> Line
             line
         }
         Refusal::Text(error) => text_line(error),
-        Refusal::TooLarge => plain(b"refused TooLarge 0"),
         Refusal::Image(error) => image_text(error),
         Refusal::Load(error) => load_text(error),
         Refusal::WriteFault => plain(b"write fault"),

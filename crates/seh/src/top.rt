@@ -42,8 +42,7 @@ fn answer<S: Source, O: Sink>(
 /// Carries out the command that the words, those after the program's name, ask for.
 ///
 /// `compile` reads a text of C of at most 1 MiB from the source and writes the image that it is
-/// compiled to. Of a program of the first part (`c_first`) the image does what the program means; of
-/// each other program it is the one that its linear code is linked to.
+/// compiled to, which does what the text's program means, and nothing more.
 ///
 /// `exec` reads an image from the source, runs it with the argument `--arg` for at most `--turns`
 /// turns, 0 and 10,000,000 where they aren't given, and writes the text of its run to `out`, with

@@ -1,5 +1,0 @@
-pub mod Syntax
-pub mod Programs
-pub mod Meaning
-pub mod Steps
-pub mod Worked

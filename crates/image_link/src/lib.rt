@@ -1,4 +1,0 @@
-//! From accepted programs to images.
-#![tactic(auto)]
-
-pub mod link;

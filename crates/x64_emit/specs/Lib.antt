@@ -1,4 +1,0 @@
-pub mod Code
-pub mod Standing
-pub mod Correct
-pub mod Thunk
