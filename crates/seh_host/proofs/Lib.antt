@@ -1,11 +1,5 @@
 pub mod Standing
 pub mod Runs
 pub mod Slots
-pub mod Placing
-pub mod Rows
-pub mod Leading
-pub mod Returning
-pub mod Faults
-pub mod Turning
 pub mod Loaded
 pub mod Writing

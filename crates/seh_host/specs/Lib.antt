@@ -2,5 +2,4 @@ pub mod Mapping
 pub mod Hosts
 pub mod Running
 pub mod Turns
-pub mod Outcomes
 pub mod Writing

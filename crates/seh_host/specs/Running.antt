@@ -1,25 +1,17 @@
 -- What a host stands for.
-use Rattle.std.specs.Prelude.{ℕ, List, [], ℤ, Option, Some, None}
-use Rattle.seh_num.specs.declared.end.RunEnd.{RunEnd}
-use Rattle.flat_memory.specs.Memory.{Memory}
-use Rattle.x64_machine.specs.declared.cpu.Cpu.{Cpu}
-use Rattle.x64_machine.specs.Effect.{state}
+use Rattle.std.specs.Prelude.{ℕ, List, [], ℤ}
 use Rattle.virtual_unwind.specs.CallerOf.{Functions, functions_of}
 use Rattle.x64_memory.specs.PageMaps.{memory_of}
+use Rattle.seh_dispatch.specs.Ends.{left}
 use Rattle.seh_host.specs.declared.host.Host as code
 use Rattle.host_model.specs.declared.funclet.Funclet.{Funclet}
-use Rattle.host_model.specs.HostStep.{Host, Live, Ended, host, next, shown_next}
+use Rattle.host_model.specs.HostStep.{Host, host, next, shown_next}
 use Rattle.seh_num.specs.declared.event.Event.{Event}
 use Rattle.host_model.specs.Machine.{Shown, run, functions_in}
 use Rattle.host_model.specs.Laws.{after_turns, shown_in_turns}
 use Rattle.host_model.specs.Funclets.{funclets}
 use Rattle.host_model.specs.Loading.{start}
 use Rattle.pe_image.specs.Image.{Image}
-
--- the host that is left
-abbrev pub left : Cpu → Memory → Option RunEnd → Host
-left c m None = Live (state c m)
-left c m (Some end) = Ended end
 
 -- a run's function table and funclets, which stay as they are, and its host
 pub record Running : Type 0 where

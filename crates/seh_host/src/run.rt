@@ -11,8 +11,8 @@ ghost use Rattle.seh_host.specs.Writing.{Stopped, Written};
 ghost use Rattle.seh_host.specs.Turns.{answer_of, end_within, taken_before};
 
 use crate::RunEnd;
-use crate::advancing::advance;
 use crate::host::{Host, Turn};
+use seh_dispatch::advancing::advance;
 use seh_io::receiver::{Events, Lines};
 use seh_io::sink::Sink;
 

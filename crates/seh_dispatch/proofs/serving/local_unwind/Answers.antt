@@ -1,0 +1,18 @@
+use Rattle.std.proofs.Common.{ℕ, sym, ap, ◌∙◌}
+use Rattle.virtual_unwind.specs.CallerOf.{functions_of}
+use Rattle.x64_instr.specs.declared.register.Reg.TheVariants.{Rcx, Rdx}
+use Rattle.x64_machine.specs.Effect.{register, state}
+use Rattle.host_model.specs.Dispatch.{unwound_locally}
+use Rattle.seh_dispatch.proofs.Returning.{returning_to}
+use Rattle.seh_dispatch.proofs.serving.local_unwind.Goals as goal
+
+pub returns-in-Some : goal.returns-in-Some
+returns-in-Some g c =
+    let t = functions_of c.args.tables.now in
+    let cpu = c.args.cpu.now in
+    let m = g.S.AddressSpace.memory c.args.space.now in
+    let s = state cpu m in
+    c.unwind_locally.ensures
+    ∙ ap (λ (f : ℕ). unwound_locally t s f c.register-target.result c.in-Some.after) c.register-frame.ensures
+    ∙ ap (λ (a : ℕ). unwound_locally t s (register cpu Rcx) a c.in-Some.after) c.register-target.ensures
+    ∙ sym (returning_to cpu c.in-Some.after m (λ u. unwound_locally t s (register cpu Rcx) (register cpu Rdx) u.cpu) c.in-Some.ensures)

@@ -1,0 +1,24 @@
+-- What is left after a turn.
+use Rattle.std.specs.Prelude.{Bool, true, false, ◌==◌, Option, Some, None}
+use Rattle.seh_num.specs.declared.width.Width.TheVariants.{W32}
+use Rattle.seh_num.specs.Widths.{signed}
+use Rattle.seh_num.specs.declared.end.RunEnd.{RunEnd}
+use Rattle.seh_num.specs.declared.end.RunEnd.TheVariants.{Exit}
+use Rattle.flat_memory.specs.Memory.{Memory}
+use Rattle.x64_instr.specs.declared.register.Reg.TheVariants.{Rax}
+use Rattle.x64_machine.specs.declared.cpu.Cpu.{Cpu}
+use Rattle.x64_machine.specs.Effect.{register, state}
+use Rattle.host_model.specs.HostStep.{Host, Live, Ended}
+
+-- the host that is left
+abbrev pub left : Cpu → Memory → Option RunEnd → Host
+left c m None = Live (state c m)
+left c m (Some end) = Ended end
+
+-- the end of a run whose RIP is 0
+abbrev pub over_if : Cpu → Bool → Option RunEnd
+over_if c true = Some (Exit (signed W32 (register c Rax)))
+over_if c false = None
+
+abbrev pub over_cpu : Cpu → Option RunEnd
+over_cpu c = over_if c (c.rip == 0)

@@ -1,0 +1,50 @@
+-- What the code's outcomes stand for.
+use Rattle.std.specs.Prelude.{ℕ, ◌+◌, ◌%◌, ◌^◌, List, [], ◌++◌, Option, Some, None, Result, Ok, Err}
+use Rattle.seh_num.specs.declared.width.Width.TheVariants.{W64}
+use Rattle.flat_memory.specs.declared.access.RefusedAccess.{RefusedAccess}
+use Rattle.x64_instr.specs.declared.register.Reg.TheVariants.{Rsp}
+use Rattle.seh_num.specs.declared.event.Event.{Event}
+use Rattle.seh_num.specs.declared.end.Reason.TheVariants as reasons
+use Rattle.seh_num.specs.declared.end.RunEnd.TheVariants as ends
+use Rattle.flat_memory.specs.Memory.{Memory}
+use Rattle.x64_machine.specs.declared.cpu.Cpu.{Cpu}
+use Rattle.x64_machine.specs.Effect.{register, with_register, state}
+use Rattle.seh_walk.specs.declared.stop_cause.StopCause.{StopCause}
+use Rattle.host_model.specs.Turns.{Turn, Continues, Ends}
+use Rattle.image_funclets.specs.Listed.{listed}
+use Rattle.seh_dispatch.specs.declared.outcome.Outcome as code
+use Rattle.seh_dispatch.specs.declared.outcome.Outcome.TheVariants as outcomes
+use Rattle.seh_dispatch.specs.declared.outcome.Led.{Led}
+use Rattle.seh_dispatch.specs.declared.outcome.Made.{Made}
+
+-- events before those of a turn
+abbrev pub led : List Event → Turn → Turn
+led es (Continues s fs) = Continues s (es ++ fs)
+led es (Ends fs end) = Ends (es ++ fs) end
+
+abbrev pub turn_of : Cpu → Memory → code.Outcome → Turn
+turn_of c m (outcomes.Continues shown) = Continues (state c m) (listed shown)
+turn_of c m (outcomes.Ends end) = Ends [] end
+
+abbrev pub led_turn : Cpu → Memory → Led → Turn
+led_turn c m made = led (listed made.first) (turn_of c m made.outcome)
+
+abbrev pub made_turn : Cpu → Memory → Made → Turn
+made_turn c m made = led (listed made.first) (led_turn c m made.rest)
+
+abbrev pub quiet : code.Outcome → Led
+quiet o = record { first = None; outcome = o }
+
+abbrev pub all_quiet : code.Outcome → Made
+all_quiet o = record { first = None; rest = quiet o }
+
+abbrev pub stopped_outcome : StopCause → code.Outcome
+stopped_outcome y = outcomes.Ends (ends.Stopped y.reason y.address)
+
+abbrev pub bad_record : ℕ → code.Outcome
+bad_record at = stopped_outcome (record { reason = reasons.BadRecord; address = at })
+
+-- the processor after a service's return
+abbrev pub back_of : Cpu → Result ℕ RefusedAccess → Option Cpu
+back_of c (Ok a) = Some (record (with_register W64 c Rsp ((register c Rsp + 8) % 2 ^ 64)) { rip = a })
+back_of c (Err refused) = None

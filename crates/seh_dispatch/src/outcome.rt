@@ -1,0 +1,48 @@
+ghost use Rattle.std.specs.Prelude.{◌≡◌};
+ghost use Rattle.seh_dispatch.specs.Outcomes as spec;
+
+use seh_num::end::RunEnd;
+use seh_num::event::Event;
+
+/// What a part of a turn comes to.
+#[derive(Clone, Copy, Debug, PartialEq, Eq)]
+pub enum Outcome {
+    /// The run continues, and this is shown.
+    Continues(Option<Event>),
+    /// The run has ended.
+    Ends(RunEnd),
+}
+
+/// What is shown first, and what follows.
+#[derive(Clone, Copy, Debug, PartialEq, Eq)]
+pub struct Led {
+    pub first: Option<Event>,
+    pub outcome: Outcome,
+}
+
+/// A turn: what is shown first, and what follows.
+#[derive(Clone, Copy, Debug, PartialEq, Eq)]
+pub struct Made {
+    pub first: Option<Event>,
+    pub rest: Led,
+}
+
+/// Nothing is shown first.
+pub fn quiet(outcome: Outcome) -> Led
+    ensures { result ≡ spec.quiet outcome }
+{
+    Led {
+        first: None,
+        outcome,
+    }
+}
+
+/// Nothing is shown first.
+pub fn all_quiet(outcome: Outcome) -> Made
+    ensures { result ≡ spec.all_quiet outcome }
+{
+    Made {
+        first: None,
+        rest: quiet(outcome),
+    }
+}
