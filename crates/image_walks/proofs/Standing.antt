@@ -22,14 +22,15 @@ use Rattle.template_code.proofs.Sizes.{template_sizes}
 use Rattle.x64_templates.specs.Quiet.{IsReturn}
 use Rattle.raw_stack.specs.Laws.{context_below}
 use Rattle.linked_stack.specs.ImagePlan.{Plan}
-use Rattle.linked_stack.specs.Linked.{activations_below}
+use Rattle.linked_stack.specs.Linked.{Activation, activations_below, locals_of}
 use Rattle.linked_stack.proofs.Ends.{in_stack}
 use Rattle.body_states.specs.Sites.{Sites, links_of}
 use Rattle.body_states.specs.Programs.{HasProgram, IsResumed, IsProgramImage}
 use Rattle.body_states.specs.Bodies.{InBody, Begins}
 use Rattle.body_states.proofs.Inside.{template_some}
 use Rattle.body_states.proofs.Waiting.{leaf_layout, OnTop, body_on_top}
-use Rattle.turn_steps.specs.Outcomes.{WorksOn}
+use Rattle.body_steps.specs.Known.{IsKnown}
+use Rattle.turn_steps.specs.Outcomes.{WorksOn, Stands}
 use Rattle.fault_steps.proofs.Places.{some_finish, is_some}
 use Rattle.image_walks.specs.Returns.{IsReturning, StandStill}
 use Rattle.image_walks.specs.Live.{WalkGives}
@@ -52,25 +53,33 @@ return_or instructions.Separator = inl (λ h. h)
 return_or (instructions.Return from) = inr (from, refl)
 
 module _ (t : Functions) (fs : List Funclet) (program : LinearProgram) (p : Plan) (q : Sites) (image : IsProgramImage t fs program p q) where
+  pub record IsTop (s : State) (c : Configuration) : Type 0 where
+    pub acts : List Activation
+    pub store : c.store.activations ≡ locals_of acts
+    pub top : OnTop t fs program p q s c acts
+
+  pub from_top : (s : State) (c : Configuration) → IsTop s c → WalkGives t fs program p s c
+  from_top s c h =
+      let m = s.memory in
+      let from = context_of s.cpu in
+      let top = h.top in
+      let stands = top.on.stands in
+      let n = as_many t fs program p m from top.is (Waits c.frame ∷ c.below) h.acts stands.linked in
+      record {
+        acts = h.acts;
+        store = h.store;
+        frames = frames from top.is;
+        live = are_frames t fs program p q image m from top.is (Waits c.frame ∷ c.below) h.acts stands.stack stands.linked;
+        walks = λ k le. gives t m from 0 top.is k stands.stack (omega arith);
+      }
+
   -- an instruction that a configuration is at is in its body's code
   in_code : (s : State) (c : Configuration) (i : Instruction) (at : InBody t fs program p q s c) → instruction_at program c ≡ Some i → slice_get at.slots.code.code c.frame.next ≡ Some i
   in_code s c i at e = sym (ap (λ o. instruction_in o c.frame.next) at.slots.body) ∙ e
 
-  -- a body on top of what waits below it: the walk gives the frames of all
   module _ (s : State) (c : Configuration) (at : InBody t fs program p q s c) where
-    from_top : OnTop t fs program p q s c at.acts → WalkGives t fs program p s c
-    from_top top =
-        let m = s.memory in
-        let from = context_of s.cpu in
-        let stands = top.on.stands in
-        let n = as_many t fs program p m from top.is (Waits c.frame ∷ c.below) at.acts stands.linked in
-        record {
-          acts = at.acts;
-          store = at.store;
-          frames = frames from top.is;
-          live = are_frames t fs program p q image m from top.is (Waits c.frame ∷ c.below) at.acts stands.stack stands.linked;
-          walks = λ k le. gives t m from 0 top.is k stands.stack (omega arith);
-        }
+    is_top : OnTop t fs program p q s c at.acts → IsTop s c
+    is_top top = record { acts = at.acts; store = at.store; top = top }
 
     -- where a return begins
     module _ (still : StandStill t fs program p q) (has : HasProgram t fs program p q s.memory) (r : IsReturning t fs program p q at.slots.code c.frame.body c.frame.next s.cpu.rip) where
@@ -96,7 +105,7 @@ module _ (t : Functions) (fs : List Funclet) (program : LinearProgram) (p : Plan
           (still.leaves s.memory c.frame.body at.slots.code c.frame.next (context_of s.cpu) at.back at.slots.body e r refl (omega arith) (ap (word s.memory) (sym here) ∙ at.returns))
 
   -- where an instruction begins
-  begun : StandStill t fs program p q → (s : State) (c : Configuration) (i : Instruction) → (b : Begins t fs program p q s c) → instruction_at program c ≡ Some i → WalkGives t fs program p s c
+  begun : StandStill t fs program p q → (s : State) (c : Configuration) (i : Instruction) → (b : Begins t fs program p q s c) → instruction_at program c ≡ Some i → IsTop s c
   begun still s c i b e = by (return_or i)
     where
       code : List Instr
@@ -108,20 +117,20 @@ module _ (t : Functions) (fs : List Funclet) (program : LinearProgram) (p : Plan
           let k = template_some (p.layout c.frame.body) i in
           omega arith
 
-      by : (IsReturn i → ⊥) ⊎ ((from : Slot) × (i ≡ instructions.Return from)) → WalkGives t fs program p s c
+      by : (IsReturn i → ⊥) ⊎ ((from : Slot) × (i ≡ instructions.Return from)) → IsTop s c
       by (inl goes) =
           let x = is_some code some in
           let here = b.rip in
           let resumed : IsResumed t fs program p q c.frame.body b.body.slots.code c.frame.next s.cpu.rip =
           record { instruction = i; there = in_code s c i b.body e; goes_on = goes; done = []; item = x.item; left = x.left; parts = x.parts; here = omega arith } in
-          from_top s c b.body (body_on_top t fs program p q image s c c.frame.next b.body resumed b.memory.code)
+          is_top s c b.body (body_on_top t fs program p q image s c c.frame.next b.body resumed b.memory.code)
       by (inr r) =
-          from_top s c b.body
+          is_top s c b.body
           (returning_top s c b.body still b.memory.code (record { from = r.0; there = in_code s c i b.body e ∙ ap (λ (j : Instruction). Some j) r.1; here = b.rip }) (p.leaf c.frame.body) refl)
 
   -- in the midst of an operation that is made again
-  working : (s : State) (c : Configuration) → WorksOn t fs program p q s c → WalkGives t fs program p s c
-  working s c w = from_top s c w.body (body_on_top t fs program p q image s c c.frame.next w.body resumed w.memory.code)
+  working : (s : State) (c : Configuration) → WorksOn t fs program p q s c → IsTop s c
+  working s c w = is_top s c w.body (body_on_top t fs program p q image s c c.frame.next w.body resumed w.memory.code)
     where
       ops : List Instr
       ops = operands_code (p.layout c.frame.body) w.again.operation (Temporary w.again.first) (Temporary w.again.second)
@@ -146,6 +155,10 @@ module _ (t : Functions) (fs : List Funclet) (program : LinearProgram) (p : Plan
             here = w.again.here;
           }
 
+  -- on top of what waits below it, in every state that stands for a configuration
+  pub tops : StandStill t fs program p q → (s : State) (c : Configuration) → Stands t fs program p q s c → IsKnown program c → IsTop s c
+  tops still s c (inl b) known = begun still s c known.goes_on.instruction b known.goes_on.at
+  tops still s c (inr w) known = working s c w
+
 pub walks_give_the_frames : WalksGiveTheFrames
-walks_give_the_frames t fs program p q image still s c (inl b) known = begun t fs program p q image still s c known.goes_on.instruction b known.goes_on.at
-walks_give_the_frames t fs program p q image still s c (inr w) known = working t fs program p q image s c w
+walks_give_the_frames t fs program p q image still s c stands known = from_top t fs program p q image s c (tops t fs program p q image still s c stands known)

@@ -14,6 +14,7 @@ use Rattle.image_states.specs.Plans.{functions_of, funclets_of, plan_of, sites_o
 use Rattle.image_states.specs.Compiled.{IsCompiled}
 use Rattle.image_walks.specs.Returns.{StandStill}
 use Rattle.image_walks.specs.Live.{WalkGives}
+use Rattle.image_walks.specs.Within.{IsWithin}
 
 -- in every state that stands for a configuration the walk gives the frames that are live there
 abbrev pub WalksGiveTheFrames : Type 0
@@ -22,6 +23,14 @@ WalksGiveTheFrames =
     → IsProgramImage t fs program p q → StandStill t fs program p q
     → (s : State) (c : Configuration) → Stands t fs program p q s c → IsKnown program c
     → WalkGives t fs program p s c
+
+-- and in the midst of its instruction, as long as the stack from RSP up is as it was
+abbrev pub WalksGiveTheFramesWithin : Type 0
+WalksGiveTheFramesWithin =
+    (t : Functions) (fs : List Funclet) (program : LinearProgram) (p : Plan) (q : Sites)
+    → IsProgramImage t fs program p q → StandStill t fs program p q
+    → (s u : State) (c : Configuration) → Stands t fs program p q s c → IsKnown program c → IsWithin t fs program p q s u c
+    → WalkGives t fs program p u c
 
 -- of an image that is linked, a body that is about to return stands as at any other instruction
 abbrev pub LinkedStandStill : Type 0

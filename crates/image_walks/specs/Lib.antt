@@ -2,4 +2,5 @@ pub mod Walked
 pub mod Live
 pub mod Returns
 pub mod Passing
+pub mod Within
 pub mod Laws

@@ -1,10 +1,12 @@
 //! What a walk gives of a running image.
 
-ghost use Rattle.image_walks.specs.Laws.{WalksGiveTheFrames, LinkedStandStill};
+ghost use Rattle.image_walks.specs.Laws.{WalksGiveTheFrames, WalksGiveTheFramesWithin, LinkedStandStill};
 
 /// Where the machine stands for a configuration of linear code, the walk gives the frames that are live
-/// there, innermost first, and then RIP 0; also where a body is about to return.
+/// there, innermost first, and then RIP 0; also in the midst of an instruction, while the stack from RSP up is
+/// as it was, and where a body is about to return.
 pub fn laws()
     ensures walks { WalksGiveTheFrames }
+    ensures within { WalksGiveTheFramesWithin }
     ensures returns { LinkedStandStill }
 {}
