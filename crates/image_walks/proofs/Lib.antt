@@ -3,5 +3,7 @@ pub mod Live
 pub mod Tops
 pub mod Standing
 pub mod Within
+pub mod Quiet
+pub mod Next
 pub mod Returns
 pub mod Passing

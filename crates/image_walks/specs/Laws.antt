@@ -1,6 +1,6 @@
 -- What is claimed of walks over the stack of a running image.
-use Rattle.std.specs.Prelude.{List}
-use Rattle.x64_machine.specs.Effect.{State}
+use Rattle.std.specs.Prelude.{◌≡◌, List, Ok}
+use Rattle.x64_machine.specs.Effect.{State, step}
 use Rattle.virtual_unwind.specs.CallerOf.{Functions}
 use Rattle.host_model.specs.declared.funclet.Funclet.{Funclet}
 use Rattle.linear_code.specs.Program.{LinearProgram}
@@ -14,7 +14,7 @@ use Rattle.image_states.specs.Plans.{functions_of, funclets_of, plan_of, sites_o
 use Rattle.image_states.specs.Compiled.{IsCompiled}
 use Rattle.image_walks.specs.Returns.{StandStill}
 use Rattle.image_walks.specs.Live.{WalkGives}
-use Rattle.image_walks.specs.Within.{IsWithin}
+use Rattle.image_walks.specs.Within.{IsWithin, IsQuietHere}
 
 -- in every state that stands for a configuration the walk gives the frames that are live there
 abbrev pub WalksGiveTheFrames : Type 0
@@ -31,6 +31,14 @@ WalksGiveTheFramesWithin =
     → IsProgramImage t fs program p q → StandStill t fs program p q
     → (s u : State) (c : Configuration) → Stands t fs program p q s c → IsKnown program c → IsWithin t fs program p q s u c
     → WalkGives t fs program p u c
+
+-- it is so after each machine instruction that writes no memory, up to the last one of the instruction
+abbrev pub QuietStepsStayWithin : Type 0
+QuietStepsStayWithin =
+    (t : Functions) (fs : List Funclet) (program : LinearProgram) (p : Plan) (q : Sites)
+    → IsProgramImage t fs program p q
+    → (s u v : State) (c : Configuration) (w : IsWithin t fs program p q s u c) → IsQuietHere t fs program p q s u c w → step u ≡ Ok v
+    → IsWithin t fs program p q s v c
 
 -- of an image that is linked, a body that is about to return stands as at any other instruction
 abbrev pub LinkedStandStill : Type 0
