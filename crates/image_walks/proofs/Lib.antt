@@ -3,6 +3,7 @@ pub mod Live
 pub mod Tops
 pub mod Standing
 pub mod Within
+pub mod First
 pub mod Quiet
 pub mod Next
 pub mod Returns

@@ -1,6 +1,6 @@
 //! What a walk gives of a running image.
 
-ghost use Rattle.image_walks.specs.Laws.{WalksGiveTheFrames, WalksGiveTheFramesWithin, QuietStepsStayWithin, LinkedStandStill};
+ghost use Rattle.image_walks.specs.Laws.{WalksGiveTheFrames, WalksGiveTheFramesWithin, BeginningsAreWithin, QuietStepsStayWithin, LinkedStandStill};
 
 /// Where the machine stands for a configuration of linear code, the walk gives the frames that are live
 /// there, innermost first, and then RIP 0; also in the midst of an instruction, while the stack from RSP up is
@@ -8,6 +8,7 @@ ghost use Rattle.image_walks.specs.Laws.{WalksGiveTheFrames, WalksGiveTheFramesW
 pub fn laws()
     ensures walks { WalksGiveTheFrames }
     ensures within { WalksGiveTheFramesWithin }
+    ensures first { BeginningsAreWithin }
     ensures quiet { QuietStepsStayWithin }
     ensures returns { LinkedStandStill }
 {}
