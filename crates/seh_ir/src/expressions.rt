@@ -4,18 +4,20 @@ ghost use Rattle.std.specs.Prelude.{◌≡◌, ◌+◌, ◌++◌, [], ◌∷◌,
 ghost use Rattle.c_checked.specs.Expression as tree;
 ghost use Rattle.seh_ir.specs.Expressions as spec;
 
-use crate::instructions::{abnormal, choose, constant, convert, exception_code, read, unary};
+use crate::instructions::{
+    abnormal, choose, constant, convert, exception_code, information, put, read, unary,
+};
 use crate::pieces::{
     after_place, assign, begin_compound, copy_down, end_compound, end_difference, increment,
     operate, skip, test,
 };
 use crate::scope::Names;
-use c_checked::expression::{Expr, Lvalue, Node};
+use c_checked::expression::{Conversion, Expr, Fixity, Lvalue, Node};
+use c_operations::built_in::BuiltIn;
 use c_operations::operation::{Operation, Pure, Size};
 use ir_sizes::sizes::expression_size;
 use ir_sizes::sums::sum;
 use linear_code::instruction::Instruction;
-use linear_code::slot::Slot;
 use std::alloc::AllocError;
 
 fn count_of(args: &[Expr]) -> u64
@@ -50,10 +52,7 @@ fn locate(
 {
     match place {
         Lvalue::Local(_) => Ok(()),
-        Lvalue::Global { address, .. } => {
-            code.push(constant(d, *address))?;
-            Ok(())
-        }
+        Lvalue::Global { address, .. } => put(code, constant(d, *address)),
         Lvalue::Indirection { pointer, .. } => expression(code, names, pointer, d),
         Lvalue::Element { array, index, .. } => {
             let next = sum(d, 1)?;
@@ -88,10 +87,7 @@ fn address(
     ensures { OnOk result (code.new.items ≡ code.old.items ++ spec.address_code (tree.lvalue place.now) d (spec.locate_code names (tree.lvalue place.now) d (length code.old.items))) }
 {
     match place {
-        Lvalue::Local(_) => {
-            code.push(constant(d, 0))?;
-            Ok(())
-        }
+        Lvalue::Local(_) => put(code, constant(d, 0)),
         Lvalue::Global { .. } => locate(code, names, place, d),
         Lvalue::Indirection { .. } => locate(code, names, place, d),
         Lvalue::Element { .. } => locate(code, names, place, d),
@@ -117,14 +113,96 @@ fn arguments(
 }
 
 #[cycle(expressions)]
+fn stepped(
+    code: &mut Vec<Instruction>,
+    names: Names,
+    fixity: Fixity,
+    target: &Lvalue,
+    before: Conversion,
+    operation: Operation,
+    amount: u64,
+    after: Conversion,
+    d: u64,
+) -> Result<(), AllocError>
+    ensures { OnOk result (code.new.items ≡ code.old.items ++ spec.node_code names (tree.Increment fixity (tree.lvalue target.now) before operation amount after) d (length code.old.items)) }
+{
+    locate(code, names, target, d)?;
+    increment(code, target, fixity, before, operation, amount, after, d)?;
+    Ok(())
+}
+
+#[cycle(expressions)]
+fn one_operand(
+    code: &mut Vec<Instruction>,
+    names: Names,
+    operation: Pure,
+    operand: &Expr,
+    d: u64,
+) -> Result<(), AllocError>
+    ensures { OnOk result (code.new.items ≡ code.old.items ++ spec.node_code names (tree.Unary operation (tree.expression operand.now)) d (length code.old.items)) }
+{
+    expression(code, names, operand, d)?;
+    unary(code, operation, d)?;
+    Ok(())
+}
+
+#[cycle(expressions)]
+fn negation(
+    code: &mut Vec<Instruction>,
+    names: Names,
+    operand: &Expr,
+    d: u64,
+) -> Result<(), AllocError>
+    ensures { OnOk result (code.new.items ≡ code.old.items ++ spec.node_code names (tree.Not (tree.expression operand.now)) d (length code.old.items)) }
+{
+    expression(code, names, operand, d)?;
+    choose(code, d, 1, 0)?;
+    Ok(())
+}
+
+#[cycle(expressions)]
+fn call(
+    code: &mut Vec<Instruction>,
+    names: Names,
+    function: u64,
+    args: &[Expr],
+    d: u64,
+) -> Result<(), AllocError>
+    ensures { OnOk result (code.new.items ≡ code.old.items ++ spec.node_code names (tree.Call function (tree.arguments (map tree.expression args.now))) d (length code.old.items)) }
+{
+    arguments(code, names, args, d)?;
+    put(
+        code,
+        Instruction::Call {
+            function,
+            first: d,
+            count: count_of(args),
+        },
+    )?;
+    Ok(())
+}
+
+#[cycle(expressions)]
+fn call_built_in(
+    code: &mut Vec<Instruction>,
+    names: Names,
+    function: BuiltIn,
+    args: &[Expr],
+    d: u64,
+) -> Result<(), AllocError>
+    ensures { OnOk result (code.new.items ≡ code.old.items ++ spec.node_code names (tree.CallBuiltIn function (tree.arguments (map tree.expression args.now))) d (length code.old.items)) }
+{
+    arguments(code, names, args, d)?;
+    put(code, Instruction::CallBuiltIn { function, first: d })?;
+    Ok(())
+}
+
+#[cycle(expressions)]
 fn node(code: &mut Vec<Instruction>, names: Names, node: &Node, d: u64) -> Result<(), AllocError>
     ensures { OnOk result (code.new.items ≡ code.old.items ++ spec.node_code names (tree.node node.now) d (length code.old.items)) }
 {
     match node {
-        Node::Constant { value, .. } => {
-            code.push(constant(d, *value))?;
-            Ok(())
-        }
+        Node::Constant { value, .. } => put(code, constant(d, *value)),
         Node::Read(place) => read_node(code, names, place, d),
         Node::AddressOf(place) => address(code, names, place, d),
         Node::Assign { target, value } => {
@@ -157,17 +235,11 @@ fn node(code: &mut Vec<Instruction>, names: Names, node: &Node, d: u64) -> Resul
             amount,
             after,
         } => {
-            locate(code, names, target, d)?;
-            increment(
-                code, target, *fixity, *before, *operation, *amount, *after, d,
-            )?;
-            Ok(())
+            stepped(
+                code, names, *fixity, target, *before, *operation, *amount, *after, d,
+            )
         }
-        Node::Unary { operation, operand } => {
-            expression(code, names, operand, d)?;
-            unary(code, *operation, d)?;
-            Ok(())
-        }
+        Node::Unary { operation, operand } => one_operand(code, names, *operation, operand, d),
         Node::Binary {
             operation,
             left,
@@ -186,11 +258,7 @@ fn node(code: &mut Vec<Instruction>, names: Names, node: &Node, d: u64) -> Resul
             end_difference(code, *size, d)?;
             Ok(())
         }
-        Node::Not(operand) => {
-            expression(code, names, operand, d)?;
-            choose(code, d, 1, 0)?;
-            Ok(())
-        }
+        Node::Not(operand) => negation(code, names, operand, d),
         Node::And(left, right) => {
             let size = expression_size(right)?;
             expression(code, names, left, d)?;
@@ -203,7 +271,7 @@ fn node(code: &mut Vec<Instruction>, names: Names, node: &Node, d: u64) -> Resul
             let size = expression_size(right)?;
             expression(code, names, left, d)?;
             test(code, d, 0, 3)?;
-            code.push(constant(d, 1))?;
+            put(code, constant(d, 1))?;
             skip(code, size, 5)?;
             expression(code, names, right, d)?;
             choose(code, d, 0, 1)?;
@@ -228,41 +296,14 @@ fn node(code: &mut Vec<Instruction>, names: Names, node: &Node, d: u64) -> Resul
         }
         Node::Call {
             function,
-            arguments: args,
-        } => {
-            arguments(code, names, args, d)?;
-            code.push(Instruction::Call {
-                function: *function,
-                first: d,
-                count: count_of(args),
-            })?;
-            Ok(())
-        }
+            arguments,
+        } => call(code, names, *function, arguments, d),
         Node::CallBuiltIn {
             function,
-            arguments: args,
-        } => {
-            arguments(code, names, args, d)?;
-            code.push(Instruction::CallBuiltIn {
-                function: *function,
-                first: d,
-            })?;
-            Ok(())
-        }
-        Node::ExceptionCode => {
-            code.push(exception_code(names.exception, d))?;
-            Ok(())
-        }
-        Node::Information(field) => {
-            code.push(Instruction::Information {
-                to: Slot::Temporary(d),
-                field: *field,
-            })?;
-            Ok(())
-        }
-        Node::AbnormalTermination => {
-            code.push(abnormal(names.abnormal, d))?;
-            Ok(())
-        }
+            arguments,
+        } => { call_built_in(code, names, *function, arguments, d) }
+        Node::ExceptionCode => put(code, exception_code(names.exception, d)),
+        Node::Information(field) => put(code, information(*field, d)),
+        Node::AbnormalTermination => put(code, abnormal(names.abnormal, d)),
     }
 }

@@ -3,6 +3,8 @@
 ghost use Rattle.std.specs.Prelude.{◌≡◌, ◌+◌, ◌++◌, [], ◌∷◌, length, OnOk, IfOk};
 ghost use Rattle.c_operations.specs.declared.operation.Operation.TheVariants as operations;
 ghost use Rattle.c_operations.specs.declared.operation.Pure.TheVariants as pures;
+ghost use Rattle.linear_code.specs.declared.slot.Slot.TheVariants.{Temporary};
+ghost use Rattle.linear_code.specs.declared.instruction.Instruction.TheVariants.{Information};
 ghost use Rattle.c_checked.specs.Expression as tree;
 ghost use Rattle.seh_ir.specs.Expressions as spec;
 
@@ -173,6 +175,16 @@ pub fn abnormal(flag: Option<u64>, d: u64) -> Instruction
     match flag {
         None => constant(d, 0),
         Some(local) => copy(Slot::Temporary(d), Slot::Local(local)),
+    }
+}
+
+/// A field of the exception's record.
+pub fn information(field: Field, d: u64) -> Instruction
+    ensures { result ≡ Information (Temporary d) field }
+{
+    Instruction::Information {
+        to: Slot::Temporary(d),
+        field,
     }
 }
 

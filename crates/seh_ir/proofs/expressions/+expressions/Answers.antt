@@ -1,4 +1,4 @@
-use Rattle.std.proofs.Common.{◌≡◌, ◌+◌, arith, ap, ◌∙◌, length}
+use Rattle.std.proofs.Common.{◌≡◌, ◌+◌, arith, ap, ◌∙◌, refl, map}
 use Rattle.c_checked.specs.Expression as tree
 use Rattle.c_checked.proofs.ExpressionTrees as made
 use Rattle.seh_ir.proofs.Arms.{element_is, assign_is, compound_is, increment_is, unary_is, binary_is, difference_is, not_is, and_is, or_is, conditional_is, comma_is, call_is, call_built_in_is, arguments_next}
@@ -16,14 +16,6 @@ pub node-returns-in_ok-end_compound-in-CompoundAssign : goal.node-returns-in_ok-
 node-returns-in_ok-end_compound-in-CompoundAssign t c =
     compound_is _ _ _ _ _ _ _ _ _ _ _ _ _ _ _ (ap tree.node c.in-CompoundAssign.is ∙ made.compound_is c.in-CompoundAssign.target c.in-CompoundAssign.before c.in-CompoundAssign.operation c.in-CompoundAssign.value c.in-CompoundAssign.after) c.in_ok-old-in-CompoundAssign.ensures c.in_ok-next-in-CompoundAssign.ensures c.in_ok-locate-in-CompoundAssign.ensures c.in_ok-begin_compound-in-CompoundAssign.ensures (rw c.deref-in-CompoundAssign.ensures at c.in_ok-expression-in-CompoundAssign.ensures) c.in_ok-end_compound-in-CompoundAssign.ensures
 
-pub node-returns-in_ok-increment-in-Increment : goal.node-returns-in_ok-increment-in-Increment
-node-returns-in_ok-increment-in-Increment t c =
-    increment_is _ _ _ _ _ _ _ _ _ _ _ _ (ap tree.node c.in-Increment.is ∙ made.increment_is c.in-Increment.fixity c.in-Increment.target c.in-Increment.before c.in-Increment.operation c.in-Increment.amount c.in-Increment.after) c.in_ok-locate-in-Increment.ensures c.in_ok-increment-in-Increment.ensures
-
-pub node-returns-in_ok-unary-in-Unary : goal.node-returns-in_ok-unary-in-Unary
-node-returns-in_ok-unary-in-Unary t c =
-    unary_is _ _ _ _ _ _ _ _ (ap tree.node c.in-Unary.is ∙ made.unary_is c.in-Unary.operation c.in-Unary.operand) (rw c.deref-in-Unary.ensures at c.in_ok-expression-in-Unary.ensures) c.in_ok-unary-in-Unary.ensures
-
 pub node-returns-in_ok-operate-in-Binary : goal.node-returns-in_ok-operate-in-Binary
 node-returns-in_ok-operate-in-Binary t c =
     binary_is _ _ _ _ _ _ _ _ _ _ _ (ap tree.node c.in-Binary.is ∙ made.binary_is c.in-Binary.operation c.in-Binary.left c.in-Binary.right) c.in_ok-next-in-Binary.ensures (rw c.deref-in-Binary.ensures at c.in_ok-expression-in-Binary.ensures) (rw c.deref-in-Binary-2.ensures at c.in_ok-expression-in-Binary-2.ensures) c.in_ok-operate-in-Binary.ensures
@@ -32,17 +24,13 @@ pub node-returns-in_ok-end_difference-in-PointerDifference : goal.node-returns-i
 node-returns-in_ok-end_difference-in-PointerDifference t c =
     difference_is _ _ _ _ _ _ _ _ _ _ _ (ap tree.node c.in-PointerDifference.is ∙ made.difference_is c.in-PointerDifference.size c.in-PointerDifference.left c.in-PointerDifference.right) c.in_ok-next-in-PointerDifference.ensures (rw c.deref-in-PointerDifference.ensures at c.in_ok-expression-in-PointerDifference.ensures) (rw c.deref-in-PointerDifference-2.ensures at c.in_ok-expression-in-PointerDifference-2.ensures) c.in_ok-end_difference-in-PointerDifference.ensures
 
-pub node-returns-in_ok-choose-in-Not : goal.node-returns-in_ok-choose-in-Not
-node-returns-in_ok-choose-in-Not t c =
-    not_is _ _ _ _ _ _ _ (ap tree.node c.in-Not.is ∙ made.not_is c.in-Not.operand) (rw c.deref-in-Not.ensures at c.in_ok-expression-in-Not.ensures) c.in_ok-choose-in-Not.ensures
-
 pub node-returns-in_ok-choose-in-And : goal.node-returns-in_ok-choose-in-And
 node-returns-in_ok-choose-in-And t c =
     and_is _ _ _ _ _ _ _ _ _ _ _ (ap tree.node c.in-And.is ∙ made.and_is c.in-And.left c.in-And.right) (rw c.deref-in-And.ensures at c.in_ok-size-in-And.ensures) (rw c.deref-in-And-2.ensures at c.in_ok-expression-in-And.ensures) c.in_ok-test-in-And.ensures (rw c.deref-in-And-3.ensures at c.in_ok-expression-in-And-2.ensures) c.in_ok-choose-in-And.ensures
 
 pub node-returns-in_ok-choose-in-Or : goal.node-returns-in_ok-choose-in-Or
 node-returns-in_ok-choose-in-Or t c =
-    or_is _ _ _ _ _ _ _ _ _ _ _ _ _ (ap tree.node c.in-Or.is ∙ made.or_is c.in-Or.left c.in-Or.right) (rw c.deref-in-Or.ensures at c.in_ok-size-in-Or.ensures) (rw c.deref-in-Or-2.ensures at c.in_ok-expression-in-Or.ensures) c.in_ok-test-in-Or.ensures (rw c.constant-in-Or.ensures at c.in_ok-push-in-Or.ensures.items) c.in_ok-skip-in-Or.ensures (rw c.deref-in-Or-3.ensures at c.in_ok-expression-in-Or-2.ensures) c.in_ok-choose-in-Or.ensures
+    or_is _ _ _ _ _ _ _ _ _ _ _ _ _ (ap tree.node c.in-Or.is ∙ made.or_is c.in-Or.left c.in-Or.right) (rw c.deref-in-Or.ensures at c.in_ok-size-in-Or.ensures) (rw c.deref-in-Or-2.ensures at c.in_ok-expression-in-Or.ensures) c.in_ok-test-in-Or.ensures (rw c.constant-in-Or.ensures at c.in_ok-put-in-Or.ensures) c.in_ok-skip-in-Or.ensures (rw c.deref-in-Or-3.ensures at c.in_ok-expression-in-Or-2.ensures) c.in_ok-choose-in-Or.ensures
 
 pub node-returns-in_ok-expression-in-Conditional-3 : goal.node-returns-in_ok-expression-in-Conditional-3
 node-returns-in_ok-expression-in-Conditional-3 t c =
@@ -58,10 +46,22 @@ arguments-loop-arg-preserved t c =
     let f = c.loop-arg.invariant.0 in
     (omega arith, arguments_next c.args.names c.args.args.now c.loop-arg.arg-index c.args.d c.loop-arg.next c.arg-item.result c.args.code.now.items c.loop-arg.code.items c.expression.new.code.items c.loop-arg-test.true c.arg-item.is f c.loop-arg.invariant.1 c.in_ok-expression.ensures)
 
-pub node-returns-in_ok-push-in-Call : goal.node-returns-in_ok-push-in-Call
-node-returns-in_ok-push-in-Call t c =
-    call_is _ _ _ _ _ _ _ _ _ (ap tree.node c.in-Call.is ∙ made.call_is c.in-Call.function c.in-Call.args) (c.count_of.ensures ∙ ap (λ xs. length xs) c.deref-in-Call-2.ensures.value) (rw c.deref-in-Call.ensures.value at c.in_ok-arguments-in-Call.ensures) c.in_ok-push-in-Call.ensures.items
+pub stepped-returns : goal.stepped-returns
+stepped-returns t c =
+    increment_is c.args.names c.args.fixity (tree.lvalue c.args.target.now) c.args.before c.args.operation c.args.amount c.args.after _ c.args.d c.args.code.now.items _ _ refl c.in_ok-locate.ensures c.in_ok-increment.ensures
 
-pub node-returns-in_ok-push-in-CallBuiltIn : goal.node-returns-in_ok-push-in-CallBuiltIn
-node-returns-in_ok-push-in-CallBuiltIn t c =
-    call_built_in_is _ _ _ _ _ _ _ _ (ap tree.node c.in-CallBuiltIn.is ∙ made.call_built_in_is c.in-CallBuiltIn.function c.in-CallBuiltIn.args) (rw c.deref-in-CallBuiltIn.ensures.value at c.in_ok-arguments-in-CallBuiltIn.ensures) c.in_ok-push-in-CallBuiltIn.ensures.items
+pub one_operand-returns : goal.one_operand-returns
+one_operand-returns t c =
+    unary_is c.args.names c.args.operation (tree.expression c.args.operand.now) _ c.args.d c.args.code.now.items _ _ refl c.in_ok-expression.ensures c.in_ok-unary.ensures
+
+pub negation-returns : goal.negation-returns
+negation-returns t c =
+    not_is c.args.names (tree.expression c.args.operand.now) _ c.args.d c.args.code.now.items _ _ refl c.in_ok-expression.ensures c.in_ok-choose.ensures
+
+pub call-returns : goal.call-returns
+call-returns t c =
+    call_is c.args.names c.args.function c.args.args.now _ c.args.d _ c.args.code.now.items _ _ refl c.count_of.ensures c.in_ok-arguments.ensures c.in_ok-put.ensures
+
+pub call_built_in-returns : goal.call_built_in-returns
+call_built_in-returns t c =
+    call_built_in_is c.args.names c.args.function (tree.arguments (map tree.expression c.args.args.now)) _ c.args.d c.args.code.now.items _ _ refl c.in_ok-arguments.ensures c.in_ok-put.ensures
