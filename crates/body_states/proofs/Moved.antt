@@ -8,12 +8,12 @@ use Rattle.virtual_unwind.specs.CallerOf.{Functions}
 use Rattle.host_model.specs.declared.funclet.Funclet.{Funclet}
 use Rattle.linear_code.specs.Program.{LinearProgram}
 use Rattle.linear_machine.specs.Frames.{Frame, Item, Waits, Searches, Unwinds}
-use Rattle.raw_stack.specs.Stack.{StackFrame, StackItem, Framed, Leaf, Searching, Unwinding, FrameStands, LeafStands, IsStack, after_frame, after_leaf}
-use Rattle.raw_stack.specs.Laws.{context_below}
+use Rattle.linked_stack.specs.Stack.{StackFrame, StackItem, Framed, Leaf, Searching, Unwinding, FrameStands, LeafStands, IsStack, after_frame, after_leaf}
+use Rattle.linked_stack.specs.WalkLaws.{context_below}
 use Rattle.linked_stack.specs.ImagePlan.{Plan}
 use Rattle.linked_stack.specs.Linked.{Activation, activations_below, BodyWaits, Linked}
-use Rattle.linked_stack.specs.Laws.{Stands}
-use Rattle.stack_records.specs.Records.{On}
+use Rattle.linked_stack.specs.ListLaws.{Stands}
+use Rattle.linked_stack.specs.Records.{On}
 
 frame_moved : (t : Functions) (m : Memory) (rip sp : ℕ) (os os' : List ℕ) (f : StackFrame) → length os' ≡ 8 → FrameStands t m (context_below rip sp os) f → FrameStands t m (context_below rip sp os') f
 frame_moved t m rip sp os os' f n s = record {

@@ -23,13 +23,13 @@ use Rattle.linear_code.specs.declared.program.Region.{Region}
 use Rattle.linear_code.specs.Program.{LinearProgram, LinearBody, LinearFunclet}
 use Rattle.linear_machine.specs.Frames.{BodyName, FunctionBody, FuncletBody, Frame, Item, Waits, Searches, Unwinds, body_of, Configuration}
 use Rattle.linear_machine.specs.Regions.{holds, regions_of}
-use Rattle.raw_stack.specs.Stack.{StackFrame, StackItem, Framed, Leaf, FrameStands, after_frame, after_leaf}
-use Rattle.raw_stack.specs.Laws.{context_below}
-use Rattle.raw_stack.proofs.Visiting.{set_head}
+use Rattle.linked_stack.specs.Stack.{StackFrame, StackItem, Framed, Leaf, FrameStands, after_frame, after_leaf}
+use Rattle.linked_stack.specs.WalkLaws.{context_below}
+use Rattle.linked_stack.proofs.Visiting.{set_head}
 use Rattle.linked_stack.specs.ImagePlan.{Plan, InCode}
 use Rattle.linked_stack.specs.Linked.{Activation, activations_below, HoldsWords, HasActivation, temporaries_end, home_end, HasSpace, below_end, BodyWaits, FrameWaits, HasPointers, IsAbove, FuncletIsAbove, FunctionIsAbove}
-use Rattle.stack_records.specs.Records.{On}
-use Rattle.stack_unwinds.specs.Unwinding.{on_top}
+use Rattle.linked_stack.specs.Records.{On}
+use Rattle.linked_stack.specs.Unwinding.{on_top}
 use Rattle.body_states.specs.Sites.{Sites}
 use Rattle.body_states.specs.Layouts.{IsLaidOut}
 use Rattle.body_states.specs.Programs.{HasAllocation, IsProgramImage}

@@ -13,12 +13,12 @@ use Rattle.template_code.specs.declared.layout.Layout.{Layout}
 use Rattle.linear_code.specs.Program.{LinearProgram, LinearBody}
 use Rattle.linear_machine.specs.Frames.{BodyName, FunctionBody, FuncletBody, body_of, Waits, Configuration}
 use Rattle.linear_machine.specs.Regions.{regions_of}
-use Rattle.raw_stack.specs.Stack.{StackItem, Framed, Leaf}
-use Rattle.raw_stack.specs.Laws.{context_below}
+use Rattle.linked_stack.specs.Stack.{StackItem, Framed, Leaf}
+use Rattle.linked_stack.specs.WalkLaws.{context_below}
 use Rattle.linked_stack.specs.ImagePlan.{Plan, IsGiven}
 use Rattle.linked_stack.specs.Linked.{Activation, activations_below, home_end, BodyWaits}
 use Rattle.linked_stack.proofs.Ends.{in_stack}
-use Rattle.stack_records.specs.Records.{IsData, On}
+use Rattle.linked_stack.specs.Records.{IsData, On}
 use Rattle.body_states.specs.Sites.{Sites}
 use Rattle.body_states.specs.Layouts.{IsLayoutIf, IsLeafLayout, IsLaidOut}
 use Rattle.body_states.specs.Programs.{HasProgram, IsResumed, IsProgramImage, frame_with}

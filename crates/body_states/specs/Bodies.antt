@@ -11,12 +11,12 @@ use Rattle.host_model.specs.declared.funclet.Funclet.{Funclet}
 use Rattle.linear_code.specs.Program.{LinearProgram}
 use Rattle.linear_machine.specs.Frames.{BodyName, Item, Waits, Searches, Unwinds, Configuration}
 use Rattle.template_code.specs.declared.layout.Layout.{Layout}
-use Rattle.raw_stack.specs.Stack.{StackItem}
-use Rattle.raw_stack.specs.Laws.{context_below}
+use Rattle.linked_stack.specs.Stack.{StackItem}
+use Rattle.linked_stack.specs.WalkLaws.{context_below}
 use Rattle.linked_stack.specs.ImagePlan.{Plan}
 use Rattle.linked_stack.specs.Linked.{Activation, locals_of, activations_below, temporaries_end, home_end, BodyWaits, HasPointers, IsAbove, ReturnsTo}
-use Rattle.stack_records.specs.Records.{On}
-use Rattle.dispatch_turns.specs.States.{IsSane}
+use Rattle.linked_stack.specs.Records.{On}
+use Rattle.linked_stack.specs.States.{IsSane}
 use Rattle.body_states.specs.Sites.{Sites}
 use Rattle.body_states.specs.Programs.{IsMachineMemory}
 

@@ -43,9 +43,9 @@ use Rattle.x64_templates.specs.Implements.{IsReady}
 use Rattle.x64_templates.specs.Runs.{HasCode}
 use Rattle.x64_templates.specs.Thunks.{HasThunk}
 use Rattle.x64_templates.specs.Quiet.{IsReturn}
-use Rattle.raw_stack.specs.Stack.{StackFrame, FrameStands, LeafStands}
+use Rattle.linked_stack.specs.Stack.{StackFrame, FrameStands, LeafStands}
 use Rattle.linked_stack.specs.ImagePlan.{Plan, Gives}
-use Rattle.stack_records.specs.Records.{IsData}
+use Rattle.linked_stack.specs.Records.{IsData}
 use Rattle.body_states.specs.Sites.{Sites, links_of, begin_of, entry_code, code_of}
 use Rattle.body_states.specs.Layouts.{AreLaidOut}
 

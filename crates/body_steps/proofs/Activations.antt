@@ -11,9 +11,9 @@ use Rattle.host_model.specs.declared.funclet.Funclet.{Funclet}
 use Rattle.template_code.specs.declared.layout.Layout.{Layout}
 use Rattle.linear_code.specs.Program.{LinearProgram}
 use Rattle.linear_machine.specs.Frames.{BodyName, FunctionBody, FuncletBody, Item, Waits, Searches, Unwinds}
-use Rattle.raw_stack.specs.Stack.{StackItem, Framed, Leaf, Searching, Unwinding, IsStack, after_frame, after_leaf}
-use Rattle.raw_stack.proofs.Visiting.{set_head}
-use Rattle.raw_stack.proofs.Keeping.{rises}
+use Rattle.linked_stack.specs.Stack.{StackItem, Framed, Leaf, Searching, Unwinding, IsStack, after_frame, after_leaf}
+use Rattle.linked_stack.proofs.Visiting.{set_head}
+use Rattle.linked_stack.proofs.WalkKeeping.{rises}
 use Rattle.linked_stack.specs.ImagePlan.{Plan}
 use Rattle.linked_stack.specs.Linked.{Activation, locals_of, activations_below, HoldsWords, HasActivation, HoldsLocals, IsActivation, HasBase, home_end, Linked}
 use Rattle.linked_stack.proofs.Ends.{words_fit, in_stack}

@@ -12,9 +12,9 @@ use Rattle.linear_code.specs.BodyState.{Counts}
 use Rattle.template_code.specs.declared.layout.Layout.{Layout}
 use Rattle.x64_templates.specs.Frames.{InTemporaries, InLocals, Changes}
 use Rattle.x64_templates.proofs.PlacedCode.{same_number}
-use Rattle.linked_stack.specs.Laws.{KeepsStack}
+use Rattle.linked_stack.specs.ListLaws.{KeepsStack}
 use Rattle.linked_stack.specs.Linked.{Activation, HoldsWords}
-use Rattle.stack_records.specs.Records.{IsData}
+use Rattle.linked_stack.specs.Records.{IsData}
 use Rattle.body_steps.specs.Stores.{KeepsStackBut}
 use Rattle.body_steps.proofs.Words.{may_read_written, word_is, word_of}
 use Rattle.body_steps.proofs.Views.{SlotsPlaced, stack_is_reserved, in_stack_slots}

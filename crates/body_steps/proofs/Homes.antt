@@ -9,14 +9,14 @@ use Rattle.host_model.specs.declared.funclet.Funclet.{Funclet}
 use Rattle.template_code.specs.declared.layout.Layout.{Layout}
 use Rattle.linear_code.specs.Program.{LinearProgram, LinearBody}
 use Rattle.linear_machine.specs.Frames.{BodyName, FunctionBody, FuncletBody, Frame, Item, Waits, Searches, Unwinds}
-use Rattle.raw_stack.specs.Stack.{StackFrame, StackItem, Framed, Leaf, Searching, Unwinding, FrameStands, IsStack, after_frame}
-use Rattle.raw_stack.proofs.Visiting.{set_head}
+use Rattle.linked_stack.specs.Stack.{StackFrame, StackItem, Framed, Leaf, Searching, Unwinding, FrameStands, IsStack, after_frame}
+use Rattle.linked_stack.proofs.Visiting.{set_head}
 use Rattle.linked_stack.specs.ImagePlan.{Plan}
 use Rattle.linked_stack.specs.Linked.{Activation, activations_below, temporaries_end, HasActivation, HasPointers, IsAbove, Linked}
-use Rattle.linked_stack.specs.Laws.{Stands}
+use Rattle.linked_stack.specs.ListLaws.{Stands}
 use Rattle.linked_stack.proofs.Ends.{words_fit, end_within, in_stack}
 use Rattle.linked_stack.proofs.Kept.{ReadsSame, higher, words_kept, list_kept}
-use Rattle.linked_stack.proofs.Keeping.{reads_other}
+use Rattle.linked_stack.proofs.ListKeeping.{reads_other}
 use Rattle.body_states.specs.Layouts.{IsFunctionLayout, IsLayoutIf, IsLaidOut, AreLaidOut}
 use Rattle.body_steps.specs.Stores.{KeepsStackBut}
 

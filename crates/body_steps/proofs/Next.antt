@@ -21,12 +21,12 @@ use Rattle.x64_machine.specs.Contexts.{context_of}
 use Rattle.linear_code.specs.declared.program.Region.{Region}
 use Rattle.linear_machine.specs.Regions.{holds, regions_of}
 use Rattle.linked_stack.specs.ImagePlan.{Plan, InCode}
-use Rattle.raw_stack.specs.Laws.{context_below}
+use Rattle.linked_stack.specs.WalkLaws.{context_below}
 use Rattle.linked_stack.specs.Linked.{Activation, locals_of, activations_below, HoldsWords, IsActivation, HasActivation, HasPointers, FuncletIsAbove, IsAbove, BodyWaits, HasSpace, below_end, home_end}
-use Rattle.linked_stack.specs.Laws.{Stands}
-use Rattle.linked_stack.proofs.Keeping.{kept_by_other_memories}
-use Rattle.stack_records.specs.Records.{IsData, On}
-use Rattle.dispatch_turns.specs.States.{IsSane}
+use Rattle.linked_stack.specs.ListLaws.{Stands}
+use Rattle.linked_stack.proofs.ListKeeping.{kept_by_other_memories}
+use Rattle.linked_stack.specs.Records.{IsData, On}
+use Rattle.linked_stack.specs.States.{IsSane}
 use Rattle.body_steps.proofs.Programs.{program_stays}
 use Rattle.body_states.specs.Layouts.{IsFunctionLayout, IsLayoutIf}
 use Rattle.body_states.specs.Sites.{Sites}

@@ -7,7 +7,7 @@ use Rattle.x64_machine.specs.Effect.{State}
 use Rattle.seh_records.specs.Laws.{AllSmall}
 use Rattle.x64_templates.specs.Straight.{AreSmall}
 use Rattle.x64_templates.specs.Runs.{Steps, Reaches, Enters}
-use Rattle.dispatch_turns.specs.States.{IsSane}
+use Rattle.linked_stack.specs.States.{IsSane}
 
 -- protections, and bytes that may not be written; and registers are as many, and small
 pub record Keeps (s u : State) : Type 0 where

@@ -13,15 +13,15 @@ use Rattle.template_code.specs.declared.layout.Layout.{Layout}
 use Rattle.linear_code.specs.Program.{LinearProgram}
 use Rattle.linear_machine.specs.Frames.{BodyName, FunctionBody, FuncletBody, Frame, Item, Waits, Searches, Unwinds}
 use Rattle.seh_walk.specs.Walk.{filter_return, finally_return}
-use Rattle.raw_stack.specs.Stack.{StackFrame, StackItem, Framed, Leaf, Searching, Unwinding, FrameStands, LeafStands, IsStack, after_frame, after_leaf}
-use Rattle.raw_stack.proofs.Visiting.{set_head}
-use Rattle.raw_stack.proofs.Keeping.{rises}
+use Rattle.linked_stack.specs.Stack.{StackFrame, StackItem, Framed, Leaf, Searching, Unwinding, FrameStands, LeafStands, IsStack, after_frame, after_leaf}
+use Rattle.linked_stack.proofs.Visiting.{set_head}
+use Rattle.linked_stack.proofs.WalkKeeping.{rises}
 use Rattle.linked_stack.specs.ImagePlan.{Plan}
 use Rattle.linked_stack.specs.Linked.{Activation, locals_of, activations_below, HoldsWords, temporaries_end, HasActivation, HoldsLocals, IsActivation, HasBase, home_end, HasPointers, IsAbove, HasSpace, below_end, record_room, BodyWaits, FrameWaits, LeafWaits, Linked}
-use Rattle.linked_stack.specs.Laws.{Stands}
+use Rattle.linked_stack.specs.ListLaws.{Stands}
 use Rattle.linked_stack.proofs.Ends.{words_fit, in_stack}
 use Rattle.linked_stack.proofs.Kept.{ReadsSame, higher, words_kept, frame_kept, leaf_kept, own_kept, frame_stands, leaf_stands, record_stands, list_kept}
-use Rattle.linked_stack.proofs.Keeping.{reads_other}
+use Rattle.linked_stack.proofs.ListKeeping.{reads_other}
 use Rattle.body_steps.specs.Stores.{with_values_if, with_values, KeepsStackBut, OwnerHasFrame, ActivationsAreStored}
 use Rattle.body_steps.proofs.Activations.{stand, locals_count, got_before, got_last}
 

@@ -19,8 +19,8 @@ use Rattle.x64_templates.specs.EntryStates.{body_in_memory}
 use Rattle.x64_templates.proofs.Entries.{holds_body_in_memory}
 use Rattle.x64_machine.specs.declared.context.Context.{Context}
 use Rattle.linear_machine.specs.Frames.{Item}
-use Rattle.raw_stack.specs.Stack.{StackItem}
-use Rattle.linked_stack.specs.Laws.{Stands}
+use Rattle.linked_stack.specs.Stack.{StackItem}
+use Rattle.linked_stack.specs.ListLaws.{Stands}
 use Rattle.linked_stack.specs.ImagePlan.{Plan}
 use Rattle.linked_stack.specs.Linked.{Activation, locals_of, HoldsWords, HasActivation, home_end}
 use Rattle.linked_stack.proofs.Ends.{words_fit, in_stack}

@@ -8,10 +8,10 @@ use Rattle.virtual_unwind.specs.CallerOf.{Functions}
 use Rattle.host_model.specs.declared.funclet.Funclet.{Funclet}
 use Rattle.linear_code.specs.Program.{LinearProgram}
 use Rattle.linear_machine.specs.Frames.{Item, Waits, Searches, Unwinds}
-use Rattle.raw_stack.specs.Stack.{StackItem}
+use Rattle.linked_stack.specs.Stack.{StackItem}
 use Rattle.linked_stack.specs.ImagePlan.{Plan}
 use Rattle.linked_stack.specs.Linked.{Activation, locals_of, activations_below, IsActivation, HoldsWords}
-use Rattle.linked_stack.specs.Laws.{Stands}
+use Rattle.linked_stack.specs.ListLaws.{Stands}
 
 abbrev pub with_values_if : Bool → Activation → List Activation → List ℕ → List Activation → List Activation
 with_values_if true a outer values others = record a { values = values } ∷ outer

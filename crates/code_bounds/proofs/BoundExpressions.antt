@@ -16,7 +16,7 @@ use Rattle.c_parse.specs.Nodes.{nodes_of_arguments}
 use Rattle.c_resolved.specs.declared.fault.Fault.{Fault}
 use Rattle.c_resolved.specs.Operators.{TypedNode, int, compound_assigned, assigned, comma_of}
 use Rattle.c_resolved.specs.Expressions.{Entity, LocalVariable, GlobalVariable, GlobalArray, UserFunction, BuiltInFunction, CodeFunction, AbnormalFunction, BuiltInConstant, Names, FaultAt, ResolvedExpression, ruled, rule_1, rule_2, rule_3, unless, literal, name, field, Wanted, built_in_wants, fits, passed, Argument, Passed, before, spoiled, pass, pass_all, called, call_with, only_where, call, changed, resolve_expression, resolve_arguments, OfType, ZeroLiteral}
-use Rattle.code_rooms.specs.Rooms.{expression_room, node_room, arguments_room}
+use Rattle.code_bounds.specs.Rooms.{expression_room, node_room, arguments_room}
 use Rattle.code_bounds.proofs.BoundOperators.{weight, LightIf, lighter, typed_weight, binary_light, element_light, incremented_light, assigned_light, compound_light, unary_light, cast_light, conditional_light, comma_light}
 
 -- ---- rules

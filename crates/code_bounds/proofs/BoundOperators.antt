@@ -20,7 +20,7 @@ use Rattle.c_syntax.specs.declared.operator.UnaryOperator.TheVariants as unary
 use Rattle.c_syntax.specs.declared.operator.Increment.{Increment}
 use Rattle.c_resolved.specs.Operators.{TypedNode, only_if, as_is, as_type, can_become, is_additive, right_operand, on_integers, sum, difference, arithmetic_of, comparison_of, void_pointer, binary_of, lvalue_of, with_lvalue, address, unary_of, cast_of, element_of, assigned, compound_assigned, incremented, branch_type, as_branch, chosen, conditional_of, comma_of, is_shift, working_type}
 use Rattle.c_resolved.specs.Types.{is_pointer, is_integer, is_void, is_sized_pointer, is_scalar, same_type, to_width, conversion, width_of, sort_of, promoted, common}
-use Rattle.code_rooms.specs.Rooms.{conversion_room, read_room, write_room, expression_room, locate_room, node_room}
+use Rattle.code_bounds.specs.Rooms.{conversion_room, read_room, write_room, expression_room, locate_room, node_room}
 
 -- with what its greatest conversion takes
 abbrev pub weight : TypedNode → ℕ

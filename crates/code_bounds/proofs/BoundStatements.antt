@@ -18,8 +18,8 @@ use Rattle.c_resolved.specs.Expressions.{Names, FaultAt, resolve_expression}
 use Rattle.c_resolved.specs.Program.{file_of, empty_file, with_parameters, around, function_of, functions_of}
 use Rattle.c_resolved.specs.Scopes.{Scope}
 use Rattle.c_resolved.specs.Statements.{Near, Beyond, past_finally, with_number, Environment, Numbering, names_at, filter_names, inside, any, condition, to_type, to_answer, Value, Optional, optional, declare, declare_all, only, returned, always, ResolvedFilter, resolve_filter, names_only, resolve_for_initialiser, resolve_statement, resolve_statements}
-use Rattle.code_rooms.specs.Rooms.{expression_room, discarded_room, condition_room, initialiser_room, all_declared_room, returned_room, filter_room, statement_room, statements_room, functions_room}
-use Rattle.code_bounds.specs.Laws.{CodeIsBounded}
+use Rattle.code_bounds.specs.Rooms.{expression_room, discarded_room, condition_room, initialiser_room, all_declared_room, returned_room, filter_room, statement_room, statements_room, functions_room}
+use Rattle.code_bounds.specs.BoundLaws.{CodeIsBounded}
 use Rattle.code_bounds.proofs.BoundOperators.{LightIf, typed_weight}
 use Rattle.code_bounds.proofs.BoundExpressions.{resolved_light}
 

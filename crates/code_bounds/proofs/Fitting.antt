@@ -33,8 +33,8 @@ use Rattle.frame_bounds.proofs.Frames.{accepted_is_small}
 use Rattle.x64_code.specs.Near.{IsFieldNear}
 use Rattle.program_link.specs.Routines as links
 use Rattle.program_link.specs.Fits.{FitsSlot, FitsInstruction, FitsBody, FitsFunction, FitsKind, FitsFunclet, tables_room, function_bodies, funclet_bodies, text_room, program_tables_room}
-use Rattle.code_rooms.proofs.Programs.{lowered_is_bounded}
-use Rattle.code_bounds.specs.Laws.{AcceptedFits, TextsFit}
+use Rattle.code_bounds.proofs.Programs.{lowered_is_bounded}
+use Rattle.code_bounds.specs.BoundLaws.{AcceptedFits, TextsFit}
 use Rattle.code_bounds.proofs.BoundStatements.{code_is_bounded}
 
 -- ---- bodies have the temporaries that their code uses

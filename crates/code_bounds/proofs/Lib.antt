@@ -1,3 +1,6 @@
+pub mod ExpressionRooms
+pub mod StatementRooms
+pub mod Programs
 pub mod BoundOperators
 pub mod BoundExpressions
 pub mod BoundStatements

@@ -1,4 +1,6 @@
-//! That every accepted text of at most 1 MiB can be linked, into an image of at most 256 MiB.
+//! How many bytes the code and the tables of a text's program take: every accepted text of at most 1 MiB
+//! is within the limits of linking. Begin reading with the laws.
 #![tactic(auto)]
 
-pub mod laws;
+pub mod bound_laws;
+pub mod room_laws;

@@ -22,8 +22,8 @@ use Rattle.unset_locals.proofs.Together.{twins_call}
 use Rattle.body_states.specs.Sites.{Sites}
 use Rattle.body_states.specs.Bodies.{turns_left}
 use Rattle.body_steps.specs.Laws.{pace}
-use Rattle.call_steps.specs.Calls.{CallBegins}
-use Rattle.call_steps.proofs.Called.{call_acts}
+use Rattle.turn_steps.specs.Calls.{CallBegins}
+use Rattle.turn_steps.proofs.Called.{call_acts}
 use Rattle.image_runs.specs.Shown.{ShowsTwin}
 use Rattle.image_runs.proofs.Carried.{same_left, fails}
 

@@ -24,7 +24,7 @@ use Rattle.unset_locals.proofs.Both.{over}
 use Rattle.unset_locals.proofs.Facts.{has_activations}
 use Rattle.unset_locals.proofs.Together.{twins_are_small, twins_go_on}
 use Rattle.body_steps.specs.Known.{IsKnown, KnownNext}
-use Rattle.image_runs.specs.Laws.{TwinsAreKnown}
+use Rattle.image_runs.specs.RunLaws.{TwinsAreKnown}
 
 module _ (program : LinearProgram) where
   -- what speaks of frames, and of what waits, alone

@@ -10,12 +10,12 @@ use Rattle.seh_ir.specs.Lowered.{lowered}
 use Rattle.program_link.specs.Linked.{linked}
 use Rattle.program_link.proofs.Images.{images_are_small}
 use Rattle.program_tables.proofs.Table.{is}
-use Rattle.image_starts.specs.Laws.{HasBytes}
-use Rattle.image_starts.proofs.Starting.{images_load}
-use Rattle.compiled_images.specs.Sound.{IsLinkable}
-use Rattle.compiled_images.proofs.Compiled.{lowered_is_compiled}
+use Rattle.image_states.specs.StartLaws.{HasBytes}
+use Rattle.image_states.proofs.Starting.{images_load}
+use Rattle.image_runs.specs.Sound.{IsLinkable}
+use Rattle.image_runs.proofs.Compiled.{lowered_is_compiled}
 use Rattle.image_runs.specs.Realises.{IsWritten, CompiledRealise, CompiledShowNothingMore}
-use Rattle.image_runs.proofs.Images.{linked_images_show_all, linked_images_show_no_more}
+use Rattle.image_runs.proofs.RunImages.{linked_images_show_all, linked_images_show_no_more}
 
 -- the file is no longer than the image
 short : (program : Program) → IsLinkable program → (bytes : List ℕ) → IsWritten bytes program → length bytes ≤ 268435456

@@ -19,10 +19,10 @@ use Rattle.compiled_runs.proofs.Runs as runs
 use Rattle.body_states.specs.Sites.{Sites}
 use Rattle.body_states.specs.Bodies.{turns_left}
 use Rattle.body_steps.specs.Laws.{pace}
-use Rattle.compiled_images.specs.Sound.{IsSoundImage}
-use Rattle.main_steps.specs.Starts.{MainBegins}
+use Rattle.image_runs.specs.Sound.{IsSoundImage}
+use Rattle.image_runs.specs.Starts.{MainBegins}
 use Rattle.image_runs.specs.Shown.{ShowsTwin}
-use Rattle.image_runs.specs.Laws.{ImagesShowAll, ImagesShowNoMore}
+use Rattle.image_runs.specs.RunLaws.{ImagesShowAll, ImagesShowNoMore}
 use Rattle.image_runs.proofs.Simulated.{twins_simulate}
 
 module _ (t : Functions) (fs : List Funclet) (program : Program) (p : Plan) (q : Sites) (sound : IsSound program) (reads : ReadsNoUnset (lowered program))

@@ -26,26 +26,26 @@ use Rattle.body_states.specs.Bodies.{turns_left, Begins}
 use Rattle.body_steps.specs.Known.{IsKnown, KnownNext}
 use Rattle.body_steps.specs.Laws.{pace, IsPlain}
 use Rattle.body_steps.proofs.Steps.{plain}
-use Rattle.call_steps.proofs.Steps.{returns_are_matched, calls_begin}
+use Rattle.turn_steps.proofs.CallSteps.{returns_are_matched, calls_begin}
 use Rattle.turn_steps.specs.Outcomes.{Stands}
-use Rattle.funclet_ends.proofs.Steps.{funclet_returns_are_matched}
-use Rattle.block_calls.proofs.Steps.{block_calls_are_matched}
-use Rattle.fault_steps.proofs.Steps.{operations, retries}
-use Rattle.service_steps.proofs.Steps.{information_is_matched, puts_are_matched, protects_are_matched}
-use Rattle.raise_steps.proofs.Raising.{raises_are_matched}
-use Rattle.raise_steps.proofs.Unwinding.{local_unwinds_are_matched}
-use Rattle.raise_steps.proofs.Joining.{bodies_go_on}
+use Rattle.turn_steps.proofs.EndSteps.{funclet_returns_are_matched}
+use Rattle.turn_steps.proofs.BlockSteps.{block_calls_are_matched}
+use Rattle.turn_steps.proofs.FaultSteps.{operations, retries}
+use Rattle.turn_steps.proofs.ServiceSteps.{information_is_matched, puts_are_matched, protects_are_matched}
+use Rattle.turn_steps.proofs.RaiseRaising.{raises_are_matched}
+use Rattle.turn_steps.proofs.RaiseUnwinding.{local_unwinds_are_matched}
+use Rattle.turn_steps.proofs.Joining.{bodies_go_on}
 use Rattle.c_operations.specs.declared.field.Field.{Field}
 use Rattle.c_operations.specs.declared.built_in.BuiltIn.{BuiltIn}
 use Rattle.c_operations.specs.declared.built_in.BuiltIn.TheVariants.{Put, Protect, RaiseException}
-use Rattle.compiled_images.specs.Sound.{IsSoundImage}
+use Rattle.image_runs.specs.Sound.{IsSoundImage}
 use Rattle.image_runs.specs.Steps.{StepMatches}
 use Rattle.image_runs.specs.Shown.{ShowsTwin}
-use Rattle.image_runs.specs.Laws.{TwinsSimulate}
+use Rattle.image_runs.specs.RunLaws.{TwinsSimulate}
 use Rattle.image_runs.proofs.Known.{known, known_next}
 use Rattle.image_runs.proofs.Carried.{moves_as, matched_as, carried}
 use Rattle.image_runs.proofs.Called.{called}
-use Rattle.image_runs.proofs.Live.{live}
+use Rattle.image_runs.proofs.RunLive.{live}
 
 same_instruction : (i j : Instruction) → Some i ≡ Some j → i ≡ j
 same_instruction i j e = cc

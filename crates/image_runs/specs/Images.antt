@@ -10,8 +10,8 @@ use Rattle.ir_linked.specs.Pace.{pace_of}
 use Rattle.unset_locals.specs.Reads.{ReadsNoUnset}
 use Rattle.whole_runs.specs.Laws.{ShowsAll, ShowsNoMore}
 use Rattle.program_link.specs.Linked.{linked}
-use Rattle.image_starts.specs.Laws.{HasBytes}
-use Rattle.compiled_images.specs.Sound.{IsLinkable}
+use Rattle.image_states.specs.StartLaws.{HasBytes}
+use Rattle.image_runs.specs.Sound.{IsLinkable}
 
 -- in 256 n + 256 turns the image shows what the program shows within n steps, and has ended as it ends
 abbrev pub LinkedImagesShowAll : Type 0

@@ -16,7 +16,7 @@ use Rattle.unset_locals.specs.Reads.{ReadsNoUnset}
 use Rattle.whole_runs.specs.Ends.{run_end_of}
 use Rattle.whole_runs.specs.Laws.{ShowsNoMore}
 use Rattle.program_link.specs.Linked.{linked}
-use Rattle.compiled_images.specs.Sound.{IsLinkable}
+use Rattle.image_runs.specs.Sound.{IsLinkable}
 
 -- the bytes are an image of at most 256 MiB that loads. For every argument and every n, what the program shows within n steps the image shows in at most 256 n + 256 turns: its events are the first events of the run, and where the program ends within n steps the run has ended in the same way with no other event.
 pub record Realises (bytes : List ℕ) (program : Program) : Type 0 where

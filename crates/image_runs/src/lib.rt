@@ -1,6 +1,11 @@
-//! Runs of the images of sound programs: the machine shows a twin of the configuration that linear code is
-//! in, and where each step of linear code is matched from such states, whole runs show what the program
-//! means, and nothing more. Begin reading with `specs/Laws`.
+//! Whole runs of the images of compiled programs: what they show is what the program means. Begin
+//! reading with `specs/Realises`.
 #![tactic(auto)]
 
-pub mod laws;
+pub mod accepted_laws;
+pub mod first_laws;
+pub mod image_laws;
+pub mod main_laws;
+pub mod run_laws;
+pub mod walk_laws;
+pub mod walked_laws;

@@ -11,7 +11,7 @@ use Rattle.eh_tables.specs.declared.code.UnwindOperation.TheVariants.{Allocate}
 use Rattle.eh_tables.specs.declared.code.UnwindCode.{UnwindCode}
 use Rattle.virtual_unwind.specs.Contexts.{rsp}
 use Rattle.virtual_unwind.specs.Undone.{word}
-use Rattle.raw_stack.specs.Stack.{StackFrame, FrameStands, LeafStands}
+use Rattle.linked_stack.specs.Stack.{StackFrame, FrameStands, LeafStands}
 use Rattle.frame_rules.specs.Bytes.{Stands}
 use Rattle.linear_code.specs.declared.instruction.Instruction.{Instruction}
 use Rattle.linear_code.specs.declared.instruction.Instruction.TheVariants as instructions

@@ -15,7 +15,7 @@ use Rattle.body_states.specs.Sites.{begin_of, entry_code}
 use Rattle.body_states.specs.Programs.{HasAddresses}
 use Rattle.image_states.specs.Plans.{functions_of, funclets_of, routine_of, address_of, plan_of, sites_of}
 use Rattle.image_states.specs.Compiled.{IsCompiled}
-use Rattle.image_states.specs.Laws.{ImagesArePrograms}
+use Rattle.image_states.specs.StateLaws.{ImagesArePrograms}
 use Rattle.image_states.proofs.Addresses.{InImage, check_stack_inside, place, here, label_rises, body_inside, not_first}
 use Rattle.image_states.proofs.Slots.{laid_out}
 use Rattle.image_states.proofs.Entering.{entry_same}

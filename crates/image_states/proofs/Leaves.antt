@@ -22,7 +22,7 @@ use Rattle.program_shape.proofs.Placing.{bounds_rise}
 use Rattle.program_shape.proofs.Shape.{as_long, begin_is}
 use Rattle.image_states.specs.Plans.{is_leaf, routine_of, plan_of}
 use Rattle.image_states.specs.Compiled.{IsCompiled}
-use Rattle.image_states.specs.Laws.{LeavesCallNothing, FunctionsApart}
+use Rattle.image_states.specs.StateLaws.{LeavesCallNothing, FunctionsApart}
 use Rattle.image_states.proofs.Places.{is_function, is_funclet}
 use Rattle.image_states.proofs.Addresses.{place, label_below}
 

@@ -10,3 +10,7 @@ pub mod Giving
 pub mod Resuming
 pub mod Images
 pub mod Leaves
+pub mod Sections
+pub mod Data
+pub mod CodePlaced
+pub mod Starting

@@ -1,3 +1,4 @@
 pub mod Plans
 pub mod Compiled
-pub mod Laws
+pub mod StateLaws
+pub mod StartLaws

@@ -1,5 +1,6 @@
-//! The image of a linked program: its code, its function table and the memory that a run starts with, as
-//! the machine's runs of linear code take them.
+//! The image of a compiled program as the steps of linear code need it: where its code stands, what its
+//! function table gives, and the memory that a run of it starts with. Begin reading with `specs/Plans`.
 #![tactic(auto)]
 
-pub mod laws;
+pub mod start_laws;
+pub mod state_laws;

@@ -14,11 +14,11 @@ use Rattle.host_model.specs.declared.funclet.Funclet.{Funclet}
 use Rattle.template_code.specs.declared.layout.Layout.{Layout}
 use Rattle.linear_code.specs.Program.{LinearProgram}
 use Rattle.linear_machine.specs.Frames.{BodyName, FunctionBody, FuncletBody, Frame, Item, Waits, Searches, Unwinds}
-use Rattle.raw_stack.specs.Stack.{StackFrame, StackItem, Framed, Leaf, Searching, Unwinding, FrameStands, LeafStands, RecordStands, IsStack, after_frame, after_leaf}
-use Rattle.raw_stack.proofs.Visiting.{set_head}
+use Rattle.linked_stack.specs.Stack.{StackFrame, StackItem, Framed, Leaf, Searching, Unwinding, FrameStands, LeafStands, RecordStands, IsStack, after_frame, after_leaf}
+use Rattle.linked_stack.proofs.Visiting.{set_head}
 use Rattle.linked_stack.specs.ImagePlan.{Plan}
 use Rattle.linked_stack.specs.Linked.{Activation, activations_below, HoldsWords, home_end, temporaries_end, HasActivation, HasPointers, BodyWaits, FrameWaits, LeafWaits, IsOwnRecord, Linked}
-use Rattle.linked_stack.specs.Laws.{Stands}
+use Rattle.linked_stack.specs.ListLaws.{Stands}
 use Rattle.linked_stack.proofs.Ends.{words_fit, end_within, in_stack}
 
 -- what a memory reads as another does, from an address up to another

@@ -1,5 +1,14 @@
-//! The plain list of suspended work of linear code, as it stands in the machine's stack: which frame each
-//! waiting body has, and which record each suspended search and unwinding.
+//! The list of what waits in linear code against the machine's stack: frames, suspended searches and
+//! suspended unwindings, one by one. A walk over the stack visits the list; a record that is laid below
+//! it makes it one item longer; and each turn of the dispatcher does what linear code does. Begin
+//! reading with `specs/Stack` and `specs/Linked`, then the laws.
 #![tactic(auto)]
 
-pub mod laws;
+pub mod list_laws;
+pub mod record_laws;
+pub mod returns;
+pub mod search_laws;
+pub mod steps;
+pub mod turn_laws;
+pub mod unwind_laws;
+pub mod walk_laws;

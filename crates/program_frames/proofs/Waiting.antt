@@ -19,7 +19,7 @@ use Rattle.virtual_unwind.specs.Contexts.{rsp}
 use Rattle.virtual_unwind.specs.Undone.{word}
 use Rattle.seh_walk.specs.Walk.{filter_return, finally_return}
 use Rattle.host_model.specs.Machine.{functions_in}
-use Rattle.raw_stack.specs.Stack.{FrameStands, LeafStands}
+use Rattle.linked_stack.specs.Stack.{FrameStands, LeafStands}
 use Rattle.frame_rules.specs.Bytes.{spell, Stands}
 use Rattle.frame_rules.proofs.Bytes.{never_empty, items_stand}
 use Rattle.pe_write.specs.Program.{image_of}

@@ -14,7 +14,7 @@ use Rattle.frame_rules.specs.Frame.{left_to}
 use Rattle.frame_rules.specs.Prologue.{items}
 use Rattle.frame_rules.specs.Rules.{IsRight, Stands, IsFound}
 use Rattle.frame_rules.specs.States.{registers, return_address, IsEntry, InBody, HasItems}
-use Rattle.raw_stack.specs.Stack.{StackFrame, FrameStands, LeafStands}
+use Rattle.linked_stack.specs.Stack.{StackFrame, FrameStands, LeafStands}
 use Rattle.pe_write.specs.declared.service.Service.{Service}
 use Rattle.pe_write.specs.Program.{image_of}
 use Rattle.linear_code.specs.Program.{LinearProgram}

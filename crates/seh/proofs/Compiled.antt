@@ -1,7 +1,7 @@
 -- The image of a text, by the program that the text is.
 use Rattle.std.proofs.Common.{◌≡◌, ◌≤◌, ◌<◌, ◌∙◌, ℕ, List, length, sym, ap, subst, arith}
 use Rattle.std.specs.List.{AllByRecursion}
-use Rattle.accepted_images.proofs.Accepted.{realise, nothing_more}
+use Rattle.image_runs.proofs.Accepted.{realise, nothing_more}
 use Rattle.c_checked.specs.Program.{Program}
 use Rattle.c_parse.specs.Nodes.{nodes_of}
 use Rattle.c_parse.proofs.Beyond.{few_tokens}

@@ -3,3 +3,13 @@ pub mod Kept
 pub mod Goes
 pub mod Acts
 pub mod Told
+pub mod Straight
+pub mod Fine
+pub mod Shapes
+pub mod Pieces
+pub mod Choices
+pub mod Loops
+pub mod Tries
+pub mod Around
+pub mod Stands
+pub mod Programs

@@ -24,7 +24,7 @@ use Rattle.scoped_programs.specs.Scoped.{Seen}
 use Rattle.scoped_programs.proofs.Split.{is_parameter}
 use Rattle.set_locals.specs.Sets.{function_locals, owner_locals, locals_at, ReadsIn, OperandsIn, Leads, IsSetMap}
 use Rattle.set_locals.specs.Lives.{Marked, AreCovered, IsTold, IsGiven, Before, Written, Flag, Passed, IsStep}
-use Rattle.set_locals.specs.Laws.{SetMapReadsNoUnset}
+use Rattle.set_locals.specs.SetLaws.{SetMapReadsNoUnset}
 use Rattle.set_locals.proofs.Marked.{with_keeps, written_marked, with_long, taken_marks, more_keeps, last_marks, first_set, marks_long, own_long, alike_itself}
 use Rattle.set_locals.proofs.Goes as goes
 use Rattle.set_locals.proofs.Acts.{step_of}

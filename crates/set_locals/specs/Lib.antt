@@ -1,3 +1,5 @@
 pub mod Sets
 pub mod Lives
-pub mod Laws
+pub mod SetLaws
+pub mod Places
+pub mod ScopedLaws

@@ -1,5 +1,6 @@
-//! Programs of linear code that read no local before it has been set: what a place of the code tells of the locals that have
-//! been set, and what follows for runs.
+//! Which locals have been set at each place of the linear code, and that the code of a program that names
+//! each local where it is declared reads no other one. Begin reading with `specs/Sets`.
 #![tactic(auto)]
 
-pub mod laws;
+pub mod scoped_laws;
+pub mod set_laws;

@@ -26,28 +26,28 @@ use Rattle.linear_machine.specs.Searching.{search, accept, resumed}
 use Rattle.linear_machine.specs.Unwinding.{unwind}
 use Rattle.linear_machine.specs.Instructions.{end_finally}
 use Rattle.linear_machine.specs.Run.{exec}
-use Rattle.raw_stack.specs.Stack.{StackItem, Unwinding}
+use Rattle.linked_stack.specs.Stack.{StackItem, Unwinding}
 use Rattle.linked_stack.specs.ImagePlan.{Plan}
 use Rattle.linked_stack.specs.Linked.{Activation, locals_of}
 use Rattle.linked_stack.proofs.Ends.{in_stack}
-use Rattle.stack_records.specs.Records.{On, HasRoom}
-use Rattle.stack_unwinds.specs.Unwinding.{store_of}
-use Rattle.dispatch_turns.specs.States.{IsSane}
-use Rattle.dispatch_turns.specs.Unwinds.{Unwound}
-use Rattle.dispatch_turns.specs.Steps.{placed_in, SearchIsAnswered, AnswersAs}
-use Rattle.dispatch_turns.specs.Returns.{filter_turn, with_answer, answered, linear_answer, AsksTheNext, AskedTakesOver, IsContinued, IsRaisedAnew}
-use Rattle.dispatch_turns.proofs.Begun.{answers_go_on, finally_returns_unwind}
-use Rattle.dispatch_turns.proofs.Returned.{filter_returns}
+use Rattle.linked_stack.specs.Records.{On, HasRoom}
+use Rattle.linked_stack.specs.Unwinding.{store_of}
+use Rattle.linked_stack.specs.States.{IsSane}
+use Rattle.linked_stack.specs.Unwinds.{Unwound}
+use Rattle.linked_stack.specs.Steps.{placed_in, SearchIsAnswered, AnswersAs}
+use Rattle.linked_stack.specs.Returns.{filter_turn, with_answer, answered, linear_answer, AsksTheNext, AskedTakesOver, IsContinued, IsRaisedAnew}
+use Rattle.linked_stack.proofs.Begun.{answers_go_on, finally_returns_unwind}
+use Rattle.linked_stack.proofs.Returned.{filter_returns}
 use Rattle.whole_runs.specs.Ends.{HasRule}
 use Rattle.body_states.specs.Sites.{Sites}
 use Rattle.body_states.specs.Programs.{IsMachineMemory, IsProgramImage}
 use Rattle.body_states.specs.Bodies.{held_below, turns_left}
-use Rattle.funclet_steps.specs.Entries.{FlagsFit}
+use Rattle.turn_steps.specs.FuncletEntries.{FlagsFit}
 use Rattle.turn_steps.specs.Outcomes.{AreClear, Outcome, Shows}
-use Rattle.turn_steps.specs.Entries.{Continuations}
+use Rattle.turn_steps.specs.TurnEntries.{Continuations}
 use Rattle.turn_steps.proofs.Memories.{memory_untouched, placing}
 use Rattle.turn_steps.proofs.Outcomes.{arrived_with, with_one, with_two, with_none, outcome_same, outcome_more}
-use Rattle.turn_steps.proofs.Unwinding.{unwound}
+use Rattle.turn_steps.proofs.TurnUnwinding.{unwound}
 use Rattle.turn_steps.proofs.Searching.{searched, taken_over}
 
 module _ (t : Functions) (fs : List Funclet) (program : LinearProgram) (p : Plan) (q : Sites) (image : IsProgramImage t fs program p q) (fits : FlagsFit program) where

@@ -22,23 +22,23 @@ use Rattle.linear_machine.specs.Searching.{raise}
 use Rattle.linear_machine.specs.Unwinding.{unwind}
 use Rattle.linear_machine.specs.Instructions.{local_unwind}
 use Rattle.linear_machine.specs.Run.{exec}
-use Rattle.raw_stack.specs.Stack.{StackItem}
+use Rattle.linked_stack.specs.Stack.{StackItem}
 use Rattle.linked_stack.specs.ImagePlan.{Plan}
 use Rattle.linked_stack.specs.Linked.{Activation, locals_of, Aimed}
 use Rattle.linked_stack.proofs.Ends.{in_stack}
-use Rattle.stack_records.specs.Records.{HasRoom}
-use Rattle.stack_unwinds.specs.Unwinding.{store_of}
-use Rattle.dispatch_turns.specs.Steps.{placed_in, from_body, AsksHost, IsException}
-use Rattle.dispatch_turns.proofs.Begun.{raise_searches, local_unwind_unwinds}
+use Rattle.linked_stack.specs.Records.{HasRoom}
+use Rattle.linked_stack.specs.Unwinding.{store_of}
+use Rattle.linked_stack.specs.Steps.{placed_in, from_body, AsksHost, IsException}
+use Rattle.linked_stack.proofs.Begun.{raise_searches, local_unwind_unwinds}
 use Rattle.whole_runs.specs.Ends.{HasRule}
 use Rattle.body_states.specs.Sites.{Sites}
 use Rattle.body_states.specs.Programs.{IsMachineMemory, IsProgramImage}
 use Rattle.body_states.specs.Bodies.{turns_left}
-use Rattle.funclet_steps.specs.Entries.{FlagsFit}
+use Rattle.turn_steps.specs.FuncletEntries.{FlagsFit}
 use Rattle.turn_steps.specs.Outcomes.{AreClear, Outcome, Shows}
 use Rattle.turn_steps.proofs.Memories.{memory_untouched, placing}
 use Rattle.turn_steps.proofs.Outcomes.{arrived_with, with_one, with_none, outcome_same}
-use Rattle.turn_steps.proofs.Unwinding.{unwound}
+use Rattle.turn_steps.proofs.TurnUnwinding.{unwound}
 use Rattle.turn_steps.proofs.Searching.{searched}
 
 -- linear code that has shown an event more

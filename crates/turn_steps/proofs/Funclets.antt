@@ -18,13 +18,13 @@ use Rattle.linear_code.specs.Program.{LinearProgram}
 use Rattle.linear_machine.specs.Frames.{Frame, Handler, Target, Resumption, Item, Waits, Searches, Unwinds, Configuration, Next}
 use Rattle.linear_machine.specs.Instructions.{act, end_finally}
 use Rattle.linear_machine.specs.Run.{exec}
-use Rattle.raw_stack.specs.Stack.{StackItem, Unwinding}
+use Rattle.linked_stack.specs.Stack.{StackItem, Unwinding}
 use Rattle.linked_stack.specs.ImagePlan.{Plan}
 use Rattle.linked_stack.specs.Linked.{Activation, locals_of}
-use Rattle.stack_records.specs.Records.{On}
-use Rattle.dispatch_turns.specs.States.{IsSane}
-use Rattle.dispatch_turns.specs.Steps.{SearchIsAnswered}
-use Rattle.dispatch_turns.specs.Returns.{filter_turn, linear_answer}
+use Rattle.linked_stack.specs.Records.{On}
+use Rattle.linked_stack.specs.States.{IsSane}
+use Rattle.linked_stack.specs.Steps.{SearchIsAnswered}
+use Rattle.linked_stack.specs.Returns.{filter_turn, linear_answer}
 use Rattle.whole_runs.specs.Comes.{IsLive, Comes}
 use Rattle.whole_runs.specs.Ends.{HasRule}
 use Rattle.whole_runs.specs.Matched.{IsMatched}
@@ -32,10 +32,10 @@ use Rattle.body_states.specs.Sites.{Sites}
 use Rattle.body_states.specs.Programs.{IsMachineMemory, IsProgramImage}
 use Rattle.body_states.specs.Bodies.{held_below, turns_left}
 use Rattle.body_steps.specs.Known.{KnownNext}
-use Rattle.funclet_steps.specs.Entries.{FlagsFit}
+use Rattle.turn_steps.specs.FuncletEntries.{FlagsFit}
 use Rattle.turn_steps.specs.Outcomes.{AreClear, Stands}
-use Rattle.turn_steps.specs.Entries.{Continuations}
-use Rattle.turn_steps.specs.Laws.{waiting_below}
+use Rattle.turn_steps.specs.TurnEntries.{Continuations}
+use Rattle.turn_steps.specs.TurnLaws.{waiting_below}
 use Rattle.turn_steps.proofs.Answered.{filter_answered, finally_ended}
 use Rattle.turn_steps.proofs.Served.{filter_turns, finally_turns, matched_when_shown}
 

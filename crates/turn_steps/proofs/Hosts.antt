@@ -14,14 +14,14 @@ use Rattle.host_model.specs.declared.funclet.Funclet.{Funclet}
 use Rattle.linear_code.specs.Program.{LinearProgram}
 use Rattle.linear_machine.specs.Frames.{Waits, Configuration}
 use Rattle.x64_templates.proofs.PlacedCode.{all_may}
-use Rattle.raw_stack.specs.Stack.{StackItem}
+use Rattle.linked_stack.specs.Stack.{StackItem}
 use Rattle.linked_stack.specs.ImagePlan.{Plan}
 use Rattle.linked_stack.specs.Linked.{Activation}
-use Rattle.linked_stack.specs.Laws.{KeepsAbove}
+use Rattle.linked_stack.specs.ListLaws.{KeepsAbove}
 use Rattle.linked_stack.proofs.Ends.{in_stack}
-use Rattle.linked_stack.proofs.Keeping.{kept_by_stores_below}
-use Rattle.dispatch_turns.specs.States.{IsSane}
-use Rattle.dispatch_turns.specs.Steps.{AsksHost}
+use Rattle.linked_stack.proofs.ListKeeping.{kept_by_stores_below}
+use Rattle.linked_stack.specs.States.{IsSane}
+use Rattle.linked_stack.specs.Steps.{AsksHost}
 use Rattle.body_states.specs.Sites.{Sites}
 use Rattle.body_states.specs.Programs.{HasProgram, IsResumed, IsMachineMemory, IsProgramImage}
 use Rattle.body_states.specs.Bodies.{InBody}

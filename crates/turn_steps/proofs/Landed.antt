@@ -14,20 +14,20 @@ use Rattle.linear_code.specs.Program.{LinearProgram}
 use Rattle.linear_machine.specs.Frames.{Frame, Target, Item, Waits, Configuration, Next}
 use Rattle.linear_machine.specs.Unwinding as linear
 use Rattle.linear_machine.specs.Unwinding.{arrive}
-use Rattle.raw_stack.specs.Stack.{StackFrame, StackItem, Framed}
+use Rattle.linked_stack.specs.Stack.{StackFrame, StackItem, Framed}
 use Rattle.linked_stack.specs.ImagePlan.{Plan, InCode}
 use Rattle.linked_stack.specs.Linked.{Activation}
-use Rattle.stack_records.specs.Records.{On}
-use Rattle.stack_unwinds.specs.Unwinding.{store_of, on_top}
-use Rattle.dispatch_turns.specs.States.{IsSane}
-use Rattle.dispatch_turns.specs.Unwinds.{landing_value, landing_events, Unwound, LandsThere}
+use Rattle.linked_stack.specs.Records.{On}
+use Rattle.linked_stack.specs.Unwinding.{store_of, on_top}
+use Rattle.linked_stack.specs.States.{IsSane}
+use Rattle.linked_stack.specs.Unwinds.{landing_value, landing_events, Unwound, LandsThere}
 use Rattle.whole_runs.proofs.Matches.{LeadsTo}
 use Rattle.body_states.specs.Sites.{Sites}
 use Rattle.body_states.specs.Programs.{IsMachineMemory, IsProgramImage}
 use Rattle.body_states.specs.Bodies.{Begins, turns_left}
 use Rattle.body_states.proofs.Resumed.{waits_in_body, no_front, all_front}
 use Rattle.body_states.proofs.Inside.{first_in_code}
-use Rattle.funclet_steps.specs.Entries.{entry_turns}
+use Rattle.turn_steps.specs.FuncletEntries.{entry_turns}
 use Rattle.turn_steps.specs.Outcomes.{Stands, GoesOn}
 
 same_code : (a b : ℕ) → Some a ≡ Some b → a ≡ b

@@ -15,8 +15,8 @@ use Rattle.c_model.specs.Source.{is_reserved}
 use Rattle.linear_code.specs.Program.{LinearProgram}
 use Rattle.x64_templates.specs.Frames.{Agrees}
 use Rattle.linked_stack.specs.ImagePlan.{Plan}
-use Rattle.stack_records.specs.Records.{IsData, HasRoom, IsUntouched}
-use Rattle.stack_records.proofs.Laying.{place_of, placed_keeps_above}
+use Rattle.linked_stack.specs.Records.{IsData, HasRoom, IsUntouched}
+use Rattle.linked_stack.proofs.Laying.{place_of, placed_keeps_above}
 use Rattle.body_states.specs.Sites.{Sites}
 use Rattle.body_states.specs.Programs.{IsMachineMemory}
 use Rattle.body_states.proofs.QuietTurns.{KeepsCode, program_kept}

@@ -23,7 +23,7 @@ use Rattle.whole_runs.proofs.Matches.{LeadsTo, quietly_before, quietly_after}
 use Rattle.body_states.specs.Sites.{Sites}
 use Rattle.body_states.specs.Bodies.{turns_left, Begins}
 use Rattle.body_steps.specs.Known.{KnownNext}
-use Rattle.funclet_steps.specs.Entries.{entry_turns}
+use Rattle.turn_steps.specs.FuncletEntries.{entry_turns}
 use Rattle.turn_steps.specs.Outcomes.{with_events, Stands, GoesOn, EntersFunclet, EndsRun, Outcome}
 
 -- an event that is shown first

@@ -11,8 +11,8 @@ use Rattle.x64_machine.specs.declared.cpu.Cpu.{Cpu}
 use Rattle.x64_machine.specs.declared.cpu.Flags.{Flags}
 use Rattle.x64_machine.specs.Effect.{State, register}
 use Rattle.host_model.specs.HostStep.{back}
-use Rattle.linked_stack.specs.Laws.{KeepsAbove}
-use Rattle.stack_records.specs.Records.{IsData, IsUntouched}
+use Rattle.linked_stack.specs.ListLaws.{KeepsAbove}
+use Rattle.linked_stack.specs.Records.{IsData, IsUntouched}
 use Rattle.x64_templates.specs.Straight.{MachineView, machine}
 use Rattle.x64_templates.specs.CallStates.{pushed, HasBelow, HasBack}
 use Rattle.x64_templates.proofs.PlacedCode.{all_may}

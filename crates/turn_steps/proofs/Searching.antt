@@ -18,27 +18,27 @@ use Rattle.linear_machine.specs.Searching as linear
 use Rattle.linear_machine.specs.Searching.{target_of, begin_filter, accept}
 use Rattle.linear_machine.specs.Unwinding.{unwind}
 use Rattle.linear_machine.specs.Run.{exec}
-use Rattle.raw_stack.specs.Stack.{StackItem}
+use Rattle.linked_stack.specs.Stack.{StackItem}
 use Rattle.linked_stack.specs.ImagePlan.{Plan}
 use Rattle.linked_stack.specs.Linked.{Activation, locals_of, Aimed}
 use Rattle.linked_stack.proofs.Ends.{in_stack}
-use Rattle.stack_records.specs.Records.{HasRoom}
-use Rattle.stack_unwinds.specs.Unwinding.{store_of}
-use Rattle.dispatch_turns.specs.Searches.{FilterBegins}
-use Rattle.dispatch_turns.specs.Laws.{IsSearching}
-use Rattle.dispatch_turns.specs.Steps.{placed_in, from_body}
-use Rattle.dispatch_turns.proofs.Searched.{search_turns}
-use Rattle.dispatch_turns.proofs.Begun.{acceptance_unwinds}
+use Rattle.linked_stack.specs.Records.{HasRoom}
+use Rattle.linked_stack.specs.Unwinding.{store_of}
+use Rattle.linked_stack.specs.Searches.{FilterBegins}
+use Rattle.linked_stack.specs.TurnLaws.{IsSearching}
+use Rattle.linked_stack.specs.Steps.{placed_in, from_body}
+use Rattle.linked_stack.proofs.TurnSearched.{search_turns}
+use Rattle.linked_stack.proofs.Begun.{acceptance_unwinds}
 use Rattle.whole_runs.specs.Ends.{HasRule}
 use Rattle.body_states.specs.Sites.{Sites}
 use Rattle.body_states.specs.Programs.{IsMachineMemory, IsProgramImage}
 use Rattle.body_states.specs.Bodies.{turns_left}
-use Rattle.funclet_steps.specs.Entries.{FlagsFit}
-use Rattle.funclet_steps.proofs.Steps.{called_filters_begin}
+use Rattle.turn_steps.specs.FuncletEntries.{FlagsFit}
+use Rattle.turn_steps.proofs.FuncletSteps.{called_filters_begin}
 use Rattle.turn_steps.specs.Outcomes.{EntersFunclet, Outcome}
 use Rattle.turn_steps.proofs.Memories.{memory_untouched, placing}
 use Rattle.turn_steps.proofs.Outcomes.{begins_there, outcome_same}
-use Rattle.turn_steps.proofs.Unwinding.{unwound}
+use Rattle.turn_steps.proofs.TurnUnwinding.{unwound}
 
 module _ (t : Functions) (fs : List Funclet) (program : LinearProgram) (p : Plan) (q : Sites) (image : IsProgramImage t fs program p q) (fits : FlagsFit program) where
   module _ (s : State) (at : ℕ) (r : DispatchRecord) (is : List StackItem) (acts : List Activation) (exception : Exception) (found : List Handler) (c : Configuration)

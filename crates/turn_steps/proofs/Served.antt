@@ -26,13 +26,13 @@ use Rattle.linear_code.specs.Program.{LinearProgram}
 use Rattle.linear_machine.specs.Frames.{Configuration, Seen, Next}
 use Rattle.linear_machine.specs.Instructions.{act}
 use Rattle.linked_stack.specs.ImagePlan.{Plan}
-use Rattle.dispatch_turns.specs.Returns.{filter_turn}
+use Rattle.linked_stack.specs.Returns.{filter_turn}
 use Rattle.whole_runs.specs.Comes.{IsLive, Comes}
 use Rattle.whole_runs.specs.Matched.{IsMatched}
 use Rattle.body_states.specs.Sites.{Sites}
 use Rattle.body_states.specs.Bodies.{turns_left}
 use Rattle.body_steps.specs.Known.{KnownNext}
-use Rattle.funclet_steps.specs.Entries.{entry_turns}
+use Rattle.turn_steps.specs.FuncletEntries.{entry_turns}
 use Rattle.turn_steps.specs.Outcomes.{Stands, Shows}
 use Rattle.turn_steps.proofs.Outcomes.{outcome_same, matched_by_turn}
 

@@ -1,3 +1,15 @@
+pub mod Calls
+pub mod CallLaws
+pub mod FuncletEntries
+pub mod FuncletLaws
 pub mod Outcomes
-pub mod Entries
-pub mod Laws
+pub mod TurnEntries
+pub mod TurnLaws
+pub mod BlockLaws
+pub mod Static
+pub mod ServiceLaws
+pub mod Places
+pub mod RaiseLaws
+pub mod Operations
+pub mod FaultLaws
+pub mod EndLaws

@@ -11,13 +11,13 @@ use Rattle.c_model.specs.declared.ended.Ended.TheVariants as source
 use Rattle.linear_code.specs.Program.{LinearProgram}
 use Rattle.linear_machine.specs.Frames.{Item, Waits, Searches, Unwinds, Store, Configuration, Seen, Finished, Next, deeper}
 use Rattle.linked_stack.specs.ImagePlan.{Plan}
-use Rattle.dispatch_turns.specs.States.{IsSane}
+use Rattle.linked_stack.specs.States.{IsSane}
 use Rattle.whole_runs.proofs.Matches.{LeadsTo}
 use Rattle.body_states.specs.Sites.{Sites}
 use Rattle.body_states.specs.Programs.{WorksAgain, IsMachineMemory}
 use Rattle.body_states.specs.Bodies.{InBody, Begins, turns_left}
 use Rattle.body_steps.specs.Known.{IsKnown}
-use Rattle.funclet_steps.specs.Entries.{entry_turns}
+use Rattle.turn_steps.specs.FuncletEntries.{entry_turns}
 
 -- events before those of a turn
 abbrev pub with_events : List Event → Turn → Turn

@@ -1,3 +1,0 @@
-pub mod ExpressionRooms
-pub mod StatementRooms
-pub mod Programs

@@ -1,9 +1,0 @@
-//! Laws of the room that the linear code of a program takes.
-
-ghost use Rattle.code_rooms.specs.Laws.{LoweredIsBounded};
-
-/// The code and the tables of a program take no more than the room of its functions, by their
-/// expressions and statements, and 544 bytes for each function and each filter or `__finally` block.
-pub fn laws()
-    ensures bounded { LoweredIsBounded }
-{}

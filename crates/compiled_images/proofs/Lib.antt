@@ -1,4 +1,0 @@
-pub mod Owners
-pub mod Named
-pub mod Compiled
-pub mod Images

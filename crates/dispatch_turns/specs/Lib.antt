@@ -1,6 +1,0 @@
-pub mod States
-pub mod Searches
-pub mod Unwinds
-pub mod Laws
-pub mod Steps
-pub mod Returns

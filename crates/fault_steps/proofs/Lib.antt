@@ -1,8 +1,0 @@
-pub mod Meant
-pub mod Places
-pub mod Midst
-pub mod Fetching
-pub mod Raising
-pub mod Completing
-pub mod Continuing
-pub mod Steps

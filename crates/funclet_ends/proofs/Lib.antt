@@ -1,4 +1,0 @@
-pub mod Answers
-pub mod Records
-pub mod Returned
-pub mod Steps

@@ -1,5 +1,0 @@
-use Rattle.funclet_steps.proofs.Steps as lemma
-use Rattle.funclet_steps.proofs.laws.laws.Goals as goal
-
-pub returns : goal.returns
-returns c = record { filters = lemma.called_filters_begin; blocks = lemma.called_blocks_begin; ends = lemma.returns_of_blocks_are_matched }

@@ -1,0 +1,172 @@
+-- After a quiet machine instruction a state is still in the midst of its instruction.
+use Rattle.std.proofs.Common.{◌≡◌, ℕ, ◌+◌, ◌%◌, ◌^◌, ◌≤◌, true, false, eqb, ◌||◌, Ok, List, [], ◌∷◌, ◌++◌, length, refl, sym, ap, subst, ◌∙◌, arith, append_assoc}
+use Rattle.std.proofs.lemmas.Bool.{ne_eqb, le-leb, le-ltb}
+use Rattle.host_layout.specs.Services.{in_host_page}
+use Rattle.flat_memory.specs.Memory.{Memory}
+use Rattle.x64_instr.specs.declared.register.Reg.{Reg}
+use Rattle.x64_instr.specs.declared.register.Reg.TheVariants.{Rax, Rcx, Rdx, Rsp}
+use Rattle.x64_instr.specs.declared.operand.RegisterOrMemory.{RegisterOrMemory}
+use Rattle.x64_instr.specs.declared.operand.RegisterOrMemory.TheVariants as places
+use Rattle.x64_instr.specs.declared.instruction.Operation.TheVariants as operations
+use Rattle.x64_instr.specs.declared.instruction.Instr.{Instr}
+use Rattle.x64_instr.specs.declared.instruction.Instr.TheVariants as instrs
+use Rattle.x64_instr.specs.Registers.{number}
+use Rattle.x64_encode.specs.Chosen.{chosen, is_encodable}
+use Rattle.x64_encode.proofs.Lengths.{longest}
+use Rattle.x64_machine.specs.Contexts.{kept_of}
+use Rattle.x64_machine.specs.Effect.{State, register, with_rip, is_trap, effect, step}
+use Rattle.frame_rules.specs.Body.{written, written_place, has, is_a_call}
+use Rattle.frame_rules.proofs.Writing.{writes_no_other}
+use Rattle.virtual_unwind.specs.CallerOf.{Functions}
+use Rattle.host_model.specs.declared.funclet.Funclet.{Funclet}
+use Rattle.linear_code.specs.declared.instruction.Instruction.TheVariants as instructions
+use Rattle.linear_code.specs.Program.{LinearProgram}
+use Rattle.linear_machine.specs.Frames.{Configuration}
+use Rattle.template_code.specs.Bytes.{size, sizes, spelled}
+use Rattle.template_code.specs.Template.{template, template_size}
+use Rattle.template_code.proofs.Sizes.{sizes_append, template_sizes}
+use Rattle.x64_templates.specs.Runs.{HasCode}
+use Rattle.x64_templates.proofs.PlacedCode.{bytes_split, spells, reads}
+use Rattle.x64_templates.proofs.Computes.{code_split}
+use Rattle.linked_stack.specs.ImagePlan.{Plan, InCode}
+use Rattle.linked_stack.specs.ListLaws.{KeepsStack}
+use Rattle.body_states.specs.Sites.{Sites, links_of}
+use Rattle.body_states.specs.Programs.{HasProgram, IsResumed, IsProgramImage}
+use Rattle.body_states.proofs.Inside.{address_next}
+use Rattle.body_steps.proofs.Running.{get_or_is}
+use Rattle.turn_steps.proofs.Places.{template_stands}
+use Rattle.image_runs.specs.Quiet.{is_free, is_free_place, is_quiet}
+use Rattle.image_runs.specs.Within.{IsWithin, IsQuietHere}
+use Rattle.image_runs.specs.WalkLaws.{QuietStepsStayWithin}
+use Rattle.image_runs.proofs.Quiet.{leaves}
+
+-- ---- no register but RAX, RCX and RDX is written
+
+free_register : (k : Reg) (r : ℕ) → 3 ≤ r → is_free k ≡ true → eqb (number k) r ≡ false
+free_register Rax r le q = ne_eqb 0 r (λ z. (let e : 0 ≡ r = z in absurd (omega arith)))
+free_register Rcx r le q = ne_eqb 1 r (λ z. (let e : 1 ≡ r = z in absurd (omega arith)))
+free_register Rdx r le q = ne_eqb 2 r (λ z. (let e : 2 ≡ r = z in absurd (omega arith)))
+free_register k r le q = absurd cc
+
+alone : (k : Reg) (r : ℕ) → 3 ≤ r → is_free k ≡ true → has r (number k ∷ []) ≡ false
+alone k r le q = ap (λ b. b || false) (free_register k r le q)
+
+place_alone : (to : RegisterOrMemory) (r : ℕ) → 3 ≤ r → is_free_place to ≡ true → has r (written_place to) ≡ false
+place_alone (places.Register k) r le q = alone k r le q
+place_alone (places.Memory a) r le q = refl
+
+not_written : (i : Instr) (r : ℕ) → 3 ≤ r → is_quiet i ≡ true → has r (written i) ≡ false
+not_written (instrs.Move w to from) r le q = place_alone to r le q
+not_written (instrs.LoadAddress w to m) r le q = alone to r le q
+not_written (instrs.Arithmetic operations.Add w to from) r le q = place_alone to r le q
+not_written (instrs.Arithmetic operations.Or w to from) r le q = place_alone to r le q
+not_written (instrs.Arithmetic operations.And w to from) r le q = place_alone to r le q
+not_written (instrs.Arithmetic operations.Sub w to from) r le q = place_alone to r le q
+not_written (instrs.Arithmetic operations.Xor w to from) r le q = place_alone to r le q
+not_written (instrs.Arithmetic operations.Compare w to from) r le q = refl
+not_written (instrs.Test w first second) r le q = refl
+not_written (instrs.Divide d w by) r le q =
+    ap (λ b. b || has r (2 ∷ [])) (free_register Rax r le refl) ∙ alone Rdx r le refl
+not_written (instrs.ExtendRax w) r le q = alone Rdx r le refl
+not_written (instrs.Set c to) r le q = place_alone to r le q
+not_written instrs.NoOperation r le q = refl
+not_written (instrs.Extend x w to narrow from) r le q = alone to r le q
+not_written (instrs.Multiply w to from) r le q = alone to r le q
+not_written (instrs.MultiplyBy w to from v) r le q = alone to r le q
+not_written (instrs.Unary o w to) r le q = place_alone to r le q
+not_written (instrs.Shift d w to by) r le q = place_alone to r le q
+not_written i r le q = absurd cc
+
+no_trap : (i : Instr) → is_quiet i ≡ true → is_trap i ≡ false
+no_trap instrs.Breakpoint q = absurd cc
+no_trap instrs.Undefined q = absurd cc
+no_trap i q = refl
+
+no_call : (i : Instr) → is_quiet i ≡ true → is_a_call i ≡ false
+no_call (instrs.Call to) q = absurd cc
+no_call i q = refl
+
+kept_same : (s t : State) (i : Instr) → is_quiet i ≡ true → effect s i ≡ Ok t → kept_of t.cpu.registers ≡ kept_of s.cpu.registers
+kept_same s t i q e =
+    let w = λ (r : ℕ) (le : 3 ≤ r). writes_no_other s t i r (no_call i q) e (not_written i r le q) in
+    λ j. w 4 (omega arith) j ∷ w 3 (omega arith) j ∷ w 5 (omega arith) j ∷ w 6 (omega arith) j ∷ w 7 (omega arith) j ∷ w 12 (omega arith) j ∷ w 13 (omega arith) j ∷ w 14 (omega arith) j ∷ w 15 (omega arith) j ∷ []
+
+-- ---- one step
+
+outside_page : (a : ℕ) → 0x100000000 ≤ a → in_host_page a ≡ false
+outside_page a h = rw (le-leb 0x7FF00000 a (omega arith), le-ltb a 0x7FF01000 (omega arith)) refl
+
+-- what a step does where an instruction stands
+stepped : (u : State) (i : Instr) (rest : List Instr) → is_quiet i ≡ true → HasCode u.memory u.cpu.rip (i ∷ rest) → is_encodable i ≡ true → step u ≡ effect (with_rip u (u.cpu.rip + size i)) i
+unfolding step size
+stepped u i rest q h spelling =
+    let low = h.placed.low in
+    let high = h.placed.high in
+    let parts = bytes_split u.memory u.cpu.rip (chosen i) (spelled rest) h.stands in
+    let read = reads u i (chosen i) (spells i spelling) (longest i) parts.0 (record { low = low; high = omega arith }) in
+    let rip : (u.cpu.rip + length (chosen i)) % 2 ^ 64 ≡ u.cpu.rip + length (chosen i) = omega arith in
+    rw (outside_page u.cpu.rip low, read, no_trap i q, rip) refl
+
+module _ (t : Functions) (fs : List Funclet) (program : LinearProgram) (p : Plan) (q : Sites) (image : IsProgramImage t fs program p q) (s u v : State) (c : Configuration)
+    (w : IsWithin t fs program p q s u c) (quiet : IsQuietHere t fs program p q s u c w) (e : step u ≡ Ok v) where
+  abbrev r : IsResumed t fs program p q c.frame.body w.code c.frame.next u.cpu.rip
+  r = w.resumed
+
+  abbrev all : List Instr
+  all = template (links_of p q c.frame.body) (p.layout c.frame.body) (p.address c.frame.body c.frame.next) r.instruction
+
+  code_here : HasCode u.memory u.cpu.rip (r.item ∷ r.left)
+  code_here =
+      let stands = template_stands t fs program p q image u.memory c.frame.body w.code c.frame.next r.instruction w.program_there w.body r.there in
+      let split = subst (HasCode u.memory (p.address c.frame.body c.frame.next)) r.parts stands in
+      subst (λ a. HasCode u.memory a (r.item ∷ r.left)) (sym r.here) (code_split u.memory (p.address c.frame.body c.frame.next) r.done (r.item ∷ r.left) split).1
+
+  does : effect (with_rip u (u.cpu.rip + size r.item)) r.item ≡ Ok v
+  does = sym (stepped u r.item r.left quiet.quiet code_here quiet.spelling) ∙ e
+
+  goes_to : v.cpu.rip ≡ u.cpu.rip + size r.item
+  goes_to = (leaves (with_rip u (u.cpu.rip + size r.item)) v r.item quiet.quiet does).rip
+
+  same_memory : v.memory ≡ u.memory
+  same_memory = (leaves (with_rip u (u.cpu.rip + size r.item)) v r.item quiet.quiet does).memory
+
+  inside : InCode p c.frame.body c.frame.next v.cpu.rip
+  inside =
+      let here = r.here in
+      let to = goes_to in
+      let g = get_or_is w.code.code c.frame.next r.instruction instructions.Separator r.there in
+      let n = address_next t fs program p q image c.frame.body w.code c.frame.next w.body g.1 in
+      let z = ap (template_size (p.layout c.frame.body)) g.0 in
+      let l = template_sizes (links_of p q c.frame.body) (p.layout c.frame.body) (p.address c.frame.body c.frame.next) r.instruction in
+      let k = ap sizes r.parts in
+      let m = ap sizes quiet.more in
+      let some = quiet.some in
+      record { low = omega arith; high = omega (arith, sizes_append r.done (r.item ∷ r.left)) }
+
+  still_within : IsWithin t fs program p q s v c
+  still_within =
+      let to = goes_to in
+      let here = r.here in
+      let high = code_here.placed.high in
+      record {
+        code = w.code;
+        body = w.body;
+        resumed = record {
+          instruction = r.instruction;
+          there = r.there;
+          goes_on = r.goes_on;
+          done = r.done ++ (r.item ∷ []);
+          item = quiet.next;
+          left = quiet.rest;
+          parts = r.parts ∙ ap (λ (xs : List Instr). r.done ++ (r.item ∷ xs)) quiet.more ∙ sym (append_assoc r.done (r.item ∷ []) (quiet.next ∷ quiet.rest));
+          here = omega (arith, sizes_append r.done (r.item ∷ []));
+        };
+        inside = inside;
+        small = omega arith;
+        kept = kept_same (with_rip u (u.cpu.rip + size r.item)) v r.item quiet.quiet does ∙ w.kept;
+        program_there = subst (HasProgram t fs program p q) (sym same_memory) w.program_there;
+        stack = subst (λ (m : Memory). KeepsStack s.memory m (register s.cpu Rsp)) (sym same_memory) w.stack;
+      }
+
+pub quiet_steps_stay_within : QuietStepsStayWithin
+quiet_steps_stay_within t fs program p q image s u v c w quiet e = still_within t fs program p q image s u v c w quiet e

@@ -1,0 +1,5 @@
+use Rattle.image_runs.proofs.FirstStarting as lemma
+use Rattle.image_runs.proofs.first_laws.laws.Goals as goal
+
+pub returns : goal.returns
+returns c = record { first = lemma.first_states_start; main = lemma.mains_begin }

@@ -1,5 +1,0 @@
-use Rattle.image_runs.proofs.Images.{linked_images_show_all, linked_images_show_no_more}
-use Rattle.image_runs.proofs.laws.images.Goals as goal
-
-pub returns : goal.returns
-returns c = record { all = linked_images_show_all; no_more = linked_images_show_no_more }

@@ -1,0 +1,5 @@
+use Rattle.image_runs.proofs.MainStarting as lemma
+use Rattle.image_runs.proofs.main_laws.laws.Goals as goal
+
+pub returns : goal.returns
+returns c = record { main = lemma.main_is_begun }

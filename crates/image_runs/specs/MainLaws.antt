@@ -1,0 +1,22 @@
+-- What is claimed of the beginning of a run.
+use Rattle.std.specs.Prelude.{◌≡◌, List, slice_get, ℤ, Some}
+use Rattle.x64_machine.specs.Effect.{State}
+use Rattle.virtual_unwind.specs.CallerOf.{Functions}
+use Rattle.host_model.specs.declared.funclet.Funclet.{Funclet}
+use Rattle.linear_code.specs.Program.{LinearProgram, LinearFunction}
+use Rattle.linear_machine.specs.Run.{start}
+use Rattle.linked_stack.specs.ImagePlan.{Plan}
+use Rattle.ir_typed.specs.Ready.{CanGoOn}
+use Rattle.body_states.specs.Sites.{Sites}
+use Rattle.body_states.specs.Programs.{IsProgramImage}
+use Rattle.body_steps.specs.Known.{IsWellMade}
+use Rattle.image_runs.specs.Starts.{IsFirst, MainBegins}
+
+-- where linear code begins at an instruction, the machine comes there
+abbrev pub MainIsBegun : Type 0
+MainIsBegun =
+    (t : Functions) (fs : List Funclet) (program : LinearProgram) (p : Plan) (q : Sites)
+    → IsProgramImage t fs program p q → IsWellMade program p
+    → (arg : ℤ) (main : LinearFunction) (s : State)
+    → slice_get program.functions program.main ≡ Some main → CanGoOn program (start program arg main)
+    → IsFirst t fs program p q arg s → MainBegins t fs program p q arg main s

@@ -1,0 +1,42 @@
+-- The frame of a body that is about to return.
+use Rattle.std.specs.Prelude.{◌≡◌, ℕ, ◌+◌, ◌^◌, ◌<◌, true, false, List, length, slice_get, Some, Ok}
+use Rattle.flat_memory.specs.Memory.{Memory}
+use Rattle.x64_machine.specs.declared.context.Context.{Context}
+use Rattle.virtual_unwind.specs.Contexts.{rsp}
+use Rattle.virtual_unwind.specs.CallerOf.{Functions}
+use Rattle.virtual_unwind.specs.Undone.{word}
+use Rattle.host_model.specs.declared.funclet.Funclet.{Funclet}
+use Rattle.linear_code.specs.declared.slot.Slot.{Slot}
+use Rattle.linear_code.specs.declared.instruction.Instruction.TheVariants as instructions
+use Rattle.linear_code.specs.Program.{LinearProgram, LinearBody}
+use Rattle.linear_machine.specs.Frames.{BodyName, body_of}
+use Rattle.linked_stack.specs.Stack.{LeafStands}
+use Rattle.linked_stack.specs.ImagePlan.{Plan}
+use Rattle.body_states.specs.Sites.{Sites}
+use Rattle.body_states.specs.Programs.{HasProgram, IsFramed}
+
+module _ (t : Functions) (fs : List Funclet) (program : LinearProgram) (p : Plan) (q : Sites) where
+  -- a return begins at RIP: its result is fetched first, so no epilogue begins there
+  pub record IsReturning (b : LinearBody) (name : BodyName) (label rip : ℕ) : Type 0 where
+    pub from : Slot
+    pub there : slice_get b.code label ≡ Some (instructions.Return from)
+    pub here : rip ≡ p.address name label
+
+  abbrev pub FramesStandStill : Type 0
+  FramesStandStill =
+      (m : Memory) (name : BodyName) (b : LinearBody) (label : ℕ) (c : Context) (back : ℕ)
+      → body_of program name ≡ Some b → p.leaf name ≡ false → HasProgram t fs program p q m → IsReturning b name label c.rip
+      → length c.kept ≡ 9 → rsp c + (p.layout name).frame + 8 < 2 ^ 64 → word m (rsp c + (p.layout name).frame) ≡ Ok back
+      → IsFramed t fs program p q m name c back
+
+  abbrev pub LeavesStandStill : Type 0
+  LeavesStandStill =
+      (m : Memory) (name : BodyName) (b : LinearBody) (label : ℕ) (c : Context) (back : ℕ)
+      → body_of program name ≡ Some b → p.leaf name ≡ true → IsReturning b name label c.rip
+      → length c.kept ≡ 9 → rsp c + 8 < 2 ^ 64 → word m (rsp c) ≡ Ok back
+      → LeafStands t m c back
+
+  -- as at any other instruction, the body's frame stands there
+  pub record StandStill : Type 0 where
+    pub frames : FramesStandStill
+    pub leaves : LeavesStandStill

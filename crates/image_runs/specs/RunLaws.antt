@@ -1,0 +1,62 @@
+-- What is claimed of the runs of images of sound programs.
+use Rattle.std.specs.Prelude.{◌≡◌, ℕ, ◌+◌, ◌*◌, ◌≤◌, true, List, [], slice_get, ℤ, Some}
+use Rattle.x64_machine.specs.Effect.{State}
+use Rattle.virtual_unwind.specs.CallerOf.{Functions}
+use Rattle.host_model.specs.declared.funclet.Funclet.{Funclet}
+use Rattle.host_model.specs.HostStep.{host}
+use Rattle.host_model.specs.Machine.{run}
+use Rattle.c_checked.specs.Program.{Program}
+use Rattle.c_checked.specs.Sound.{IsSound}
+use Rattle.c_model.specs.Meaning.{meaning, Calm}
+use Rattle.linear_code.specs.declared.instruction.Instruction.{Instruction}
+use Rattle.linear_code.specs.Program.{LinearFunction}
+use Rattle.linear_machine.specs.Frames.{Configuration}
+use Rattle.linear_machine.specs.Run.{instruction_at}
+use Rattle.linked_stack.specs.ImagePlan.{Plan}
+use Rattle.seh_ir.specs.Lowered.{lowered}
+use Rattle.ir_linked.specs.Pace.{pace_of}
+use Rattle.unset_locals.specs.Reads.{ReadsNoUnset}
+use Rattle.unset_locals.specs.Twins.{AreTwins}
+use Rattle.whole_runs.specs.Laws.{ShowsAll, ShowsNoMore}
+use Rattle.whole_runs.specs.Matched.{Simulates}
+use Rattle.body_states.specs.Sites.{Sites}
+use Rattle.body_states.specs.Bodies.{turns_left}
+use Rattle.body_steps.specs.Known.{IsKnown, KnownNext}
+use Rattle.body_steps.specs.Laws.{pace}
+use Rattle.image_runs.specs.Sound.{IsSoundImage}
+use Rattle.image_runs.specs.Starts.{MainBegins}
+use Rattle.image_runs.specs.Shown.{ShowsTwin}
+
+-- what the step laws ask of a configuration holds of a twin, and of the twin after each step
+pub record IsKnownTwin (program : Program) (d : Configuration) : Type 0 where
+  pub known : IsKnown (lowered program) d
+  pub next : (i : Instruction) → instruction_at (lowered program) d ≡ Some i → KnownNext (lowered program) d i
+
+abbrev pub TwinsAreKnown : Type 0
+TwinsAreKnown =
+    (program : Program) → IsSound program → ReadsNoUnset (lowered program)
+    → (c d : Configuration) → AreTwins (lowered program) c d → IsKnownTwin program d
+
+-- the machine keeps showing a twin
+abbrev pub TwinsSimulate : Type 0
+TwinsSimulate =
+    (t : Functions) (fs : List Funclet) (program : Program) (p : Plan) (q : Sites)
+    → IsSound program → ReadsNoUnset (lowered program) → IsSoundImage t fs (lowered program) p q
+    → Simulates t fs (lowered program) pace turns_left (λ n. ShowsTwin t fs (lowered program) p q)
+
+-- in 256 n + 256 turns the machine shows what the program shows within n steps, and has ended as it ends
+abbrev pub ImagesShowAll : Type 0
+ImagesShowAll =
+    (t : Functions) (fs : List Funclet) (program : Program) (p : Plan) (q : Sites)
+    → IsSound program → ReadsNoUnset (lowered program) → IsSoundImage t fs (lowered program) p q
+    → (arg : ℤ) (main : LinearFunction) (s : State) → slice_get (lowered program).functions (lowered program).main ≡ Some main → MainBegins t fs (lowered program) p q arg main s → (n : ℕ)
+    → ShowsAll (meaning program arg n) (run t fs (256 * n + 256) (host s) [])
+
+-- in m turns it shows no more than (m + 1) * K steps show, where these are calm, and ends only as they end
+abbrev pub ImagesShowNoMore : Type 0
+ImagesShowNoMore =
+    (t : Functions) (fs : List Funclet) (program : Program) (p : Plan) (q : Sites)
+    → IsSound program → ReadsNoUnset (lowered program) → IsSoundImage t fs (lowered program) p q
+    → (arg : ℤ) (main : LinearFunction) (s : State) → slice_get (lowered program).functions (lowered program).main ≡ Some main → MainBegins t fs (lowered program) p q arg main s
+    → (m n : ℕ) → (m + 1) * pace_of program ≤ n → Calm program arg n ≡ true
+    → ShowsNoMore (meaning program arg n) (run t fs m (host s) [])

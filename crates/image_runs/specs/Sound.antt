@@ -1,0 +1,38 @@
+-- Sound programs whose linear code has an image, and what the steps of the machine ask of that image.
+use Rattle.std.specs.Prelude.{◌≡◌, List, Some}
+use Rattle.c_checked.specs.Program.{Program}
+use Rattle.c_checked.specs.Sound.{IsSound}
+use Rattle.virtual_unwind.specs.CallerOf.{Functions}
+use Rattle.host_model.specs.declared.funclet.Funclet.{Funclet}
+use Rattle.linear_code.specs.Program.{LinearBody, LinearProgram}
+use Rattle.linear_machine.specs.Frames.{BodyName, body_of}
+use Rattle.linked_stack.specs.ImagePlan.{Plan}
+use Rattle.seh_ir.specs.Lowered.{lowered}
+use Rattle.ir_bounds.specs.Nesting.{AreShallow}
+use Rattle.ir_places.specs.Alike.{HasSameRegions}
+use Rattle.program_link.specs.Fits.{FitsProgram}
+use Rattle.body_states.specs.Sites.{Sites}
+use Rattle.body_states.specs.Programs.{IsProgramImage}
+use Rattle.body_steps.specs.Known.{IsWellMade}
+use Rattle.turn_steps.specs.Calls.{FunctionsApart}
+use Rattle.turn_steps.specs.FuncletEntries.{FlagsFit, SeparatorsFollow}
+use Rattle.turn_steps.specs.Static.{FiltersReadInformation}
+use Rattle.turn_steps.specs.Places.{StayInside, AreFollowed}
+
+-- sound, nested within the limits, and within those of linking
+pub record IsLinkable (program : Program) : Type 0 where
+  pub sound : IsSound program
+  pub shallow : AreShallow program.functions
+  pub fits : FitsProgram (lowered program)
+
+-- what never changes while a program's image runs
+pub record IsSoundImage (t : Functions) (fs : List Funclet) (program : LinearProgram) (p : Plan) (q : Sites) : Type 0 where
+  pub image : IsProgramImage t fs program p q
+  pub made : IsWellMade program p
+  pub apart : FunctionsApart program p q
+  pub flags : FlagsFit program
+  pub separators : SeparatorsFollow program
+  pub followed : AreFollowed program
+  pub inside : StayInside program
+  pub informs : FiltersReadInformation program
+  pub regions : (name : BodyName) (b : LinearBody) → body_of program name ≡ Some b → HasSameRegions b

@@ -1,0 +1,57 @@
+-- What is claimed of walks over the stack of a running image.
+use Rattle.std.specs.Prelude.{◌≡◌, List, Some, Ok}
+use Rattle.x64_machine.specs.Effect.{State, step}
+use Rattle.virtual_unwind.specs.CallerOf.{Functions}
+use Rattle.host_model.specs.declared.funclet.Funclet.{Funclet}
+use Rattle.linear_code.specs.declared.instruction.Instruction.{Instruction}
+use Rattle.linear_code.specs.Program.{LinearProgram}
+use Rattle.linear_machine.specs.Frames.{Configuration}
+use Rattle.linear_machine.specs.Run.{instruction_at}
+use Rattle.x64_templates.specs.Quiet.{IsReturn}
+use Rattle.linked_stack.specs.ImagePlan.{Plan}
+use Rattle.body_states.specs.Sites.{Sites}
+use Rattle.body_states.specs.Programs.{IsProgramImage}
+use Rattle.body_states.specs.Bodies.{Begins}
+use Rattle.body_steps.specs.Known.{IsKnown}
+use Rattle.turn_steps.specs.Outcomes.{Stands}
+use Rattle.image_states.specs.Plans.{functions_of, funclets_of, plan_of, sites_of}
+use Rattle.image_states.specs.Compiled.{IsCompiled}
+use Rattle.image_runs.specs.Returns.{StandStill}
+use Rattle.image_runs.specs.Live.{WalkGives}
+use Rattle.image_runs.specs.Within.{IsWithin, IsQuietHere}
+
+-- in every state that stands for a configuration the walk gives the frames that are live there
+abbrev pub WalksGiveTheFrames : Type 0
+WalksGiveTheFrames =
+    (t : Functions) (fs : List Funclet) (program : LinearProgram) (p : Plan) (q : Sites)
+    → IsProgramImage t fs program p q → StandStill t fs program p q
+    → (s : State) (c : Configuration) → Stands t fs program p q s c → IsKnown program c
+    → WalkGives t fs program p s c
+
+-- and in the midst of its instruction, as long as the stack from RSP up is as it was
+abbrev pub WalksGiveTheFramesWithin : Type 0
+WalksGiveTheFramesWithin =
+    (t : Functions) (fs : List Funclet) (program : LinearProgram) (p : Plan) (q : Sites)
+    → IsProgramImage t fs program p q → StandStill t fs program p q
+    → (s u : State) (c : Configuration) → Stands t fs program p q s c → IsKnown program c → IsWithin t fs program p q s u c
+    → WalkGives t fs program p u c
+
+-- an instruction that is no return begins so
+abbrev pub BeginningsAreWithin : Type 0
+BeginningsAreWithin =
+    (t : Functions) (fs : List Funclet) (program : LinearProgram) (p : Plan) (q : Sites)
+    → IsProgramImage t fs program p q
+    → (s : State) (c : Configuration) (i : Instruction) → Begins t fs program p q s c → instruction_at program c ≡ Some i → (IsReturn i → ⊥)
+    → IsWithin t fs program p q s s c
+
+-- it is so after each machine instruction that writes no memory, up to the last one of the instruction
+abbrev pub QuietStepsStayWithin : Type 0
+QuietStepsStayWithin =
+    (t : Functions) (fs : List Funclet) (program : LinearProgram) (p : Plan) (q : Sites)
+    → IsProgramImage t fs program p q
+    → (s u v : State) (c : Configuration) (w : IsWithin t fs program p q s u c) → IsQuietHere t fs program p q s u c w → step u ≡ Ok v
+    → IsWithin t fs program p q s v c
+
+-- of an image that is linked, a body that is about to return stands as at any other instruction
+abbrev pub LinkedStandStill : Type 0
+LinkedStandStill = (program : LinearProgram) → IsCompiled program → StandStill (functions_of program) (funclets_of program) program (plan_of program) (sites_of program)

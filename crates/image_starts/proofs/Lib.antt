@@ -1,4 +1,0 @@
-pub mod Sections
-pub mod Data
-pub mod CodePlaced
-pub mod Starting

@@ -1,5 +1,0 @@
-use Rattle.image_starts.proofs.Starting.{images_start, images_load}
-use Rattle.image_starts.proofs.laws.starts.Goals as goal
-
-pub returns : goal.returns
-returns c = record { memory = images_start; loads = images_load }

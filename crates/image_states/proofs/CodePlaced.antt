@@ -1,0 +1,271 @@
+-- The code of a loaded image: that of bodies, of thunks and of `__chkstk`.
+use Rattle.std.proofs.Common.{◌≡◌, ℕ, zero, suc, ◌+◌, ◌-◌, ◌*◌, ◌/◌, ◌%◌, ◌^◌, ◌<◌, ◌≤◌, Bool, true, false, List, [], ◌∷◌, ◌++◌, length, Option, Some, None, refl, sym, ap, subst, ◌∙◌, arith, inl, inr, length-append}
+use Rattle.std.specs.List.{AllByRecursion}
+use Rattle.std.proofs.lemmas.List.{append-nil}
+use Rattle.host_layout.specs.declared.range.TheConstants.{IMAGE_BASE, IMAGE_RANGE_END}
+use Rattle.host_layout.specs.declared.service.Service.{Service}
+use Rattle.host_layout.specs.declared.service.Service.TheVariants as services
+use Rattle.host_layout.specs.Services.{address_of, service_named}
+use Rattle.flat_memory.specs.Protections.{is_readable, is_writable}
+use Rattle.flat_memory.specs.Memory.{Memory, number_at, may_read, may_write}
+use Rattle.x64_instr.specs.declared.instruction.Instr.{Instr}
+use Rattle.x64_encode.specs.Chosen.{chosen, modrm}
+use Rattle.pe_image.specs.Image.{Section, Image}
+use Rattle.pe_image.specs.Imports.{Import}
+use Rattle.pe_write.specs.declared.service.Service as pe
+use Rattle.pe_write.specs.declared.service.Service.TheVariants as imports
+use Rattle.pe_write.specs.ImportTables.{name_of, import_tables, slot_of}
+use Rattle.pe_write.specs.ImportTables as importing
+use Rattle.pe_write.specs.Program.{Program, image_of, sections_of, imports_of, sizes_of, rdata_at, end_at}
+use Rattle.pe_write.proofs.Programs.{listed}
+use Rattle.host_model.specs.Loading.{section_of, mode_in, stored_byte, with_slots, mapped}
+use Rattle.host_model.specs.Slots.{AreApart}
+use Rattle.host_model.proofs.Slots.{slots_read}
+use Rattle.frame_rules.specs.Bytes.{Stands}
+use Rattle.c_operations.specs.declared.built_in.BuiltIn.{BuiltIn}
+use Rattle.c_operations.specs.declared.built_in.BuiltIn.TheVariants.{Put, Protect, RaiseException}
+use Rattle.linear_code.specs.Program.{LinearBody, LinearProgram}
+use Rattle.linear_machine.specs.Frames.{BodyName, body_of}
+use Rattle.template_code.specs.Bytes.{spelled, size, sizes, thunk}
+use Rattle.template_code.specs.Jumps.{distance}
+use Rattle.template_code.specs.Probing.{check_stack}
+use Rattle.template_code.proofs.Sizes.{sizes_spelled}
+use Rattle.x64_templates.specs.Placed.{IsCodeAt, IsPlaced}
+use Rattle.x64_templates.specs.Runs.{HasCode}
+use Rattle.x64_templates.specs.Thunks.{HasThunk}
+use Rattle.program_link.specs.Text.{SiteView, routine_size, thunk_at, service_thunk, check_stack_at, front_code, routine_code, routine_bytes, routines_bytes}
+use Rattle.program_link.specs.Linked.{text_begin, first, total, linked}
+use Rattle.program_link.specs.Routines.{routines}
+use Rattle.program_link.proofs.Entries.{routine_small}
+use Rattle.program_tables.specs.Placed.{Placed, site_of}
+use Rattle.program_tables.proofs.Handlers.{thunk_bytes}
+use Rattle.program_tables.proofs.Table.{is, text_is, rdata_is, end_inside}
+use Rattle.program_frames.specs.Standing.{image_base}
+use Rattle.program_frames.proofs.CodeStands.{IsThere, code_length}
+use Rattle.program_frames.proofs.Loaded.{images_have_text, texts_are_fixed}
+use Rattle.body_states.specs.Sites.{begin_of, code_of}
+use Rattle.body_states.specs.Programs.{service_of, HasService, HasProgram}
+use Rattle.image_states.specs.Plans.{functions_of, funclets_of, routine_of, plan_of, sites_of}
+use Rattle.image_states.specs.Compiled.{IsCompiled}
+use Rattle.image_states.proofs.Addresses.{InImage, in_image, reserved, place, here}
+use Rattle.image_states.proofs.Entering.{code_same}
+use Rattle.image_states.proofs.Data.{tables_there}
+
+-- ---- code that may not be written
+
+code_at : (m : Memory) (at : ℕ) (bytes : List ℕ) → Stands m at bytes → ((k : ℕ) → k < length bytes → may_write m (at + k) ≡ false) → IsCodeAt m at bytes
+code_at m at [] s fixed = tt
+code_at m at (b ∷ bytes) s fixed =
+    let z : at ≡ at + 0 = omega arith in (
+      s.0,
+      s.1,
+      ap (may_write m) z ∙ fixed 0 (omega arith),
+      code_at m (at + 1) bytes s.2 (λ k lt. (let e : at + 1 + k ≡ at + suc k = omega arith in ap (may_write m) e ∙ fixed (suc k) (omega arith))),
+    )
+
+pub code_split : (m : Memory) (at : ℕ) (a b : List ℕ) → IsCodeAt m at (a ++ b) → IsCodeAt m at a × IsCodeAt m (at + length a) b
+code_split m at [] b h = (tt, let e : at ≡ at + 0 = omega arith in subst (λ x. IsCodeAt m x b) e h)
+code_split m at (x ∷ a) b h =
+    let r = code_split m (at + 1) a b h.3 in
+    let e : at + 1 + length a ≡ at + length (x ∷ a) = omega arith in
+    ((h.0, h.1, h.2, r.0), subst (λ y. IsCodeAt m y b) e r.1)
+
+check_stack_size : sizes check_stack ≡ 21
+unfolding size modrm
+check_stack_size = refl
+
+module _ (program : LinearProgram) (c : IsCompiled program) where
+  abbrev p : Program
+  p = linked program
+
+  abbrev m : Memory
+  m = mapped (image_of p)
+
+  abbrev s : SiteView
+  s = site_of program
+
+  abbrev T : ℕ
+  T = image_base + text_begin program.globals
+
+  abbrev r : ℕ
+  r = rdata_at (sizes_of p)
+
+  low : end_at (sizes_of p) ≤ 2 ^ 28
+  low = c.small
+
+  text_code : IsCodeAt m T p.text
+  text_code = code_at m T p.text (images_have_text program c.fits) (λ k lt. texts_are_fixed program k c.fits lt)
+
+  -- ---- bodies
+
+  body_code : (name : BodyName) (b : LinearBody) → body_of program name ≡ Some b → HasCode m (begin_of (plan_of program) (sites_of program) name) (code_of program (plan_of program) (sites_of program) name b)
+  unfolding routine_bytes
+  body_code name b is' =
+      let q = place program c name b is' in
+      let h = here program c name b is' in
+      let x = routine_of program name in
+      let code = routine_code s x.begin x.routine in
+      let room = h.room in
+      let small = routine_small x.routine h.near in
+      let before = h.here in
+      let at : T + length h.before ≡ image_base + x.begin = omega arith in
+      let all = (code_split m T h.before (spelled code ++ h.after) (subst (IsCodeAt m T) h.bytes text_code)).1 in
+      let own = (code_split m (image_base + x.begin) (spelled code) h.after (subst (λ (n : ℕ). IsCodeAt m n (spelled code ++ h.after)) at all)).0 in
+      let long = code_length s x.begin x.routine h.near in
+      let wide : sizes code ≡ routine_size x.routine = sym (sizes_spelled code) ∙ long in
+      let placed : HasCode m (image_base + x.begin) code = record { stands = own; placed = record { low = omega arith; high = omega arith } } in
+      subst (λ (n : ℕ). HasCode m n (code_of program (plan_of program) (sites_of program) name b)) (sym q.begin) (subst (HasCode m (image_base + x.begin)) (sym (code_same program c name b is')) placed)
+
+  -- ---- the front
+
+  abbrev t : pe.Service → List ℕ
+  t v = chosen (service_thunk s.text s.rdata v)
+
+  six : (v : pe.Service) → length (t v) ≡ 6
+  six v = ap length (thunk_bytes _)
+
+  record Front : Type 0 where
+    raise : IsCodeAt m T (t imports.RaiseException)
+    unwind : IsCodeAt m (T + 12) (t imports.LocalUnwind)
+    protect : IsCodeAt m (T + 18) (t imports.Protect)
+    put : IsCodeAt m (T + 24) (t imports.Put)
+    check : IsCodeAt m (T + 30) (spelled check_stack)
+
+  front : Front
+  front =
+      let rest = routines_bytes s (first program.globals) (routines program) in
+      let all = (code_split m T (spelled (front_code s.text s.rdata)) rest text_code).0 in
+      let a = code_split m T (t imports.RaiseException) (t imports.CSpecificHandler ++ (t imports.LocalUnwind ++ (t imports.Protect ++ (t imports.Put ++ spelled check_stack)))) all in
+      let b = code_split m (T + length (t imports.RaiseException)) (t imports.CSpecificHandler) (t imports.LocalUnwind ++ (t imports.Protect ++ (t imports.Put ++ spelled check_stack))) a.1 in
+      let d = code_split m (T + length (t imports.RaiseException) + length (t imports.CSpecificHandler)) (t imports.LocalUnwind) (t imports.Protect ++ (t imports.Put ++ spelled check_stack)) b.1 in
+      let e = code_split m (T + length (t imports.RaiseException) + length (t imports.CSpecificHandler) + length (t imports.LocalUnwind)) (t imports.Protect) (t imports.Put ++ spelled check_stack) d.1 in
+      let f = code_split m (T + length (t imports.RaiseException) + length (t imports.CSpecificHandler) + length (t imports.LocalUnwind) + length (t imports.Protect)) (t imports.Put) (spelled check_stack) e.1 in
+      let n0 = six imports.RaiseException in
+      let n1 = six imports.CSpecificHandler in
+      let n2 = six imports.LocalUnwind in
+      let n3 = six imports.Protect in
+      let n4 = six imports.Put in
+      let p2 : T + length (t imports.RaiseException) + length (t imports.CSpecificHandler) ≡ T + 12 = omega arith in
+      let p3 : T + length (t imports.RaiseException) + length (t imports.CSpecificHandler) + length (t imports.LocalUnwind) ≡ T + 18 = omega arith in
+      let p4 : T + length (t imports.RaiseException) + length (t imports.CSpecificHandler) + length (t imports.LocalUnwind) + length (t imports.Protect) ≡ T + 24 = omega arith in
+      let p5 : T + length (t imports.RaiseException) + length (t imports.CSpecificHandler) + length (t imports.LocalUnwind) + length (t imports.Protect) + length (t imports.Put) ≡ T + 30 = omega arith in
+      record {
+        raise = a.0;
+        unwind = subst (λ (n : ℕ). IsCodeAt m n (t imports.LocalUnwind)) p2 d.0;
+        protect = subst (λ (n : ℕ). IsCodeAt m n (t imports.Protect)) p3 e.0;
+        put = subst (λ (n : ℕ). IsCodeAt m n (t imports.Put)) p4 f.0;
+        check = subst (λ (n : ℕ). IsCodeAt m n (spelled check_stack)) p5 f.1;
+      }
+
+  pub check_code : HasCode m (sites_of program).check_stack check_stack
+  check_code =
+      let long = check_stack_size in
+      let end = end_inside program c.fits in
+      let l = low in
+      let at : T + 30 ≡ (sites_of program).check_stack = omega arith in
+      record { stands = subst (λ (n : ℕ). IsCodeAt m n (spelled check_stack)) at front.check; placed = record { low = omega arith; high = omega arith } }
+
+  -- ---- slots
+
+  readable : (a : ℕ) → image_base + r ≤ a → a < image_base + r + 222 → may_read m a ≡ true
+  unfolding mapped
+  readable a le lt = ap (λ (o : Option Section). is_readable (mode_in o a).rights) (tables_there program c a le lt)
+
+  fixed : (a : ℕ) → image_base + r ≤ a → a < image_base + r + 222 → may_write m a ≡ false
+  unfolding mapped
+  fixed a le lt = ap (λ (o : Option Section). is_writable (mode_in o a).rights) (tables_there program c a le lt)
+
+  abbrev named : pe.Service → ℕ → Import
+  named v at = record { name = name_of v; slot = at }
+
+  abbrev i0 : Import
+  i0 = named imports.RaiseException (r + 88)
+
+  abbrev i1 : Import
+  i1 = named imports.CSpecificHandler (r + 88 + 8)
+
+  abbrev i2 : Import
+  i2 = named imports.LocalUnwind (r + 88 + 8 + 8)
+
+  abbrev i3 : Import
+  i3 = named imports.Protect (r + 88 + 8 + 8 + 8)
+
+  abbrev i4 : Import
+  i4 = named imports.Put (r + 88 + 8 + 8 + 8 + 8)
+
+  reads : (before : List Import) (i : Import) (later : List Import) (service : Service) → before ++ (i ∷ later) ≡ imports_of p → image_base + i.slot + 8 ≤ 2 ^ 64 → service_named i.name ≡ Some service → AllByRecursion (λ (j : Import). AreApart (image_base + i.slot) (image_base + j.slot)) later
+      → number_at m.byte 8 (image_base + i.slot) ≡ address_of service
+  unfolding mapped
+  reads before i later service same fits name apart =
+      ap (λ (is : List Import). number_at (with_slots image_base (stored_byte (image_of p)) is) 8 (image_base + i.slot)) (listed p (is program c.fits) ∙ sym same)
+      ∙ slots_read image_base (stored_byte (image_of p)) before i later service fits name apart
+
+  apart_after : (x y : ℕ) → x + 8 ≤ y → y + 8 ≤ 2 ^ 48 → AreApart (image_base + x) (image_base + y)
+  apart_after x y le small = record { apart = inl (omega arith); fits = omega arith }
+
+  raise_reads : number_at m.byte 8 (image_base + (r + 88)) ≡ address_of services.RaiseException
+  raise_reads =
+      let l = low in
+      reads [] i0 (i1 ∷ i2 ∷ i3 ∷ i4 ∷ []) services.RaiseException refl (omega arith) refl
+      (apart_after (r + 88) (r + 88 + 8) (omega arith) (omega arith), (apart_after (r + 88) (r + 88 + 8 + 8) (omega arith) (omega arith), (apart_after (r + 88) (r + 88 + 8 + 8 + 8) (omega arith) (omega arith), (apart_after (r + 88) (r + 88 + 8 + 8 + 8 + 8) (omega arith) (omega arith), tt))))
+
+  unwind_reads : number_at m.byte 8 (image_base + (r + 88 + 8 + 8)) ≡ address_of services.LocalUnwind
+  unwind_reads =
+      let l = low in
+      reads (i0 ∷ i1 ∷ []) i2 (i3 ∷ i4 ∷ []) services.LocalUnwind refl (omega arith) refl
+      (apart_after (r + 88 + 8 + 8) (r + 88 + 8 + 8 + 8) (omega arith) (omega arith), (apart_after (r + 88 + 8 + 8) (r + 88 + 8 + 8 + 8 + 8) (omega arith) (omega arith), tt))
+
+  protect_reads : number_at m.byte 8 (image_base + (r + 88 + 8 + 8 + 8)) ≡ address_of services.Protect
+  protect_reads =
+      let l = low in
+      reads (i0 ∷ i1 ∷ i2 ∷ []) i3 (i4 ∷ []) services.Protect refl (omega arith) refl (apart_after (r + 88 + 8 + 8 + 8) (r + 88 + 8 + 8 + 8 + 8) (omega arith) (omega arith), tt)
+
+  put_reads : number_at m.byte 8 (image_base + (r + 88 + 8 + 8 + 8 + 8)) ≡ address_of services.Put
+  put_reads = let l = low in reads (i0 ∷ i1 ∷ i2 ∷ i3 ∷ []) i4 [] services.Put refl (omega arith) refl tt
+
+  -- ---- thunks
+
+  abbrev Serves : ℕ → Service → Type 0
+  Serves at service = HasService (functions_of program) (funclets_of program) program (plan_of program) (sites_of program) m at service
+
+  -- the thunk at a place of the text, through a slot
+  serves : (v : pe.Service) (service : Service) (at n : ℕ) → IsCodeAt m (T + n) (t v) → at ≡ image_base + thunk_at s.text v → thunk_at s.text v ≡ s.text + n → n ≤ 24 → slot_of v ≤ 120 → 88 ≤ slot_of v
+      → number_at m.byte 8 (image_base + (r + slot_of v)) ≡ address_of service → Serves at service
+  serves v service at n code here' place' few high least bound =
+      let l = low in
+      let end = end_inside program c.fits in
+      let text' = text_is program c.fits in
+      let same = rdata_is program c.fits in
+      let away = r + slot_of v - (s.text + n + 6) in
+      let far : image_base + (r + slot_of v) ≡ at + 6 + away = omega arith in
+      let d : distance (thunk_at s.text v + 6) (s.rdata + slot_of v) ≡ away = omega arith in
+      let own : T + n ≡ at = omega arith in
+      let spells : t v ≡ spelled (thunk away ∷ []) = ap (λ (k : ℕ). chosen (thunk k)) d ∙ sym (append-nil (chosen (thunk away))) in
+      let long : length (t v) ≡ 6 = six v in
+      let wide : sizes (thunk away ∷ []) ≡ 6 = sym (sizes_spelled (thunk away ∷ [])) ∙ sym (ap length spells) ∙ long in
+      let stands = subst (λ (k : ℕ). IsCodeAt m k (spelled (thunk away ∷ []))) own (subst (IsCodeAt m (T + n)) spells code) in
+      record {
+        thunk = record {
+          away = away;
+          near = omega arith;
+          code = record { stands = stands; placed = record { low = omega arith; high = omega arith } };
+          readable = λ a le lt. readable a (omega arith) (omega arith);
+          fixed = λ a le lt. fixed a (omega arith) (omega arith);
+          bound = ap (number_at m.byte 8) (sym far) ∙ bound;
+        };
+        inside = record { low = omega arith; high = omega arith; own = λ a le lt. reserved program.globals a (omega arith) (omega arith) };
+        slot = record { low = omega arith; high = omega arith; own = λ a le lt. reserved program.globals a (omega arith) (omega arith) };
+      }
+
+  thunks : (f : BuiltIn) → Serves ((sites_of program).thunk f) (service_of f)
+  thunks Put = serves imports.Put services.Put ((sites_of program).thunk Put) 24 front.put refl (omega arith) (omega arith) (omega arith) (omega arith) (ap (λ (k : ℕ). number_at m.byte 8 (image_base + k)) (let q : r + 120 ≡ r + 88 + 8 + 8 + 8 + 8 = omega arith in q) ∙ put_reads)
+  thunks Protect = serves imports.Protect services.Protect ((sites_of program).thunk Protect) 18 front.protect refl (omega arith) (omega arith) (omega arith) (omega arith) (ap (λ (k : ℕ). number_at m.byte 8 (image_base + k)) (let q : r + 112 ≡ r + 88 + 8 + 8 + 8 = omega arith in q) ∙ protect_reads)
+  thunks RaiseException =
+      let z : T ≡ T + 0 = omega arith in
+      serves imports.RaiseException services.RaiseException ((sites_of program).thunk RaiseException) 0 (subst (λ (k : ℕ). IsCodeAt m k (t imports.RaiseException)) z front.raise) refl (omega arith) (omega arith) (omega arith) (omega arith) raise_reads
+
+  unwinds : Serves (sites_of program).local_unwind services.LocalUnwind
+  unwinds = serves imports.LocalUnwind services.LocalUnwind (sites_of program).local_unwind 12 front.unwind refl (omega arith) (omega arith) (omega arith) (omega arith) (ap (λ (k : ℕ). number_at m.byte 8 (image_base + k)) (let q : r + 104 ≡ r + 88 + 8 + 8 = omega arith in q) ∙ unwind_reads)
+
+  pub has_program : HasProgram (functions_of program) (funclets_of program) program (plan_of program) (sites_of program) m
+  has_program = record { code = body_code; thunks = thunks; local_unwind = unwinds; check_stack = check_code }

@@ -1,0 +1,272 @@
+-- The machine's first memory beside the source's.
+use Rattle.std.proofs.Common.{◌≡◌, ℕ, zero, suc, ◌+◌, ◌-◌, ◌*◌, ◌/◌, ◌%◌, ◌^◌, ◌<◌, ◌≤◌, Bool, true, false, cond, not, leb, ltb, List, [], ◌∷◌, ◌++◌, length, get_or, Option, Some, None, refl, sym, ap, subst, ◌∙◌, arith, inl, inr}
+use Rattle.std.specs.Prelude.{◌&&◌, ◌||◌, ◌⊎◌}
+use Rattle.std.specs.List.{AllByRecursion, flat_map}
+use Rattle.std.proofs.lemmas.Bool.{and_from, and_parts, and_left, and_right, or_left, lt-ltb, le-ltb, le-leb, lt-leb, ltb-true, leb-true, cases_lt, false≢true}
+use Rattle.std.proofs.lemmas.List.{get_or_past}
+use Rattle.host_layout.specs.declared.range.TheConstants.{GUARD_START, STACK_START, STACK_END, ARENA_START, ARENA_END, IMAGE_BASE, IMAGE_RANGE_END}
+use Rattle.host_layout.specs.Ranges.{in_stack, in_guard, in_arena}
+use Rattle.flat_memory.specs.declared.protection.Protection.{Protection}
+use Rattle.flat_memory.specs.declared.protection.Rights.TheVariants.{Nothing, ReadWrite}
+use Rattle.flat_memory.specs.Protections.{is_writable}
+use Rattle.flat_memory.specs.Memory.{Memory, may_write}
+use Rattle.pe_image.specs.Image.{Section, Image}
+use Rattle.pe_image.specs.Imports.{Import}
+use Rattle.pe_image.specs.Imports as importing
+use Rattle.pe_write.specs.ImportTables.{services, imported, import_tables}
+use Rattle.pe_write.specs.Program.{Program, IsProgram, image_of, sections_of, imports_of, parts_of, sizes_of, text_at, rdata_at, xdata_at, pdata_at, end_at, data_section, text_section, rdata_section, xdata_section, pdata_section}
+use Rattle.pe_write.specs.Written.{raw_size, raw_data, zeros, written, dos_header, file_header, standard_fields, windows_fields, directories, table_of}
+use Rattle.pe_write.proofs.Programs.{listed}
+use Rattle.host_model.specs.Loading.{section_of, section_mode, mode_in, byte_in, stored_byte, stack_mode, with_slots, mapped}
+use Rattle.host_model.specs.Slots.{IsBeside}
+use Rattle.host_model.proofs.Slots.{slots-beside}
+use Rattle.c_model.specs.Source.{is_between, first_data, data_end, is_data, is_reserved, plain_mode, first_memory}
+use Rattle.linear_code.specs.Program.{LinearProgram}
+use Rattle.linked_stack.specs.Records.{IsData}
+use Rattle.x64_templates.specs.Frames.{Agrees}
+use Rattle.program_link.specs.Linked.{text_begin, data_size, linked}
+use Rattle.program_tables.proofs.Table.{is, text_is, image_small}
+use Rattle.program_frames.specs.Standing.{image_base}
+use Rattle.image_states.specs.Compiled.{IsCompiled}
+use Rattle.image_states.specs.StartLaws.{HasBytes}
+use Rattle.image_states.proofs.Sections.{covered, below, above, here, past, of_section, AllBytes, bytes_front, bytes_back, stored_small, slots_small, slots_past, get_zeros, IsApart}
+
+-- ---- the bytes of sections
+
+written_raw : (p : Program) → AllBytes (written (parts_of p)) → AllBytes (flat_map raw_data (parts_of p).sections)
+unfolding written
+written_raw p h = bytes_back (dos_header ++ file_header (parts_of p) ++ standard_fields (parts_of p) ++ windows_fields (parts_of p) ++ directories (parts_of p) ++ table_of (parts_of p)) (flat_map raw_data (parts_of p).sections) h
+
+raws : (p : Program) → AllBytes (written (parts_of p)) → AllByRecursion (λ (s : Section). AllBytes s.raw) (sections_of p)
+unfolding raw_data
+raws p h =
+    let all = written_raw p h in
+    let d = raw_data (data_section p) in
+    let t = raw_data (text_section p) in
+    let r = raw_data (rdata_section p) in
+    let x = raw_data (xdata_section p) in
+    let q = raw_data (pdata_section p) in
+    let a1 = bytes_back d (t ++ (r ++ (x ++ (q ++ [])))) all in
+    let a2 = bytes_back t (r ++ (x ++ (q ++ []))) a1 in
+    let a3 = bytes_back r (x ++ (q ++ [])) a2 in
+    let a4 = bytes_back x (q ++ []) a3 in (
+      bytes_front d (t ++ (r ++ (x ++ (q ++ [])))) all,
+      (
+        bytes_front p.text (zeros (raw_size (text_section p) - length p.text)) (bytes_front t (r ++ (x ++ (q ++ []))) a1),
+        (
+          bytes_front (import_tables (rdata_at (sizes_of p))) (zeros (raw_size (rdata_section p) - length (import_tables (rdata_at (sizes_of p))))) (bytes_front r (x ++ (q ++ [])) a2),
+          (
+            bytes_front p.xdata (zeros (raw_size (xdata_section p) - length p.xdata)) (bytes_front x (q ++ []) a3),
+            (bytes_front p.pdata (zeros (raw_size (pdata_section p) - length p.pdata)) (bytes_front q [] a4), tt),
+          ),
+        ),
+      ),
+    )
+
+or_none : (a b : Bool) → (a || b) ≡ false → (a ≡ false) × (b ≡ false)
+or_none true b e = absurd (false≢true (sym e))
+or_none false b e = (refl, e)
+
+module _ (program : LinearProgram) (c : IsCompiled program) where
+  abbrev pub p : Program
+  p = linked program
+
+  abbrev pub image : Image
+  image = image_of p
+
+  abbrev pub m : Memory
+  m = mapped image
+
+  abbrev pub r : ℕ
+  r = rdata_at (sizes_of p)
+
+  abbrev pub globals : Section
+  globals = record { address = 0x1000; size = p.data_size; raw = raw_data (data_section p); flags = 0xC0000040 }
+
+  abbrev pub text : Section
+  text = record { address = text_at (sizes_of p); size = length p.text; raw = p.text; flags = 0x60000020 }
+
+  abbrev pub tables : Section
+  tables = record { address = r; size = 222; raw = import_tables r; flags = 0x40000040 }
+
+  abbrev pub infos : Section
+  infos = record { address = xdata_at (sizes_of p); size = length p.xdata; raw = p.xdata; flags = 0x40000040 }
+
+  abbrev pub functions : Section
+  functions = record { address = pdata_at (sizes_of p); size = length p.pdata; raw = p.pdata; flags = 0x40000040 }
+
+  low : end_at (sizes_of p) ≤ 2 ^ 28
+  low = c.small
+
+  -- ---- which section
+
+  data_there : (a : ℕ) → first_data ≤ a → a < data_end program.globals → section_of image_base a (sections_of p) ≡ Some globals
+  data_there a le lt = here image_base a globals (text ∷ tables ∷ infos ∷ functions ∷ []) (covered image_base a globals (omega arith) (omega arith))
+
+  pub outside : (a : ℕ) → (a < first_data) ⊎ (IMAGE_RANGE_END ≤ a) → section_of image_base a (sections_of p) ≡ None
+  outside a (inl lt) =
+      let l = low in
+      past image_base a globals (text ∷ tables ∷ infos ∷ functions ∷ []) (below image_base a globals (omega arith))
+      ∙ past image_base a text (tables ∷ infos ∷ functions ∷ []) (below image_base a text (omega arith))
+      ∙ past image_base a tables (infos ∷ functions ∷ []) (below image_base a tables (omega arith))
+      ∙ past image_base a infos (functions ∷ []) (below image_base a infos (omega arith))
+      ∙ past image_base a functions [] (below image_base a functions (omega arith))
+  outside a (inr le) =
+      let l = low in
+      past image_base a globals (text ∷ tables ∷ infos ∷ functions ∷ []) (above image_base a globals (omega arith))
+      ∙ past image_base a text (tables ∷ infos ∷ functions ∷ []) (above image_base a text (omega arith))
+      ∙ past image_base a tables (infos ∷ functions ∷ []) (above image_base a tables (omega arith))
+      ∙ past image_base a infos (functions ∷ []) (above image_base a infos (omega arith))
+      ∙ past image_base a functions [] (above image_base a functions (omega arith))
+
+  pub tables_there : (a : ℕ) → image_base + r ≤ a → a < image_base + r + 222 → section_of image_base a (sections_of p) ≡ Some tables
+  tables_there a le lt =
+      let text' = text_is program c.fits in
+      past image_base a globals (text ∷ tables ∷ infos ∷ functions ∷ []) (above image_base a globals (omega arith))
+      ∙ past image_base a text (tables ∷ infos ∷ functions ∷ []) (above image_base a text (omega arith))
+      ∙ here image_base a tables (infos ∷ functions ∷ []) (covered image_base a tables (omega arith) (omega arith))
+
+  -- ---- slots lie in `.rdata`
+
+  beside : (a : ℕ) → (a < image_base + r) ⊎ (IMAGE_RANGE_END ≤ a) → AllByRecursion (λ (i : Import). IsBeside a (image_base + i.slot)) (imported (r + 88) services)
+  beside a (inl lt) =
+      let l = low in (
+        record { apart = inl (omega arith); fits = omega arith },
+        (record { apart = inl (omega arith); fits = omega arith }, (record { apart = inl (omega arith); fits = omega arith }, (record { apart = inl (omega arith); fits = omega arith }, (record { apart = inl (omega arith); fits = omega arith }, tt)))),
+      )
+  beside a (inr le) =
+      let l = low in (
+        record { apart = inr (omega arith); fits = omega arith },
+        (record { apart = inr (omega arith); fits = omega arith }, (record { apart = inr (omega arith); fits = omega arith }, (record { apart = inr (omega arith); fits = omega arith }, (record { apart = inr (omega arith); fits = omega arith }, tt)))),
+      )
+
+  stored_there : (a : ℕ) → (a < image_base + r) ⊎ (IMAGE_RANGE_END ≤ a) → m.byte a ≡ stored_byte image a
+  unfolding mapped
+  stored_there a h =
+      ap (λ (is : List Import). with_slots image_base (stored_byte image) is a) (listed p (is program c.fits))
+      ∙ (elim (cases_lt a (2 ^ 64)) [
+        | inl lt ↦ slots-beside image_base (stored_byte image) a (imports_of p) lt (beside a h)
+        | inr le ↦ slots_past image_base (stored_byte image) a (imports_of p) le
+      ])
+
+  -- ---- what an address is to the source
+
+  abbrev Place : ℕ → Type 0
+  Place a = ((first_data ≤ a) × (a < data_end program.globals)) ⊎ ((a < first_data) ⊎ (IMAGE_RANGE_END ≤ a))
+
+  place_by : (a : ℕ) → (b : Bool) → is_data program.globals a ≡ b → (is_between IMAGE_BASE IMAGE_RANGE_END a && not (is_data program.globals a)) ≡ false → Place a
+  place_by a true e off =
+      let q = and_parts (leb first_data a) (ltb a (data_end program.globals)) e in
+      inl (leb-true first_data a q.0, ltb-true a (data_end program.globals) q.1)
+  place_by a false e off = elim (cases_lt a IMAGE_BASE) [
+    | inl lt ↦ inr (inl (omega arith))
+    | inr le ↦ elim (cases_lt a IMAGE_RANGE_END) [
+      | inl lt ↦
+          let yes' : (is_between IMAGE_BASE IMAGE_RANGE_END a && not (is_data program.globals a)) ≡ true =
+          and_from (is_between IMAGE_BASE IMAGE_RANGE_END a) (not (is_data program.globals a)) (and_from (leb IMAGE_BASE a) (ltb a IMAGE_RANGE_END) (le-leb IMAGE_BASE a le) (lt-ltb a IMAGE_RANGE_END lt)) (ap not e) in
+          absurd (false≢true (sym off ∙ yes'))
+      | inr le' ↦ inr (inr le')
+    ]
+  ]
+
+  -- an address of which the language says something
+  free : (a : ℕ) → is_reserved program.globals a ≡ false → (is_between GUARD_START STACK_END a ≡ false) × (Place a)
+  free a e =
+      let q = or_none (is_between GUARD_START STACK_END a) (is_between IMAGE_BASE IMAGE_RANGE_END a && not (is_data program.globals a)) e in
+      (q.0, place_by a (is_data program.globals a) refl q.1)
+
+  not_stack : (a : ℕ) → is_between GUARD_START STACK_END a ≡ false → in_stack a ≡ false
+  not_stack a e = elim (cases_lt a STACK_START) [
+    | inl lt ↦ and_left (leb STACK_START a) (ltb a STACK_END) (lt-leb STACK_START a lt)
+    | inr le ↦ elim (cases_lt a STACK_END) [
+      | inl lt ↦ absurd (false≢true (sym e ∙ and_from (leb GUARD_START a) (ltb a STACK_END) (le-leb GUARD_START a (omega arith)) (lt-ltb a STACK_END lt)))
+      | inr le' ↦ and_right (leb STACK_START a) (ltb a STACK_END) (le-ltb a STACK_END le')
+    ]
+  ]
+
+  -- ---- bytes and protections agree
+
+  data_raw : (i : ℕ) → get_or (raw_data (data_section p)) i 0 ≡ get_or program.globals i 0
+  unfolding raw_data zeros
+  data_raw i = get_zeros program.globals (raw_size (data_section p) - length program.globals) i
+
+  byte_by : (a : ℕ) → Place a → m.byte a ≡ (first_memory program.globals).byte a
+  byte_by a (inl h) =
+      let le = h.0 in
+      let lt = h.1 in
+      let l = low in
+      let same : a - (image_base + 0x1000) ≡ a - first_data = omega arith in
+      stored_there a (inl (omega arith))
+      ∙ ap (λ (o : Option Section). byte_in image_base o a) (data_there a h.0 h.1)
+      ∙ data_raw (a - (image_base + 0x1000))
+      ∙ ap (λ (i : ℕ). get_or program.globals i 0) same
+      ∙ sym (ap (λ (b : Bool). cond b 0 (get_or program.globals (a - first_data) 0)) (le-ltb a first_data h.0))
+  byte_by a (inr (inl lt)) =
+      let l = low in
+      stored_there a (inl (omega arith))
+      ∙ ap (λ (o : Option Section). byte_in image_base o a) (outside a (inl lt))
+      ∙ sym (ap (λ (b : Bool). cond b 0 (get_or program.globals (a - first_data) 0)) (lt-ltb a first_data lt))
+  byte_by a (inr (inr le)) =
+      let few = c.fits.globals in
+      stored_there a (inr le)
+      ∙ ap (λ (o : Option Section). byte_in image_base o a) (outside a (inr le))
+      ∙ sym (ap (λ (b : Bool). cond b 0 (get_or program.globals (a - first_data) 0)) (le-ltb a first_data (omega arith)) ∙ get_or_past program.globals (a - first_data) 0 (omega arith))
+
+  not_data : (a : ℕ) → (a < first_data) ⊎ (IMAGE_RANGE_END ≤ a) → is_data program.globals a ≡ false
+  not_data a (inl lt) = and_left (leb first_data a) (ltb a (data_end program.globals)) (lt-leb first_data a lt)
+  not_data a (inr le) = let few = c.fits.globals in and_right (leb first_data a) (ltb a (data_end program.globals)) (le-ltb a (data_end program.globals) (omega arith))
+
+  mode_by : (a : ℕ) → is_between GUARD_START STACK_END a ≡ false → Place a → m.protection a ≡ (first_memory program.globals).protection a
+  unfolding mapped
+  mode_by a off (inl h) =
+      ap (λ (o : Option Section). mode_in o a) (data_there a h.0 h.1)
+      ∙ sym (ap (λ (b : Bool). cond b (plain_mode ReadWrite) (plain_mode Nothing)) (and_from (leb first_data a) (ltb a (data_end program.globals)) (le-leb first_data a h.0) (lt-ltb a (data_end program.globals) h.1)))
+  mode_by a off (inr h) =
+      ap (λ (o : Option Section). mode_in o a) (outside a h)
+      ∙ ap stack_mode (not_stack a off)
+      ∙ sym (ap (λ (b : Bool). cond b (plain_mode ReadWrite) (plain_mode Nothing)) (not_data a h))
+
+  pub agrees : Agrees (is_reserved program.globals) m (first_memory program.globals)
+  agrees = record {
+    byte = λ a e. byte_by a (free a e).1;
+    protection = λ a e. mode_by a (free a e).0 (free a e).1;
+    guard = λ a e. (let q = and_parts (leb GUARD_START a) (ltb a STACK_START) e in let lt = ltb-true a STACK_START q.1 in or_left (is_between GUARD_START STACK_END a) (is_between IMAGE_BASE IMAGE_RANGE_END a && not (is_data program.globals a)) (and_from (leb GUARD_START a) (ltb a STACK_END) q.0 (lt-ltb a STACK_END (omega arith))));
+  }
+
+  -- ---- the stack
+
+  pub stack_writes : (a : ℕ) → STACK_START ≤ a → a < STACK_END → may_write m a ≡ true
+  unfolding mapped
+  stack_writes a le lt =
+      ap (λ (o : Option Section). is_writable (mode_in o a).rights) (outside a (inl (omega arith)))
+      ∙ ap (λ (b : Bool). is_writable (stack_mode b).rights) (and_from (leb STACK_START a) (ltb a STACK_END) (le-leb STACK_START a le) (lt-ltb a STACK_END lt))
+
+  -- where it is 0 at first
+  pub stack_zero : (a : ℕ) → STACK_START ≤ a → a < STACK_END → m.byte a ≡ 0
+  stack_zero a le lt =
+      let l = low in
+      stored_there a (inl (omega arith)) ∙ ap (λ (o : Option Section). byte_in image_base o a) (outside a (inl (omega arith)))
+
+  -- ---- the arena
+
+  pub arena_alone : (a : ℕ) → in_arena a ≡ true → (m.protection a).execute ≡ false
+  unfolding mapped
+  arena_alone a e =
+      let q = and_parts (leb ARENA_START a) (ltb a ARENA_END) e in
+      let high : a < ARENA_END = ltb-true a ARENA_END q.1 in
+      let off : in_stack a ≡ false = and_left (leb STACK_START a) (ltb a STACK_END) (lt-leb STACK_START a (omega arith)) in
+      ap (λ (o : Option Section). (mode_in o a).execute) (outside a (inl (omega arith))) ∙ ap (λ (b : Bool). (stack_mode b).execute) off
+
+  -- ---- data alone
+
+  apart_by : (a : ℕ) (b : Bool) → IsApart (stack_mode b)
+  apart_by a true e = refl
+  apart_by a false e = absurd (false≢true e)
+
+  pub data_alone : HasBytes program → IsData m
+  unfolding mapped
+  data_alone bytes = record {
+    bytes = slots_small image_base (stored_byte image) (importing.imports_of image) (λ a. stored_small image_base a (sections_of p) (raws p bytes));
+    no_code = λ a. of_section (λ (o : Option Section). IsApart (mode_in o a)) image_base a (sections_of p) (apart_by a (in_stack a))
+        ((λ e. refl), ((λ e. absurd (false≢true e)), ((λ e. absurd (false≢true e)), ((λ e. absurd (false≢true e)), ((λ e. absurd (false≢true e)), tt)))));
+  }

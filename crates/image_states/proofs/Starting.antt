@@ -1,0 +1,66 @@
+-- The memory that a run starts with, and the load.
+use Rattle.std.proofs.Common.{◌≡◌, ℕ, ◌+◌, ◌/◌, ◌*◌, ◌^◌, ◌<◌, ◌≤◌, Bool, true, false, leb, ltb, List, [], ◌∷◌, length, Option, Some, None, refl, sym, ap, ◌∙◌, arith}
+use Rattle.std.specs.Prelude.{option_map}
+use Rattle.std.proofs.lemmas.Bool.{le-leb, lt-ltb, le-ltb}
+use Rattle.pe_image.specs.Image.{Section, Image}
+use Rattle.pe_image.specs.Imports.{Import}
+use Rattle.pe_write.specs.Program.{Program, image_of, sections_of, sizes_of, text_at, end_at}
+use Rattle.pe_write.proofs.Programs.{listed}
+use Rattle.eh_tables.specs.Answer.{Table}
+use Rattle.eh_tables.specs.Tables.{Entry}
+use Rattle.host_model.specs.declared.refusal.LoadErr.{LoadErr}
+use Rattle.host_model.specs.declared.refusal.LoadErr.TheVariants as refusals
+use Rattle.host_model.specs.Loading.{section_of, unless, first_of, of_tables, table_refusal, has_place, place_refusal, first_unknown, import_refusal, is_code, has_entry, entry_refusal, load_refusal}
+use Rattle.linear_code.specs.Program.{LinearProgram}
+use Rattle.program_link.specs.Linked.{linked}
+use Rattle.program_tables.proofs.Table.{is, tables_are_read}
+use Rattle.image_states.specs.Compiled.{IsCompiled}
+use Rattle.image_states.specs.StartLaws.{ImagesStart, ImagesLoad}
+use Rattle.image_states.proofs.Sections.{covered, above, here, past}
+use Rattle.image_states.proofs.Data.{globals, text, tables, infos, functions, agrees, stack_writes, arena_alone, data_alone}
+use Rattle.image_states.proofs.CodePlaced.{has_program}
+
+pub images_start : ImagesStart
+images_start program c bytes = record { data_alone = data_alone program c bytes; agrees = agrees program c; stack = stack_writes program c; arena = arena_alone program c; code = has_program program c }
+
+-- ---- the load
+
+none_of : (t p i e : Option LoadErr) → t ≡ None → p ≡ None → i ≡ None → e ≡ None → first_of (t ∷ p ∷ i ∷ e ∷ []) ≡ None
+none_of t p i e h1 h2 h3 h4 = rw (h1, h2, h3, h4) refl
+
+module _ (program : LinearProgram) (c : IsCompiled program) where
+  abbrev p : Program
+  p = linked program
+
+  abbrev image : Image
+  image = image_of p
+
+  placed : has_place image ≡ true
+  placed =
+      let l = c.small in
+      let size : leb image.size 0x10000000 ≡ true = le-leb _ _ (omega arith) in
+      let below : leb (0x140000000 + image.size) (2 ^ 47) ≡ true = le-leb _ _ (omega arith) in
+      rw (size, below) refl
+
+  known : import_refusal image ≡ None
+  known = ap (λ (is : List Import). option_map refusals.Import (first_unknown is)) (listed p (is program c.fits))
+
+  entered : has_entry image ≡ true
+  entered =
+      let d = is program c.fits in
+      let w = d.whole in
+      let e = d.entry in
+      ap is_code
+      (past 0 image.entry (globals program c) (text program c ∷ tables program c ∷ infos program c ∷ functions program c ∷ []) (above 0 image.entry (globals program c) (omega arith))
+      ∙ here 0 image.entry (text program c) (tables program c ∷ infos program c ∷ functions program c ∷ []) (covered 0 image.entry (text program c) (omega arith) (omega arith)))
+
+  pub loads : load_refusal image ≡ None
+  loads =
+      none_of (table_refusal image) (place_refusal image) (import_refusal image) (entry_refusal image)
+      (ap (λ (t : Table (List Entry)). of_tables t) (tables_are_read program c.fits c.ranges))
+      (ap (λ (b : Bool). unless b (refusals.Place image.base)) placed)
+      known
+      (ap (λ (b : Bool). unless b (refusals.Entry image.entry)) entered)
+
+pub images_load : ImagesLoad
+images_load program c = loads program c

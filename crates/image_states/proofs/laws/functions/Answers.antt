@@ -1,5 +1,0 @@
-use Rattle.image_states.proofs.Leaves.{functions_apart}
-use Rattle.image_states.proofs.laws.functions.Goals as goal
-
-pub returns : goal.returns
-returns c = functions_apart

@@ -1,5 +1,0 @@
-use Rattle.image_states.proofs.Images.{images_are_programs}
-use Rattle.image_states.proofs.laws.images.Goals as goal
-
-pub returns : goal.returns
-returns c = images_are_programs

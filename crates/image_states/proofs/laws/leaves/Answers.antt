@@ -1,5 +1,0 @@
-use Rattle.image_states.proofs.Leaves.{leaves_call_nothing}
-use Rattle.image_states.proofs.laws.leaves.Goals as goal
-
-pub returns : goal.returns
-returns c = leaves_call_nothing

@@ -1,0 +1,43 @@
+-- The list in a memory of data, and a record that is laid below it.
+use Rattle.std.specs.Prelude.{◌≡◌, ◌⊎◌, ℕ, ◌+◌, ◌^◌, ◌<◌, ◌≤◌, true, false, List, None}
+use Rattle.seh_num.specs.declared.width.Width.TheVariants.{W64}
+use Rattle.host_layout.specs.declared.range.TheConstants.{STACK_START, STACK_END}
+use Rattle.flat_memory.specs.Memory.{Memory, may_write, after_store}
+use Rattle.x64_machine.specs.declared.context.Context.{Context}
+use Rattle.virtual_unwind.specs.CallerOf.{Functions}
+use Rattle.seh_records.specs.declared.dispatch.DispatchRecord.{DispatchRecord}
+use Rattle.seh_records.specs.Record.{misplaced, placed, return_address_at}
+use Rattle.seh_records.specs.Laws.{AreBytes, Fits}
+use Rattle.host_model.specs.declared.funclet.Funclet.{Funclet}
+use Rattle.linear_code.specs.Program.{LinearProgram}
+use Rattle.linear_machine.specs.Frames.{Item}
+use Rattle.linked_stack.specs.Stack.{StackItem}
+use Rattle.linked_stack.specs.ImagePlan.{Plan}
+use Rattle.linked_stack.specs.Linked.{Activation}
+use Rattle.linked_stack.specs.ListLaws.{Stands}
+
+-- bytes are numbers of 8 bits, and what may be written isn't code
+pub record IsData (m : Memory) : Type 0 where
+  pub bytes : AreBytes m.byte
+  pub no_code : (x : ℕ) → may_write m x ≡ true → (m.protection x).execute ≡ false
+
+pub record On (t : Functions) (fs : List Funclet) (program : LinearProgram) (p : Plan) (m : Memory) (c : Context) (is : List StackItem) (items : List Item) (acts : List Activation) : Type 0 where
+  pub stands : Stands t fs program p m c is items acts
+  pub data_alone : IsData m
+
+-- a record is placed, and the return address of a funclet below it
+abbrev pub laid : Memory → ℕ → DispatchRecord → ℕ → Memory
+laid m at r back = after_store (placed m at r) (return_address_at at) W64 back
+
+-- there is room for both, below a stack pointer
+pub record HasRoom (m : Memory) (at : ℕ) (r : DispatchRecord) (above : ℕ) : Type 0 where
+  pub fits : Fits r
+  pub below : at + 1568 ≤ above
+  pub small : above < 2 ^ 64
+  pub room : misplaced m at ≡ None
+
+-- protections, code, and every byte outside the stack are as before
+pub record IsUntouched (old new : Memory) : Type 0 where
+  pub protection : new.protection ≡ old.protection
+  pub code : (x : ℕ) → (old.protection x).execute ≡ true → new.byte x ≡ old.byte x
+  pub outside : (x : ℕ) → (x < STACK_START) ⊎ (STACK_END ≤ x) → new.byte x ≡ old.byte x

@@ -1,4 +1,0 @@
-pub mod Entering
-pub mod Entries
-pub mod Begun
-pub mod Starting

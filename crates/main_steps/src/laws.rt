@@ -1,9 +1,0 @@
-//! The law of the beginning of a run.
-
-ghost use Rattle.main_steps.specs.Laws.{MainIsBegun};
-
-/// From a state in which `main` is called with the argument of the run, the machine comes to its first
-/// instruction, with any numbers in the locals after its arguments.
-pub fn laws()
-    ensures main { MainIsBegun }
-{}

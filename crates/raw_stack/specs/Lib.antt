@@ -1,3 +1,0 @@
-pub mod Stack
-pub mod PlainWalks
-pub mod Laws

@@ -1,9 +1,0 @@
-pub mod Fields
-pub mod Filters
-pub mod Informing
-pub mod Elsewhere
-pub mod Arena
-pub mod Reached
-pub mod Returned
-pub mod Serving
-pub mod Steps

@@ -1,5 +1,0 @@
-use Rattle.service_steps.proofs.Steps as lemma
-use Rattle.service_steps.proofs.laws.laws.Goals as goal
-
-pub returns : goal.returns
-returns c = record { information = lemma.information_is_matched; puts = lemma.puts_are_matched; protects = lemma.protects_are_matched }

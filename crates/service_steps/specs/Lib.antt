@@ -1,2 +1,0 @@
-pub mod Static
-pub mod Laws

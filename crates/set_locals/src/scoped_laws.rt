@@ -1,0 +1,13 @@
+//! Laws of the linear code of programs that name each local where it is declared.
+
+ghost use Rattle.set_locals.specs.ScopedLaws.{ScopedHasSetMap, ScopedReadsNoUnset};
+
+/// Each place of the linear code tells which locals have been set: those that are declared there, and the code and the flags of the blocks around.
+pub fn scoped_has_set_map()
+    ensures told { ScopedHasSetMap }
+{}
+
+/// No run reads a local that hasn't been set.
+pub fn scoped_reads_no_unset()
+    ensures reads { ScopedReadsNoUnset }
+{}

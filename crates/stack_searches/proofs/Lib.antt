@@ -1,3 +1,0 @@
-pub mod Contexts
-pub mod Flags
-pub mod Searched

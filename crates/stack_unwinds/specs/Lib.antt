@@ -1,2 +1,0 @@
-pub mod Unwinding
-pub mod Laws

@@ -1,0 +1,305 @@
+-- A `__finally` block begins: it keeps the base and, in a local of its activation, its flag, and its first instruction follows.
+use Rattle.std.proofs.Common.{◌≡◌, ℕ, zero, suc, ◌+◌, ◌*◌, ◌<◌, ◌≤◌, Bool, true, false, Option, Some, None, List, [], ◌∷◌, length, refl, sym, ap, subst, ◌∙◌, arith}
+use Rattle.std.specs.Prelude.{slice_get, slice_index, slice_set}
+use Rattle.std.proofs.lemmas.Option.{slice_get_within}
+use Rattle.host_layout.specs.declared.range.TheConstants.{STACK_START, STACK_END}
+use Rattle.seh_num.specs.declared.width.Width.TheVariants.{W32}
+use Rattle.seh_num.specs.Widths.{low}
+use Rattle.seh_num.specs.declared.event.Event.{Event}
+use Rattle.flat_memory.specs.Memory.{Memory, number_at}
+use Rattle.x64_instr.specs.declared.register.Reg.TheVariants.{Rax, Rcx, Rdx, Rsp}
+use Rattle.x64_instr.specs.declared.instruction.Instr.{Instr}
+use Rattle.x64_machine.specs.Effect.{State, register}
+use Rattle.virtual_unwind.specs.CallerOf.{Functions}
+use Rattle.host_model.specs.declared.funclet.Funclet.{Funclet}
+use Rattle.c_model.specs.Expressions.{of_test, no_exception}
+use Rattle.linear_code.specs.declared.slot.Slot.TheVariants.{Local}
+use Rattle.linear_code.specs.declared.program.FuncletKind.{FuncletKind}
+use Rattle.linear_code.specs.declared.program.FuncletKind.TheVariants as funclets
+use Rattle.linear_code.specs.BodyState.{BodyState, with_slot}
+use Rattle.linear_code.specs.Program.{LinearProgram, LinearBody, LinearFunclet}
+use Rattle.linear_machine.specs.Frames as linear
+use Rattle.linear_machine.specs.Frames.{BodyName, FuncletBody, body_of, funclet_body, Item, Store, set_local, Configuration}
+use Rattle.linear_machine.specs.Unwinding.{flag_in, flag_of}
+use Rattle.template_code.specs.declared.layout.Layout.{Layout}
+use Rattle.template_code.specs.Bytes.{sizes}
+use Rattle.template_code.specs.Operations.{move}
+use Rattle.template_code.specs.Slots.{keep, keep_local, local_at}
+use Rattle.x64_templates.specs.Straight.{machine}
+use Rattle.x64_templates.specs.Runs.{HasCode, Enters, Frame, ReachesBody}
+use Rattle.x64_templates.proofs.PlacedCode.{enters_then}
+use Rattle.x64_templates.proofs.FuncletEntries.{flag_run}
+use Rattle.x64_templates.proofs.FilterEntries.{Within}
+use Rattle.ir_typed.specs.Bodies.{IsFinally, parent_of, function_of, owner_of, IsFuncletOf}
+use Rattle.ir_typed.specs.Activations.{owners_of}
+use Rattle.linked_stack.specs.ImagePlan.{Plan, by_parent}
+use Rattle.linked_stack.specs.Linked.{Activation, locals_of, IsActivation, largest_frame, HasSpace, below_end, record_room, HasPointers, FuncletIsAbove}
+use Rattle.linked_stack.specs.States.{IsSane}
+use Rattle.whole_runs.proofs.Matches.{LeadsTo}
+use Rattle.body_states.specs.Sites.{Sites, parent_base, keep_argument}
+use Rattle.body_states.specs.Programs.{IsMachineMemory, IsProgramImage}
+use Rattle.body_states.specs.Bodies.{Begins}
+use Rattle.body_states.proofs.QuietTurns.{enters_quietly}
+use Rattle.body_steps.specs.Views.{frame_at, state_of}
+use Rattle.body_steps.specs.Stores.{with_values, OwnerHasFrame}
+use Rattle.body_steps.proofs.Activations.{locals_count}
+use Rattle.body_steps.proofs.Activated.{activated}
+use Rattle.body_steps.proofs.Reaching.{reaches_keeps, enters_keeps, stays_sane}
+use Rattle.body_steps.proofs.Views.{SlotsPlaced}
+use Rattle.body_steps.proofs.Viewed.{IsCounted, placed, count, room_here, holds_here, slots_here, locals_here}
+use Rattle.body_steps.proofs.Next.{Leaves, Ran, begins_next}
+use Rattle.body_steps.proofs.Written.{set_length, local_after}
+use Rattle.body_steps.specs.Known.{IsKnown}
+use Rattle.turn_steps.specs.FuncletEntries.{entry_turns, FlagsFit}
+use Rattle.turn_steps.proofs.Making.{LeadsBy}
+use Rattle.turn_steps.proofs.Standing.{ArrivesBelow, IsLaid, funclet_laid, HasFrame, first_frame, beginning, begins}
+use Rattle.turn_steps.proofs.Known.{HasLocals, activation_at, as_many, no_leaf, parent_locals, leads_by, locals_counted, owner_framed}
+use Rattle.turn_steps.proofs.Entering.{HasEntered, entered, first_small, quiet_there}
+use Rattle.turn_steps.proofs.FuncletFilters.{has_first, parent_is}
+
+same_number : (a b : ℕ) → Some a ≡ Some b → a ≡ b
+same_number a b e = cc
+
+same_body : (a b : LinearBody) → Some a ≡ Some b → a ≡ b
+same_body a b e = cc
+
+same_list : (a b : List ℕ) → Some a ≡ Some b → a ≡ b
+same_list a b e = cc
+
+-- ---- a place of a list is set
+
+set_count : {A : Type 0} → (xs : List A) (i : ℕ) (x : A) → length (slice_set xs i x) ≡ length xs
+set_count [] i x = refl
+set_count (y ∷ xs) zero x = refl
+set_count (y ∷ xs) (suc i) x = ap suc (set_count xs i x)
+
+set_here : {A : Type 0} → (xs : List A) (i : ℕ) (x : A) → i < length xs → slice_get (slice_set xs i x) i ≡ Some x
+set_here [] i x lt = absurd (omega arith)
+set_here (y ∷ xs) zero x lt = refl
+set_here (y ∷ xs) (suc i) x lt = set_here xs i x (omega arith)
+
+-- ---- flags
+
+pub kind_of_flag : (kind : FuncletKind) (flag : ℕ) → flag_in kind ≡ Some flag → kind ≡ funclets.Finally flag
+kind_of_flag funclets.Filter flag e = cc
+kind_of_flag (funclets.Finally f) flag e = ap (λ n. funclets.Finally n) (same_number f flag e)
+
+low_test : (b : Bool) → low W32 (of_test b) ≡ of_test b
+low_test true = let z : low W32 1 ≡ 1 = omega arith in z
+low_test false = let z : low W32 0 ≡ 0 = omega arith in z
+
+nothing_landed : (x : ℕ) → ◌≡◌ {A = Option ℕ} None (Some x) → ⊥
+nothing_landed x e = cc
+
+-- the configuration in which a block begins
+abbrev pub block_begins : (k flag activation held : ℕ) (abnormal : Bool) → List Item → Store → List Event → Configuration
+block_begins k flag activation held abnormal items store events = record {
+  frame = record { body = FuncletBody k; next = 0; activation = activation; exception = no_exception; held = held + 2; temporaries = []; landed = None };
+  below = items;
+  store = set_local store activation flag (of_test abnormal);
+  events = events;
+}
+
+module _ (t : Functions) (fs : List Funclet) (program : LinearProgram) (p : Plan) (q : Sites) (image : IsProgramImage t fs program p q) where
+  module _ (s : State) (k flag activation held : ℕ) (abnormal : Bool) (items : List Item) (store : Store) (events : List Event) (acts : List Activation)
+      (a : ArrivesBelow t fs program p s k activation (of_test abnormal) items acts) (name : BodyName) (known : IsFuncletOf program name IsFinally k)
+      (flagged : flag_of (slice_get program.funclets k) ≡ Some flag) (fits : FlagsFit program)
+      (memory : IsMachineMemory t fs program p q s.memory store.memory) (stored : store.activations ≡ locals_of acts)
+      (space : STACK_END ≤ a.at + (below_end + record_room) + largest_frame * (length acts + held)) (few : length acts + held + 2 ≤ 1000)
+      (pointers : (m : Memory) (sp size : ℕ) → HasPointers t fs program p m (p.layout (FuncletBody k)) sp size items)
+      (above : (g : LinearFunclet) → g.kind ≡ funclets.Finally flag → FuncletIsAbove t fs program p k (first_frame t fs program p q image k activation no_exception (held + 2)) (Some g) items)
+      (typed : IsKnown program (block_begins k flag activation held abnormal items store events)) where
+    abbrev f : LinearFunclet
+    f = known.funclet
+
+    abbrev l : IsLaid t fs program p q image k
+    l = funclet_laid t fs program p q image k f known.there
+
+    abbrev y : Layout
+    y = p.layout (FuncletBody k)
+
+    kind_is : f.kind ≡ funclets.Finally flag
+    kind_is = kind_of_flag f.kind flag (sym (ap flag_of known.there) ∙ flagged)
+
+    parent : by_parent f.function f.parent ≡ a.name
+    parent = parent_is t fs program p q image a.name a.name k f known.there a.funclet.parent
+
+    owner : owner_of program (parent_of f.function f.parent) ≡ Some f.function
+    owner = subst (λ n. owner_of program n ≡ Some f.function) (sym known.parent) known.owner
+
+    leads : LeadsBy s.memory (parent_base p f.parent) (register s.cpu Rdx) a.reaches.base
+    leads = leads_by t fs program p q image s.memory f f.parent a.name (register s.cpu Rdx) a.reaches.base parent owner a.reaches.leads
+
+    some : 0 < length f.body.code
+    some = has_first program (FuncletBody k) f.body typed.goes_on.instruction (ap funclet_body known.there) typed.goes_on.at
+
+    flag_fits : flag < f.body.locals
+    flag_fits = fits k flag f known.there flagged
+
+    abbrev e : HasEntered t fs program p q image s k l a.reaches.base
+    e = entered t fs program p q image s k (of_test abnormal) activation items acts l a store.memory memory (length acts + held) space few leads
+
+    -- ---- the frame stands before the flag is stored: as at the first instruction
+
+    abbrev s1 : State
+    s1 = machine e.after (p.address (FuncletBody k) 0) e.flags
+
+    abbrev c1 : Configuration
+    c1 = beginning t fs program p q image (first_frame t fs program p q image k activation no_exception (held + 2)) items store events
+
+    stack_1 : register s1.cpu Rsp ≡ e.sp
+    stack_1 = e.stack
+
+    sane_1 : IsSane s1
+    sane_1 =
+        let z = enters_keeps e.turns s (machine e.after e.rip e.flags) e.comes in
+        stays_sane s s1 (record { protection = z.protection; fixed = z.fixed; count = z.count; small = z.small }) (first_small t fs program p q image k l) a.sane
+
+    frame_1 : HasFrame t fs program p q image s s1 k (of_test abnormal) activation items acts l a
+    frame_1 = record {
+      stack = subst (λ r. register s.cpu Rsp ≡ r + y.frame) (sym stack_1) e.sp_is;
+      low = subst (λ r. STACK_START ≤ r) (sym stack_1) e.low;
+      within = subst (λ r. Within r (r + y.frame) s.memory s1.memory) (sym stack_1) e.within;
+      number = subst (λ r. number_at s1.memory.byte 8 (r + l.plan.layout.slot) ≡ a.reaches.base) (sym stack_1) e.number;
+      distance = subst (λ d. IsActivation acts activation a.reaches.base d) (parent_locals t fs program p q image k f f.parent a.name known.there parent owner) a.reaches.activation;
+      rip = refl;
+      sane = sane_1;
+    }
+
+    space_1 : HasSpace e.sp below_end (length acts + (held + 2))
+    space_1 =
+        let z = e.sp_is in
+        let w = a.stack in
+        let r = l.plan.layout.small in
+        let g = space in
+        let h = few in
+        record { space = omega arith; shallow = omega arith }
+
+    abbrev b1 : Begins t fs program p q s1 c1
+    b1 = begins t fs program p q image s s1 k (of_test abnormal) activation items acts l a frame_1 no_exception (held + 2) store events memory stored (let h = e.top in let z = e.sp_is in let w = a.stack in omega arith) some
+        (subst (λ r. HasSpace r below_end (length acts + (held + 2))) (sym stack_1) space_1)
+        (above f kind_is)
+        (pointers s1.memory (register s1.cpu Rsp) y.frame)
+
+    -- ---- the activation of the block
+
+    abbrev works : (function : ℕ) × (owner_of program (FuncletBody k) ≡ Some function) × (slice_get (owners_of items) activation ≡ Some function)
+    works = typed.activations.working.0
+
+    has_locals : HasLocals program (slice_set store.activations activation (slice_set (linear.locals_of store activation) flag (of_test abnormal))) activation works.0
+    has_locals = activation_at program (owners_of items) _ activation works.0 typed.activations.stored works.2
+
+    function_is : f.function ≡ works.0
+    function_is = same_number f.function works.0 (sym (ap function_of known.there) ∙ works.1)
+
+    counted : IsCounted t fs program p q image c1
+    counted b is =
+        let h = has_locals in
+        let lt = slice_get_within _ activation h.locals h.there in
+        let n = set_count store.activations activation (slice_set (linear.locals_of store activation) flag (of_test abnormal)) in
+        let same : h.locals ≡ slice_set (linear.locals_of store activation) flag (of_test abnormal) = same_list h.locals _ (sym h.there ∙ set_here store.activations activation (slice_set (linear.locals_of store activation) flag (of_test abnormal)) (omega arith)) in
+        sym (set_length (linear.locals_of store activation) flag (of_test abnormal)) ∙ sym (ap length same) ∙ locals_counted t fs program p q image k f works.0 h.locals known.there function_is h.of
+        ∙ ap (λ (z : LinearBody). z.locals) (same_body f.body b (sym (ap funclet_body known.there) ∙ is))
+
+    framed_owner : OwnerHasFrame t fs program p activation items acts
+    framed_owner = owner_framed t fs program p q image activation items acts
+        (sym (ap length stored ∙ locals_count acts) ∙ sym (set_count store.activations activation (slice_set (linear.locals_of store activation) flag (of_test abnormal))) ∙ sym (as_many program (owners_of items) _ typed.activations.stored))
+        typed.activations.working.1
+        (λ function z. subst (λ j. p.leaf (linear.FunctionBody j) ≡ false) (same_number works.0 function (sym works.2 ∙ z)) (no_leaf t fs program p q image k works.0 works.1).1)
+
+    -- ---- the flag is stored
+
+    abbrev here : SlotsPlaced s1.memory y f.body.temporaries (register s1.cpu Rsp) activation acts
+    here = placed t fs program p q image s1 c1 b1 counted
+
+    abbrev fr : Frame
+    fr = frame_at program p (FuncletBody k) f.body (register s1.cpu Rsp) here.base
+
+    abbrev old : BodyState
+    old = state_of program p s1 c1 here.base
+
+    abbrev last : List Instr
+    last = move W32 Rax Rcx ∷ keep y (Local flag)
+
+    code_here : HasCode e.after.memory e.rip last
+    code_here = subst (λ z. HasCode e.after.memory e.rip (keep_argument y z)) kind_is e.code
+
+    abbrev r : ReachesBody fr (length last) (machine e.after e.rip e.flags) (e.rip + sizes last) e.after.rest (record { slots = with_slot old.slots (Local flag) (low W32 e.after.rcx); memory = old.memory })
+    r = flag_run fr (Local flag) e.after e.rip e.flags old (room_here t fs program p q image s1 c1 b1 counted) flag_fits (e.at ∙ sym stack_1) (holds_here t fs program p q image s1 c1 b1 counted) code_here
+
+    abbrev u : State
+    u = machine r.after (e.rip + sizes last) r.flags
+
+    abbrev stored_flag : ℕ
+    stored_flag = low W32 e.after.rcx
+
+    flag_is : stored_flag ≡ of_test abnormal
+    flag_is = ap (low W32) (e.rcx ∙ a.argument) ∙ low_test abnormal
+
+    abbrev values : List ℕ
+    values = slice_set here.values flag stored_flag
+
+    abbrev d : BodyState
+    d = record { slots = with_slot old.slots (Local flag) stored_flag; memory = old.memory }
+
+    leaves : Leaves f.body d values []
+    leaves =
+        let n = count t fs program p q image s1 c1 b1 counted in
+        let w = slots_here t fs program p q image s1 c1 b1 counted in
+        record {
+          count = set_length here.values flag stored_flag ∙ n;
+          locals = λ i lt. local_after old.slots here.values (Local flag) stored_flag i (omega arith) (w.locals i lt ∙ ap (λ xs. slice_index xs i) (locals_here t fs program p q image s1 c1 b1 counted));
+          few = omega arith;
+          temporaries = λ i v z. cc;
+        }
+
+    ran : Ran t fs program p q image s1 c1 b1 counted u d values []
+    ran =
+        let z = reaches_keeps (length last) (machine e.after e.rip e.flags) u r.comes in
+        record {
+          changed = record { changes = record { protection = r.changes.protection; byte = r.changes.byte; bytes = r.changes.bytes }; keeps = record { protection = z.protection; fixed = z.fixed; count = z.count; small = z.small } };
+          holds = r.holds;
+          stack = ap (λ (xs : List ℕ). slice_index xs 1) r.rest;
+          leaves = leaves;
+        }
+
+    run : Enters (e.turns + length last) s u
+    run = enters_then e.turns (length last) s (machine e.after e.rip e.flags) u e.comes r.comes
+
+    rip_here : u.cpu.rip ≡ p.address (FuncletBody k) 0
+    rip_here = subst (λ z. e.rip + sizes (keep_argument y z) ≡ p.address (FuncletBody k) 0) kind_is e.place
+
+    sane_here : IsSane u
+    sane_here = stays_sane s u (enters_keeps (e.turns + length last) s u run) (let z = rip_here in let w = first_small t fs program p q image k l in omega arith) a.sane
+
+    store_is : locals_of (with_values acts activation values) ≡ slice_set store.activations activation (slice_set (linear.locals_of store activation) flag (of_test abnormal))
+    store_is =
+        let lt = slice_get_within (locals_of acts) activation here.values here.number in
+        let n = locals_count acts in
+        activated acts activation values (omega arith)
+        ∙ ap (λ xs. slice_set xs activation values) (sym stored)
+        ∙ ap (λ w. slice_set store.activations activation (slice_set here.values flag w)) flag_is
+        ∙ ap (λ vs. slice_set store.activations activation (slice_set vs flag (of_test abnormal))) (sym (locals_here t fs program p q image s1 c1 b1 counted))
+
+    begins_here : Begins t fs program p q u (block_begins k flag activation held abnormal items store events)
+    begins_here =
+        subst (λ (xs : List (List ℕ)). let o : Configuration = record {
+          frame = record { body = FuncletBody k; next = 0; activation = activation; exception = no_exception; held = held + 2; temporaries = []; landed = None };
+          below = items;
+          store = record { memory = store.memory; activations = xs };
+          events = events;
+        } in Begins t fs program p q u o) store_is
+        (begins_next t fs program p q image s1 c1 b1 counted u d values [] ran 0 None events rip_here some sane_here (λ x z. absurd (nothing_landed x z))
+        (λ z. let w : true ≡ false = sym z ∙ l.plan.framed in absurd cc) (λ j z. framed_owner))
+
+    last_few : length last ≤ 3
+    last_few = subst (λ o. length (move W32 Rax Rcx ∷ keep_local o (local_at y flag)) ≤ 3) (sym l.plan.layout.base) (omega arith)
+
+    pub block_leads : LeadsTo t fs entry_turns (Begins t fs program p q) s (block_begins k flag activation held abnormal items store events)
+    block_leads = record {
+      turns = e.turns + length last;
+      few = (let z = e.few in let w = last_few in omega arith);
+      state = u;
+      comes = enters_quietly t fs program p q image (e.turns + length last) s u run memory.code (quiet_there t fs program p q image k l u rip_here some);
+      stands = begins_here;
+    }

@@ -1,0 +1,315 @@
+-- A call of a function: the callee's first instruction begins, with its arguments in its first locals and what the stack held in the others.
+use Rattle.std.proofs.Common.{◌≡◌, ◌≢◌, ℕ, zero, suc, ◌+◌, ◌-◌, ◌*◌, ◌^◌, ◌<◌, ◌≤◌, Bool, true, false, Some, None, Ok, List, [], ◌∷◌, ◌++◌, length, refl, sym, ap, subst, ◌∙◌, arith, inl, inr}
+use Rattle.std.specs.Prelude.{nat_lt, slice_get, drop, if◌then◌else◌}
+use Rattle.std.proofs.lemmas.Bool.{cases_lt, lt-ltb, eq-eqb}
+use Rattle.std.proofs.lemmas.Option.{slice_get_within}
+use Rattle.std.proofs.lemmas.List.{length-drop, length-take}
+use Rattle.host_layout.specs.declared.range.TheConstants.{STACK_START, STACK_END}
+use Rattle.flat_memory.specs.Memory.{may_write, number_at}
+use Rattle.flat_memory.specs.declared.protection.Protection.{Protection}
+use Rattle.flat_memory.specs.Protections.{is_writable}
+use Rattle.x64_instr.specs.declared.register.Reg.TheVariants.{Rsp}
+use Rattle.x64_machine.specs.Effect.{State, register}
+use Rattle.virtual_unwind.specs.CallerOf.{Functions, distance}
+use Rattle.virtual_unwind.specs.Undone.{word}
+use Rattle.host_model.specs.declared.funclet.Funclet.{Funclet}
+use Rattle.host_model.specs.Funclets.{arrivals}
+use Rattle.linear_code.specs.declared.instruction.Instruction.TheVariants as instructions
+use Rattle.linear_code.specs.Program.{LinearProgram, LinearBody, LinearFunction}
+use Rattle.linear_machine.specs.Frames.{FunctionBody, body_of, Waits, Configuration, Next, with_some, deeper, last_temporaries}
+use Rattle.linear_machine.specs.Run.{instruction_in}
+use Rattle.linear_machine.specs.Instructions.{begin_function, waiting, act}
+use Rattle.template_code.specs.declared.layout.Layout.{Layout}
+use Rattle.template_code.specs.Bytes.{sizes}
+use Rattle.template_code.specs.Calls.{return_at, passing_code}
+use Rattle.x64_templates.proofs.PlacedCode.{same_number}
+use Rattle.x64_templates.proofs.Entries.{pushed_back}
+use Rattle.linked_stack.specs.WalkLaws.{context_below}
+use Rattle.linked_stack.specs.ImagePlan.{Plan}
+use Rattle.linked_stack.specs.Linked.{home_end, HoldsWords, return_of, ReturnsTo}
+use Rattle.linked_stack.specs.Records.{IsData, On}
+use Rattle.whole_runs.specs.Comes.{Comes}
+use Rattle.whole_runs.proofs.Turns.{comes_then}
+use Rattle.ir_typed.specs.Room.{HaveRoom}
+use Rattle.ir_typed.specs.Small.{AreSmall}
+use Rattle.body_states.specs.Sites.{Sites}
+use Rattle.body_states.specs.Layouts.{IsLayoutIf}
+use Rattle.body_states.specs.Programs.{IsMachineMemory, IsProgramImage}
+use Rattle.body_states.specs.Bodies.{turns_left, slots_end, Begins}
+use Rattle.body_states.proofs.QuietTurns.{reaches_quietly, enters_quietly, program_reaches}
+use Rattle.body_steps.specs.Stores.{KeepsStackBut}
+use Rattle.body_steps.proofs.Activations.{locals_count}
+use Rattle.body_steps.proofs.Programs.{KeepsImage, program_stays}
+use Rattle.body_steps.proofs.Reaching.{Keeps, keeps_then, enters_keeps, stays_sane}
+use Rattle.body_steps.proofs.Views.{stack_is_reserved}
+use Rattle.body_steps.proofs.Viewed.{IsCounted, slots_here}
+use Rattle.body_steps.proofs.Words.{may_read_written, word_of}
+use Rattle.turn_steps.specs.Calls.{begun}
+use Rattle.turn_steps.proofs.Begun.{function_begins}
+use Rattle.turn_steps.proofs.Awaiting as awaiting
+use Rattle.turn_steps.proofs.CallCalling as calling
+use Rattle.turn_steps.proofs.Callee as entering
+use Rattle.turn_steps.proofs.Entered.{words_at, words_count, words_small, arguments_then_words}
+use Rattle.turn_steps.proofs.Entries as entries
+
+-- two turns for each argument that is passed on the stack
+passed_in : (y : Layout) (first i n : ℕ) → length (passing_code y first i n) ≡ 2 * n
+passed_in y first i zero = refl
+passed_in y first i (suc n) = let r = passed_in y first (i + 1) n in omega arith
+
+got_past : (xs : List ℕ) (n i : ℕ) → slice_get (drop n xs) i ≡ slice_get xs (n + i)
+got_past xs zero i = let z : i ≡ 0 + i = omega arith in ap (slice_get xs) z
+got_past [] (suc n) i = refl
+got_past (x ∷ xs) (suc n) i = got_past xs n i ∙ (let z : suc (n + i) ≡ suc n + i = omega arith in ap (slice_get (x ∷ xs)) z)
+
+-- what linear code does
+pub call_acts : (program : LinearProgram) (c : Configuration) (f first count : ℕ) (fn : LinearFunction) → slice_get program.functions f ≡ Some fn → length c.frame.temporaries ≡ first + count
+    → (next : Next) → act program (instructions.Call f first count) next c
+    ≡ deeper 1 c.frame.held c.store c.events (next (begin_function f fn (drop first c.frame.temporaries) c.frame.held (Waits (waiting c first).frame ∷ c.below) c.store c.events))
+unfolding with_some
+call_acts program c f first count fn callee held next =
+    let arguments = drop first c.frame.temporaries in
+    let e : last_temporaries c.frame.temporaries first count ≡ Some arguments =
+    ap (λ (x : Bool). if x then Some arguments else None) (eq-eqb (length c.frame.temporaries) (first + count) held) in
+    ap (λ o. with_some c.events o (λ arguments.
+    with_some c.events (slice_get program.functions f) (λ function.
+    deeper 1 c.frame.held c.store c.events
+    (next (begin_function f function arguments c.frame.held (Waits (waiting c first).frame ∷ c.below) c.store c.events))))) e
+    ∙ ap (λ o. with_some c.events o (λ function.
+    deeper 1 c.frame.held c.store c.events
+    (next (begin_function f function arguments c.frame.held (Waits (waiting c first).frame ∷ c.below) c.store c.events)))) callee
+
+module _ (t : Functions) (fs : List Funclet) (program : LinearProgram) (p : Plan) (q : Sites) (image : IsProgramImage t fs program p q) (roomy : HaveRoom program) where
+  module _ (s : State) (c : Configuration) (b : Begins t fs program p q s c) (counted : IsCounted t fs program p q image c) (f first count : ℕ)
+      (at : slice_get b.body.slots.code.code c.frame.next ≡ Some (instructions.Call f first count)) (few : count ≤ 8) (few_passed : count ≤ 4 + b.body.slots.code.passed) (framed : p.leaf c.frame.body ≡ false)
+      (fn : LinearFunction) (callee : slice_get program.functions f ≡ Some fn) (parameters : fn.parameters ≡ count) (fits : count ≤ fn.body.locals)
+      (some : 0 < length fn.body.code) (held : length c.frame.temporaries ≡ first + count) (apart : (k : ℕ) → k < length program.funclets → q.function f ≢ p.funclet k) where
+    abbrev caller : ℕ
+    caller = register s.cpu Rsp
+
+    abbrev layout : Layout
+    layout = p.layout (FunctionBody f)
+
+    abbrev o : LinearBody
+    o = fn.body
+
+    abbrev there : body_of program (FunctionBody f) ≡ Some o
+    there = entering.there t fs program p q image roomy s c b counted f first count at few few_passed framed fn callee parameters fits
+
+    abbrev inside : entering.InCallee t fs program p q image roomy s c b counted f first count at few few_passed framed fn callee parameters fits
+    inside = entries.entered t fs program p q image roomy s c b counted f first count at few few_passed framed fn callee parameters fits
+
+    abbrev pub after : State
+    after = inside.state
+
+    abbrev at_callee : State
+    at_callee = entering.at_callee t fs program p q image roomy s c b counted f first count at few few_passed framed fn callee parameters fits
+
+    abbrev called_in : ℕ
+    called_in = length (passing_code (p.layout c.frame.body) first 4 (count - 4)) + 5
+
+    low : STACK_START + 196568 ≤ caller
+    low = calling.low t fs program p q image roomy s c b counted f first count at few few_passed framed
+
+    top : caller + 40 ≤ STACK_END
+    top = let a = calling.room_top t fs program p q image roomy s c b counted f first count at few few_passed framed in omega arith
+
+    keeps : Keeps s after
+    keeps = keeps_then s at_callee after (entering.keeps t fs program p q image roomy s c b counted f first count at few few_passed framed fn callee parameters fits) (enters_keeps inside.turns at_callee after inside.comes)
+
+    -- ---- turns
+
+    pub turns : ℕ
+    turns = called_in + inside.turns
+
+    rip_small : after.cpu.rip < 2 ^ 64
+    rip_small = let a = image.addresses (FunctionBody f) o there in let h = a.inside.high in let r = inside.rip in omega arith
+
+    quiet_called : arrivals at_callee.cpu (distance t.base at_callee.cpu.rip) 1 fs ≡ []
+    quiet_called = let a = image.addresses (FunctionBody f) o there in let h = a.inside.high in let r = a.first in image.funclets.none (q.function f) (omega arith) apart at_callee.cpu
+
+    quiet_after : arrivals after.cpu (distance t.base after.cpu.rip) 1 fs ≡ []
+    quiet_after = image.funclets.none after.cpu.rip rip_small (λ k lt e. (image.addresses (FunctionBody f) o there).not_first 0 k some lt (sym inside.rip ∙ e)) after.cpu
+
+    pub comes : Comes t fs turns s [] after
+    unfolding turns
+    comes =
+        comes_then t fs called_in inside.turns s at_callee after [] []
+        (reaches_quietly t fs program p q image called_in s at_callee (entering.calls t fs program p q image roomy s c b counted f first count at few few_passed framed fn callee parameters fits) b.memory.code quiet_called)
+        (enters_quietly t fs program p q image inside.turns at_callee after inside.comes (program_reaches t fs program p q called_in s at_callee (entering.calls t fs program p q image roomy s c b counted f first count at few few_passed framed fn callee parameters fits) b.memory.code) quiet_after)
+
+    pub some_turns : 1 ≤ turns
+    unfolding turns
+    some_turns = omega arith
+
+    -- ---- linear code
+
+    abbrev pub arguments : List ℕ
+    arguments = drop first c.frame.temporaries
+
+    pub counted_arguments : length arguments ≡ count
+    counted_arguments = length-drop first c.frame.temporaries ∙ (let h = held in omega arith)
+
+    -- the other locals
+    abbrev pub others : List ℕ
+    others = words_at after.memory (inside.sp + layout.locals + 8 * length arguments) (o.locals - count)
+
+    pub counted_others : length others ≡ o.locals - count
+    counted_others = words_count after.memory (inside.sp + layout.locals + 8 * length arguments) (o.locals - count)
+
+    pub small_others : AreSmall others
+    small_others = words_small after.memory (inside.sp + layout.locals + 8 * length arguments) (o.locals - count) inside.bytes
+
+    -- where the callee begins
+    abbrev pub callee_begins : Configuration
+    callee_begins = begun f (arguments ++ others) c.frame.held (Waits (waiting c first).frame ∷ c.below) c.store.memory c.store.activations c.events
+
+    pub soon : turns + turns_left callee_begins ≤ 16 + turns_left c
+    unfolding turns
+    soon =
+        let a = inside.soon in
+        let n = passed_in (p.layout c.frame.body) first 4 (count - 4) in
+        let h = held in
+        let w = length-take first c.frame.temporaries in
+        omega arith
+
+    -- ---- memory
+
+    may_stack : (a : ℕ) → STACK_START ≤ a → a < STACK_END → may_write after.memory a ≡ true
+    may_stack a l u = ap (λ (g : ℕ → Protection). is_writable (g a).rights) keeps.protection ∙ b.memory.stack a l u
+
+    protection_same : (a : ℕ) → after.memory.protection a ≡ s.memory.protection a
+    protection_same a = ap (λ (g : ℕ → Protection). g a) keeps.protection
+
+    abbrev room : ℕ
+    room = calling.room t fs program p q image roomy s c b counted f first count at few few_passed framed
+
+    stack_kept : KeepsStackBut s.memory after.memory caller caller (caller + room)
+    stack_kept = record {
+      bytes = λ a l u out. elim out [
+        | inl x ↦ absurd (omega arith)
+        | inr x ↦ (let z = low in inside.same a (stack_is_reserved program.globals a (omega arith) u) (inr (inr (inr (omega arith)))) ∙ calling.same_above t fs program p q image roomy s c b counted f first count at few few_passed framed a l (inr x))
+      ];
+      protection = λ a l u. protection_same a;
+      code = λ a e. (keeps.fixed a (fixed a e (may_write s.memory a) refl), protection_same a);
+      no_more_code = λ a e. ap (λ (g : Protection). g.execute) (protection_same a) ∙ e;
+    }
+      where
+        fixed : (a : ℕ) → (s.memory.protection a).execute ≡ true → (x : Bool) → may_write s.memory a ≡ x → may_write s.memory a ≡ false
+        fixed a e true w = let z : true ≡ false = sym e ∙ b.memory.data_alone.no_code a w in absurd cc
+        fixed a e false w = w
+
+    data_alone : IsData after.memory
+    data_alone = record {
+      bytes = inside.bytes;
+      no_code = λ a w. ap (λ (g : Protection). g.execute) (protection_same a) ∙ b.memory.data_alone.no_code a (ap (λ (g : Protection). is_writable g.rights) (sym (protection_same a)) ∙ w);
+    }
+
+    image_kept : KeepsImage program.globals s.memory after.memory
+    image_kept = record {
+      byte = λ a l u own. (let z = top in let w = calling.room_top t fs program p q image roomy s c b counted f first count at few few_passed framed in inside.same a own (inr (inl (omega arith))) ∙ calling.same_above t fs program p q image roomy s c b counted f first count at few few_passed framed a (omega arith) (inr (omega arith)));
+      protection = λ a l u own. protection_same a;
+    }
+
+    memory : IsMachineMemory t fs program p q after.memory c.store.memory
+    memory = record {
+      data_alone = data_alone;
+      agrees = inside.agrees;
+      stack = may_stack;
+      arena = λ a e. ap (λ (g : Protection). g.execute) (protection_same a) ∙ b.memory.arena a e;
+      code = program_stays t fs program p q image s.memory after.memory image_kept b.memory.code;
+    }
+
+    -- ---- the frame
+
+    abbrev Laid : Bool → Type 0
+    Laid leaf = IsLayoutIf program p layout o leaf
+
+    laid : Laid (p.leaf (FunctionBody f))
+    laid = image.laid_out (FunctionBody f) o there
+
+    frame_small : (leaf : Bool) → Laid leaf → layout.frame ≤ 8184
+    frame_small true l = let e = l.frame in omega arith
+    frame_small false l = l.small
+
+    slots_fit : (leaf : Bool) → Laid leaf → (layout.locals + 8 * o.locals ≤ slots_end layout leaf) × (inside.sp + slots_end layout leaf ≤ caller + 32)
+    slots_fit true l = let e = l.frame in let a = l.locals in let k = l.temporaries in let n = l.few in let z = inside.place in (omega arith, omega arith)
+    slots_fit false l = let a = l.locals in let z = inside.place in (omega arith, omega arith)
+
+    at_home : (leaf : Bool) → Laid leaf → leaf ≡ true → inside.sp + home_end ≤ STACK_END
+    at_home true l e = let k = l.frame in let z = inside.place in let w = top in omega arith
+    at_home false l e = absurd (let no : false ≡ true = e in cc)
+
+    sp_low : STACK_START ≤ inside.sp
+    sp_low = let z = low in let e = inside.place in let n = frame_small (p.leaf (FunctionBody f)) laid in omega arith
+
+    argument_there : (i v : ℕ) → slice_get arguments i ≡ Some v → number_at after.memory.byte 8 (inside.sp + layout.locals + 8 * i) ≡ v
+    argument_there i v e =
+        let lt = slice_get_within arguments i v e in
+        let n = counted_arguments in
+        let z : inside.sp + layout.locals + 8 * i ≡ inside.sp + (layout.locals + 8 * i) = omega arith in
+        ap (number_at after.memory.byte 8) z ∙ inside.locals i (omega arith) ∙ (slots_here t fs program p q image s c b counted).temporaries (first + i) v (sym (got_past c.frame.temporaries first i) ∙ e)
+
+    numbers : HoldsWords after.memory (inside.sp + layout.locals) (inside.sp + slots_end layout (p.leaf (FunctionBody f))) (arguments ++ others)
+    numbers =
+        let r = slots_fit (p.leaf (FunctionBody f)) laid in
+        let r0 = r.0 in
+        let r1 = r.1 in
+        let n = counted_arguments in
+        let z = top in
+        let lo = sp_low in
+        arguments_then_words after.memory (inside.sp + layout.locals) (inside.sp + slots_end layout (p.leaf (FunctionBody f))) arguments (o.locals - count) (omega arith) argument_there
+        (λ a v l u e. word_of after.memory a v (omega arith) (λ x g h. may_read_written after.memory x (may_stack x (omega arith) (omega arith))) e)
+
+    -- ---- the return address
+
+    abbrev pub back : ℕ
+    back = awaiting.back t fs program p q image roomy s c b counted f first count at
+
+    back_same : calling.back t fs program p q image roomy s c b counted f first count at few few_passed framed ≡ back
+    back_same = ap (λ x. return_at (p.layout c.frame.body) first (x + sizes (passing_code (p.layout c.frame.body) first 4 (count - 4)))) b.rip
+
+    returns_to : ReturnsTo t fs program p (Waits (waiting c first).frame ∷ c.below) back
+    returns_to =
+        ap (λ o. return_of (p.layout c.frame.body) (p.address c.frame.body c.frame.next) (instruction_in o c.frame.next)) b.body.slots.body
+        ∙ ap (return_of (p.layout c.frame.body) (p.address c.frame.body c.frame.next)) at
+
+    returns : word after.memory (inside.sp + layout.frame) ≡ Ok back
+    returns =
+        let z = top in
+        let l = low in
+        let e = inside.place in
+        let n = awaiting.back_near t fs program p q image roomy s c b counted f first count at in
+        let h = n.1 in
+        let w : inside.sp + layout.frame ≡ caller - 8 = omega arith in
+        let same = back_same in
+        let pushed = (pushed_back (calling.before t fs program p q image roomy s c b counted f first count at few few_passed framed) caller (calling.back t fs program p q image roomy s c b counted f first count at few few_passed framed) (calling.below_sp t fs program p q image roomy s c b counted f first count at few few_passed framed) (omega arith)).number in
+        word_of after.memory (inside.sp + layout.frame) back (omega arith) (λ x g h. may_read_written after.memory x (may_stack x (omega arith) (omega arith)))
+        (ap (number_at after.memory.byte 8) w
+        ∙ same_number after.memory.byte (entering.called t fs program p q image roomy s c b counted f first count at few few_passed framed fn callee parameters fits).memory.byte 8 (caller - 8) (omega arith) (λ a g h. inside.same a (stack_is_reserved program.globals a (omega arith) (omega arith)) (inr (inr (inl (omega arith, omega arith)))))
+        ∙ pushed ∙ same)
+
+    -- ---- all of it
+
+    pub begins : nat_lt 1000 (length c.store.activations + c.frame.held + 1) ≡ false → Begins t fs program p q after callee_begins
+    begins shallow =
+        let waits = awaiting.awaits t fs program p q image roomy s c b counted f first count at after.memory room (omega arith) framed stack_kept data_alone in
+        let small = frame_small (p.leaf (FunctionBody f)) laid in
+        let e = inside.place in
+        let stack = inside.stack in
+        let space = b.body.slots.space.space in
+        let deep = b.body.slots.space.shallow in
+        let depth : length c.store.activations ≡ length b.body.acts = ap length b.body.store ∙ locals_count b.body.acts in
+        let limit = not_less 1000 (length c.store.activations + c.frame.held + 1) shallow in
+        let up : register after.cpu Rsp + layout.frame + 8 ≡ caller = omega arith in
+        let begins = function_begins t fs program p q image after c.store.memory f o there (Waits (waiting c first).frame ∷ c.below) b.body.acts c.frame.held c.events (arguments ++ others)
+        (stays_sane s after keeps rip_small b.sane) memory inside.rip some
+        (record { space = omega arith; shallow = omega arith }) tt
+        (λ leaf. subst (λ x. x + home_end ≤ STACK_END) (sym stack) (at_home (p.leaf (FunctionBody f)) laid leaf))
+        back returns_to (subst (λ x. word after.memory (x + layout.frame) ≡ Ok back) (sym stack) returns)
+        (subst (λ x. HoldsWords after.memory (x + layout.locals) (x + slots_end layout (p.leaf (FunctionBody f))) (arguments ++ others)) (sym stack) numbers)
+        waits.0 (λ more n. subst (λ x. On t fs program p after.memory (context_below back x more) waits.0 (Waits (waiting c first).frame ∷ c.below) b.body.acts) (sym up) (waits.1 more n)) in
+        subst (λ (xs : List (List ℕ)). Begins t fs program p q after (begun f (arguments ++ others) c.frame.held (Waits (waiting c first).frame ∷ c.below) c.store.memory xs c.events)) (sym b.body.store) begins
+      where
+        not_less : (n m : ℕ) → nat_lt n m ≡ false → m ≤ n
+        not_less n m e = elim (cases_lt n m) [ inl l ↦ absurd (let z : true ≡ false = sym (lt-ltb n m l) ∙ e in cc) | inr g ↦ g ]

@@ -1,0 +1,27 @@
+-- A body goes on wherever an exception of it is continued: after its call, or at the same operation.
+use Rattle.std.proofs.Common.{ℕ, List, inl}
+use Rattle.x64_machine.specs.Effect.{State}
+use Rattle.virtual_unwind.specs.CallerOf.{Functions}
+use Rattle.host_model.specs.declared.funclet.Funclet.{Funclet}
+use Rattle.linear_code.specs.Program.{LinearProgram}
+use Rattle.linear_machine.specs.Frames.{AfterCall, SameOperation, Configuration}
+use Rattle.linked_stack.specs.ImagePlan.{Plan}
+use Rattle.whole_runs.proofs.Matches.{LeadsTo}
+use Rattle.body_states.specs.Sites.{Sites}
+use Rattle.body_states.specs.Bodies.{Begins}
+use Rattle.turn_steps.specs.Outcomes.{Stands}
+use Rattle.turn_steps.proofs.FaultSteps.{continuations}
+use Rattle.turn_steps.specs.RaiseLaws.{BodiesGoOn}
+use Rattle.turn_steps.proofs.RaiseContinuing.{continuations_after_calls}
+
+begun_stands : (t : Functions) (fs : List Funclet) (program : LinearProgram) (p : Plan) (q : Sites) (most : ℕ) (s : State) (c : Configuration)
+    → LeadsTo t fs most (Begins t fs program p q) s c → LeadsTo t fs most (Stands t fs program p q) s c
+begun_stands t fs program p q most s c l = record { turns = l.turns; few = l.few; state = l.state; comes = l.comes; stands = inl l.stands }
+
+pub bodies_go_on : BodiesGoOn
+bodies_go_on t fs program p q image made s saved is acts AfterCall c on sane says memory store =
+    let x = continuations_after_calls t fs program p q image made s saved is acts c on sane says memory store in
+    (x.0, λ known free. begun_stands t fs program p q _ _ _ (x.1 known free))
+bodies_go_on t fs program p q image made s saved is acts SameOperation c on sane says memory store =
+    let x = continuations t fs program p q image made s saved is acts c on sane says memory store in
+    (x.0, λ known free. x.1)

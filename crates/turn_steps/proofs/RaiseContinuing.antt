@@ -1,0 +1,176 @@
+-- Where the exception of a call of RaiseException is continued, the instruction after the call begins, with the result 0.
+use Rattle.std.proofs.Common.{◌≡◌, ℕ, suc, ◌+◌, ◌*◌, ◌≤◌, Bool, true, false, List, [], ◌∷◌, ◌++◌, length, Some, None, refl, sym, ap, subst, ◌∙◌, arith, length-append}
+use Rattle.std.specs.Prelude.{slice_get}
+use Rattle.flat_memory.specs.Memory.{Memory}
+use Rattle.x64_instr.specs.declared.register.Reg.TheVariants.{Rsp}
+use Rattle.x64_instr.specs.declared.instruction.Instr.{Instr}
+use Rattle.x64_machine.specs.declared.cpu.Cpu.{Cpu}
+use Rattle.x64_machine.specs.Contexts.{context_of}
+use Rattle.x64_machine.specs.Effect.{State}
+use Rattle.virtual_unwind.specs.CallerOf.{Functions, distance}
+use Rattle.host_model.specs.declared.funclet.Funclet.{Funclet}
+use Rattle.host_model.specs.Funclets.{arrivals}
+use Rattle.c_operations.specs.declared.built_in.BuiltIn.TheVariants.{RaiseException}
+use Rattle.linear_code.specs.declared.slot.Slot.TheVariants.{Temporary}
+use Rattle.linear_code.specs.declared.instruction.Instruction.{Instruction}
+use Rattle.linear_code.specs.declared.instruction.Instruction.TheVariants as instructions
+use Rattle.linear_code.specs.Meaning.{HasSlots}
+use Rattle.linear_code.specs.Program.{LinearProgram, LinearBody}
+use Rattle.linear_machine.specs.Frames.{BodyName, FunctionBody, FuncletBody, body_of, AfterCall, Waits, Configuration}
+use Rattle.linear_machine.specs.Searching.{resumed}
+use Rattle.template_code.specs.declared.layout.Layout.{Layout}
+use Rattle.template_code.specs.Bytes.{sizes}
+use Rattle.template_code.specs.Slots.{put_back, keep, temporary_at}
+use Rattle.template_code.specs.Jumps.{call}
+use Rattle.template_code.specs.Calls.{arguments_code, return_at, begin_call, clear_result}
+use Rattle.template_code.specs.Template.{template, code_from, offset_of}
+use Rattle.template_code.proofs.Sizes.{sizes_append, call_size}
+use Rattle.x64_templates.specs.Runs.{HasCode}
+use Rattle.x64_templates.proofs.Computes.{code_split}
+use Rattle.x64_templates.proofs.Encoded.{near}
+use Rattle.x64_templates.proofs.Linked.{template_placed}
+use Rattle.linked_stack.specs.Stack.{StackItem}
+use Rattle.linked_stack.specs.ImagePlan.{Plan}
+use Rattle.linked_stack.specs.Linked.{Activation, locals_of}
+use Rattle.linked_stack.specs.Records.{On}
+use Rattle.linked_stack.specs.Unwinding.{on_top}
+use Rattle.linked_stack.specs.States.{IsSane}
+use Rattle.whole_runs.proofs.Matches.{LeadsTo}
+use Rattle.ir_typed.specs.Depths.{depth_at, depth_in}
+use Rattle.ir_typed.proofs.Scans.{depth_next}
+use Rattle.body_states.specs.Layouts.{IsLayoutIf, IsLaidOut}
+use Rattle.body_states.specs.Sites.{Sites, links_of, begin_of, entry_code}
+use Rattle.body_states.specs.Programs.{HasProgram, ReturnsThere, IsMachineMemory, IsProgramImage}
+use Rattle.body_states.specs.Bodies.{Begins}
+use Rattle.body_states.proofs.QuietTurns.{reaches_quietly}
+use Rattle.body_steps.specs.Known.{IsWellMade, IsKnown}
+use Rattle.body_steps.specs.Views.{counts_of}
+use Rattle.body_steps.proofs.Activations.{locals_count}
+use Rattle.body_steps.proofs.Around.{label_in, body_there, counted_here}
+use Rattle.body_steps.proofs.Running.{each, get_or_is}
+use Rattle.body_steps.proofs.Viewed.{IsCounted}
+use Rattle.turn_steps.proofs.Kept as kept
+use Rattle.turn_steps.proofs.CallSteps.{surrounded}
+use Rattle.turn_steps.specs.FuncletEntries.{entry_turns}
+use Rattle.turn_steps.specs.RaiseLaws.{ContinuationsAfterCalls}
+use Rattle.turn_steps.proofs.Asking.{clear_size}
+use Rattle.turn_steps.proofs.RaiseQuiet.{quiet_code}
+
+-- the locals of an activation
+abbrev locals_in : List (List ℕ) → ℕ → List ℕ
+locals_in xs k = elim (slice_get xs k) [ Some locals ↦ locals | None ↦ [] ]
+
+-- temporaries are near RSP
+temporaries_near : (program : LinearProgram) (p : Plan) (name : BodyName) (b : LinearBody) → IsLaidOut program p name b → (p.layout name).temporaries + 8 * b.temporaries ≤ 8184
+temporaries_near program p (FunctionBody f) b h = by (p.leaf (FunctionBody f)) h
+  where
+    by : (leaf : Bool) → IsLayoutIf program p (p.layout (FunctionBody f)) b leaf → (p.layout (FunctionBody f)).temporaries + 8 * b.temporaries ≤ 8184
+    by true l = let a = l.temporaries in let e = l.few in omega arith
+    by false l = let a = l.temporaries in let e = l.locals in let z = l.small in omega arith
+temporaries_near program p (FuncletBody k) b h = let a = h.layout.temporaries in let z = h.layout.small in omega arith
+
+module _ (t : Functions) (fs : List Funclet) (program : LinearProgram) (p : Plan) (q : Sites) (image : IsProgramImage t fs program p q) where
+  -- the template of an instruction stands at its address
+  template_at : (m : Memory) (name : BodyName) (o : LinearBody) (label : ℕ) (i : Instruction) → HasProgram t fs program p q m → body_of program name ≡ Some o → slice_get o.code label ≡ Some i
+      → HasCode m (p.address name label) (template (links_of p q name) (p.layout name) (p.address name label) i)
+  template_at m name o label i has there e =
+      let a = image.addresses name o there in
+      let y = p.layout name in
+      let links = links_of p q name in
+      let g = get_or_is o.code label i instructions.Separator e in
+      let h = code_split m (begin_of p q name) (entry_code program p q name) (code_from links y (p.address name 0) o.code) (has.code name o there) in
+      let all = subst (λ x. HasCode m x (code_from links y (p.address name 0) o.code)) (sym a.first) h.1 in
+      subst (λ x. HasCode m x (template links y x i)) (sym (a.labels label))
+      (subst (λ j. HasCode m (p.address name 0 + offset_of y o.code label) (template links y (p.address name 0 + offset_of y o.code label) j)) g.0
+      (template_placed links y m (p.address name 0) o.code label instructions.Separator all g.1))
+
+  module _ (made : IsWellMade program p) (s : State) (saved : Cpu) (is : List StackItem) (acts : List Activation) (c : Configuration)
+      (on : On t fs program p s.memory (context_of saved) is (Waits c.frame ∷ c.below) acts) (sane : IsSane (record { cpu = saved; memory = s.memory })) (says : p.resumes AfterCall c.frame saved ≡ true)
+      (memory : IsMachineMemory t fs program p q s.memory c.store.memory) (store : c.store.activations ≡ locals_of acts) where
+    abbrev name : BodyName
+    name = c.frame.body
+
+    abbrev y : Layout
+    y = p.layout c.frame.body
+
+    abbrev place : ℕ
+    place = p.address c.frame.body c.frame.next
+
+    returns : ReturnsThere t fs program p q c.frame saved
+    returns = (image.resumptions AfterCall c.frame saved).said says
+
+    abbrev first : ℕ
+    first = returns.first
+
+    abbrev i : Instruction
+    i = instructions.CallBuiltIn RaiseException first
+
+    code : (o : LinearBody) × (body_of program name ≡ Some o)
+    code = body_there (body_of program name) c.frame.next i returns.calls
+
+    here : slice_get code.0.code c.frame.next ≡ Some i
+    here = label_in (body_of program name) code.0 c.frame.next i code.1 returns.calls
+
+    fits : first + 4 ≤ code.0.temporaries
+    fits = each (HasSlots (counts_of code.0)) code.0.code c.frame.next i (made.room name code.0 code.1).slots here
+
+    abbrev done : List Instr
+    done = clear_result ∷ begin_call y first (place + 5) (q.thunk RaiseException)
+
+    back_is : saved.rip ≡ place + sizes done
+    back_is =
+        let n = clear_size in
+        let back = return_at y first (place + 5) in
+        let five = call_size back (q.thunk RaiseException) in
+        omega (arith, returns.here, sizes_append (arguments_code y first) (call back (q.thunk RaiseException) ∷ []))
+
+    -- the code that keeps the result
+    keeps : HasCode s.memory saved.rip (put_back Rsp (temporary_at y first) ∷ [])
+    keeps =
+        let h = code_split s.memory place done (keep y (Temporary first)) (template_at s.memory name code.0 c.frame.next i memory.code code.1 here) in
+        subst (λ x. HasCode s.memory x (keep y (Temporary first))) (sym back_is) h.1
+
+    pub quiet_there : arrivals saved (distance t.base saved.rip) 1 fs ≡ []
+    quiet_there =
+        let n = temporaries_near program p name code.0 (image.laid_out name code.0 code.1) in
+        let f = fits in
+        quiet_code t fs program p q image s.memory saved.rip (put_back Rsp (temporary_at y first)) saved memory.code (near (temporary_at y first) (omega arith)) refl keeps sane.rip_small
+
+    module _ (known : IsKnown program (resumed AfterCall c)) (free : c.frame.landed ≡ None) where
+      held : length c.frame.temporaries ≡ first
+      held =
+          let d = known.depths.held ∙ ap (λ o. depth_in o (c.frame.next + 1)) code.1 in
+          let one : c.frame.next + 1 ≡ suc c.frame.next = omega arith in
+          let n = ap (depth_at code.0.code) one ∙ depth_next code.0.code 0 c.frame.next i here in
+          let more = length-append c.frame.temporaries (0 ∷ []) in
+          omega (arith, d, n, more)
+
+      abbrev caller : Configuration
+      caller = on_top c.frame c.below c.store.memory acts c.events
+
+      counted : IsCounted t fs program p q image caller
+      counted b there = ap (λ (xs : List (List ℕ)). length (locals_in xs c.frame.activation)) (sym store) ∙ counted_here t fs program p q image made (resumed AfterCall c) known b there
+
+      pub continues : LeadsTo t fs entry_turns (Begins t fs program p q) (record { cpu = saved; memory = s.memory }) (resumed AfterCall c)
+      continues =
+          let around = surrounded t fs program p q image made (resumed AfterCall c) known code.0 code.1 (length acts) (sym (locals_count acts) ∙ sym (ap length store)) in
+          let u : State = record { cpu = saved; memory = s.memory } in
+          let f = fits in
+          let z = kept.resumes t fs program p q image made.room u c.frame c.below acts c.store.memory c.events (context_of saved) is on refl sane memory code.0 code.1 i first done here refl (omega arith)
+          ((made.apart name code.0 code.1).within c.frame.next i here refl) held free back_is counted around in
+          record {
+            turns = 1;
+            few = omega arith;
+            state = z.0;
+            comes = reaches_quietly t fs program p q image 1 u z.0 z.1 memory.code z.2;
+            stands = subst (λ xs. Begins t fs program p q z.0 (record {
+              frame = record c.frame { next = c.frame.next + 1; temporaries = c.frame.temporaries ++ 0 ∷ [] };
+              below = c.below;
+              store = record { memory = c.store.memory; activations = xs };
+              events = c.events;
+            })) (sym store) (subst (λ x. Begins t fs program p q z.0 (kept.answered t fs program p q image made.room c.frame c.below c.store.memory acts c.events x)) returns.no_result z.3);
+          }
+
+pub continuations_after_calls : ContinuationsAfterCalls
+continuations_after_calls t fs program p q image made s saved is acts c on sane says memory store =
+    (quiet_there t fs program p q image made s saved is acts c on sane says memory store, λ known free. continues t fs program p q image made s saved is acts c on sane says memory store known free)

@@ -1,0 +1,329 @@
+-- A local unwind: the host is asked with the body's own frame and the label's address, and saves the state after the call.
+use Rattle.std.proofs.Common.{◌≡◌, ℕ, zero, ◌+◌, ◌%◌, ◌^◌, ◌<◌, ◌≤◌, Bool, true, false, List, [], ◌∷◌, length, Option, Some, None, Ok, refl, sym, ap, subst, ◌∙◌, arith, inl, length-set}
+use Rattle.std.specs.Prelude.{slice_get}
+use Rattle.std.proofs.lemmas.List.{length-drop}
+use Rattle.std.proofs.lemmas.Option.{slice_get_within}
+use Rattle.seh_num.specs.declared.width.Width.TheVariants.{W64}
+use Rattle.host_layout.specs.declared.range.TheConstants.{IMAGE_BASE, IMAGE_RANGE_END, STACK_START, STACK_END}
+use Rattle.host_layout.specs.declared.service.Service.TheVariants as services
+use Rattle.host_layout.specs.Services.{address_of}
+use Rattle.flat_memory.specs.Memory.{Memory, loaded}
+use Rattle.x64_instr.specs.declared.register.Reg.TheVariants.{Rcx, Rsp}
+use Rattle.x64_instr.specs.declared.instruction.Instr.TheVariants as instrs
+use Rattle.x64_encode.specs.Chosen.{modrm}
+use Rattle.x64_machine.specs.declared.context.Context.{Context}
+use Rattle.x64_machine.specs.declared.cpu.Cpu.{Cpu}
+use Rattle.x64_machine.specs.Contexts.{context_of}
+use Rattle.x64_machine.specs.Effect.{State, register}
+use Rattle.virtual_unwind.specs.CallerOf.{Functions}
+use Rattle.host_model.specs.declared.funclet.Funclet.{Funclet}
+use Rattle.host_model.specs.Funclets.{arrived}
+use Rattle.host_model.specs.Dispatch.{unwound_locally}
+use Rattle.linear_code.specs.declared.slot.Slot.TheVariants.{Local}
+use Rattle.linear_code.specs.declared.instruction.Instruction.{Instruction}
+use Rattle.linear_code.specs.declared.instruction.Instruction.TheVariants as instructions
+use Rattle.linear_code.specs.Program.{LinearProgram, LinearBody}
+use Rattle.linear_machine.specs.Frames.{Frame, Item, Waits, Configuration, body_of}
+use Rattle.linear_machine.specs.Instructions.{local_unwind, act}
+use Rattle.linear_machine.specs.Run.{instruction_at, exec}
+use Rattle.template_code.specs.declared.layout.Layout.{Layout}
+use Rattle.template_code.specs.Bytes.{size, sizes}
+use Rattle.template_code.specs.Operations.{move}
+use Rattle.template_code.specs.Jumps.{IsNear}
+use Rattle.template_code.specs.Calls.{local_unwind_code}
+use Rattle.template_code.proofs.Sizes.{address_size, call_size, template_sizes}
+use Rattle.x64_templates.specs.Straight.{MachineView, machine}
+use Rattle.x64_templates.specs.CallStates.{pushed}
+use Rattle.x64_templates.specs.Runs.{Reaches, HasCode}
+use Rattle.x64_templates.proofs.PlacedCode.{reaches_then}
+use Rattle.x64_templates.proofs.Services.{thunk_reaches, pushed_thunk}
+use Rattle.x64_templates.proofs.Unwinds.{with_two, local_unwind_begins}
+use Rattle.linked_stack.specs.Stack.{StackItem, Framed, Leaf}
+use Rattle.linked_stack.specs.ImagePlan.{Plan, InCode}
+use Rattle.linked_stack.specs.Linked.{Activation, SameRegions, AimedHere, Aimed, Linked}
+use Rattle.linked_stack.specs.ListLaws.{KeepsAbove}
+use Rattle.linked_stack.specs.States.{IsSane}
+use Rattle.linked_stack.proofs.Entered.{set_small}
+use Rattle.whole_runs.specs.Comes.{Comes}
+use Rattle.whole_runs.specs.Ends.{HasRule}
+use Rattle.whole_runs.specs.Matched.{IsMatched}
+use Rattle.ir_typed.specs.Waiting.{LandsWell}
+use Rattle.body_states.specs.Sites.{Sites, links_of}
+use Rattle.body_states.specs.Programs.{IsResumed, IsMachineMemory, IsProgramImage}
+use Rattle.body_states.specs.Bodies.{turns_left, InBody, Begins}
+use Rattle.body_states.proofs.QuietTurns.{reaches_quietly}
+use Rattle.body_states.proofs.Resumed.{all_front}
+use Rattle.body_steps.specs.Known.{IsWellMade, IsKnown, KnownNext}
+use Rattle.body_steps.specs.Laws.{pace}
+use Rattle.body_steps.proofs.Around.{some_is, counted_here, code_at}
+use Rattle.body_steps.proofs.Reaching.{reaches_keeps, stays_sane}
+use Rattle.body_steps.proofs.Running.{v, same_state, template_here, next_address, sp_is}
+use Rattle.body_steps.proofs.Viewed.{IsCounted, sp_low, frame_top}
+use Rattle.turn_steps.proofs.Kept.{offset_most}
+use Rattle.turn_steps.specs.FuncletEntries.{FlagsFit}
+use Rattle.turn_steps.specs.Outcomes.{AreClear, Stands}
+use Rattle.turn_steps.proofs.Apart.{apart_same}
+use Rattle.turn_steps.proofs.Asked.{unwound_to}
+use Rattle.turn_steps.proofs.Hosts.{Asks, asks_host}
+use Rattle.turn_steps.proofs.Memories.{memory_untouched}
+use Rattle.turn_steps.proofs.Pushed as pushing
+use Rattle.turn_steps.proofs.TurnQuiet.{host_quiet}
+use Rattle.turn_steps.proofs.Served.{local_unwind_turns, matched_when_shown}
+use Rattle.turn_steps.specs.Places.{AreFollowed, StayInside}
+use Rattle.turn_steps.specs.RaiseLaws.{LocalUnwindsAreMatched}
+use Rattle.turn_steps.proofs.Clear.{clear_below}
+use Rattle.turn_steps.proofs.Waits.{in_body}
+
+-- ---- sizes
+
+move_size : size (move W64 Rcx Rsp) ≡ 3
+unfolding size modrm
+move_size = refl
+
+unwind_size : (at target to : ℕ) → sizes (local_unwind_code at target to) ≡ 15
+unwind_size at target to =
+    let a = move_size in
+    let b = address_size (at + 10) target in
+    let c = call_size (at + 15) to in
+    omega arith
+
+-- ---- nothing has landed at an instruction that isn't a landing
+
+abbrev is_landing : Instruction → Bool
+is_landing (instructions.Landing to) = true
+is_landing i = false
+
+nothing_landed : (program : LinearProgram) (c : Configuration) (i : Instruction) (landed : Option ℕ) → LandsWell program c.frame.body c.frame.next landed → instruction_at program c ≡ Some i → is_landing i ≡ false → landed ≡ None
+nothing_landed program c i None h e f = refl
+nothing_landed program c i (Some code) h e f =
+    let same : instructions.Landing (Local h.0) ≡ i = some_is (instructions.Landing (Local h.0)) i (sym h.1 ∙ e) in
+    absurd (let x : true ≡ false = ap is_landing same ∙ f in cc)
+
+-- ---- the target, in the first frame of the list
+
+aimed_first : (t : Functions) (fs : List Funclet) (program : LinearProgram) (p : Plan) (m : Memory) (c : Context) (is : List StackItem) (b : Frame) (below : List Item) (acts : List Activation) (label frame address : ℕ)
+    → Linked t fs program p m c is (Waits b ∷ below) acts → p.leaf b.body ≡ false → AimedHere t fs program p (length below) label frame address c b below → Aimed t fs program p (length below) label frame address c is (Waits b ∷ below)
+aimed_first t fs program p m c (Framed f ∷ is) b below acts label frame address l framed here = inl here
+aimed_first t fs program p m c (Leaf back ∷ is) b below acts label frame address l framed here = absurd (let z : true ≡ false = sym l.0.leaf ∙ framed in cc)
+aimed_first t fs program p m c is b below acts label frame address l framed here = absurd l
+
+module _ (t : Functions) (fs : List Funclet) (program : LinearProgram) (p : Plan) (q : Sites) (image : IsProgramImage t fs program p q) (made : IsWellMade program p)
+    (follows : AreFollowed program) (stays : StayInside program) (fits : FlagsFit program) where
+  module _ (s : State) (c : Configuration) (b : Begins t fs program p q s c) (known : IsKnown program c) (label : ℕ) (at : instruction_at program c ≡ Some (instructions.LocalUnwind label)) where
+    abbrev i : Instruction
+    i = instructions.LocalUnwind label
+
+    abbrev counted : IsCounted t fs program p q image c
+    counted = counted_here t fs program p q image made c known
+
+    abbrev body : LinearBody
+    body = b.body.slots.code
+
+    abbrev y : Layout
+    y = p.layout c.frame.body
+
+    abbrev sp : ℕ
+    sp = register s.cpu Rsp
+
+    abbrev place : ℕ
+    place = p.address c.frame.body c.frame.next
+
+    abbrev target : ℕ
+    target = p.address c.frame.body label
+
+    abbrev back : ℕ
+    back = place + 15
+
+    abbrev service : ℕ
+    service = address_of services.LocalUnwind
+
+    abbrev view : MachineView
+    view = v t fs program p q image made.room s c b counted
+
+    here : slice_get body.code c.frame.next ≡ Some i
+    here = code_at t fs program p q image made s c b known i at
+
+    low : STACK_START + 196568 ≤ sp
+    low = sp_low t fs program p q image s c b counted
+
+    top : sp + y.frame + 8 ≤ STACK_END
+    top = frame_top t fs program p q image s c b counted
+
+    low_enough : STACK_START + 8 ≤ sp
+    low_enough = let l = low in omega arith
+
+    high_enough : sp ≤ STACK_END
+    high_enough = let h = top in omega arith
+
+    framed : p.leaf c.frame.body ≡ false
+    framed = by (p.leaf c.frame.body) refl
+      where
+        by : (leaf : Bool) → p.leaf c.frame.body ≡ leaf → p.leaf c.frame.body ≡ false
+        by false e = e
+        by true e = absurd (let no : true ≡ false = made.leaves c.frame.body body c.frame.next i b.body.slots.body e here in cc)
+
+    free : c.frame.landed ≡ None
+    free = nothing_landed program c i c.frame.landed known.stacked.landed at refl
+
+    -- ---- the return address, where the separator begins
+
+    separator : slice_get body.code (c.frame.next + 1) ≡ Some instructions.Separator
+    separator = follows c.frame.body body b.body.slots.body c.frame.next i here refl
+
+    back_is : p.address c.frame.body (c.frame.next + 1) ≡ back
+    back_is =
+        let n = next_address t fs program p q image made.room s c b counted i here in
+        let z = template_sizes (links_of p q c.frame.body) y place i in
+        let k = unwind_size place target q.local_unwind in
+        omega (arith, n, z, k, b.rip)
+
+    inside : InCode p c.frame.body (c.frame.next + 1) back
+    inside =
+        let within = slice_get_within body.code (c.frame.next + 1) instructions.Separator separator in
+        let r = (image.addresses c.frame.body body b.body.slots.body).rises (c.frame.next + 1) within in
+        let e = back_is in
+        record { low = omega arith; high = omega arith }
+
+    same_regions : SameRegions t fs program p (body_of program c.frame.body) (c.frame.next + 1) c.frame.next
+    same_regions = apart_same t fs program p made.apart c.frame.body body c.frame.next i b.body.slots.body here refl
+
+    label_near : (l : ℕ) → (IMAGE_BASE < p.address c.frame.body l) × (p.address c.frame.body l < IMAGE_RANGE_END)
+    label_near l =
+        let a = image.addresses c.frame.body body b.body.slots.body in
+        let from = a.inside.low in
+        let to = a.inside.high in
+        let first = a.first in
+        let e = a.labels l in
+        let most = offset_most y body.code l in
+        (omega arith, omega arith)
+
+    near_target : IsNear (place + 10) target
+    near_target =
+        let a = label_near c.frame.next in
+        let a0 = a.0 in
+        let z = label_near (c.frame.next + 1) in
+        let z1 = z.1 in
+        let n = label_near label in
+        let n0 = n.0 in
+        let n1 = n.1 in
+        let e = back_is in
+        (omega arith, omega arith, omega arith, omega arith)
+
+    near_thunk : IsNear back q.local_unwind
+    near_thunk =
+        let a = label_near c.frame.next in
+        let a0 = a.0 in
+        let z = label_near (c.frame.next + 1) in
+        let z1 = z.1 in
+        let n0 = b.memory.code.local_unwind.inside.low in
+        let n1 = b.memory.code.local_unwind.inside.high in
+        let e = back_is in
+        (omega arith, omega arith, omega arith, omega arith)
+
+    back_small : back < 2 ^ 64
+    back_small = let z = label_near (c.frame.next + 1) in let z1 = z.1 in let e = back_is in omega arith
+
+    resumed : IsResumed t fs program p q c.frame.body body (c.frame.next + 1) back
+    resumed = record {
+      instruction = instructions.Separator;
+      there = separator;
+      goes_on = λ r. absurd r;
+      done = [];
+      item = instrs.NoOperation;
+      left = [];
+      parts = refl;
+      here = (let e = back_is in omega arith);
+    }
+
+    -- ---- the run to the service
+
+    same : s ≡ machine view place s.cpu.flags
+    same = same_state t fs program p q image made.room s c b counted ∙ ap (λ a. machine view a s.cpu.flags) b.rip
+
+    code_here : HasCode s.memory place (local_unwind_code place target q.local_unwind)
+    code_here = subst (λ a. HasCode s.memory a (local_unwind_code a target q.local_unwind)) b.rip (template_here t fs program p q image made.room s c b counted i here)
+
+    -- with its frame and the label's address in RCX and RDX
+    abbrev given : MachineView
+    given = with_two view sp target
+
+    abbrev state : State
+    state = machine (pushed given sp back) service s.cpu.flags
+
+    reaches : Reaches 4 s state
+    reaches =
+        let below = pushing.below view sp back low_enough high_enough b.memory.data_alone b.memory.stack in
+        let three = local_unwind_begins view sp place target q.local_unwind s.cpu.flags (sp_is t fs program p q image made.room s c b counted) below near_target near_thunk code_here in
+        let last = thunk_reaches (pushed given sp back) q.local_unwind service s.cpu.flags (pushed_thunk given sp back q.local_unwind service below b.memory.code.local_unwind.thunk) in
+        subst (λ x. Reaches 4 x state) (sym same)
+        (reaches_then 3 1 (machine view place s.cpu.flags) (machine (pushed given sp back) q.local_unwind s.cpu.flags) state three last)
+
+    comes : Comes t fs 4 s [] state
+    comes = reaches_quietly t fs program p q image 4 s state reaches b.memory.code (host_quiet t fs program p q image s.memory service state.cpu b.memory.code (omega arith))
+
+    sane : IsSane state
+    sane = stays_sane s state (reaches_keeps 4 s state reaches) (omega arith) b.sane
+
+    -- ---- the state that is saved
+
+    many : length given.rest ≡ 13
+    many = length-drop 3 s.cpu.registers ∙ (let k = b.sane.count in omega arith)
+
+    abbrev saved : Cpu
+    saved = pushing.saved given sp back low_enough high_enough b.memory.data_alone b.memory.stack service s.cpu.flags back_small many
+
+    returns : loaded state.memory (register state.cpu Rsp) W64 ≡ Ok back
+    returns = pushing.returns_there given sp back low_enough high_enough b.memory.data_alone b.memory.stack service s.cpu.flags back_small many
+
+    sp_saved : register saved Rsp ≡ sp
+    sp_saved = pushing.sp_saved given sp back low_enough high_enough b.memory.data_alone b.memory.stack service s.cpu.flags back_small many
+
+    sane_saved : IsSane (record { cpu = saved; memory = state.memory })
+    sane_saved =
+        let raised = (register state.cpu Rsp + 8) % 2 ^ 64 % 2 ^ 64 in
+        record {
+          rip_small = back_small;
+          count = length-set state.cpu.registers 4 raised ∙ sane.count;
+          small = set_small state.cpu.registers 4 raised sane.small (omega arith);
+        }
+
+    memory : IsMachineMemory t fs program p q state.memory c.store.memory
+    memory =
+        memory_untouched t fs program p q s.memory state.memory c.store.memory
+        (pushing.pushed_untouched given sp back low_enough high_enough b.memory.data_alone b.memory.stack) b.memory
+        (pushing.pushed_data given sp back low_enough high_enough b.memory.data_alone b.memory.stack)
+
+    abbrev at_return : InBody t fs program p q (record { cpu = saved; memory = s.memory }) c
+    at_return = in_body t fs program p q s c b saved (c.frame.next + 1) c.frame.temporaries sp_saved (record { low = inside.low; high = inside.high }) same_regions back_small (all_front s.memory c.frame.temporaries)
+
+    asks : Asks t fs program p q image state.cpu saved s.memory (pushing.bytes given sp back low_enough high_enough b.memory.data_alone b.memory.stack) c b.body.acts
+    asks =
+        asks_host t fs program p q image state.cpu saved s.memory (pushing.bytes given sp back low_enough high_enough b.memory.data_alone b.memory.stack) c (c.frame.next + 1) c.store.memory
+        at_return resumed b.memory.code
+        (subst (KeepsAbove s.memory (pushing.bytes given sp back low_enough high_enough b.memory.data_alone b.memory.stack)) (sym sp_saved) (pushing.keeps_above given sp back low_enough high_enough b.memory.data_alone b.memory.stack))
+        memory sane sane_saved
+
+    -- ---- the target is the body's own frame
+
+    aims : AimedHere t fs program p (length c.below) label sp target (context_of saved) c.frame c.below
+    aims = record { at_depth = refl; at_frame = sym sp_saved; at_address = refl; lands = image.lands c.frame.body body label b.body.slots.body (stays c.frame.body body b.body.slots.body c.frame.next label here) }
+
+    aimed : Aimed t fs program p (length c.below) label sp target (context_of saved) asks.is (Waits c.frame ∷ c.below)
+    aimed = aimed_first t fs program p state.memory (context_of saved) asks.is c.frame c.below b.body.acts label sp target asks.asks.on.stands.linked framed aims
+
+    clear : AreClear (Waits c.frame ∷ c.below)
+    clear = (free, clear_below program c.below known.stacked.below)
+
+    pub unwind_step : HasRule (act program i (exec program zero) c) → KnownNext program c i → IsMatched t fs program pace turns_left (Stands t fs program p q) s c i
+    unwind_step rule after =
+        let n = label_near label in
+        let n1 = n.1 in
+        let h = high_enough in
+        let shown = unwound_to t fs program p q image fits state saved asks.is b.body.acts c asks.asks memory b.body.store sp target label (omega arith) (omega arith) aimed rule clear in
+        matched_when_shown t fs program p q 16 4 (turns_left c) s state c i
+        (arrived t fs (unwound_locally t state sp target saved)) [] (λ next. local_unwind program next label c)
+        comes refl (local_unwind_turns t fs state back refl returns) shown (λ next. refl) (omega arith) after
+
+pub local_unwinds_are_matched : LocalUnwindsAreMatched
+local_unwinds_are_matched t fs program p q image made follows stays fits s c label b known at rule after =
+    unwind_step t fs program p q image made follows stays fits s c b known label at rule after

@@ -1,0 +1,53 @@
+-- What stands on top of the machine's stack where a search or an unwinding waits: its record, at the host's return address.
+use Rattle.std.proofs.Common.{◌≡◌, List, [], ◌∷◌, refl}
+use Rattle.flat_memory.specs.Memory.{Memory}
+use Rattle.x64_machine.specs.declared.context.Context.{Context}
+use Rattle.virtual_unwind.specs.CallerOf.{Functions}
+use Rattle.seh_records.specs.declared.dispatch.DispatchRecord.{DispatchRecord}
+use Rattle.seh_walk.specs.Walk.{filter_return, finally_return}
+use Rattle.host_model.specs.declared.funclet.Funclet.{Funclet}
+use Rattle.c_model.specs.State.{Exception}
+use Rattle.linear_code.specs.declared.program.Region.{Region}
+use Rattle.linear_code.specs.Program.{LinearProgram}
+use Rattle.linear_machine.specs.Frames.{Handler, Target, Resumption, Item, Waits, Searches, Unwinds}
+use Rattle.linked_stack.specs.Stack.{StackItem, Framed, Leaf, Searching, Unwinding, IsStack}
+use Rattle.linked_stack.specs.ImagePlan.{Plan}
+use Rattle.linked_stack.specs.Linked.{Activation, Linked}
+use Rattle.ir_typed.specs.Waiting.{AreWaiting}
+use Rattle.turn_steps.specs.Outcomes.{AreClear}
+
+-- no body that waits has just taken over
+pub are_clear : (program : LinearProgram) (items : List Item) → AreWaiting program items → AreClear items
+are_clear program [] h = tt
+are_clear program (Waits f ∷ below) h = (h.0.landed, are_clear program below h.2)
+are_clear program (Searches exception resumption asked rest ∷ below) h = are_clear program below h.2
+are_clear program (Unwinds rest target ∷ below) h = are_clear program below h.2
+
+pub record IsSearchOnTop (c : Context) (is : List StackItem) : Type 0 where
+  pub dispatch : DispatchRecord
+  pub others : List StackItem
+  pub items : is ≡ Searching dispatch ∷ others
+  pub at_host : c.rip ≡ filter_return
+
+pub record IsUnwindingOnTop (c : Context) (is : List StackItem) : Type 0 where
+  pub dispatch : DispatchRecord
+  pub others : List StackItem
+  pub items : is ≡ Unwinding dispatch ∷ others
+  pub at_host : c.rip ≡ finally_return
+
+module _ (t : Functions) (fs : List Funclet) (program : LinearProgram) (p : Plan) where
+  pub search_on_top : (m : Memory) (c : Context) (is : List StackItem) (exception : Exception) (resumption : Resumption) (asked : Handler) (rest : List Handler) (items : List Item) (acts : List Activation)
+      → IsStack t m c is → Linked t fs program p m c is (Searches exception resumption asked rest ∷ items) acts → IsSearchOnTop c is
+  search_on_top m c [] exception resumption asked rest items acts s h = absurd h
+  search_on_top m c (Framed f ∷ is) exception resumption asked rest items acts s h = absurd h
+  search_on_top m c (Leaf back ∷ is) exception resumption asked rest items acts s h = absurd h
+  search_on_top m c (Unwinding r ∷ is) exception resumption asked rest items acts s h = absurd h
+  search_on_top m c (Searching r ∷ is) exception resumption asked rest items acts s h = record { dispatch = r; others = is; items = refl; at_host = s.0.at_host }
+
+  pub unwinding_on_top : (m : Memory) (c : Context) (is : List StackItem) (rest : List Region) (target : Target) (items : List Item) (acts : List Activation)
+      → IsStack t m c is → Linked t fs program p m c is (Unwinds rest target ∷ items) acts → IsUnwindingOnTop c is
+  unwinding_on_top m c [] rest target items acts s h = absurd h
+  unwinding_on_top m c (Framed f ∷ is) rest target items acts s h = absurd h
+  unwinding_on_top m c (Leaf back ∷ is) rest target items acts s h = absurd h
+  unwinding_on_top m c (Searching r ∷ is) rest target items acts s h = absurd h
+  unwinding_on_top m c (Unwinding r ∷ is) rest target items acts s h = record { dispatch = r; others = is; items = refl; at_host = s.0.at_host }

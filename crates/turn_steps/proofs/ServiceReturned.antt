@@ -1,0 +1,266 @@
+-- A service returns: its result goes to the temporary of the first argument, and the next instruction begins.
+use Rattle.std.proofs.Common.{◌≡◌, ℕ, zero, suc, ◌+◌, ◌-◌, ◌%◌, ◌^◌, ◌<◌, ◌≤◌, false, List, [], ◌∷◌, ◌++◌, length, take, set, Option, Some, None, refl, sym, ap, subst, ◌∙◌, arith}
+use Rattle.std.specs.Prelude.{slice_get, slice_index}
+use Rattle.std.proofs.lemmas.List.{append-nil, length-set}
+use Rattle.std.proofs.lemmas.Option.{slice_get_within}
+use Rattle.seh_num.specs.declared.event.Event.{Event}
+use Rattle.flat_memory.specs.Memory.{Memory}
+use Rattle.x64_instr.specs.declared.register.Reg.TheVariants.{Rsp}
+use Rattle.x64_instr.specs.declared.instruction.Instr.{Instr}
+use Rattle.x64_machine.specs.Effect.{State, register}
+use Rattle.virtual_unwind.specs.CallerOf.{Functions, distance}
+use Rattle.host_model.specs.declared.funclet.Funclet.{Funclet}
+use Rattle.host_model.specs.Funclets.{arrivals}
+use Rattle.host_model.specs.Turns.{Continues}
+use Rattle.host_model.specs.HostStep.{turn}
+use Rattle.c_operations.specs.declared.built_in.BuiltIn.{BuiltIn}
+use Rattle.linear_code.specs.declared.slot.Slot.TheVariants.{Temporary}
+use Rattle.linear_code.specs.declared.instruction.Instruction.TheVariants as instructions
+use Rattle.linear_code.specs.BodyState.{BodyState, with_slot}
+use Rattle.linear_code.specs.Program.{LinearProgram, LinearBody}
+use Rattle.linear_machine.specs.Frames as linear
+use Rattle.linear_machine.specs.Frames.{Configuration, Next}
+use Rattle.linear_machine.specs.Instructions.{act}
+use Rattle.template_code.specs.Bytes.{sizes}
+use Rattle.template_code.specs.Slots.{keep}
+use Rattle.x64_templates.specs.Straight.{AreSmall, MachineView, machine}
+use Rattle.x64_templates.specs.CallStates.{sp_of}
+use Rattle.x64_templates.specs.Runs.{ReachesBody}
+use Rattle.x64_templates.proofs.Returns.{call_ends}
+use Rattle.linked_stack.specs.ImagePlan.{Plan}
+use Rattle.linked_stack.specs.Linked.{locals_of}
+use Rattle.linked_stack.specs.ListLaws.{KeepsAbove, KeepsStack}
+use Rattle.whole_runs.specs.Comes.{Comes}
+use Rattle.whole_runs.specs.Matched.{Moves}
+use Rattle.whole_runs.proofs.Turns.{comes_then}
+use Rattle.ir_typed.specs.Room.{HaveRoom}
+use Rattle.body_states.specs.Sites.{Sites}
+use Rattle.body_states.specs.Programs.{IsMachineMemory, IsProgramImage}
+use Rattle.body_states.specs.Bodies.{turns_left, Begins}
+use Rattle.body_states.proofs.QuietTurns.{quiet_here, reaches_quietly}
+use Rattle.body_steps.specs.Stores.{with_values, OwnerHasFrame}
+use Rattle.body_steps.proofs.Activations.{locals_count}
+use Rattle.body_steps.proofs.Activated.{same_activations}
+use Rattle.body_steps.proofs.Viewed.{IsCounted, placed, room_here, holds_here, locals_here}
+use Rattle.body_steps.proofs.Reaching.{Keeps, keeps_then, reaches_keeps, stays_sane}
+use Rattle.body_steps.proofs.Next.{Ran, begins_next}
+use Rattle.body_steps.proofs.Running.{frame, slots, has_slots, quiet_at, Surroundings}
+use Rattle.body_steps.proofs.Written.{one_more}
+use Rattle.body_steps.proofs.Plain.{label_small}
+use Rattle.body_steps.proofs.Computing.{leaves_stored}
+use Rattle.turn_steps.proofs.Pushed.{keeps_above, sp_saved}
+use Rattle.turn_steps.proofs.Elsewhere.{elsewhere, source_elsewhere, begins_elsewhere, same_activations as same_acts, same_code}
+use Rattle.turn_steps.proofs.Reached.{sp, given, back, at_service, flags_there, low, top, many, next_is, back_small, reaches, comes_there, live_there, code_after}
+
+-- numbers of 64 bits, with another of 64 bits among them
+small_set : (xs : List ℕ) (i v : ℕ) → AreSmall xs → v < 2 ^ 64 → AreSmall (set xs i v)
+small_set [] i v h lt = tt
+small_set (x ∷ xs) zero v h lt = (lt, h.1)
+small_set (x ∷ xs) (suc i) v h lt = (h.0, small_set xs i v h.1 lt)
+
+nothing : (landed : Option ℕ) (code : ℕ) → landed ≡ None → landed ≡ Some code → ⊥
+nothing landed code e h = let z : ◌≡◌ {A = Option ℕ} None (Some code) = sym e ∙ h in cc
+
+module _ (t : Functions) (fs : List Funclet) (program : LinearProgram) (p : Plan) (q : Sites) (image : IsProgramImage t fs program p q) (roomy : HaveRoom program) where
+  module _ (s : State) (c : Configuration) (b : Begins t fs program p q s c) (counted : IsCounted t fs program p q image c) (around : Surroundings t fs program p q image roomy s c b counted) (f : BuiltIn) (first : ℕ)
+      (at : slice_get b.body.slots.code.code c.frame.next ≡ Some (instructions.CallBuiltIn f first)) (framed : p.leaf c.frame.body ≡ false) (within : c.frame.next + 1 < length b.body.slots.code.code)
+      (held : length c.frame.temporaries ≤ b.body.slots.code.temporaries) (fits : first ≤ length c.frame.temporaries) (free : c.frame.landed ≡ None) where
+    abbrev called_from : ℕ
+    called_from = sp t fs program p q image roomy s c b counted f first at
+
+    abbrev pub with_given : MachineView
+    with_given = given t fs program p q image roomy s c b counted f first at
+
+    abbrev pub to : ℕ
+    to = back t fs program p q image roomy s c b counted f first at
+
+    abbrev pub there : State
+    there = at_service t fs program p q image roomy s c b counted f first at
+
+    -- the memory with the return address
+    abbrev pub memory_there : Memory
+    memory_there = there.memory
+
+    -- RSP, as the service leaves it
+    abbrev pub sp_after : ℕ
+    sp_after = (register there.cpu Rsp + 8) % 2 ^ 64 % 2 ^ 64
+
+    -- the state after the service, by its result and the memory that it leaves
+    abbrev pub view_after : ℕ → Memory → MachineView
+    view_after x m = record { rax = x; rcx = with_given.rcx; rdx = with_given.rdx; rest = set (set with_given.rest 1 (called_from - 8)) 1 sp_after; memory = m }
+
+    abbrev pub returned_to : ℕ → Memory → State
+    returned_to x m = machine (view_after x m) to (flags_there t fs program p q image roomy s c b counted f first at)
+
+    -- linear code with the result
+    abbrev pub answered : ℕ → Memory → List Event → Configuration
+    answered x source events = record {
+      frame = record c.frame { next = c.frame.next + 1; temporaries = take first c.frame.temporaries ++ x ∷ [] };
+      below = c.below;
+      store = record { memory = source; activations = c.store.activations };
+      events = events;
+    }
+
+    above : KeepsAbove s.memory memory_there.byte called_from
+    above = keeps_above with_given called_from to (let l = low t fs program p q image roomy s c b counted f first at in omega arith) (top t fs program p q image roomy s c b counted f first at) b.memory.data_alone b.memory.stack
+
+    sp_is : (x : ℕ) (m : Memory) → sp_of (view_after x m) ≡ called_from
+    sp_is x m = sp_saved with_given called_from to (let l = low t fs program p q image roomy s c b counted f first at in omega arith) (top t fs program p q image roomy s c b counted f first at) b.memory.data_alone b.memory.stack there.cpu.rip there.cpu.flags
+        (back_small t fs program p q image roomy s c b counted f first at) (many t fs program p q image roomy s c b counted f first at)
+
+    module _ (x : ℕ) (x_small : x < 2 ^ 64) (m source : Memory) (events : List Event) (keeps : KeepsStack memory_there m called_from) (memory : IsMachineMemory t fs program p q m source) where
+      pub keeps_all : KeepsStack s.memory m called_from
+      keeps_all = record {
+        bytes = λ a l u. keeps.bytes a l u ∙ above.above a l;
+        protection = keeps.protection;
+        code = λ a e. ((keeps.code a e).0 ∙ above.code a e, (keeps.code a e).1);
+        no_more_code = keeps.no_more_code;
+      }
+
+      -- the body before the call, in this memory
+      abbrev pub earlier : State
+      earlier = elsewhere t fs program p q image s c b counted framed m source keeps_all memory
+
+      abbrev pub calling : Configuration
+      calling = source_elsewhere t fs program p q image s c b counted framed m source keeps_all memory
+
+      pub begins : Begins t fs program p q earlier calling
+      begins = begins_elsewhere t fs program p q image s c b counted framed m source keeps_all memory
+
+      around_earlier : Surroundings t fs program p q image roomy earlier calling begins counted
+      unfolding begins
+      around_earlier = record {
+        caller = around.caller;
+        owner = λ k e. subst (OwnerHasFrame t fs program p c.frame.activation c.below) (sym (same_acts t fs program p q image s c b counted framed m source keeps_all memory)) (around.owner k e);
+      }
+
+      abbrev body : LinearBody
+      body = begins.body.slots.code
+
+      is_body : b.body.slots.code ≡ body
+      unfolding begins
+      is_body = same_code t fs program p q image s c b counted framed m source keeps_all memory
+
+      at_earlier : slice_get body.code c.frame.next ≡ Some (instructions.CallBuiltIn f first)
+      at_earlier = subst (λ (o : LinearBody). slice_get o.code c.frame.next ≡ Some (instructions.CallBuiltIn f first)) is_body at
+
+      inside : c.frame.next + 1 < length body.code
+      inside = subst (λ (o : LinearBody). c.frame.next + 1 < length o.code) is_body within
+
+      held_earlier : length c.frame.temporaries ≤ body.temporaries
+      held_earlier = subst (λ (o : LinearBody). length c.frame.temporaries ≤ o.temporaries) is_body held
+
+      abbrev now : BodyState
+      now = slots t fs program p q image roomy earlier calling begins counted
+
+      room_slots : first + 4 ≤ body.temporaries
+      room_slots = has_slots t fs program p q image roomy earlier calling begins counted (instructions.CallBuiltIn f first) at_earlier
+
+      abbrev after_code : List Instr
+      after_code = keep (p.layout c.frame.body) (Temporary first)
+
+      abbrev pub rip : ℕ
+      rip = to + sizes after_code
+
+      abbrev d : BodyState
+      d = record { slots = with_slot now.slots (Temporary first) x; memory = source }
+
+      -- the result is kept
+      pub run : ReachesBody (frame t fs program p q image roomy earlier calling begins counted) 1 (returned_to x m) rip (view_after x m).rest d
+      run =
+          let r = room_slots in
+          call_ends (frame t fs program p q image roomy earlier calling begins counted) (Temporary first) (view_after x m) to (flags_there t fs program p q image roomy s c b counted f first at) now
+          (room_here t fs program p q image earlier calling begins counted) (omega arith) x_small (sp_is x m) (holds_here t fs program p q image earlier calling begins counted)
+          (code_after t fs program p q image roomy earlier calling begins counted f first at_earlier)
+
+      abbrev u : State
+      u = returned_to x m
+
+      abbrev pub after : State
+      after = machine run.after rip run.flags
+
+      -- registers
+      given_small : AreSmall s.cpu.registers → AreSmall u.cpu.registers
+      given_small h =
+          let k = (reaches_keeps 7 s there (reaches t fs program p q image roomy s c b counted f first at)).small h in
+          (x_small, (k.1.0, (k.1.1.0, small_set (set with_given.rest 1 (called_from - 8)) 1 sp_after k.1.1.1 (omega arith))))
+
+      as_many : length u.cpu.registers ≡ length s.cpu.registers
+      as_many =
+          let n = many t fs program p q image roomy s c b counted f first at in
+          let e = length-set (set with_given.rest 1 (called_from - 8)) 1 sp_after in
+          let g = length-set with_given.rest 1 (called_from - 8) in
+          let k = b.sane.count in
+          omega arith
+
+      keeps_registers : Keeps earlier after
+      keeps_registers =
+          keeps_then earlier u after (record { protection = refl; fixed = λ a w. refl; count = as_many; small = given_small }) (reaches_keeps 1 u after run.comes)
+
+      stack : register after.cpu Rsp ≡ called_from
+      stack = ap (λ (xs : List ℕ). slice_index xs 1) run.rest ∙ sp_is x m
+
+      abbrev values : List ℕ
+      values = linear.locals_of c.store c.frame.activation
+
+      abbrev ts : List ℕ
+      ts = take first c.frame.temporaries ++ x ∷ []
+
+      ran : Ran t fs program p q image earlier calling begins counted after d values ts
+      ran = record {
+        changed = record { changes = run.changes; keeps = keeps_registers };
+        holds = run.holds;
+        stack = stack;
+        leaves = (let r = room_slots in leaves_stored t fs program p q image roomy earlier calling begins counted around_earlier (Temporary first) x source held_earlier fits (omega arith));
+      }
+
+      rip_is : rip ≡ p.address c.frame.body (c.frame.next + 1)
+      rip_is = sym (next_is t fs program p q image roomy s c b counted f first at)
+
+      rip_small : rip < 2 ^ 64
+      rip_small = let n = label_small t fs program p q image roomy s c b counted around (c.frame.next + 1) within in omega (arith, rip_is)
+
+      same_locals : locals_of (with_values begins.body.acts c.frame.activation values) ≡ c.store.activations
+      same_locals =
+          let own = placed t fs program p q image earlier calling begins counted in
+          let n = slice_get_within (locals_of begins.body.acts) c.frame.activation own.values own.number in
+          let k = locals_count begins.body.acts in
+          ap (λ vs. locals_of (with_values begins.body.acts c.frame.activation vs)) (locals_here t fs program p q image earlier calling begins counted)
+          ∙ same_activations begins.body.acts c.frame.activation own.values (omega arith) own.number ∙ sym begins.body.store
+
+      pub begins_after : Begins t fs program p q after (answered x source events)
+      begins_after =
+          subst (λ (xs : List (List ℕ)). let o : Configuration = record {
+            frame = record c.frame { next = c.frame.next + 1; temporaries = ts };
+            below = c.below;
+            store = record { memory = source; activations = xs };
+            events = events;
+          } in Begins t fs program p q after o) same_locals
+          (begins_next t fs program p q image earlier calling begins counted after d values ts ran (c.frame.next + 1) c.frame.landed events rip_is inside (stays_sane earlier after keeps_registers rip_small begins.sane)
+          (λ code e. absurd (nothing c.frame.landed code free e)) around_earlier.caller around_earlier.owner)
+
+      -- nothing is shown where the service returns to, nor at the next instruction
+      pub quiet_back : arrivals u.cpu (distance t.base u.cpu.rip) 1 fs ≡ []
+      quiet_back = quiet_here t fs program p q image u run.comes.0 u.cpu run.comes.1 memory.code
+
+      comes_after : Comes t fs 1 u [] after
+      comes_after = reaches_quietly t fs program p q image 1 u after run.comes memory.code (quiet_at t fs program p q image roomy earlier calling begins counted (c.frame.next + 1) rip rip_is inside rip_small after refl)
+
+      -- a service that shows these events
+      pub served : (shown : List Event) → turn t fs there ≡ Continues u shown → events ≡ c.events ++ shown → ((next : Next) → act program (instructions.CallBuiltIn f first) next c ≡ next (answered x source events))
+          → Moves t fs program 16 turns_left (Begins t fs program p q) s c (instructions.CallBuiltIn f first)
+      served shown turns all acts =
+          let one : Comes t fs 1 there shown u = record { live = live_there t fs program p q image roomy s c b counted f first at; state = u; first = shown; others = []; turns = turns; whole = sym (append-nil shown); rest = (refl, refl) } in
+          let more = one_more c.frame.temporaries (Temporary first) x fits in
+          record {
+            turns = 7 + (1 + 1);
+            some = omega arith;
+            configuration = answered x source events;
+            few = omega arith;
+            state = after;
+            events = [] ++ (shown ++ []);
+            comes = comes_then t fs 7 (1 + 1) s there after [] (shown ++ []) (comes_there t fs program p q image roomy s c b counted f first at) (comes_then t fs 1 1 there u after shown [] one comes_after);
+            acts = acts;
+            shown = all ∙ ap (λ es. c.events ++ es) (sym (append-nil shown));
+            stands = begins_after;
+          }

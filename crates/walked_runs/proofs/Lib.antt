@@ -1,3 +1,0 @@
-pub mod Passing
-pub mod Ending
-pub mod Texts

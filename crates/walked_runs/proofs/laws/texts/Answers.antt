@@ -1,5 +1,0 @@
-use Rattle.walked_runs.proofs.Texts.{accepted_pass_the_frames, accepted_end_as_programs}
-use Rattle.walked_runs.proofs.laws.texts.Goals as goal
-
-pub returns : goal.returns
-returns c = record { passes = accepted_pass_the_frames; ends = accepted_end_as_programs }
