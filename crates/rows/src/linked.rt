@@ -37,9 +37,10 @@ fn compiled_tables(rt: HostRuntime) -> Result<(), Fail> {
     let alloc = rt.alloc();
     let image = compiled(alloc, "int main(void){}")?;
     assert_eq!(rt; image.len(), SIZE);
-    // `main` has 22 bytes behind the six of the thunk.
-    let text = "entry 0 00002006 0000201C 00004000\n bytes 0108020008014500\n \
-        info prolog 8 flags 0 frame - 0\n code 8 alloc 552\nentries 1\n";
+    // `main` has 39 bytes, after five thunks of 6 and the 21 of `__chkstk`. Its prologue is
+    // `sub rsp, 40`, of 4 bytes: home space and a temporary (UWOP_ALLOC_SMALL with 40 / 8 - 1).
+    let text = "entry 0 00002033 0000205A 00004000\n bytes 0104010004420000\n \
+        info prolog 4 flags 0 frame - 0\n code 4 alloc 40\nentries 1\n";
     shown(&rt, alloc, &image, Status::Done, text, "")
 }
 

@@ -7,16 +7,20 @@ use Rattle.c_parse.specs.Nodes.{nodes_of}
 use Rattle.c_parse.proofs.Beyond.{few_tokens}
 use Rattle.c_parse.proofs.Nodes as nodes
 use Rattle.c_resolved.specs.Program.{resolve}
+use Rattle.c_resolved.proofs.Sound.{accepted_is_sound}
 use Rattle.c_syntax.specs.Program.{ExternalDeclaration}
 use Rattle.c_text.specs.Texts.{IsAccepted, IsCheckedAs}
 use Rattle.code_bounds.proofs.Fitting.{texts_fit}
 use Rattle.image_runs.specs.Realises.{IsWritten}
 use Rattle.linear_code.specs.Program.{LinearProgram}
+use Rattle.lowered_shape.proofs.Ranges.{lowered_has_regions}
+use Rattle.lowered_shape.proofs.Shaped.{lowered_is_shaped}
 use Rattle.pe_image.specs.Reading.{IsImage}
 use Rattle.pe_write.specs.Program.{parts_of, image_of}
 use Rattle.pe_write.specs.Written.{written}
 use Rattle.program_link.specs.Fits.{FitsProgram}
 use Rattle.program_link.specs.Linked.{linked}
+use Rattle.program_tables.proofs.Table.{tables_are_read}
 use Rattle.seh.specs.Images.{IsCompiled}
 use Rattle.seh_ir.specs.Lowered.{lowered}
 
@@ -50,10 +54,12 @@ of_checked text image whole p short checked link =
     let a = checked.accepted in
     let w : IsWritten image (resolve text whole).program = subst (λ (r : Program). IsWritten image r) checked.resolved link in
     let fits = texts_fit text a.read.tokens whole a.read.lexed a.read.derives a.read.within a.rules short in
+    let sound = accepted_is_sound text whole a.read.within a.rules in
     record {
       whole = whole;
       accepted = a;
       linked = w;
+      table = record { read = tables_are_read (lowered (resolve text whole).program) fits (lowered_has_regions (resolve text whole).program); shape = lowered_is_shaped (resolve text whole).program sound fits };
       realises = realise text whole image a.read.within a.rules fits w;
       no_more = nothing_more text whole image a.read.within a.rules fits w (length text) (few text whole a);
     }

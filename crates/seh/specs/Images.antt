@@ -1,11 +1,17 @@
 -- The image of a text.
-use Rattle.std.specs.Prelude.{◌≡◌, ℕ, ◌+◌, ◌*◌, ◌^◌, ◌<◌, ◌≤◌, true, List, length, pos}
+use Rattle.std.specs.Prelude.{◌≡◌, ℕ, ◌+◌, ◌*◌, ◌^◌, ◌<◌, ◌≤◌, true, List, length, pos, Ok}
 use Rattle.c_checked.specs.Program.{Program}
 use Rattle.c_model.specs.Meaning.{meaning, Calm}
 use Rattle.c_resolved.specs.Program.{resolve}
 use Rattle.c_syntax.specs.Program.{ExternalDeclaration}
 use Rattle.c_text.specs.Texts.{IsAccepted, IsRefused}
+use Rattle.eh_tables.specs.Tables.{tables}
 use Rattle.host_model.specs.Machine.{machine}
+use Rattle.lowered_shape.specs.Laws.{IsShaped}
+use Rattle.pe_write.specs.Program.{image_of}
+use Rattle.program_link.specs.Linked.{linked}
+use Rattle.program_tables.specs.Entries.{entries}
+use Rattle.seh_ir.specs.Lowered.{lowered}
 use Rattle.pace_bounds.specs.Laws.{pace_in}
 use Rattle.image_runs.specs.Realises.{Realises, IsWritten}
 use Rattle.seh.specs.declared.refusal.Refusal.{Refusal}
@@ -22,11 +28,17 @@ ShowsNothingMore text image program =
     (arg m n : ℕ) → arg < 2 ^ 63 → (m + 1) * pace text ≤ n → Calm program (pos arg) n ≡ true
     → ShowsNoMore (meaning program (pos arg) n) (machine image (pos arg) m)
 
--- the image of an accepted text is the one that its program's linear code is linked to; it does what the program means, and nothing more
+-- the function table of a program's image is read again as its entries, with one scope record for each `__try` of the program
+pub record HasTable (program : Program) : Type 0 where
+  pub read : tables (image_of (linked (lowered program))) ≡ Ok (entries (lowered program))
+  pub shape : IsShaped program
+
+-- the image of an accepted text is the one that its program's linear code is linked to, with its function table; it does what the program means, and nothing more
 pub record IsCompiled (text image : List ℕ) : Type 0 where
   pub whole : List ExternalDeclaration
   pub accepted : IsAccepted text whole
   pub linked : IsWritten image (resolve text whole).program
+  pub table : HasTable (resolve text whole).program
   pub realises : Realises image (resolve text whole).program
   pub no_more : ShowsNothingMore text image (resolve text whole).program
 
