@@ -4,7 +4,7 @@ ghost use Rattle.std.specs.Prelude.{◌≡◌, ℕ, ◌≤◌, List, [], ◌∷�
 ghost use Rattle.seh_num.specs.declared.event.Event.{Event as Event'};
 ghost use Rattle.seh_io.specs.Streams.{Rose, Grew};
 ghost use Rattle.seh_io.specs.Text.{line, end_line, lines, text};
-ghost use Rattle.seh_io.specs.Writer.{Wrote, PutText, writer_of, TookPart, TookEvents, took_none, took_more, Kept, kept_none, kept_more};
+ghost use Rattle.seh_io.specs.Writer.{PutText, TookPart, TookEvents, took_none, took_more, Kept, kept_none, kept_more};
 
 use crate::sink::Sink;
 use crate::text::{end_line, event_line};
