@@ -130,7 +130,7 @@ escape_sequence s b q = by_bool (nat_eq s 92)
     (λ f. rw (e, f, and_true (nat_eq q 39)) (sym (at_end (escaped b) q))))
     (λ e. let n : quoted (s ∷ b ∷ q ∷ []) ≡ None = rw (e, and_false (nat_eq q 39)) refl in n ∙ sym (plain_more s b q [] e))
 
--- after `\x` stand two digits and a quote
+-- after `\x` come two digits and a quote
 two_digits_end : (a b q : ℕ) → whole (two_digits (a ∷ b ∷ q ∷ [])) ≡ cond (nat_eq q 39 && (is_hexadecimal a && is_hexadecimal b)) (Some (char (16 * digit a + digit b))) None
 two_digits_end a b q = by_bool (is_hexadecimal a && is_hexadecimal b)
     (λ h. rw (h, and_true (nat_eq q 39)) (at_end (Some (16 * digit a + digit b)) q))

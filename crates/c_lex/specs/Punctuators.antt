@@ -49,6 +49,32 @@ spelling Tilde = codes "~"
 spelling PlusPlus = codes "++"
 spelling MinusMinus = codes "--"
 
+-- those of expressions, but for brackets, `?`, `:`, `->` and assignments
+abbrev pub IsOperator : Punctuator → Type 0
+IsOperator BarBar = Unit {0}
+IsOperator AmpersandAmpersand = Unit {0}
+IsOperator Bar = Unit {0}
+IsOperator Caret = Unit {0}
+IsOperator Ampersand = Unit {0}
+IsOperator Equal = Unit {0}
+IsOperator NotEqual = Unit {0}
+IsOperator Less = Unit {0}
+IsOperator Greater = Unit {0}
+IsOperator LessEqual = Unit {0}
+IsOperator GreaterEqual = Unit {0}
+IsOperator ShiftLeft = Unit {0}
+IsOperator ShiftRight = Unit {0}
+IsOperator Plus = Unit {0}
+IsOperator Minus = Unit {0}
+IsOperator Star = Unit {0}
+IsOperator Slash = Unit {0}
+IsOperator Percent = Unit {0}
+IsOperator Exclamation = Unit {0}
+IsOperator Tilde = Unit {0}
+IsOperator PlusPlus = Unit {0}
+IsOperator MinusMinus = Unit {0}
+IsOperator other = ⊥
+
 abbrev pub punctuators : List Punctuator
 punctuators =
     OpenParenthesis ∷ CloseParenthesis ∷ OpenBracket ∷ CloseBracket ∷ OpenBrace ∷ CloseBrace ∷

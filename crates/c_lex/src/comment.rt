@@ -31,7 +31,8 @@ fn after_line(text: &[u8]) -> &[u8]
 
 /// The rest of a line is a comment; and what follows it.
 pub(crate) fn line(text: &[u8]) -> (Word, &[u8])
-    ensures { (w : List ℕ) × IsLongest (each is_other_than_line_feed (λ _. Blank)) text.now w result.1.now result.0 }
+    ensures { (w : List ℕ)
+        × IsLongest (each is_other_than_line_feed (λ _. Blank)) text.now w result.1.now result.0 }
 {
     (Word::Blank, after_line(text))
 }

@@ -60,11 +60,14 @@ pub fn lex(alloc: Global, text: &[u8]) -> Result<Vec<Token>, LexErr>
     // The text is these tokens, white space and comments.
     ensures found { IfOk result (λ v. IsTokens text.now v.items) }
     // What has such a list is not refused, unless memory runs out, and has no other list.
-    ensures only { (ts : List Token) → IsTokens text.now ts → MatchResult result (λ v. v.items ≡ ts) (λ e. e ≡ Memory) }
+    ensures only { (ts : List Token) → IsTokens text.now ts
+        → MatchResult result (λ v. v.items ≡ ts) (λ e. e ≡ Memory) }
     // A refusal names the first fault and its place.
-    ensures refused { IfErr result (λ e. (e ≡ Memory) ⊎ ((f : Fault) × (at : ℕ) × (e ≡ refused f at) × IsLexicalFault text.now f at)) }
+    ensures refused { IfErr result (λ e. (e ≡ Memory)
+        ⊎ ((f : Fault) × (at : ℕ) × (e ≡ refused f at) × IsLexicalFault text.now f at)) }
     // What has a fault is refused for it, unless memory runs out.
-    ensures first { (f : Fault) (at : ℕ) → IsLexicalFault text.now f at → MatchResult result (λ v. ⊥) (λ e. (e ≡ Memory) ⊎ (e ≡ refused f at)) }
+    ensures first { (f : Fault) (at : ℕ) → IsLexicalFault text.now f at
+        → MatchResult result (λ v. ⊥) (λ e. (e ≡ Memory) ⊎ (e ≡ refused f at)) }
 {
     let mut tokens = Vec::new(alloc);
     let mut rest = text;

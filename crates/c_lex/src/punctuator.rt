@@ -3,7 +3,7 @@
 ghost use Rattle.std.specs.Prelude.{◌≡◌, ℕ, List, [], ◌∷◌};
 ghost use Rattle.c_lex.specs.Longest.{IsLongest};
 ghost use Rattle.c_lex.specs.Readers as readers;
-ghost use Rattle.c_lex.specs.Punctuators.{spelling, punctuator_of};
+ghost use Rattle.c_lex.specs.Punctuators.{spelling, IsOperator, punctuator_of};
 ghost use Rattle.c_lex.specs.Words.{lone, punctuator};
 
 use crate::token::Kind;
@@ -103,6 +103,38 @@ pub enum Punctuator {
 }
 
 impl Punctuator {
+    /// The bytes of an operator that isn't an assignment.
+    fn operator_spelling(self) -> &'static [u8]
+        requires { IsOperator self }
+        ensures { result.now ≡ spelling self }
+    {
+        match self {
+            Punctuator::BarBar => b"||",
+            Punctuator::AmpersandAmpersand => b"&&",
+            Punctuator::Bar => b"|",
+            Punctuator::Caret => b"^",
+            Punctuator::Ampersand => b"&",
+            Punctuator::Equal => b"==",
+            Punctuator::NotEqual => b"!=",
+            Punctuator::Less => b"<",
+            Punctuator::Greater => b">",
+            Punctuator::LessEqual => b"<=",
+            Punctuator::GreaterEqual => b">=",
+            Punctuator::ShiftLeft => b"<<",
+            Punctuator::ShiftRight => b">>",
+            Punctuator::Plus => b"+",
+            Punctuator::Minus => b"-",
+            Punctuator::Star => b"*",
+            Punctuator::Slash => b"/",
+            Punctuator::Percent => b"%",
+            Punctuator::Exclamation => b"!",
+            Punctuator::Tilde => b"~",
+            Punctuator::PlusPlus => b"++",
+            Punctuator::MinusMinus => b"--",
+            _ => unreachable!(),
+        }
+    }
+
     /// The bytes of the punctuator.
     pub fn spelling(self) -> &'static [u8]
         ensures { result.now ≡ spelling self }
@@ -130,28 +162,7 @@ impl Punctuator {
             Punctuator::CaretAssign => b"^=",
             Punctuator::ShiftLeftAssign => b"<<=",
             Punctuator::ShiftRightAssign => b">>=",
-            Punctuator::BarBar => b"||",
-            Punctuator::AmpersandAmpersand => b"&&",
-            Punctuator::Bar => b"|",
-            Punctuator::Caret => b"^",
-            Punctuator::Ampersand => b"&",
-            Punctuator::Equal => b"==",
-            Punctuator::NotEqual => b"!=",
-            Punctuator::Less => b"<",
-            Punctuator::Greater => b">",
-            Punctuator::LessEqual => b"<=",
-            Punctuator::GreaterEqual => b">=",
-            Punctuator::ShiftLeft => b"<<",
-            Punctuator::ShiftRight => b">>",
-            Punctuator::Plus => b"+",
-            Punctuator::Minus => b"-",
-            Punctuator::Star => b"*",
-            Punctuator::Slash => b"/",
-            Punctuator::Percent => b"%",
-            Punctuator::Exclamation => b"!",
-            Punctuator::Tilde => b"~",
-            Punctuator::PlusPlus => b"++",
-            Punctuator::MinusMinus => b"--",
+            _ => self.operator_spelling(),
         }
     }
 }
@@ -243,7 +254,8 @@ fn lone(first: u8) -> Word
 /// The longest punctuator of a byte and at most one more, and what follows it.
 #[tactic(auto, unfolding(crate::specs::Words::punctuator))]
 fn up_to_two(first: u8, text: &[u8]) -> (Word, &[u8])
-    ensures { (result.0, result.1.now) ≡ readers.one (punctuator first) (lone (punctuator_of (first ∷ []))) text.now }
+    ensures { (result.0, result.1.now)
+        ≡ readers.one (punctuator first) (lone (punctuator_of (first ∷ []))) text.now }
 {
     match text {
         [] => (lone(first), text),
@@ -257,7 +269,8 @@ fn up_to_two(first: u8, text: &[u8]) -> (Word, &[u8])
 /// The longest punctuator of a byte and at most two more, and what follows it.
 #[tactic(auto, unfolding(crate::specs::Words::punctuator))]
 fn up_to_three(first: u8, text: &[u8]) -> (Word, &[u8])
-    ensures { (result.0, result.1.now) ≡ readers.two (punctuator first) (lone (punctuator_of (first ∷ []))) text.now }
+    ensures { (result.0, result.1.now)
+        ≡ readers.two (punctuator first) (lone (punctuator_of (first ∷ []))) text.now }
 {
     match text {
         [second, third, rest @ ..] => match three(first, *second, *third) {

@@ -91,7 +91,8 @@ fn program<'a>(alloc: Global) -> Result<clap::Command<'a>, AllocError>
 fn parse<'a>(alloc: Global, words: &'a [String]) -> Result<ArgMatches<'a>, WordsErr>
     ensures taken { IfOk result (λ m. (fault_of seh_app (map string_bytes words.entry.now) ≡ [])
         × (subcommand_rows_of m ≡ subcommand_of seh_app (map string_bytes words.entry.now))) }
-    ensures usage { IfErr result (λ e. e ≡ WordsErr.Usage → fault_of seh_app (map string_bytes words.entry.now) ≡ [] → ⊥) }
+    ensures usage { IfErr result
+        (λ e. e ≡ WordsErr.Usage → fault_of seh_app (map string_bytes words.entry.now) ≡ [] → ⊥) }
 {
     let program = match program(alloc) {
         Ok(program) => program,
@@ -109,7 +110,8 @@ fn parse<'a>(alloc: Global, words: &'a [String]) -> Result<ArgMatches<'a>, Words
 /// The number that an option gives, or another one where it isn't there.
 fn number_or(text: Option<&str>, other: u64) -> Result<u64, WordsErr>
     ensures found { IfOk result (IsNumber other (option_map (λ t. t.now) text.entry)) }
-    ensures usage { IfErr result (λ e. (e ≡ WordsErr.Usage) × ((n : ℕ) → IsNumber other (option_map (λ t. t.now) text.entry) n → ⊥)) }
+    ensures usage { IfErr result (λ e. (e ≡ WordsErr.Usage)
+        × ((n : ℕ) → IsNumber other (option_map (λ t. t.now) text.entry) n → ⊥)) }
 {
     match text {
         None => Ok(other),
@@ -123,7 +125,8 @@ fn number_or(text: Option<&str>, other: u64) -> Result<u64, WordsErr>
 /// The options of a run.
 fn options_of(matches: &ArgMatches<'_>) -> Result<RunOptions, WordsErr>
     ensures found { IfOk result (λ o. HasOptions o (rows_of (found_of matches.now))) }
-    ensures usage { IfErr result (λ e. (e ≡ WordsErr.Usage) × ((o : RunOptions) → HasOptions o (rows_of (found_of matches.now)) → ⊥)) }
+    ensures usage { IfErr result (λ e. (e ≡ WordsErr.Usage)
+        × ((o : RunOptions) → HasOptions o (rows_of (found_of matches.now)) → ⊥)) }
 {
     let turns = match number_or(matches.get_str("turns"), DEFAULT_TURNS) {
         Ok(turns) => turns,
@@ -147,7 +150,8 @@ fn options_of(matches: &ArgMatches<'_>) -> Result<RunOptions, WordsErr>
 /// The command of this name with its options.
 fn command_named(name: &str, matches: &ArgMatches<'_>) -> Result<Command, WordsErr>
     ensures found { IfOk result (λ c. Names c (name.now, rows_of (found_of matches.now))) }
-    ensures usage { IfErr result (λ e. (e ≡ WordsErr.Usage) × ((c : Command) → Names c (name.now, rows_of (found_of matches.now)) → ⊥)) }
+    ensures usage { IfErr result (λ e. (e ≡ WordsErr.Usage)
+        × ((c : Command) → Names c (name.now, rows_of (found_of matches.now)) → ⊥)) }
 {
     match name {
         "compile" => Ok(Command::Compile),
@@ -170,9 +174,9 @@ fn command_named(name: &str, matches: &ArgMatches<'_>) -> Result<Command, WordsE
 
 /// The command that the words after the program's name are.
 ///
-/// `exec`, `run` and `meaning` take `--turns N`, `--arg N` and `--trace`, each at most once and in any order; a number is
-/// written in decimal digits with no sign and no leading zero, and is at most 2^63 - 1. Words that
-/// ask for help or a version are no line of the command set.
+/// `exec`, `run` and `meaning` take `--turns N`, `--arg N` and `--trace`, each at most once and in
+/// any order; a number is written in decimal digits with no sign and no leading zero, and is at most
+/// 2^63 - 1. Words that ask for help or a version are no line of the command set.
 pub fn command_of(alloc: Global, words: &[String]) -> Result<Command, WordsErr>
     ensures found { IfOk result (IsLine (map string_bytes words.now)) }
     ensures usage { result ≡ Err WordsErr.Usage → IsNoLine (map string_bytes words.now) }

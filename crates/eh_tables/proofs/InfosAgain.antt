@@ -1,4 +1,4 @@
--- Unwind infos that are written, with the scope tables behind them, read again.
+-- Unwind infos that are written, with the scope tables after them, read again.
 use Rattle.std.proofs.Common.{◌≡◌, ℕ, zero, suc, ◌+◌, ◌*◌, ◌/◌, ◌%◌, ◌^◌, ◌<◌, Bool, true, false, not, cond, Option, Some, None, Ok, List, [], ◌++◌, length, take, drop, replicate, length-append, refl, sym, ap, ◌∙◌, subst, append_assoc, arith}
 use Rattle.std.proofs.lemmas.Bool.{eq-eqb, ne_eqb, lt-ltb}
 use Rattle.std.proofs.lemmas.List.{append-nil, length-replicate, take_at, drop_at, drop-drop}
@@ -242,12 +242,12 @@ module _ (i : UnwindInfo) (is : IsUnwindInfo i) (can : CanBeWritten i) where
       → stored_scope_records image rva all ≡ Ok bytes → scopes.scope_records_in bytes ≡ rows
       → info image index rva ≡ (scopes.checked index image.size 0 rows >>= λ _. Ok (info_written i b rows))
   unfolding info
-  whole_info image index rva rest bytes b rows aligned c stands behind are =
+  whole_info image index rva rest bytes b rows aligned c stands after are =
       all_read (stored_info image index rva) all bytes (stored_scope_records image rva)
       (λ x. slots.checked index (infos.is_framed x) 0 255 0 (infos.slots_of x))
       (λ r. scopes.checked index image.size 0 (scopes.scope_records_in r))
       (λ x r. info_of x (infos.is_c image x) r)
-      (stored_again image index rva rest aligned stands) behind (order_read index)
+      (stored_again image index rva rest aligned stands) after (order_read index)
       ∙ ap (λ (r : List ScopeRecord). scopes.checked index image.size 0 r >>= λ _. Ok (info_of all (infos.is_c image all) bytes)) are
       ∙ ap (λ (x : Info). scopes.checked index image.size 0 rows >>= λ _. Ok x) (said_again (infos.is_c image all) b bytes rows (c_again image ∙ c) are)
 
@@ -264,8 +264,8 @@ module _ (i : UnwindInfo) (is : IsUnwindInfo i) (can : CanBeWritten i) where
   unfolding u32
   count_again n lt = four_is n lt
 
-  rows_behind : (image : Image) (rva : ℕ) (rs : List ScopeRecord) → length rs < 2 ^ 32 → IsStoredAt image rva (all ++ scope_bytes rs) → scope_records_at image rva (length all) ≡ Ok (flat_map scope_record_bytes rs)
-  rows_behind image rva rs few stands =
+  rows_after : (image : Image) (rva : ℕ) (rs : List ScopeRecord) → length rs < 2 ^ 32 → IsStoredAt image rva (all ++ scope_bytes rs) → scope_records_at image rva (length all) ≡ Ok (flat_map scope_record_bytes rs)
+  rows_after image rva rs few stands =
       let count = u32 (length rs) in
       let body = flat_map scope_record_bytes rs in
       let total = all ++ (count ++ body) in
@@ -290,10 +290,10 @@ module _ (i : UnwindInfo) (is : IsUnwindInfo i) (can : CanBeWritten i) where
   c_rows : (image : Image) (rva : ℕ) (rs : List ScopeRecord) → length rs < 2 ^ 32 → has_c_handler image i ≡ true → IsStoredAt image rva (all ++ scope_bytes rs) → stored_scope_records image rva all ≡ Ok (flat_map scope_record_bytes rs)
   unfolding stored_scope_records
   c_rows image rva rs few some stands =
-      let behind : infos.slots_end all + 4 ≡ length all = omega (arith, end_is, handler_length image i.trailer some, length-append front tail) in
+      let after : infos.slots_end all + 4 ≡ length all = omega (arith, end_is, handler_length image i.trailer some, length-append front tail) in
       ap (scope_records_if (scope_records_at image rva (infos.slots_end all + 4))) (c_again image ∙ some)
-      ∙ ap (scope_records_at image rva) behind
-      ∙ rows_behind image rva rs few stands
+      ∙ ap (scope_records_at image rva) after
+      ∙ rows_after image rva rs few stands
 
 pub reads_info : InfoIsReadAgain
 unfolding unwind_bytes

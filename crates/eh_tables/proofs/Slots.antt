@@ -17,7 +17,7 @@ passed framed (suc k) (suc (suc n)) [] e = refl
 passed framed (suc k) (suc (suc n)) (a ∷ []) e = refl
 passed framed (suc k) (suc (suc n)) (a ∷ b ∷ xs) e = passed framed k n xs (omega arith)
 
--- the first code, and those behind its operands
+-- the first code, and those after its operands
 pub first_code : (framed : Bool) (xs : List ℕ) (o : UnwindOperation) (n : ℕ) → 2 ≤ length xs → operation framed (get_or xs 1 0 % 16) (get_or xs 1 0 / 16) (drop 2 xs) ≡ Some (o, n)
     → codes framed 0 xs ≡ record { offset = get_or xs 0 0; operation = o } ∷ codes framed 0 (drop (2 * n) (drop 2 xs))
 first_code framed [] o n le is = absurd (omega arith)
@@ -26,9 +26,9 @@ first_code framed (a ∷ b ∷ xs) o n le is =
     ap (code_before a (λ k. codes framed k xs)) is
     ∙ ap (λ (t : List UnwindCode). record { offset = a; operation = o } ∷ t) (passed framed n (2 * n) xs refl)
 
--- what stands behind a slot
-pub behind : (xs : List ℕ) → take (length xs - 2) (drop 2 xs) ≡ drop 2 xs
-behind xs = take_all (length xs - 2) (drop 2 xs) (omega (arith, length-drop 2 xs))
+-- what follows a slot
+pub after : (xs : List ℕ) → take (length xs - 2) (drop 2 xs) ≡ drop 2 xs
+after xs = take_all (length xs - 2) (drop 2 xs) (omega (arith, length-drop 2 xs))
 
 -- one slot more is checked
 pub operand_checked : (index : ℕ) (framed : Bool) (slot last k : ℕ) (xs : List ℕ) → 2 ≤ length xs → k ≢ 0
@@ -39,7 +39,7 @@ operand_checked index framed slot last zero (a ∷ b ∷ xs) le ne = absurd (ne 
 operand_checked index framed slot last (suc k) (a ∷ b ∷ xs) le ne =
     let e : suc k - 1 ≡ k = omega arith in
     ap (λ n. checked index framed (slot + 1) last n (take (length (a ∷ b ∷ xs) - 2) xs)) e
-    ∙ ap (checked index framed (slot + 1) last k) (behind (a ∷ b ∷ xs))
+    ∙ ap (checked index framed (slot + 1) last k) (after (a ∷ b ∷ xs))
 
 abbrev pub Later : ℕ → Bool → ℕ → List ℕ → ℕ → Table Unit
 Later index framed slot xs k = checked index framed (slot + 1) (get_or xs 0 0) k (take (length xs - 2) (drop 2 xs))
@@ -49,7 +49,7 @@ code_at : (index : ℕ) (framed : Bool) (slot last : ℕ) (xs : List ℕ) → 2 
 code_at index framed slot last [] le = absurd (omega arith)
 code_at index framed slot last (a ∷ []) le = absurd (omega arith)
 code_at index framed slot last (a ∷ b ∷ xs) le =
-    ap (λ t. code_checked index slot last a (λ k. checked index framed (slot + 1) a k t) (operation framed (b % 16) (b / 16) t)) (sym (behind (a ∷ b ∷ xs)))
+    ap (λ t. code_checked index slot last a (λ k. checked index framed (slot + 1) a k t) (operation framed (b % 16) (b / 16) t)) (sym (after (a ∷ b ∷ xs)))
 
 module _ (index : ℕ) (framed : Bool) (slot last k : ℕ) (xs : List ℕ) (le : 2 ≤ length xs) (none : k ≡ 0) where
   here : checked index framed slot last k xs ≡ code_checked index slot last (get_or xs 0 0) (Later index framed slot xs) (operation framed (get_or xs 1 0 % 16) (get_or xs 1 0 / 16) (take (length xs - 2) (drop 2 xs)))
@@ -67,12 +67,12 @@ module _ (index : ℕ) (framed : Bool) (slot last k : ℕ) (xs : List ℕ) (le :
 pub cut : (xs : List ℕ) (n : ℕ) → take (length xs - n) (drop n xs) ≡ drop n xs
 cut xs n = take_all (length xs - n) (drop n xs) (omega (arith, length-drop n xs))
 
--- what stands behind a code and its operands
-pub behind_code : (xs : List ℕ) (n : ℕ) → (let ys = take (length xs - 2) (drop 2 xs) in take (length ys - n) (drop n ys)) ≡ drop n (drop 2 xs)
-behind_code xs n = cut (take (length xs - 2) (drop 2 xs)) n ∙ ap (drop n) (behind xs)
+-- what follows a code and its operands
+pub after_code : (xs : List ℕ) (n : ℕ) → (let ys = take (length xs - 2) (drop 2 xs) in take (length ys - n) (drop n ys)) ≡ drop n (drop 2 xs)
+after_code xs n = cut (take (length xs - 2) (drop 2 xs)) n ∙ ap (drop n) (after xs)
 
-pub left_behind : (framed : Bool) (xs : List ℕ) (o : UnwindOperation) (n : ℕ) → 2 ≤ length xs → operation framed (get_or xs 1 0 % 16) (get_or xs 1 0 / 16) (take (length xs - 2) (drop 2 xs)) ≡ Some (o, n)
+pub left_after : (framed : Bool) (xs : List ℕ) (o : UnwindOperation) (n : ℕ) → 2 ≤ length xs → operation framed (get_or xs 1 0 % 16) (get_or xs 1 0 / 16) (take (length xs - 2) (drop 2 xs)) ≡ Some (o, n)
     → codes framed 0 xs ≡ record { offset = get_or xs 0 0; operation = o } ∷ codes framed 0 (let ys = take (length xs - 2) (drop 2 xs) in take (length ys - 2 * n) (drop (2 * n) ys))
-left_behind framed xs o n le is =
-    first_code framed xs o n le (ap (operation framed (get_or xs 1 0 % 16) (get_or xs 1 0 / 16)) (sym (behind xs)) ∙ is)
-    ∙ ap (λ (t : List ℕ). record { offset = get_or xs 0 0; operation = o } ∷ codes framed 0 t) (sym (behind_code xs (2 * n)))
+left_after framed xs o n le is =
+    first_code framed xs o n le (ap (operation framed (get_or xs 1 0 % 16) (get_or xs 1 0 / 16)) (sym (after xs)) ∙ is)
+    ∙ ap (λ (t : List ℕ). record { offset = get_or xs 0 0; operation = o } ∷ codes framed 0 t) (sym (after_code xs (2 * n)))

@@ -17,7 +17,7 @@ use Rattle.eh_tables.specs.Tables.{ranges, ranges_in, unless_none, stored_ranges
 use Rattle.eh_tables.specs.Written.{u32, range_bytes, scope_record_bytes, table_bytes}
 use Rattle.eh_tables.specs.ReadAgain.{IsRange, IsScopeRecord, RangesAreReadAgain}
 
--- ---- where bytes stand, those at their front stand too
+-- ---- where bytes are stored, those at their front are too
 
 only_some : (bytes xs : List ℕ) (b : Bool) → only_if bytes b ≡ Some xs → (bytes ≡ xs) × (b ≡ true)
 only_some bytes xs true h = let e : bytes ≡ xs = cc in (e, refl)
@@ -51,9 +51,9 @@ range_again r rest is =
     let info = four_is r.unwind_info is.2 in
     λ i. record { begin = begin i; end = end i; unwind_info = info i }
 
-behind_range : (r : RuntimeFunction) (rest : List ℕ) → drop 12 (range_bytes r ++ rest) ≡ rest
+after_range : (r : RuntimeFunction) (rest : List ℕ) → drop 12 (range_bytes r ++ rest) ≡ rest
 unfolding u32
-behind_range r rest = refl
+after_range r rest = refl
 
 pub range_length : (r : RuntimeFunction) → length (range_bytes r) ≡ 12
 unfolding u32
@@ -67,7 +67,7 @@ so_many : (rs : List RuntimeFunction) → AllByRecursion IsRange rs → ranges (
 so_many [] are = refl
 so_many (r ∷ rs) are =
     ap (λ (t : RuntimeFunction). t ∷ ranges (length rs) (drop 12 (range_bytes r ++ table_bytes rs))) (range_again r (table_bytes rs) are.0)
-    ∙ ap (λ (t : List ℕ). r ∷ ranges (length rs) t) (behind_range r (table_bytes rs))
+    ∙ ap (λ (t : List ℕ). r ∷ ranges (length rs) t) (after_range r (table_bytes rs))
     ∙ ap (λ (t : List RuntimeFunction). r ∷ t) (so_many rs are.1)
 
 ranges_again : (rs : List RuntimeFunction) → AllByRecursion IsRange rs → ranges_in (table_bytes rs) ≡ rs
@@ -110,9 +110,9 @@ row_again r rest is =
     let jump = four_is r.jump_target is.3 in
     λ i. record { begin = begin i; end = end i; handler_address = handler i; jump_target = jump i }
 
-behind_row : (r : ScopeRecord) (rest : List ℕ) → drop 16 (scope_record_bytes r ++ rest) ≡ rest
+after_row : (r : ScopeRecord) (rest : List ℕ) → drop 16 (scope_record_bytes r ++ rest) ≡ rest
 unfolding u32
-behind_row r rest = refl
+after_row r rest = refl
 
 row_length : (r : ScopeRecord) → length (scope_record_bytes r) ≡ 16
 unfolding u32
@@ -126,7 +126,7 @@ so_many_rows : (rs : List ScopeRecord) → AllByRecursion IsScopeRecord rs → r
 so_many_rows [] are = refl
 so_many_rows (r ∷ rs) are =
     ap (λ (t : ScopeRecord). t ∷ rows (length rs) (drop 16 (scope_record_bytes r ++ flat_map scope_record_bytes rs))) (row_again r (flat_map scope_record_bytes rs) are.0)
-    ∙ ap (λ (t : List ℕ). r ∷ rows (length rs) t) (behind_row r (flat_map scope_record_bytes rs))
+    ∙ ap (λ (t : List ℕ). r ∷ rows (length rs) t) (after_row r (flat_map scope_record_bytes rs))
     ∙ ap (λ (t : List ScopeRecord). r ∷ t) (so_many_rows rs are.1)
 
 pub rows_again : (rs : List ScopeRecord) → AllByRecursion IsScopeRecord rs → scope_records_in (flat_map scope_record_bytes rs) ≡ rs

@@ -33,7 +33,7 @@ prologue_size bytes = slice_index bytes 1
 abbrev pub slot_count : List ℕ → ℕ
 slot_count bytes = slice_index bytes 2
 
--- the frame register's number, where 0 stands for none, and its distance from the base of the frame
+-- the frame register's number, where 0 means none, and its distance from the base of the frame
 abbrev pub frame_register : List ℕ → ℕ
 frame_register bytes = slice_index bytes 3 % 16
 
@@ -125,7 +125,7 @@ stored_info image index rva = do
   _ ← unless (are_flags (flags head)) (refusals.Flags index)
   or_refused (stored image.sections rva (slots_end head + trailer_size head)) (refusals.Truncated rva)
 
--- the records of the scope table, which stands behind the handler's address: their count, and they themselves
+-- the records of the scope table, which follows the handler's address: their count, and they themselves
 abbrev pub scope_records_at : Image → ℕ → ℕ → Table (List ℕ)
 scope_records_at image rva at = do
   counted ← or_refused (stored image.sections rva (at + 4)) (refusals.Truncated rva)

@@ -1,4 +1,4 @@
--- What is written is read again as the same values, wherever it stands in an image.
+-- What is written is read again as the same values, wherever it is in an image.
 use Rattle.std.specs.Prelude.{◌≡◌, ℕ, ◌%◌, ◌^◌, ◌<◌, ◌≤◌, Bool, true, false, List, [], ◌∷◌, ◌++◌, length, map, Option, Some, None, Ok}
 use Rattle.std.specs.List.{AllByRecursion}
 use Rattle.pe_image.specs.Image.{Image, stored}
@@ -64,7 +64,7 @@ is_c image (Some rva) = is_c_handler image rva
 abbrev pub has_c_handler : Image → UnwindInfo → Bool
 has_c_handler image i = is_c image (handler_of i.trailer)
 
--- what an info says that was written, with the rows behind it
+-- what an info says that was written, with the rows after it
 abbrev pub info_written : UnwindInfo → Bool → List ScopeRecord → Info
 info_written i is_c rows = record {
   bytes = header i (length (codes_bytes i.codes.items)) ++ padded (codes_bytes i.codes.items);

@@ -32,7 +32,7 @@ abbrev pub listed : {A : Type 0} → Result (ArrayVec A) TableErr → Table (Lis
 listed (Ok v) = Ok v.items
 listed (Err e) = Err e
 
--- behind an entry that ends there; with its own info a chain has at most 32
+-- after an entry that ends there; with its own info a chain has at most 32
 unfoldable pub entry : Image → ℕ → ℕ → RuntimeFunction → Table Entry
 entry image index last r = do
   _ ← unless (nat_lt r.begin r.end) (refusals.EmptyRange index)

@@ -87,7 +87,7 @@ fn read_parents<'a>(
     Ok(parents)
 }
 
-/// Reads the entry of that index and range, behind one that ends at `last`.
+/// Reads the entry of that index and range, after one that ends at `last`.
 #[tactic(auto, unfolding(crate::specs::Tables::entry))]
 pub fn read_entry<'a>(
     image: &ImageView<'a>,

@@ -70,7 +70,7 @@ impl<'a> Info<'a> {
         self.bytes[1]
     }
 
-    /// The number of the frame register, where 0 stands for none.
+    /// The number of the frame register, where 0 means none.
     pub fn frame_register(&self) -> u8
         ensures { result ≡ self.now.frame_register }
     {

@@ -41,8 +41,10 @@ impl<'image, 'bytes> Tables<'image, 'bytes> {
 fn first_past<L: Ledger>(ranges: &CountedRanges<'_, '_, '_>, rva: u64, steps: &mut Steps<L>) -> u64
     requires { spec.IsWhole ranges.now }
     ensures within { result ≤ length ranges.now.ranges }
-    ensures below { (k : ℕ) → k < result → (slice_index_or ranges.now.ranges k spec.no_range).end ≤ rva }
-    ensures above { (k : ℕ) → result ≤ k → k < length ranges.now.ranges → rva < (slice_index_or ranges.now.ranges k spec.no_range).end }
+    ensures below { (k : ℕ) → k < result
+        → (slice_index_or ranges.now.ranges k spec.no_range).end ≤ rva }
+    ensures above { (k : ℕ) → result ≤ k → k < length ranges.now.ranges
+        → rva < (slice_index_or ranges.now.ranges k spec.no_range).end }
     ensures cost { 2 ^ (steps.new - steps.old) ≤ 2 * length ranges.now.ranges + 1 }
 {
     let mut low = 0;

@@ -14,7 +14,7 @@ pub struct RuntimeFunction {
     pub unwind_info: u32,
 }
 
-/// The entry that stands at a place.
+/// The entry at a place.
 pub fn read_range(bytes: &[u8], at: usize) -> RuntimeFunction
     requires { at + 12 ≤ length bytes.now }
     ensures { result ≡ range_at bytes.now at }

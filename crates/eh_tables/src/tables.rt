@@ -30,7 +30,8 @@ impl<'image, 'bytes> Tables<'image, 'bytes> {
     /// and its size is a multiple of 12. A directory of size 0 has no entries.
     #[tactic(auto, unfolding(crate::specs::Tables::directory))]
     pub fn of(image: &'image ImageView<'bytes>) -> Result<Tables<'image, 'bytes>, TableErr>
-        ensures read { IfOk result (λ t. (spec.directory image.now ≡ Ok t.ranges) × (t.image ≡ image.now)) }
+        ensures read { IfOk result
+            (λ t. (spec.directory image.now ≡ Ok t.ranges) × (t.image ≡ image.now)) }
         ensures refusal { IfErr result (λ e. spec.directory image.now ≡ Err e) }
     {
         let at = image.exception_directory();
@@ -94,7 +95,8 @@ impl<'image, 'bytes> Tables<'image, 'bytes> {
 
     /// The table of an image, in which all entries are read. The first refusal by index is answered.
     pub fn read(image: &'image ImageView<'bytes>) -> Result<Tables<'image, 'bytes>, TableErr>
-        ensures read { IfOk result (λ t. (spec.directory image.now ≡ Ok t.ranges) × (t.image ≡ image.now)) }
+        ensures read { IfOk result
+            (λ t. (spec.directory image.now ≡ Ok t.ranges) × (t.image ≡ image.now)) }
         ensures whole { IfOk result (λ t. spec.IsWhole t) }
         ensures refusal { IfErr result (λ e. spec.tables image.now ≡ Err e) }
     {

@@ -25,7 +25,7 @@ pub enum Trailer {
 pub struct UnwindInfo {
     /// How many bytes the prologue has.
     pub prologue_size: u8,
-    /// The number of the frame register, where 0 stands for none.
+    /// The number of the frame register, where 0 means none.
     pub frame_register: u8,
     /// How many bytes the frame register lies above the base of the frame: a multiple of 16.
     pub frame_offset: u8,

@@ -13,11 +13,11 @@ use Rattle.pe_image.specs.Reading.{header_at, headers_from, is_laid_out, all_lai
 abbrev pub with_front : List Section → Result (List Section) ImageErr → Result (List Section) ImageErr
 with_front front read = read >>= λ ss. Ok (front ++ ss)
 
--- the sections from an index on, behind an end
+-- the sections from an index on, after an end
 abbrev pub sections_from : List ℕ → ℕ → ℕ → ℕ → List SectionHeader → Result (List Section) ImageErr
 sections_from bytes limit index end hs = all_laid_out (length bytes) limit index end hs >>= λ _. Ok (map (section_of bytes) hs)
 
--- the header at an index, before those behind it
+-- the header at an index, before those after it
 headers_more : (bytes : List ℕ) (count index at : ℕ) → index < count
     → headers_from bytes (count - index) (at + 40 * index) ≡ header_at bytes (at + 40 * index) ∷ headers_from bytes (count - (index + 1)) (at + 40 * (index + 1))
 headers_more bytes count index at lt =

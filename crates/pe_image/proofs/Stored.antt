@@ -54,7 +54,7 @@ begun_before rva n ss s up within some is begun later =
     ap (λ (t : Section). drop (rva - t.address) t.raw) is
     ∙ sym (last_below rva 0 ss (n - 1) s up (omega arith) (begun (n - 1) s (omega arith)) (λ j e h1 h2. later j e (omega arith) h2))
 
--- ---- bytes behind others
+-- ---- bytes after others
 
 -- what a section does in which a byte is stored
 record StoresByte (end rva : ℕ) (s : Section) : Type 0 where
@@ -92,9 +92,9 @@ section_stays end rva at (t ∷ ss) s up e le lt = by_case (λ found. section_st
         ap (section_or (section_at at ss) t) (above_holds_none at t (omega (arith, up.2, later.above)))
         ∙ others found
 
--- the bytes behind some that a section stores are stored there
-pub stored_behind : (rva n : ℕ) (ss : List Section) → AreAscending 0 ss → n < length (stored_in rva (section_at rva ss)) → stored_in (rva + n) (section_at (rva + n) ss) ≡ drop n (stored_in rva (section_at rva ss))
-stored_behind rva n ss up lt = by_case (section_at rva ss) refl lt
+-- the bytes after some that a section stores are stored there
+pub stored_after : (rva n : ℕ) (ss : List Section) → AreAscending 0 ss → n < length (stored_in rva (section_at rva ss)) → stored_in (rva + n) (section_at (rva + n) ss) ≡ drop n (stored_in rva (section_at rva ss))
+stored_after rva n ss up lt = by_case (section_at rva ss) refl lt
   where
     by_case : (o : Option Section) → section_at rva ss ≡ o → n < length (stored_in rva o) → stored_in (rva + n) (section_at (rva + n) ss) ≡ drop n (stored_in rva o)
     by_case None is lt = absurd (omega arith)

@@ -14,9 +14,9 @@ table bytes = sections_of bytes (image_end bytes) (headers_from bytes (section_c
 abbrev finished : List ℕ → Result (List Section) ImageErr → Result Image ImageErr
 finished bytes r = r >>= λ sections. Ok (image_with bytes sections)
 
-behind_headers : (bytes : List ℕ) → headers bytes ≡ Ok tt → outline bytes ≡ finished bytes (table bytes)
+after_headers : (bytes : List ℕ) → headers bytes ≡ Ok tt → outline bytes ≡ finished bytes (table bytes)
 unfolding outline
-behind_headers bytes e = ap (λ (r : Result Unit ImageErr). r >>= λ _. finished bytes (table bytes)) e
+after_headers bytes e = ap (λ (r : Result Unit ImageErr). r >>= λ _. finished bytes (table bytes)) e
 
 refused : (bytes : List ℕ) (e : ImageErr) → reading bytes ≡ Err e → IsRefused bytes e
 refused bytes refusals.Memory h = tt
@@ -36,11 +36,11 @@ same_table bytes end count at e1 e2 e3 = ap (λ n. sections_of bytes n (headers_
 pub by_sections : (bytes : List ℕ) (e : ImageErr) (end count at : ℕ) → headers bytes ≡ Ok tt → end ≡ image_end bytes → count ≡ section_count bytes → at ≡ sections_at bytes
     → Refuses e (sections_of bytes end (headers_from bytes count at)) → IsRefused bytes e
 by_sections bytes refusals.Memory end count at ok e1 e2 e3 h = tt
-by_sections bytes e end count at ok e1 e2 e3 h = by_outline bytes e (behind_headers bytes ok ∙ ap (finished bytes) (sym (same_table bytes end count at e1 e2 e3) ∙ h))
+by_sections bytes e end count at ok e1 e2 e3 h = by_outline bytes e (after_headers bytes ok ∙ ap (finished bytes) (sym (same_table bytes end count at e1 e2 e3) ∙ h))
 
 pub read_whole : (bytes : List ℕ) (ss : List Section) (end count at : ℕ) → headers bytes ≡ Ok tt → end ≡ image_end bytes → count ≡ section_count bytes → at ≡ sections_at bytes
     → sections_of bytes end (headers_from bytes count at) ≡ Ok ss → outline bytes ≡ Ok (image_with bytes ss)
-read_whole bytes ss end count at ok e1 e2 e3 h = behind_headers bytes ok ∙ ap (finished bytes) (sym (same_table bytes end count at e1 e2 e3) ∙ h)
+read_whole bytes ss end count at ok e1 e2 e3 h = after_headers bytes ok ∙ ap (finished bytes) (sym (same_table bytes end count at e1 e2 e3) ∙ h)
 
 pub same_image : (bytes : List ℕ) (ss : List Section) (base entry size : ℕ) (imports exceptions : DataDirectory)
     → base ≡ image_base bytes → entry ≡ entry_point bytes → size ≡ image_size bytes → imports ≡ directory bytes 1 → exceptions ≡ directory bytes 3

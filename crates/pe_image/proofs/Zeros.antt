@@ -1,4 +1,4 @@
--- Where the first 0 of a list stands, by its parts.
+-- Where the first 0 of a list is, by its parts.
 use Rattle.std.proofs.Common.{◌≡◌, ℕ, ◌+◌, ◌-◌, ◌<◌, ◌≤◌, ◌==◌, Bool, true, false, cond, ltb, List, length, take, drop, get_or, position, Some, None, ap, sym, ◌∙◌, inl, inr, arith}
 use Rattle.std.specs.List.{position_or_len}
 use Rattle.std.proofs.lemmas.Bool.{cases_lt, lt-ltb}
@@ -9,7 +9,7 @@ use Rattle.std.proofs.lemmas.List.Sums.{position_or_len_is, fails_before_first}
 abbrev pub is_zero : ℕ → Bool
 is_zero b = b == 0
 
--- by what stands there and before
+-- by what is there and before
 stands : (xs : List ℕ) (i : ℕ) → i < length xs → ((k : ℕ) → k < i → is_zero (get_or xs k 0) ≡ false) → is_zero (get_or xs i 0) ≡ true → position is_zero xs ≡ Some i
 stands xs i lt before here =
     let e : position_or_len is_zero xs ≡ i = position_or_len_is is_zero xs i 0 (omega arith) before (λ _. here) in
@@ -21,8 +21,8 @@ none_stands xs none k lt = elim (cases_lt (position_or_len is_zero xs) (length x
   | inr past ↦ fails_before_first is_zero xs k 0 (omega arith)
 ]
 
-pub first_behind : (n i : ℕ) (xs : List ℕ) → n ≤ i → position is_zero xs ≡ Some i → position is_zero (drop n xs) ≡ Some (i - n)
-first_behind n i xs le e =
+pub first_after : (n i : ℕ) (xs : List ℕ) → n ≤ i → position is_zero xs ≡ Some i → position is_zero (drop n xs) ≡ Some (i - n)
+first_after n i xs le e =
     let p = position-Some is_zero xs i 0 e in
     let there : n + (i - n) ≡ i = omega arith in
     stands (drop n xs) (i - n) (omega (arith, length-drop n xs, p.0))

@@ -25,7 +25,7 @@ abbrev pub or_refused : {A E : Type 0} → Option A → E → Result A E
 or_refused (Some x) e = Ok x
 or_refused None e = Err e
 
--- a list's answer behind one element, and behind others
+-- a list's answer after one element, and after others
 abbrev pub prepend : {A E : Type 0} → A → Result (List A) E → Result (List A) E
 prepend x (Ok xs) = Ok (x ∷ xs)
 prepend x (Err e) = Err e

@@ -19,7 +19,7 @@ pub record Import : Type 0 where
 abbrev pub terminated : List ℕ → Option (List ℕ)
 terminated bytes = option_map (λ n. take n bytes) (position (λ b. b == 0) bytes)
 
--- a name stands behind a hint of two bytes
+-- a name follows a hint of two bytes
 abbrev pub unless_short : Option (List ℕ) → Bool → Option (List ℕ)
 unless_short name true = name
 unless_short name false = None

@@ -12,11 +12,11 @@ use Rattle.pe_image.specs.Imports.{imports}
 
 -- ---- the headers
 
--- e_lfanew, where the signature stands
+-- e_lfanew, where the signature begins
 abbrev pub signature_at : List ℕ → ℕ
 signature_at bytes = field 4 bytes E_LFANEW
 
--- the file header, behind the signature
+-- the file header, after the signature
 abbrev pub machine : List ℕ → ℕ
 machine bytes = field 2 bytes (signature_at bytes + MACHINE)
 
@@ -51,7 +51,7 @@ directories_at bytes = optional_at bytes + DIRECTORIES
 abbrev pub directories_size : List ℕ → ℕ
 directories_size bytes = DIRECTORY_SIZE * directory_count bytes
 
--- the section table, behind the optional header
+-- the section table, after the optional header
 abbrev pub sections_at : List ℕ → ℕ
 sections_at bytes = optional_at bytes + optional_size bytes
 
@@ -119,7 +119,7 @@ abbrev pub is_laid_out : ℕ → ℕ → ℕ → SectionHeader → Bool
 is_laid_out file_size limit end s =
     ((s.raw_size == 0) || nat_le (s.raw_at + s.raw_size) file_size) && (s.address % PAGE_SIZE == 0) && nat_le end s.address && nat_le (s.address + s.size) limit
 
--- section by section, from an index on and behind an end
+-- section by section, from an index on and after an end
 abbrev pub all_laid_out : ℕ → ℕ → ℕ → ℕ → List SectionHeader → Result Unit ImageErr
 all_laid_out file_size limit index end [] = Ok tt
 all_laid_out file_size limit index end (s ∷ ss) = do

@@ -1,5 +1,5 @@
 /// A data directory of the optional header: where a table of the image lies (PE format, "Optional
-/// Header Data Directories"). One of size 0 stands for no table.
+/// Header Data Directories"). One of size 0 means no table.
 #[derive(Clone, Copy, Debug, PartialEq, Eq)]
 pub struct DataDirectory {
     /// The table's address, relative to the image base.

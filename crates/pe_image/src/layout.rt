@@ -1,4 +1,4 @@
-//! Where the fields of an image's headers stand, and what they hold (PE format).
+//! Where the fields of an image's headers are, and what they hold (PE format).
 
 /// The size of the DOS header (PE format, "MS-DOS Stub").
 pub const DOS_HEADER_SIZE: usize = 64;
@@ -9,7 +9,7 @@ pub const DOS_SIGNATURE: u16 = 0x5A4D;
 /// The field e_lfanew of the DOS header: the file offset of the signature.
 pub const E_LFANEW: usize = 0x3C;
 
-/// The size of the signature and the file header behind it (PE format, "COFF File Header"). The
+/// The size of the signature and the file header after it (PE format, "COFF File Header"). The
 /// offsets of their fields are from the signature on.
 pub const FILE_HEADER_SIZE: usize = 24;
 
@@ -39,7 +39,7 @@ pub const NUMBER_OF_RVA_AND_SIZES: usize = 108;
 /// The size of the optional header up to its data directories.
 pub const DIRECTORIES: usize = 112;
 
-/// The size of a data directory: an address, and a size behind it.
+/// The size of a data directory: an address, and a size after it.
 pub const DIRECTORY_SIZE: usize = 8;
 
 /// The index of the directory that names the import descriptors.

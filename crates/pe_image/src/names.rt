@@ -12,7 +12,7 @@ use crate::section::{SectionView, stored_from};
 use std::alloc::AllocError;
 use std::collections::BTreeMap;
 
-/// Bytes other than 0 from an address on, and the address of the 0 behind them.
+/// Bytes other than 0 from an address on, and the address of the 0 after them.
 #[derive(Clone, Copy)]
 struct Stretch {
     from: u64,
@@ -27,7 +27,7 @@ fn first_zero(bytes: &[u8]) -> Option<usize>
     bytes.iter().position(|b| *b == 0)
 }
 
-/// The place of the first 0, where the first one at or behind `unread` is known to stand at `end`,
+/// The place of the first 0, where the first one at or after `unread` is known to be at `end`,
 /// if the bytes go so far.
 fn first_zero_before(bytes: &[u8], unread: u64, end: u64) -> Option<usize>
     requires ordered { unread ≤ end }
@@ -57,7 +57,7 @@ fn known_stretch(ends: &BTreeMap<u64, u64>, at: u64) -> Option<Stretch>
     })
 }
 
-/// How many bytes stand before the first 0 of what is stored from an address on. The stretch that
+/// How many bytes come before the first 0 of what is stored from an address on. The stretch that
 /// was read is kept.
 fn name_len(
     ends: &mut BTreeMap<u64, u64>,
@@ -84,7 +84,7 @@ fn name_len(
     Ok(Some(len))
 }
 
-/// The name behind a hint at an address.
+/// The name after a hint at an address.
 pub fn read_name<'a>(
     ends: &mut BTreeMap<u64, u64>,
     sections: &[SectionView<'a>],
@@ -93,7 +93,8 @@ pub fn read_name<'a>(
     requires ascending { AreAscending 0 sections.now }
     requires ends { AreEnds sections.now ends.old }
     requires low { at < 2 ^ 63 }
-    ensures name { IfOk result (λ name. option_map (λ b. b.now) name ≡ spec.name_at sections.now at) }
+    ensures name { IfOk result
+        (λ name. option_map (λ b. b.now) name ≡ spec.name_at sections.now at) }
     ensures ends { OnOk result (AreEnds sections.now ends.new) }
 {
     let hinted = stored_from(sections, at);

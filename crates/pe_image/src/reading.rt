@@ -89,7 +89,7 @@ pub fn check_headers(bytes: &[u8]) -> Result<(), ImageErr>
     check_optional_header(bytes)
 }
 
-/// Where the optional header stands: behind the signature and the file header.
+/// Where the optional header begins: after the signature and the file header.
 pub fn optional_at(bytes: &[u8]) -> usize
     requires { spec.HasHeaders bytes.now }
     ensures { result ≡ spec.optional_at bytes.now }
@@ -106,7 +106,7 @@ pub fn section_count(bytes: &[u8]) -> usize
     u16_at(bytes, signature_at + NUMBER_OF_SECTIONS) as usize
 }
 
-/// Where the section table stands: behind the optional header.
+/// Where the section table begins: after the optional header.
 pub fn sections_at(bytes: &[u8]) -> usize
     requires { spec.HasHeaders bytes.now }
     ensures { result ≡ spec.sections_at bytes.now }

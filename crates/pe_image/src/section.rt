@@ -29,7 +29,12 @@ impl<'a> Model for SectionView<'a> {
 
     ghost Value = { Section };
 
-    ghost view = { λ s. record { address = s.address; size = s.size; raw = s.raw.now; flags = s.flags } };
+    ghost view = { λ s. record {
+      address = s.address;
+      size = s.size;
+      raw = s.raw.now;
+      flags = s.flags;
+    } };
 }
 
 impl<'a> SectionView<'a> {

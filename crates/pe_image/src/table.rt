@@ -21,7 +21,7 @@ pub struct SectionHeader {
     pub size: u32,
     /// Where it lies in the image.
     pub address: u32,
-    /// How many bytes of raw data it has, and where they stand in the file.
+    /// How many bytes of raw data it has, and where they are in the file.
     pub raw_size: u32,
     pub raw_at: u32,
     /// Its characteristics.
@@ -74,7 +74,8 @@ impl SectionHeader {
     }
 
     fn view<'a>(&self, bytes: &'a [u8]) -> SectionView<'a>
-        requires { (self.now.raw_size ≡ 0) ⊎ (self.now.raw_at + self.now.raw_size ≤ length bytes.now) }
+        requires { (self.now.raw_size ≡ 0)
+            ⊎ (self.now.raw_at + self.now.raw_size ≤ length bytes.now) }
         ensures { result ≡ spec.section_of bytes.now self.now }
     {
         let stored = self.size.min(self.raw_size) as usize;
@@ -96,7 +97,8 @@ pub fn sections<'a>(
     limit: u64,
 ) -> Result<Vec<SectionView<'a>>, ImageErr>
     requires { at + 40 * count ≤ length bytes.now }
-    ensures answer { Gives (λ v. v.items) result (sections_of bytes.now limit (headers_from bytes.now count at)) }
+    ensures answer { Gives (λ v. v.items) result
+        (sections_of bytes.now limit (headers_from bytes.now count at)) }
     ensures ascending { IfOk result (λ v. AreAscending 0 v.items) }
 {
     let mut sections = Vec::with_capacity(alloc, count)?;

@@ -88,7 +88,7 @@ impl<'a> ImageView<'a> {
         })
     }
 
-    /// The image base, at which the image stands in memory.
+    /// The image base, at which the image lies in memory.
     pub fn base(&self) -> u64
         ensures { result ≡ self.now.base }
     {

@@ -21,9 +21,9 @@ four_is n lt = omega arith
 
 -- ---- the section table
 
--- a field behind a front
-field_behind : (n : ℕ) (front rest : List ℕ) (k : ℕ) → field n (front ++ rest) (length front + k) ≡ field n rest k
-field_behind n front rest k = ap (little_number n) (sym (drop-drop k (length front) (front ++ rest)) ∙ ap (drop k) (drop_at front rest (length front) refl))
+-- a field after a front
+field_after : (n : ℕ) (front rest : List ℕ) (k : ℕ) → field n (front ++ rest) (length front + k) ≡ field n rest k
+field_after n front rest k = ap (little_number n) (sym (drop-drop k (length front) (front ++ rest)) ∙ ap (drop k) (drop_at front rest (length front) refl))
 
 module _ (s : PlacedSection) (rest : List ℕ) where
   size_there : s.parts.size < 2 ^ 32 → field 4 (section_fields s ++ rest) 0 ≡ s.parts.size
@@ -61,13 +61,13 @@ abbrev pub headers_read : List PlacedSection → List SectionHeader
 headers_read [] = []
 headers_read (s ∷ ss) = record { size = s.parts.size; address = s.address; raw_size = raw_size s.parts; raw_at = s.raw_at; flags = s.parts.flags } ∷ headers_read ss
 
--- a row of the section table, behind a front
+-- a row of the section table, after a front
 module _ (s : PlacedSection) (fits : IsSection s.parts) (size : s.parts.size < 2 ^ 32) (address : s.address < 2 ^ 32) (raw : raw_size s.parts < 2 ^ 32) (raw_at : s.raw_at < 2 ^ 32) (front rest : List ℕ) where
   at_field : (k n : ℕ) → n ≡ 8 + k → field 4 (front ++ (section_header s ++ rest)) (length front + n) ≡ field 4 (section_fields s ++ rest) k
   at_field k n e =
       let split : front ++ (section_header s ++ rest) ≡ (front ++ s.parts.name) ++ (section_fields s ++ rest) = ap (λ (t : List ℕ). front ++ t) (append_assoc s.parts.name (section_fields s) rest) ∙ sym (append_assoc front s.parts.name (section_fields s ++ rest)) in
       let place : length front + n ≡ length (front ++ s.parts.name) + k = omega (arith, length-append front s.parts.name, fits.name) in
-      ap (λ (t : List ℕ). field 4 t (length front + n)) split ∙ ap (field 4 ((front ++ s.parts.name) ++ (section_fields s ++ rest))) place ∙ field_behind 4 (front ++ s.parts.name) (section_fields s ++ rest) k
+      ap (λ (t : List ℕ). field 4 t (length front + n)) split ∙ ap (field 4 ((front ++ s.parts.name) ++ (section_fields s ++ rest))) place ∙ field_after 4 (front ++ s.parts.name) (section_fields s ++ rest) k
 
   row_read : header_at (front ++ (section_header s ++ rest)) (length front) ≡ record { size = s.parts.size; address = s.address; raw_size = raw_size s.parts; raw_at = s.raw_at; flags = s.parts.flags }
   row_read =

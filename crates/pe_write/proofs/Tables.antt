@@ -25,7 +25,7 @@ pub tables_length : (r : ℕ) → length (import_tables r) ≡ 222
 unfolding import_tables descriptor hint_name u32 u64 zeros
 tables_length r = refl
 
--- ---- what stands in the tables
+-- ---- what the tables hold
 
 abbrev there : ℕ → ℕ → ℕ → Option (List ℕ)
 there r k n = whole n (take n (drop k (import_tables r)))

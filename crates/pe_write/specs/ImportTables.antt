@@ -25,7 +25,7 @@ services = RaiseException ∷ CSpecificHandler ∷ LocalUnwind ∷ Protect ∷ P
 
 -- ---- where each table lies in `.rdata`
 
--- behind two descriptors
+-- after two descriptors
 abbrev pub lookups_at : ℕ → ℕ
 lookups_at at = at + 40
 
@@ -60,7 +60,7 @@ hint_name s = zeros 2 ++ name_of s ++ zeros (1 + (length (name_of s) + 1) % 2)
 abbrev pub hint_name_size : Service → ℕ
 hint_name_size s = 3 + length (name_of s) + (length (name_of s) + 1) % 2
 
--- the address of each name, of which the first stands there, and 0
+-- the address of each name, of which the first is there, and 0
 abbrev pub addresses : ℕ → List Service → List ℕ
 addresses at [] = u64 0
 addresses at (s ∷ ss) = u64 at ++ addresses (at + hint_name_size s) ss
@@ -85,7 +85,7 @@ import_tables at =
 
 -- ---- what is read of them
 
--- each name with its slot, of which the first stands there
+-- each name with its slot, of which the first is there
 abbrev pub imported : ℕ → List Service → List Import
 imported slot [] = []
 imported slot (s ∷ ss) = record { name = name_of s; slot = slot } ∷ imported (slot + 8) ss

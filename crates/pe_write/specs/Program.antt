@@ -16,7 +16,7 @@ pub record Program : Type 0 where
   pub xdata : List ℕ
   pub pdata : List ℕ
 
--- ---- where its sections lie: each behind the pages of the one before
+-- ---- where its sections lie: each after the pages of the one before
 
 abbrev pub data_at : ℕ
 data_at = 0x1000

@@ -44,7 +44,7 @@ abbrev pub placed : ℕ → ℕ → List SectionParts → List PlacedSection
 placed address raw_at [] = []
 placed address raw_at (s ∷ ss) = record { parts = s; address = address; raw_at = raw_at } ∷ placed (address + pages s.size) (raw_at + raw_size s) ss
 
--- behind the page of the headers and those of the sections
+-- after the page of the headers and those of the sections
 abbrev pub end_of : List SectionParts → ℕ
 end_of ss = 0x1000 + sum_by (λ s. pages s.size) ss
 

@@ -62,7 +62,7 @@ impl Model for Image {
 impl Image {
     /// The image of a program whose data takes `data_size` bytes, whole pages and at least one, of
     /// which `data_bytes` are stored and the others are 0; whose code `text` it begins `entry` bytes
-    /// behind its front; and whose unwind infos are `xdata` and its function table `pdata`. All
+    /// after its front; and whose unwind infos are `xdata` and its function table `pdata`. All
     /// addresses in it are below 2^32.
     pub fn new(
         data_size: u32,
@@ -178,8 +178,10 @@ impl Image {
 pub fn write(alloc: Global, image: &Image) -> Result<Vec<u8>, AllocError>
     ensures written { IfOk result (λ bytes. bytes.items ≡ written (spec.parts_of image.now)) }
     ensures read_again { IfOk result (λ bytes. IsImage bytes.items (spec.image_of image.now)) }
-    ensures small { IfOk result (λ bytes. length bytes.items ≤ spec.end_at (spec.sizes_of image.now)) }
-    ensures imported { OnOk result (imports (spec.image_of image.now) ≡ Ok (spec.imports_of image.now)) }
+    ensures small { IfOk result
+        (λ bytes. length bytes.items ≤ spec.end_at (spec.sizes_of image.now)) }
+    ensures imported { OnOk result
+        (imports (spec.image_of image.now) ≡ Ok (spec.imports_of image.now)) }
 {
     let tables = import_tables(alloc, image.sizes().rdata_at() as u32)?;
     let sections = image.sections(alloc, &tables)?;

@@ -14,7 +14,7 @@ const LIBRARY: &[u8] = b"sehhost.dll";
 /// How many bytes the tables take.
 pub const TABLES_SIZE: u32 = 222;
 
-/// How far the names, with their hints, lie behind the beginning of the tables.
+/// How far the names, with their hints, lie after the beginning of the tables.
 const NAMES: u32 = 136;
 
 /// How many bytes the name of a service takes, with its hint and filled up.
@@ -36,7 +36,7 @@ fn put_hint_name(out: &mut Vec<u8>, service: Service) -> Result<(), AllocError>
     put_zeros(out, 1 + (name.len() + 1) % 2)
 }
 
-/// Writes where the name of each service stands, of which the first stands there, and 0.
+/// Writes where the name of each service is, of which the first is there, and 0.
 fn put_addresses(out: &mut Vec<u8>, services: &[Service], first: u32) -> Result<(), AllocError>
     requires { length services.now < 2 ^ 16 }
     ensures { OnOk result (out.new.items ≡ out.old.items ++ spec.addresses first services.now) }

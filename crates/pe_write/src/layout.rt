@@ -7,7 +7,7 @@ ghost use Rattle.pe_write.specs.Written as spec;
 use crate::parts::ImageSection;
 use std::alloc::AllocError;
 
-/// Where an image ends, behind the page of its headers and those of its sections.
+/// Where an image ends, after the page of its headers and those of its sections.
 pub fn end_of(sections: &[ImageSection<'_>]) -> u64
     requires { spec.end_of sections.now < 2 ^ 32 }
     ensures { result ≡ spec.end_of sections.now }

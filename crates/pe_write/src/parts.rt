@@ -24,12 +24,17 @@ impl<'a> Model for ImageSection<'a> {
 
     ghost Value = { SectionParts };
 
-    ghost view = { λ s. record { name = s.name; flags = s.flags; size = s.size; bytes = s.bytes.now } };
+    ghost view = { λ s. record {
+      name = s.name;
+      flags = s.flags;
+      size = s.size;
+      bytes = s.bytes.now;
+    } };
 }
 
 impl<'a> ImageSection<'a> {
     /// A section of that name and those characteristics (PE format, "Section Flags"). It takes
-    /// `size` bytes in the image: `bytes` and behind them zeros.
+    /// `size` bytes in the image: `bytes` and after them zeros.
     pub fn new(name: [u8; 8], flags: u32, size: u32, bytes: &'a [u8]) -> ImageSection<'a>
         ensures { result ≡ record { name = name; flags = flags; size = size; bytes = bytes.now } }
     {
@@ -64,8 +69,8 @@ impl<'a> ImageSection<'a> {
     #[tactic(auto, unfolding(crate::specs::Written::section_fields), using(crate::proofs::Pieces::pieces))]
     pub fn put_header(&self, out: &mut Vec<u8>, address: u32, raw_at: u32) -> Result<(), AllocError>
         requires { spec.raw_size self.now < 2 ^ 32 }
-        ensures { OnOk result (out.new.items ≡ out.old.items
-            ++ spec.section_header (record { parts = self.now; address = address; raw_at = raw_at })) }
+        ensures { OnOk result (out.new.items ≡ out.old.items ++ spec.section_header
+            (record { parts = self.now; address = address; raw_at = raw_at })) }
     {
         out.extend_from_slice(&self.name)?;
         put_u32(out, self.size)?;

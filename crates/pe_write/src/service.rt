@@ -10,7 +10,7 @@ use host_layout::name;
 pub enum Service {
     /// Raises an exception.
     RaiseException,
-    /// The language handler of C, by which `__try` is told in the tables for unwinding.
+    /// The language handler of C, which the tables for unwinding name at each `__try`.
     CSpecificHandler,
     /// Unwinds within a function.
     LocalUnwind,
@@ -43,7 +43,7 @@ impl Service {
         }
     }
 
-    /// How far its slot, of eight bytes, lies behind the beginning of `.rdata`.
+    /// How far its slot, of eight bytes, lies after the beginning of `.rdata`.
     pub fn slot(&self) -> u32
         ensures value { result ≡ spec.slot_of self.now }
         ensures fits { result < 256 }

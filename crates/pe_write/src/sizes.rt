@@ -7,8 +7,8 @@ ghost use Rattle.pe_write.specs.Written as written;
 use crate::import_tables::TABLES_SIZE;
 
 /// How many bytes those sections of an image take whose sizes differ from program to program. They
-/// say where each of the five sections lies, relative to the image base: `.data` behind the page of
-/// the headers, and each other one behind the pages of the one before.
+/// say where each of the five sections lies, relative to the image base: `.data` after the page of
+/// the headers, and each other one after the pages of the one before.
 #[derive(Clone, Copy, Debug, PartialEq, Eq)]
 pub struct Sizes {
     /// `.data`.

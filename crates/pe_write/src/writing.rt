@@ -10,7 +10,7 @@ use pe_image::DataDirectory;
 use std::alloc::{AllocError, Global};
 use std::marker::Model;
 
-/// Where every image that is written stands in memory.
+/// Where every image that is written lies in memory.
 const IMAGE_BASE: u64 = 0x1_4000_0000;
 
 /// An image to be written, section by section.
@@ -47,8 +47,8 @@ impl<'a> Model for SectionedImage<'a> {
 
 impl<'a> SectionedImage<'a> {
     /// An image with that entry point, those sections in their order, and those directories, of
-    /// which one of size 0 stands for none. All addresses are relative to the image base. The first
-    /// section lies at 0x1000, and each other one on the next page behind the one before. There are
+    /// which one of size 0 means none. All addresses are relative to the image base. The first
+    /// section lies at 0x1000, and each other one on the next page after the one before. There are
     /// at most 17, so that the headers take 1,024 bytes, and all addresses are below 2^32.
     pub fn new(
         entry: u32,

@@ -24,7 +24,7 @@ traced : text (Filter 1 ∷ Answer (negsuc 0) ∷ Finally 20 true ∷ Finally 3 
 unfolding digits fed
 traced = refl
 
--- the access stands in the line of an access violation alone
+-- the access is in the line of an access violation alone
 raises : text (Raise (record { 0 = 0xC000_0005 }) false (Some (true, 0x7000_0000)) ∷ Raise (record { 0 = 0xC000_0005 }) false (Some (false, 0x0012_3456_789A_BCDE)) ∷ Raise (record { 0 = 0xC000_0005 }) true None ∷ Raise (record { 0 = 0xE000_0001 }) true (Some (true, 16)) ∷ Except (record { 0 = 0xE000_0001 }) ∷ []) (Unhandled (record { 0 = 0xC000_0094 })) true
     ≡ fed (codes "raise C0000005 0 write 0000000070000000") ++ fed (codes "raise C0000005 0 read 00123456789ABCDE") ++ fed (codes "raise C0000005 1") ++ fed (codes "raise E0000001 1") ++ fed (codes "except E0000001") ++ fed (codes "unhandled C0000094")
 unfolding digits hexadecimal fed

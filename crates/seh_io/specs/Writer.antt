@@ -34,6 +34,10 @@ pub record Wrote (old : Writer) (text : List ℕ) (new : Writer) : Type 0 where
   pub faults : old.faults ≤ new.faults
   pub counted : Counts (old.count + length part) new.count
 
+-- what became of a text that a `Lines` was given, over a sink of which `taken` and `faults` tell
+abbrev pub PutText : {X : Type 0} → (X → Option (List ℕ)) → (X → ℕ) → Lines X → List ℕ → Lines X → Type 0
+PutText taken faults old text new = Wrote (writer_of taken faults old) text (writer_of taken faults new)
+
 -- what a receiver that writes lines did with events: it wrote their lines, and is the same otherwise
 pub record TookEvents {X : Type 0} (taken : X → Option (List ℕ)) (faults : X → ℕ) (old : Lines X) (events : List Event) (new : Lines X) : Type 0 where
   pub wrote : Wrote (writer_of taken faults old) (lines old.trace events) (writer_of taken faults new)

@@ -39,8 +39,10 @@ impl Plan {
 
     /// Counts a call, which fails where the plan has its number: that is a fault.
     fn call(&mut self) -> Result<(), Failed>
-        ensures fails { is_err result ≡ is_among self.old.failing.items (next_count self.old.calls) }
-        ensures counted { OnOk result (self.new ≡ record self.old { calls = next_count self.old.calls }) }
+        ensures fails { is_err result
+            ≡ is_among self.old.failing.items (next_count self.old.calls) }
+        ensures counted { OnOk result
+            (self.new ≡ record self.old { calls = next_count self.old.calls }) }
         ensures fault { OnErr result (self.new ≡ record self.old {
           calls = next_count self.old.calls;
           faults = next_count self.old.faults;
@@ -97,12 +99,15 @@ impl Source for MemSource {
     /// A call that isn't to fail gives as many bytes as are left, as `buf` has room for and as the plan
     /// allows.
     fn read(&mut self, buf: &mut [u8]) -> Result<usize, Failed>
-        ensures fails { is_err result ≡ is_among self.old.plan.failing.items (next_count self.old.plan.calls) }
-        ensures count { IfOk result (λ n. n ≡
-            min (min (vec_len self.old.bytes - self.old.given) (length buf.old)) self.old.plan.most) }
-        ensures moved { IfOk result (λ n. Lost (Some (drop self.old.given self.old.bytes.items)) (take n buf.new)
+        ensures fails { is_err result
+            ≡ is_among self.old.plan.failing.items (next_count self.old.plan.calls) }
+        ensures count { IfOk result (λ n. n ≡ min
+            (min (vec_len self.old.bytes - self.old.given) (length buf.old)) self.old.plan.most) }
+        ensures moved { IfOk result (λ n. Lost
+            (Some (drop self.old.given self.old.bytes.items)) (take n buf.new)
             (Some (drop self.new.given self.new.bytes.items))) }
-        ensures end { result ≡ Ok 0 → 0 < length buf.old → drop self.old.given self.old.bytes.items ≡ [] }
+        ensures end { result ≡ Ok 0 → 0 < length buf.old
+            → drop self.old.given self.old.bytes.items ≡ [] }
         ensures kept { OnErr result
             (drop self.new.given self.new.bytes.items ≡ drop self.old.given self.old.bytes.items) }
         ensures counted { OnOk result
@@ -148,9 +153,11 @@ impl Sink for MemSink {
 
     /// A call that isn't to fail takes as many bytes as `piece` has and as the plan allows.
     fn write(&mut self, piece: &[u8]) -> Result<usize, Failed>
-        ensures fails { IsTrue (is_among self.old.plan.failing.items (next_count self.old.plan.calls)) → IsErr result }
+        ensures fails { IsTrue (is_among self.old.plan.failing.items
+            (next_count self.old.plan.calls)) → IsErr result }
         ensures count { IfOk result (λ n. n ≡ min (length piece.now) self.old.plan.most) }
-        ensures moved { IfOk result (λ n. self.new.bytes.items ≡ self.old.bytes.items ++ take n piece.now) }
+        ensures moved { IfOk result
+            (λ n. self.new.bytes.items ≡ self.old.bytes.items ++ take n piece.now) }
         ensures kept { OnErr result (self.new.bytes.items ≡ self.old.bytes.items) }
         ensures counted { OnOk result
             (self.new.plan ≡ record self.old.plan { calls = next_count self.old.plan.calls }) }

@@ -4,7 +4,7 @@ ghost use Rattle.std.specs.Prelude.{◌≡◌, ℕ, ◌≤◌, List, [], ◌∷�
 ghost use Rattle.seh_num.specs.declared.event.Event.{Event as Event'};
 ghost use Rattle.seh_io.specs.Streams.{Rose, Grew};
 ghost use Rattle.seh_io.specs.Text.{line, end_line, lines, text};
-ghost use Rattle.seh_io.specs.Writer.{Wrote, writer_of, TookPart, TookEvents, took_none, took_more, Kept, kept_none, kept_more};
+ghost use Rattle.seh_io.specs.Writer.{PutText, TookPart, TookEvents, took_none, took_more, Kept, kept_none, kept_more};
 
 use crate::sink::Sink;
 use crate::text::{end_line, event_line};
@@ -25,7 +25,8 @@ pub trait Events {
 
     ghost none: { (x : Self) → took x [] x };
 
-    ghost more: { (x y z : Self) (es fs : List Event') → took x es y → took y fs z → took x (es ++ fs) z };
+    ghost more: { (x y z : Self) (es fs : List Event') → took x es y → took y fs z
+        → took x (es ++ fs) z };
 }
 
 /// Gives the events of a list to a receiver, in order.
@@ -83,7 +84,7 @@ impl<'a, O: Sink> Lines<'a, O> {
     pub fn put(&mut self, piece: &[u8])
         ensures same_reference { self.new.sink.ghost_name ≡ self.old.sink.ghost_name }
         ensures trace { self.new.trace ≡ self.old.trace }
-        ensures wrote { Wrote (writer_of O.taken O.faults self.old) piece.now (writer_of O.taken O.faults self.new) }
+        ensures wrote { PutText O.taken O.faults self.old piece.now self.new }
     {
         if self.failed {
             return;
@@ -113,8 +114,7 @@ impl<'a, O: Sink> Lines<'a, O> {
     pub fn end(&mut self, end: &RunEnd) -> Result<(), WriteFault>
         ensures same_reference { self.new.sink.ghost_name ≡ self.old.sink.ghost_name }
         ensures trace { self.new.trace ≡ self.old.trace }
-        ensures wrote { Wrote (writer_of O.taken O.faults self.old) (end_line end.now)
-            (writer_of O.taken O.faults self.new) }
+        ensures wrote { PutText O.taken O.faults self.old (end_line end.now) self.new }
         ensures outcome { MatchResult result (λ _. self.new.failed ≡ false)
             (λ e. (self.new.failed ≡ true) × (e.taken ≡ self.new.taken)) }
     {
@@ -146,9 +146,11 @@ pub fn put_text<O: Sink>(
     events: &[Event],
     end: &RunEnd,
 ) -> Result<(), WriteFault>
-    ensures ok { OnOk result (Grew (O.taken sink.old) (text events.now end.now trace) (O.taken sink.new)) }
+    ensures ok { OnOk result
+        (Grew (O.taken sink.old) (text events.now end.now trace) (O.taken sink.new)) }
     ensures part { IfErr result
-        (λ e. TookPart (O.taken sink.old) (text events.now end.now trace) (O.taken sink.new) e.taken) }
+        (λ e. TookPart (O.taken sink.old) (text events.now end.now trace)
+        (O.taken sink.new) e.taken) }
     ensures cause { OnErr result (Rose (O.faults sink.old) (O.faults sink.new)) }
     ensures faults { O.faults sink.old ≤ O.faults sink.new }
 {
@@ -183,7 +185,8 @@ impl Events for EventList {
 
     ghost none = { λ x. kept_none x.lacks x.events.items };
 
-    ghost more = { λ x y z es fs p q. kept_more x.lacks y.lacks z.lacks x.events.items y.events.items z.events.items es fs p q };
+    ghost more = { λ x y z es fs p q. kept_more x.lacks y.lacks z.lacks
+        x.events.items y.events.items z.events.items es fs p q };
 
     fn take(&mut self, event: &Event) {
         // A list that lacks an event takes no later one, so that it has no gap.

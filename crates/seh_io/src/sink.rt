@@ -20,8 +20,10 @@ pub trait Sink {
     /// then no byte was taken. 0 of a piece with bytes is a fault too.
     fn write(&mut self, piece: &[u8]) -> Result<usize, Failed>
         ensures fits { IfOk result (λ n. n ≤ length piece.now) }
-        ensures moved { IfOk result (λ n. Grew (taken self.old) (take n piece.now) (taken self.new)) }
-        ensures none { result ≡ Ok 0 → 0 < length piece.now → Rose (faults self.old) (faults self.new) }
+        ensures moved { IfOk result
+            (λ n. Grew (taken self.old) (take n piece.now) (taken self.new)) }
+        ensures none { result ≡ Ok 0 → 0 < length piece.now
+            → Rose (faults self.old) (faults self.new) }
         ensures kept { OnErr result (taken self.new ≡ taken self.old) }
         ensures cause { OnErr result (Rose (faults self.old) (faults self.new)) }
         ensures faults { faults self.old ≤ faults self.new };

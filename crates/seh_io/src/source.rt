@@ -24,7 +24,8 @@ pub trait Source {
     fn read(&mut self, buf: &mut [u8]) -> Result<usize, Failed>
         ensures fits { IfOk result (λ n. n ≤ length buf.old) }
         ensures moved { IfOk result (λ n. Lost (left self.old) (take n buf.new) (left self.new)) }
-        ensures end { result ≡ Ok 0 → 0 < length buf.old → ForSome (left self.old) (λ all. all ≡ []) }
+        ensures end { result ≡ Ok 0 → 0 < length buf.old
+            → ForSome (left self.old) (λ all. all ≡ []) }
         ensures kept { OnErr result (left self.new ≡ left self.old) }
         ensures cause { OnErr result (Rose (faults self.old) (faults self.new)) }
         ensures faults { faults self.old ≤ faults self.new };

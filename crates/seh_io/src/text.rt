@@ -160,7 +160,8 @@ pub fn end_line(end: &RunEnd) -> Line
 /// Writes an event's line, or nothing for an event other than `Put` without a trace.
 pub fn put_event<O: Sink>(sink: &mut O, trace: bool, event: &Event) -> Result<(), WriteFault>
     ensures ok { OnOk result (Grew (O.taken sink.old) (line trace event.now) (O.taken sink.new)) }
-    ensures part { IfErr result (λ e. Grew (O.taken sink.old) (take e.taken (line trace event.now)) (O.taken sink.new)) }
+    ensures part { IfErr result
+        (λ e. Grew (O.taken sink.old) (take e.taken (line trace event.now)) (O.taken sink.new)) }
     ensures short { IfErr result (λ e. e.taken < length (line trace event.now)) }
     ensures cause { OnErr result (Rose (O.faults sink.old) (O.faults sink.new)) }
     ensures faults { O.faults sink.old ≤ O.faults sink.new }
@@ -171,7 +172,8 @@ pub fn put_event<O: Sink>(sink: &mut O, trace: bool, event: &Event) -> Result<()
 /// Writes the last line of a run's text.
 pub fn put_end<O: Sink>(sink: &mut O, end: &RunEnd) -> Result<(), WriteFault>
     ensures ok { OnOk result (Grew (O.taken sink.old) (end_line end.now) (O.taken sink.new)) }
-    ensures part { IfErr result (λ e. Grew (O.taken sink.old) (take e.taken (end_line end.now)) (O.taken sink.new)) }
+    ensures part { IfErr result
+        (λ e. Grew (O.taken sink.old) (take e.taken (end_line end.now)) (O.taken sink.new)) }
     ensures short { IfErr result (λ e. e.taken < length (end_line end.now)) }
     ensures cause { OnErr result (Rose (O.faults sink.old) (O.faults sink.new)) }
     ensures faults { O.faults sink.old ≤ O.faults sink.new }

@@ -16,7 +16,8 @@ pub struct WriteFault {
 /// After a fault the sink has taken the first `taken` bytes of the piece, and not all of them.
 pub fn put_all<O: Sink>(sink: &mut O, piece: &[u8]) -> Result<(), WriteFault>
     ensures ok { OnOk result (Grew (O.taken sink.old) piece.now (O.taken sink.new)) }
-    ensures part { IfErr result (λ e. Grew (O.taken sink.old) (take e.taken piece.now) (O.taken sink.new)) }
+    ensures part { IfErr result
+        (λ e. Grew (O.taken sink.old) (take e.taken piece.now) (O.taken sink.new)) }
     ensures short { IfErr result (λ e. e.taken < length piece.now) }
     ensures cause { OnErr result (Rose (O.faults sink.old) (O.faults sink.new)) }
     ensures faults { O.faults sink.old ≤ O.faults sink.new }

@@ -18,7 +18,7 @@ joined a b c d p q = ap (λ t. t ++ b) p ∙ ap (λ t. c ++ t) q
 pub two : (x y z : Writer) (a b : List ℕ) → Wrote x a y → Wrote y b z → Wrote x (a ++ b) z
 two x y z a b p q = wrote_more x y z a b p q
 
--- who writes the rest, behind a text that begins it, has written the whole
+-- who writes the rest, after a text that begins it, has written the whole
 pub then_rest : (x y z : Writer) (t u rest : List ℕ) → rest ≡ t ++ u → Wrote x t y → Wrote y u z → Wrote x rest z
 then_rest x y z t u rest e p q = same x z (t ++ u) rest (wrote_more x y z t u p q) (sym e)
 

@@ -59,7 +59,7 @@ code_line c = code_begin c ++ ended (operation_text c.operation)
 
 -- ---- scope records
 
--- a jump of 0 stands for a `__finally`, and a handler of 1 for a filter that always accepts
+-- a jump of 0 means a `__finally`, and a handler of 1 for a filter that always accepts
 abbrev pub filter_text : ℕ → List ℕ
 filter_text handler_address = if handler_address == 1 then codes " always" else codes " filter " ++ rva_text handler_address
 
@@ -148,7 +148,7 @@ abbrev pub entry_lines : ℕ → Result Entry TableErr → List ℕ
 entry_lines index (Ok e) = entry_line index e.range ++ info_lines e.info
 entry_lines index (Err e) = refused_line index e
 
--- from an index on, behind an entry that ends there
+-- from an index on, after an entry that ends there
 abbrev pub all_lines : Image → ℕ → ℕ → List RuntimeFunction → List ℕ
 all_lines image index last [] = []
 all_lines image index last (r ∷ rs) = entry_lines index (entry image index last r) ++ all_lines image (index + 1) r.end rs

@@ -34,7 +34,7 @@ pub fn register_name(register: u8) -> &'static [u8]
     }
 }
 
-/// A word and a number behind it.
+/// A word and a number after it.
 fn counted(word: &[u8], number: u64) -> Line
     requires { length word.now ≤ 8 }
     ensures value { result ≡ word.now ++ decimal number }

@@ -8,7 +8,7 @@ ghost use Rattle.table_view.specs.View as spec;
 use eh_tables::TableErr;
 use seh_io::line::Line;
 
-/// Adds a word and a number behind it.
+/// Adds a word and a number after it.
 fn put_counted(line: &mut Line, word: &[u8], number: u64)
     requires line { length line.old ≤ 29 }
     requires word { length word.now ≤ 11 }

@@ -4,7 +4,7 @@ ghost use Rattle.std.specs.Prelude.{◌≡◌, ◌≤◌, ◌<◌, ◌*◌, ◌+
 ghost use Rattle.std.specs.List.{flat_map};
 ghost use Rattle.hex.specs.Hex.{encode_lower};
 ghost use Rattle.seh_io.specs.Streams.{Rose, Grew};
-ghost use Rattle.seh_io.specs.Writer.{Wrote, writer_of, TookPart};
+ghost use Rattle.seh_io.specs.Writer.{PutText, TookPart};
 ghost use Rattle.table_view.specs.View as spec;
 
 use crate::code::{code_begin, code_end};
@@ -32,7 +32,7 @@ fn encode(bytes: &[u8], column: &mut [u8])
 /// A line of two parts, in one piece.
 fn put_joined<O: Sink>(out: &mut Lines<'_, O>, front: &Line, back: &Line)
     ensures same_reference { out.new.sink.ghost_name ≡ out.old.sink.ghost_name }
-    ensures wrote { Wrote (writer_of O.taken O.faults out.old) (front.now ++ back.now) (writer_of O.taken O.faults out.new) }
+    ensures wrote { PutText O.taken O.faults out.old (front.now ++ back.now) out.new }
 {
     let mut line: ArrayVec<u8, 128> = ArrayVec::new();
     // There is room for both, so that neither can be refused.
@@ -45,7 +45,7 @@ fn put_joined<O: Sink>(out: &mut Lines<'_, O>, front: &Line, back: &Line)
 fn put_bytes<O: Sink>(out: &mut Lines<'_, O>, bytes: &[u8])
     requires { length bytes.now ≤ 516 }
     ensures same_reference { out.new.sink.ghost_name ≡ out.old.sink.ghost_name }
-    ensures wrote { Wrote (writer_of O.taken O.faults out.old) (spec.bytes_line bytes.now) (writer_of O.taken O.faults out.new) }
+    ensures wrote { PutText O.taken O.faults out.old (spec.bytes_line bytes.now) out.new }
 {
     let mut line = [0; 1040];
     let end = 7 + 2 * bytes.len();
@@ -58,7 +58,8 @@ fn put_bytes<O: Sink>(out: &mut Lines<'_, O>, bytes: &[u8])
 /// The lines of unwind codes.
 fn put_codes<O: Sink>(out: &mut Lines<'_, O>, info: &Info<'_>)
     ensures same_reference { out.new.sink.ghost_name ≡ out.old.sink.ghost_name }
-    ensures wrote { Wrote (writer_of O.taken O.faults out.old) (flat_map spec.code_line info.now.codes) (writer_of O.taken O.faults out.new) }
+    ensures wrote { PutText O.taken O.faults out.old
+        (flat_map spec.code_line info.now.codes) out.new }
 {
     for code in info.codes() {
         put_joined(out, &code_begin(&code), &code_end(&code));
@@ -68,7 +69,7 @@ fn put_codes<O: Sink>(out: &mut Lines<'_, O>, info: &Info<'_>)
 /// The lines of scope records.
 fn put_scopes<O: Sink>(out: &mut Lines<'_, O>, info: &Info<'_>)
     ensures same_reference { out.new.sink.ghost_name ≡ out.old.sink.ghost_name }
-    ensures wrote { Wrote (writer_of O.taken O.faults out.old) (spec.scope_lines 0 info.now.scopes) (writer_of O.taken O.faults out.new) }
+    ensures wrote { PutText O.taken O.faults out.old (spec.scope_lines 0 info.now.scopes) out.new }
 {
     let mut number = 0;
     for row in info.scopes() {
@@ -80,8 +81,7 @@ fn put_scopes<O: Sink>(out: &mut Lines<'_, O>, info: &Info<'_>)
 /// The line of the entry that an info is chained to.
 fn put_parent<O: Sink>(out: &mut Lines<'_, O>, info: &Info<'_>)
     ensures same_reference { out.new.sink.ghost_name ≡ out.old.sink.ghost_name }
-    ensures wrote { Wrote (writer_of O.taken O.faults out.old)
-        (spec.parent_line info.now.parent) (writer_of O.taken O.faults out.new) }
+    ensures wrote { PutText O.taken O.faults out.old (spec.parent_line info.now.parent) out.new }
 {
     match info.parent() {
         Some(range) => out.put(chain_line(range).as_bytes()),
@@ -92,8 +92,8 @@ fn put_parent<O: Sink>(out: &mut Lines<'_, O>, info: &Info<'_>)
 /// The line of its handler.
 fn put_handler<O: Sink>(out: &mut Lines<'_, O>, info: &Info<'_>)
     ensures same_reference { out.new.sink.ghost_name ≡ out.old.sink.ghost_name }
-    ensures wrote { Wrote (writer_of O.taken O.faults out.old)
-        (spec.handler_line info.now.has_c_handler info.now.handler) (writer_of O.taken O.faults out.new) }
+    ensures wrote { PutText O.taken O.faults out.old
+        (spec.handler_line info.now.has_c_handler info.now.handler) out.new }
 {
     match info.handler() {
         Some(rva) => out.put(handler_line(info.has_c_handler(), rva).as_bytes()),
@@ -104,7 +104,7 @@ fn put_handler<O: Sink>(out: &mut Lines<'_, O>, info: &Info<'_>)
 /// The lines of an info.
 fn put_info<O: Sink>(out: &mut Lines<'_, O>, info: &Info<'_>)
     ensures same_reference { out.new.sink.ghost_name ≡ out.old.sink.ghost_name }
-    ensures wrote { Wrote (writer_of O.taken O.faults out.old) (spec.info_lines info.now) (writer_of O.taken O.faults out.new) }
+    ensures wrote { PutText O.taken O.faults out.old (spec.info_lines info.now) out.new }
 {
     put_bytes(out, info.bytes());
     put_joined(out, &prolog_text(info), &frame_line(info));
@@ -117,7 +117,7 @@ fn put_info<O: Sink>(out: &mut Lines<'_, O>, info: &Info<'_>)
 /// The lines of an entry, or the one of its refusal.
 fn put_entry<O: Sink>(out: &mut Lines<'_, O>, index: u64, entry: &Result<Entry<'_>, TableErr>)
     ensures same_reference { out.new.sink.ghost_name ≡ out.old.sink.ghost_name }
-    ensures wrote { Wrote (writer_of O.taken O.faults out.old) (spec.entry_lines index entry.now) (writer_of O.taken O.faults out.new) }
+    ensures wrote { PutText O.taken O.faults out.old (spec.entry_lines index entry.now) out.new }
 {
     match entry {
         Ok(entry) => {
@@ -131,8 +131,8 @@ fn put_entry<O: Sink>(out: &mut Lines<'_, O>, index: u64, entry: &Result<Entry<'
 /// The lines of all entries.
 fn put_entries<O: Sink>(out: &mut Lines<'_, O>, tables: &Tables<'_, '_>)
     ensures same_reference { out.new.sink.ghost_name ≡ out.old.sink.ghost_name }
-    ensures wrote { Wrote (writer_of O.taken O.faults out.old)
-        (spec.all_lines tables.now.image 0 0 tables.now.ranges) (writer_of O.taken O.faults out.new) }
+    ensures wrote { PutText O.taken O.faults out.old
+        (spec.all_lines tables.now.image 0 0 tables.now.ranges) out.new }
 {
     for index in 0..tables.len() {
         put_entry(out, index, &tables.entry(index));
@@ -142,7 +142,7 @@ fn put_entries<O: Sink>(out: &mut Lines<'_, O>, tables: &Tables<'_, '_>)
 /// The lines of the whole table.
 fn put_table<O: Sink>(out: &mut Lines<'_, O>, image: &ImageView<'_>)
     ensures same_reference { out.new.sink.ghost_name ≡ out.old.sink.ghost_name }
-    ensures wrote { Wrote (writer_of O.taken O.faults out.old) (spec.view image.now) (writer_of O.taken O.faults out.new) }
+    ensures wrote { PutText O.taken O.faults out.old (spec.view image.now) out.new }
 {
     match Tables::of(image) {
         Ok(tables) => {
@@ -159,7 +159,7 @@ fn put_table<O: Sink>(out: &mut Lines<'_, O>, image: &ImageView<'_>)
 /// Writes the view of an image's function table, line by line. An entry that is refused is one line.
 ///
 /// After a fault the sink has taken a part of the text from the front, of `taken` bytes; that count
-/// stands still at 2^64 - 1.
+/// stays at 2^64 - 1.
 pub fn view<O: Sink>(image: &ImageView<'_>, sink: &mut O) -> Result<(), WriteFault>
     ensures ok { OnOk result (Grew (O.taken sink.old) (spec.view image.now) (O.taken sink.new)) }
     ensures part { IfErr result

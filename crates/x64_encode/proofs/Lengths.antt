@@ -92,7 +92,7 @@ immediate_most W64 = omega arith
 modrm_most : (w : Width) (op : Opcode) (r : ℕ) (at : RegisterOrMemory) → length (modrm w op r at) ≤ 15
 modrm_most w op r at = omega (arith, modrm_length w op r at)
 
--- with a number behind it
+-- with a number after it
 modrm_more : (w : Width) (op : Opcode) (r : ℕ) (at : RegisterOrMemory) (n v : ℕ) → n ≤ 4 → length (modrm w op r at ++ little n v) ≤ 15
 modrm_more w op r at n v h = let a = length-append (modrm w op r at) (little n v) in let b = length-little n v in let c = modrm_length w op r at in omega arith
 

@@ -1,4 +1,4 @@
--- Prefixes, opcodes and the operands behind them, as they are written, are read again.
+-- Prefixes, opcodes and the operands after them, as they are written, are read again.
 use Rattle.std.proofs.Common.{◌≡◌, ◌≢◌, ℕ, ◌+◌, ◌*◌, ◌/◌, ◌%◌, ◌<◌, Bool, true, false, not, cond, eqb, List, [], ◌∷◌, ◌++◌, Some, None, refl, sym, ap, ◌∙◌, append_assoc, arith, eq-eqb}
 use Rattle.std.proofs.lemmas.Bool.{ne_eqb, eqb-true, not-false}
 use Rattle.std.specs.Prelude.{◌&&◌}

@@ -35,7 +35,7 @@ use Rattle.x64_encode.specs.Chosen.{little, is_signed, wide, has_rex, place_byte
 use Rattle.x64_encode.proofs.Operands.{read_as, number_small, number_little, signed_little, high_small}
 use Rattle.x64_encode.proofs.OpcodesAgain.{is_word, read_prefixes, wide_small, width_read, modrm_prefixes, open_one, open_two, width_is, bits_top, digit_read, operands_read, listed, r_rm_read, rm_digit_read, IsOpcode, rm_r_again, r_rm_again, rm_digit_again, register_prefixes, open_register, lowest_read, push_row, pop_row, immediate_row, row_move, row_load, row_test, row_move_number, row_arithmetic_number, third, row_third, row_arithmetic, from_memory, row_arithmetic_load, row_jump_if, row_set}
 
--- ---- numbers behind the operands
+-- ---- numbers after the operands
 
 -- what is false can't be true
 impossible : {A : Type 0} → false ≡ true → A
@@ -186,7 +186,7 @@ again_arithmetic o w to r more ok = rm_r_again w (8 * opcode_extension o) more (
 
 -- ---- instructions of 32 and 64 bits
 
--- what stands after an opcode without 66
+-- what follows an opcode without 66
 module _ (w : Width) (op : ℕ) (more : List ℕ) (size : op ≢ 0x66) (rex : op / 16 ≢ 4) (word : is_word w ≡ true) where
   wide_digit_again : (made : Width → ℕ → RegisterOrMemory → List ℕ → Read Instr) (d : ℕ) (at : RegisterOrMemory) → d < 8 → is_place at ≡ true
       → ((bits : ℕ) (bytes : List ℕ) → after_prefixes (read_prefixes w bits) op bytes ≡ rm_extension (read_prefixes w bits) (width_of (read_prefixes w bits)) (made (width_of (read_prefixes w bits))) bytes)

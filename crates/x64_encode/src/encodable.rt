@@ -2,6 +2,7 @@
 
 ghost use Rattle.std.specs.Prelude.{◌≡◌};
 ghost use Rattle.x64_encode.specs.Chosen as spec;
+ghost use Rattle.x64_instr.specs.Families.{IsMultiplyOrDivide};
 
 use crate::writing::is_signed;
 use seh_num::width::Width;
@@ -114,6 +115,24 @@ fn is_test(width: Width, first: RegisterOrMemory, second: Operand) -> bool
     }
 }
 
+/// Of an instruction that multiplies or divides.
+fn is_multiply_or_divide(instr: &Instr) -> bool
+    requires { IsMultiplyOrDivide instr.now }
+    ensures { result ≡ spec.is_encodable instr.now }
+{
+    match *instr {
+        Instr::Multiply { width, from, .. } => is_wide(width) && is_place(from),
+        Instr::MultiplyBy {
+            width,
+            from,
+            by,
+            ..
+        } => is_wide(width) && (is_place(from) && is_immediate(width, by)),
+        Instr::Divide { width, by, .. } => is_wide(width) && is_place(by),
+        _ => unreachable!(),
+    }
+}
+
 /// Whether some bytes spell the instruction.
 pub fn is_encodable(instr: &Instr) -> bool
     ensures { result ≡ spec.is_encodable instr.now }
@@ -140,15 +159,10 @@ pub fn is_encodable(instr: &Instr) -> bool
             first,
             second,
         } => is_test(width, first, second),
-        Instr::Multiply { width, from, .. } => is_wide(width) && is_place(from),
-        Instr::MultiplyBy {
-            width,
-            from,
-            by,
-            ..
-        } => is_wide(width) && (is_place(from) && is_immediate(width, by)),
+        Instr::Multiply { .. } | Instr::MultiplyBy { .. } | Instr::Divide { .. } => {
+            is_multiply_or_divide(instr)
+        }
         Instr::Unary { to, .. } => is_place(to),
-        Instr::Divide { width, by, .. } => is_wide(width) && is_place(by),
         Instr::ExtendRax { width } => is_wide(width),
         Instr::Shift { width, to, by, .. } => is_wide(width) && (is_place(to) && is_count(by)),
         Instr::Set { to, .. } => is_place(to),

@@ -6,7 +6,7 @@ ghost use Rattle.seh_num.specs.declared.width.Width.TheVariants.{W32};
 ghost use Rattle.seh_num.specs.Widths.{low};
 ghost use Rattle.x64_encode.specs.Chosen as spec;
 ghost use Rattle.x64_encode.specs.Chosen.{chosen, encoded_len, IsEncodable};
-ghost use Rattle.x64_instr.specs.Families.{IsMove, IsComputation, IsTransfer};
+ghost use Rattle.x64_instr.specs.Families.{IsMove, IsComputation, IsMultiplyOrDivide, IsTransfer};
 ghost use Rattle.x64_instr.specs.Spelling.{leading, IsEncoding};
 
 use crate::opcodes::{
@@ -292,6 +292,31 @@ fn put_move(instr: &Instr, into: &mut ArrayVec<u8, 15>)
     }
 }
 
+/// An instruction that multiplies or divides.
+fn put_multiply_or_divide(instr: &Instr, into: &mut ArrayVec<u8, 15>)
+    requires encodable { IsEncodable instr.now }
+    requires family { IsMultiplyOrDivide instr.now }
+    ensures { into.new.items ≡ chosen instr.now }
+{
+    match *instr {
+        Instr::Multiply { width, to, from } => {
+            put_modrm(into, width, Opcode::Two(0xAF), to.number(), from);
+        }
+        Instr::MultiplyBy {
+            width,
+            to,
+            from,
+            by,
+        } => encode_multiply_by(into, width, to, from, by),
+        Instr::Divide {
+            division,
+            width,
+            by,
+        } => encode_divide(into, division, width, by),
+        _ => unreachable!(),
+    }
+}
+
 /// An instruction that computes with the value of a place.
 fn put_computation(instr: &Instr, into: &mut ArrayVec<u8, 15>)
     requires encodable { IsEncodable instr.now }
@@ -310,31 +335,20 @@ fn put_computation(instr: &Instr, into: &mut ArrayVec<u8, 15>)
             first,
             second,
         } => encode_test(into, width, first, second),
-        Instr::Multiply { width, to, from } => {
-            put_modrm(into, width, Opcode::Two(0xAF), to.number(), from);
-        }
-        Instr::MultiplyBy {
-            width,
-            to,
-            from,
-            by,
-        } => encode_multiply_by(into, width, to, from, by),
         Instr::Unary {
             operation,
             width,
             to,
         } => encode_unary(into, operation, width, to),
-        Instr::Divide {
-            division,
-            width,
-            by,
-        } => encode_divide(into, division, width, by),
         Instr::Shift {
             direction,
             width,
             to,
             by,
         } => encode_shift(into, width, direction_opcode_extension(direction), to, by),
+        Instr::Multiply { .. } | Instr::MultiplyBy { .. } | Instr::Divide { .. } => {
+            put_multiply_or_divide(instr, into)
+        }
         _ => unreachable!(),
     }
 }
@@ -407,7 +421,8 @@ pub fn encode(instr: &Instr, into: &mut ArrayVec<u8, 15>)
 
 /// What is encoded is decoded to the same instruction and length, whatever follows.
 pub fn read_again()
-    ensures { (i : Instr) (more : List ℕ) → IsEncodable i → leading (chosen i ++ more) ≡ Some (i, encoded_len i) }
+    ensures { (i : Instr) (more : List ℕ) → IsEncodable i
+        → leading (chosen i ++ more) ≡ Some (i, encoded_len i) }
 {}
 
 /// No instruction takes more than 15 bytes.

@@ -161,7 +161,8 @@ fn put_at_register(
 )
     requires reg { reg < 8 }
     requires room { array_vec_len into.old + 6 ≤ 15 }
-    ensures items { into.new.items ≡ into.old.items ++ spec.at_register reg base index displacement }
+    ensures items { into.new.items
+        ≡ into.old.items ++ spec.at_register reg base index displacement }
     ensures len { array_vec_len into.new ≤ array_vec_len into.old + 6 }
 {
     let low = base.number() % 8;

@@ -22,6 +22,13 @@ IsComputation (instrs.Divide d w by) = Unit {0}
 IsComputation (instrs.Shift d w to by) = Unit {0}
 IsComputation i = ⊥
 
+-- those of them that multiply or divide
+abbrev pub IsMultiplyOrDivide : Instr → Type 0
+IsMultiplyOrDivide (instrs.Multiply w to from) = Unit {0}
+IsMultiplyOrDivide (instrs.MultiplyBy w to from v) = Unit {0}
+IsMultiplyOrDivide (instrs.Divide d w by) = Unit {0}
+IsMultiplyOrDivide i = ⊥
+
 -- those that jump, or take the stack's top
 abbrev pub IsTransfer : Instr → Type 0
 IsTransfer (instrs.JumpIf c d) = Unit {0}

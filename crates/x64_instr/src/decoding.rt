@@ -11,7 +11,8 @@ use crate::reading::byte;
 
 #[tactic(auto, unfolding(crate::specs::Spelling::after_prefixes))]
 fn after_prefixes(prefixes: Prefixes, opcode: u8, bytes: &[u8]) -> Option<(Instr, &[u8])>
-    ensures { option_map (λ x. (x.0, x.1.now)) result ≡ spec.after_prefixes prefixes opcode bytes.now }
+    ensures { option_map (λ x. (x.0, x.1.now)) result
+        ≡ spec.after_prefixes prefixes opcode bytes.now }
 {
     if opcode == 0x0F {
         let (second, rest) = byte(bytes)?;
@@ -22,7 +23,8 @@ fn after_prefixes(prefixes: Prefixes, opcode: u8, bytes: &[u8]) -> Option<(Instr
 
 #[tactic(auto, unfolding(crate::specs::Spelling::after_size))]
 fn after_size(operand_size: bool, first: u8, bytes: &[u8]) -> Option<(Instr, &[u8])>
-    ensures { option_map (λ x. (x.0, x.1.now)) result ≡ spec.after_size operand_size first bytes.now }
+    ensures { option_map (λ x. (x.0, x.1.now)) result
+        ≡ spec.after_size operand_size first bytes.now }
 {
     if first / 16 == 4 {
         let (opcode, rest) = byte(bytes)?;
@@ -56,9 +58,11 @@ fn instr(bytes: &[u8]) -> Option<(Instr, &[u8])>
 /// The instruction that the leading bytes spell, and how many bytes it takes; none where no leading
 /// bytes are a spelling. No more than 15 bytes are looked at.
 pub fn decode(bytes: &[u8]) -> Option<(Instr, usize)>
-    ensures found { IfSome result (λ x. (x.1 ≤ length bytes.now) × IsEncoding x.0 (take x.1 bytes.now)) }
+    ensures found { IfSome result
+        (λ x. (x.1 ≤ length bytes.now) × IsEncoding x.0 (take x.1 bytes.now)) }
     ensures exact { result ≡ spec.leading bytes.now }
-    ensures only { (i : Instr) (k : ℕ) → k ≤ length bytes.now → IsEncoding i (take k bytes.now) → result ≡ Some (i, k) }
+    ensures only { (i : Instr) (k : ℕ) → k ≤ length bytes.now → IsEncoding i (take k bytes.now)
+        → result ≡ Some (i, k) }
 {
     match instr(bytes) {
         None => None,
@@ -68,5 +72,6 @@ pub fn decode(bytes: &[u8]) -> Option<(Instr, usize)>
 
 /// No spelling begins another, and each spells one instruction.
 pub fn one_reading()
-    ensures { (i j : Instr) (a more : List ℕ) → IsEncoding i a → IsEncoding j (a ++ more) → (more ≡ []) × (i ≡ j) }
+    ensures { (i j : Instr) (a more : List ℕ) → IsEncoding i a → IsEncoding j (a ++ more)
+        → (more ≡ []) × (i ≡ j) }
 {}

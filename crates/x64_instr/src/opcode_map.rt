@@ -20,7 +20,8 @@ use seh_num::width::Width;
 /// TEST of a place with a register.
 fn test(prefixes: Prefixes, opcode: u8, bytes: &[u8]) -> Option<(Instr, &[u8])>
     ensures { option_map (λ x. (x.0, x.1.now)) result
-        ≡ spec.rm_r prefixes (sized prefixes opcode) (Instr.Test (sized prefixes opcode)) bytes.now }
+        ≡ spec.rm_r prefixes (sized prefixes opcode)
+        (Instr.Test (sized prefixes opcode)) bytes.now }
 {
     let width = prefixes.sized(opcode);
     let (first, second, rest) = rm_and_register(prefixes, width, width, bytes)?;
@@ -38,7 +39,8 @@ fn test(prefixes: Prefixes, opcode: u8, bytes: &[u8]) -> Option<(Instr, &[u8])>
 /// MOV of a register to a place.
 fn store(prefixes: Prefixes, opcode: u8, bytes: &[u8]) -> Option<(Instr, &[u8])>
     ensures { option_map (λ x. (x.0, x.1.now)) result
-        ≡ spec.rm_r prefixes (sized prefixes opcode) (Instr.Move (sized prefixes opcode)) bytes.now }
+        ≡ spec.rm_r prefixes (sized prefixes opcode)
+        (Instr.Move (sized prefixes opcode)) bytes.now }
 {
     let width = prefixes.sized(opcode);
     let (to, from, rest) = rm_and_register(prefixes, width, width, bytes)?;
@@ -48,7 +50,8 @@ fn store(prefixes: Prefixes, opcode: u8, bytes: &[u8]) -> Option<(Instr, &[u8])>
 
 /// MOV of a place to a register.
 fn load(prefixes: Prefixes, width: Width, bytes: &[u8]) -> Option<(Instr, &[u8])>
-    ensures { option_map (λ x. (x.0, x.1.now)) result ≡ spec.r_rm prefixes width width (spec.load width) bytes.now }
+    ensures { option_map (λ x. (x.0, x.1.now)) result
+        ≡ spec.r_rm prefixes width width (spec.load width) bytes.now }
 {
     let (from, to, rest) = rm_and_register(prefixes, width, width, bytes)?;
     let (to, from) = (RegisterOrMemory::Register(to), source(from));
@@ -77,7 +80,8 @@ fn sign_extend(prefixes: Prefixes, bytes: &[u8]) -> Option<(Instr, &[u8])>
 
 fn multiply(prefixes: Prefixes, bytes: &[u8]) -> Option<(Instr, &[u8])>
     ensures { option_map (λ x. (x.0, x.1.now)) result
-        ≡ spec.r_rm prefixes (width_of prefixes) (width_of prefixes) (Instr.Multiply (width_of prefixes)) bytes.now }
+        ≡ spec.r_rm prefixes (width_of prefixes) (width_of prefixes)
+        (Instr.Multiply (width_of prefixes)) bytes.now }
 {
     let width = prefixes.width();
     let (from, to, rest) = rm_and_register(prefixes, width, width, bytes)?;
@@ -157,7 +161,8 @@ pub(crate) fn row(prefixes: Prefixes, opcode: u8, bytes: &[u8]) -> Option<(Instr
 /// The table of the opcodes that begin with 0F, by their second byte.
 #[tactic(auto, unfolding(crate::specs::Spelling::two_byte_row))]
 pub(crate) fn two_byte_row(prefixes: Prefixes, opcode: u8, bytes: &[u8]) -> Option<(Instr, &[u8])>
-    ensures { option_map (λ x. (x.0, x.1.now)) result ≡ spec.two_byte_row prefixes opcode bytes.now }
+    ensures { option_map (λ x. (x.0, x.1.now)) result
+        ≡ spec.two_byte_row prefixes opcode bytes.now }
 {
     if prefixes.operand_size {
         return None;

@@ -36,7 +36,8 @@ fn sib_operand(
     sib: u8,
     bytes: &[u8],
 ) -> Option<(RegisterOrMemory, &[u8])>
-    ensures { option_map (λ x. (x.0, x.1.now)) result ≡ spec.sib_operand prefixes mode sib bytes.now }
+    ensures { option_map (λ x. (x.0, x.1.now)) result
+        ≡ spec.sib_operand prefixes mode sib bytes.now }
 {
     let index = prefixes.index_of_sib(sib);
     if mode == 0 && sib % 8 == 5 {
@@ -54,7 +55,8 @@ fn memory_operand(
     low: u8,
     bytes: &[u8],
 ) -> Option<(RegisterOrMemory, &[u8])>
-    ensures { option_map (λ x. (x.0, x.1.now)) result ≡ spec.memory_operand prefixes mode low bytes.now }
+    ensures { option_map (λ x. (x.0, x.1.now)) result
+        ≡ spec.memory_operand prefixes mode low bytes.now }
 {
     if low == 4 {
         let (sib, rest) = byte(bytes)?;
@@ -84,7 +86,8 @@ fn place(prefixes: Prefixes, modrm: u8, bytes: &[u8]) -> Option<(RegisterOrMemor
 
 /// ModRM with a register in its reg field: the r/m operand first.
 fn modrm_with_register(prefixes: Prefixes, bytes: &[u8]) -> Option<(RegisterOrMemory, Reg, &[u8])>
-    ensures { option_map (λ x. ((x.0, x.1), x.2.now)) result ≡ spec.modrm_with_register prefixes bytes.now }
+    ensures { option_map (λ x. ((x.0, x.1), x.2.now)) result
+        ≡ spec.modrm_with_register prefixes bytes.now }
 {
     let (modrm, rest) = byte(bytes)?;
     let (to, rest) = place(prefixes, modrm, rest)?;
@@ -96,7 +99,8 @@ fn modrm_with_opcode_extension(
     prefixes: Prefixes,
     bytes: &[u8],
 ) -> Option<(RegisterOrMemory, u8, &[u8])>
-    ensures value { option_map (λ x. ((x.0, x.1), x.2.now)) result ≡ spec.modrm_with_opcode_extension prefixes bytes.now }
+    ensures value { option_map (λ x. ((x.0, x.1), x.2.now)) result
+        ≡ spec.modrm_with_opcode_extension prefixes bytes.now }
     ensures small { IfSome result (λ x. x.1 < 8) }
 {
     let (modrm, rest) = byte(bytes)?;
@@ -111,7 +115,8 @@ pub(crate) fn rm_and_register(
     register_width: Width,
     bytes: &[u8],
 ) -> Option<(RegisterOrMemory, Reg, &[u8])>
-    ensures { option_map (λ x. ((x.0, x.1), x.2.now)) result ≡ spec.rm_and_register prefixes place_width register_width bytes.now }
+    ensures { option_map (λ x. ((x.0, x.1), x.2.now)) result
+        ≡ spec.rm_and_register prefixes place_width register_width bytes.now }
 {
     let (place, register, rest) = modrm_with_register(prefixes, bytes)?;
     let place_is = prefixes.lists(place_width, place);
@@ -128,7 +133,8 @@ pub(crate) fn rm_and_opcode_extension(
     width: Width,
     bytes: &[u8],
 ) -> Option<(RegisterOrMemory, u8, &[u8])>
-    ensures value { option_map (λ x. ((x.0, x.1), x.2.now)) result ≡ spec.rm_and_opcode_extension prefixes width bytes.now }
+    ensures value { option_map (λ x. ((x.0, x.1), x.2.now)) result
+        ≡ spec.rm_and_opcode_extension prefixes width bytes.now }
     ensures small { IfSome result (λ x. x.1 < 8) }
 {
     let (place, opcode_extension, rest) = modrm_with_opcode_extension(prefixes, bytes)?;

@@ -44,7 +44,7 @@ impl Prefixes {
         }
     }
 
-    /// Whether an operand of this width stands for the place, and not for AH, CH, DH or BH.
+    /// Whether an operand of this width means the place, and not AH, CH, DH or BH.
     pub(crate) fn lists(self, width: Width, place: RegisterOrMemory) -> bool
         ensures { result ≡ spec.is_listed self width place }
     {

@@ -69,7 +69,8 @@ fn arithmetic_form(
     opcode: u8,
     bytes: &[u8],
 ) -> Option<(Instr, &[u8])>
-    ensures { option_map (λ x. (x.0, x.1.now)) result ≡ spec.arithmetic_form prefixes operation opcode bytes.now }
+    ensures { option_map (λ x. (x.0, x.1.now)) result
+        ≡ spec.arithmetic_form prefixes operation opcode bytes.now }
 {
     let width = prefixes.sized(opcode);
     let form = opcode % 8 / 2;
@@ -94,7 +95,8 @@ fn arithmetic_form(
 }
 
 pub(crate) fn arithmetic_row(prefixes: Prefixes, opcode: u8, bytes: &[u8]) -> Option<(Instr, &[u8])>
-    ensures { option_map (λ x. (x.0, x.1.now)) result ≡ spec.arithmetic_row prefixes opcode bytes.now }
+    ensures { option_map (λ x. (x.0, x.1.now)) result
+        ≡ spec.arithmetic_row prefixes opcode bytes.now }
 {
     let operation = operation(opcode / 8)?;
     arithmetic_form(prefixes, operation, opcode, bytes)
@@ -126,7 +128,8 @@ pub(crate) fn group_1(
 }
 
 pub(crate) fn move_immediate(prefixes: Prefixes, opcode: u8, bytes: &[u8]) -> Option<(Instr, &[u8])>
-    ensures { option_map (λ x. (x.0, x.1.now)) result ≡ spec.move_immediate prefixes opcode bytes.now }
+    ensures { option_map (λ x. (x.0, x.1.now)) result
+        ≡ spec.move_immediate prefixes opcode bytes.now }
 {
     let width = prefixes.width();
     let (value, rest) = number(width.bytes(), bytes)?;
@@ -239,7 +242,8 @@ pub(crate) fn group_2_cl(prefixes: Prefixes, width: Width, bytes: &[u8]) -> Opti
 }
 
 pub(crate) fn group_5(prefixes: Prefixes, bytes: &[u8]) -> Option<(Instr, &[u8])>
-    ensures { option_map (λ x. (x.0, x.1.now)) result ≡ spec.rm_extension prefixes W64 spec.group_5 bytes.now }
+    ensures { option_map (λ x. (x.0, x.1.now)) result
+        ≡ spec.rm_extension prefixes W64 spec.group_5 bytes.now }
 {
     let (at, opcode_extension, rest) = rm_and_opcode_extension(prefixes, Width::W64, bytes)?;
     match opcode_extension {
@@ -255,7 +259,8 @@ fn extend(
     opcode: u8,
     bytes: &[u8],
 ) -> Option<(Instr, &[u8])>
-    ensures { option_map (λ x. (x.0, x.1.now)) result ≡ spec.extend extension prefixes opcode bytes.now }
+    ensures { option_map (λ x. (x.0, x.1.now)) result
+        ≡ spec.extend extension prefixes opcode bytes.now }
 {
     let (width, narrow) = (prefixes.width(), sized_narrow(opcode));
     let (from, to, rest) = rm_and_register(prefixes, narrow, width, bytes)?;

@@ -1,5 +1,5 @@
 -- What one instruction does (Intel manual, volume 2, each instruction's page).
-use Rattle.std.specs.Prelude.{ℕ, ◌+◌, ◌-◌, ◌*◌, ◌%◌, ◌^◌, Bool, true, false, nat_lt, if◌then◌else◌, Option, Some, None, Result, Ok, Err, slice_index, slice_set, bit_and, bit_or, bit_xor}
+use Rattle.std.specs.Prelude.{◌≡◌, ℕ, ◌+◌, ◌-◌, ◌*◌, ◌%◌, ◌^◌, Bool, true, false, nat_lt, if◌then◌else◌, Option, Some, None, Result, Ok, Err, slice_index, slice_set, bit_and, bit_or, bit_xor}
 use Rattle.seh_num.specs.declared.width.Width.{Width}
 use Rattle.seh_num.specs.declared.width.Width.TheVariants.{W8, W64}
 use Rattle.seh_num.specs.declared.division.DivFault.{DivFault}
@@ -332,6 +332,14 @@ cpu_of (Err e) = Err e
 abbrev pub memory_after : Memory → Answer State → Memory
 memory_after m (Ok s) = s.memory
 memory_after m (Err e) = m
+
+-- the code answers with the registers of the state after it, or with what stopped it
+abbrev pub Answers : Result Cpu Stop → Answer State → Type 0
+Answers result done = result ≡ cpu_of done
+
+-- the code leaves the memory of the state after it, and after a stop the memory before
+abbrev pub LeavesMemory : Memory → Memory → Answer State → Type 0
+LeavesMemory before after done = after ≡ memory_after before done
 
 abbrev pub popped : Answer (ℕ × State) → Answer (ℕ × Cpu)
 popped (Ok x) = Ok (x.0, x.1.cpu)

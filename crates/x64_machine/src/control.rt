@@ -14,8 +14,9 @@ use x64_instr::register::Reg;
 use x64_memory::space::AddressSpace;
 
 pub(crate) fn push<S: AddressSpace>(mut cpu: Cpu, space: &mut S, value: u64) -> Result<Cpu, Stop>
-    ensures answer { result ≡ spec.cpu_of (spec.push (spec.state cpu (S.memory space.old)) value) }
-    ensures memory { S.memory space.new ≡ spec.memory_after (S.memory space.old) (spec.push (spec.state cpu (S.memory space.old)) value) }
+    ensures answer { spec.Answers result (spec.push (spec.state cpu (S.memory space.old)) value) }
+    ensures memory { spec.LeavesMemory (S.memory space.old) (S.memory space.new)
+        (spec.push (spec.state cpu (S.memory space.old)) value) }
 {
     let at = cpu.register(Reg::Rsp).wrapping_sub(8);
     cpu.set_register(Width::W64, Reg::Rsp, at);
@@ -48,7 +49,7 @@ pub(crate) fn target_of<S: AddressSpace>(cpu: &Cpu, space: &S, to: &Target) -> R
 }
 
 pub(crate) fn jump<S: AddressSpace>(mut cpu: Cpu, space: &S, to: &Target) -> Result<Cpu, Stop>
-    ensures { result ≡ spec.cpu_of (spec.jump (spec.state cpu (S.memory space.now)) to.now) }
+    ensures { spec.Answers result (spec.jump (spec.state cpu (S.memory space.now)) to.now) }
 {
     let target = target_of(&cpu, space, to)?;
     cpu.rip = target;
@@ -71,8 +72,9 @@ pub(crate) fn condition_byte(flags: Flags, condition: Condition) -> u64
 }
 
 pub(crate) fn call<S: AddressSpace>(cpu: Cpu, space: &mut S, to: &Target) -> Result<Cpu, Stop>
-    ensures answer { result ≡ spec.cpu_of (spec.call (spec.state cpu (S.memory space.old)) to.now) }
-    ensures memory { S.memory space.new ≡ spec.memory_after (S.memory space.old) (spec.call (spec.state cpu (S.memory space.old)) to.now) }
+    ensures answer { spec.Answers result (spec.call (spec.state cpu (S.memory space.old)) to.now) }
+    ensures memory { spec.LeavesMemory (S.memory space.old) (S.memory space.new)
+        (spec.call (spec.state cpu (S.memory space.old)) to.now) }
 {
     let target = target_of(&cpu, space, to)?;
     let mut after = push(cpu, space, cpu.rip)?;

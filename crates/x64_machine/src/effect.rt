@@ -2,7 +2,7 @@
 
 ghost use Rattle.std.specs.Prelude.{◌≡◌, ◌<◌, ℕ, IfOk};
 ghost use Rattle.seh_num.specs.Widths.{limit};
-ghost use Rattle.x64_instr.specs.Families.{IsMove, IsComputation, IsTransfer};
+ghost use Rattle.x64_instr.specs.Families.{IsMove, IsComputation, IsMultiplyOrDivide, IsTransfer};
 ghost use Rattle.x64_machine.specs.Effect as spec;
 ghost use Rattle.x64_machine.specs.Effect.{State};
 
@@ -49,8 +49,10 @@ fn change<S: AddressSpace>(
     to: &RegisterOrMemory,
     from: &Operand,
 ) -> Result<Cpu, Stop>
-    ensures answer { result ≡ spec.cpu_of (spec.change (spec.state cpu (S.memory space.old)) operation width to.now from.now) }
-    ensures memory { S.memory space.new ≡ spec.memory_after (S.memory space.old) (spec.change (spec.state cpu (S.memory space.old)) operation width to.now from.now) }
+    ensures answer { spec.Answers result
+        (spec.change (spec.state cpu (S.memory space.old)) operation width to.now from.now) }
+    ensures memory { spec.LeavesMemory (S.memory space.old) (S.memory space.new)
+        (spec.change (spec.state cpu (S.memory space.old)) operation width to.now from.now) }
 {
     let second = operand(&cpu, space, width, from)?;
     may_change(&cpu, space, width, to)?;
@@ -69,8 +71,10 @@ fn compare<S: AddressSpace>(
     first: &RegisterOrMemory,
     second: &Operand,
 ) -> Result<Cpu, Stop>
-    ensures answer { result ≡ spec.cpu_of (spec.compare (spec.state cpu (S.memory space.now)) operation width first.now second.now) }
-    ensures memory { spec.memory_after (S.memory space.now) (spec.compare (spec.state cpu (S.memory space.now)) operation width first.now second.now) ≡ S.memory space.now }
+    ensures answer { spec.Answers result
+        (spec.compare (spec.state cpu (S.memory space.now)) operation width first.now second.now) }
+    ensures memory { spec.LeavesMemory (S.memory space.now) (S.memory space.now)
+        (spec.compare (spec.state cpu (S.memory space.now)) operation width first.now second.now) }
 {
     let second = operand(&cpu, space, width, second)?;
     let first = read(&cpu, space, width, first)?;
@@ -96,8 +100,10 @@ fn arithmetic<S: AddressSpace>(
     to: &RegisterOrMemory,
     from: &Operand,
 ) -> Result<Cpu, Stop>
-    ensures answer { result ≡ spec.cpu_of (spec.arithmetic (spec.state cpu (S.memory space.old)) operation width to.now from.now) }
-    ensures memory { S.memory space.new ≡ spec.memory_after (S.memory space.old) (spec.arithmetic (spec.state cpu (S.memory space.old)) operation width to.now from.now) }
+    ensures answer { spec.Answers result
+        (spec.arithmetic (spec.state cpu (S.memory space.old)) operation width to.now from.now) }
+    ensures memory { spec.LeavesMemory (S.memory space.old) (S.memory space.new)
+        (spec.arithmetic (spec.state cpu (S.memory space.old)) operation width to.now from.now) }
 {
     if is_compare(operation) {
         compare(cpu, space, operation, width, to, from)
@@ -123,8 +129,10 @@ fn unary<S: AddressSpace>(
     width: Width,
     to: &RegisterOrMemory,
 ) -> Result<Cpu, Stop>
-    ensures answer { result ≡ spec.cpu_of (spec.unary (spec.state cpu (S.memory space.old)) operation width to.now) }
-    ensures memory { S.memory space.new ≡ spec.memory_after (S.memory space.old) (spec.unary (spec.state cpu (S.memory space.old)) operation width to.now) }
+    ensures answer { spec.Answers result
+        (spec.unary (spec.state cpu (S.memory space.old)) operation width to.now) }
+    ensures memory { spec.LeavesMemory (S.memory space.old) (S.memory space.new)
+        (spec.unary (spec.state cpu (S.memory space.old)) operation width to.now) }
 {
     may_change(&cpu, space, width, to)?;
     let old = read(&cpu, space, width, to)?;
@@ -151,8 +159,10 @@ fn shift_by<S: AddressSpace>(
     count: u64,
 ) -> Result<Cpu, Stop>
     requires { count < 64 }
-    ensures answer { result ≡ spec.cpu_of (spec.shift_by (spec.state cpu (S.memory space.old)) direction width to.now count) }
-    ensures memory { S.memory space.new ≡ spec.memory_after (S.memory space.old) (spec.shift_by (spec.state cpu (S.memory space.old)) direction width to.now count) }
+    ensures answer { spec.Answers result
+        (spec.shift_by (spec.state cpu (S.memory space.old)) direction width to.now count) }
+    ensures memory { spec.LeavesMemory (S.memory space.old) (S.memory space.new)
+        (spec.shift_by (spec.state cpu (S.memory space.old)) direction width to.now count) }
 {
     may_change(&cpu, space, width, to)?;
     let old = read(&cpu, space, width, to)?;
@@ -169,8 +179,10 @@ fn shift_by_count<S: AddressSpace>(
     to: &RegisterOrMemory,
     by: Count,
 ) -> Result<Cpu, Stop>
-    ensures answer { result ≡ spec.cpu_of (spec.shift (spec.state cpu (S.memory space.old)) direction width to.now by) }
-    ensures memory { S.memory space.new ≡ spec.memory_after (S.memory space.old) (spec.shift (spec.state cpu (S.memory space.old)) direction width to.now by) }
+    ensures answer { spec.Answers result
+        (spec.shift (spec.state cpu (S.memory space.old)) direction width to.now by) }
+    ensures memory { spec.LeavesMemory (S.memory space.old) (S.memory space.new)
+        (spec.shift (spec.state cpu (S.memory space.old)) direction width to.now by) }
 {
     let count = count_of(width, amount(&cpu, by));
     shift_by(cpu, space, direction, width, to, count)
@@ -183,7 +195,8 @@ fn product<S: AddressSpace>(
     to: Reg,
     from: &RegisterOrMemory,
 ) -> Result<Cpu, Stop>
-    ensures { result ≡ spec.cpu_of (spec.multiply (spec.state cpu (S.memory space.now)) width to from.now) }
+    ensures { spec.Answers result
+        (spec.multiply (spec.state cpu (S.memory space.now)) width to from.now) }
 {
     let second = read(&cpu, space, width, from)?;
     let first = zero_extend(width, cpu.register(to));
@@ -201,7 +214,8 @@ fn product_by<S: AddressSpace>(
     from: &RegisterOrMemory,
     by: u64,
 ) -> Result<Cpu, Stop>
-    ensures { result ≡ spec.cpu_of (spec.multiply_by (spec.state cpu (S.memory space.now)) width to from.now by) }
+    ensures { spec.Answers result
+        (spec.multiply_by (spec.state cpu (S.memory space.now)) width to from.now by) }
 {
     let first = read(&cpu, space, width, from)?;
     let (value, flags) = multiply(width, first, zero_extend(width, by), cpu.flags);
@@ -227,7 +241,8 @@ fn quotient<S: AddressSpace>(
     width: Width,
     by: &RegisterOrMemory,
 ) -> Result<Cpu, Stop>
-    ensures { result ≡ spec.cpu_of (spec.divide (spec.state cpu (S.memory space.now)) division width by.now) }
+    ensures { spec.Answers result
+        (spec.divide (spec.state cpu (S.memory space.now)) division width by.now) }
 {
     let divisor = read(&cpu, space, width, by)?;
     let high = zero_extend(width, cpu.register(Reg::Rdx));
@@ -266,8 +281,10 @@ fn widened(extension: Extension, width: Width, narrow: Width, value: u64) -> u64
 /// What an instruction does that puts a value into a place.
 fn move_effect<S: AddressSpace>(mut cpu: Cpu, space: &mut S, instr: &Instr) -> Result<Cpu, Stop>
     requires { IsMove instr.now }
-    ensures answer { result ≡ spec.cpu_of (spec.effect (spec.state cpu (S.memory space.old)) instr.now) }
-    ensures memory { S.memory space.new ≡ spec.memory_after (S.memory space.old) (spec.effect (spec.state cpu (S.memory space.old)) instr.now) }
+    ensures answer { spec.Answers result
+        (spec.effect (spec.state cpu (S.memory space.old)) instr.now) }
+    ensures memory { spec.LeavesMemory (S.memory space.old) (S.memory space.new)
+        (spec.effect (spec.state cpu (S.memory space.old)) instr.now) }
 {
     match instr {
         Instr::Move { width, to, from } => {
@@ -304,11 +321,38 @@ fn move_effect<S: AddressSpace>(mut cpu: Cpu, space: &mut S, instr: &Instr) -> R
     }
 }
 
+/// What an instruction does that multiplies or divides.
+fn multiply_or_divide<S: AddressSpace>(cpu: Cpu, space: &S, instr: &Instr) -> Result<Cpu, Stop>
+    requires { IsMultiplyOrDivide instr.now }
+    ensures answer { spec.Answers result
+        (spec.effect (spec.state cpu (S.memory space.now)) instr.now) }
+    ensures memory { spec.LeavesMemory (S.memory space.now) (S.memory space.now)
+        (spec.effect (spec.state cpu (S.memory space.now)) instr.now) }
+{
+    match instr {
+        Instr::Multiply { width, to, from } => product(cpu, space, *width, *to, from),
+        Instr::MultiplyBy {
+            width,
+            to,
+            from,
+            by,
+        } => product_by(cpu, space, *width, *to, from, *by),
+        Instr::Divide {
+            division,
+            width,
+            by,
+        } => quotient(cpu, space, *division, *width, by),
+        _ => unreachable!(),
+    }
+}
+
 /// What an instruction does that computes with the value of a place.
 fn computation_effect<S: AddressSpace>(cpu: Cpu, space: &mut S, instr: &Instr) -> Result<Cpu, Stop>
     requires { IsComputation instr.now }
-    ensures answer { result ≡ spec.cpu_of (spec.effect (spec.state cpu (S.memory space.old)) instr.now) }
-    ensures memory { S.memory space.new ≡ spec.memory_after (S.memory space.old) (spec.effect (spec.state cpu (S.memory space.old)) instr.now) }
+    ensures answer { spec.Answers result
+        (spec.effect (spec.state cpu (S.memory space.old)) instr.now) }
+    ensures memory { spec.LeavesMemory (S.memory space.old) (S.memory space.new)
+        (spec.effect (spec.state cpu (S.memory space.old)) instr.now) }
 {
     match instr {
         Instr::Arithmetic {
@@ -322,29 +366,20 @@ fn computation_effect<S: AddressSpace>(cpu: Cpu, space: &mut S, instr: &Instr) -
             first,
             second,
         } => compare(cpu, space, Operation::And, *width, first, second),
-        Instr::Multiply { width, to, from } => product(cpu, space, *width, *to, from),
-        Instr::MultiplyBy {
-            width,
-            to,
-            from,
-            by,
-        } => product_by(cpu, space, *width, *to, from, *by),
         Instr::Unary {
             operation,
             width,
             to,
         } => unary(cpu, space, *operation, *width, to),
-        Instr::Divide {
-            division,
-            width,
-            by,
-        } => quotient(cpu, space, *division, *width, by),
         Instr::Shift {
             direction,
             width,
             to,
             by,
         } => shift_by_count(cpu, space, *direction, *width, to, *by),
+        Instr::Multiply { .. } | Instr::MultiplyBy { .. } | Instr::Divide { .. } => {
+            multiply_or_divide(cpu, space, instr)
+        }
         _ => unreachable!(),
     }
 }
@@ -352,8 +387,10 @@ fn computation_effect<S: AddressSpace>(cpu: Cpu, space: &mut S, instr: &Instr) -
 /// What an instruction does that jumps, or takes the stack's top.
 fn transfer_effect<S: AddressSpace>(cpu: Cpu, space: &mut S, instr: &Instr) -> Result<Cpu, Stop>
     requires { IsTransfer instr.now }
-    ensures answer { result ≡ spec.cpu_of (spec.effect (spec.state cpu (S.memory space.old)) instr.now) }
-    ensures memory { S.memory space.new ≡ spec.memory_after (S.memory space.old) (spec.effect (spec.state cpu (S.memory space.old)) instr.now) }
+    ensures answer { spec.Answers result
+        (spec.effect (spec.state cpu (S.memory space.old)) instr.now) }
+    ensures memory { spec.LeavesMemory (S.memory space.old) (S.memory space.new)
+        (spec.effect (spec.state cpu (S.memory space.old)) instr.now) }
 {
     match instr {
         Instr::JumpIf {
@@ -383,8 +420,10 @@ fn transfer_effect<S: AddressSpace>(cpu: Cpu, space: &mut S, instr: &Instr) -> R
 /// What an instruction does, where RIP is that of the next one. INT3 and UD2 have no effect, and are
 /// stopped before it.
 pub(crate) fn effect<S: AddressSpace>(cpu: Cpu, space: &mut S, instr: &Instr) -> Result<Cpu, Stop>
-    ensures answer { result ≡ spec.cpu_of (spec.effect (spec.state cpu (S.memory space.old)) instr.now) }
-    ensures memory { S.memory space.new ≡ spec.memory_after (S.memory space.old) (spec.effect (spec.state cpu (S.memory space.old)) instr.now) }
+    ensures answer { spec.Answers result
+        (spec.effect (spec.state cpu (S.memory space.old)) instr.now) }
+    ensures memory { spec.LeavesMemory (S.memory space.old) (S.memory space.new)
+        (spec.effect (spec.state cpu (S.memory space.old)) instr.now) }
 {
     match instr {
         Instr::Move { .. }

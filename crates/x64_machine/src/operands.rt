@@ -93,8 +93,10 @@ pub(crate) fn store<S: AddressSpace>(
     width: Width,
     value: u64,
 ) -> Result<Cpu, Stop>
-    ensures answer { result ≡ spec.cpu_of (spec.store (spec.state cpu (S.memory space.old)) at width value) }
-    ensures memory { S.memory space.new ≡ spec.memory_after (S.memory space.old) (spec.store (spec.state cpu (S.memory space.old)) at width value) }
+    ensures answer { spec.Answers result
+        (spec.store (spec.state cpu (S.memory space.old)) at width value) }
+    ensures memory { spec.LeavesMemory (S.memory space.old) (S.memory space.new)
+        (spec.store (spec.state cpu (S.memory space.old)) at width value) }
 {
     match space.store(at, width, value) {
         Ok(()) => Ok(cpu),
@@ -140,8 +142,10 @@ pub(crate) fn write<S: AddressSpace>(
     to: &RegisterOrMemory,
     value: u64,
 ) -> Result<Cpu, Stop>
-    ensures answer { result ≡ spec.cpu_of (spec.write (spec.state cpu (S.memory space.old)) width to.now value) }
-    ensures memory { S.memory space.new ≡ spec.memory_after (S.memory space.old) (spec.write (spec.state cpu (S.memory space.old)) width to.now value) }
+    ensures answer { spec.Answers result
+        (spec.write (spec.state cpu (S.memory space.old)) width to.now value) }
+    ensures memory { spec.LeavesMemory (S.memory space.old) (S.memory space.new)
+        (spec.write (spec.state cpu (S.memory space.old)) width to.now value) }
 {
     match to {
         RegisterOrMemory::Register(register) => {

@@ -49,8 +49,10 @@ pub fn execute<S: AddressSpace>(
     instr: &Instr,
     len: usize,
 ) -> Result<Cpu, Stop>
-    ensures answer { result ≡ spec.cpu_of (spec.execute (spec.state cpu (S.memory space.old)) (Some (instr.now, len))) }
-    ensures memory { S.memory space.new ≡ spec.memory_after (S.memory space.old) (spec.execute (spec.state cpu (S.memory space.old)) (Some (instr.now, len))) }
+    ensures answer { spec.Answers result
+        (spec.execute (spec.state cpu (S.memory space.old)) (Some (instr.now, len))) }
+    ensures memory { spec.LeavesMemory (S.memory space.old) (S.memory space.new)
+        (spec.execute (spec.state cpu (S.memory space.old)) (Some (instr.now, len))) }
 {
     if is_trap(instr) {
         return Err(Stop::Illegal { rip: cpu.rip });
@@ -65,9 +67,12 @@ pub fn execute<S: AddressSpace>(
 /// as before.
 #[tactic(auto, unfolding(crate::specs::Effect::step))]
 pub fn step<S: AddressSpace>(cpu: &mut Cpu, space: &mut S) -> StepOutcome
-    ensures answer { result ≡ spec.step_answer (spec.step (spec.state cpu.old (S.memory space.old))) }
-    ensures cpu { cpu.new ≡ spec.cpu_after cpu.old (spec.step (spec.state cpu.old (S.memory space.old))) }
-    ensures memory { S.memory space.new ≡ spec.memory_after (S.memory space.old) (spec.step (spec.state cpu.old (S.memory space.old))) }
+    ensures answer { result
+        ≡ spec.step_answer (spec.step (spec.state cpu.old (S.memory space.old))) }
+    ensures cpu { cpu.new
+        ≡ spec.cpu_after cpu.old (spec.step (spec.state cpu.old (S.memory space.old))) }
+    ensures memory { spec.LeavesMemory (S.memory space.old) (S.memory space.new)
+        (spec.step (spec.state cpu.old (S.memory space.old))) }
 {
     if HOST_PAGE_START <= cpu.rip && cpu.rip < HOST_PAGE_END {
         return refused(hosted(cpu.rip));

@@ -179,7 +179,7 @@ piece_after xs ys from k i ge le e =
     let here : i ≡ i + 0 = omega arith in
     ap (λ j. get_or (put_mid from k xs ys) j 0) here ∙ sym (get_or-drop i (put_mid from k xs ys) 0 0) ∙ ap (λ (zs : List ℕ). get_or zs 0 0) (drop-put_mid from k xs ys i ge le e) ∙ get_or-drop i xs 0 0 ∙ sym (ap (λ j. get_or xs j 0) here)
 
--- ---- a region put behind others
+-- ---- a region put after others
 
 module _ (r : Region) (s : Stretch) (ss ss' : List Stretch) (ps ps' : List Page) (protection : Protection) (whole : IsWhole r) (laid : AreLaid 0 0 ss) (count : length ps ≡ count_from 0 ss) (above : 4096 * end_from 0 ss ≤ r.start) (first_is : s.first ≡ r.start / 4096) (end_is : s.end ≡ r.end / 4096) (kept : s.index ≡ length ps) (mode : protection ≡ region_mode r) (pushed : ss' ≡ ss ++ s ∷ []) (added : ps' ≡ ps ++ replicate (s.end - s.first) (zero_page protection)) where
   grows : s.first ≤ s.end
@@ -188,28 +188,28 @@ module _ (r : Region) (s : Stretch) (ss ss' : List Stretch) (ps ps' : List Page)
   ends : end_from 0 ss ≤ s.first
   ends = omega arith
 
-  page_behind : (k : ℕ) → page_numbered ss' ps' k ≡ cond (has_number s k) (Some (zero_page protection)) (page_numbered ss ps k)
-  page_behind k = ap (λ xs. page_numbered xs ps' k) pushed ∙ ap (λ ys. page_numbered (ss ++ s ∷ []) ys k) added ∙ page_added s ss ps (zero_page protection) kept grows laid (sym count) ends k
+  page_after : (k : ℕ) → page_numbered ss' ps' k ≡ cond (has_number s k) (Some (zero_page protection)) (page_numbered ss ps k)
+  page_after k = ap (λ xs. page_numbered xs ps' k) pushed ∙ ap (λ ys. page_numbered (ss ++ s ∷ []) ys k) added ∙ page_added s ss ps (zero_page protection) kept grows laid (sym count) ends k
 
-  pub memory_behind : paged (page_numbered ss' ps') ≡ with_region (paged (page_numbered ss ps)) r
-  memory_behind = region_over r s whole.start whole.end first_is end_is (page_numbered ss ps) (page_numbered ss' ps') protection mode page_behind
+  pub memory_after : paged (page_numbered ss' ps') ≡ with_region (paged (page_numbered ss ps)) r
+  memory_after = region_over r s whole.start whole.end first_is end_is (page_numbered ss ps) (page_numbered ss' ps') protection mode page_after
 
-  pub holds_behind : (a : ℕ) → has_page (page_numbered ss' ps') a ≡ (covers r a || has_page (page_numbered ss ps) a)
-  holds_behind = holds_over r s whole.start whole.end first_is end_is (page_numbered ss ps) (page_numbered ss' ps') protection mode page_behind
+  pub holds_after : (a : ℕ) → has_page (page_numbered ss' ps') a ≡ (covers r a || has_page (page_numbered ss ps) a)
+  holds_after = holds_over r s whole.start whole.end first_is end_is (page_numbered ss ps) (page_numbered ss' ps') protection mode page_after
 
-  pub laid_behind : AreLaid 0 0 ss'
-  laid_behind = subst (AreLaid 0 0) (sym pushed) (laid_more s 0 0 ss laid ends grows (kept ∙ count))
+  pub laid_after : AreLaid 0 0 ss'
+  laid_after = subst (AreLaid 0 0) (sym pushed) (laid_more s 0 0 ss laid ends grows (kept ∙ count))
 
-  pub count_behind : length ps' ≡ count_from 0 ss'
-  count_behind =
+  pub count_after : length ps' ≡ count_from 0 ss'
+  count_after =
       let old = length-append ps (replicate (s.end - s.first) (zero_page protection)) in
       let new = length-replicate (s.end - s.first) (zero_page protection) in
       let size : length ps' ≡ length ps + (s.end - s.first) = ap length added ∙ old ∙ ap (λ n. length ps + n) new in
       let counted : count_from 0 ss' ≡ count_from 0 ss + (s.end - s.first) = ap (count_from 0) pushed ∙ count_more s 0 ss in
       omega arith
 
-  pub end_behind : 4096 * end_from 0 ss' ≡ r.end
-  end_behind =
+  pub end_after : 4096 * end_from 0 ss' ≡ r.end
+  end_after =
       let ended : end_from 0 ss' ≡ s.end = ap (end_from 0) pushed ∙ end_more s 0 ss in
       let e = whole.end in
       omega arith

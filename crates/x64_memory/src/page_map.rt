@@ -53,7 +53,8 @@ fn count_of_pages(regions: &[Region]) -> usize {
 
 /// Puts pages of zeros after others.
 fn add_pages(pages: &mut Vec<Page>, count: u64, protection: Protection) -> Result<(), AllocError>
-    ensures { OnOk result (pages.new.items ≡ pages.old.items ++ replicate count (zero_page protection)) }
+    ensures { OnOk result
+        (pages.new.items ≡ pages.old.items ++ replicate count (zero_page protection)) }
 {
     for _i in 0..count {
         pages.push(Page {
@@ -76,7 +77,8 @@ fn map_region(
     requires above { 4096 * end_from 0 stretches.old.items ≤ region.now.start }
     ensures memory { OnOk result (paged (page_numbered stretches.new.items pages.new.items)
         ≡ with_region (paged (page_numbered stretches.old.items pages.old.items)) region.now) }
-    ensures holds { OnOk result ((a : ℕ) → has_page (page_numbered stretches.new.items pages.new.items) a
+    ensures holds { OnOk result
+        ((a : ℕ) → has_page (page_numbered stretches.new.items pages.new.items) a
         ≡ (covers region.now a || has_page (page_numbered stretches.old.items pages.old.items) a)) }
     ensures laid { OnOk result (AreLaid 0 0 stretches.new.items) }
     ensures count { OnOk result (length pages.new.items ≡ count_from 0 stretches.new.items) }

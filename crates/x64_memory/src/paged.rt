@@ -25,7 +25,8 @@ pub trait Paged {
     fn put(&mut self, at: u64, width: Width, value: u64)
         requires within { at % 4096 + bytes_of width ≤ 4096 }
         requires may { may_write (memory self.old) at ≡ true }
-        ensures { memory self.new ≡ with_bytes (memory self.old) (with_number (memory self.old).byte (bytes_of width) at value) };
+        ensures { memory self.new ≡ with_bytes (memory self.old)
+            (with_number (memory self.old).byte (bytes_of width) at value) };
 }
 
 fn refusal(write: bool, address: u64) -> RefusedAccess
@@ -144,7 +145,8 @@ pub fn may_store<P: Paged>(space: &P, at: u64, width: Width) -> Result<(), Refus
 fn spread_store<P: Paged>(space: &mut P, at: u64, count: u64, value: u64)
     requires few { count ≤ 8 }
     requires may { first_refused (may_write (P.memory space.old)) count at ≡ None }
-    ensures { P.memory space.new ≡ with_bytes (P.memory space.old) (with_number (P.memory space.old).byte count at value) }
+    ensures { P.memory space.new
+        ≡ with_bytes (P.memory space.old) (with_number (P.memory space.old).byte count at value) }
 {
     let mut here = at;
     let mut rest = value;

@@ -1,6 +1,6 @@
 use Rattle.std.proofs.Common.{◌≡◌, ℕ, ◌+◌, ◌-◌, ◌<◌, List, length, drop, position, Some, sym, ap, subst, ◌∙◌, arith}
 use Rattle.pe_image.specs.Image.{section_at, stored_in}
-use Rattle.pe_image.proofs.Named.{ends_behind, known_behind, ends_kept}
+use Rattle.pe_image.proofs.Named.{ends_after, known_after, ends_kept}
 use Rattle.pe_image.proofs.Zeros.{is_zero}
 use Rattle.pe_image.proofs.names.name_len.Goals.{in-Some-2, in-None}
 use Rattle.pe_image.proofs.names.name_len.Goals as goal
@@ -8,7 +8,7 @@ use Rattle.pe_image.proofs.names.name_len.Goals as goal
 pub returns-in-Some-clause-place : goal.returns-in-Some-clause-place
 returns-in-Some-clause-place c =
     let k = c.in-Some.known in
-    sym (ends_behind c.args.sections.now c.requires.ascending k.from c.args.at k.end (c.requires.ends k.end k.from c.in-Some.ensures.known) c.if-known-at.true c.in-Some.ensures.above)
+    sym (ends_after c.args.sections.now c.requires.ascending k.from c.args.at k.end (c.requires.ends k.end k.from c.in-Some.ensures.known) c.if-known-at.true c.in-Some.ensures.above)
 
 pub first_zero_before-found-requires-clause-ordered : goal.first_zero_before-found-requires-clause-ordered
 first_zero_before-found-requires-clause-ordered c =
@@ -22,7 +22,7 @@ first_zero_before-found-requires-clause-known c =
     let n = k.from - c.args.at in
     let this = c.requires.ends k.end k.from c.in-Some.ensures.known in
     subst (λ (bytes : List ℕ). k.from - c.args.at < length bytes → position is_zero (drop (k.from - c.args.at) bytes) ≡ Some (k.end - c.args.at - (k.from - c.args.at))) (sym c.stored_from-bytes.ensures)
-    (known_behind c.args.sections.now c.requires.ascending k.from c.args.at k.end this (omega arith))
+    (known_after c.args.sections.now c.requires.ascending k.from c.args.at k.end this (omega arith))
 
 pub returns-clause-ends : goal.returns-clause-ends
 returns-clause-ends c =
