@@ -7,7 +7,8 @@ use Rattle.eh_tables.specs.declared.code.UnwindOperation.{UnwindOperation}
 use Rattle.eh_tables.specs.declared.code.UnwindOperation.TheVariants.{Push, Allocate, SetFrame, Save, SaveVector, MachineFrame}
 use Rattle.eh_tables.specs.declared.code.UnwindCode.{UnwindCode}
 use Rattle.eh_tables.specs.Codes.{operation, code_before, codes, code_checked, in_order, checked}
-use Rattle.eh_tables.specs.Written.{u16, u32, slot, is_short, is_small, allocation, saving, operation_bytes, code_bytes, codes_bytes, Fits, AreFalling}
+use Rattle.pe_image.specs.Numbers.{u16, u32}
+use Rattle.eh_tables.specs.Written.{slot, is_short, is_small, allocation, saving, operation_bytes, code_bytes, codes_bytes, Fits, AreFalling}
 use Rattle.eh_tables.specs.ReadAgain.{IsOperation}
 
 -- ---- a code's first slot, and its operands

@@ -21,7 +21,8 @@ use Rattle.eh_tables.specs.Handler.{is_c_handler}
 use Rattle.eh_tables.specs.Infos as infos
 use Rattle.eh_tables.specs.Infos.{Info, range_at, info_of, info, stored_info, stored_scope_records, scope_records_at, scope_records_if}
 use Rattle.eh_tables.specs.Scopes as scopes
-use Rattle.eh_tables.specs.Written.{u32, codes_bytes, bit, trailer_flags, trailer_bytes, range_bytes, padded, header, unwind_bytes, is_framed, IsTrailer, CanBeWritten, scope_record_bytes, scope_bytes}
+use Rattle.pe_image.specs.Numbers.{u32}
+use Rattle.eh_tables.specs.Written.{codes_bytes, bit, trailer_flags, trailer_bytes, range_bytes, padded, header, unwind_bytes, is_framed, IsTrailer, CanBeWritten, scope_record_bytes, scope_bytes}
 use Rattle.eh_tables.specs.ReadAgain.{IsStoredAt, HasTrailer, IsUnwindInfo, handler_of, parent_of, is_c, has_c_handler, info_written, InfoIsReadAgain, ScopeRecordsAreReadAgain}
 use Rattle.eh_tables.proofs.CodesAgain.{codes_again, order_again, whole_slots}
 use Rattle.eh_tables.proofs.TablesAgain.{front_stands, four_is, range_again, range_length, rows_again, rows_length}

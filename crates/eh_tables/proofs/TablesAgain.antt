@@ -14,7 +14,8 @@ use Rattle.eh_tables.specs.Answer.{Table}
 use Rattle.eh_tables.specs.Infos.{range_at}
 use Rattle.eh_tables.specs.Scopes.{scope_record, rows, scope_records_in}
 use Rattle.eh_tables.specs.Tables.{ranges, ranges_in, unless_none, stored_ranges, directory}
-use Rattle.eh_tables.specs.Written.{u32, range_bytes, scope_record_bytes, table_bytes}
+use Rattle.pe_image.specs.Numbers.{u32}
+use Rattle.eh_tables.specs.Written.{range_bytes, scope_record_bytes, table_bytes}
 use Rattle.eh_tables.specs.ReadAgain.{IsRange, IsScopeRecord, RangesAreReadAgain}
 
 -- ---- where bytes are stored, those at their front are too

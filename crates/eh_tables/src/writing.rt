@@ -28,7 +28,7 @@ fn put_slot(out: &mut CodeBytes, offset: u8, op: u8, info: u8)
     out.push(op + 16 * info);
 }
 
-#[tactic(auto, unfolding(crate::specs::Written::u16))]
+#[tactic(auto, unfolding(pe_image::specs::Numbers::u16))]
 fn put_u16(out: &mut CodeBytes, value: u16)
     requires { array_vec_len out.old ≡ 2 }
     ensures { out.new.items ≡ out.old.items ++ spec.u16 value }
@@ -37,7 +37,7 @@ fn put_u16(out: &mut CodeBytes, value: u16)
     let _ = out.try_extend_from_slice(&value.to_le_bytes());
 }
 
-#[tactic(auto, unfolding(crate::specs::Written::u32))]
+#[tactic(auto, unfolding(pe_image::specs::Numbers::u32))]
 fn put_u32(out: &mut CodeBytes, value: u32)
     requires { array_vec_len out.old ≡ 2 }
     ensures { out.new.items ≡ out.old.items ++ spec.u32 value }
@@ -121,7 +121,7 @@ fn code_bytes(framed: bool, code: &UnwindCode) -> CodeBytes
 /// The bytes of a row of a table.
 type FieldBytes = ArrayVec<u8, 16>;
 
-#[tactic(auto, unfolding(crate::specs::Written::u32))]
+#[tactic(auto, unfolding(pe_image::specs::Numbers::u32))]
 fn put_field(out: &mut FieldBytes, value: u32)
     requires { array_vec_len out.old + 4 ≤ 16 }
     ensures items { out.new.items ≡ out.old.items ++ spec.u32 value }

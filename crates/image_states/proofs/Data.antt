@@ -15,7 +15,8 @@ use Rattle.pe_image.specs.Imports.{Import}
 use Rattle.pe_image.specs.Imports as importing
 use Rattle.pe_write.specs.ImportTables.{services, imported, import_tables}
 use Rattle.pe_write.specs.Program.{Program, IsProgram, image_of, sections_of, imports_of, parts_of, sizes_of, text_at, rdata_at, xdata_at, pdata_at, end_at, data_section, text_section, rdata_section, xdata_section, pdata_section}
-use Rattle.pe_write.specs.Written.{raw_size, raw_data, zeros, written, dos_header, file_header, standard_fields, windows_fields, directories, table_of}
+use Rattle.pe_image.specs.Numbers.{zeros}
+use Rattle.pe_write.specs.Written.{raw_size, raw_data, written, dos_header, file_header, standard_fields, windows_fields, directories, table_of}
 use Rattle.pe_write.proofs.Programs.{listed}
 use Rattle.host_model.specs.Loading.{section_of, section_mode, mode_in, byte_in, stored_byte, stack_mode, with_slots, mapped}
 use Rattle.host_model.specs.Slots.{IsBeside}

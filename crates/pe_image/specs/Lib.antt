@@ -5,3 +5,4 @@ pub mod Image
 pub mod Imports
 pub mod Names
 pub mod Reading
+pub mod Numbers

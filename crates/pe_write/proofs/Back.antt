@@ -16,7 +16,8 @@ use Rattle.pe_image.specs.Answer.{◌>>=◌, unless}
 use Rattle.pe_image.specs.Image.{Section, Image}
 use Rattle.pe_image.specs.Imports.{imports_of}
 use Rattle.pe_image.specs.Reading.{image_size, headers_from, is_laid_out, all_laid_out, section_of, sections_of, image_end, outline, reading, IsImage}
-use Rattle.pe_write.specs.Written.{SectionParts, ImageParts, PlacedSection, pages, raw_size, placed, end_of, zeros, section_fields, section_header, section_table, table_of, raw_data, written, IsSection, CanBeWritten, sections_read, image_read}
+use Rattle.pe_image.specs.Numbers.{zeros}
+use Rattle.pe_write.specs.Written.{SectionParts, ImageParts, PlacedSection, pages, raw_size, placed, end_of, section_fields, section_header, section_table, table_of, raw_data, written, IsSection, CanBeWritten, sections_read, image_read}
 
 -- ---- the sections after it
 

@@ -2,7 +2,8 @@
 use Rattle.std.proofs.Common.{◌≡◌, ℕ, List, [], ◌∷◌, ◌++◌, Some, None, refl}
 use Rattle.pe_image.specs.Image.{Section, stored}
 use Rattle.pe_image.specs.Reading.{headers, outline, reading, IsImage}
-use Rattle.pe_write.specs.Written.{ImageParts, u16, u32, u64, zeros, dos_header, file_header, standard_fields, windows_fields, directory_entry, directories, section_fields, raw_data, written}
+use Rattle.pe_image.specs.Numbers.{u16, u32, u64, zeros}
+use Rattle.pe_write.specs.Written.{ImageParts, dos_header, file_header, standard_fields, windows_fields, directory_entry, directories, section_fields, raw_data, written}
 
 abbrev code : List ℕ
 code = 184 ∷ 7 ∷ 0 ∷ 0 ∷ 0 ∷ 195 ∷ []

@@ -7,7 +7,8 @@ use Rattle.pe_image.specs.declared.refusal.ImageErr.TheVariants as refusals
 use Rattle.pe_image.specs.Answer.{◌>>=◌, unless}
 use Rattle.pe_image.specs.Field.{field}
 use Rattle.pe_image.specs.Reading.{headers, signature_at, machine, section_count, optional_size, optional_at, magic, entry_point, image_base, image_size, directory_count, directories_at, sections_at, directory}
-use Rattle.pe_write.specs.Written.{ImageParts, end_of, u16, u32, u64, zeros, dos_header, file_header, standard_fields, windows_fields, directory_entry, directories, CanBeWritten}
+use Rattle.pe_image.specs.Numbers.{u16, u32, u64, zeros}
+use Rattle.pe_write.specs.Written.{ImageParts, end_of, dos_header, file_header, standard_fields, windows_fields, directory_entry, directories, CanBeWritten}
 
 -- ---- the headers in front of it
 

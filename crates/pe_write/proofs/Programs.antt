@@ -13,7 +13,8 @@ use Rattle.pe_write.specs.ImportTables.{import_tables}
 use Rattle.pe_write.specs.Program.{Program, IsProgram, sizes_of, text_at, rdata_at, xdata_at, pdata_at, end_at, data_section, text_section, rdata_section, xdata_section, pdata_section, import_directory, exception_directory, parts_of, sections_of, image_of, imports_of}
 use Rattle.pe_image.specs.Reading.{IsImage}
 use Rattle.pe_write.specs.declared.sizes.Sizes.{Sizes}
-use Rattle.pe_write.specs.Written.{SectionParts, ImageParts, end_of, raw_size, raw_data, zeros, written, image_read, CanBeWritten}
+use Rattle.pe_image.specs.Numbers.{zeros}
+use Rattle.pe_write.specs.Written.{SectionParts, ImageParts, end_of, raw_size, raw_data, written, image_read, CanBeWritten}
 use Rattle.pe_write.proofs.Back.{raw_length, is_read, written_length}
 use Rattle.pe_image.proofs.Stored.{above_holds_none}
 use Rattle.pe_write.proofs.Tables.{tables_length, tables_read}

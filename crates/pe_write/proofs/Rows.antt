@@ -9,7 +9,8 @@ use Rattle.pe_write.proofs.Below.{raw_below}
 use Rattle.pe_image.specs.declared.table.SectionHeader.{SectionHeader}
 use Rattle.pe_image.specs.Field.{field}
 use Rattle.pe_image.specs.Reading.{size_of, header_at, headers_from}
-use Rattle.pe_write.specs.Written.{SectionParts, PlacedSection, pages, raw_size, placed, u32, zeros, section_fields, section_header, section_table, IsSection}
+use Rattle.pe_image.specs.Numbers.{u32, zeros}
+use Rattle.pe_write.specs.Written.{SectionParts, PlacedSection, pages, raw_size, placed, section_fields, section_header, section_table, IsSection}
 
 -- ---- numbers of four bytes
 

@@ -5,7 +5,7 @@ use Rattle.host_layout.specs.declared.name.TheConstants as names
 use Rattle.pe_write.specs.declared.service.Service.{Service}
 use Rattle.pe_write.specs.declared.service.Service.TheVariants.{RaiseException, CSpecificHandler, LocalUnwind, Protect, Put}
 use Rattle.pe_image.specs.Imports.{Import}
-use Rattle.pe_write.specs.Written.{u32, u64, zeros}
+use Rattle.pe_image.specs.Numbers.{u32, u64, zeros}
 
 -- ---- what is imported
 

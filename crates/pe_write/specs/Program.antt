@@ -1,5 +1,6 @@
 -- The image of a program, as it is written: five sections, the imports of its host's services, and the table of its functions.
 use Rattle.std.specs.Prelude.{◌≡◌, ℕ, ◌+◌, ◌%◌, ◌^◌, ◌<◌, ◌≤◌, List, [], ◌∷◌, length}
+use Rattle.host_layout.specs.declared.range.TheConstants.{IMAGE_BASE}
 use Rattle.pe_image.specs.declared.directory.DataDirectory.{DataDirectory}
 use Rattle.pe_write.specs.declared.sizes.Sizes.{Sizes}
 use Rattle.pe_image.specs.Image.{Section, Image}
@@ -97,7 +98,7 @@ sections_of p =
 
 abbrev pub image_of : Program → Image
 image_of p = record {
-  base = 0x140000000;
+  base = IMAGE_BASE;
   entry = text_at (sizes_of p) + p.entry;
   size = end_at (sizes_of p);
   sections = sections_of p;

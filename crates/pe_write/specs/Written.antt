@@ -1,6 +1,8 @@
 -- The one form in which an image is written, piece by piece.
 use Rattle.std.specs.Prelude.{◌≡◌, ℕ, ◌+◌, ◌-◌, ◌*◌, ◌/◌, ◌^◌, ◌<◌, ◌≤◌, bit_and, Bool, true, false, not, ◌==◌, List, [], ◌∷◌, ◌++◌, length, take, replicate, sum_by, filter, Ok}
 use Rattle.std.specs.List.{flat_map, AllByRecursion}
+use Rattle.host_layout.specs.declared.range.TheConstants.{IMAGE_BASE}
+pub use Rattle.pe_image.specs.Numbers.{u16, u32, u64, zeros}
 use Rattle.byteorder.specs.Endian.{little_bytes}
 pub use Rattle.host_layout.specs.Ranges.{pages}
 use Rattle.pe_image.specs.declared.directory.DataDirectory.{DataDirectory}
@@ -70,18 +72,6 @@ code_base address (s ∷ ss) = number_if address (code_base (address + pages s.s
 
 -- ---- pieces
 
-unfoldable pub u16 : ℕ → List ℕ
-u16 v = little_bytes 2 v
-
-unfoldable pub u32 : ℕ → List ℕ
-u32 v = little_bytes 4 v
-
-unfoldable pub u64 : ℕ → List ℕ
-u64 v = little_bytes 8 v
-
-unfoldable pub zeros : ℕ → List ℕ
-zeros n = replicate n 0
-
 unfoldable pub dos_header : List ℕ
 dos_header =
     u16 0x5A4D  -- MZ
@@ -109,7 +99,7 @@ standard_fields image =
 
 unfoldable pub windows_fields : ImageParts → List ℕ
 windows_fields image =
-    u64 0x140000000  -- ImageBase
+    u64 IMAGE_BASE
     ++ u32 4096  -- SectionAlignment
     ++ u32 512  -- FileAlignment
     ++ zeros 16
@@ -178,7 +168,7 @@ sections_read (s ∷ ss) = section_read s ∷ sections_read ss
 
 abbrev pub image_read : ImageParts → Image
 image_read image = record {
-  base = 0x140000000;
+  base = IMAGE_BASE;
   entry = image.entry;
   size = end_of image.sections;
   sections = sections_read (placed 0x1000 1024 image.sections);

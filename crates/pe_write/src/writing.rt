@@ -6,12 +6,10 @@ ghost use Rattle.pe_write.specs.Written as spec;
 use crate::layout::{code_base, code_size, data_size, end_of, put_data, put_headers};
 use crate::parts::ImageSection;
 use crate::put::{put_u16, put_u32, put_u64, put_zeros};
+use host_layout::range::IMAGE_BASE;
 use pe_image::DataDirectory;
 use std::alloc::{AllocError, Global};
 use std::marker::Model;
-
-/// Where every image that is written lies in memory.
-const IMAGE_BASE: u64 = 0x1_4000_0000;
 
 /// An image to be written, section by section.
 #[derive(Drop)]

@@ -1,5 +1,6 @@
 -- Where the code of a program stands in memory, and the addresses in its bodies.
 use Rattle.std.specs.Prelude.{◌≡◌, ℕ, ◌+◌, List, [], ◌∷◌, ◌++◌, slice_get, Some}
+use Rattle.host_layout.specs.declared.range.TheConstants.{IMAGE_BASE}
 use Rattle.flat_memory.specs.Memory.{Memory}
 use Rattle.x64_instr.specs.declared.instruction.Instr.{Instr}
 use Rattle.frame_rules.specs.Bytes as code
@@ -15,7 +16,7 @@ use Rattle.program_tables.specs.Placed.{Placed, body_begin, site_of}
 
 -- where every image that is written is loaded
 abbrev pub image_base : ℕ
-image_base = 0x140000000
+image_base = IMAGE_BASE
 
 -- the text is in memory, to be executed
 abbrev pub HasText : Memory → LinearProgram → Type 0

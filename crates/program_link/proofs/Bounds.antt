@@ -2,7 +2,8 @@
 use Rattle.std.proofs.Common.{◌≡◌, ℕ, zero, suc, ◌+◌, ◌*◌, ◌^◌, ◌<◌, ◌≤◌, List, [], ◌∷◌, length, get_or, take, drop, Option, Some, None, refl, arith, length-append}
 use Rattle.std.specs.List.{AllByRecursion}
 use Rattle.eh_tables.specs.declared.range.RuntimeFunction.{RuntimeFunction}
-use Rattle.eh_tables.specs.Written.{u32, table_bytes}
+use Rattle.pe_image.specs.Numbers.{u32}
+use Rattle.eh_tables.specs.Written.{table_bytes}
 use Rattle.frame_layout.specs.declared.frame.Frame.{Frame}
 use Rattle.template_code.specs.Bytes.{spelled, size, sizes, thunk}
 use Rattle.template_code.specs.Template.{code_from}

@@ -5,7 +5,8 @@ use Rattle.std.specs.List.{flat_map}
 use Rattle.std.proofs.lemmas.List.{length-map}
 use Rattle.eh_tables.specs.declared.scope.ScopeRecord.{ScopeRecord}
 use Rattle.eh_tables.specs.declared.unwind_info.Trailer.{Trailer}
-use Rattle.eh_tables.specs.Written.{u16, u32, slot, is_small, is_short, allocation, header, padded, unwind_bytes, trailer_bytes, scope_record_bytes}
+use Rattle.pe_image.specs.Numbers.{u16, u32}
+use Rattle.eh_tables.specs.Written.{slot, is_small, is_short, allocation, header, padded, unwind_bytes, trailer_bytes, scope_record_bytes}
 use Rattle.linear_code.specs.declared.program.Region.{Region}
 use Rattle.frame_layout.specs.declared.frame.Frame.{Frame}
 use Rattle.frame_layout.specs.Layout.{info_of, taking_size}

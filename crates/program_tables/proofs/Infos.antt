@@ -10,7 +10,8 @@ use Rattle.eh_tables.specs.declared.unwind_info.Trailer.{Trailer}
 use Rattle.eh_tables.specs.declared.unwind_info.Trailer.TheVariants.{Nothing}
 use Rattle.eh_tables.specs.Handler.{is_c_handler}
 use Rattle.eh_tables.specs.ReadAgain.{IsUnwindInfo, HasTrailer, has_c_handler, parent_of}
-use Rattle.eh_tables.specs.Written.{u16, u32, bit, slot, is_small, is_short, allocation, header, padded, unwind_bytes, trailer_bytes, trailer_flags, scope_record_bytes, scope_bytes, CanBeWritten, IsTrailer}
+use Rattle.pe_image.specs.Numbers.{u16, u32}
+use Rattle.eh_tables.specs.Written.{bit, slot, is_small, is_short, allocation, header, padded, unwind_bytes, trailer_bytes, trailer_flags, scope_record_bytes, scope_bytes, CanBeWritten, IsTrailer}
 use Rattle.linear_code.specs.declared.program.Region.{Region}
 use Rattle.frame_layout.specs.declared.frame.Frame.{Frame}
 use Rattle.frame_layout.specs.Layout.{info_of, taking_size}

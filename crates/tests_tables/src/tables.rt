@@ -346,7 +346,7 @@ fn writes_infos(rt: HostRuntime) -> Result<(), Fail> {
 }
 
 #[test]
-#[tactic(auto, unfolding(eh_tables::specs::Written::u16))]
+#[tactic(auto, unfolding(pe_image::specs::Numbers::u16))]
 fn writes_frame_registers(rt: HostRuntime) -> Result<(), Fail> {
     // push rbp; sub rsp, 288; lea rbp, [rsp + 128]
     let mut out = Vec::new(rt.alloc());
@@ -398,7 +398,7 @@ fn pads_an_odd_count(rt: HostRuntime) -> Result<(), Fail> {
 }
 
 #[test]
-#[tactic(auto, unfolding(eh_tables::specs::Written::u16))]
+#[tactic(auto, unfolding(pe_image::specs::Numbers::u16))]
 fn writes_large_allocations(rt: HostRuntime) -> Result<(), Fail> {
     let mut out = Vec::new(rt.alloc());
     let mut codes = ArrayVec::new();
@@ -420,7 +420,7 @@ fn writes_large_allocations(rt: HostRuntime) -> Result<(), Fail> {
 }
 
 #[test]
-#[tactic(auto, unfolding(eh_tables::specs::Written::u16))]
+#[tactic(auto, unfolding(pe_image::specs::Numbers::u16))]
 fn writes_the_largest_of_two_slots(rt: HostRuntime) -> Result<(), Fail> {
     let mut out = Vec::new(rt.alloc());
     let mut codes = ArrayVec::new();
@@ -442,7 +442,7 @@ fn writes_the_largest_of_two_slots(rt: HostRuntime) -> Result<(), Fail> {
 }
 
 #[test]
-#[tactic(auto, unfolding(eh_tables::specs::Written::u32))]
+#[tactic(auto, unfolding(pe_image::specs::Numbers::u32))]
 fn writes_the_smallest_of_three_slots(rt: HostRuntime) -> Result<(), Fail> {
     let mut out = Vec::new(rt.alloc());
     let mut codes = ArrayVec::new();
@@ -464,7 +464,7 @@ fn writes_the_smallest_of_three_slots(rt: HostRuntime) -> Result<(), Fail> {
 }
 
 #[test]
-#[tactic(auto, unfolding(eh_tables::specs::Written::u16, eh_tables::specs::Written::u32))]
+#[tactic(auto, unfolding(pe_image::specs::Numbers::u16, pe_image::specs::Numbers::u32))]
 fn reads_again_what_is_written(rt: HostRuntime) -> Result<(), Fail> {
     let mut out = Vec::new(rt.alloc());
     let mut codes = ArrayVec::new();
