@@ -21,7 +21,8 @@ const PROBE_FREE: u64 = 4096;
 
 /// RSP changed by an operation with an operand.
 fn change_rsp(operation: Operation, from: Operand) -> Instr
-    ensures { result ≡ Instr.Arithmetic operation Width.W64 (RegisterOrMemory.Register Reg.Rsp) from }
+    ensures { result
+        ≡ Instr.Arithmetic operation Width.W64 (RegisterOrMemory.Register Reg.Rsp) from }
 {
     Instr::Arithmetic {
         operation,
@@ -85,7 +86,8 @@ pub fn unwind_of(frame: &Frame) -> UnwindInfo
     requires some { 0 < frame.now.size }
     requires fits { frame.now.size < 2 ^ 31 }
     ensures value { result ≡ info_of frame.now Trailer.Nothing }
-    ensures describes { (probe : ℕ) → Describes result (rules.unwind_of spell (plan_of frame.now probe)) }
+    ensures describes { (probe : ℕ)
+        → Describes result (rules.unwind_of spell (plan_of frame.now probe)) }
     ensures written { CanBeWritten result }
 {
     let prolog = prologue_size(frame.size);

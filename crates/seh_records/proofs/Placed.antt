@@ -1,4 +1,4 @@
--- A record that is placed stands at its place, and all other bytes are as before.
+-- A record that is placed is at its place, and all other bytes are as before.
 use Rattle.std.proofs.Common.{◌≡◌, ℕ, zero, suc, ◌+◌, ◌-◌, ◌*◌, ◌/◌, ◌%◌, ◌^◌, ◌<◌, ◌≤◌, Bool, true, false, cond, List, [], ◌∷◌, ◌++◌, length, get_or, length-append, refl, sym, ap, subst, ◌∙◌, arith, lit<, inl, inr}
 use Rattle.std.specs.Prelude.{◌⊎◌, replicate}
 use Rattle.std.proofs.lemmas.Bool.{cases_lt}
@@ -15,7 +15,7 @@ use Rattle.seh_records.specs.Laws.{AllSmall, AreBytes, Readable, Fits, PlacedIsR
 use Rattle.seh_records.proofs.Block.{one_block}
 use Rattle.seh_records.proofs.Standing.{run_is, fetched_back, count_words, eflags_small}
 
--- ---- words that stand before others
+-- ---- words that come before others
 
 apart : (x n a k : ℕ) → x + n ≤ a → a + k ≤ 2 ^ 64 → (i : ℕ) → i < n → IsApart ((x + i) % 2 ^ 64) a k
 apart x n a k before top i il j jl e = absurd (omega arith)

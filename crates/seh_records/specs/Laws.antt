@@ -38,11 +38,11 @@ AreBytes byte = (x : ℕ) → byte x < 256
 abbrev pub Readable : Memory → ℕ → Type 0
 Readable m at = first_refused (may_read m) 1568 at ≡ None
 
--- a record that is placed stands there
+-- a record that is placed is there
 abbrev pub PlacedIsRecord : Type 0
 PlacedIsRecord = (m : Memory) (at : ℕ) (r : DispatchRecord) → at + 1568 < 2 ^ 64 → at % 16 ≡ 0 → Fits r → Readable m at → IsRecordAt (placed m at r) at r
 
--- one that stands there is fetched
+-- one that is there is fetched
 abbrev pub RecordIsFetched : Type 0
 RecordIsFetched = (m : Memory) (at : ℕ) (r : DispatchRecord) → at + 1568 < 2 ^ 64 → AreBytes m.byte → Fits r → IsRecordAt m at r → fetched m at ≡ Some r
 

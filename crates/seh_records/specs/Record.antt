@@ -72,11 +72,11 @@ words at r = head at r ++ r.parameters ++ (0 ∷ []) ++ front r ++ r.saved.regis
 
 -- ---- placing
 
--- where the return address stands
+-- where the return address is
 abbrev pub return_address_at : ℕ → ℕ
 return_address_at at = (at + (2 ^ 64 - 8)) % 2 ^ 64
 
--- The least address from the return address to the record's end that is below the stack or may not be written. What passes the last address goes on at 0.
+-- The least address from the return address to the record's end that is below the stack or may not be written. What passes the last address continues at 0.
 unfoldable pub misplaced : Memory → ℕ → Option ℕ
 misplaced m at =
     if nat_lt (2 ^ 64) (return_address_at at + 1576) then Some 0
@@ -93,7 +93,7 @@ place_below rsp = let a = (rsp + (2 ^ 64 - 1568)) % 2 ^ 64 in a - a % 16
 
 -- ---- fetching
 
--- the host takes what stands there
+-- the host takes what is there
 abbrev pub word : Memory → ℕ → ℕ → ℕ
 word m at o = number_at m.byte 8 ((at + o) % 2 ^ 64)
 
@@ -140,7 +140,7 @@ if_readable m at None = if_marked m at (word m at 32 == mark)
 unfoldable pub fetched : Memory → ℕ → Option DispatchRecord
 fetched m at = if_readable m at (first_refused (may_read m) 1568 at)
 
--- the record stands at its place
+-- the record is at its place
 pub record IsRecordAt (m : Memory) (at : ℕ) (r : DispatchRecord) : Type 0 where
   pub aligned : at % 16 ≡ 0
   pub readable : first_refused (may_read m) 1568 at ≡ None

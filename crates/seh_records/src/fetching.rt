@@ -139,7 +139,7 @@ fn fetched<S: AddressSpace>(space: &S, at: u64) -> Option<DispatchRecord>
     }
 }
 
-/// The record that stands at an address. `BadRecord` is answered exactly where its bytes may not all
+/// The record at an address. `BadRecord` is answered exactly where its bytes may not all
 /// be read, the mark isn't there or the kind is none of the three.
 pub fn fetch<S: AddressSpace>(space: &S, at: u64) -> Result<DispatchRecord, BadRecord>
     ensures { result ≡ spec.fetch_answer at (spec.fetched (S.memory space.now) at) }

@@ -2,7 +2,7 @@
 
 ghost use Rattle.seh_records.specs.Laws.{MarkSpells, PlacedIsRecord, RecordIsFetched, PlacedIsFetched, PlacingLeavesOthers, FetchedByItsBytes, StoresLeaveIt};
 
-/// A record that is placed stands at its place, and one that stands is fetched, while no store meets
+/// A record that is placed is at its place, and one that is there is fetched, while no store meets
 /// its bytes past the home space. Placing leaves all other bytes.
 pub fn laws()
     ensures mark { MarkSpells }

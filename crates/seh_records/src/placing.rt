@@ -123,7 +123,9 @@ pub fn rewrite<S: AddressSpace>(
     dispatch: &DispatchRecord,
 ) -> Result<(), Guard>
     ensures answer { result ≡ spec.rewrite_answer (spec.misplaced (S.memory space.old) at) }
-    ensures after { S.memory space.new ≡ spec.after_place (S.memory space.old) at dispatch.now (spec.misplaced (S.memory space.old) at) }
+    ensures after { S.memory space.new
+        ≡ spec.after_place (S.memory space.old) at dispatch.now
+        (spec.misplaced (S.memory space.old) at) }
 {
     match misplaced(space, at) {
         Some(address) => Err(Guard { address }),
@@ -148,8 +150,11 @@ pub fn place<S: AddressSpace>(
     rsp: u64,
     dispatch: &DispatchRecord,
 ) -> Result<u64, Guard>
-    ensures answer { result ≡ spec.place_answer (spec.place_below rsp) (spec.misplaced (S.memory space.old) (spec.place_below rsp)) }
-    ensures after { S.memory space.new ≡ spec.after_place (S.memory space.old) (spec.place_below rsp) dispatch.now (spec.misplaced (S.memory space.old) (spec.place_below rsp)) }
+    ensures answer { result ≡ spec.place_answer (spec.place_below rsp)
+        (spec.misplaced (S.memory space.old) (spec.place_below rsp)) }
+    ensures after { S.memory space.new
+        ≡ spec.after_place (S.memory space.old) (spec.place_below rsp) dispatch.now
+        (spec.misplaced (S.memory space.old) (spec.place_below rsp)) }
 {
     let at = place_below(rsp);
     match misplaced(space, at) {

@@ -51,7 +51,8 @@ pub fn first_unreadable<S: AddressSpace>(space: &S, at: u64, count: u64) -> Opti
 /// Puts words from an address on.
 pub fn put_words<S: AddressSpace>(space: &mut S, at: u64, words: &[u64])
     requires { first_refused (may_write (S.memory space.old)) (8 * length words.now) at ≡ None }
-    ensures { S.memory space.new ≡ with_bytes (S.memory space.old) (with_words (S.memory space.old).byte at words.now) }
+    ensures { S.memory space.new
+        ≡ with_bytes (S.memory space.old) (with_words (S.memory space.old).byte at words.now) }
 {
     let mut here = at;
     for word in words {

@@ -63,7 +63,8 @@ fn first_block(
     target: u64,
 ) -> Option<(u64, ScopeRecord)>
     requires { from + length rows < 2 ^ 64 }
-    ensures value { result ≡ spec.first_finally (spec.until_if is_last target (spec.holding rva from rows.entry)) }
+    ensures value { result
+        ≡ spec.first_finally (spec.until_if is_last target (spec.holding rva from rows.entry)) }
     ensures small { IfSome result (λ x. x.0 + 1 < 2 ^ 64) }
 {
     let mut k = from;
@@ -90,7 +91,8 @@ pub fn first_searched(
     from: u64,
 ) -> Option<(u64, ScopeRecord)>
     requires { IsWhole tables.now }
-    ensures value { result ≡ spec.first_with_jump_target (spec.searched (asked_in in_body (entry_holding rva (entries_of tables.now))) rva from) }
+    ensures value { result ≡ spec.first_with_jump_target
+        (spec.searched (asked_in in_body (entry_holding rva (entries_of tables.now))) rva from) }
     ensures small { IfSome result (λ x. x.0 + 1 < 2 ^ 64) }
 {
     if !in_body {
@@ -121,7 +123,8 @@ pub fn first_unwound(
     target: u64,
 ) -> Option<(u64, ScopeRecord)>
     requires { IsWhole tables.now }
-    ensures value { result ≡ spec.first_finally (spec.unwound (asked_in in_body (entry_holding rva (entries_of tables.now))) rva from is_last target) }
+    ensures value { result ≡ spec.first_finally (spec.unwound
+        (asked_in in_body (entry_holding rva (entries_of tables.now))) rva from is_last target) }
     ensures small { IfSome result (λ x. x.0 + 1 < 2 ^ 64) }
 {
     if !in_body {

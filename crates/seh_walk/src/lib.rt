@@ -1,5 +1,5 @@
 //! The walk over frames: through the callers of frames, and past the host's two return addresses by
-//! the dispatch records that stand there; and the scope records that are asked at a frame.
+//! the dispatch records there; and the scope records that are asked at a frame.
 #![tactic(auto)]
 
 pub mod asked;

@@ -123,7 +123,8 @@ fn framed(answer: Result<Caller, UnwindErr>) -> WalkItem
 #[tactic(auto, using(crate::proofs::Meeting::met), unfolding(crate::specs::Walk::visited))]
 pub fn visit<S: AddressSpace>(tables: &Tables, space: &S, at: &WalkState) -> WalkItem
     requires { IsWhole tables.now }
-    ensures { seen (functions_of tables.now) at.now result ≡ spec.visited (functions_of tables.now) (S.memory space.now) at.now }
+    ensures { seen (functions_of tables.now) at.now result
+        ≡ spec.visited (functions_of tables.now) (S.memory space.now) at.now }
 {
     let rsp = at.context.kept[0];
     match at.context.rip {

@@ -13,7 +13,7 @@ abbrev pub after : Memory → Answer Context → Option (List Instr) → Option 
 after m a None = None
 after m a (Some is) = Some (a >>= left m is)
 
--- the part that stands at an address: its instruction, its length, and whether it is the last one
+-- the part that begins at an address: its instruction, its length, and whether it is the last one
 abbrev pub Part : Type 0
 Part = Instr × ℕ × Bool
 

@@ -2,7 +2,7 @@
 use Rattle.std.specs.Prelude.{ℕ, ◌+◌, ◌-◌, ◌^◌, ◌%◌, Bool, true, false, ◌==◌, nat_lt, if◌then◌else◌, Option, Some, None, slice_index, slice_set}
 use Rattle.x64_machine.specs.declared.context.Context.{Context}
 
--- where a nonvolatile register stands among the kept ones
+-- where a nonvolatile register is among the kept ones
 abbrev pub kept_index : ℕ → Option ℕ
 kept_index n =
     if n == 4 then Some 0

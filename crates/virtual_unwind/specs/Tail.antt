@@ -80,7 +80,7 @@ abbrev pub if_first : Option (List Instr) → Bool → Option (List Instr)
 if_first o true = o
 if_first o false = None
 
--- by the instruction that stands first; the others: by its size. An opening stands first alone
+-- by the instruction that comes first; the others: by its size. An opening comes first alone
 abbrev pub by_role : (ℕ → Option (List Instr)) → Bool → FetchedInstr → Role → Option (List Instr)
 by_role others first x Opens = if_first (prepend_instr x.instr (others x.size)) first
 by_role others first x Restores = prepend_instr x.instr (others x.size)
@@ -91,7 +91,7 @@ abbrev pub from_item : (ℕ → Option (List Instr)) → ℕ → Bool → Option
 from_item others f first None = None
 from_item others f first (Some x) = by_role others first x (role_of f x.plain x.instr)
 
--- the trailing part of at most so many instructions that stands at an address, if there is one
+-- the trailing part of at most so many instructions that begins at an address, if there is one
 unfoldable pub tail : ℕ → Bool → ℕ → Memory → ℕ → Option (List Instr)
 tail zero first f m at = None
 tail (suc n) first f m at = from_item (λ k. tail n false f m ((at + k) % 2 ^ 64)) f first (fetched_at m at)

@@ -20,7 +20,7 @@ use x64_memory::space::AddressSpace;
 /// What an instruction is to an epilogue.
 #[derive(Clone, Copy, Debug, PartialEq, Eq)]
 pub enum Role {
-    /// It gives back the allocation, and stands first.
+    /// It gives back the allocation, and comes first.
     Opens,
     /// It pops a register.
     Restores,
@@ -111,7 +111,8 @@ fn part_of(
     plain: bool,
     role: Role,
 ) -> Option<(Instr, usize, bool)>
-    ensures { result ≡ parts.part_of first (record { instr = instr; size = len; plain = plain }) role }
+    ensures { result
+        ≡ parts.part_of first (record { instr = instr; size = len; plain = plain }) role }
 {
     match role {
         Role::Opens => {
@@ -201,7 +202,7 @@ fn then_left_by<S: AddressSpace>(
     }
 }
 
-/// What the rest of an epilogue makes of a context, where one stands at an address.
+/// What the rest of an epilogue makes of a context, where one begins at an address.
 #[tactic(auto, unfolding(crate::specs::Tail::tail_at))]
 pub fn epilogue<S: AddressSpace>(
     space: &S,
@@ -209,7 +210,8 @@ pub fn epilogue<S: AddressSpace>(
     at: u64,
     context: &Context,
 ) -> Option<Result<Context, UnwindErr>>
-    ensures { result ≡ after (S.memory space.now) (Ok context.now) (spec.tail_at register (S.memory space.now) at) }
+    ensures { result ≡ after (S.memory space.now) (Ok context.now)
+        (spec.tail_at register (S.memory space.now) at) }
 {
     let mut here = at;
     let mut first = true;

@@ -34,7 +34,8 @@ fn undone_one<S: AddressSpace>(
     undo: Undo,
     operation: UnwindOperation,
 ) -> Result<Undo, UnwindErr>
-    ensures { undone_answer result ≡ spec.undone_one (S.memory space.now) base info.now (undo_of undo) operation }
+    ensures { undone_answer result
+        ≡ spec.undone_one (S.memory space.now) base info.now (undo_of undo) operation }
 {
     let mut after = undo;
     match operation {
@@ -60,8 +61,7 @@ fn undone_one<S: AddressSpace>(
         UnwindOperation::MachineFrame { info } => {
             let at = rsp(&undo.context).wrapping_add(8 * info as u64);
             after.context.rip = word(space, at)?;
-            let stack = word(space, at.wrapping_add(24))?;
-            after.context = with_rsp(&after.context, stack);
+            after.context = with_rsp(&after.context, word(space, at.wrapping_add(24))?);
             after.is_returned = true;
             Ok(after)
         }
@@ -76,7 +76,8 @@ pub fn undone<S: AddressSpace>(
     codes: Codes,
     start: Undo,
 ) -> Result<Undo, UnwindErr>
-    ensures { undone_answer result ≡ spec.undone (S.memory space.now) base info.now (spec.operations codes.entry) (undo_of start) }
+    ensures { undone_answer result ≡ spec.undone (S.memory space.now) base info.now
+        (spec.operations codes.entry) (undo_of start) }
 {
     let mut undo = start;
     for code in codes {
@@ -94,7 +95,8 @@ pub fn undone_by<S: AddressSpace>(
     codes: Codes,
     start: Undo,
 ) -> Result<Undo, UnwindErr>
-    ensures { undone_answer result ≡ spec.undone (S.memory space.now) base info.now (spec.operations (cases.run_by distance codes.entry)) (undo_of start) }
+    ensures { undone_answer result ≡ spec.undone (S.memory space.now) base info.now
+        (spec.operations (cases.run_by distance codes.entry)) (undo_of start) }
 {
     let mut left = codes;
     while let Some(code) = left.next() {
@@ -148,7 +150,8 @@ pub fn all_undone<S: AddressSpace>(
     parents: &[Info],
     start: Undo,
 ) -> Result<Undo, UnwindErr>
-    ensures { undone_answer result ≡ spec.all_undone (S.memory space.now) base parents.now (undo_of start) }
+    ensures { undone_answer result
+        ≡ spec.all_undone (S.memory space.now) base parents.now (undo_of start) }
 {
     match parents {
         [] => Ok(start),

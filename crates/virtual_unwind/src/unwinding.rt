@@ -44,7 +44,8 @@ fn unwound<S: AddressSpace>(
     parents: &[Info],
     context: &Context,
 ) -> Result<Context, UnwindErr>
-    ensures { result ≡ spec.unwound (S.memory space.now) base info.now parents.now (undone.operations info.now.codes) context.now }
+    ensures { result ≡ spec.unwound (S.memory space.now) base info.now parents.now
+        (undone.operations info.now.codes) context.now }
 {
     let start = Undo {
         context: *context,
@@ -63,7 +64,8 @@ fn unwound_by<S: AddressSpace>(
     distance: u64,
     context: &Context,
 ) -> Result<Context, UnwindErr>
-    ensures { result ≡ spec.unwound (S.memory space.now) base info.now parents.now (undone.operations (spec.run_by distance info.now.codes)) context.now }
+    ensures { result ≡ spec.unwound (S.memory space.now) base info.now parents.now
+        (undone.operations (spec.run_by distance info.now.codes)) context.now }
 {
     let start = Undo {
         context: *context,
@@ -95,7 +97,8 @@ fn in_prologue<S: AddressSpace>(
     distance: u64,
     context: &Context,
 ) -> Result<Caller, UnwindErr>
-    ensures { result ≡ shown (spec.in_prologue (S.memory space.now) info.now parents.now (undone.operations (spec.run_by distance info.now.codes)) context.now) }
+    ensures { result ≡ shown (spec.in_prologue (S.memory space.now) info.now parents.now
+        (undone.operations (spec.run_by distance info.now.codes)) context.now) }
 {
     let is_set = info.frame_register() != 0 && sets_frame_by(distance, info.codes());
     let base = base_if(info, context, is_set);
@@ -158,7 +161,8 @@ fn in_entry<S: AddressSpace>(
     distance: u64,
     context: &Context,
 ) -> Result<Caller, UnwindErr>
-    ensures { result ≡ shown (spec.in_entry (S.memory space.now) info.now parents.now context.now distance) }
+    ensures { result
+        ≡ shown (spec.in_entry (S.memory space.now) info.now parents.now context.now distance) }
 {
     if distance < info.prologue_size() as u64 {
         in_prologue(space, info, parents, distance, context)
@@ -173,7 +177,8 @@ fn of_entry<S: AddressSpace>(
     rva: u64,
     context: &Context,
 ) -> Result<Caller, UnwindErr>
-    ensures { result ≡ shown (spec.of_entry (S.memory space.now) context.now rva (option_map (λ e. e.now) entry.entry)) }
+    ensures { result ≡ shown
+        (spec.of_entry (S.memory space.now) context.now rva (option_map (λ e. e.now) entry.entry)) }
 {
     match entry {
         None => leaf(space, context),

@@ -1,3 +1,4 @@
+pub mod Appending
 pub mod Near
 pub mod Linking
 pub mod Entries

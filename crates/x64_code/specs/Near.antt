@@ -58,3 +58,11 @@ IsInstructionNear y (instructions.Call function first count) = AreArgumentsNear 
 IsInstructionNear y (instructions.CallBuiltIn function first) = AreArgumentsNear y first 4
 IsInstructionNear y (instructions.Return from) = IsSlotNear y from × IsFrameNear y
 IsInstructionNear y other = Unit {0}
+
+-- those that call a function, a block or a service
+abbrev pub IsCall : Instruction → Type 0
+IsCall (instructions.Call function first count) = Unit {0}
+IsCall (instructions.CallBuiltIn function first) = Unit {0}
+IsCall (instructions.CallFinally funclet) = Unit {0}
+IsCall (instructions.LocalUnwind label) = Unit {0}
+IsCall other = ⊥

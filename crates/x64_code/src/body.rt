@@ -1,11 +1,11 @@
 //! Bodies of linear code.
 
-ghost use Rattle.std.specs.Prelude.{◌≡◌, ◌+◌, ◌*◌, ◌≤◌, ◌^◌, ◌++◌, length, OnOk, IfOk};
+ghost use Rattle.std.specs.Prelude.{◌≡◌, ◌+◌, ◌*◌, ◌≤◌, ◌^◌, length, OnOk, IfOk};
 ghost use Rattle.std.specs.List.{AllByRecursion};
 ghost use Rattle.x64_code.specs.Bodies as spec;
 ghost use Rattle.x64_code.specs.Linking.{links_of};
 ghost use Rattle.x64_code.specs.Near.{IsInstructionNear};
-ghost use Rattle.template_code.specs.Bytes.{spelled};
+ghost use Rattle.x64_code.specs.Appending.{Appended};
 ghost use Rattle.template_code.specs.Template.{code_from, body_size};
 
 use crate::links::{Links, NO_THUNKS};
@@ -57,7 +57,8 @@ pub fn put_body(
 ) -> Result<(), AllocError>
     requires near { AllByRecursion (IsInstructionNear layout.now) body.now }
     requires room { spec.HasRoom start body.now }
-    ensures { OnOk result (code.new.items ≡ code.old.items ++ spelled (code_from (links_of links.now) layout.now start body.now)) }
+    ensures { OnOk result
+        (Appended code.old (code_from (links_of links.now) layout.now start body.now) code.new) }
 {
     let mut at = u64::from(start);
     for instruction in body {

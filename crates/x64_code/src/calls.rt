@@ -8,6 +8,7 @@ ghost use Rattle.template_code.specs.Calls as spec;
 ghost use Rattle.template_code.specs.Jumps as jumps;
 ghost use Rattle.template_code.specs.Operations as operations;
 ghost use Rattle.template_code.specs.Bytes.{spelled};
+ghost use Rattle.x64_code.specs.Appending.{Appended};
 
 use crate::put::{RAX, above, copy, load, put, set, store};
 use crate::slots::{put_fetch, put_keep};
@@ -46,7 +47,7 @@ fn call(next: u64, to: u64) -> Instr
 pub fn put_jump(code: &mut Vec<u8>, at: u64, to: u64) -> Result<(), AllocError>
     requires at { IsNear at }
     requires to { IsNear to }
-    ensures { OnOk result (code.new.items ≡ code.old.items ++ spelled (jumps.jump_code at to)) }
+    ensures { OnOk result (Appended code.old (jumps.jump_code at to) code.new) }
 {
     put(
         code,
@@ -57,7 +58,7 @@ pub fn put_jump(code: &mut Vec<u8>, at: u64, to: u64) -> Result<(), AllocError>
 /// Adds a comparison of a slot with 0.
 fn put_test(code: &mut Vec<u8>, layout: &Layout, slot: Slot) -> Result<(), AllocError>
     requires { IsSlotNear layout.now slot }
-    ensures { OnOk result (code.new.items ≡ code.old.items ++ spelled (jumps.test_code layout.now slot)) }
+    ensures { OnOk result (Appended code.old (jumps.test_code layout.now slot) code.new) }
 {
     put_fetch(code, layout, Reg::Rax, slot)?;
     let compare = Instr::Arithmetic {
@@ -90,7 +91,8 @@ pub fn put_jump_if_zero(
     requires slot { IsSlotNear layout.now slot }
     requires at { IsNear at }
     requires to { IsNear to }
-    ensures { OnOk result (code.new.items ≡ code.old.items ++ spelled (jumps.jump_if_zero_code layout.now slot at to)) }
+    ensures { OnOk result
+        (Appended code.old (jumps.jump_if_zero_code layout.now slot at to) code.new) }
 {
     let before = code.len();
     put_test(code, layout, slot)?;
@@ -101,7 +103,7 @@ pub fn put_jump_if_zero(
 /// Adds what brings four temporaries to the registers of arguments.
 fn put_arguments(code: &mut Vec<u8>, layout: &Layout, first: u64) -> Result<(), AllocError>
     requires { AreArgumentsNear layout.now first 4 }
-    ensures { OnOk result (code.new.items ≡ code.old.items ++ spelled (spec.arguments_code layout.now first)) }
+    ensures { OnOk result (Appended code.old (spec.arguments_code layout.now first) code.new) }
 {
     let from = layout.temporaries + 8 * first;
     put(code, &load(Reg::Rcx, Reg::Rsp, from))?;
@@ -118,7 +120,8 @@ fn put_passing(
     count: u64,
 ) -> Result<(), AllocError>
     requires arguments { AreArgumentsNear layout.now first count }
-    ensures { OnOk result (code.new.items ≡ code.old.items ++ spelled (spec.passing_code layout.now first 4 (count - 4))) }
+    ensures { OnOk result
+        (Appended code.old (spec.passing_code layout.now first 4 (count - 4)) code.new) }
 {
     for i in 4..count {
         let from = layout.temporaries + 8 * (first + i);
@@ -139,7 +142,7 @@ fn put_begin_call(
     requires arguments { AreArgumentsNear layout.now first 4 }
     requires at { at < 2 ^ 30 + 256 }
     requires to { IsNear to }
-    ensures { OnOk result (code.new.items ≡ code.old.items ++ spelled (spec.begin_call layout.now first at to)) }
+    ensures { OnOk result (Appended code.old (spec.begin_call layout.now first at to) code.new) }
 {
     let before = code.len();
     put_arguments(code, layout, first)?;
@@ -158,7 +161,9 @@ fn put_call(
     requires arguments { AreArgumentsNear layout.now first 4 }
     requires at { at < 2 ^ 30 + 256 }
     requires to { IsNear to }
-    ensures { OnOk result (code.new.items ≡ code.old.items ++ spelled (spec.call_code layout.now (slots.Temporary first) first at to)) }
+    ensures { OnOk result
+        (Appended code.old
+        (spec.call_code layout.now (slots.Temporary first) first at to) code.new) }
 {
     put_begin_call(code, layout, first, at, to)?;
     put_keep(code, layout, Slot::Temporary(first))
@@ -175,7 +180,8 @@ pub fn put_call_built_in(
     requires arguments { AreArgumentsNear layout.now first 4 }
     requires at { IsNear at }
     requires to { IsNear to }
-    ensures { OnOk result (code.new.items ≡ code.old.items ++ spelled (spec.call_built_in_code layout.now first at to)) }
+    ensures { OnOk result
+        (Appended code.old (spec.call_built_in_code layout.now first at to) code.new) }
 {
     put(code, &set(Width::W32, Reg::Rax, 0))?;
     put_call(code, layout, first, at + MOVE_SIZE, to)
@@ -193,7 +199,8 @@ pub fn put_passing_call(
     requires arguments { AreArgumentsNear layout.now first count }
     requires at { IsNear at }
     requires to { IsNear to }
-    ensures { OnOk result (code.new.items ≡ code.old.items ++ spelled (spec.passing_call_code layout.now first count at to)) }
+    ensures { OnOk result
+        (Appended code.old (spec.passing_call_code layout.now first count at to) code.new) }
 {
     let before = code.len();
     put_passing(code, layout, first, count)?;
@@ -213,7 +220,7 @@ fn put_finally_arguments(code: &mut Vec<u8>) -> Result<(), AllocError>
 pub fn put_call_finally(code: &mut Vec<u8>, at: u64, to: u64) -> Result<(), AllocError>
     requires at { IsNear at }
     requires to { IsNear to }
-    ensures { OnOk result (code.new.items ≡ code.old.items ++ spelled (spec.call_finally_code at to)) }
+    ensures { OnOk result (Appended code.old (spec.call_finally_code at to) code.new) }
 {
     let before = code.len();
     put_finally_arguments(code)?;
@@ -231,7 +238,7 @@ pub fn put_local_unwind(
     requires at { IsNear at }
     requires target { IsNear target }
     requires thunk { IsNear thunk }
-    ensures { OnOk result (code.new.items ≡ code.old.items ++ spelled (spec.local_unwind_code at target thunk)) }
+    ensures { OnOk result (Appended code.old (spec.local_unwind_code at target thunk) code.new) }
 {
     put(code, &copy(Width::W64, Reg::Rcx, Reg::Rsp))?;
     let address = Instr::LoadAddress {
@@ -250,7 +257,7 @@ pub fn put_local_unwind(
 /// Adds what gives back a frame, if there is one, and returns.
 fn put_epilogue(code: &mut Vec<u8>, frame: u64) -> Result<(), AllocError>
     requires { frame < 2 ^ 30 }
-    ensures { OnOk result (code.new.items ≡ code.old.items ++ spelled (spec.epilogue frame)) }
+    ensures { OnOk result (Appended code.old (spec.epilogue frame) code.new) }
 {
     if frame == 0 {
         return put(code, &Instr::Return);
@@ -269,7 +276,7 @@ fn put_epilogue(code: &mut Vec<u8>, frame: u64) -> Result<(), AllocError>
 pub fn put_return(code: &mut Vec<u8>, layout: &Layout, from: Slot) -> Result<(), AllocError>
     requires slot { IsSlotNear layout.now from }
     requires frame { IsFrameNear layout.now }
-    ensures { OnOk result (code.new.items ≡ code.old.items ++ spelled (spec.return_code layout.now from)) }
+    ensures { OnOk result (Appended code.old (spec.return_code layout.now from) code.new) }
 {
     put_fetch(code, layout, Reg::Rax, from)?;
     put_epilogue(code, layout.frame)
@@ -278,7 +285,8 @@ pub fn put_return(code: &mut Vec<u8>, layout: &Layout, from: Slot) -> Result<(),
 /// The load of a number so far above the address in RAX.
 fn field_at(width: Width, displacement: u64) -> Instr
     requires { displacement < 2 ^ 30 }
-    ensures value { result ≡ Instr.Move width (RegisterOrMemory.Register Reg.Rax) (Operand.Memory (operations.above Reg.Rax displacement)) }
+    ensures value { result ≡ Instr.Move width (RegisterOrMemory.Register Reg.Rax)
+        (Operand.Memory (operations.above Reg.Rax displacement)) }
     ensures encodable { IsEncodable result }
 {
     Instr::Move {
@@ -312,7 +320,7 @@ pub fn put_information(
     requires slot { IsSlotNear layout.now to }
     requires pointers { ArePointersNear layout.now }
     requires field { IsFieldNear field }
-    ensures { OnOk result (code.new.items ≡ code.old.items ++ spelled (spec.information_code layout.now to field)) }
+    ensures { OnOk result (Appended code.old (spec.information_code layout.now to field) code.new) }
 {
     put(code, &load(Reg::Rax, Reg::Rsp, layout.pointers))?;
     put(code, &load(Reg::Rax, Reg::Rax, 0))?;

@@ -13,6 +13,7 @@ ghost use Rattle.template_code.specs.Jumps.{distance};
 ghost use Rattle.template_code.specs.Operations as operations;
 ghost use Rattle.template_code.specs.Slots as places;
 ghost use Rattle.template_code.specs.Bytes.{spelled, thunk};
+ghost use Rattle.x64_code.specs.Appending.{Appended};
 ghost use Rattle.template_code.specs.Probing.{check_stack};
 
 use crate::calls::distance;
@@ -40,7 +41,7 @@ const PROBE_END: u64 = 10;
 pub fn put_thunk(code: &mut Vec<u8>, at: u64, slot: u64) -> Result<(), AllocError>
     requires at { IsNear at }
     requires slot { IsNear slot }
-    ensures { OnOk result (code.new.items ≡ code.old.items ++ spelled (thunk (distance (at + 6) slot) ∷ [])) }
+    ensures { OnOk result (Appended code.old (thunk (distance (at + 6) slot) ∷ []) code.new) }
 {
     let slot = MemRef {
         base: Base::Rip,
@@ -105,7 +106,9 @@ pub fn put_prologue(
     requires small { frame.now.size < 2 ^ 31 }
     requires at { IsNear at }
     requires check_stack { IsNear check_stack }
-    ensures { OnOk result (code.new.items ≡ code.old.items ++ spelled (prologue_code (plan_of frame.now (distance (at + 10) check_stack)))) }
+    ensures { OnOk result
+        (Appended code.old
+        (prologue_code (plan_of frame.now (distance (at + 10) check_stack))) code.new) }
 {
     let instrs = prologue(frame, distance(at + PROBE_END, check_stack));
     put_all(code, instrs.as_slice())
@@ -126,7 +129,7 @@ fn parameter_register(index: u64) -> Reg
 /// Adds what brings a parameter to the local of its number.
 fn put_parameter(code: &mut Vec<u8>, layout: &Layout, index: u64) -> Result<(), AllocError>
     requires { AreParametersNear layout.now (index + 1) }
-    ensures { OnOk result (code.new.items ≡ code.old.items ++ spelled (spec.parameter_code layout.now index)) }
+    ensures { OnOk result (Appended code.old (spec.parameter_code layout.now index) code.new) }
 {
     let local = layout.locals + 8 * index;
     if index < 4 {
@@ -143,7 +146,7 @@ fn put_parameter(code: &mut Vec<u8>, layout: &Layout, index: u64) -> Result<(), 
 /// Adds what brings the parameters of a function to its locals.
 pub fn put_parameters(code: &mut Vec<u8>, layout: &Layout, count: u64) -> Result<(), AllocError>
     requires { AreParametersNear layout.now count }
-    ensures { OnOk result (code.new.items ≡ code.old.items ++ spelled (spec.parameters_code layout.now 0 count)) }
+    ensures { OnOk result (Appended code.old (spec.parameters_code layout.now 0 count) code.new) }
 {
     for index in 0..count {
         put_parameter(code, layout, index)?;
@@ -155,7 +158,7 @@ pub fn put_parameters(code: &mut Vec<u8>, layout: &Layout, count: u64) -> Result
 /// is: the function's own, or that of another funclet, which keeps the base at `parent`.
 pub fn put_keep_base(code: &mut Vec<u8>, parent: Option<u64>, base: u64) -> Result<(), AllocError>
     requires { entries.IsKeptNear parent base }
-    ensures { OnOk result (code.new.items ≡ code.old.items ++ spelled (entries.keep_base parent base)) }
+    ensures { OnOk result (Appended code.old (entries.keep_base parent base) code.new) }
 {
     match parent {
         None => put(code, &store(Reg::Rsp, base, Reg::Rdx)),
@@ -169,7 +172,8 @@ pub fn put_keep_base(code: &mut Vec<u8>, parent: Option<u64>, base: u64) -> Resu
 /// Adds what keeps the address of a filter's EXCEPTION_POINTERS.
 pub fn put_keep_pointers(code: &mut Vec<u8>, layout: &Layout) -> Result<(), AllocError>
     requires { ArePointersNear layout.now }
-    ensures { OnOk result (code.new.items ≡ code.old.items ++ spelled (spec.keep_register Reg.Rcx layout.now.pointers ∷ [])) }
+    ensures { OnOk result
+        (Appended code.old (spec.keep_register Reg.Rcx layout.now.pointers ∷ []) code.new) }
 {
     put(code, &store(Reg::Rsp, layout.pointers, Reg::Rcx))
 }
@@ -177,7 +181,9 @@ pub fn put_keep_pointers(code: &mut Vec<u8>, layout: &Layout) -> Result<(), Allo
 /// Adds what brings the flag of a `__finally` block, in ECX, to a local.
 pub fn put_keep_flag(code: &mut Vec<u8>, layout: &Layout, flag: u64) -> Result<(), AllocError>
     requires { IsSlotNear layout.now (slots.Local flag) }
-    ensures { OnOk result (code.new.items ≡ code.old.items ++ spelled (operations.move Width.W32 Reg.Rax Reg.Rcx ∷ places.keep layout.now (slots.Local flag))) }
+    ensures { OnOk result
+        (Appended code.old (operations.move Width.W32 Reg.Rax Reg.Rcx
+        ∷ places.keep layout.now (slots.Local flag)) code.new) }
 {
     put(code, &copy(Width::W32, Reg::Rax, Reg::Rcx))?;
     put_keep(code, layout, Slot::Local(flag))

@@ -1,10 +1,10 @@
 //! The instructions of each operation: its operands are in RAX and RCX, and RAX takes the result.
 
-ghost use Rattle.std.specs.Prelude.{◌≡◌, true, [], ◌∷◌, ◌++◌, OnOk};
+ghost use Rattle.std.specs.Prelude.{◌≡◌, true, [], ◌∷◌, OnOk};
 ghost use Rattle.c_operations.specs.Numbers as numbers;
 ghost use Rattle.x64_encode.specs.Chosen.{is_wide, IsEncodable};
 ghost use Rattle.template_code.specs.Operations as spec;
-ghost use Rattle.template_code.specs.Bytes.{spelled};
+ghost use Rattle.x64_code.specs.Appending.{Appended};
 
 use crate::put::{RAX, RCX, above, arithmetic, copy, put, set};
 use c_operations::operation::{Operation, Pure, Relation, Signedness, Size};
@@ -69,7 +69,7 @@ fn put_extended(
     from: Width,
     size: Size,
 ) -> Result<(), AllocError>
-    ensures { OnOk result (code.new.items ≡ code.old.items ++ spelled (spec.extended signedness from size)) }
+    ensures { OnOk result (Appended code.old (spec.extended signedness from size) code.new) }
 {
     match signedness {
         Signedness::Unsigned => put(code, &zero_extended(from, size)),
@@ -85,7 +85,8 @@ fn put_compared(
     second: Reg,
     condition: Condition,
 ) -> Result<(), AllocError>
-    ensures { OnOk result (code.new.items ≡ code.old.items ++ spelled (spec.compared width first second condition)) }
+    ensures { OnOk result
+        (Appended code.old (spec.compared width first second condition) code.new) }
 {
     put(
         code,
@@ -121,7 +122,7 @@ fn put_compare(
     signedness: Signedness,
     width: Width,
 ) -> Result<(), AllocError>
-    ensures { OnOk result (code.new.items ≡ code.old.items ++ spelled (spec.compare relation signedness width)) }
+    ensures { OnOk result (Appended code.old (spec.compare relation signedness width) code.new) }
 {
     match relation {
         Relation::Equal => put_compared(code, width, Reg::Rax, Reg::Rcx, Condition::Equal),
@@ -138,13 +139,15 @@ fn put_compare(
 }
 
 fn arithmetic_of_both(operation: x64::Operation, size: Size) -> Instr
-    ensures { result ≡ Instr.Arithmetic operation (numbers.width size) (RegisterOrMemory.Register Reg.Rax) (Operand.Register Reg.Rcx) }
+    ensures { result ≡ Instr.Arithmetic operation (numbers.width size)
+        (RegisterOrMemory.Register Reg.Rax) (Operand.Register Reg.Rcx) }
 {
     arithmetic(operation, width_of(size), Reg::Rax, Reg::Rcx)
 }
 
 fn unary(operation: Unary, size: Size) -> Instr
-    ensures { result ≡ Instr.Unary operation (numbers.width size) (RegisterOrMemory.Register Reg.Rax) }
+    ensures { result
+        ≡ Instr.Unary operation (numbers.width size) (RegisterOrMemory.Register Reg.Rax) }
 {
     Instr::Unary {
         operation,
@@ -155,7 +158,8 @@ fn unary(operation: Unary, size: Size) -> Instr
 
 /// RAX shifted by CL.
 fn shift(direction: Direction, size: Size) -> Instr
-    ensures value { result ≡ Instr.Shift direction (numbers.width size) (RegisterOrMemory.Register Reg.Rax) Count.Cl }
+    ensures value { result
+        ≡ Instr.Shift direction (numbers.width size) (RegisterOrMemory.Register Reg.Rax) Count.Cl }
     ensures encodable { IsEncodable result }
 {
     Instr::Shift {
@@ -168,7 +172,8 @@ fn shift(direction: Direction, size: Size) -> Instr
 
 /// RAX multiplied by RCX.
 fn multiply(size: Size) -> Instr
-    ensures value { result ≡ Instr.Multiply (numbers.width size) Reg.Rax (RegisterOrMemory.Register Reg.Rcx) }
+    ensures value { result
+        ≡ Instr.Multiply (numbers.width size) Reg.Rax (RegisterOrMemory.Register Reg.Rcx) }
     ensures encodable { IsEncodable result }
 {
     Instr::Multiply {
@@ -189,7 +194,7 @@ fn right(signedness: Signedness) -> Direction
 
 /// Adds an operation without faults.
 fn put_pure(code: &mut Vec<u8>, operation: Pure) -> Result<(), AllocError>
-    ensures { OnOk result (code.new.items ≡ code.old.items ++ spelled (spec.pure_code operation)) }
+    ensures { OnOk result (Appended code.old (spec.pure_code operation) code.new) }
 {
     match operation {
         Pure::Constant(value) => put(code, &set(Width::W64, Reg::Rax, value)),
@@ -232,7 +237,7 @@ fn high_half(signedness: Signedness, size: Size) -> Instr
 
 /// Adds what comes before the instruction that can fault.
 pub fn put_before(code: &mut Vec<u8>, operation: Operation) -> Result<(), AllocError>
-    ensures { OnOk result (code.new.items ≡ code.old.items ++ spelled (spec.before operation)) }
+    ensures { OnOk result (Appended code.old (spec.before operation) code.new) }
 {
     match operation {
         Operation::Divide(signedness, size) | Operation::Remainder(signedness, size) => {
@@ -244,7 +249,8 @@ pub fn put_before(code: &mut Vec<u8>, operation: Operation) -> Result<(), AllocE
 
 /// A division of RDX and RAX by RCX.
 fn division(signedness: Signedness, size: Size) -> Instr
-    ensures value { result ≡ Instr.Divide (spec.division signedness) (numbers.width size) (RegisterOrMemory.Register Reg.Rcx) }
+    ensures value { result ≡ Instr.Divide (spec.division signedness) (numbers.width size)
+        (RegisterOrMemory.Register Reg.Rcx) }
     ensures encodable { IsEncodable result }
 {
     let division = match signedness {
@@ -281,7 +287,7 @@ fn load(width: Width) -> Instr
 
 /// Adds a store of RCX to the address in RAX, which takes RCX.
 fn put_store(code: &mut Vec<u8>, width: Width) -> Result<(), AllocError>
-    ensures { OnOk result (code.new.items ≡ code.old.items ++ spelled (spec.work (Operation.Store width))) }
+    ensures { OnOk result (Appended code.old (spec.work (Operation.Store width)) code.new) }
 {
     let store = Instr::Move {
         width,
@@ -294,7 +300,7 @@ fn put_store(code: &mut Vec<u8>, width: Width) -> Result<(), AllocError>
 
 /// Adds an operation, from the instruction on that can fault.
 pub fn put_work(code: &mut Vec<u8>, operation: Operation) -> Result<(), AllocError>
-    ensures { OnOk result (code.new.items ≡ code.old.items ++ spelled (spec.work operation)) }
+    ensures { OnOk result (Appended code.old (spec.work operation) code.new) }
 {
     match operation {
         Operation::Pure(operation) => put_pure(code, operation),

@@ -1,9 +1,9 @@
 //! Instructions, appended one by one.
 
-ghost use Rattle.std.specs.Prelude.{◌≡◌, [], ◌∷◌, ◌++◌, OnOk};
+ghost use Rattle.std.specs.Prelude.{◌≡◌, [], ◌∷◌, OnOk};
 ghost use Rattle.x64_encode.specs.Chosen.{IsEncodable};
 ghost use Rattle.template_code.specs.Operations.{above, move};
-ghost use Rattle.template_code.specs.Bytes.{spelled};
+ghost use Rattle.x64_code.specs.Appending.{Appended};
 ghost use Rattle.template_code.specs.Slots as slots;
 
 use arrayvec::ArrayVec;
@@ -21,7 +21,7 @@ pub const RCX: RegisterOrMemory = RegisterOrMemory::Register(Reg::Rcx);
 /// Adds the bytes of an instruction.
 pub fn put(code: &mut Vec<u8>, instr: &Instr) -> Result<(), AllocError>
     requires { IsEncodable instr.now }
-    ensures { OnOk result (code.new.items ≡ code.old.items ++ spelled (instr.now ∷ [])) }
+    ensures { OnOk result (Appended code.old (instr.now ∷ []) code.new) }
 {
     let mut bytes = ArrayVec::new();
     encode(instr, &mut bytes);
@@ -74,7 +74,8 @@ pub fn load(to: Reg, base: Reg, displacement: u64) -> Instr
 
 /// A register of 64 bits to memory.
 pub fn store(base: Reg, displacement: u64, from: Reg) -> Instr
-    ensures { result ≡ Instr.Move Width.W64 (RegisterOrMemory.Memory (above base displacement)) (Operand.Register from) }
+    ensures { result ≡ Instr.Move Width.W64 (RegisterOrMemory.Memory (above base displacement))
+        (Operand.Register from) }
 {
     Instr::Move {
         width: Width::W64,
@@ -85,7 +86,8 @@ pub fn store(base: Reg, displacement: u64, from: Reg) -> Instr
 
 /// An operation on two registers.
 pub fn arithmetic(operation: Operation, width: Width, to: Reg, from: Reg) -> Instr
-    ensures { result ≡ Instr.Arithmetic operation width (RegisterOrMemory.Register to) (Operand.Register from) }
+    ensures { result
+        ≡ Instr.Arithmetic operation width (RegisterOrMemory.Register to) (Operand.Register from) }
 {
     Instr::Arithmetic {
         operation,

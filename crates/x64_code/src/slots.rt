@@ -1,8 +1,8 @@
 //! Slots, fetched and kept.
 
-ghost use Rattle.std.specs.Prelude.{◌≡◌, ◌++◌, OnOk};
+ghost use Rattle.std.specs.Prelude.{OnOk};
 ghost use Rattle.x64_code.specs.Near.{IsSlotNear};
-ghost use Rattle.template_code.specs.Bytes.{spelled};
+ghost use Rattle.x64_code.specs.Appending.{Appended};
 ghost use Rattle.template_code.specs.Slots as spec;
 
 use crate::operations::{put_before, put_work};
@@ -16,7 +16,7 @@ use x64_instr::register::Reg;
 /// Adds what brings a slot to a register.
 pub fn put_fetch(code: &mut Vec<u8>, layout: &Layout, to: Reg, slot: Slot) -> Result<(), AllocError>
     requires { IsSlotNear layout.now slot }
-    ensures { OnOk result (code.new.items ≡ code.old.items ++ spelled (spec.fetch layout.now to slot)) }
+    ensures { OnOk result (Appended code.old (spec.fetch layout.now to slot) code.new) }
 {
     match slot {
         Slot::Temporary(i) => put(code, &load(to, Reg::Rsp, layout.temporaries + 8 * i)),
@@ -37,7 +37,7 @@ pub fn put_fetch(code: &mut Vec<u8>, layout: &Layout, to: Reg, slot: Slot) -> Re
 /// a `__finally` block.
 pub fn put_keep(code: &mut Vec<u8>, layout: &Layout, slot: Slot) -> Result<(), AllocError>
     requires { IsSlotNear layout.now slot }
-    ensures { OnOk result (code.new.items ≡ code.old.items ++ spelled (spec.keep layout.now slot)) }
+    ensures { OnOk result (Appended code.old (spec.keep layout.now slot) code.new) }
 {
     match slot {
         Slot::Temporary(i) => put(code, &store(Reg::Rsp, layout.temporaries + 8 * i, Reg::Rax)),
@@ -66,7 +66,8 @@ pub fn put_compute(
     requires to { IsSlotNear layout.now to }
     requires first { IsSlotNear layout.now first }
     requires second { IsSlotNear layout.now second }
-    ensures { OnOk result (code.new.items ≡ code.old.items ++ spelled (spec.compute_code layout.now to operation first second)) }
+    ensures { OnOk result
+        (Appended code.old (spec.compute_code layout.now to operation first second) code.new) }
 {
     put_fetch(code, layout, Reg::Rax, first)?;
     put_fetch(code, layout, Reg::Rcx, second)?;

@@ -1,9 +1,9 @@
 //! The template of an instruction of linear code.
 
-ghost use Rattle.std.specs.Prelude.{◌≡◌, ◌++◌, OnOk};
+ghost use Rattle.std.specs.Prelude.{OnOk};
 ghost use Rattle.x64_code.specs.Linking.{links_of};
-ghost use Rattle.x64_code.specs.Near.{IsNear, IsInstructionNear};
-ghost use Rattle.template_code.specs.Bytes.{spelled};
+ghost use Rattle.x64_code.specs.Near.{IsNear, IsInstructionNear, IsCall};
+ghost use Rattle.x64_code.specs.Appending.{Appended};
 ghost use Rattle.template_code.specs.Template.{template};
 
 use crate::calls::{
@@ -18,6 +18,39 @@ use std::alloc::AllocError;
 use template_code::layout::Layout;
 use x64_instr::instruction::Instr;
 
+/// Adds the template of an instruction that calls.
+fn put_call_instruction(
+    code: &mut Vec<u8>,
+    links: &Links<'_>,
+    layout: &Layout,
+    at: u64,
+    instruction: &Instruction,
+) -> Result<(), AllocError>
+    requires near { IsInstructionNear layout.now instruction.now }
+    requires at { IsNear at }
+    requires call { IsCall instruction.now }
+    ensures { OnOk result
+        (Appended code.old (template (links_of links.now) layout.now at instruction.now) code.new) }
+{
+    match *instruction {
+        Instruction::Call {
+            function,
+            first,
+            count,
+        } => put_passing_call(code, layout, first, count, at, links.function(function)),
+        Instruction::CallBuiltIn { function, first } => {
+            put_call_built_in(code, layout, first, at, links.built_in(function))
+        }
+        Instruction::CallFinally { funclet } => {
+            put_call_finally(code, at, links.funclet(funclet))
+        }
+        Instruction::LocalUnwind { label } => {
+            put_local_unwind(code, at, links.label(label), links.local_unwind())
+        }
+        _ => unreachable!(),
+    }
+}
+
 /// Adds the template of an instruction that begins at an address.
 pub fn put_instruction(
     code: &mut Vec<u8>,
@@ -28,7 +61,8 @@ pub fn put_instruction(
 ) -> Result<(), AllocError>
     requires near { IsInstructionNear layout.now instruction.now }
     requires at { IsNear at }
-    ensures { OnOk result (code.new.items ≡ code.old.items ++ spelled (template (links_of links.now) layout.now at instruction.now)) }
+    ensures { OnOk result
+        (Appended code.old (template (links_of links.now) layout.now at instruction.now) code.new) }
 {
     match *instruction {
         Instruction::Compute {
@@ -43,19 +77,11 @@ pub fn put_instruction(
         Instruction::JumpIfZero { slot, label } => {
             put_jump_if_zero(code, layout, slot, at, links.label(label))
         }
-        Instruction::Call {
-            function,
-            first,
-            count,
-        } => put_passing_call(code, layout, first, count, at, links.function(function)),
-        Instruction::CallBuiltIn { function, first } => {
-            put_call_built_in(code, layout, first, at, links.built_in(function))
-        }
-        Instruction::CallFinally { funclet } => {
-            put_call_finally(code, at, links.funclet(funclet))
-        }
-        Instruction::LocalUnwind { label } => {
-            put_local_unwind(code, at, links.label(label), links.local_unwind())
+        Instruction::Call { .. }
+        | Instruction::CallBuiltIn { .. }
+        | Instruction::CallFinally { .. }
+        | Instruction::LocalUnwind { .. } => {
+            put_call_instruction(code, links, layout, at, instruction)
         }
         Instruction::Separator => put(code, &Instr::NoOperation),
         Instruction::Return { from } => put_return(code, layout, from),

@@ -3,7 +3,7 @@
 ghost use Rattle.std.specs.Prelude.{◌≡◌, ◌<◌, ℕ, IfOk};
 ghost use Rattle.seh_num.specs.Widths.{limit};
 ghost use Rattle.x64_machine.specs.Effect as spec;
-ghost use Rattle.x64_machine.specs.Effect.{State};
+ghost use Rattle.x64_machine.specs.Effect.{Answers, LeavesMemory, State};
 
 use crate::cpu::{Cpu, Flags};
 use crate::operands::{load, read, store};
@@ -14,8 +14,8 @@ use x64_instr::register::Reg;
 use x64_memory::space::AddressSpace;
 
 pub(crate) fn push<S: AddressSpace>(mut cpu: Cpu, space: &mut S, value: u64) -> Result<Cpu, Stop>
-    ensures answer { spec.Answers result (spec.push (spec.state cpu (S.memory space.old)) value) }
-    ensures memory { spec.LeavesMemory (S.memory space.old) (S.memory space.new)
+    ensures answer { Answers result (spec.push (spec.state cpu (S.memory space.old)) value) }
+    ensures memory { LeavesMemory (S.memory space.old) (S.memory space.new)
         (spec.push (spec.state cpu (S.memory space.old)) value) }
 {
     let at = cpu.register(Reg::Rsp).wrapping_sub(8);
@@ -49,7 +49,7 @@ pub(crate) fn target_of<S: AddressSpace>(cpu: &Cpu, space: &S, to: &Target) -> R
 }
 
 pub(crate) fn jump<S: AddressSpace>(mut cpu: Cpu, space: &S, to: &Target) -> Result<Cpu, Stop>
-    ensures { spec.Answers result (spec.jump (spec.state cpu (S.memory space.now)) to.now) }
+    ensures { Answers result (spec.jump (spec.state cpu (S.memory space.now)) to.now) }
 {
     let target = target_of(&cpu, space, to)?;
     cpu.rip = target;
@@ -72,8 +72,8 @@ pub(crate) fn condition_byte(flags: Flags, condition: Condition) -> u64
 }
 
 pub(crate) fn call<S: AddressSpace>(cpu: Cpu, space: &mut S, to: &Target) -> Result<Cpu, Stop>
-    ensures answer { spec.Answers result (spec.call (spec.state cpu (S.memory space.old)) to.now) }
-    ensures memory { spec.LeavesMemory (S.memory space.old) (S.memory space.new)
+    ensures answer { Answers result (spec.call (spec.state cpu (S.memory space.old)) to.now) }
+    ensures memory { LeavesMemory (S.memory space.old) (S.memory space.new)
         (spec.call (spec.state cpu (S.memory space.old)) to.now) }
 {
     let target = target_of(&cpu, space, to)?;

@@ -4,7 +4,7 @@ ghost use Rattle.std.specs.Prelude.{◌≡◌, ◌<◌, ℕ, IfOk};
 ghost use Rattle.seh_num.specs.Widths.{limit};
 ghost use Rattle.x64_instr.specs.Families.{IsMove, IsComputation, IsMultiplyOrDivide, IsTransfer};
 ghost use Rattle.x64_machine.specs.Effect as spec;
-ghost use Rattle.x64_machine.specs.Effect.{State};
+ghost use Rattle.x64_machine.specs.Effect.{Answers, LeavesMemory, State};
 
 use crate::control::{call, condition_byte, jump, jump_if, pop, push};
 use crate::cpu::{Cpu, Flags};
@@ -49,9 +49,9 @@ fn change<S: AddressSpace>(
     to: &RegisterOrMemory,
     from: &Operand,
 ) -> Result<Cpu, Stop>
-    ensures answer { spec.Answers result
+    ensures answer { Answers result
         (spec.change (spec.state cpu (S.memory space.old)) operation width to.now from.now) }
-    ensures memory { spec.LeavesMemory (S.memory space.old) (S.memory space.new)
+    ensures memory { LeavesMemory (S.memory space.old) (S.memory space.new)
         (spec.change (spec.state cpu (S.memory space.old)) operation width to.now from.now) }
 {
     let second = operand(&cpu, space, width, from)?;
@@ -71,9 +71,9 @@ fn compare<S: AddressSpace>(
     first: &RegisterOrMemory,
     second: &Operand,
 ) -> Result<Cpu, Stop>
-    ensures answer { spec.Answers result
+    ensures answer { Answers result
         (spec.compare (spec.state cpu (S.memory space.now)) operation width first.now second.now) }
-    ensures memory { spec.LeavesMemory (S.memory space.now) (S.memory space.now)
+    ensures memory { LeavesMemory (S.memory space.now) (S.memory space.now)
         (spec.compare (spec.state cpu (S.memory space.now)) operation width first.now second.now) }
 {
     let second = operand(&cpu, space, width, second)?;
@@ -100,9 +100,9 @@ fn arithmetic<S: AddressSpace>(
     to: &RegisterOrMemory,
     from: &Operand,
 ) -> Result<Cpu, Stop>
-    ensures answer { spec.Answers result
+    ensures answer { Answers result
         (spec.arithmetic (spec.state cpu (S.memory space.old)) operation width to.now from.now) }
-    ensures memory { spec.LeavesMemory (S.memory space.old) (S.memory space.new)
+    ensures memory { LeavesMemory (S.memory space.old) (S.memory space.new)
         (spec.arithmetic (spec.state cpu (S.memory space.old)) operation width to.now from.now) }
 {
     if is_compare(operation) {
@@ -129,9 +129,9 @@ fn unary<S: AddressSpace>(
     width: Width,
     to: &RegisterOrMemory,
 ) -> Result<Cpu, Stop>
-    ensures answer { spec.Answers result
+    ensures answer { Answers result
         (spec.unary (spec.state cpu (S.memory space.old)) operation width to.now) }
-    ensures memory { spec.LeavesMemory (S.memory space.old) (S.memory space.new)
+    ensures memory { LeavesMemory (S.memory space.old) (S.memory space.new)
         (spec.unary (spec.state cpu (S.memory space.old)) operation width to.now) }
 {
     may_change(&cpu, space, width, to)?;
@@ -159,9 +159,9 @@ fn shift_by<S: AddressSpace>(
     count: u64,
 ) -> Result<Cpu, Stop>
     requires { count < 64 }
-    ensures answer { spec.Answers result
+    ensures answer { Answers result
         (spec.shift_by (spec.state cpu (S.memory space.old)) direction width to.now count) }
-    ensures memory { spec.LeavesMemory (S.memory space.old) (S.memory space.new)
+    ensures memory { LeavesMemory (S.memory space.old) (S.memory space.new)
         (spec.shift_by (spec.state cpu (S.memory space.old)) direction width to.now count) }
 {
     may_change(&cpu, space, width, to)?;
@@ -179,9 +179,9 @@ fn shift_by_count<S: AddressSpace>(
     to: &RegisterOrMemory,
     by: Count,
 ) -> Result<Cpu, Stop>
-    ensures answer { spec.Answers result
+    ensures answer { Answers result
         (spec.shift (spec.state cpu (S.memory space.old)) direction width to.now by) }
-    ensures memory { spec.LeavesMemory (S.memory space.old) (S.memory space.new)
+    ensures memory { LeavesMemory (S.memory space.old) (S.memory space.new)
         (spec.shift (spec.state cpu (S.memory space.old)) direction width to.now by) }
 {
     let count = count_of(width, amount(&cpu, by));
@@ -195,7 +195,7 @@ fn product<S: AddressSpace>(
     to: Reg,
     from: &RegisterOrMemory,
 ) -> Result<Cpu, Stop>
-    ensures { spec.Answers result
+    ensures { Answers result
         (spec.multiply (spec.state cpu (S.memory space.now)) width to from.now) }
 {
     let second = read(&cpu, space, width, from)?;
@@ -214,7 +214,7 @@ fn product_by<S: AddressSpace>(
     from: &RegisterOrMemory,
     by: u64,
 ) -> Result<Cpu, Stop>
-    ensures { spec.Answers result
+    ensures { Answers result
         (spec.multiply_by (spec.state cpu (S.memory space.now)) width to from.now by) }
 {
     let first = read(&cpu, space, width, from)?;
@@ -241,7 +241,7 @@ fn quotient<S: AddressSpace>(
     width: Width,
     by: &RegisterOrMemory,
 ) -> Result<Cpu, Stop>
-    ensures { spec.Answers result
+    ensures { Answers result
         (spec.divide (spec.state cpu (S.memory space.now)) division width by.now) }
 {
     let divisor = read(&cpu, space, width, by)?;
@@ -281,9 +281,8 @@ fn widened(extension: Extension, width: Width, narrow: Width, value: u64) -> u64
 /// What an instruction does that puts a value into a place.
 fn move_effect<S: AddressSpace>(mut cpu: Cpu, space: &mut S, instr: &Instr) -> Result<Cpu, Stop>
     requires { IsMove instr.now }
-    ensures answer { spec.Answers result
-        (spec.effect (spec.state cpu (S.memory space.old)) instr.now) }
-    ensures memory { spec.LeavesMemory (S.memory space.old) (S.memory space.new)
+    ensures answer { Answers result (spec.effect (spec.state cpu (S.memory space.old)) instr.now) }
+    ensures memory { LeavesMemory (S.memory space.old) (S.memory space.new)
         (spec.effect (spec.state cpu (S.memory space.old)) instr.now) }
 {
     match instr {
@@ -299,8 +298,7 @@ fn move_effect<S: AddressSpace>(mut cpu: Cpu, space: &mut S, instr: &Instr) -> R
             from,
         } => {
             let value = read(&cpu, space, *narrow, from)?;
-            let wide = widened(*extension, *width, *narrow, value);
-            cpu.set_register(*width, *to, wide);
+            cpu.set_register(*width, *to, widened(*extension, *width, *narrow, value));
             Ok(cpu)
         }
         Instr::LoadAddress { width, to, from } => {
@@ -324,9 +322,8 @@ fn move_effect<S: AddressSpace>(mut cpu: Cpu, space: &mut S, instr: &Instr) -> R
 /// What an instruction does that multiplies or divides.
 fn multiply_or_divide<S: AddressSpace>(cpu: Cpu, space: &S, instr: &Instr) -> Result<Cpu, Stop>
     requires { IsMultiplyOrDivide instr.now }
-    ensures answer { spec.Answers result
-        (spec.effect (spec.state cpu (S.memory space.now)) instr.now) }
-    ensures memory { spec.LeavesMemory (S.memory space.now) (S.memory space.now)
+    ensures answer { Answers result (spec.effect (spec.state cpu (S.memory space.now)) instr.now) }
+    ensures memory { LeavesMemory (S.memory space.now) (S.memory space.now)
         (spec.effect (spec.state cpu (S.memory space.now)) instr.now) }
 {
     match instr {
@@ -349,9 +346,8 @@ fn multiply_or_divide<S: AddressSpace>(cpu: Cpu, space: &S, instr: &Instr) -> Re
 /// What an instruction does that computes with the value of a place.
 fn computation_effect<S: AddressSpace>(cpu: Cpu, space: &mut S, instr: &Instr) -> Result<Cpu, Stop>
     requires { IsComputation instr.now }
-    ensures answer { spec.Answers result
-        (spec.effect (spec.state cpu (S.memory space.old)) instr.now) }
-    ensures memory { spec.LeavesMemory (S.memory space.old) (S.memory space.new)
+    ensures answer { Answers result (spec.effect (spec.state cpu (S.memory space.old)) instr.now) }
+    ensures memory { LeavesMemory (S.memory space.old) (S.memory space.new)
         (spec.effect (spec.state cpu (S.memory space.old)) instr.now) }
 {
     match instr {
@@ -387,9 +383,8 @@ fn computation_effect<S: AddressSpace>(cpu: Cpu, space: &mut S, instr: &Instr) -
 /// What an instruction does that jumps, or takes the stack's top.
 fn transfer_effect<S: AddressSpace>(cpu: Cpu, space: &mut S, instr: &Instr) -> Result<Cpu, Stop>
     requires { IsTransfer instr.now }
-    ensures answer { spec.Answers result
-        (spec.effect (spec.state cpu (S.memory space.old)) instr.now) }
-    ensures memory { spec.LeavesMemory (S.memory space.old) (S.memory space.new)
+    ensures answer { Answers result (spec.effect (spec.state cpu (S.memory space.old)) instr.now) }
+    ensures memory { LeavesMemory (S.memory space.old) (S.memory space.new)
         (spec.effect (spec.state cpu (S.memory space.old)) instr.now) }
 {
     match instr {
@@ -420,9 +415,8 @@ fn transfer_effect<S: AddressSpace>(cpu: Cpu, space: &mut S, instr: &Instr) -> R
 /// What an instruction does, where RIP is that of the next one. INT3 and UD2 have no effect, and are
 /// stopped before it.
 pub(crate) fn effect<S: AddressSpace>(cpu: Cpu, space: &mut S, instr: &Instr) -> Result<Cpu, Stop>
-    ensures answer { spec.Answers result
-        (spec.effect (spec.state cpu (S.memory space.old)) instr.now) }
-    ensures memory { spec.LeavesMemory (S.memory space.old) (S.memory space.new)
+    ensures answer { Answers result (spec.effect (spec.state cpu (S.memory space.old)) instr.now) }
+    ensures memory { LeavesMemory (S.memory space.old) (S.memory space.new)
         (spec.effect (spec.state cpu (S.memory space.old)) instr.now) }
 {
     match instr {

@@ -3,7 +3,7 @@
 ghost use Rattle.std.specs.Prelude.{◌≡◌, ◌<◌, ℕ, IfOk};
 ghost use Rattle.seh_num.specs.Widths.{limit};
 ghost use Rattle.x64_machine.specs.Effect as spec;
-ghost use Rattle.x64_machine.specs.Effect.{State};
+ghost use Rattle.x64_machine.specs.Effect.{Answers, LeavesMemory, State};
 
 use crate::cpu::Cpu;
 use crate::outcome::Stop;
@@ -93,9 +93,9 @@ pub(crate) fn store<S: AddressSpace>(
     width: Width,
     value: u64,
 ) -> Result<Cpu, Stop>
-    ensures answer { spec.Answers result
+    ensures answer { Answers result
         (spec.store (spec.state cpu (S.memory space.old)) at width value) }
-    ensures memory { spec.LeavesMemory (S.memory space.old) (S.memory space.new)
+    ensures memory { LeavesMemory (S.memory space.old) (S.memory space.new)
         (spec.store (spec.state cpu (S.memory space.old)) at width value) }
 {
     match space.store(at, width, value) {
@@ -142,9 +142,9 @@ pub(crate) fn write<S: AddressSpace>(
     to: &RegisterOrMemory,
     value: u64,
 ) -> Result<Cpu, Stop>
-    ensures answer { spec.Answers result
+    ensures answer { Answers result
         (spec.write (spec.state cpu (S.memory space.old)) width to.now value) }
-    ensures memory { spec.LeavesMemory (S.memory space.old) (S.memory space.new)
+    ensures memory { LeavesMemory (S.memory space.old) (S.memory space.new)
         (spec.write (spec.state cpu (S.memory space.old)) width to.now value) }
 {
     match to {

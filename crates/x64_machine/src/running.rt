@@ -1,5 +1,6 @@
 ghost use Rattle.std.specs.Prelude.{◌≡◌, Some};
 ghost use Rattle.x64_machine.specs.Effect as spec;
+ghost use Rattle.x64_machine.specs.Effect.{Answers, LeavesMemory};
 ghost use Rattle.host_layout.specs.Services.{service_at};
 
 use crate::cpu::Cpu;
@@ -49,9 +50,9 @@ pub fn execute<S: AddressSpace>(
     instr: &Instr,
     len: usize,
 ) -> Result<Cpu, Stop>
-    ensures answer { spec.Answers result
+    ensures answer { Answers result
         (spec.execute (spec.state cpu (S.memory space.old)) (Some (instr.now, len))) }
-    ensures memory { spec.LeavesMemory (S.memory space.old) (S.memory space.new)
+    ensures memory { LeavesMemory (S.memory space.old) (S.memory space.new)
         (spec.execute (spec.state cpu (S.memory space.old)) (Some (instr.now, len))) }
 {
     if is_trap(instr) {
@@ -71,7 +72,7 @@ pub fn step<S: AddressSpace>(cpu: &mut Cpu, space: &mut S) -> StepOutcome
         ≡ spec.step_answer (spec.step (spec.state cpu.old (S.memory space.old))) }
     ensures cpu { cpu.new
         ≡ spec.cpu_after cpu.old (spec.step (spec.state cpu.old (S.memory space.old))) }
-    ensures memory { spec.LeavesMemory (S.memory space.old) (S.memory space.new)
+    ensures memory { LeavesMemory (S.memory space.old) (S.memory space.new)
         (spec.step (spec.state cpu.old (S.memory space.old))) }
 {
     if HOST_PAGE_START <= cpu.rip && cpu.rip < HOST_PAGE_END {
