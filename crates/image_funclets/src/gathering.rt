@@ -18,7 +18,8 @@ fn insert(
     is_finally: bool,
 ) -> Result<(), AllocError>
     requires { AreAscending 0 (funclets_of gathered.old.entries) }
-    ensures { OnOk result (funclets_of gathered.new.entries ≡ spec.inserted address is_finally (funclets_of gathered.old.entries)) }
+    ensures { OnOk result (funclets_of gathered.new.entries
+        ≡ spec.inserted address is_finally (funclets_of gathered.old.entries)) }
 {
     if gathered.contains_key(&address) {
         return Ok(());
@@ -29,7 +30,8 @@ fn insert(
 
 fn add_row(gathered: &mut BTreeMap<u32, bool>, row: &ScopeRecord) -> Result<(), AllocError>
     requires { AreAscending 0 (funclets_of gathered.old.entries) }
-    ensures { OnOk result (funclets_of gathered.new.entries ≡ spec.with_row row.now (funclets_of gathered.old.entries) (row.now.handler_address == 1)) }
+    ensures { OnOk result (funclets_of gathered.new.entries
+        ≡ spec.with_row row.now (funclets_of gathered.old.entries) (row.now.handler_address == 1)) }
 {
     if row.handler_address == 1 {
         Ok(())
@@ -41,7 +43,8 @@ fn add_row(gathered: &mut BTreeMap<u32, bool>, row: &ScopeRecord) -> Result<(), 
 #[tactic(auto, using(crate::proofs::Ascending::ascending))]
 fn add_rows(gathered: &mut BTreeMap<u32, bool>, rows: Scopes) -> Result<(), AllocError>
     requires { AreAscending 0 (funclets_of gathered.old.entries) }
-    ensures items { OnOk result (funclets_of gathered.new.entries ≡ spec.of_rows rows.entry (funclets_of gathered.old.entries)) }
+    ensures items { OnOk result (funclets_of gathered.new.entries
+        ≡ spec.of_rows rows.entry (funclets_of gathered.old.entries)) }
     ensures ascending { OnOk result (AreAscending 0 (funclets_of gathered.new.entries)) }
 {
     for row in rows {

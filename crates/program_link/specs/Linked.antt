@@ -18,7 +18,7 @@ pages_of n = pages (max n 1)
 abbrev pub data_size : List ℕ → ℕ
 data_size globals = pages_of (length globals)
 
--- the text begins behind the page of the headers and the data
+-- the text begins after the page of the headers and the data
 abbrev pub text_begin : List ℕ → ℕ
 text_begin globals = 0x1000 + data_size globals
 

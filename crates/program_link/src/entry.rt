@@ -1,7 +1,7 @@
 //! What comes before the body of a routine.
 
-ghost use Rattle.std.specs.Prelude.{◌≡◌, ◌++◌, OnOk};
-ghost use Rattle.template_code.specs.Bytes.{spelled};
+ghost use Rattle.std.specs.Prelude.{◌≡◌, OnOk};
+ghost use Rattle.x64_code.specs.Appending.{Appended};
 ghost use Rattle.x64_code.specs.Near.{IsNear};
 ghost use Rattle.program_link.specs.Near.{IsFrameNear, IsEntryNear, IsRoutineNear};
 ghost use Rattle.program_link.specs.Text as spec;
@@ -24,7 +24,7 @@ fn put_frame(
     requires frame { IsFrameNear frame.now }
     requires at { IsNear at }
     requires check_stack { IsNear check_stack }
-    ensures { OnOk result (code.new.items ≡ code.old.items ++ spelled (spec.frame_code at check_stack frame.now)) }
+    ensures { OnOk result (Appended code.old (spec.frame_code at check_stack frame.now) code.new) }
 {
     match frame {
         None => Ok(()),
@@ -45,7 +45,7 @@ fn base_of(layout: &Layout) -> u64
 /// Adds what a routine does with what it is called with.
 fn put_arguments(code: &mut Vec<u8>, layout: &Layout, entry: Entry) -> Result<(), AllocError>
     requires { IsEntryNear layout.now entry }
-    ensures { OnOk result (code.new.items ≡ code.old.items ++ spelled (spec.argument_code layout.now entry)) }
+    ensures { OnOk result (Appended code.old (spec.argument_code layout.now entry) code.new) }
 {
     match entry {
         Entry::Function { parameters } => put_parameters(code, layout, parameters),
@@ -70,7 +70,8 @@ pub fn put_entry(
     requires routine { IsRoutineNear routine.now }
     requires at { IsNear at }
     requires check_stack { IsNear check_stack }
-    ensures { OnOk result (code.new.items ≡ code.old.items ++ spelled (spec.entry_code at check_stack routine.now)) }
+    ensures { OnOk result
+        (Appended code.old (spec.entry_code at check_stack routine.now) code.new) }
 {
     put_frame(code, &routine.frame, at, check_stack)?;
     put_arguments(code, &routine.layout, routine.entry)

@@ -22,7 +22,7 @@ use std::alloc::{AllocError, Global};
 /// The bytes of a page.
 const PAGE: u64 = 4096;
 
-/// Where `.data` begins, behind the page of the headers.
+/// Where `.data` begins, after the page of the headers.
 const DATA_AT: u32 = 0x1000;
 
 /// The whole pages of `.data`, at least one.
@@ -154,9 +154,12 @@ fn image_of(
 /// The bytes of the image of a program.
 pub fn compile_program(alloc: Global, program: &IrProgram) -> Result<Vec<u8>, AllocError>
     requires { FitsProgram (linear_program program.now) }
-    ensures bytes { IfOk result (λ bytes. bytes.items ≡ written (images.parts_of (spec.linked (linear_program program.now)))) }
-    ensures image { IfOk result (λ bytes. IsImage bytes.items (images.image_of (spec.linked (linear_program program.now)))) }
-    ensures small { IfOk result (λ bytes. length bytes.items ≤ images.end_at (images.sizes_of (spec.linked (linear_program program.now)))) }
+    ensures bytes { IfOk result (λ bytes. bytes.items
+        ≡ written (images.parts_of (spec.linked (linear_program program.now)))) }
+    ensures image { IfOk result (λ bytes. IsImage bytes.items
+        (images.image_of (spec.linked (linear_program program.now)))) }
+    ensures small { IfOk result (λ bytes. length bytes.items
+        ≤ images.end_at (images.sizes_of (spec.linked (linear_program program.now)))) }
 {
     let routines = routines(alloc, program)?;
     let functions = program.functions.len();

@@ -42,7 +42,8 @@ pub fn body_at(alloc: Global, routine: &Routine<'_>, begin: u32) -> Result<u32, 
 pub fn labels_at(alloc: Global, routine: &Routine<'_>, begin: u32) -> Result<Labels, AllocError>
     requires near { IsRoutineNear routine.now }
     requires room { begin + spec.routine_room routine.now < 2 ^ 30 }
-    ensures labels { IfOk result (λ l. l.starts.items ≡ (spec.own_addresses begin routine.now).labels) }
+    ensures labels { IfOk result
+        (λ l. l.starts.items ≡ (spec.own_addresses begin routine.now).labels) }
     ensures end { IfOk result (λ l. l.end ≡ begin + spec.routine_size routine.now) }
 {
     let start = body_at(alloc, routine, begin)?;

@@ -161,7 +161,8 @@ fn framed<'a>(function: &'a IrFunction) -> Routine<'a>
 /// The routine of a function. `main` always has a frame.
 fn function_routine<'a>(function: &'a IrFunction, is_main: bool) -> Routine<'a>
     requires { FitsFunction (linear_function function.now) }
-    ensures { result ≡ spec.leaf_if (not is_main && spec.is_leaf (linear_body function.now.body)) (linear_function function.now) }
+    ensures { result ≡ spec.leaf_if (not is_main && spec.is_leaf (linear_body function.now.body))
+        (linear_function function.now) }
 {
     if !is_main && is_leaf(&function.body) {
         leaf(function)

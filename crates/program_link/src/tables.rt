@@ -59,7 +59,8 @@ fn jump_target(kind: RegionKind, labels: &Labels) -> u32
 
 /// The scope record of a region; `funclets` are the addresses of the funclets.
 fn scope_of(region: &Region, labels: &Labels, funclets: &[u32]) -> ScopeRecord
-    ensures { result ≡ spec.scope_record funclets.now labels.now.starts.items labels.now.end region.now }
+    ensures { result
+        ≡ spec.scope_record funclets.now labels.now.starts.items labels.now.end region.now }
 {
     ScopeRecord {
         begin: address_or(&labels.starts, region.begin, labels.end),
@@ -76,7 +77,8 @@ fn scopes_of(
     labels: &Labels,
     funclets: &[u32],
 ) -> Result<Vec<ScopeRecord>, AllocError>
-    ensures { IfOk result (λ v. v.items ≡ spec.scope_records funclets.now labels.now.starts.items labels.now.end regions.now) }
+    ensures { IfOk result (λ v. v.items
+        ≡ spec.scope_records funclets.now labels.now.starts.items labels.now.end regions.now) }
 {
     let mut records = Vec::new(alloc);
     for region in regions {
@@ -161,7 +163,8 @@ fn put_info(
     requires near { IsRoutineNear routine.now }
     requires some { 0 < frame.now.size }
     requires fits { frame.now.size < 2 ^ 31 }
-    ensures { OnOk result (xdata.new.items ≡ xdata.old.items ++ spec.info_bytes_of site.now labels.now.starts.items labels.now.end routine.now frame.now) }
+    ensures { OnOk result (xdata.new.items ≡ xdata.old.items ++ spec.info_bytes_of site.now
+        labels.now.starts.items labels.now.end routine.now frame.now) }
 {
     let regions = routine.regions();
     let handler = thunk_at(site.text, Service::CSpecificHandler);
@@ -186,8 +189,10 @@ fn put_tables(
     requires site { IsSiteNear site.now }
     requires near { IsRoutineNear routine.now }
     requires frame { IsFrameNear frame.now }
-    ensures infos { OnOk result (xdata.new.items ≡ xdata.old.items ++ spec.info_if site.now labels.now.starts.items labels.now.end routine.now frame.now) }
-    ensures ranges { OnOk result (ranges.new.items ≡ ranges.old.items ++ spec.range_if frame.now range) }
+    ensures infos { OnOk result (xdata.new.items ≡ xdata.old.items
+        ++ spec.info_if site.now labels.now.starts.items labels.now.end routine.now frame.now) }
+    ensures ranges { OnOk result
+        (ranges.new.items ≡ ranges.old.items ++ spec.range_if frame.now range) }
 {
     match frame {
         None => Ok(()),
@@ -213,8 +218,10 @@ fn put_routine(
     requires near { IsRoutineNear routine.now }
     requires room { begin + texts.routine_room routine.now < 2 ^ 30 }
     requires xdata { xdata_at + length xdata.old.items < 2 ^ 31 }
-    ensures infos { OnOk result (xdata.new.items ≡ xdata.old.items ++ spec.info_bytes site.now begin routine.now) }
-    ensures ranges { OnOk result (ranges.new.items ≡ ranges.old.items ++ spec.range_of (xdata_at + length xdata.old.items) begin routine.now) }
+    ensures infos { OnOk result
+        (xdata.new.items ≡ xdata.old.items ++ spec.info_bytes site.now begin routine.now) }
+    ensures ranges { OnOk result (ranges.new.items ≡ ranges.old.items
+        ++ spec.range_of (xdata_at + length xdata.old.items) begin routine.now) }
     ensures end { IfOk result (λ end. end ≡ begin + texts.routine_size routine.now) }
 {
     let labels = labels_at(alloc, routine, begin)?;
@@ -256,7 +263,8 @@ pub fn tables_of(
     requires room { first + texts.room routines.now < 2 ^ 30 }
     requires tables { xdata_at + spec.infos_room routines.now < 2 ^ 31 }
     ensures xdata { IfOk result (λ t. t.xdata.items ≡ spec.infos site.now first routines.now) }
-    ensures pdata { IfOk result (λ t. t.pdata.items ≡ table_bytes (spec.ranges site.now xdata_at first routines.now)) }
+    ensures pdata { IfOk result
+        (λ t. t.pdata.items ≡ table_bytes (spec.ranges site.now xdata_at first routines.now)) }
 {
     let mut xdata = Vec::new(alloc);
     let mut ranges = Vec::new(alloc);

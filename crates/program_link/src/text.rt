@@ -2,7 +2,7 @@
 
 ghost use Rattle.std.specs.Prelude.{◌≡◌, ◌+◌, ◌<◌, ◌^◌, [], ◌∷◌, ◌++◌, OnOk, IfOk};
 ghost use Rattle.std.specs.List.{AllByRecursion};
-ghost use Rattle.template_code.specs.Bytes.{spelled};
+ghost use Rattle.x64_code.specs.Appending.{Appended};
 ghost use Rattle.x64_code.specs.Bodies.{HasRoom};
 ghost use Rattle.x64_code.specs.Linking as linking;
 ghost use Rattle.x64_code.specs.Near.{IsNear, AreNear};
@@ -92,7 +92,8 @@ fn put_service(
 ) -> Result<(), AllocError>
     requires text { text < 2 ^ 29 }
     requires rdata { rdata < 2 ^ 29 + 2 ^ 28 + 2 ^ 27 }
-    ensures { OnOk result (code.new.items ≡ code.old.items ++ spelled (spec.service_thunk text rdata service ∷ [])) }
+    ensures { OnOk result
+        (Appended code.old (spec.service_thunk text rdata service ∷ []) code.new) }
 {
     let at = u64::from(thunk_at(text, service));
     put_thunk(code, at, u64::from(rdata + service.slot()))
@@ -102,7 +103,7 @@ fn put_service(
 fn put_front(code: &mut Vec<u8>, text: u32, rdata: u32) -> Result<(), AllocError>
     requires text { text < 2 ^ 29 }
     requires rdata { rdata < 2 ^ 29 + 2 ^ 28 + 2 ^ 27 }
-    ensures { OnOk result (code.new.items ≡ code.old.items ++ spelled (spec.front_code text rdata)) }
+    ensures { OnOk result (Appended code.old (spec.front_code text rdata) code.new) }
 {
     put_service(code, text, rdata, Service::RaiseException)?;
     put_service(code, text, rdata, Service::CSpecificHandler)?;
@@ -150,7 +151,9 @@ fn put_code(
     requires start { start ≡ begin + spec.entry_size routine.now }
     requires room { HasRoom start routine.now.body.code }
     requires check_stack { IsNear check_stack }
-    ensures { OnOk result (code.new.items ≡ code.old.items ++ spelled (spec.code_at check_stack (linking.links_of links.now) begin routine.now)) }
+    ensures { OnOk result
+        (Appended code.old
+        (spec.code_at check_stack (linking.links_of links.now) begin routine.now) code.new) }
 {
     put_entry(code, routine, u64::from(begin), u64::from(check_stack))?;
     put_body(code, links, &routine.layout, start, routine.code())
@@ -167,7 +170,8 @@ fn put_routine(
     requires site { IsSiteNear site.now }
     requires near { IsRoutineNear routine.now }
     requires room { begin + spec.routine_room routine.now < 2 ^ 30 }
-    ensures code { OnOk result (code.new.items ≡ code.old.items ++ spec.routine_bytes site.now begin routine.now) }
+    ensures code { OnOk result
+        (code.new.items ≡ code.old.items ++ spec.routine_bytes site.now begin routine.now) }
     ensures end { IfOk result (λ end. end ≡ begin + spec.routine_size routine.now) }
 {
     let start = body_at(alloc, routine, begin)?;

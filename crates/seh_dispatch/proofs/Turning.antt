@@ -18,7 +18,7 @@ use Rattle.seh_dispatch.specs.Outcomes.{led, turn_of, made_turn}
 use Rattle.seh_dispatch.specs.Ends.{left}
 use Rattle.seh_dispatch.specs.Ends.{over_if, over_cpu}
 
--- what is shown of a turn that goes on: what was made of it, and the event of its arrival
+-- what is shown of a turn that continues: what was made of it, and the event of its arrival
 abbrev pub all_shown : Functions → List Funclet → Cpu → Made → Option Event → List Event
 all_shown t fs c made shown = (listed made.first ++ (listed made.rest.first ++ listed shown)) ++ arrivals c (distance t.base c.rip) 1 fs
 

@@ -1,4 +1,4 @@
--- What the code's outcomes stand for.
+-- What the code's outcomes mean.
 use Rattle.std.specs.Prelude.{ℕ, ◌+◌, ◌%◌, ◌^◌, List, [], ◌++◌, Option, Some, None, Result, Ok, Err}
 use Rattle.seh_num.specs.declared.width.Width.TheVariants.{W64}
 use Rattle.flat_memory.specs.declared.access.RefusedAccess.{RefusedAccess}

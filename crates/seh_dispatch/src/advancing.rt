@@ -56,8 +56,10 @@ pub fn advance<S: AddressSpace, V: Events>(
     requires whole { IsWhole tables.now }
     requires few { length funclets.now < 2 ^ 32 - 1 }
     requires ascending { AreAscending 0 funclets.now }
-    ensures host { left cpu.new (S.memory space.new) result ≡ after (turn (functions_of tables.now) funclets.now (state cpu.old (S.memory space.old))) }
-    ensures shown { V.took to.old (shown_in (turn (functions_of tables.now) funclets.now (state cpu.old (S.memory space.old)))) to.new }
+    ensures host { left cpu.new (S.memory space.new) result
+        ≡ after (turn (functions_of tables.now) funclets.now (state cpu.old (S.memory space.old))) }
+    ensures shown { V.took to.old (shown_in
+        (turn (functions_of tables.now) funclets.now (state cpu.old (S.memory space.old)))) to.new }
 {
     let made = make(tables, cpu, space);
     tell(to, made.first);

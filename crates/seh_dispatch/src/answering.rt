@@ -60,7 +60,8 @@ fn search_again<S: AddressSpace>(
     dispatch: &DispatchRecord,
 ) -> Outcome
     requires { IsWhole tables.now }
-    ensures { turn_of cpu.new (S.memory space.new) result ≡ spec.searched_again (functions_of tables.now) (state cpu.old (S.memory space.old)) at dispatch.now }
+    ensures { turn_of cpu.new (S.memory space.new) result ≡ spec.searched_again
+        (functions_of tables.now) (state cpu.old (S.memory space.old)) at dispatch.now }
 {
     let new = again(dispatch);
     match rewrite(space, at, &new) {
@@ -101,7 +102,9 @@ fn jump<S: AddressSpace>(
     dispatch: &DispatchRecord,
 ) -> Outcome
     requires { IsWhole tables.now }
-    ensures { turn_of cpu.new (S.memory space.new) result ≡ spec.jumping (functions_of tables.now) (state cpu.old (S.memory space.old)) at dispatch.now (spec.asked_row (functions_of tables.now) dispatch.now) }
+    ensures { turn_of cpu.new (S.memory space.new) result
+        ≡ spec.jumping (functions_of tables.now) (state cpu.old (S.memory space.old))
+        at dispatch.now (spec.asked_row (functions_of tables.now) dispatch.now) }
 {
     match asked_row(tables, dispatch) {
         None => bad(at),
@@ -125,7 +128,8 @@ fn continue_execution<S: AddressSpace>(
     dispatch: &DispatchRecord,
 ) -> Led
     requires { IsWhole tables.now }
-    ensures { led_turn cpu.new (S.memory space.new) result ≡ spec.by_sign (functions_of tables.now) (state cpu.old (S.memory space.old)) at dispatch.now true }
+    ensures { led_turn cpu.new (S.memory space.new) result ≡ spec.by_sign (functions_of tables.now)
+        (state cpu.old (S.memory space.old)) at dispatch.now true }
 {
     if dispatch.flags % 2 == 0 {
         *cpu = dispatch.saved;
@@ -153,7 +157,8 @@ fn answer<S: AddressSpace>(
     value: u32,
 ) -> Led
     requires { IsWhole tables.now }
-    ensures { led_turn cpu.new (S.memory space.new) result ≡ spec.answered (functions_of tables.now) (state cpu.old (S.memory space.old)) at dispatch.now value }
+    ensures { led_turn cpu.new (S.memory space.new) result ≡ spec.answered (functions_of tables.now)
+        (state cpu.old (S.memory space.old)) at dispatch.now value }
 {
     if value == 0 {
         return quiet(search_on(tables, cpu, space, at, dispatch));
@@ -168,7 +173,9 @@ fn answer<S: AddressSpace>(
 #[tactic(auto, using(crate::proofs::Leading::leading))]
 pub fn filter_return<S: AddressSpace>(tables: &Tables, cpu: &mut Cpu, space: &mut S) -> Made
     requires { IsWhole tables.now }
-    ensures { made_turn cpu.new (S.memory space.new) result ≡ spec.filter_returned (functions_of tables.now) (state cpu.old (S.memory space.old)) (register cpu.old Rsp) (fetched (S.memory space.old) (register cpu.old Rsp)) }
+    ensures { made_turn cpu.new (S.memory space.new) result
+        ≡ spec.filter_returned (functions_of tables.now) (state cpu.old (S.memory space.old))
+        (register cpu.old Rsp) (fetched (S.memory space.old) (register cpu.old Rsp)) }
 {
     let at = cpu.register(Reg::Rsp);
     match fetch(space, at) {
@@ -192,7 +199,9 @@ pub fn filter_return<S: AddressSpace>(tables: &Tables, cpu: &mut Cpu, space: &mu
 /// The return of a `__finally` block: its unwinding continues.
 pub fn finally_return<S: AddressSpace>(tables: &Tables, cpu: &mut Cpu, space: &mut S) -> Outcome
     requires { IsWhole tables.now }
-    ensures { turn_of cpu.new (S.memory space.new) result ≡ spec.finally_returned (functions_of tables.now) (state cpu.old (S.memory space.old)) (register cpu.old Rsp) (fetched (S.memory space.old) (register cpu.old Rsp)) }
+    ensures { turn_of cpu.new (S.memory space.new) result
+        ≡ spec.finally_returned (functions_of tables.now) (state cpu.old (S.memory space.old))
+        (register cpu.old Rsp) (fetched (S.memory space.old) (register cpu.old Rsp)) }
 {
     let at = cpu.register(Reg::Rsp);
     match fetch(space, at) {

@@ -1,4 +1,4 @@
-//! The dispatcher: what is done between two funclets. All suspended work stands in records in the
+//! The dispatcher: what is done between two funclets. All suspended work is kept in records in the
 //! machine's stack.
 
 ghost use Rattle.std.specs.Prelude.{◌≡◌, ◌%◌};
@@ -63,7 +63,7 @@ fn accepting(dispatch: &DispatchRecord, frame: u64, target: u64) -> DispatchReco
     begun(&accepted)
 }
 
-/// Calls a funclet at a record: its return address stands below the record.
+/// Calls a funclet at a record: its return address is below the record.
 fn enter<S: AddressSpace>(
     cpu: &mut Cpu,
     space: &mut S,
@@ -73,7 +73,8 @@ fn enter<S: AddressSpace>(
     first: u64,
     frame: u64,
 )
-    ensures { state cpu.new (S.memory space.new) ≡ spec.entered (state cpu.old (S.memory space.old)) at back handler first frame }
+    ensures { state cpu.new (S.memory space.new)
+        ≡ spec.entered (state cpu.old (S.memory space.old)) at back handler first frame }
 {
     let below = at.wrapping_sub(8);
     let _ = space.store(below, Width::W64, back);
@@ -107,7 +108,8 @@ fn land<S: AddressSpace>(
     dispatch: &DispatchRecord,
     context: &Context,
 ) -> Outcome
-    ensures { turn_of cpu.new (S.memory space.now) result ≡ spec.land (state cpu.old (S.memory space.now)) dispatch.now context.now }
+    ensures { turn_of cpu.new (S.memory space.now) result
+        ≡ spec.land (state cpu.old (S.memory space.now)) dispatch.now context.now }
 {
     match dispatch.kind {
         Kind::ExceptionUnwind => {
@@ -131,7 +133,8 @@ pub fn unwind_on<S: AddressSpace>(
     dispatch: &DispatchRecord,
 ) -> Outcome
     requires { IsWhole tables.now }
-    ensures { turn_of cpu.new (S.memory space.new) result ≡ spec.unwinds_on (functions_of tables.now) (state cpu.old (S.memory space.old)) at dispatch.now }
+    ensures { turn_of cpu.new (S.memory space.new) result ≡ spec.unwinds_on
+        (functions_of tables.now) (state cpu.old (S.memory space.old)) at dispatch.now }
 {
     match unwind(tables, space, dispatch) {
         UnwindResult::Stop(why) => stopped(why),
@@ -165,7 +168,8 @@ pub fn accept<S: AddressSpace>(
     target: u64,
 ) -> Outcome
     requires { IsWhole tables.now }
-    ensures { turn_of cpu.new (S.memory space.new) result ≡ spec.accepted (functions_of tables.now) (state cpu.old (S.memory space.old)) at dispatch.now frame target }
+    ensures { turn_of cpu.new (S.memory space.new) result ≡ spec.accepted (functions_of tables.now)
+        (state cpu.old (S.memory space.old)) at dispatch.now frame target }
 {
     let accepted = accepting(dispatch, frame, target);
     match rewrite(space, at, &accepted) {
@@ -186,7 +190,8 @@ pub fn search_on<S: AddressSpace>(
     dispatch: &DispatchRecord,
 ) -> Outcome
     requires { IsWhole tables.now }
-    ensures { turn_of cpu.new (S.memory space.new) result ≡ spec.searches_on (functions_of tables.now) (state cpu.old (S.memory space.old)) at dispatch.now }
+    ensures { turn_of cpu.new (S.memory space.new) result ≡ spec.searches_on
+        (functions_of tables.now) (state cpu.old (S.memory space.old)) at dispatch.now }
 {
     match search(tables, space, dispatch) {
         SearchResult::Stop(why) => stopped(why),
@@ -268,7 +273,8 @@ pub fn raise<S: AddressSpace>(
     saved: &Cpu,
 ) -> Outcome
     requires { IsWhole tables.now }
-    ensures { turn_of cpu.new (S.memory space.new) result ≡ spec.raising (functions_of tables.now) (state cpu.old (S.memory space.old)) code flags access saved.now }
+    ensures { turn_of cpu.new (S.memory space.new) result ≡ spec.raising (functions_of tables.now)
+        (state cpu.old (S.memory space.old)) code flags access saved.now }
 {
     let dispatch = new_record(Kind::Search, code, flags, access, saved);
     match place(space, saved.registers[4], &dispatch) {
@@ -299,7 +305,8 @@ pub fn unwind_locally<S: AddressSpace>(
     saved: &Cpu,
 ) -> Outcome
     requires { IsWhole tables.now }
-    ensures { turn_of cpu.new (S.memory space.new) result ≡ spec.unwound_locally (functions_of tables.now) (state cpu.old (S.memory space.old)) frame target saved.now }
+    ensures { turn_of cpu.new (S.memory space.new) result ≡ spec.unwound_locally
+        (functions_of tables.now) (state cpu.old (S.memory space.old)) frame target saved.now }
 {
     let dispatch = to_target(saved, frame, target);
     match place(space, saved.registers[4], &dispatch) {

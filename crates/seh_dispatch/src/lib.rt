@@ -1,5 +1,5 @@
 //! One turn of the host over any memory: an instruction, a service, or the dispatch work between two
-//! funclets. All suspended work stands in records in the machine's stack.
+//! funclets. All suspended work is kept in records in the machine's stack.
 #![tactic(auto)]
 
 pub mod advancing;

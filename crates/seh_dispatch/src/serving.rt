@@ -46,7 +46,8 @@ fn back<S: AddressSpace>(cpu: &Cpu, space: &S) -> Option<Cpu>
 }
 
 fn unreadable(cpu: &Cpu) -> Outcome
-    ensures { result ≡ stopped_outcome (record { reason = reasons.Unreadable; address = register cpu.now Rsp }) }
+    ensures { result
+        ≡ stopped_outcome (record { reason = reasons.Unreadable; address = register cpu.now Rsp }) }
 {
     stopped(StopCause {
         reason: Reason::Unreadable,
@@ -57,7 +58,8 @@ fn unreadable(cpu: &Cpu) -> Outcome
 /// Shows the number in RCX.
 #[tactic(auto, using(crate::proofs::Returning::returning_steps))]
 fn put<S: AddressSpace>(cpu: &mut Cpu, space: &S) -> Outcome
-    ensures { turn_of cpu.new (S.memory space.now) result ≡ spec.put (state cpu.old (S.memory space.now)) }
+    ensures { turn_of cpu.new (S.memory space.now) result
+        ≡ spec.put (state cpu.old (S.memory space.now)) }
 {
     match back(cpu, space) {
         None => unreadable(cpu),
@@ -72,7 +74,9 @@ fn put<S: AddressSpace>(cpu: &mut Cpu, space: &S) -> Outcome
 /// Sets the rights of a page of the arena.
 #[tactic(auto, using(crate::proofs::Returning::returning_steps))]
 fn protect<S: AddressSpace>(cpu: &mut Cpu, space: &mut S) -> Outcome
-    ensures { turn_of cpu.new (S.memory space.new) result ≡ spec.returning (state cpu.old (S.memory space.old)) (spec.protecting (state cpu.old (S.memory space.old))) }
+    ensures { turn_of cpu.new (S.memory space.new) result
+        ≡ spec.returning (state cpu.old (S.memory space.old))
+        (spec.protecting (state cpu.old (S.memory space.old))) }
 {
     match back(cpu, space) {
         None => unreadable(cpu),
@@ -99,7 +103,8 @@ fn raised<S: AddressSpace>(
     saved: &Cpu,
 ) -> Led
     requires { IsWhole tables.now }
-    ensures { led_turn cpu.new (S.memory space.new) result ≡ dispatch.raised (functions_of tables.now) (state cpu.old (S.memory space.old)) code flags access saved.now }
+    ensures { led_turn cpu.new (S.memory space.new) result ≡ dispatch.raised
+        (functions_of tables.now) (state cpu.old (S.memory space.old)) code flags access saved.now }
 {
     let outcome = raise(tables, cpu, space, code, flags, access, saved);
     Led {
@@ -116,7 +121,8 @@ fn raised<S: AddressSpace>(
 #[tactic(auto, using(crate::proofs::Returning::returning_steps, crate::proofs::Leading::leading))]
 fn raise_exception<S: AddressSpace>(tables: &Tables, cpu: &mut Cpu, space: &mut S) -> Led
     requires { IsWhole tables.now }
-    ensures { led_turn cpu.new (S.memory space.new) result ≡ spec.served (functions_of tables.now) (state cpu.old (S.memory space.old)) (Some services.RaiseException) }
+    ensures { led_turn cpu.new (S.memory space.new) result ≡ spec.served (functions_of tables.now)
+        (state cpu.old (S.memory space.old)) (Some services.RaiseException) }
 {
     match back(cpu, space) {
         None => quiet(unreadable(cpu)),
@@ -132,7 +138,8 @@ fn raise_exception<S: AddressSpace>(tables: &Tables, cpu: &mut Cpu, space: &mut 
 #[tactic(auto, using(crate::proofs::Returning::returning_steps))]
 fn local_unwind<S: AddressSpace>(tables: &Tables, cpu: &mut Cpu, space: &mut S) -> Outcome
     requires { IsWhole tables.now }
-    ensures { turn_of cpu.new (S.memory space.new) result ≡ spec.served (functions_of tables.now) (state cpu.old (S.memory space.old)) (Some services.LocalUnwind) }
+    ensures { turn_of cpu.new (S.memory space.new) result ≡ spec.served (functions_of tables.now)
+        (state cpu.old (S.memory space.old)) (Some services.LocalUnwind) }
 {
     match back(cpu, space) {
         None => unreadable(cpu),
@@ -153,7 +160,8 @@ fn serve<S: AddressSpace>(
     service: Option<Service>,
 ) -> Made
     requires { IsWhole tables.now }
-    ensures { made_turn cpu.new (S.memory space.new) result ≡ spec.served (functions_of tables.now) (state cpu.old (S.memory space.old)) service }
+    ensures { made_turn cpu.new (S.memory space.new) result
+        ≡ spec.served (functions_of tables.now) (state cpu.old (S.memory space.old)) service }
 {
     match service {
         Some(Service::Put) => all_quiet(put(cpu, space)),
@@ -176,7 +184,8 @@ fn serve<S: AddressSpace>(
 #[tactic(auto, using(crate::proofs::Leading::leading))]
 pub fn make<S: AddressSpace>(tables: &Tables, cpu: &mut Cpu, space: &mut S) -> Made
     requires { IsWhole tables.now }
-    ensures { made_turn cpu.new (S.memory space.new) result ≡ spec.turned (functions_of tables.now) (state cpu.old (S.memory space.old)) (step (state cpu.old (S.memory space.old))) }
+    ensures { made_turn cpu.new (S.memory space.new) result ≡ spec.turned (functions_of tables.now)
+        (state cpu.old (S.memory space.old)) (step (state cpu.old (S.memory space.old))) }
 {
     match step(cpu, space) {
         StepOutcome::Next => all_quiet(Outcome::Continues(None)),

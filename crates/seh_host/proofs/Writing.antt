@@ -169,7 +169,7 @@ part_of_text count taken trace r r' x y z end w q is fresh e =
           subst (λ t. Wrote y (end_line t) z) same q
     ]
 
--- a failure is told of the sink after the end's line too
+-- what a failed line left holds after the line of the end too
 pub stopped_then : (count : ℕ) (trace : Bool) (r r' : Running) (x y z : Writer) (u : List ℕ) → Written count trace r x r' y → Wrote y u z → Stopped count trace r x.taken r' z.taken
 stopped_then count trace r r' x y z u w q = record {
   turns_made = w.stopped.turns_made;

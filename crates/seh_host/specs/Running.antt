@@ -1,4 +1,4 @@
--- What a host stands for.
+-- What a host means.
 use Rattle.std.specs.Prelude.{ℕ, List, [], ℤ}
 use Rattle.virtual_unwind.specs.CallerOf.{Functions, functions_of}
 use Rattle.x64_memory.specs.PageMaps.{memory_of}

@@ -1,9 +1,14 @@
 -- What a run has written when it ends, or when a line couldn't be written.
 use Rattle.std.specs.Prelude.{◌≡◌, ℕ, ◌+◌, ◌≤◌, Bool, false, List, ◌++◌, Option}
 use Rattle.seh_io.specs.Streams.{Grew}
-use Rattle.seh_io.specs.Text.{lines}
+use Rattle.seh_io.specs.Text.{lines, text}
 use Rattle.seh_io.specs.Writer.{Writer, Wrote}
-use Rattle.seh_host.specs.Running.{Running, made, shown_made}
+use Rattle.seh_host.specs.Running.{Running, made, shown_made, run_of}
+use Rattle.seh_host.specs.Turns.{end_within}
+
+-- the text of a run of at most so many turns
+abbrev pub run_text : ℕ → Bool → Running → List ℕ
+run_text turns trace r = text (run_of turns r).events (end_within turns (run_of turns r).end) trace
 
 -- a line couldn't be written: no turn was made after the one that shows it, so that the lines of all turns but the last were taken whole
 pub record Stopped (turns : ℕ) (trace : Bool) (r : Running) (taken : Option (List ℕ)) (r' : Running) (taken' : Option (List ℕ)) : Type 0 where

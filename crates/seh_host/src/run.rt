@@ -7,7 +7,7 @@ ghost use Rattle.seh_io.specs.Text.{text};
 ghost use Rattle.seh_io.specs.Writer.{TookPart, writer_of};
 ghost use Rattle.host_model.specs.HostStep as model;
 ghost use Rattle.seh_host.specs.Running.{running_of, after_turn, shown_of, run_of, made};
-ghost use Rattle.seh_host.specs.Writing.{Stopped, Written};
+ghost use Rattle.seh_host.specs.Writing.{Stopped, Written, run_text};
 ghost use Rattle.seh_host.specs.Turns.{answer_of, end_within, taken_before};
 
 use crate::RunEnd;
@@ -17,7 +17,8 @@ use seh_io::receiver::{Events, Lines};
 use seh_io::sink::Sink;
 
 /// One turn of the host: an instruction, a service, or the dispatch between two funclets. The
-/// receiver takes what the turn shows, in order. A host whose run has ended stays as it is, and nothing is shown.
+/// receiver takes what the turn shows, in order. A host whose run has ended stays as it is, and
+/// nothing is shown.
 #[tactic(auto, using(image_funclets::proofs::Ascending::listed_ascend))]
 pub fn turn<V: Events>(host: &mut Host<'_, '_>, to: &mut V) -> Turn
     ensures answer { result ≡ answer_of (running_of host.old).host }
@@ -43,7 +44,9 @@ fn write_turns<O: Sink>(host: &mut Host<'_, '_>, turns: u64, lines: &mut Lines<'
     requires { lines.old.failed ≡ false }
     ensures same_reference { lines.new.sink.ghost_name ≡ lines.old.sink.ghost_name }
     ensures trace { lines.new.trace ≡ lines.old.trace }
-    ensures written { Written turns lines.old.trace (running_of host.old) (writer_of O.taken O.faults lines.old) (running_of host.new) (writer_of O.taken O.faults lines.new) }
+    ensures written { Written turns lines.old.trace
+        (running_of host.old) (writer_of O.taken O.faults lines.old)
+        (running_of host.new) (writer_of O.taken O.faults lines.new) }
 {
     for _i in 0..turns {
         match turn(host, lines) {
@@ -76,10 +79,13 @@ pub fn run<O: Sink>(
     sink: &mut O,
 ) -> Result<RunEnd, RunErr>
     ensures end { IfOk result (λ e. e ≡ end_within turns (run_of turns (running_of host.old)).end) }
-    ensures text { IfOk result (λ e. Grew (O.taken sink.old) (text (run_of turns (running_of host.old)).events e trace) (O.taken sink.new)) }
-    ensures part { IfErr result (λ e. TookPart (O.taken sink.old) (text (run_of turns (running_of host.old)).events (end_within turns (run_of turns (running_of host.old)).end) trace) (O.taken sink.new) (taken_before e)) }
+    ensures text { IfOk result (λ e. Grew (O.taken sink.old)
+        (text (run_of turns (running_of host.old)).events e trace) (O.taken sink.new)) }
+    ensures part { IfErr result (λ e. TookPart (O.taken sink.old)
+        (run_text turns trace (running_of host.old)) (O.taken sink.new) (taken_before e)) }
     ensures host { IfOk result (λ _. running_of host.new ≡ made turns (running_of host.old)) }
-    ensures stopped { IfErr result (λ _. Stopped turns trace (running_of host.old) (O.taken sink.old) (running_of host.new) (O.taken sink.new)) }
+    ensures stopped { IfErr result (λ _. Stopped turns trace (running_of host.old)
+        (O.taken sink.old) (running_of host.new) (O.taken sink.new)) }
     ensures cause { OnErr result (Rose (O.faults sink.old) (O.faults sink.new)) }
     ensures faults { O.faults sink.old ≤ O.faults sink.new }
 {

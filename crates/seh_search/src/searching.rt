@@ -40,7 +40,8 @@ fn decide<S: AddressSpace>(
     at: &WalkState,
 ) -> Result<WalkState, SearchResult>
     requires { IsWhole tables.now }
-    ensures { result ≡ spec.decided (functions_of tables.now) at.now (walk.visited (functions_of tables.now) (S.memory space.now) at.now) }
+    ensures { result ≡ spec.decided (functions_of tables.now) at.now
+        (walk.visited (functions_of tables.now) (S.memory space.now) at.now) }
 {
     match visit(tables, space, at) {
         WalkItem::Over => Err(SearchResult::Nobody),
@@ -66,7 +67,8 @@ pub fn search<S: AddressSpace>(
     dispatch: &DispatchRecord,
 ) -> SearchResult
     requires { IsWhole tables.now }
-    ensures { result ≡ spec.search walk.steps (functions_of tables.now) (S.memory space.now) (walk.walk_in dispatch.now) }
+    ensures { result ≡ spec.search walk.steps (functions_of tables.now) (S.memory space.now)
+        (walk.walk_in dispatch.now) }
 {
     let mut at = WalkState {
         context: dispatch.walk,

@@ -46,7 +46,8 @@ fn decide<S: AddressSpace>(
     at: &WalkState,
 ) -> Result<WalkState, UnwindResult>
     requires { IsWhole tables.now }
-    ensures { result ≡ spec.decided (functions_of tables.now) frame target at.now (walk.visited (functions_of tables.now) (S.memory space.now) at.now) }
+    ensures { result ≡ spec.decided (functions_of tables.now) frame target at.now
+        (walk.visited (functions_of tables.now) (S.memory space.now) at.now) }
 {
     match visit(tables, space, at) {
         WalkItem::Over => Err(lost(frame)),
@@ -86,7 +87,8 @@ pub fn unwind<S: AddressSpace>(
     dispatch: &DispatchRecord,
 ) -> UnwindResult
     requires { IsWhole tables.now }
-    ensures { result ≡ spec.unwind walk.steps (functions_of tables.now) (S.memory space.now) dispatch.now.target_frame dispatch.now.target (walk.walk_in dispatch.now) }
+    ensures { result ≡ spec.unwind walk.steps (functions_of tables.now) (S.memory space.now)
+        dispatch.now.target_frame dispatch.now.target (walk.walk_in dispatch.now) }
 {
     let mut at = WalkState {
         context: dispatch.walk,
