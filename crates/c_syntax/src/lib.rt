@@ -9,5 +9,6 @@
 pub mod declaration;
 pub mod expression;
 pub mod laws;
+pub mod limit;
 pub mod operator;
 pub mod statement;
