@@ -227,21 +227,21 @@ pub data Limit : Type 0 where
   Number : Count → Limit
 
 -- the limits are in this order
-abbrev pub rank : Limit → ℕ
-rank Nesting = 1
-rank (Number counts.Locals) = 2
-rank (Number counts.Parameters) = 3
-rank (Number counts.Functions) = 4
-rank (Number counts.Globals) = 5
-rank (Number counts.Funclets) = 6
+abbrev pub order : Limit → ℕ
+order Nesting = 1
+order (Number counts.Locals) = 2
+order (Number counts.Parameters) = 3
+order (Number counts.Functions) = 4
+order (Number counts.Globals) = 5
+order (Number counts.Funclets) = 6
 
 -- how many there are
 abbrev pub every_limit : ℕ
-every_limit = rank (Number counts.Funclets)
+every_limit = order (Number counts.Funclets)
 
--- It is one of the first n limits, which are those that hold.
+-- The first n limits are in force.
 abbrev pub IsInForce : Limit → ℕ → Type 0
-IsInForce l n = rank l ≤ n
+IsInForce l n = order l ≤ n
 
 pub record FunctionWithin (ps : List Parameter) (body : Statements) : Type 0 where
   pub parameters : length ps ≤ MOST_PARAMETERS

@@ -3,7 +3,6 @@ use Rattle.std.specs.Prelude.{◌≡◌, ◌≤◌, ℕ, suc, List, [], ◌∷�
 use Rattle.c_lex.specs.declared.token.Token.{Token}
 use Rattle.c_syntax.specs.declared.declaration.Parameter.{Parameter}
 use Rattle.c_syntax.specs.declared.limit.Count.TheVariants as counts
-use Rattle.c_syntax.specs.declared.limit.Count.TheVariants.{Locals, Parameters, Functions, Funclets}
 use Rattle.c_syntax.specs.declared.limit.TheConstants.{MOST_EXPRESSIONS, MOST_STATEMENTS, MOST_LOCALS, MOST_PARAMETERS, MOST_FUNCTIONS, MOST_GLOBALS, MOST_FUNCLETS}
 use Rattle.c_syntax.specs.Faults.{place}
 use Rattle.c_syntax.specs.Limits as limits
@@ -18,8 +17,8 @@ pub record FunctionWithinFirst (n : ℕ) (ps : List Parameter) (body : Statement
   -- the function's own block is no statement
   pub statements : IsInForce Nesting n → statements_over_all body ≤ MOST_STATEMENTS
   pub expressions : IsInForce Nesting n → expressions_over_all body ≤ MOST_EXPRESSIONS
-  pub locals : IsInForce (Number Locals) n → locals_of_all body ≤ MOST_LOCALS
-  pub parameters : IsInForce (Number Parameters) n → length ps ≤ MOST_PARAMETERS
+  pub locals : IsInForce (Number counts.Locals) n → locals_of_all body ≤ MOST_LOCALS
+  pub parameters : IsInForce (Number counts.Parameters) n → length ps ≤ MOST_PARAMETERS
 
 abbrev pub EachWithinFirst : ℕ → List ExternalDeclaration → Type 0
 EachWithinFirst n [] = Unit {0}
@@ -28,9 +27,9 @@ EachWithinFirst n (Function returns name ps body ∷ xs) = FunctionWithinFirst n
 
 pub record WithinFirst (n : ℕ) (text : List ℕ) (program : List ExternalDeclaration) : Type 0 where
   pub each : EachWithinFirst n program
-  pub functions : IsInForce (Number Functions) n → limits.functions program ≤ MOST_FUNCTIONS
+  pub functions : IsInForce (Number counts.Functions) n → limits.functions program ≤ MOST_FUNCTIONS
   pub bytes : IsInForce (Number counts.Globals) n → bytes_from program 0 ≤ MOST_GLOBALS
-  pub numbered : IsInForce (Number Funclets) n → length (funclets_in text program) ≤ MOST_FUNCLETS
+  pub numbered : IsInForce (Number counts.Funclets) n → length (funclets_in text program) ≤ MOST_FUNCLETS
 
 -- A program is within the limits where it is within the first of them up to the last.
 abbrev pub WithinIsWithinEach : Type 0

@@ -5,10 +5,11 @@ ghost use Rattle.c_syntax.specs.Programs.{OneProgram};
 ghost use Rattle.c_syntax.specs.Viable.{WithinIsWithinEach, OneFirstFault, NoFaultInProgram};
 ghost use Rattle.c_syntax.specs.Rows.{Differences, Product, CastOfElement, Choices, Assignments, TwoArguments, NearestIf, NoOtherIf};
 
-/// A text is one program at most. An expression that no operator continues with has one tree and one end,
-/// and so has a statement that no `else` continues with; the start of an expression is that of its first
-/// token. Tokens have one first fault at most, of one kind, and those of a program within the limits have
-/// none; and a program is within the limits where it is within the first of them up to the last.
+/// A text is one program at most. An expression that no operator continues with has one tree and
+/// one end, and so has a statement that no `else` continues with; the start of an expression is
+/// that of its first token. Tokens have one first fault at most, of one kind, and those of a
+/// program within the limits have none; and a program is within the limits where it is within the
+/// first of them up to the last.
 pub fn laws()
     ensures one_program { OneProgram }
     ensures one_statement { OneStatement }
