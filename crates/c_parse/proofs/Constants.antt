@@ -26,9 +26,9 @@ use Rattle.c_parse.proofs.Refusing.{missing, punctuator, digit, has_it, followin
 
 -- ---- one constant
 
-not_behind : (negative : Bool) (at to : ℕ) (literal : Literal) (ts b end : List Token) → IsPunctuator punctuators.Minus to ts b → NoLiteral b → IsLiteral negative at literal ts end → ⊥
-not_behind false at to literal ts b end m none h = let a = ap front h.1 in let c = literal_class literal in let d = ap front m.1 in absurd (omega arith)
-not_behind true at to literal ts b end m none h =
+not_after : (negative : Bool) (at to : ℕ) (literal : Literal) (ts b end : List Token) → IsPunctuator punctuators.Minus to ts b → NoLiteral b → IsLiteral negative at literal ts end → ⊥
+not_after false at to literal ts b end m none h = let a = ap front h.1 in let c = literal_class literal in let d = ap front m.1 in absurd (omega arith)
+not_after true at to literal ts b end m none h =
     let q = punctuator_same punctuators.Minus punctuators.Minus to at ts ts b h.0 refl m h.2 in
     none literal h.1 end (subst (λ (x : List Token). IsKind (literal_kind literal) h.1 x end) (sym q.2) h.3)
 
@@ -43,7 +43,7 @@ pub no_literal : (text : List ℕ) (to : ℕ) (ts b : List Token) → IsPunctuat
 no_literal text to ts b m none =
     let t = token (kinds.Punctuator punctuators.Minus) to m.0 in
     missing NoConstant HasConstant text ts (t ∷ []) b m.1
-    (λ text' other s c end h. not_behind c.negative c.at to c.literal (t ∷ other) other end (m.0, refl) (firsts.no_literal b other s none) h)
+    (λ text' other s c end h. not_after c.negative c.at to c.literal (t ∷ other) other end (m.0, refl) (firsts.no_literal b other s none) h)
     (λ text'. record { more = digit 1 ∷ []; has = record { tree = record { at = to; negative = true; literal = one }; is = λ other. (digit 1 ∷ other, 0, (m.0, refl), (0, refl)) } })
 
 pub neither : (text : List ℕ) (ts : List Token) → LacksAt punctuators.Minus ts → NoLiteral ts → Failed 0 (place text ts) NoConstant HasConstant text ts

@@ -27,12 +27,12 @@ use Rattle.c_syntax.proofs.Blocks.{name_star}
 use Rattle.c_syntax.proofs.Files.{initialiser_stops, length_once, globals_stop}
 use Rattle.c_syntax.proofs.Shorter.{stars}
 use Rattle.c_parse_type.specs.Bases.{NoStar}
-use Rattle.c_parse_expr.specs.declared.refusal.Count.TheVariants.{Globals}
+use Rattle.c_syntax.specs.declared.limit.Count.TheVariants.{Globals}
 use Rattle.c_parse_expr.specs.declared.refusal.ParseErr.{ParseErr}
 use Rattle.c_parse_expr.specs.declared.refusal.ParseErr.TheVariants.{Unexpected, TooMany}
 use Rattle.c_parse_expr.specs.Refusals.{Placed}
 use Rattle.c_parse_stmt.specs.Parts.{NoPunctuator, APunctuator}
-use Rattle.c_parse.specs.Parts.{NoInitialiser, HasInitialiser, end_of, IsBracketed, NoneBracketed, HasBracketed, IsBehindName, NoLength, HasLength, EndsScalar, NoGlobal, HasGlobals}
+use Rattle.c_parse.specs.Parts.{NoInitialiser, HasInitialiser, end_of, IsBracketed, NoneBracketed, HasBracketed, IsAfterName, NoLength, HasLength, EndsScalar, NoGlobal, HasGlobals}
 use Rattle.c_parse.proofs.Refusing.{missing, punctuator, named, name, digit, has_it, following, Lacks, NoInteger, NoIdentifier, continues as refusing_goes_on}
 use Rattle.c_parse.proofs.Constants.{constant_shorter}
 use Rattle.c_parse.proofs.Placing.{no_elements}
@@ -137,7 +137,7 @@ in_bracketed text base pointers at ts a o =
           others = [];
           is = λ other.
               let rest = punctuator punctuators.Semicolon ∷ other in
-              following (λ z. IsBehindName (Some h.tree) None [] z other) (t ∷ inner) (punctuator punctuators.Semicolon ∷ []) other
+              following (λ z. IsAfterName (Some h.tree) None [] z other) (t ∷ inner) (punctuator punctuators.Semicolon ∷ []) other
               (rest, rest, bracketed h.tree (t ∷ (inner ++ rest)) (inner ++ rest) rest (o.0, (o.1.0, refl)) (h.is rest), refl, has_it punctuators.Semicolon other);
           low = h.low;
         };

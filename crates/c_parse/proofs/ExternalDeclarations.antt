@@ -16,7 +16,7 @@ use Rattle.c_syntax.specs.Programs.{AreMoreGlobals, AreGlobals, AreMoreParameter
 use Rattle.c_syntax.specs.Statement.{Statements, Empty}
 use Rattle.c_syntax.specs.Tokens.{token, IsIdentifier, HasPunctuator}
 use Rattle.c_syntax.specs.Types.{IsBase, AreStars}
-use Rattle.c_syntax.proofs.Failing.{append_append, alike_same, alike_inner, first_behind}
+use Rattle.c_syntax.proofs.Failing.{append_append, alike_same, alike_inner, first_after}
 use Rattle.c_syntax.proofs.Firsts as firsts
 use Rattle.c_syntax.proofs.Moves as moves
 use Rattle.c_syntax.proofs.Fronts.{has_same, name_same, base_once, base_front, stars_once, stars_front, NoType}
@@ -56,7 +56,7 @@ no_name text b k ts d a is far s z none =
     missing NoHead HasHead text ts (far.front ++ ms.front) a (far.split ∙ ap (λ (x : List Token). far.front ++ x) ms.split ∙ sym (append_append far.front ms.front a))
     (λ text' other f. following (λ x. NoHead 0 text' x) far.front ms.front other (λ c n m g end h.
     let t = declarators_type n m g h.0 end h.2 h.3 in
-    let q = far.only (ms.front ++ other) (subst (λ (x : List Token). SameFirst x (ms.front ++ other)) (sym ms.split) (first_behind ms.front a other f)) c g h.1 (λ x y w. t (base_front x g y w)) in
+    let q = far.only (ms.front ++ other) (subst (λ (x : List Token). SameFirst x (ms.front ++ other)) (sym ms.split) (first_after ms.front a other f)) c g h.1 (λ x y w. t (base_front x g y w)) in
     let r = stars_once k n (ms.front ++ other) g other h.0 q.1 (firsts.no_punctuator punctuators.Star a other f z) (name_star m h.0 end h.3) (again other) h.2 in
     firsts.no_name a other f none m end (subst (λ (x : List Token). IsIdentifier m x end) (sym r.1) h.3)))
     (λ text'. record {
@@ -106,8 +106,8 @@ has_head : (n : ℕ) (text : List ℕ) (b : Base) (k : ℕ) (called : Identifier
 has_head n text b k called ts d rest m = record { base = b; pointers = k; name = called; is = λ other. following (λ x. (g : List Token) × IsHead b k called x g other) m.front m.declared other (m.declared ++ other, is_head b k called ts d rest m other) }
 
 -- an array with no elements completes it
-array_behind : (counts : Counts) (n : ℕ) (text : List ℕ) (inner : List Token) → counts.bytes ≤ 1048576 → HasHead n text inner → HasExternalDeclaration counts n text (inner ++ array)
-array_behind counts n text inner w h =
+array_after : (counts : Counts) (n : ℕ) (text : List ℕ) (inner : List Token) → counts.bytes ≤ 1048576 → HasHead n text inner → HasExternalDeclaration counts n text (inner ++ array)
+array_after counts n text inner w h =
     let g : Global = record { pointers = h.pointers; name = h.name; length = Some (record { at = 0; value = 0 }); initialiser = None } in record {
       tree = Globals h.base (g ∷ []);
       is = λ other.
@@ -127,7 +127,7 @@ in_head text counts ts w = record {
   before = [];
   split = refl;
   no = λ n text' other a s x. no_head counts n text' other x;
-  has = λ n text' inner a s h. record { more = array; has = array_behind counts n text' inner w h };
+  has = λ n text' inner a s h. record { more = array; has = array_after counts n text' inner w h };
 }
 
 -- ---- functions
@@ -168,7 +168,7 @@ functions_full text counts base n called ts d rest inner w h o z =
           let f = subst (λ (x : List Token). SameFirst x other) o.1.1 s in
           following (λ x. NoExternalDeclaration counts 4 text' x) m.front m.declared other
           (full counts 4 text' base n called (m.front ++ (m.declared ++ other)) (m.declared ++ other) other f.0 (omega arith) (is_head base n called ts d rest m other) (o.0, (o.1.0, f.1)) z);
-      able = λ text' a s. record { more = array; has = array_behind counts 6 text' (m.front ++ m.declared) w (has_head 6 text' base n called ts d rest m) };
+      able = λ text' a s. record { more = array; has = array_after counts 6 text' (m.front ++ m.declared) w (has_head 6 text' base n called ts d rest m) };
       further = λ text' k a s e. record {
         token = t;
         rest = inner;
@@ -258,7 +258,7 @@ against : (counts : Counts) (k : ℕ) (text : List ℕ) (base : Base) (n : ℕ) 
     → ((o : List Token) → SameFirst fault o → NoGlobals base counts.bytes k text (front ++ o)) → Cuts m.declared rest front fault → NoExternalDeclaration counts k text (m.front ++ (front ++ other))
 against counts k text base n called ts d rest front fault other m w l s f (inl (g, p, q)) =
     let e : front ++ other ≡ m.declared ++ (g ++ other) = ap (λ (z : List Token). z ++ other) p ∙ append_append m.declared g other in
-    let lacks = firsts.no_punctuator punctuators.OpenParenthesis rest (g ++ other) (subst (λ (z : List Token). SameFirst z (g ++ other)) (sym q) (first_behind g fault other s)) l in
+    let lacks = firsts.no_punctuator punctuators.OpenParenthesis rest (g ++ other) (subst (λ (z : List Token). SameFirst z (g ++ other)) (sym q) (first_after g fault other s)) l in
     subst (λ (z : List Token). NoExternalDeclaration counts k text (m.front ++ z)) (sym e)
     (no_globals counts k text base n called (m.front ++ (m.declared ++ (g ++ other))) (m.declared ++ (g ++ other)) (g ++ other) (is_head base n called ts d rest m (g ++ other)) lacks (subst (λ (z : List Token). NoGlobals base counts.bytes k text z) e (f other s)))
 against counts k text base n called ts d rest front fault other m w l s f (inr (t, g, p, q)) =

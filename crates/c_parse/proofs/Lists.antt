@@ -2,7 +2,7 @@
 use Rattle.std.proofs.Common.{◌≡◌, List, [], ◌∷◌, ◌++◌, refl, sym, ap, ◌∙◌, subst}
 use Rattle.c_lex.specs.declared.token.Token.{Token}
 use Rattle.c_syntax.specs.Faults.{SameFirst}
-use Rattle.c_syntax.proofs.Failing.{append_append, first_behind}
+use Rattle.c_syntax.proofs.Failing.{append_append, first_after}
 
 -- what may stand after elements of a list, and whole lists
 abbrev pub Listed : Type 0 → Type 1
@@ -39,7 +39,7 @@ continues {A} Are More ts rest mid after found x p f b d = record {
       subst (λ (z : List Token). Are ((found ++ x ∷ []) ++ xs) z end) (sym (append_append d.front mid other))
       (subst (λ (l : List A). Are l (d.front ++ (mid ++ other)) end) (sym (snoc found x xs)) (d.forward (mid ++ other) (x ∷ xs) end (f other xs end m)));
   back = λ other s xs end h.
-      let r = d.back (mid ++ other) (subst (λ (z : List Token). SameFirst z (mid ++ other)) (sym p) (first_behind mid after other s)) xs end (subst (λ (z : List Token). Are xs z end) (append_append d.front mid other) h) in
+      let r = d.back (mid ++ other) (subst (λ (z : List Token). SameFirst z (mid ++ other)) (sym p) (first_after mid after other s)) xs end (subst (λ (z : List Token). Are xs z end) (append_append d.front mid other) h) in
       let w = b other s r.0 end r.2 in
       (w.0, r.1 ∙ ap (λ (l : List A). found ++ l) w.1 ∙ sym (snoc found x w.0), w.2);
 }

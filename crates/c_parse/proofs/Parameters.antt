@@ -14,7 +14,7 @@ use Rattle.c_syntax.specs.Faults.{SameFirst, place, Failed, Wraps}
 use Rattle.c_syntax.specs.Programs.{IsParameter, AreMoreParameters, AreParameters}
 use Rattle.c_syntax.specs.Tokens.{token, IsIdentifier, HasPunctuator, HasKeyword}
 use Rattle.c_syntax.specs.Types.{IsType}
-use Rattle.c_syntax.proofs.Failing.{append_append, alike_same, first_behind}
+use Rattle.c_syntax.proofs.Failing.{append_append, alike_same, first_after}
 use Rattle.c_syntax.proofs.Moves as moves
 use Rattle.c_syntax.proofs.MovesPrograms as programs
 use Rattle.c_syntax.proofs.Firsts as firsts
@@ -256,7 +256,7 @@ no_void n text ts (t ∷ u ∷ front) fault other end p v s f h =
     v (front ++ fault) (u ∷ (front ++ fault), (h.1.0, (h.1.1.0, p ∙ ap (λ (x : Token). x ∷ u ∷ (front ++ fault)) q)), (h.2.0, (h.2.1.0, ap (λ (x : Token). x ∷ (front ++ fault)) d)))
 
 none_at_all : (n : ℕ) (text : List ℕ) (ts front fault other : List Token) → ts ≡ front ++ fault → Lacks punctuators.CloseParenthesis ts → ((rest : List Token) → IsVoid ts rest → ⊥) → SameFirst fault other → ((o : List Token) → SameFirst fault o → NoListed n text (front ++ o)) → NoParameters n text (front ++ other)
-none_at_all n text ts front fault other p c v s f [] end (inl h) few = firsts.no_punctuator punctuators.CloseParenthesis ts (front ++ other) (subst (λ (x : List Token). SameFirst x (front ++ other)) (sym p) (first_behind front fault other s)) c end h
+none_at_all n text ts front fault other p c v s f [] end (inl h) few = firsts.no_punctuator punctuators.CloseParenthesis ts (front ++ other) (subst (λ (x : List Token). SameFirst x (front ++ other)) (sym p) (first_after front fault other s)) c end h
 none_at_all n text ts front fault other p c v s f [] end (inr h) few = no_void n text ts front fault other end p v s f h
 none_at_all n text ts front fault other p c v s f (x ∷ xs) end h few = f other s x xs end h few
 

@@ -7,7 +7,7 @@ use Rattle.c_lex.specs.Text.{IsTokens}
 use Rattle.c_syntax.specs.declared.declaration.ExternalDeclaration.{ExternalDeclaration as ExternalDeclaration'}
 use Rattle.c_syntax.specs.declared.declaration.Parameter.{Parameter}
 use Rattle.c_syntax.specs.Faults.{Alike, SameFirst, Failed}
-use Rattle.c_syntax.specs.Limits.{FunctionWithin, Within, end_of_globals, funclets_of_all, funclets_in, bytes_from}
+use Rattle.c_syntax.specs.Limits.{Number, order, FunctionWithin, Within, end_of_globals, funclets_of_all, funclets_in, bytes_from}
 use Rattle.c_syntax.specs.Program.{ExternalDeclaration, Globals, Function, external_declaration}
 use Rattle.c_syntax.specs.Programs.{IsExternalDeclaration, IsProgram}
 use Rattle.c_syntax.specs.Statement.{Statements}
@@ -19,7 +19,7 @@ use Rattle.c_syntax.proofs.Files.{external_declaration_once, external_declaratio
 use Rattle.c_syntax.proofs.MovesPrograms as moves
 use Rattle.c_parse_expr.specs.declared.refusal.ParseErr.{ParseErr}
 use Rattle.c_parse_expr.specs.declared.refusal.ParseErr.TheVariants.{Unexpected, TooDeep, TooMany, Memory}
-use Rattle.c_parse_expr.specs.Refusals.{number, Placed, Refuses}
+use Rattle.c_parse_expr.specs.Refusals.{Placed, Refuses}
 use Rattle.c_parse.specs.declared.counts.Counts.{Counts}
 use Rattle.c_parse.specs.Counts.{Fits, Taken, NoExternalDeclaration, HasExternalDeclaration}
 use Rattle.c_parse.proofs.Beyond as beyond
@@ -230,7 +230,7 @@ fault n at text ts rest found counts d k e f =
 pub refuses : (e : ParseErr) (text : List ℕ) (ts rest : List Token) (found : List ExternalDeclaration') (counts : Counts) → Read text ts found rest counts → IsTokens text ts → (rest ≡ [] → ⊥) → Placed e (NoExternalDeclaration counts) (HasExternalDeclaration counts) text rest → Refuses e text ts
 refuses (Unexpected at) text ts rest found counts d k n p = fault 0 at text ts rest found counts d k n p
 refuses (TooDeep at) text ts rest found counts d k n p = fault 1 at text ts rest found counts d k n p
-refuses (TooMany at what) text ts rest found counts d k n p = fault (number what) at text ts rest found counts d k n p
+refuses (TooMany at what) text ts rest found counts d k n p = fault (order (Number what)) at text ts rest found counts d k n p
 refuses Memory text ts rest found counts d k n p = tt
 
 -- ---- no program within the limits is refused
@@ -238,7 +238,7 @@ refuses Memory text ts rest found counts d k n p = tt
 pub memory : (e : ParseErr) (text : List ℕ) (ts : List Token) (xs : List ExternalDeclaration) → Refuses e text ts → IsProgram text xs ts → Within text xs → e ≡ Memory
 memory (Unexpected at) text ts xs r h w = absurd (no_fault_in_program text ts 0 at xs r h w)
 memory (TooDeep at) text ts xs r h w = absurd (no_fault_in_program text ts 1 at xs r h w)
-memory (TooMany at what) text ts xs r h w = absurd (no_fault_in_program text ts (number what) at xs r h w)
+memory (TooMany at what) text ts xs r h w = absurd (no_fault_in_program text ts (order (Number what)) at xs r h w)
 memory Memory text ts xs r h w = refl
 
 -- ---- whether something is left

@@ -13,9 +13,10 @@ use Rattle.c_syntax.specs.Follow.{Stops}
 use Rattle.c_syntax.specs.Tokens.{token, IsKind, IsPunctuator, IsIdentifier, HasPunctuator}
 use Rattle.c_syntax.proofs.Failing.{append_append, wrapped}
 use Rattle.c_syntax.proofs.Firsts.{first_back, stops}
+use Rattle.c_syntax.specs.Limits.{Number, order}
 use Rattle.c_parse_expr.specs.declared.refusal.ParseErr.{ParseErr}
 use Rattle.c_parse_expr.specs.declared.refusal.ParseErr.TheVariants.{Unexpected, TooDeep, TooMany, Memory}
-use Rattle.c_parse_expr.specs.Refusals.{number, Placed}
+use Rattle.c_parse_expr.specs.Refusals.{Placed}
 
 -- ---- refusals
 
@@ -23,14 +24,14 @@ use Rattle.c_parse_expr.specs.Refusals.{number, Placed}
 pub placed_in : (e : ParseErr) (No Has No' Has' : Family) (text : List ℕ) (ts ts' : List Token) → Wraps No Has No' Has' text ts ts' → Placed e No Has text ts → Placed e No' Has' text ts'
 placed_in (Unexpected at) No Has No' Has' text ts ts' w p = wrapped No Has No' Has' 0 at text ts ts' w p
 placed_in (TooDeep at) No Has No' Has' text ts ts' w p = wrapped No Has No' Has' 1 at text ts ts' w p
-placed_in (TooMany at what) No Has No' Has' text ts ts' w p = wrapped No Has No' Has' (number what) at text ts ts' w p
+placed_in (TooMany at what) No Has No' Has' text ts ts' w p = wrapped No Has No' Has' (order (Number what)) at text ts ts' w p
 placed_in Memory No Has No' Has' text ts ts' w p = tt
 
 -- by what each failure is
 pub placed_so : (e : ParseErr) (No Has No' Has' : Family) (text : List ℕ) (ts ts' : List Token) → ((kind at : ℕ) → Failed kind at No Has text ts → Failed kind at No' Has' text ts') → Placed e No Has text ts → Placed e No' Has' text ts'
 placed_so (Unexpected at) No Has No' Has' text ts ts' w p = w 0 at p
 placed_so (TooDeep at) No Has No' Has' text ts ts' w p = w 1 at p
-placed_so (TooMany at what) No Has No' Has' text ts ts' w p = w (number what) at p
+placed_so (TooMany at what) No Has No' Has' text ts ts' w p = w (order (Number what)) at p
 placed_so Memory No Has No' Has' text ts ts' w p = tt
 
 pub refused_so : {A : Type 0} (r : Result A ParseErr) (No Has No' Has' : Family) (text : List ℕ) (ts ts' : List Token) → ((kind at : ℕ) → Failed kind at No Has text ts → Failed kind at No' Has' text ts') → IfErr r (λ e. Placed e No Has text ts) → IfErr r (λ e. Placed e No' Has' text ts')

@@ -1,8 +1,10 @@
 -- The counts of a program while it is read; that no external declaration is at the front; and that tokens are one, whatever follows.
 use Rattle.std.specs.Prelude.{◌≡◌, ◌≤◌, ◌+◌, ℕ, List, [], ◌∷◌, ◌++◌, length}
 use Rattle.c_lex.specs.declared.token.Token.{Token}
+use Rattle.c_syntax.specs.declared.limit.Count.TheVariants.{Functions, Globals, Funclets}
+use Rattle.c_syntax.specs.declared.limit.TheConstants.{MOST_GLOBALS}
 use Rattle.c_syntax.specs.Limits as limits
-use Rattle.c_syntax.specs.Limits.{EachWithin, bytes_from, funclets_in}
+use Rattle.c_syntax.specs.Limits.{Number, IsInForce, EachWithin, bytes_from, funclets_in}
 use Rattle.c_syntax.specs.Program.{ExternalDeclaration}
 use Rattle.c_syntax.specs.Programs.{IsExternalDeclaration}
 use Rattle.c_syntax.specs.Viable.{EachWithinFirst}
@@ -11,16 +13,16 @@ use Rattle.c_parse.specs.declared.counts.Counts.{Counts}
 -- within the first n limits after what was counted
 pub record Fits (n : ℕ) (text : List ℕ) (counts : Counts) (xs : List ExternalDeclaration) : Type 0 where
   pub each : EachWithinFirst n xs
-  pub functions : 4 ≤ n → limits.functions xs ≤ counts.functions
-  pub bytes : 5 ≤ n → bytes_from xs counts.bytes ≤ 1048576
-  pub funclets : 6 ≤ n → length (funclets_in text xs) ≤ counts.funclets
+  pub functions : IsInForce (Number Functions) n → limits.functions xs ≤ counts.functions
+  pub bytes : IsInForce (Number Globals) n → bytes_from xs counts.bytes ≤ MOST_GLOBALS
+  pub funclets : IsInForce (Number Funclets) n → length (funclets_in text xs) ≤ counts.funclets
 
 -- within the limits, and so the counts are after it
 pub record Taken (text : List ℕ) (counts after : Counts) (x : ExternalDeclaration) : Type 0 where
   pub each : EachWithin (x ∷ [])
   pub functions : after.functions + limits.functions (x ∷ []) ≡ counts.functions
   pub bytes : after.bytes ≡ bytes_from (x ∷ []) counts.bytes
-  pub low : after.bytes ≤ 1048576
+  pub low : after.bytes ≤ MOST_GLOBALS
   pub funclets : after.funclets + length (funclets_in text (x ∷ [])) ≡ counts.funclets
 
 abbrev pub NoExternalDeclaration : Counts → ℕ → List ℕ → List Token → Type 0

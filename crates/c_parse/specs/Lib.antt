@@ -3,3 +3,4 @@ pub mod Counts
 pub mod Laws
 pub mod Nodes
 pub mod Bounds
+pub mod Refused

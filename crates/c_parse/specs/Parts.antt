@@ -1,4 +1,4 @@
--- Parts of external declarations; that none is at the front; and that tokens are such a part, whatever follows. Limits count where the first n of them hold: the third is the parameters of a function, the fifth the bytes of the globals, the sixth the funclets of the program.
+-- Parts of external declarations; that none is at the front; and that tokens are such a part, whatever follows. The first n limits are in force.
 use Rattle.std.specs.Prelude.{◌≤◌, ◌+◌, ◌*◌, ◌⊎◌, ℕ, List, length, ◌∷◌, ◌++◌, Option, Some}
 use Rattle.c_lex.specs.declared.punctuator.Punctuator.TheVariants as punctuators
 use Rattle.c_lex.specs.declared.keyword.Keyword.TheVariants as keywords
@@ -8,9 +8,11 @@ use Rattle.c_syntax.specs.declared.declaration.Length.{Length}
 use Rattle.c_syntax.specs.declared.declaration.Parameter.{Parameter}
 use Rattle.c_syntax.specs.declared.expression.Base.{Base}
 use Rattle.c_syntax.specs.declared.expression.Identifier.{Identifier}
+use Rattle.c_syntax.specs.declared.limit.Count.TheVariants.{Parameters, Globals, Funclets}
+use Rattle.c_syntax.specs.declared.limit.TheConstants.{MOST_GLOBALS, MOST_PARAMETERS}
 use Rattle.c_syntax.specs.Expressions.{IsInteger}
 use Rattle.c_syntax.specs.Follow.{Stops}
-use Rattle.c_syntax.specs.Limits.{size, elements, aligned, end_of_globals, funclets_of_all}
+use Rattle.c_syntax.specs.Limits.{Number, IsInForce, size, elements, aligned, end_of_globals, funclets_of_all}
 use Rattle.c_syntax.specs.Program.{Initialiser, Single, Several, Global}
 use Rattle.c_syntax.specs.Programs.{IsConstant, AreConstants, IsInitialiser, IsLength, AreMoreGlobals, AreGlobals, IsParameter, AreParameters}
 use Rattle.c_syntax.specs.Statement.{Statements}
@@ -65,28 +67,28 @@ abbrev pub IsBracketed : Length → List Token → List Token → Type 0
 IsBracketed n ts rest = (a : List Token) × IsInteger n.value n.at ts a × HasPunctuator punctuators.CloseBracket a rest
 
 abbrev pub NoneBracketed : Base → ℕ → ℕ → ℕ → List ℕ → List Token → Type 0
-NoneBracketed base pointers at n text ts = (l : Length) (end : List Token) → IsBracketed l ts end → Stops 1 end → (5 ≤ n → end_of base pointers (Some l) at ≤ 1048576) → ⊥
+NoneBracketed base pointers at n text ts = (l : Length) (end : List Token) → IsBracketed l ts end → Stops 1 end → (IsInForce (Number Globals) n → end_of base pointers (Some l) at ≤ MOST_GLOBALS) → ⊥
 
 pub record HasBracketed (base : Base) (pointers at n : ℕ) (text : List ℕ) (ts : List Token) : Type 0 where
   pub tree : Length
   pub is : (other : List Token) → IsBracketed tree (ts ++ other) other
-  pub low : 5 ≤ n → end_of base pointers (Some tree) at ≤ 1048576
+  pub low : IsInForce (Number Globals) n → end_of base pointers (Some tree) at ≤ MOST_GLOBALS
 
 -- what is after the name of a global, up to the semicolon: its length and its initialiser, and further globals
-abbrev pub IsBehindName : Option Length → Option Initialiser → List Global → List Token → List Token → Type 0
-IsBehindName l i gs ts rest = (a : List Token) × (b : List Token) × IsLength l ts a × IsInitialiser i a b × AreMoreGlobals gs b rest
+abbrev pub IsAfterName : Option Length → Option Initialiser → List Global → List Token → List Token → Type 0
+IsAfterName l i gs ts rest = (a : List Token) × (b : List Token) × IsLength l ts a × IsInitialiser i a b × AreMoreGlobals gs b rest
 
 -- The length counts, and what is after it only has to be there.
 abbrev pub NoLength : Base → ℕ → ℕ → ℕ → List ℕ → List Token → Type 0
 NoLength base pointers at n text ts =
-    (l : Option Length) (i : Option Initialiser) (gs : List Global) (end : List Token) → IsBehindName l i gs ts end → (5 ≤ n → end_of base pointers l at ≤ 1048576) → ⊥
+    (l : Option Length) (i : Option Initialiser) (gs : List Global) (end : List Token) → IsAfterName l i gs ts end → (IsInForce (Number Globals) n → end_of base pointers l at ≤ MOST_GLOBALS) → ⊥
 
 pub record HasLength (base : Base) (pointers at n : ℕ) (text : List ℕ) (ts : List Token) : Type 0 where
   pub length : Option Length
   pub initialiser : Option Initialiser
   pub others : List Global
-  pub is : (other : List Token) → IsBehindName length initialiser others (ts ++ other) other
-  pub low : 5 ≤ n → end_of_globals base others (end_of base pointers length at) ≤ 1048576
+  pub is : (other : List Token) → IsAfterName length initialiser others (ts ++ other) other
+  pub low : IsInForce (Number Globals) n → end_of_globals base others (end_of base pointers length at) ≤ MOST_GLOBALS
 
 -- a punctuator that is after the name of a scalar
 abbrev pub EndsScalar : List Token → Type 0
@@ -94,15 +96,15 @@ EndsScalar ts = (rest : List Token) × (HasPunctuator punctuators.Semicolon ts r
 
 -- here too, the global counts
 abbrev pub NoGlobal : Base → ℕ → ℕ → List ℕ → List Token → Type 0
-NoGlobal base at n text ts = (g : Global) (gs : List Global) (end : List Token) → AreGlobals (g ∷ gs) ts end → (5 ≤ n → end_of base g.pointers g.length at ≤ 1048576) → ⊥
+NoGlobal base at n text ts = (g : Global) (gs : List Global) (end : List Token) → AreGlobals (g ∷ gs) ts end → (IsInForce (Number Globals) n → end_of base g.pointers g.length at ≤ MOST_GLOBALS) → ⊥
 
 abbrev pub NoGlobals : Base → ℕ → ℕ → List ℕ → List Token → Type 0
-NoGlobals base at n text ts = (gs : List Global) (end : List Token) → AreGlobals gs ts end → (5 ≤ n → end_of_globals base gs at ≤ 1048576) → ⊥
+NoGlobals base at n text ts = (gs : List Global) (end : List Token) → AreGlobals gs ts end → (IsInForce (Number Globals) n → end_of_globals base gs at ≤ MOST_GLOBALS) → ⊥
 
 pub record HasGlobals (base : Base) (at n : ℕ) (text : List ℕ) (ts : List Token) : Type 0 where
   pub trees : List Global
   pub are : (other : List Token) → AreGlobals trees (ts ++ other) other
-  pub low : 5 ≤ n → end_of_globals base trees at ≤ 1048576
+  pub low : IsInForce (Number Globals) n → end_of_globals base trees at ≤ MOST_GLOBALS
 
 -- ---- functions
 
@@ -119,35 +121,35 @@ IsVoid ts rest = (a : List Token) × HasKeyword keywords.Void ts a × HasPunctua
 
 -- none but nothing and `void`
 abbrev pub NoListed : ℕ → List ℕ → List Token → Type 0
-NoListed n text ts = (p : Parameter) (ps : List Parameter) (end : List Token) → AreParameters (p ∷ ps) ts end → (3 ≤ n → length (p ∷ ps) ≤ 8) → ⊥
+NoListed n text ts = (p : Parameter) (ps : List Parameter) (end : List Token) → AreParameters (p ∷ ps) ts end → (IsInForce (Number Parameters) n → length (p ∷ ps) ≤ MOST_PARAMETERS) → ⊥
 
 pub record HasListed (n : ℕ) (text : List ℕ) (ts : List Token) : Type 0 where
   pub first : Parameter
   pub others : List Parameter
   pub are : (other : List Token) → AreParameters (first ∷ others) (ts ++ other) other
-  pub few : 3 ≤ n → length (first ∷ others) ≤ 8
+  pub few : IsInForce (Number Parameters) n → length (first ∷ others) ≤ MOST_PARAMETERS
 
 abbrev pub NoParameters : ℕ → List ℕ → List Token → Type 0
-NoParameters n text ts = (ps : List Parameter) (end : List Token) → AreParameters ps ts end → (3 ≤ n → length ps ≤ 8) → ⊥
+NoParameters n text ts = (ps : List Parameter) (end : List Token) → AreParameters ps ts end → (IsInForce (Number Parameters) n → length ps ≤ MOST_PARAMETERS) → ⊥
 
 pub record HasParameters (n : ℕ) (text : List ℕ) (ts : List Token) : Type 0 where
   pub trees : List Parameter
   pub are : (other : List Token) → AreParameters trees (ts ++ other) other
-  pub few : 3 ≤ n → length trees ≤ 8
+  pub few : IsInForce (Number Parameters) n → length trees ≤ MOST_PARAMETERS
 
 -- what is after the name and the parenthesis
 abbrev pub IsTail : List ℕ → List Parameter → Statements → List Token → List Token → Type 0
 IsTail text ps body ts rest = (a : List Token) × (b : List Token) × AreParameters ps ts a × HasPunctuator punctuators.OpenBrace a b × AreBlockItems text body b rest
 
 abbrev pub NoTail : ℕ → ℕ → List ℕ → List Token → Type 0
-NoTail funclets n text ts = (ps : List Parameter) (body : Statements) (end : List Token) → IsTail text ps body ts end → FunctionWithinFirst n ps body → (6 ≤ n → length (funclets_of_all text body) ≤ funclets) → ⊥
+NoTail funclets n text ts = (ps : List Parameter) (body : Statements) (end : List Token) → IsTail text ps body ts end → FunctionWithinFirst n ps body → (IsInForce (Number Funclets) n → length (funclets_of_all text body) ≤ funclets) → ⊥
 
 pub record HasTail (funclets n : ℕ) (text : List ℕ) (ts : List Token) : Type 0 where
   pub parameters : List Parameter
   pub body : Statements
   pub is : (other : List Token) → IsTail text parameters body (ts ++ other) other
   pub within : FunctionWithinFirst n parameters body
-  pub numbered : 6 ≤ n → length (funclets_of_all text body) ≤ funclets
+  pub numbered : IsInForce (Number Funclets) n → length (funclets_of_all text body) ≤ funclets
 
 -- ---- external declarations
 

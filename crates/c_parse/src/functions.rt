@@ -6,31 +6,26 @@ ghost use Rattle.c_syntax.specs.Faults as faults;
 ghost use Rattle.c_syntax.specs.Limits as limits;
 ghost use Rattle.c_syntax.specs.Programs.{IsParameter, AreParameters};
 ghost use Rattle.c_syntax.specs.Statement.{statement, statements};
-ghost use Rattle.c_parse_expr.specs.declared.refusal.Count.TheVariants as counts;
+ghost use Rattle.c_syntax.specs.declared.limit.Count.TheVariants as counts;
 ghost use Rattle.c_parse_expr.specs.declared.refusal.ParseErr.TheVariants.{TooMany};
 ghost use Rattle.c_parse_expr.specs.Refusals.{Placed};
-ghost use Rattle.c_parse.specs.Parts.{NoParameter, HasParameter, IsVoid, NoListed, HasListed, NoParameters, HasParameters, IsTail, NoTail, HasTail};
+ghost use Rattle.c_parse.specs.Parts.{NoParameter, HasParameter, IsVoid, NoListed, HasListed, NoParameters, HasParameters, IsTail};
+ghost use Rattle.c_parse.specs.Refused.{RefusesTail};
 
 use c_lex::keyword::Keyword;
 use c_lex::punctuator::Punctuator;
 use c_lex::token::Token;
 use c_parse_atom::operands::name;
-use c_parse_expr::refusal::{Count, ParseErr, place, unexpected};
+use c_parse_expr::refusal::{ParseErr, place, unexpected};
 use c_parse_stmt::left::Left;
 use c_parse_stmt::parts::{expect, word};
 use c_parse_stmt::statements::items;
 use c_parse_type::front::after;
 use c_parse_type::specifiers::c_type;
 use c_syntax::declaration::Parameter;
+use c_syntax::limit::{Count, MOST_LOCALS, MOST_PARAMETERS, MOST_STATEMENTS};
 use c_syntax::statement::Stmt;
 use std::alloc::Global;
-
-/// The most locals of a function, parameters aside.
-const MOST_LOCALS: u64 = 256;
-
-/// The most statements around a statement in a function's block, and one more for the block, which is
-/// none.
-const DEEPEST: u64 = 65;
 
 /// The refusal of the first token, with which a function has one parameter too many.
 fn too_many_parameters(text: &[u8], tokens: &[Token]) -> ParseErr
@@ -74,11 +69,11 @@ fn listed<'a>(
     tokens: &'a [Token],
 ) -> Result<(Vec<Parameter>, &'a [Token]), ParseErr>
     ensures found { IfOk result (λ x. AreParameters x.0.items tokens.now x.1.now) }
-    ensures few { IfOk result (λ x. length x.0.items ≤ 8) }
+    ensures few { IfOk result (λ x. length x.0.items ≤ MOST_PARAMETERS) }
     ensures refused { IfErr result (λ e. Placed e NoListed HasListed text.now tokens.now) }
 {
     let (first, mut rest) = parameter(text, tokens)?;
-    let mut left: u64 = 7;
+    let mut left = MOST_PARAMETERS - 1;
     let mut found = Vec::new(alloc);
     found.push(first)?;
     while let Some(following) = after(Punctuator::Comma, rest) {
@@ -94,15 +89,15 @@ fn listed<'a>(
     Ok((found, end))
 }
 
-/// The parameters of a function after the parenthesis (C11, 6.7.6.3), at most 8, and what follows the
-/// other parenthesis. Nothing and `void` mean none.
+/// The parameters of a function after the parenthesis (C11, 6.7.6.3), at most `MOST_PARAMETERS`,
+/// and what follows the other parenthesis. Nothing and `void` mean none.
 fn parameters<'a>(
     alloc: Global,
     text: &[u8],
     tokens: &'a [Token],
 ) -> Result<(Vec<Parameter>, &'a [Token]), ParseErr>
     ensures found { IfOk result (λ x. AreParameters x.0.items tokens.now x.1.now) }
-    ensures few { IfOk result (λ x. length x.0.items ≤ 8) }
+    ensures few { IfOk result (λ x. length x.0.items ≤ MOST_PARAMETERS) }
     ensures refused { IfErr result (λ e. Placed e NoParameters HasParameters text.now tokens.now) }
 {
     if let Some(rest) = after(Punctuator::CloseParenthesis, tokens) {
@@ -114,18 +109,34 @@ fn parameters<'a>(
     listed(alloc, text, tokens)
 }
 
-/// The parameters and the body of a function after its name and the parenthesis (C11, 6.9.1), how many
-/// funclets the program may still have, and what follows the body.
+/// What follows the name of a function and its parenthesis.
+#[derive(Drop)]
+pub struct FunctionTail<'a> {
+    pub parameters: Vec<Parameter>,
+    pub body: Vec<Stmt>,
+    /// How many funclets the program may still have.
+    pub funclets: u64,
+    /// What follows the body.
+    pub rest: &'a [Token],
+}
+
+/// The parameters and the body of a function after its name and the parenthesis (C11, 6.9.1). The
+/// program may have so many funclets.
 pub fn tail<'a>(
     alloc: Global,
     text: &[u8],
     funclets: u64,
     tokens: &'a [Token],
-) -> Result<(Vec<Parameter>, Vec<Stmt>, u64, &'a [Token]), ParseErr>
-    ensures found { IfOk result (λ x. IsTail text.now x.0.items (statements (map statement x.1.items)) tokens.now x.3.now) }
-    ensures within { IfOk result (λ x. limits.FunctionWithin x.0.items (statements (map statement x.1.items))) }
-    ensures taken { IfOk result (λ x. x.2 + length (limits.funclets_of_all text.now (statements (map statement x.1.items))) ≡ funclets) }
-    ensures refused { IfErr result (λ e. Placed e (NoTail funclets) (HasTail funclets) text.now tokens.now) }
+) -> Result<FunctionTail<'a>, ParseErr>
+    ensures found { IfOk result (λ x.
+        IsTail text.now x.parameters.items (statements (map statement x.body.items)) tokens.now
+        x.rest.now) }
+    ensures within { IfOk result (λ x.
+        limits.FunctionWithin x.parameters.items (statements (map statement x.body.items))) }
+    ensures taken { IfOk result (λ x. x.funclets
+        + length (limits.funclets_of_all text.now (statements (map statement x.body.items)))
+        ≡ funclets) }
+    ensures refused { IfErr result (λ e. RefusesTail e funclets text.now tokens.now) }
 {
     let (parameters, following) = parameters(alloc, text, tokens)?;
     let inner = expect(text, Punctuator::OpenBrace, following)?;
@@ -133,6 +144,12 @@ pub fn tail<'a>(
         locals: MOST_LOCALS,
         funclets,
     };
-    let (body, left, rest) = items(alloc, text, DEEPEST, left, inner)?;
-    Ok((parameters, body, left.funclets, rest))
+    let (body, left, rest) = items(alloc, text, MOST_STATEMENTS, left, inner)?;
+    let funclets = left.funclets;
+    Ok(FunctionTail {
+        parameters,
+        body,
+        funclets,
+        rest,
+    })
 }

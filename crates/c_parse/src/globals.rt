@@ -1,32 +1,28 @@
 //! Globals, and where they lie.
 
-ghost use Rattle.std.specs.Prelude.{◌≡◌, ◌≤◌, ◌<◌, ◌+◌, ◌*◌, ◌⊎◌, Some, IfOk, IfErr, IfSome, IfNone, map};
+ghost use Rattle.std.specs.Prelude.{◌≡◌, ◌≤◌, ◌<◌, ◌+◌, ◌*◌, Some, IfOk, IfErr, IfSome, IfNone, map};
 ghost use Rattle.c_lex.specs.declared.punctuator.Punctuator.TheVariants as punctuators;
-ghost use Rattle.c_syntax.specs.Faults as faults;
 ghost use Rattle.c_syntax.specs.Follow.{Stops};
 ghost use Rattle.c_syntax.specs.Limits as limits;
 ghost use Rattle.c_syntax.specs.Program as trees;
 ghost use Rattle.c_syntax.specs.Programs.{IsLength, IsGlobal, AreGlobals};
-ghost use Rattle.c_parse_expr.specs.declared.refusal.Count.TheVariants as counts;
-ghost use Rattle.c_parse_expr.specs.declared.refusal.ParseErr.TheVariants.{Unexpected, TooMany};
-ghost use Rattle.c_parse_expr.specs.Refusals.{Placed};
+ghost use Rattle.c_syntax.specs.declared.limit.Count.TheVariants as counts;
+ghost use Rattle.c_parse_expr.specs.declared.refusal.ParseErr.TheVariants.{TooMany};
 ghost use Rattle.c_parse.specs.Parts as parts;
-ghost use Rattle.c_parse.specs.Parts.{EndsScalar, NoLength, HasLength, NoGlobal, NoGlobals, HasGlobals};
+ghost use Rattle.c_parse.specs.Refused.{RefusesScalar, RefusesBracketed, RefusesLength, RefusesGlobal, RefusesGlobals};
 
 use crate::initialisers::{initialiser, stop};
 use c_lex::punctuator::Punctuator;
 use c_lex::token::Token;
 use c_parse_atom::operands::{integer, name};
-use c_parse_expr::refusal::{Count, ParseErr, place, unexpected};
+use c_parse_expr::refusal::{ParseErr, place, unexpected};
 use c_parse_stmt::parts::expect;
 use c_parse_type::front::after;
 use c_parse_type::specifiers::stars;
 use c_syntax::declaration::{Global, Length};
 use c_syntax::expression::Base;
+use c_syntax::limit::{Count, MOST_GLOBALS};
 use std::alloc::Global as Allocator;
-
-/// The most bytes that a program's globals take.
-const MOST_BYTES: u64 = 1_048_576;
 
 /// The level of `[`: after a length is nothing with which a postfix expression continues.
 const POSTFIX: u8 = 1;
@@ -48,20 +44,20 @@ fn size_of(base: Base, pointers: u64) -> u64
     }
 }
 
-/// Where `count` elements of a size end that are placed after `at` bytes, at a multiple of the size;
-/// none where that is too far.
+/// Where `count` elements of a size end that are placed after `at` bytes, at a multiple of the
+/// size; none where that is too far.
 fn end_of(size: u64, count: u64, at: u64) -> Option<u64>
     requires size { size ≤ 8 }
-    requires at { at ≤ 1048576 }
+    requires at { at ≤ MOST_GLOBALS }
     ensures found { IfSome result (λ end. end ≡ limits.aligned at size + size * count) }
-    ensures low { IfSome result (λ end. end ≤ 1048576) }
-    ensures none { IfNone result (1048576 < limits.aligned at size + size * count) }
+    ensures low { IfSome result (λ end. end ≤ MOST_GLOBALS) }
+    ensures none { IfNone result (MOST_GLOBALS < limits.aligned at size + size * count) }
 {
     if size == 0 {
         return Some(at);
     }
     let start = (at + (size - 1)) / size * size;
-    if start > MOST_BYTES || count > (MOST_BYTES - start) / size {
+    if start > MOST_GLOBALS || count > (MOST_GLOBALS - start) / size {
         return None;
     }
     Some(start + size * count)
@@ -79,8 +75,7 @@ fn too_many_bytes(at: u64) -> ParseErr
 
 /// The refusal of the first token after the name of a scalar that takes too many bytes.
 fn no_room(text: &[u8], tokens: &[Token]) -> ParseErr
-    ensures { ((result ≡ TooMany (faults.place text.now tokens.now) counts.Globals) × EndsScalar tokens.now)
-        ⊎ ((result ≡ Unexpected (faults.place text.now tokens.now)) × (EndsScalar tokens.now → ⊥)) }
+    ensures { RefusesScalar result text.now tokens.now }
 {
     if let Some(_) = after(Punctuator::Semicolon, tokens) {
         return too_many_bytes(place(text, tokens));
@@ -94,7 +89,8 @@ fn no_room(text: &[u8], tokens: &[Token]) -> ParseErr
     unexpected(text, tokens)
 }
 
-/// The length of an array after its bracket, where the array ends, and what follows the other bracket.
+/// The length of an array after its bracket, where the array ends, and what follows the other
+/// bracket.
 fn bracketed<'a>(
     text: &[u8],
     base: Base,
@@ -102,12 +98,13 @@ fn bracketed<'a>(
     bytes: u64,
     tokens: &'a [Token],
 ) -> Result<(Length, u64, &'a [Token]), ParseErr>
-    requires { bytes ≤ 1048576 }
+    requires { bytes ≤ MOST_GLOBALS }
     ensures found { IfOk result (λ x. parts.IsBracketed x.0 tokens.now x.2.now) }
     ensures stops { IfOk result (λ x. Stops 1 x.2.now) }
     ensures end { IfOk result (λ x. x.1 ≡ parts.end_of base pointers (Some x.0) bytes) }
-    ensures low { IfOk result (λ x. x.1 ≤ 1048576) }
-    ensures refused { IfErr result (λ e. Placed e (parts.NoneBracketed base pointers bytes) (parts.HasBracketed base pointers bytes) text.now tokens.now) }
+    ensures low { IfOk result (λ x. x.1 ≤ MOST_GLOBALS) }
+    ensures refused { IfErr result (λ e.
+        RefusesBracketed e base pointers bytes text.now tokens.now) }
 {
     match integer(tokens) {
         Some((value, at, following)) => match end_of(size_of(base, pointers), value, bytes) {
@@ -122,8 +119,8 @@ fn bracketed<'a>(
     }
 }
 
-/// The length of a global after its name, if it is an array (C11, 6.7.6.2), where the global ends that
-/// is placed after so many bytes, and what follows the length.
+/// The length of a global after its name, if it is an array (C11, 6.7.6.2), where the global ends
+/// that is placed after so many bytes, and what follows the length.
 fn length<'a>(
     text: &[u8],
     base: Base,
@@ -131,12 +128,12 @@ fn length<'a>(
     bytes: u64,
     tokens: &'a [Token],
 ) -> Result<(Option<Length>, u64, &'a [Token]), ParseErr>
-    requires { bytes ≤ 1048576 }
+    requires { bytes ≤ MOST_GLOBALS }
     ensures found { IfOk result (λ x. IsLength x.0 tokens.now x.2.now) }
     ensures stops { IfOk result (λ x. Stops 1 x.2.now) }
     ensures end { IfOk result (λ x. x.1 ≡ parts.end_of base pointers x.0 bytes) }
-    ensures low { IfOk result (λ x. x.1 ≤ 1048576) }
-    ensures refused { IfErr result (λ e. Placed e (NoLength base pointers bytes) (HasLength base pointers bytes) text.now tokens.now) }
+    ensures low { IfOk result (λ x. x.1 ≤ MOST_GLOBALS) }
+    ensures refused { IfErr result (λ e. RefusesLength e base pointers bytes text.now tokens.now) }
 {
     match after(Punctuator::OpenBracket, tokens) {
         Some(inner) => {
@@ -161,12 +158,13 @@ fn global<'a>(
     bytes: u64,
     tokens: &'a [Token],
 ) -> Result<(Global, u64, &'a [Token]), ParseErr>
-    requires { bytes ≤ 1048576 }
+    requires { bytes ≤ MOST_GLOBALS }
     ensures found { IfOk result (λ x. IsGlobal (trees.global x.0) tokens.now x.2.now) }
     ensures stops { IfOk result (λ x. Stops 15 x.2.now) }
-    ensures end { IfOk result (λ x. x.1 ≡ parts.end_of base (trees.global x.0).pointers (trees.global x.0).length bytes) }
-    ensures low { IfOk result (λ x. x.1 ≤ 1048576) }
-    ensures refused { IfErr result (λ e. Placed e (NoGlobal base bytes) (HasGlobals base bytes) text.now tokens.now) }
+    ensures end { IfOk result (λ x.
+        x.1 ≡ parts.end_of base (trees.global x.0).pointers (trees.global x.0).length bytes) }
+    ensures low { IfOk result (λ x. x.1 ≤ MOST_GLOBALS) }
+    ensures refused { IfErr result (λ e. RefusesGlobal e base bytes text.now tokens.now) }
 {
     let (pointers, declarator) = stars(tokens);
     match name(declarator) {
@@ -185,8 +183,8 @@ fn global<'a>(
     }
 }
 
-/// The globals of a declaration after their base, up to the semicolon, where they end that are placed
-/// after so many bytes, and what follows the semicolon.
+/// The globals of a declaration after their base, up to the semicolon, where they end that are
+/// placed after so many bytes, and what follows the semicolon.
 pub fn globals<'a>(
     alloc: Allocator,
     text: &[u8],
@@ -194,11 +192,12 @@ pub fn globals<'a>(
     bytes: u64,
     tokens: &'a [Token],
 ) -> Result<(Vec<Global>, u64, &'a [Token]), ParseErr>
-    requires { bytes ≤ 1048576 }
+    requires { bytes ≤ MOST_GLOBALS }
     ensures found { IfOk result (λ x. AreGlobals (map trees.global x.0.items) tokens.now x.2.now) }
-    ensures end { IfOk result (λ x. x.1 ≡ limits.end_of_globals base (map trees.global x.0.items) bytes) }
-    ensures low { IfOk result (λ x. x.1 ≤ 1048576) }
-    ensures refused { IfErr result (λ e. Placed e (NoGlobals base bytes) (HasGlobals base bytes) text.now tokens.now) }
+    ensures end { IfOk result (λ x.
+        x.1 ≡ limits.end_of_globals base (map trees.global x.0.items) bytes) }
+    ensures low { IfOk result (λ x. x.1 ≤ MOST_GLOBALS) }
+    ensures refused { IfErr result (λ e. RefusesGlobals e base bytes text.now tokens.now) }
 {
     let (first, mut end, mut rest) = global(alloc, text, base, bytes, tokens)?;
     let mut found = Vec::new(alloc);

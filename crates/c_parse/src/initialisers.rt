@@ -29,7 +29,8 @@ const ASSIGNMENT: u8 = 15;
 /// The place of the wanted punctuator, and what follows it, if that is at the front.
 fn punctuator_at(wanted: Punctuator, tokens: &[Token]) -> Option<(u64, &[Token])>
     ensures found { IfSome result (λ x. IsPunctuator wanted x.0 tokens.now x.1.now) }
-    ensures none { IfNone result ((at : ℕ) (rest : List Token) → IsPunctuator wanted at tokens.now rest → ⊥) }
+    ensures none { IfNone result ((at : ℕ) (rest : List Token)
+        → IsPunctuator wanted at tokens.now rest → ⊥) }
 {
     match first_punctuator(tokens) {
         Some((found, at, rest)) => {
@@ -43,7 +44,8 @@ fn punctuator_at(wanted: Punctuator, tokens: &[Token]) -> Option<(u64, &[Token])
     }
 }
 
-/// Refuses the first token where an expression of the level or a tighter one would continue with it.
+/// Refuses the first token where an expression of the level or a tighter one would continue with
+/// it.
 pub fn stop(text: &[u8], level: u8, tokens: &[Token]) -> Result<(), ParseErr>
     ensures found { IfOk result (λ x. Stops level tokens.now) }
     ensures refused { IfErr result (λ e. e ≡ Unexpected (faults.place text.now tokens.now)) }
@@ -134,9 +136,11 @@ pub fn initialiser<'a>(
     text: &[u8],
     tokens: &'a [Token],
 ) -> Result<(Option<Initialiser>, &'a [Token]), ParseErr>
-    ensures found { IfOk result (λ x. IsInitialiser (option_map trees.initialiser x.0) tokens.now x.1.now) }
+    ensures found { IfOk result (λ x.
+        IsInitialiser (option_map trees.initialiser x.0) tokens.now x.1.now) }
     ensures stops { IfOk result (λ x. Stops 15 x.1.now) }
-    ensures refused { IfErr result (λ e. Placed e NoInitialiser HasInitialiser text.now tokens.now) }
+    ensures refused { IfErr result (λ e.
+        Placed e NoInitialiser HasInitialiser text.now tokens.now) }
 {
     match after(Punctuator::Assign, tokens) {
         Some(value) => {

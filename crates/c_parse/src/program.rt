@@ -2,17 +2,20 @@
 
 ghost use Rattle.std.specs.Prelude.{◌≡◌, ◌≤◌, List, length, IfOk, IfErr, MatchResult, map};
 ghost use Rattle.c_lex.specs.Text.{IsTokens};
+ghost use Rattle.c_lex.specs.declared.punctuator.Punctuator.TheVariants as punctuators;
 ghost use Rattle.c_syntax.specs.Faults as faults;
 ghost use Rattle.c_syntax.specs.Limits.{Within};
 ghost use Rattle.c_syntax.specs.Program as trees;
 ghost use Rattle.c_syntax.specs.Programs.{IsExternalDeclaration, IsProgram};
-ghost use Rattle.c_parse_expr.specs.declared.refusal.Count.TheVariants as counts;
+ghost use Rattle.c_syntax.specs.Tokens.{HasPunctuator};
+ghost use Rattle.c_syntax.specs.declared.limit.Count.TheVariants as counts;
 ghost use Rattle.c_parse_expr.specs.declared.refusal.ParseErr.TheVariants.{TooMany, Memory};
 ghost use Rattle.c_parse_expr.specs.Refusals.{Placed, Refuses};
 ghost use Rattle.c_parse.specs.Bounds.{IsBounded};
-ghost use Rattle.c_parse.specs.Counts.{Taken, NoExternalDeclaration, HasExternalDeclaration};
+ghost use Rattle.c_parse.specs.Counts.{Taken};
 ghost use Rattle.c_parse.specs.Nodes.{nodes_of};
 ghost use Rattle.c_parse.specs.Parts.{IsHead, NoHead, HasHead};
+ghost use Rattle.c_parse.specs.Refused.{RefusesExternalDeclaration};
 
 use crate::counts::Counts;
 use crate::functions::tail;
@@ -20,27 +23,23 @@ use crate::globals::globals;
 use c_lex::punctuator::Punctuator;
 use c_lex::token::Token;
 use c_parse_atom::operands::name;
-use c_parse_expr::refusal::{Count, ParseErr, place, unexpected};
+use c_parse_expr::refusal::{ParseErr, place, unexpected};
 use c_parse_type::front::after;
 use c_parse_type::specifiers::{base, stars};
 use c_syntax::declaration::ExternalDeclaration;
 use c_syntax::expression::{Base, CType, Identifier};
+use c_syntax::limit::{Count, MOST_FUNCLETS, MOST_FUNCTIONS, MOST_GLOBALS};
 use std::alloc::Global;
 
-/// The most functions of a program.
-const MOST_FUNCTIONS: u64 = 4_096;
-
-/// The most funclets of a program.
-const MOST_FUNCLETS: u64 = 16_384;
-
-/// A program: its external declarations, in their order. It is within the limits, and has no more nodes
-/// than its text has bytes.
+/// A program: its external declarations, in their order. It is within the limits, and has no more
+/// nodes than its text has bytes.
 #[derive(Drop)]
 pub struct Program {
     pub external_declarations: Vec<ExternalDeclaration>,
     /// How many bytes its text has.
     pub length: u64,
-    ghost bounded: { ∥ IsBounded length (map trees.external_declaration external_declarations.items) ∥₁ },
+    ghost bounded: { ∥ IsBounded length
+        (map trees.external_declaration external_declarations.items) ∥₁ },
 }
 
 /// The refusal of the first token, with which the program has one function too many.
@@ -67,7 +66,8 @@ struct Heading<'a> {
 
 /// The head of the external declaration at the front.
 fn head<'a>(text: &[u8], tokens: &'a [Token]) -> Result<Heading<'a>, ParseErr>
-    ensures found { IfOk result (λ h. IsHead h.base h.pointers h.name tokens.now h.declarators.now h.rest.now) }
+    ensures found { IfOk result (λ h.
+        IsHead h.base h.pointers h.name tokens.now h.declarators.now h.rest.now) }
     ensures refused { IfErr result (λ e. Placed e NoHead HasHead text.now tokens.now) }
 {
     match base(tokens) {
@@ -91,6 +91,47 @@ fn head<'a>(text: &[u8], tokens: &'a [Token]) -> Result<Heading<'a>, ParseErr>
     }
 }
 
+/// The function whose head is at the front (C11, 6.9.1), the counts after it, and what follows it.
+/// `inner` follows the parenthesis after its name.
+fn function<'a>(
+    alloc: Global,
+    text: &[u8],
+    counts: Counts,
+    head: Heading<'a>,
+    tokens: &'a [Token],
+    inner: &'a [Token],
+) -> Result<(ExternalDeclaration, Counts, &'a [Token]), ParseErr>
+    requires bytes { counts.bytes ≤ MOST_GLOBALS }
+    requires head { IsHead head.base head.pointers head.name tokens.now head.declarators.now
+        head.rest.now }
+    requires parenthesis { HasPunctuator punctuators.OpenParenthesis head.rest.now inner.now }
+    ensures found { IfOk result (λ x.
+        IsExternalDeclaration text.now (trees.external_declaration x.0) tokens.now x.2.now) }
+    ensures taken { IfOk result (λ x. Taken text.now counts x.1 (trees.external_declaration x.0)) }
+    ensures refused { IfErr result (λ e. RefusesExternalDeclaration e counts text.now tokens.now) }
+{
+    if counts.functions == 0 {
+        return Err(too_many_functions(text, head.rest));
+    }
+    let tail = tail(alloc, text, counts.funclets, inner)?;
+    let counts = Counts {
+        functions: counts.functions - 1,
+        bytes: counts.bytes,
+        funclets: tail.funclets,
+    };
+    let (parameters, body, rest) = (tail.parameters, tail.body, tail.rest);
+    let function = ExternalDeclaration::Function {
+        returns: CType {
+            base: head.base,
+            pointers: head.pointers,
+        },
+        name: head.name,
+        parameters,
+        body,
+    };
+    Ok((function, counts, rest))
+}
+
 /// The external declaration at the front (C11, 6.9), the counts after it, and what follows it.
 fn external_declaration<'a>(
     alloc: Global,
@@ -98,46 +139,19 @@ fn external_declaration<'a>(
     counts: Counts,
     tokens: &'a [Token],
 ) -> Result<(ExternalDeclaration, Counts, &'a [Token]), ParseErr>
-    requires { counts.bytes ≤ 1048576 }
-    ensures found { IfOk result (λ x. IsExternalDeclaration text.now (trees.external_declaration x.0) tokens.now x.2.now) }
+    requires { counts.bytes ≤ MOST_GLOBALS }
+    ensures found { IfOk result (λ x.
+        IsExternalDeclaration text.now (trees.external_declaration x.0) tokens.now x.2.now) }
     ensures taken { IfOk result (λ x. Taken text.now counts x.1 (trees.external_declaration x.0)) }
-    ensures refused { IfErr result (λ e. Placed e (NoExternalDeclaration counts) (HasExternalDeclaration counts) text.now tokens.now) }
+    ensures refused { IfErr result (λ e. RefusesExternalDeclaration e counts text.now tokens.now) }
 {
     let head = head(text, tokens)?;
+    let (base, declarators) = (head.base, head.declarators);
     match after(Punctuator::OpenParenthesis, head.rest) {
-        Some(inner) => {
-            if counts.functions == 0 {
-                return Err(too_many_functions(text, head.rest));
-            }
-            let (parameters, body, funclets, rest) = tail(alloc, text, counts.funclets, inner)?;
-            let function = ExternalDeclaration::Function {
-                returns: CType {
-                    base: head.base,
-                    pointers: head.pointers,
-                },
-                name: head.name,
-                parameters,
-                body,
-            };
-            let counts = Counts {
-                functions: counts.functions - 1,
-                bytes: counts.bytes,
-                funclets,
-            };
-            Ok((function, counts, rest))
-        }
+        Some(inner) => function(alloc, text, counts, head, tokens, inner),
         None => {
-            let (globals, bytes, rest) = globals(
-                alloc,
-                text,
-                head.base,
-                counts.bytes,
-                head.declarators,
-            )?;
-            let declaration = ExternalDeclaration::Globals {
-                base: head.base,
-                globals,
-            };
+            let (globals, bytes, rest) = globals(alloc, text, base, counts.bytes, declarators)?;
+            let declaration = ExternalDeclaration::Globals { base, globals };
             let counts = Counts {
                 functions: counts.functions,
                 bytes,
@@ -153,16 +167,21 @@ pub fn parse(alloc: Global, text: &[u8], tokens: &[Token]) -> Result<Program, Pa
     // The tokens are the text's.
     requires tokens { IsTokens text.now tokens.now }
     // They are the program.
-    ensures found { IfOk result (λ p. IsProgram text.now (map trees.external_declaration p.external_declarations.items) tokens.now) }
+    ensures found { IfOk result (λ p. IsProgram text.now
+        (map trees.external_declaration p.external_declarations.items) tokens.now) }
     // It is within the limits.
-    ensures within { IfOk result (λ p. Within text.now (map trees.external_declaration p.external_declarations.items)) }
+    ensures within { IfOk result (λ p.
+        Within text.now (map trees.external_declaration p.external_declarations.items)) }
     // It has no more nodes than there are tokens, and so than the text has bytes.
-    ensures few { IfOk result (λ p. nodes_of (map trees.external_declaration p.external_declarations.items) ≤ length tokens.now) }
+    ensures few { IfOk result (λ p. nodes_of
+        (map trees.external_declaration p.external_declarations.items) ≤ length tokens.now) }
     // It keeps the text's length.
     ensures long { IfOk result (λ p. p.length ≡ length text.now) }
-    // A program within the limits isn't refused, unless memory runs out, and is the one that is read.
-    ensures only { (xs : List trees.ExternalDeclaration) → IsProgram text.now xs tokens.now → Within text.now xs → MatchResult result (λ p. map trees.external_declaration p.external_declarations.items ≡ xs) (λ e. e ≡ Memory) }
-    // A refusal names the first token with which no program within the limits continues, or the text's end, and the first limit that excludes them all; or memory runs out.
+    // A program within the limits is the one that is read, unless memory runs out.
+    ensures only { (xs : List trees.ExternalDeclaration) → IsProgram text.now xs tokens.now
+        → Within text.now xs → MatchResult result (λ p.
+        map trees.external_declaration p.external_declarations.items ≡ xs) (λ e. e ≡ Memory) }
+    // A refusal is at the first fault, and names the first limit that excludes all programs there.
     ensures refused { IfErr result (λ e. Refuses e text.now tokens.now) }
 {
     let mut external_declarations = Vec::new(alloc);

@@ -42,7 +42,8 @@ pub fn is_word(text: &[u8], name: Identifier, word: &[u8]) -> bool
 /// What follows a name with this spelling, if that is at the front.
 pub fn after_word<'a>(text: &[u8], word: &[u8], tokens: &'a [Token]) -> Option<&'a [Token]>
     ensures found { IfSome result (λ rest. HasWord text.now word.now tokens.now rest.now) }
-    ensures none { IfNone result ((rest : List Token) → HasWord text.now word.now tokens.now rest → ⊥) }
+    ensures none { IfNone result ((rest : List Token) → HasWord text.now word.now tokens.now rest
+        → ⊥) }
 {
     let (name, rest) = name(tokens)?;
     if is_word(text, name, word) {
@@ -54,8 +55,10 @@ pub fn after_word<'a>(text: &[u8], word: &[u8], tokens: &'a [Token]) -> Option<&
 
 /// The place of `GetExceptionInformation` at the front, and what follows it.
 pub fn intrinsic(tokens: &[Token]) -> Option<(u64, &[Token])>
-    ensures found { IfSome result (λ x. IsKeyword keywords.GetExceptionInformation x.0 tokens.now x.1.now) }
-    ensures none { IfNone result ((at : ℕ) (rest : List Token) → IsKeyword keywords.GetExceptionInformation at tokens.now rest → ⊥) }
+    ensures found { IfSome result (λ x.
+        IsKeyword keywords.GetExceptionInformation x.0 tokens.now x.1.now) }
+    ensures none { IfNone result ((at : ℕ) (rest : List Token)
+        → IsKeyword keywords.GetExceptionInformation at tokens.now rest → ⊥) }
 {
     let (token, rest) = front(tokens)?;
     match token.kind {
@@ -67,7 +70,8 @@ pub fn intrinsic(tokens: &[Token]) -> Option<(u64, &[Token])>
 /// What follows `GetExceptionInformation()->ExceptionRecord->` at the front, with its place.
 fn introduced<'a>(text: &[u8], tokens: &'a [Token]) -> Option<(u64, &'a [Token])>
     ensures found { IfSome result (λ x. IsIntroduced text.now x.0 tokens.now x.1.now) }
-    ensures none { IfNone result ((at : ℕ) (rest : List Token) → IsIntroduced text.now at tokens.now rest → ⊥) }
+    ensures none { IfNone result ((at : ℕ) (rest : List Token)
+        → IsIntroduced text.now at tokens.now rest → ⊥) }
 {
     let (at, rest) = intrinsic(tokens)?;
     let rest = after(Punctuator::OpenParenthesis, rest)?;
@@ -81,7 +85,8 @@ fn introduced<'a>(text: &[u8], tokens: &'a [Token]) -> Option<(u64, &'a [Token])
 /// The field of the exception's record at the front, and what follows it.
 fn field<'a>(text: &[u8], tokens: &'a [Token]) -> Option<(Field, &'a [Token])>
     ensures found { IfSome result (λ x. IsField text.now x.0 tokens.now x.1.now) }
-    ensures none { IfNone result ((field : Field) (rest : List Token) → IsField text.now field tokens.now rest → ⊥) }
+    ensures none { IfNone result ((field : Field) (rest : List Token)
+        → IsField text.now field tokens.now rest → ⊥) }
 {
     if let Some(rest) = after_word(text, b"ExceptionCode", tokens) {
         return Some((Field::Code, rest));
@@ -100,11 +105,13 @@ fn field<'a>(text: &[u8], tokens: &'a [Token]) -> Option<(Field, &'a [Token])>
 }
 
 /// The field of the exception's record that is read at the front, in the form
-/// `GetExceptionInformation()->ExceptionRecord->field`, the place of its first token, and what follows
-/// it. Identifiers are read from the text.
+/// `GetExceptionInformation()->ExceptionRecord->field`, the place of its first token, and what
+/// follows it. Identifiers are read from the text.
 pub fn information<'a>(text: &[u8], tokens: &'a [Token]) -> Option<(u64, Field, &'a [Token])>
-    ensures found { IfSome result (λ x. SpellsExpression text.now (Information x.0 x.1) tokens.now x.2.now) }
-    ensures none { IfNone result ((at : ℕ) (field : Field) (rest : List Token) → SpellsExpression text.now (Information at field) tokens.now rest → ⊥) }
+    ensures found { IfSome result (λ x.
+        SpellsExpression text.now (Information x.0 x.1) tokens.now x.2.now) }
+    ensures none { IfNone result ((at : ℕ) (field : Field) (rest : List Token)
+        → SpellsExpression text.now (Information at field) tokens.now rest → ⊥) }
 {
     let (at, rest) = introduced(text, tokens)?;
     let (field, rest) = field(text, rest)?;

@@ -26,7 +26,8 @@ fn literal_of(kind: Kind) -> Option<Literal>
 /// The literal at the front, its place, and what follows it.
 pub fn literal(tokens: &[Token]) -> Option<(Literal, u64, &[Token])>
     ensures found { IfSome result (λ x. IsKind (literal_kind x.0) x.1 tokens.now x.2.now) }
-    ensures none { IfNone result ((literal : Literal) (at : ℕ) (rest : List Token) → IsKind (literal_kind literal) at tokens.now rest → ⊥) }
+    ensures none { IfNone result ((literal : Literal) (at : ℕ) (rest : List Token)
+        → IsKind (literal_kind literal) at tokens.now rest → ⊥) }
 {
     let (token, rest) = front(tokens)?;
     let literal = literal_of(token.kind)?;
@@ -36,7 +37,8 @@ pub fn literal(tokens: &[Token]) -> Option<(Literal, u64, &[Token])>
 /// The value of the integer literal at the front, its place, and what follows it.
 pub fn integer(tokens: &[Token]) -> Option<(u64, u64, &[Token])>
     ensures found { IfSome result (λ x. IsInteger x.0 x.1 tokens.now x.2.now) }
-    ensures none { IfNone result ((value at : ℕ) (rest : List Token) → IsInteger value at tokens.now rest → ⊥) }
+    ensures none { IfNone result ((value at : ℕ) (rest : List Token)
+        → IsInteger value at tokens.now rest → ⊥) }
 {
     let (token, rest) = front(tokens)?;
     match token.kind {
@@ -48,7 +50,8 @@ pub fn integer(tokens: &[Token]) -> Option<(u64, u64, &[Token])>
 /// The name at the front, and what follows it.
 pub fn name(tokens: &[Token]) -> Option<(Identifier, &[Token])>
     ensures found { IfSome result (λ x. IsIdentifier x.0 tokens.now x.1.now) }
-    ensures none { IfNone result ((name : Identifier) (rest : List Token) → IsIdentifier name tokens.now rest → ⊥) }
+    ensures none { IfNone result ((name : Identifier) (rest : List Token)
+        → IsIdentifier name tokens.now rest → ⊥) }
 {
     let (token, rest) = front(tokens)?;
     match token.kind {

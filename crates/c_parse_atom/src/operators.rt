@@ -145,9 +145,9 @@ fn punctuator_follows(punctuator: Punctuator) -> u8
     }
 }
 
-/// The level of the production in which an expression continues with these tokens: 0 for a call, 1 for
-/// `[`, `++` and `--`, the operator's level, 14 for `?`, 15 for an assignment, 16 for a comma; 17 where
-/// none does.
+/// The level of the production in which an expression continues with these tokens: 0 for a call, 1
+/// for `[`, `++` and `--`, the operator's level, 14 for `?`, 15 for an assignment, 16 for a comma;
+/// 17 where none does.
 pub fn follows(tokens: &[Token]) -> u8
     ensures { result ≡ follow.follows tokens.now }
 {

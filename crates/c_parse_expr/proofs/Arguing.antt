@@ -13,7 +13,7 @@ use Rattle.c_syntax.proofs.Failing.{append_append}
 use Rattle.c_syntax.proofs.Moves.{Moves}
 use Rattle.c_syntax.proofs.Moves as moved
 use Rattle.c_parse_expr.specs.Readings.{NoExpression, HasExpression, NoArguments, HasArguments, AreMore, AreListed, Begins, NeverBegins}
-use Rattle.c_parse_expr.proofs.Listing.{listed_behind, heights_behind, listed_spelled, stuck, no_next, no_first, no_place}
+use Rattle.c_parse_expr.proofs.Listing.{listed_after, heights_after, listed_spelled, stuck, no_next, no_first, no_place}
 use Rattle.c_parse_expr.proofs.Placing.{unexpected_at, deep_at, punctuator_token}
 
 abbrev close : Token
@@ -87,11 +87,11 @@ next_wraps room es text ts rest following r h st c low =
           spells = λ other.
               let q : (((m.front ++ (comma ∷ [])) ++ inner) ++ (close ∷ [])) ++ other ≡ m.front ++ (comma ∷ (inner ++ (close ∷ other))) =
               append_append ((m.front ++ (comma ∷ [])) ++ inner) (close ∷ []) other ∙ append_append (m.front ++ (comma ∷ [])) inner (close ∷ other) ∙ append_append m.front (comma ∷ []) (inner ++ close ∷ other) in
-              let l = listed_behind text' es g.tree (m.front ++ (comma ∷ (inner ++ (close ∷ other)))) (comma ∷ (inner ++ (close ∷ other))) (inner ++ (close ∷ other)) (close ∷ other)
+              let l = listed_after text' es g.tree (m.front ++ (comma ∷ (inner ++ (close ∷ other)))) (comma ∷ (inner ++ (close ∷ other))) (inner ++ (close ∷ other)) (close ∷ other)
               (m.again text' (comma ∷ (inner ++ (close ∷ other))) a) (c.0, (c.1.0, refl)) (g.derives (close ∷ other)) in
               subst (λ (z : List Token). SpellsArguments text' (arguments (es ++ g.tree ∷ [])) z other) (sym q)
               (listed_spelled text' (es ++ g.tree ∷ []) (m.front ++ (comma ∷ (inner ++ (close ∷ other)))) (close ∷ other) other l (0, (0, refl)));
-          low = λ q. let y = g.low q in let z = heights_behind es g.tree in omega arith;
+          low = λ q. let y = g.low q in let z = heights_after es g.tree in omega arith;
         };
       };
     }

@@ -15,21 +15,21 @@ use Rattle.c_parse_expr.specs.Readings.{NoExpression, NoArguments, AreMore, AreL
 pub one_listed : (text : List ℕ) (e : Expression) (ts rest : List Token) → Derives text 15 e ts rest → AreListed text (e ∷ []) ts rest
 one_listed text e ts rest d = (rest, d, refl)
 
-more_behind : (text : List ℕ) (es : List Expression) (e : Expression) (ts rest b end : List Token) → AreMore text es ts rest → HasPunctuator punctuators.Comma rest b → Derives text 15 e b end → AreMore text (es ++ e ∷ []) ts end
-more_behind text [] e ts rest b end h c d = (b, end, subst (λ (z : List Token). HasPunctuator punctuators.Comma z b) (sym h) c, d, refl)
-more_behind text (x ∷ es) e ts rest b end h c d = (h.0, h.1, h.2, h.3, more_behind text es e h.1 rest b end h.4 c d)
+more_after : (text : List ℕ) (es : List Expression) (e : Expression) (ts rest b end : List Token) → AreMore text es ts rest → HasPunctuator punctuators.Comma rest b → Derives text 15 e b end → AreMore text (es ++ e ∷ []) ts end
+more_after text [] e ts rest b end h c d = (b, end, subst (λ (z : List Token). HasPunctuator punctuators.Comma z b) (sym h) c, d, refl)
+more_after text (x ∷ es) e ts rest b end h c d = (h.0, h.1, h.2, h.3, more_after text es e h.1 rest b end h.4 c d)
 
-pub listed_behind : (text : List ℕ) (es : List Expression) (e : Expression) (ts rest b end : List Token) → AreListed text es ts rest → HasPunctuator punctuators.Comma rest b → Derives text 15 e b end → AreListed text (es ++ e ∷ []) ts end
-listed_behind text [] e ts rest b end h c d = absurd h
-listed_behind text (x ∷ es) e ts rest b end h c d = (h.0, h.1, more_behind text es e h.0 rest b end h.2 c d)
+pub listed_after : (text : List ℕ) (es : List Expression) (e : Expression) (ts rest b end : List Token) → AreListed text es ts rest → HasPunctuator punctuators.Comma rest b → Derives text 15 e b end → AreListed text (es ++ e ∷ []) ts end
+listed_after text [] e ts rest b end h c d = absurd h
+listed_after text (x ∷ es) e ts rest b end h c d = (h.0, h.1, more_after text es e h.0 rest b end h.2 c d)
 
-pub heights_behind : (es : List Expression) (e : Expression) → heights (arguments (es ++ e ∷ [])) ≡ max (heights (arguments es)) (height e + 1)
-heights_behind [] e = omega arith
-heights_behind (x ∷ es) e = let a = heights_behind es e in omega arith
+pub heights_after : (es : List Expression) (e : Expression) → heights (arguments (es ++ e ∷ [])) ≡ max (heights (arguments es)) (height e + 1)
+heights_after [] e = omega arith
+heights_after (x ∷ es) e = let a = heights_after es e in omega arith
 
-pub mapped_behind : {A B : Type 0} (f : A → B) (xs : List A) (x : A) → map f (xs ++ x ∷ []) ≡ map f xs ++ f x ∷ []
-mapped_behind f [] x = refl
-mapped_behind f (y ∷ xs) x = ap (λ z. f y ∷ z) (mapped_behind f xs x)
+pub mapped_after : {A B : Type 0} (f : A → B) (xs : List A) (x : A) → map f (xs ++ x ∷ []) ≡ map f xs ++ f x ∷ []
+mapped_after f [] x = refl
+mapped_after f (y ∷ xs) x = ap (λ z. f y ∷ z) (mapped_after f xs x)
 
 pub positive : (n : ℕ) → (n ≡ 0 → ⊥) → 1 ≤ n
 positive zero h = absurd (h refl)

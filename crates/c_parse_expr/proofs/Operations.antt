@@ -20,7 +20,7 @@ use Rattle.c_parse_expr.specs.declared.step.Infix.TheVariants as infixes
 use Rattle.c_parse_expr.specs.declared.step.Operation.{Operation}
 use Rattle.c_parse_expr.specs.declared.step.Operation.TheVariants.{Index, Postfix, Infix, Conditional}
 use Rattle.c_parse_expr.specs.Operations.{operation_of, punctuator, right, bound, with, operation, place}
-use Rattle.c_parse_expr.specs.Readings.{Reads, NoExpression, Encloses, NoneEnclosed, Behind, IsBehind, NoneBehind, IsStep, NoStep}
+use Rattle.c_parse_expr.specs.Readings.{Reads, NoExpression, Encloses, NoneEnclosed, AfterPunctuator, IsAfterPunctuator, NoneAfterPunctuator, IsStep, NoStep}
 use Rattle.c_parse_expr.specs.Steps.{over}
 use Rattle.c_parse_expr.proofs.Climbing.{enclosed_once}
 
@@ -133,7 +133,7 @@ applied_height e (And at f) = refl
 pub record Begun (text : List ℕ) (s : Step) (ts end : List Token) : Type 0 where
   pub mid : List Token
   pub begins : IsPunctuator (punctuator (operation s)) (place s) ts mid
-  pub following : Behind text s mid end
+  pub following : AfterPunctuator text s mid end
 
 pub begun : (text : List ℕ) (e : Expression) (s : Step) (ts end : List Token) → Tail text s ts end → Closes (apply e s) end → Begun text s ts end
 begun text e (At at i) ts end h c = record { mid = h.0; begins = h.2; following = record { mid = h.1; spells = h.3; closed = h.4 } }
@@ -157,7 +157,7 @@ tailed text e (And at f) ts end b = ((b.mid, b.begins, b.following.derives.fits,
 
 -- ---- refusals after a punctuator
 
-pub none_indexed : (text : List ℕ) (w room : ℕ) (ts : List Token) → NoneEnclosed punctuators.CloseBracket room w text ts → NoneBehind room Index w text ts
+pub none_indexed : (text : List ℕ) (w room : ℕ) (ts : List Token) → NoneEnclosed punctuators.CloseBracket room w text ts → NoneAfterPunctuator room Index w text ts
 none_indexed text w room ts n (At at i) end e b low = n i end b low
 none_indexed text w room ts n (After op at) end e b low = absurd cc
 none_indexed text w room ts n (With at op f) end e b low = absurd cc
@@ -171,7 +171,7 @@ same_infix a b e = cc
 at_level : (text : List ℕ) (w room a b : ℕ) (f : Expression) (ts end : List Token) → a ≡ b → NoExpression b room w text ts → Reads text a f ts end → (1 ≤ w → height f ≤ room) → ⊥
 at_level text w room a b f ts end p n r low = n f end (record { fits = let x = r.derives.fits in omega arith; spells = r.derives.spells }) (let s = r.stops in omega arith) low
 
-pub none_right : (text : List ℕ) (w room : ℕ) (op : Infix') (ts : List Token) → NoExpression (right op) room w text ts → NoneBehind room (Infix op) w text ts
+pub none_right : (text : List ℕ) (w room : ℕ) (op : Infix') (ts : List Token) → NoExpression (right op) room w text ts → NoneAfterPunctuator room (Infix op) w text ts
 none_right text w room op ts n (At at i) end e b low = absurd cc
 none_right text w room op ts n (After op' at) end e b low = absurd cc
 none_right text w room op ts n (With at op' f) end e b low = at_level text w room (level op' - 1) (right op) f ts end (ap right (same_infix (infixes.Binary op') op e)) n b low
@@ -179,7 +179,7 @@ none_right text w room op ts n (Choose at f g) end e b low = absurd cc
 none_right text w room op ts n (Set at op' f) end e b low = at_level text w room 15 (right op) f ts end (ap right (same_infix (infixes.Assign op') op e)) n b low
 none_right text w room op ts n (And at f) end e b low = at_level text w room 15 (right op) f ts end (ap right (same_infix infixes.Comma op e)) n b low
 
-pub none_first : (text : List ℕ) (w room : ℕ) (ts : List Token) → NoneEnclosed punctuators.Colon room w text ts → NoneBehind room Conditional w text ts
+pub none_first : (text : List ℕ) (w room : ℕ) (ts : List Token) → NoneEnclosed punctuators.Colon room w text ts → NoneAfterPunctuator room Conditional w text ts
 none_first text w room ts n (At at i) end e b low = absurd cc
 none_first text w room ts n (After op at) end e b low = absurd cc
 none_first text w room ts n (With at op f) end e b low = absurd cc
@@ -187,7 +187,7 @@ none_first text w room ts n (Choose at f g) end e b low = n f b.0 b.1 (λ k. let
 none_first text w room ts n (Set at op f) end e b low = absurd cc
 none_first text w room ts n (And at f) end e b low = absurd cc
 
-pub none_second : (text : List ℕ) (w room : ℕ) (a : Expression) (ts mid : List Token) → Encloses text punctuators.Colon a ts mid → NoExpression 14 room w text mid → NoneBehind room Conditional w text ts
+pub none_second : (text : List ℕ) (w room : ℕ) (a : Expression) (ts mid : List Token) → Encloses text punctuators.Colon a ts mid → NoExpression 14 room w text mid → NoneAfterPunctuator room Conditional w text ts
 none_second text w room a ts mid x n (At at i) end e b low = absurd cc
 none_second text w room a ts mid x n (After op at) end e b low = absurd cc
 none_second text w room a ts mid x n (With at op f) end e b low = absurd cc
@@ -198,10 +198,10 @@ none_second text w room a ts mid x n (Choose at f g) end e b low =
 none_second text w room a ts mid x n (Set at op f) end e b low = absurd cc
 none_second text w room a ts mid x n (And at f) end e b low = absurd cc
 
-pub right_behind : (text : List ℕ) (op : Infix') (at : ℕ) (e : Expression) (ts rest : List Token) → Derives text (right op) e ts rest → Stops (right op) rest → IsBehind text (Infix op) at (with op at e) ts rest
-right_behind text (infixes.Binary op) at e ts rest h s = record { operation = refl; place = refl; following = record { derives = h; stops = s } }
-right_behind text (infixes.Assign op) at e ts rest h s = record { operation = refl; place = refl; following = record { derives = h; stops = s } }
-right_behind text infixes.Comma at e ts rest h s = record { operation = refl; place = refl; following = record { derives = h; stops = s } }
+pub right_after : (text : List ℕ) (op : Infix') (at : ℕ) (e : Expression) (ts rest : List Token) → Derives text (right op) e ts rest → Stops (right op) rest → IsAfterPunctuator text (Infix op) at (with op at e) ts rest
+right_after text (infixes.Binary op) at e ts rest h s = record { operation = refl; place = refl; following = record { derives = h; stops = s } }
+right_after text (infixes.Assign op) at e ts rest h s = record { operation = refl; place = refl; following = record { derives = h; stops = s } }
+right_after text infixes.Comma at e ts rest h s = record { operation = refl; place = refl; following = record { derives = h; stops = s } }
 
 pub right_over : (op : Infix') (at : ℕ) (e : Expression) → over (with op at e) ≡ height e
 right_over (infixes.Binary op) at e = refl
@@ -210,7 +210,7 @@ right_over infixes.Comma at e = refl
 
 -- ---- steps by their punctuators
 
-pub is_step : (text : List ℕ) (e : Expression) (o : Operation) (punctuator' : Punctuator) (at : ℕ) (s : Step) (ts mid end : List Token) → operation_of punctuator' ≡ Some o → rank e ≤ bound o → IsPunctuator punctuator' at ts mid → IsBehind text o at s mid end → IsStep text e s ts end
+pub is_step : (text : List ℕ) (e : Expression) (o : Operation) (punctuator' : Punctuator) (at : ℕ) (s : Step) (ts mid end : List Token) → operation_of punctuator' ≡ Some o → rank e ≤ bound o → IsPunctuator punctuator' at ts mid → IsAfterPunctuator text o at s mid end → IsStep text e s ts end
 is_step text e o punctuator' at s ts mid end p f h b =
     let q : punctuator' ≡ punctuator o = only o punctuator' p in
     let g : IsPunctuator (punctuator o) at ts mid = subst (λ (z : Punctuator). IsPunctuator z at ts mid) q h in
@@ -222,13 +222,13 @@ is_step text e o punctuator' at s ts mid end p f h b =
     record { fits = omega arith; tail = t.0; closes = t.1 }
 
 -- a step begins with a punctuator that is an operation
-pub begins_so : (text : List ℕ) (e : Expression) (s : Step) (ts end : List Token) → IsStep text e s ts end → (punctuator' : Punctuator) (at : ℕ) (mid : List Token) → IsPunctuator punctuator' at ts mid → (operation_of punctuator' ≡ Some (operation s)) × (rank e ≤ bound (operation s)) × Behind text s mid end
+pub begins_so : (text : List ℕ) (e : Expression) (s : Step) (ts end : List Token) → IsStep text e s ts end → (punctuator' : Punctuator) (at : ℕ) (mid : List Token) → IsPunctuator punctuator' at ts mid → (operation_of punctuator' ≡ Some (operation s)) × (rank e ≤ bound (operation s)) × AfterPunctuator text s mid end
 begins_so text e s ts end x punctuator' at mid h =
     let b = begun text e s ts end x.tail x.closes in
     let q = punctuator_same punctuator' (punctuator (operation s)) at (place s) ts ts mid b.mid refl h b.begins in
     let y = same_bound s in
     let f = x.fits in
-    (ap operation_of q.0 ∙ again (operation s), omega arith, subst (λ (z : List Token). Behind text s z end) (sym q.2) b.following)
+    (ap operation_of q.0 ∙ again (operation s), omega arith, subst (λ (z : List Token). AfterPunctuator text s z end) (sym q.2) b.following)
 
 pub no_punctuator : (text : List ℕ) (w room : ℕ) (e : Expression) (ts : List Token) → ((s : Punctuator) (at : ℕ) (rest : List Token) → IsPunctuator s at ts rest → ⊥) → NoStep room e w text ts
 no_punctuator text w room e ts n s end x low = let b = begun text e s ts end x.tail x.closes in n (punctuator (operation s)) (place s) b.mid b.begins
@@ -245,8 +245,8 @@ too_loose text w room e punctuator' o at ts mid h p f s end x low =
 pub too_high : (text : List ℕ) (room : ℕ) (e : Expression) (ts : List Token) → room ≤ height e → NoStep room e 1 text ts
 too_high text room e ts f s end x low = let a = applied_height e s in let b = low (omega arith) in absurd (omega arith)
 
-pub none_behind : (text : List ℕ) (w room : ℕ) (e : Expression) (punctuator' : Punctuator) (o : Operation) (at : ℕ) (ts mid : List Token) → IsPunctuator punctuator' at ts mid → operation_of punctuator' ≡ Some o → NoneBehind (room - 1) o w text mid → NoStep room e w text ts
-none_behind text w room e punctuator' o at ts mid h p n s end x low =
+pub none_after_punctuator : (text : List ℕ) (w room : ℕ) (e : Expression) (punctuator' : Punctuator) (o : Operation) (at : ℕ) (ts mid : List Token) → IsPunctuator punctuator' at ts mid → operation_of punctuator' ≡ Some o → NoneAfterPunctuator (room - 1) o w text mid → NoStep room e w text ts
+none_after_punctuator text w room e punctuator' o at ts mid h p n s end x low =
     let b = begins_so text e s ts end x punctuator' at mid h in
     let q : o ≡ operation s = some_same o (operation s) (sym p ∙ b.0) in
     let a = applied_height e s in

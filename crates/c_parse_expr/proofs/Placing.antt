@@ -9,17 +9,18 @@ use Rattle.c_syntax.specs.Expression.{Expression, Constant}
 use Rattle.c_syntax.specs.Faults.{Family, Alike, SameFirst, place, Speaks, Able, Onward, Failed, Wraps}
 use Rattle.c_syntax.specs.Tokens.{token}
 use Rattle.c_syntax.proofs.Failing.{append_nothing, wrapped}
+use Rattle.c_syntax.specs.Limits.{Number, order}
 use Rattle.c_parse_expr.specs.declared.refusal.ParseErr.{ParseErr}
 use Rattle.c_parse_expr.specs.declared.refusal.ParseErr.TheVariants as errs
 use Rattle.c_parse_expr.specs.Readings.{HasExpression}
-use Rattle.c_parse_expr.specs.Refusals.{number, Placed}
+use Rattle.c_parse_expr.specs.Refusals.{Placed}
 
 -- ---- refusals
 
 pub placed_so : (e : ParseErr) (No Has No' Has' : Family) (text : List ℕ) (ts ts' : List Token) → Wraps No Has No' Has' text ts ts' → Placed e No Has text ts → Placed e No' Has' text ts'
 placed_so (errs.Unexpected at) No Has No' Has' text ts ts' w h = wrapped No Has No' Has' 0 at text ts ts' w h
 placed_so (errs.TooDeep at) No Has No' Has' text ts ts' w h = wrapped No Has No' Has' 1 at text ts ts' w h
-placed_so (errs.TooMany at what) No Has No' Has' text ts ts' w h = wrapped No Has No' Has' (number what) at text ts ts' w h
+placed_so (errs.TooMany at what) No Has No' Has' text ts ts' w h = wrapped No Has No' Has' (order (Number what)) at text ts ts' w h
 placed_so errs.Memory No Has No' Has' text ts ts' w h = tt
 
 pub placed_as : (e f : ParseErr) (No Has : Family) (text : List ℕ) (ts : List Token) → e ≡ f → Placed f No Has text ts → Placed e No Has text ts

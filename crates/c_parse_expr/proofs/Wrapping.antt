@@ -20,9 +20,9 @@ use Rattle.c_parse_expr.specs.declared.step.Infix.TheVariants as infixes
 use Rattle.c_parse_expr.specs.declared.step.Operation.{Operation}
 use Rattle.c_parse_expr.specs.declared.step.Operation.TheVariants.{Index, Postfix, Infix, Conditional}
 use Rattle.c_parse_expr.specs.Operations.{operation_of, punctuator, right, bound}
-use Rattle.c_parse_expr.specs.Readings.{NoExpression, HasExpression, Encloses, NoneEnclosed, HasEnclosed, NoOperand, NoStep, HasStep, NoneBehind, HasBehind}
+use Rattle.c_parse_expr.specs.Readings.{NoExpression, HasExpression, Encloses, NoneEnclosed, HasEnclosed, NoOperand, NoStep, HasStep, NoneAfterPunctuator, HasAfterPunctuator}
 use Rattle.c_parse_expr.proofs.Climbing.{no_operand, no_step, joined, none_inside, not_closed}
-use Rattle.c_parse_expr.proofs.Operations.{only, same_bound, applied_height, none_indexed, none_right, none_first, none_second, no_punctuator, no_operation, too_loose, too_high, none_behind}
+use Rattle.c_parse_expr.proofs.Operations.{only, same_bound, applied_height, none_indexed, none_right, none_first, none_second, no_punctuator, no_operation, too_loose, too_high, none_after_punctuator}
 use Rattle.c_parse_expr.proofs.Placing.{unexpected_at, deep_at, able_now, one, one_tree, punctuator_token, has_one}
 
 -- ---- expressions
@@ -104,16 +104,16 @@ encloses_moves close e text ts rest x = moved.map (moved.both (moved.expression 
 
 -- ---- what follows the punctuator of a step
 
-pub index_wraps : (room at : ℕ) (text : List ℕ) (ts : List Token) → Wraps (NoneEnclosed punctuators.CloseBracket room) (HasEnclosed punctuators.CloseBracket room) (NoneBehind room Index) (HasBehind room Index at) text ts ts
+pub index_wraps : (room at : ℕ) (text : List ℕ) (ts : List Token) → Wraps (NoneEnclosed punctuators.CloseBracket room) (HasEnclosed punctuators.CloseBracket room) (NoneAfterPunctuator room Index) (HasAfterPunctuator room Index at) text ts ts
 index_wraps room at text ts = record {
   before = [];
   split = refl;
   no = λ n text' other a s x. none_indexed text' n room other x;
-  has = λ n text' inner a k h. able_now (HasBehind room Index at) n text' inner
+  has = λ n text' inner a k h. able_now (HasAfterPunctuator room Index at) n text' inner
       (record { step = At at h.tree; operation = refl; tail = λ begin other g. let x = h.encloses other in (inner ++ other, x.mid, g, x.spells, x.closed); low = h.low });
 }
 
-right_has : (room : ℕ) (op : Infix') (at n : ℕ) (text : List ℕ) (inner : List Token) → HasExpression (right op) room n text inner → HasBehind room (Infix op) at n text inner
+right_has : (room : ℕ) (op : Infix') (at n : ℕ) (text : List ℕ) (inner : List Token) → HasExpression (right op) room n text inner → HasAfterPunctuator room (Infix op) at n text inner
 right_has room (infixes.Binary op) at n text inner h = record {
   step = With at op h.tree;
   operation = refl;
@@ -125,15 +125,15 @@ right_has room (infixes.Assign op) at n text inner h =
 right_has room infixes.Comma at n text inner h =
     record { step = And at h.tree; operation = refl; tail = λ begin other g. let d = h.derives other in (inner ++ other, g, d.fits, d.spells); low = h.low }
 
-pub right_wraps : (room : ℕ) (op : Infix') (at : ℕ) (text : List ℕ) (ts : List Token) → Wraps (NoExpression (right op) room) (HasExpression (right op) room) (NoneBehind room (Infix op)) (HasBehind room (Infix op) at) text ts ts
+pub right_wraps : (room : ℕ) (op : Infix') (at : ℕ) (text : List ℕ) (ts : List Token) → Wraps (NoExpression (right op) room) (HasExpression (right op) room) (NoneAfterPunctuator room (Infix op)) (HasAfterPunctuator room (Infix op) at) text ts ts
 right_wraps room op at text ts = record {
   before = [];
   split = refl;
   no = λ n text' other a s x. none_right text' n room op other x;
-  has = λ n text' inner a k h. able_now (HasBehind room (Infix op) at) n text' inner (right_has room op at n text' inner h);
+  has = λ n text' inner a k h. able_now (HasAfterPunctuator room (Infix op) at) n text' inner (right_has room op at n text' inner h);
 }
 
-pub first_branch_wraps : (room at : ℕ) (text : List ℕ) (ts : List Token) → Wraps (NoneEnclosed punctuators.Colon room) (HasEnclosed punctuators.Colon room) (NoneBehind room Conditional) (HasBehind room Conditional at) text ts ts
+pub first_branch_wraps : (room at : ℕ) (text : List ℕ) (ts : List Token) → Wraps (NoneEnclosed punctuators.Colon room) (HasEnclosed punctuators.Colon room) (NoneAfterPunctuator room Conditional) (HasAfterPunctuator room Conditional at) text ts ts
 first_branch_wraps room at text ts = record {
   before = [];
   split = refl;
@@ -153,14 +153,14 @@ first_branch_wraps room at text ts = record {
 }
 
 pub second_branch_wraps : (room at : ℕ) (e : Expression) (text : List ℕ) (ts mid : List Token) → Encloses text punctuators.Colon e ts mid → height e ≤ room
-    → Wraps (NoExpression 14 room) (HasExpression 14 room) (NoneBehind room Conditional) (HasBehind room Conditional at) text mid ts
+    → Wraps (NoExpression 14 room) (HasExpression 14 room) (NoneAfterPunctuator room Conditional) (HasAfterPunctuator room Conditional at) text mid ts
 second_branch_wraps room at e text ts mid x low =
     let m = encloses_moves punctuators.Colon e text ts mid x in
     record {
       before = m.front;
       split = m.split;
       no = λ n text' other a s y. none_second text' n room e (m.front ++ other) other (m.again text' other a) y;
-      has = λ n text' inner a k h. able_now (HasBehind room Conditional at) n text' (m.front ++ inner)
+      has = λ n text' inner a k h. able_now (HasAfterPunctuator room Conditional at) n text' (m.front ++ inner)
           (record {
             step = Choose at e h.tree;
             operation = refl;
@@ -180,7 +180,7 @@ shortest (Postfix op) = []
 shortest (Infix op) = one ∷ []
 shortest Conditional = one ∷ punctuator_token punctuators.Colon ∷ one ∷ []
 
-has_shortest : (room : ℕ) (o : Operation) (at n : ℕ) (text : List ℕ) → HasBehind room o at n text (shortest o)
+has_shortest : (room : ℕ) (o : Operation) (at n : ℕ) (text : List ℕ) → HasAfterPunctuator room o at n text (shortest o)
 has_shortest room Index at n text = record {
   step = At at one_tree;
   operation = refl;
@@ -198,7 +198,7 @@ has_shortest room Conditional at n text = record {
 
 -- ---- steps
 
-a_step : (room : ℕ) (e : Expression) (o : Operation) (punctuator' : Punctuator) (at end l n : ℕ) (text : List ℕ) (inner : List Token) → punctuator_follows punctuator' ≡ l → operation_of punctuator' ≡ Some o → rank e ≤ bound o → (1 ≤ n → height e < room) → HasBehind (room - 1) o at n text inner
+a_step : (room : ℕ) (e : Expression) (o : Operation) (punctuator' : Punctuator) (at end l n : ℕ) (text : List ℕ) (inner : List Token) → punctuator_follows punctuator' ≡ l → operation_of punctuator' ≡ Some o → rank e ≤ bound o → (1 ≤ n → height e < room) → HasAfterPunctuator (room - 1) o at n text inner
     → HasStep room e l n text (token (kinds.Punctuator punctuator') at end ∷ inner)
 a_step room e o punctuator' at end l n text inner f p fits low b =
     let q : punctuator' ≡ punctuator o = only o punctuator' p in
@@ -210,12 +210,12 @@ a_step room e o punctuator' at end l n text inner f p fits low b =
     let x = applied_height e b.step in
     inr (record { step = b.step; fits = omega arith; loose = omega arith; tail = tail; low = λ k. let h = low k in let w = b.low k in omega arith })
 
-pub behind_wraps : (room : ℕ) (e : Expression) (punctuator' : Punctuator) (o : Operation) (at : ℕ) (text : List ℕ) (ts rest : List Token) → IsPunctuator punctuator' at ts rest → operation_of punctuator' ≡ Some o → rank e ≤ bound o → height e < room
-    → Wraps (NoneBehind (room - 1) o) (HasBehind (room - 1) o at) (NoStep room e) (HasStep room e (follows ts)) text rest ts
-behind_wraps room e punctuator' o at text ts rest h p fits low = record {
+pub after_punctuator_wraps : (room : ℕ) (e : Expression) (punctuator' : Punctuator) (o : Operation) (at : ℕ) (text : List ℕ) (ts rest : List Token) → IsPunctuator punctuator' at ts rest → operation_of punctuator' ≡ Some o → rank e ≤ bound o → height e < room
+    → Wraps (NoneAfterPunctuator (room - 1) o) (HasAfterPunctuator (room - 1) o at) (NoStep room e) (HasStep room e (follows ts)) text rest ts
+after_punctuator_wraps room e punctuator' o at text ts rest h p fits low = record {
   before = token (kinds.Punctuator punctuator') at h.0 ∷ [];
   split = h.1;
-  no = λ n text' other a s x. none_behind text' n room e punctuator' o at (token (kinds.Punctuator punctuator') at h.0 ∷ other) other (h.0, refl) p x;
+  no = λ n text' other a s x. none_after_punctuator text' n room e punctuator' o at (token (kinds.Punctuator punctuator') at h.0 ∷ other) other (h.0, refl) p x;
   has = λ n text' inner a k b. able_now (HasStep room e (follows ts)) n text' (token (kinds.Punctuator punctuator') at h.0 ∷ inner) (a_step room e o punctuator' at h.0 (follows ts) n text' inner (sym (ap follows h.1)) p fits (λ q. low) b);
 }
 

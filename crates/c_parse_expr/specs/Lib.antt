@@ -2,3 +2,4 @@ pub mod Refusals
 pub mod Operations
 pub mod Steps
 pub mod Readings
+pub mod Refused

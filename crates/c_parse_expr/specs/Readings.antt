@@ -1,9 +1,10 @@
--- What is at the front of tokens; that nothing of the kind is there; and that tokens are such a phrase, whatever follows. The limit of nesting counts where 1 ≤ n: where the first n limits hold.
+-- What is at the front of tokens; that nothing of the kind is there; and that tokens are such a phrase, whatever follows. The first n limits are in force.
 use Rattle.std.specs.Prelude.{◌≡◌, ◌≤◌, ◌-◌, ◌⊎◌, ℕ, List, [], ◌∷◌, ◌++◌, Some}
 use Rattle.c_lex.specs.declared.punctuator.Punctuator.{Punctuator}
 use Rattle.c_lex.specs.declared.punctuator.Punctuator.TheVariants as punctuators
 use Rattle.c_lex.specs.declared.token.Token.{Token}
 use Rattle.c_syntax.specs.declared.expression.Field.{Field}
+use Rattle.c_syntax.specs.Limits.{Nesting, IsInForce}
 use Rattle.c_syntax.specs.Expression.{Expression, Information, Arguments, height, heights}
 use Rattle.c_syntax.specs.Expressions.{rank, IsField, SpellsExpression, SpellsArguments, Derives}
 use Rattle.c_syntax.specs.Faults.{SameFirst, Speaks, Onward}
@@ -25,12 +26,12 @@ pub record Reads (text : List ℕ) (l : ℕ) (e : Expression) (ts rest : List To
 
 -- no expression of a level is at the front that nothing continues with, with at most so many expressions around each part
 abbrev pub NoExpression : ℕ → ℕ → ℕ → List ℕ → List Token → Type 0
-NoExpression l room n text ts = (e : Expression) (end : List Token) → Derives text l e ts end → Stops l end → (1 ≤ n → height e ≤ room) → ⊥
+NoExpression l room n text ts = (e : Expression) (end : List Token) → Derives text l e ts end → Stops l end → (IsInForce Nesting n → height e ≤ room) → ⊥
 
 pub record HasExpression (l room n : ℕ) (text : List ℕ) (ts : List Token) : Type 0 where
   pub tree : Expression
   pub derives : (other : List Token) → Derives text l tree (ts ++ other) other
-  pub low : 1 ≤ n → height tree ≤ room
+  pub low : IsInForce Nesting n → height tree ≤ room
 
 -- ---- an expression and the punctuator that ends it
 
@@ -40,22 +41,22 @@ pub record Encloses (text : List ℕ) (close : Punctuator) (e : Expression) (ts 
   pub closed : HasPunctuator close mid rest
 
 abbrev pub NoneEnclosed : Punctuator → ℕ → ℕ → List ℕ → List Token → Type 0
-NoneEnclosed close room n text ts = (e : Expression) (end : List Token) → Encloses text close e ts end → (1 ≤ n → height e ≤ room) → ⊥
+NoneEnclosed close room n text ts = (e : Expression) (end : List Token) → Encloses text close e ts end → (IsInForce Nesting n → height e ≤ room) → ⊥
 
 pub record HasEnclosed (close : Punctuator) (room n : ℕ) (text : List ℕ) (ts : List Token) : Type 0 where
   pub tree : Expression
   pub encloses : (other : List Token) → Encloses text close tree (ts ++ other) other
-  pub low : 1 ≤ n → height tree ≤ room
+  pub low : IsInForce Nesting n → height tree ≤ room
 
 -- ---- arguments, and the parenthesis after them
 
 abbrev pub NoArguments : ℕ → ℕ → List ℕ → List Token → Type 0
-NoArguments room n text ts = (es : Arguments) (end : List Token) → SpellsArguments text es ts end → (1 ≤ n → heights es ≤ room) → ⊥
+NoArguments room n text ts = (es : Arguments) (end : List Token) → SpellsArguments text es ts end → (IsInForce Nesting n → heights es ≤ room) → ⊥
 
 pub record HasArguments (room n : ℕ) (text : List ℕ) (ts : List Token) : Type 0 where
   pub trees : Arguments
   pub spells : (other : List Token) → SpellsArguments text trees (ts ++ other) other
-  pub low : 1 ≤ n → heights trees ≤ room
+  pub low : IsInForce Nesting n → heights trees ≤ room
 
 -- expressions with commas between them
 abbrev pub AreMore : List ℕ → List Expression → List Token → List Token → Type 0
@@ -74,7 +75,7 @@ pub record IsOperand (text : List ℕ) (l : ℕ) (e : Expression) (ts rest : Lis
   pub closes : Closes e rest
 
 abbrev pub NoOperand : ℕ → ℕ → ℕ → List ℕ → List Token → Type 0
-NoOperand l room n text ts = (e : Expression) (end : List Token) → IsOperand text l e ts end → (1 ≤ n → height e ≤ room) → ⊥
+NoOperand l room n text ts = (e : Expression) (end : List Token) → IsOperand text l e ts end → (IsInForce Nesting n → height e ≤ room) → ⊥
 
 -- ---- a step after an operand
 
@@ -84,14 +85,14 @@ pub record IsStep (text : List ℕ) (operand : Expression) (s : Step) (ts rest :
   pub closes : Closes (apply operand s) rest
 
 abbrev pub NoStep : ℕ → Expression → ℕ → List ℕ → List Token → Type 0
-NoStep room operand n text ts = (s : Step) (end : List Token) → IsStep text operand s ts end → (1 ≤ n → height (apply operand s) ≤ room) → ⊥
+NoStep room operand n text ts = (s : Step) (end : List Token) → IsStep text operand s ts end → (IsInForce Nesting n → height (apply operand s) ≤ room) → ⊥
 
 pub record AStep (room : ℕ) (operand : Expression) (l n : ℕ) (text : List ℕ) (ts : List Token) : Type 0 where
   pub step : Step
   pub fits : rank operand ≤ bound step
   pub loose : rank (apply operand step) ≤ l
   pub tail : (other : List Token) → Tail text step (ts ++ other) other
-  pub low : 1 ≤ n → height (apply operand step) ≤ room
+  pub low : IsInForce Nesting n → height (apply operand step) ≤ room
 
 -- of a level or a tighter one; the operand may stand alone
 abbrev pub HasStep : ℕ → Expression → ℕ → ℕ → List ℕ → List Token → Type 0
@@ -99,28 +100,28 @@ HasStep room operand l n text ts = (ts ≡ []) ⊎ AStep room operand l n text t
 
 -- ---- what follows the punctuator of a step
 
-abbrev pub Behind : List ℕ → Step → List Token → List Token → Type 0
-Behind text (At at i) ts rest = Encloses text punctuators.CloseBracket i ts rest
-Behind text (After op at) ts rest = ts ≡ rest
-Behind text (With at op e) ts rest = Reads text (level op - 1) e ts rest
-Behind text (Choose at a b) ts rest = (mid : List Token) × Encloses text punctuators.Colon a ts mid × Reads text conditional b mid rest
-Behind text (Set at op e) ts rest = Reads text assignment e ts rest
-Behind text (And at e) ts rest = Reads text assignment e ts rest
+abbrev pub AfterPunctuator : List ℕ → Step → List Token → List Token → Type 0
+AfterPunctuator text (At at i) ts rest = Encloses text punctuators.CloseBracket i ts rest
+AfterPunctuator text (After op at) ts rest = ts ≡ rest
+AfterPunctuator text (With at op e) ts rest = Reads text (level op - 1) e ts rest
+AfterPunctuator text (Choose at a b) ts rest = (mid : List Token) × Encloses text punctuators.Colon a ts mid × Reads text conditional b mid rest
+AfterPunctuator text (Set at op e) ts rest = Reads text assignment e ts rest
+AfterPunctuator text (And at e) ts rest = Reads text assignment e ts rest
 
-pub record IsBehind (text : List ℕ) (o : Operation) (at : ℕ) (s : Step) (ts rest : List Token) : Type 0 where
+pub record IsAfterPunctuator (text : List ℕ) (o : Operation) (at : ℕ) (s : Step) (ts rest : List Token) : Type 0 where
   pub operation : operation s ≡ o
   pub place : place s ≡ at
-  pub following : Behind text s ts rest
+  pub following : AfterPunctuator text s ts rest
 
-abbrev pub NoneBehind : ℕ → Operation → ℕ → List ℕ → List Token → Type 0
-NoneBehind room o n text ts = (s : Step) (end : List Token) → operation s ≡ o → Behind text s ts end → (1 ≤ n → over s ≤ room) → ⊥
+abbrev pub NoneAfterPunctuator : ℕ → Operation → ℕ → List ℕ → List Token → Type 0
+NoneAfterPunctuator room o n text ts = (s : Step) (end : List Token) → operation s ≡ o → AfterPunctuator text s ts end → (IsInForce Nesting n → over s ≤ room) → ⊥
 
 -- after the punctuator at a place
-pub record HasBehind (room : ℕ) (o : Operation) (at n : ℕ) (text : List ℕ) (ts : List Token) : Type 0 where
+pub record HasAfterPunctuator (room : ℕ) (o : Operation) (at n : ℕ) (text : List ℕ) (ts : List Token) : Type 0 where
   pub step : Step
   pub operation : operation step ≡ o
   pub tail : (begin other : List Token) → IsPunctuator (punctuator o) at begin (ts ++ other) → Tail text step begin other
-  pub low : 1 ≤ n → over step ≤ room
+  pub low : IsInForce Nesting n → over step ≤ room
 
 -- ---- the field of an exception's record that is read
 

@@ -2,30 +2,21 @@
 use Rattle.std.specs.Prelude.{ℕ, List}
 use Rattle.c_lex.specs.declared.token.Token.{Token}
 use Rattle.c_syntax.specs.Faults.{Family, Failed}
+use Rattle.c_syntax.specs.Limits.{Nesting, Number, order}
 use Rattle.c_syntax.specs.Viable.{IsSyntaxFault}
-use Rattle.c_parse_expr.specs.declared.refusal.Count.{Count}
-use Rattle.c_parse_expr.specs.declared.refusal.Count.TheVariants.{Locals, Parameters, Functions, Globals, Funclets}
 use Rattle.c_parse_expr.specs.declared.refusal.ParseErr.{ParseErr}
 use Rattle.c_parse_expr.specs.declared.refusal.ParseErr.TheVariants.{Unexpected, TooDeep, TooMany, Memory}
-
--- the number of a limit, in the order in which they hold; nesting is the first
-abbrev pub number : Count → ℕ
-number Locals = 2
-number Parameters = 3
-number Functions = 4
-number Globals = 5
-number Funclets = 6
 
 -- A refusal is where the reading of a phrase fails; want of memory says nothing.
 abbrev pub Placed : ParseErr → Family → Family → List ℕ → List Token → Type 0
 Placed (Unexpected at) No Has text ts = Failed 0 at No Has text ts
-Placed (TooDeep at) No Has text ts = Failed 1 at No Has text ts
-Placed (TooMany at what) No Has text ts = Failed (number what) at No Has text ts
+Placed (TooDeep at) No Has text ts = Failed (order Nesting) at No Has text ts
+Placed (TooMany at what) No Has text ts = Failed (order (Number what)) at No Has text ts
 Placed Memory No Has text ts = Unit {0}
 
 -- A refusal is at the first fault of a text's tokens, and says which limit excludes every program that continues there.
 abbrev pub Refuses : ParseErr → List ℕ → List Token → Type 0
 Refuses (Unexpected at) text ts = IsSyntaxFault 0 at text ts
-Refuses (TooDeep at) text ts = IsSyntaxFault 1 at text ts
-Refuses (TooMany at what) text ts = IsSyntaxFault (number what) at text ts
+Refuses (TooDeep at) text ts = IsSyntaxFault (order Nesting) at text ts
+Refuses (TooMany at what) text ts = IsSyntaxFault (order (Number what)) at text ts
 Refuses Memory text ts = Unit {0}

@@ -11,8 +11,8 @@ ghost use Rattle.c_syntax.specs.Tokens.{IsPunctuator, IsIdentifier, HasPunctuato
 ghost use Rattle.c_parse_type.specs.Bases.{NoBase};
 ghost use Rattle.c_parse_expr.specs.declared.step.Operation.TheVariants as operations;
 ghost use Rattle.c_parse_expr.specs.declared.refusal.ParseErr.TheVariants.{Memory};
-ghost use Rattle.c_parse_expr.specs.Refusals.{Placed};
-ghost use Rattle.c_parse_expr.specs.Readings.{NoExpression, HasExpression, Encloses, NoneEnclosed, HasEnclosed, NoArguments, HasArguments, IsOperand, NoOperand, IsStep, NoStep, HasStep, IsBehind, NoneBehind, HasBehind};
+ghost use Rattle.c_parse_expr.specs.Readings.{Encloses, IsOperand, IsStep, IsAfterPunctuator};
+ghost use Rattle.c_parse_expr.specs.Refused.{RefusesExpression, RefusesEnclosed, RefusesArguments, RefusesOperand, RefusesStep, RefusesAfterPunctuator};
 ghost use Rattle.c_parse_expr.specs.Steps as code_steps;
 
 use crate::fault::{begins, departure, opens};
@@ -28,9 +28,10 @@ use c_parse_atom::operators::{follows, increment_of, unary_of};
 use c_parse_type::front::after;
 use c_parse_type::specifiers::c_type;
 use c_syntax::expression::{Expr, Identifier};
+use c_syntax::limit::MOST_EXPRESSIONS;
 use std::alloc::Global;
 
-/// An expression, the most expressions that stand around one of its parts, and what follows it.
+/// An expression, the most expressions around one of its parts, and what follows it.
 #[derive(Drop)]
 pub struct Parsed<'a> {
     pub expr: Expr,
@@ -39,7 +40,7 @@ pub struct Parsed<'a> {
     ghost exact: { over ≡ height (expression expr) },
 }
 
-/// Arguments, the most expressions that stand around a part of one, and what follows them.
+/// Arguments, the most expressions around a part of one, and what follows them.
 #[derive(Drop)]
 struct Listed<'a> {
     exprs: Vec<Expr>,
@@ -48,9 +49,9 @@ struct Listed<'a> {
     ghost exact: { over ≡ heights (arguments (map expression exprs.items)) },
 }
 
-/// A step, the most expressions that stand around a part of what it adds, and what follows it.
+/// A step, the most expressions around a part of what it adds, and what follows it.
 #[derive(Drop)]
-struct Behind<'a> {
+struct ParsedStep<'a> {
     step: Step,
     over: u64,
     rest: &'a [Token],
@@ -68,11 +69,13 @@ fn higher(a: u64, b: u64) -> u64
 fn extended<'a>(
     alloc: Global,
     operand: Parsed<'a>,
-    following: Behind<'a>,
+    following: ParsedStep<'a>,
 ) -> Result<Parsed<'a>, ParseErr>
-    requires operand { operand.over < 64 }
-    requires following { following.over < 64 }
-    ensures made { IfOk result (λ x. expression x.expr ≡ steps.apply (expression operand.entry.expr) (code_steps.step following.entry.step)) }
+    requires operand { operand.over < MOST_EXPRESSIONS }
+    requires following { following.over < MOST_EXPRESSIONS }
+    ensures made { IfOk result (λ x.
+        expression x.expr
+        ≡ steps.apply (expression operand.entry.expr) (code_steps.step following.entry.step)) }
     ensures rest { IfOk result (λ x. x.rest.now ≡ following.entry.rest.now) }
     ensures err { IfErr result (λ e. e ≡ Memory) }
 {
@@ -83,8 +86,8 @@ fn extended<'a>(
 }
 
 /// The expression of a level or a tighter one at the front, as far as it goes, with at most `room`
-/// expressions around each part. The levels are those of the productions of C11, 6.5: 2 is unary, 3 a
-/// cast, 4 products to 13 `||`, 14 is `?:`, 15 an assignment, 16 a comma.
+/// expressions around each part. The levels are those of the productions of C11, 6.5: 2 is unary, 3
+/// a cast, 4 products to 13 `||`, 14 is `?:`, 15 an assignment, 16 a comma.
 #[cycle(reader)]
 pub fn expression<'a>(
     alloc: Global,
@@ -93,12 +96,13 @@ pub fn expression<'a>(
     level: u8,
     tokens: &'a [Token],
 ) -> Result<Parsed<'a>, ParseErr>
-    requires room { room ≤ 64 }
+    requires room { room ≤ MOST_EXPRESSIONS }
     requires level { 2 ≤ level }
-    ensures found { IfOk result (λ x. Derives text.now level (expression x.expr) tokens.now x.rest.now) }
+    ensures found { IfOk result (λ x.
+        Derives text.now level (expression x.expr) tokens.now x.rest.now) }
     ensures stops { IfOk result (λ x. Stops level x.rest.now) }
     ensures low { IfOk result (λ x. x.over ≤ room) }
-    ensures refused { IfErr result (λ e. Placed e (NoExpression level room) (HasExpression level room) text.now tokens.now) }
+    ensures refused { IfErr result (λ e. RefusesExpression e level room text.now tokens.now) }
 {
     let mut left = operand(alloc, text, room, level, tokens)?;
     while follows(left.rest) <= level {
@@ -108,19 +112,22 @@ pub fn expression<'a>(
     Ok(left)
 }
 
-/// The step after an operand, if that may stand before it.
+/// The step after an operand, if that may be before it.
 #[cycle(reader)]
 fn step<'a>(
     alloc: Global,
     text: &[u8],
     room: u64,
     operand: &Parsed<'a>,
-) -> Result<Behind<'a>, ParseErr>
-    requires { room ≤ 64 }
-    ensures found { IfOk result (λ x. IsStep text.now (expression operand.now.expr) (code_steps.step x.step) operand.now.rest.now x.rest.now) }
+) -> Result<ParsedStep<'a>, ParseErr>
+    requires { room ≤ MOST_EXPRESSIONS }
+    ensures found { IfOk result (λ x.
+        IsStep text.now (expression operand.now.expr) (code_steps.step x.step) operand.now.rest.now
+        x.rest.now) }
     ensures fits { IfOk result (λ x. operand.now.over < room) }
     ensures low { IfOk result (λ x. x.over < room) }
-    ensures refused { IfErr result (λ e. Placed e (NoStep room (expression operand.now.expr)) (HasStep room (expression operand.now.expr) (follows operand.now.rest.now)) text.now operand.now.rest.now) }
+    ensures refused { IfErr result (λ e.
+        RefusesStep e room (expression operand.now.expr) text.now operand.now.rest.now) }
 {
     let Some((punctuator, at, rest)) = first_punctuator(operand.rest) else {
         return Err(unexpected(text, operand.rest));
@@ -137,7 +144,8 @@ fn step<'a>(
     operated(alloc, text, room - 1, operation, at, rest)
 }
 
-/// What follows the punctuator of an operation, and the step that they are. `at` is the punctuator's place.
+/// What follows the punctuator of an operation, and the step that they are. `at` is the
+/// punctuator's place.
 #[cycle(reader)]
 fn operated<'a>(
     alloc: Global,
@@ -146,35 +154,35 @@ fn operated<'a>(
     operation: Operation,
     at: u64,
     tokens: &'a [Token],
-) -> Result<Behind<'a>, ParseErr>
-    requires { room < 64 }
-    ensures found { IfOk result (λ x. IsBehind text.now operation at (code_steps.step x.step) tokens.now x.rest.now) }
+) -> Result<ParsedStep<'a>, ParseErr>
+    requires { room < MOST_EXPRESSIONS }
+    ensures found { IfOk result (λ x.
+        IsAfterPunctuator text.now operation at (code_steps.step x.step) tokens.now x.rest.now) }
     ensures low { IfOk result (λ x. x.over ≤ room) }
-    ensures refused { IfErr result (λ e. Placed e (NoneBehind room operation) (HasBehind room operation at) text.now tokens.now) }
+    ensures refused { IfErr result (λ e.
+        RefusesAfterPunctuator e room operation at text.now tokens.now) }
 {
     match operation {
         Operation::Index => {
             let inner = enclosed(alloc, text, room, Punctuator::CloseBracket, tokens)?;
-            let (over, rest) = (inner.over, inner.rest);
-            let index = inner.expr;
+            let (index, over, rest) = (inner.expr, inner.over, inner.rest);
             let step = Step::Index { at, index };
-            Ok(Behind { step, over, rest })
+            Ok(ParsedStep { step, over, rest })
         }
         Operation::Postfix(operator) => {
             let step = Step::Postfix { operator, at };
             let (over, rest) = (0, tokens);
-            Ok(Behind { step, over, rest })
+            Ok(ParsedStep { step, over, rest })
         }
         Operation::Infix(operator) => {
             let value = expression(alloc, text, room, operator.right(), tokens)?;
-            let (over, rest) = (value.over, value.rest);
-            let right = value.expr;
+            let (right, over, rest) = (value.expr, value.over, value.rest);
             let step = Step::Infix {
                 at,
                 operator,
                 right,
             };
-            Ok(Behind { step, over, rest })
+            Ok(ParsedStep { step, over, rest })
         }
         Operation::Conditional => chosen(alloc, text, room, at, tokens),
     }
@@ -188,11 +196,14 @@ fn chosen<'a>(
     room: u64,
     at: u64,
     tokens: &'a [Token],
-) -> Result<Behind<'a>, ParseErr>
-    requires { room < 64 }
-    ensures found { IfOk result (λ x. IsBehind text.now operations.Conditional at (code_steps.step x.step) tokens.now x.rest.now) }
+) -> Result<ParsedStep<'a>, ParseErr>
+    requires { room < MOST_EXPRESSIONS }
+    ensures found { IfOk result (λ x.
+        IsAfterPunctuator text.now operations.Conditional at (code_steps.step x.step) tokens.now
+        x.rest.now) }
     ensures low { IfOk result (λ x. x.over ≤ room) }
-    ensures refused { IfErr result (λ e. Placed e (NoneBehind room operations.Conditional) (HasBehind room operations.Conditional at) text.now tokens.now) }
+    ensures refused { IfErr result (λ e.
+        RefusesAfterPunctuator e room operations.Conditional at text.now tokens.now) }
 {
     let yes = enclosed(alloc, text, room, Punctuator::Colon, tokens)?;
     let no = expression(alloc, text, room, 14, yes.rest)?;
@@ -200,7 +211,7 @@ fn chosen<'a>(
     let rest = no.rest;
     let (yes, no) = (yes.expr, no.expr);
     let step = Step::Conditional { at, yes, no };
-    Ok(Behind { step, over, rest })
+    Ok(ParsedStep { step, over, rest })
 }
 
 /// The expression at the front and the punctuator that ends it; what follows the punctuator.
@@ -212,11 +223,12 @@ fn enclosed<'a>(
     close: Punctuator,
     tokens: &'a [Token],
 ) -> Result<Parsed<'a>, ParseErr>
-    requires room { room < 64 }
+    requires room { room < MOST_EXPRESSIONS }
     requires close { punctuator_follows close ≡ 17 }
-    ensures found { IfOk result (λ x. Encloses text.now close (expression x.expr) tokens.now x.rest.now) }
+    ensures found { IfOk result (λ x.
+        Encloses text.now close (expression x.expr) tokens.now x.rest.now) }
     ensures low { IfOk result (λ x. x.over ≤ room) }
-    ensures refused { IfErr result (λ e. Placed e (NoneEnclosed close room) (HasEnclosed close room) text.now tokens.now) }
+    ensures refused { IfErr result (λ e. RefusesEnclosed e close room text.now tokens.now) }
 {
     let inner = expression(alloc, text, room, 16, tokens)?;
     match after(close, inner.rest) {
@@ -237,11 +249,12 @@ fn operand<'a>(
     level: u8,
     tokens: &'a [Token],
 ) -> Result<Parsed<'a>, ParseErr>
-    requires room { room ≤ 64 }
+    requires room { room ≤ MOST_EXPRESSIONS }
     requires level { 2 ≤ level }
-    ensures found { IfOk result (λ x. IsOperand text.now level (expression x.expr) tokens.now x.rest.now) }
+    ensures found { IfOk result (λ x.
+        IsOperand text.now level (expression x.expr) tokens.now x.rest.now) }
     ensures low { IfOk result (λ x. x.over ≤ room) }
-    ensures refused { IfErr result (λ e. Placed e (NoOperand level room) (HasExpression level room) text.now tokens.now) }
+    ensures refused { IfErr result (λ e. RefusesOperand e level room text.now tokens.now) }
 {
     if let Some((literal, at, rest)) = literal(tokens) {
         let expr = Expr::Literal { at, literal };
@@ -281,11 +294,12 @@ fn named<'a>(
     tokens: &'a [Token],
     rest: &'a [Token],
 ) -> Result<Parsed<'a>, ParseErr>
-    requires room { room ≤ 64 }
+    requires room { room ≤ MOST_EXPRESSIONS }
     requires name { IsIdentifier name tokens.now rest.now }
-    ensures found { IfOk result (λ x. IsOperand text.now level (expression x.expr) tokens.now x.rest.now) }
+    ensures found { IfOk result (λ x.
+        IsOperand text.now level (expression x.expr) tokens.now x.rest.now) }
     ensures low { IfOk result (λ x. x.over ≤ room) }
-    ensures refused { IfErr result (λ e. Placed e (NoOperand level room) (HasExpression level room) text.now tokens.now) }
+    ensures refused { IfErr result (λ e. RefusesOperand e level room text.now tokens.now) }
 {
     match after(Punctuator::OpenParenthesis, rest) {
         Some(rest) => {
@@ -305,8 +319,9 @@ fn named<'a>(
 
 /// The refusal of the first token where no argument is within the limit.
 fn no_argument(text: &[u8], tokens: &[Token]) -> ParseErr
-    requires { (rest : List Token) → HasPunctuator punctuators.CloseParenthesis tokens.now rest → ⊥ }
-    ensures { Placed result (NoArguments 0) (HasArguments 0) text.now tokens.now }
+    requires { (rest : List Token) → HasPunctuator punctuators.CloseParenthesis tokens.now rest
+        → ⊥ }
+    ensures { RefusesArguments result 0 text.now tokens.now }
 {
     if begins(tokens) {
         too_deep(text, tokens)
@@ -323,10 +338,11 @@ fn arguments<'a>(
     room: u64,
     tokens: &'a [Token],
 ) -> Result<Listed<'a>, ParseErr>
-    requires { room ≤ 64 }
-    ensures found { IfOk result (λ x. SpellsArguments text.now (arguments (map expression x.exprs.items)) tokens.now x.rest.now) }
+    requires { room ≤ MOST_EXPRESSIONS }
+    ensures found { IfOk result (λ x.
+        SpellsArguments text.now (arguments (map expression x.exprs.items)) tokens.now x.rest.now) }
     ensures low { IfOk result (λ x. x.over ≤ room) }
-    ensures refused { IfErr result (λ e. Placed e (NoArguments room) (HasArguments room) text.now tokens.now) }
+    ensures refused { IfErr result (λ e. RefusesArguments e room text.now tokens.now) }
 {
     let mut exprs = Vec::new(alloc);
     if let Some(rest) = after(Punctuator::CloseParenthesis, tokens) {
@@ -366,12 +382,13 @@ fn signed<'a>(
     tokens: &'a [Token],
     rest: &'a [Token],
 ) -> Result<Parsed<'a>, ParseErr>
-    requires room { room ≤ 64 }
+    requires room { room ≤ MOST_EXPRESSIONS }
     requires level { 2 ≤ level }
     requires punctuator { IsPunctuator punctuator at tokens.now rest.now }
-    ensures found { IfOk result (λ x. IsOperand text.now level (expression x.expr) tokens.now x.rest.now) }
+    ensures found { IfOk result (λ x.
+        IsOperand text.now level (expression x.expr) tokens.now x.rest.now) }
     ensures low { IfOk result (λ x. x.over ≤ room) }
-    ensures refused { IfErr result (λ e. Placed e (NoOperand level room) (HasExpression level room) text.now tokens.now) }
+    ensures refused { IfErr result (λ e. RefusesOperand e level room text.now tokens.now) }
 {
     if !opens(punctuator) {
         return Err(unexpected(text, tokens));
@@ -405,12 +422,13 @@ fn parenthesised<'a>(
     tokens: &'a [Token],
     rest: &'a [Token],
 ) -> Result<Parsed<'a>, ParseErr>
-    requires room { room < 64 }
+    requires room { room < MOST_EXPRESSIONS }
     requires level { 2 ≤ level }
     requires punctuator { IsPunctuator punctuators.OpenParenthesis at tokens.now rest.now }
-    ensures found { IfOk result (λ x. IsOperand text.now level (expression x.expr) tokens.now x.rest.now) }
+    ensures found { IfOk result (λ x.
+        IsOperand text.now level (expression x.expr) tokens.now x.rest.now) }
     ensures low { IfOk result (λ x. x.over ≤ room + 1) }
-    ensures refused { IfErr result (λ e. Placed e (NoOperand level (room + 1)) (HasExpression level (room + 1)) text.now tokens.now) }
+    ensures refused { IfErr result (λ e. RefusesOperand e level (room + 1) text.now tokens.now) }
 {
     if level == 2 {
         return grouped(alloc, text, room, level, at, tokens, rest);
@@ -441,13 +459,14 @@ fn grouped<'a>(
     tokens: &'a [Token],
     rest: &'a [Token],
 ) -> Result<Parsed<'a>, ParseErr>
-    requires room { room < 64 }
+    requires room { room < MOST_EXPRESSIONS }
     requires level { 2 ≤ level }
     requires punctuator { IsPunctuator punctuators.OpenParenthesis at tokens.now rest.now }
     requires base { (3 ≤ level) → NoBase rest.now }
-    ensures found { IfOk result (λ x. IsOperand text.now level (expression x.expr) tokens.now x.rest.now) }
+    ensures found { IfOk result (λ x.
+        IsOperand text.now level (expression x.expr) tokens.now x.rest.now) }
     ensures low { IfOk result (λ x. x.over ≤ room + 1) }
-    ensures refused { IfErr result (λ e. Placed e (NoOperand level (room + 1)) (HasExpression level (room + 1)) text.now tokens.now) }
+    ensures refused { IfErr result (λ e. RefusesOperand e level (room + 1) text.now tokens.now) }
 {
     let inner = enclosed(alloc, text, room, Punctuator::CloseParenthesis, rest)?;
     let (over, rest) = (inner.over + 1, inner.rest);

@@ -26,8 +26,10 @@ pub fn opens(punctuator: Punctuator) -> bool
 
 /// Whether an expression can begin with a token of this kind.
 fn begins_with(kind: Kind) -> bool
-    ensures begins { IsTrue result → (start end : ℕ) (rest : List Token) → Begins (token kind start end ∷ rest) }
-    ensures never { IsFalse result → (start end : ℕ) (rest : List Token) → NeverBegins (token kind start end ∷ rest) }
+    ensures begins { IsTrue result → (start end : ℕ) (rest : List Token)
+        → Begins (token kind start end ∷ rest) }
+    ensures never { IsFalse result → (start end : ℕ) (rest : List Token)
+        → NeverBegins (token kind start end ∷ rest) }
 {
     match kind {
         Kind::Identifier | Kind::Integer { .. } | Kind::CharacterConstant(_) => true,
@@ -48,8 +50,8 @@ pub fn begins(tokens: &[Token]) -> bool
     }
 }
 
-/// The tokens from the first with which no field of an exception's record continues; no field is at the
-/// front.
+/// The tokens from the first with which no field of an exception's record continues; no field is at
+/// the front.
 fn field_departure<'a>(text: &[u8], tokens: &'a [Token]) -> &'a [Token]
     requires { NoField 0 text.now tokens.now }
     ensures { Failed 0 (place text.now result.now) NoField HasField text.now tokens.now }
@@ -66,11 +68,12 @@ fn field_departure<'a>(text: &[u8], tokens: &'a [Token]) -> &'a [Token]
     }
 }
 
-/// The tokens from the first with which `GetExceptionInformation()->ExceptionRecord->field` doesn't go
-/// on; none such is at the front.
+/// The tokens from the first with which `GetExceptionInformation()->ExceptionRecord->field` doesn't
+/// go on; none such is at the front.
 pub fn departure<'a>(text: &[u8], tokens: &'a [Token]) -> &'a [Token]
     requires { NoInformation 0 text.now tokens.now }
-    ensures { Failed 0 (place text.now result.now) NoInformation HasInformation text.now tokens.now }
+    ensures { Failed 0 (place text.now result.now) NoInformation HasInformation text.now
+        tokens.now }
 {
     let Some((_, open)) = intrinsic(tokens) else {
         return tokens;

@@ -5,31 +5,17 @@ ghost use Rattle.c_syntax.specs.Faults as faults;
 ghost use Rattle.c_parse_expr.specs.declared.refusal.ParseErr.TheVariants.{Unexpected, TooDeep, Memory};
 
 use c_lex::token::Token;
+use c_syntax::limit::Count;
 use std::alloc::{AllocError, AllocFailed};
 
-/// What has a limit of number.
-#[derive(Clone, Copy, Debug, PartialEq, Eq)]
-pub enum Count {
-    /// Locals of a function: 256.
-    Locals,
-    /// Parameters of a function: 8.
-    Parameters,
-    /// Functions of a program: 4,096.
-    Functions,
-    /// Bytes of a program's globals: 1,048,576.
-    Globals,
-    /// Filters and `__finally` blocks of a program that have a number: 16,384.
-    Funclets,
-}
-
 /// Why tokens are no program within the limits. `at` is the place of the first token with which no
-/// such program continues, in bytes from the text's begin; the text's length where the text ends too
-/// early.
+/// such program continues, in bytes from the text's begin; the text's length where the text ends
+/// too early.
 #[derive(Clone, Copy, Debug, PartialEq, Eq)]
 pub enum ParseErr {
     /// No program continues so.
     Unexpected { at: u64 },
-    /// Programs continue so, but none with at most 64 expressions and 64 statements around each part.
+    /// Programs continue so, but none within the limit of nesting.
     TooDeep { at: u64 },
     /// Programs continue so, but none with so few of these.
     TooMany { at: u64, what: Count },

@@ -76,7 +76,8 @@ impl Operation {
 /// The punctuator at the front, its place, and what follows it.
 pub fn first_punctuator(tokens: &[Token]) -> Option<(Punctuator, u64, &[Token])>
     ensures found { IfSome result (λ x. IsPunctuator x.0 x.1 tokens.now x.2.now) }
-    ensures none { IfNone result ((s : Punctuator) (at : ℕ) (rest : List Token) → IsPunctuator s at tokens.now rest → ⊥) }
+    ensures none { IfNone result ((s : Punctuator) (at : ℕ) (rest : List Token)
+        → IsPunctuator s at tokens.now rest → ⊥) }
 {
     punctuator(tokens)
 }
@@ -199,7 +200,9 @@ fn between(
     operator: Infix,
     right: Expr,
 ) -> Result<Expr, ParseErr>
-    ensures applied { IfOk result (λ e. expression e ≡ steps.apply (expression left.value) (operations.with operator at (expression right))) }
+    ensures applied { IfOk result (λ e.
+        expression e ≡ steps.apply (expression left.value)
+        (operations.with operator at (expression right))) }
     ensures err { IfErr result (λ e. e ≡ Memory) }
 {
     let right = Box::new(alloc, right)?;
@@ -222,7 +225,8 @@ fn between(
 
 /// The expression of an operand and a step after it.
 pub fn apply(alloc: Global, operand: Expr, following: Step) -> Result<Expr, ParseErr>
-    ensures applied { IfOk result (λ e. expression e ≡ steps.apply (expression operand) (step following)) }
+    ensures applied { IfOk result (λ e.
+        expression e ≡ steps.apply (expression operand) (step following)) }
     ensures err { IfErr result (λ e. e ≡ Memory) }
 {
     let operand = Box::new(alloc, operand)?;

@@ -27,7 +27,7 @@ use Rattle.c_syntax.proofs.Fronts.{kind_class, has_same}
 use Rattle.c_syntax.proofs.Once.{one_expression, rank_low, has_stops}
 use Rattle.c_syntax.proofs.Passing.{passes}
 use Rattle.c_syntax.proofs.Spine.{levels, step_follows, run_height}
-use Rattle.c_parse_stmt.specs.Filters.{accepts_kind, accepts_alone, AreOpening, AreClosing, Continued, GoesBehind, NoneBehind}
+use Rattle.c_parse_stmt.specs.Filters.{accepts_kind, accepts_alone, AreOpening, AreClosing, Continued, ContinuesAfter, NoneAfter}
 use Rattle.c_parse_stmt.specs.Parts.{NoCondition, HasCondition}
 use Rattle.c_parse_stmt.proofs.Begins.{punctuator, name, variable}
 use Rattle.c_parse_stmt.proofs.Nesting.{Nested, nested, opening_again, opening_split, closing, closing_again, enclosed}
@@ -214,7 +214,7 @@ call_by text (kinds.Integer value type) at end u n o = absurd cc
 call_by text (kinds.CharacterConstant value) at end u n o = absurd cc
 call_by text (kinds.Punctuator s) at end u n o = absurd cc
 
-pub goes_call : (opened closed : ℕ) (a : Token) (ts : List Token) → closed < opened → opened ≤ 65 → closed ≡ 0 → a.kind ≡ kinds.Identifier → follows ts ≡ 0 → GoesBehind opened closed a ts
+pub goes_call : (opened closed : ℕ) (a : Token) (ts : List Token) → closed < opened → opened ≤ 65 → closed ≡ 0 → a.kind ≡ kinds.Identifier → follows ts ≡ 0 → ContinuesAfter opened closed a ts
 goes_call opened closed a [] l k z n f = absurd (omega arith)
 goes_call zero closed a (t ∷ ts) l k z n f = absurd (omega arith)
 goes_call (suc m) (suc c) a (t ∷ ts) l k z n f = absurd (omega arith)
@@ -239,7 +239,7 @@ nested_closes : (text : List ℕ) (n : ℕ) (a : Token) (ts rest us : List Token
 nested_closes text zero a ts rest us e x f = subst (λ (z : Expression). Closes z us) (sym (x.plain refl)) (e.closes us (f refl))
 nested_closes text (suc n) a ts rest us e x f = x.closes (omega arith) us
 
-pub goes_step : (opened closed : ℕ) (a : Token) (ts : List Token) → closed < opened → opened < 65 → 1 ≤ follows ts → follows ts ≤ 16 → GoesBehind opened closed a ts
+pub goes_step : (opened closed : ℕ) (a : Token) (ts : List Token) → closed < opened → opened < 65 → 1 ≤ follows ts → follows ts ≤ 16 → ContinuesAfter opened closed a ts
 goes_step opened closed a [] l k g f = absurd (omega arith)
 goes_step zero closed a (t ∷ ts) l k g f = absurd (omega arith)
 goes_step (suc m) closed a (t ∷ ts) l k g f = (t, ts, refl, λ text before middle o y c. continued text before middle o (atom text a y) c (stepped t g f))
@@ -264,8 +264,8 @@ goes_step (suc m) closed a (t ∷ ts) l k g f = (t, ts, refl, λ text before mid
 
 -- ---- where none does
 
-none_behind : (m closed n : ℕ) (a : Token) (text : List ℕ) (before middle other : List Token) → closed ≤ m → AreOpening (suc m) before [] → (e : Atom text a) → AreClosing closed middle [] → ((ts : List Token) → Nested text closed e.tree ts other → (f : Expression) (end r : List Token) → SpellsExpression text f ts end → HasPunctuator punctuators.CloseParenthesis end r → n ≤ height f) → 64 < (m - closed) + n → NoCondition 1 text ((before ++ a ∷ middle) ++ other)
-none_behind m closed n a text before middle other l o e c bound high f end h low =
+none_after : (m closed n : ℕ) (a : Token) (text : List ℕ) (before middle other : List Token) → closed ≤ m → AreOpening (suc m) before [] → (e : Atom text a) → AreClosing closed middle [] → ((ts : List Token) → Nested text closed e.tree ts other → (f : Expression) (end r : List Token) → SpellsExpression text f ts end → HasPunctuator punctuators.CloseParenthesis end r → n ≤ height f) → 64 < (m - closed) + n → NoCondition 1 text ((before ++ a ∷ middle) ++ other)
+none_after m closed n a text before middle other l o e c bound high f end h low =
     let v = a ∷ (middle ++ other) in
     let p : (before ++ a ∷ middle) ++ other ≡ before ++ v = append_assoc before (a ∷ middle) other in
     let x = opening_again (suc m) before v o in
@@ -280,12 +280,12 @@ follows_first : (ts other : List Token) → SameFirst ts other → follows ts �
 follows_first ts other same = first_keeps (λ z. follows ts ≡ follows z) (λ t xs ys n. n) ts other same refl
 
 -- the operand stops
-pub stops_behind : (opened closed : ℕ) (a : Token) (ts : List Token) → closed < opened → Lacks punctuators.CloseParenthesis ts → 16 < follows ts → NoneBehind opened closed a ts
-stops_behind zero closed a ts l lacks f text before middle other o y c same = absurd (omega arith)
-stops_behind (suc m) closed a ts l lacks f text before middle other o y c same =
+pub stops_after : (opened closed : ℕ) (a : Token) (ts : List Token) → closed < opened → Lacks punctuators.CloseParenthesis ts → 16 < follows ts → NoneAfter opened closed a ts
+stops_after zero closed a ts l lacks f text before middle other o y c same = absurd (omega arith)
+stops_after (suc m) closed a ts l lacks f text before middle other o y c same =
     let e = atom text a y in
     let p = follows_first ts other same in
-    none_behind m closed 65 a text before middle other (omega arith) o e c
+    none_after m closed 65 a text before middle other (omega arith) o e c
     (λ us n g end r s k.
     let u = one_expression text 16 n.tree g us other end (record { fits = rank_low n.tree; spells = n.spells }) (record { fits = rank_low g; spells = s }) (omega arith) (has_stops punctuators.CloseParenthesis end r 16 k (omega arith)) in
     absurd (lacks_first punctuators.CloseParenthesis ts other same lacks r (subst (λ (z : List Token). HasPunctuator punctuators.CloseParenthesis z r) (sym u.1) k)))
@@ -317,20 +317,20 @@ through text closed a us other e n f l g end r s k =
     looser e (Set at op f) = omega arith
     looser e (And at f) = omega arith
 
-pub no_call : (opened closed : ℕ) (a : Token) (ts : List Token) → closed < opened → follows ts ≡ 0 → (closed ≡ 0 → a.kind ≡ kinds.Identifier → ⊥) → NoneBehind opened closed a ts
+pub no_call : (opened closed : ℕ) (a : Token) (ts : List Token) → closed < opened → follows ts ≡ 0 → (closed ≡ 0 → a.kind ≡ kinds.Identifier → ⊥) → NoneAfter opened closed a ts
 no_call zero closed a ts l f bare text before middle other o y c same = absurd (omega arith)
 no_call (suc m) closed a ts l f bare text before middle other o y c same =
     let e = atom text a y in
     let p = follows_first ts other same in
-    none_behind m closed 65 a text before middle other (omega arith) o e c
+    none_after m closed 65 a text before middle other (omega arith) o e c
     (λ us n g end r s k. let w = through text closed a us other e n (λ z i. absurd (bare z i)) (omega arith) g end r s k in absurd (omega (arith, w.1)))
     (omega arith)
 
-pub deep_behind : (opened closed : ℕ) (a : Token) (ts : List Token) → closed < opened → 65 ≤ opened → 1 ≤ follows ts → follows ts ≤ 16 → NoneBehind opened closed a ts
-deep_behind zero closed a ts l k f g text before middle other o y c same = absurd (omega arith)
-deep_behind (suc m) closed a ts l k f g text before middle other o y c same =
+pub deep_after : (opened closed : ℕ) (a : Token) (ts : List Token) → closed < opened → 65 ≤ opened → 1 ≤ follows ts → follows ts ≤ 16 → NoneAfter opened closed a ts
+deep_after zero closed a ts l k f g text before middle other o y c same = absurd (omega arith)
+deep_after (suc m) closed a ts l k f g text before middle other o y c same =
     let e = atom text a y in
     let p = follows_first ts other same in
-    none_behind m closed (1 + closed) a text before middle other (omega arith) o e c
+    none_after m closed (1 + closed) a text before middle other (omega arith) o e c
     (λ us n x end r s d. let w = through text closed a us other e n (λ z i. omega arith) (omega arith) x end r s d in let h = n.high in omega (arith, w.0))
     (omega arith)

@@ -19,7 +19,7 @@ use Rattle.c_syntax.proofs.Moves.{both, has_punctuator}
 use Rattle.c_parse_stmt.specs.Parts.{NoPunctuator, APunctuator, NoLocal, HasLocal, LocalsWithin, NoMoreLocals, NoLocals, HasLocals}
 use Rattle.c_parse_stmt.proofs.Begins.{punctuator, name}
 use Rattle.c_parse_stmt.proofs.Declarators.{plain, local_moves, has_first}
-use Rattle.c_parse_stmt.proofs.Ends.{flat, stops_first, same_behind}
+use Rattle.c_parse_stmt.proofs.Ends.{flat, stops_first, same_after}
 use Rattle.c_parse_stmt.proofs.Placing.{Lacks, lacks_first}
 
 -- ---- lists of locals
@@ -106,7 +106,7 @@ continues text room whole left more ts rest b after found x d c is st low over e
       back = λ n text' other a same none.
           let g = m.again text' other (alike_inner text text' d.before rest ts d.split a) in
           subst (λ (z : List Token). NoLocals room whole n text' z) (sym (append_assoc d.before m.front other))
-          (d.back n text' (m.front ++ other) a (same_behind m.front after rest other m.split same) (next_back text' room left more n (m.front ++ other) g.0 other (local x) g.1 g.2 (stops_first 15 after other same st) e none));
+          (d.back n text' (m.front ++ other) a (same_after m.front after rest other m.split same) (next_back text' room left more n (m.front ++ other) g.0 other (local x) g.1 g.2 (stops_first 15 after other same st) e none));
     }
 
 pub ends : (text : List ℕ) (room whole left : ℕ) (ts rest end : List Token) (found : List Local') → Begun text room whole ts found rest left → HasPunctuator punctuators.Semicolon rest end → AreLocals text (map local found) ts end
@@ -170,7 +170,7 @@ no_next text room whole left ts rest b found d c some =
       split = d.split ∙ ap (λ z. d.before ++ z) m.split ∙ sym (append_assoc d.before m.front b);
       no = λ n text' other a same none.
           subst (λ (z : List Token). NoLocals room whole n text' z) (sym (append_assoc d.before m.front other))
-          (d.back n text' (m.front ++ other) a (same_behind m.front b rest other m.split same) (next_none text' room left n (m.front ++ other) other (m.again text' other (alike_inner text text' d.before rest ts d.split a)) none));
+          (d.back n text' (m.front ++ other) a (same_after m.front b rest other m.split same) (next_none text' room left n (m.front ++ other) other (m.again text' other (alike_inner text text' d.before rest ts d.split a)) none));
       has = λ n text' inner a speaks h. record {
         more = punctuator punctuators.Semicolon ∷ [];
         has = record {

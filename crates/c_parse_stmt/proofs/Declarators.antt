@@ -93,8 +93,8 @@ in_initialiser text room ts value h some = record {
         let p = has_same punctuators.Assign (m.front ++ other) (m.front ++ other) g.0 other refl g.1 (m.again text' other a) in
         none e end (subst (λ (x : List Token). Derives text' 15 e x end) p g.2) st low
 
-pub operator_behind : (text : List ℕ) (room : ℕ) (ts : List Token) → follows ts ≤ 15 → Lacks punctuators.Assign ts → Failed 0 (place text ts) (NoInitialiser room) (HasInitialiser room) text ts
-operator_behind text room ts l none = missing (NoInitialiser room) (HasInitialiser room) text ts [] ts refl against (λ text' a k. unassigned room 6 text')
+pub operator_after : (text : List ℕ) (room : ℕ) (ts : List Token) → follows ts ≤ 15 → Lacks punctuators.Assign ts → Failed 0 (place text ts) (NoInitialiser room) (HasInitialiser room) text ts
+operator_after text room ts l none = missing (NoInitialiser room) (HasInitialiser room) text ts [] ts refl against (λ text' a k. unassigned room 6 text')
   where
     against : (text' : List ℕ) (other : List Token) → Alike text text' ts → SameFirst ts other → NoInitialiser room 0 text' other
     against text' other a same None end h st low over =

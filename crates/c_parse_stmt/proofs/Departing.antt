@@ -14,10 +14,10 @@ use Rattle.c_syntax.specs.Statements.{IsCondition}
 use Rattle.c_syntax.specs.Tokens.{token}
 use Rattle.c_syntax.proofs.Failing.{alike_same}
 use Rattle.c_syntax.proofs.Fronts.{front}
-use Rattle.c_syntax.proofs.Moves.{alike_behind}
+use Rattle.c_syntax.proofs.Moves.{alike_after}
 use Rattle.c_syntax.proofs.MovesStatements.{condition}
 use Rattle.c_syntax.proofs.Once.{has_front}
-use Rattle.c_parse_stmt.specs.Filters.{numbers_of, accepts_alone, AreOpening, AreClosing, Continued, GoesInside, NoneInside, GoesBehind, NoneBehind, NoFilter, HasFilter, Departs}
+use Rattle.c_parse_stmt.specs.Filters.{numbers_of, accepts_alone, AreOpening, AreClosing, Continued, ContinuesInside, NoneInside, ContinuesAfter, NoneAfter, NoFilter, HasFilter, Departs}
 use Rattle.c_parse_stmt.specs.Parts.{HasCondition}
 use Rattle.c_parse_stmt.proofs.Begins.{punctuator}
 use Rattle.c_parse_stmt.proofs.Continuing.{atom, accepts_alike}
@@ -139,7 +139,7 @@ none_accepts n text ts rest k h lacks no_one f end c low count =
     let q = opening_once 65 (suc x.n) n ts ts x.mid rest refl (c.0, c.2, x.opening) h (atom_lacks text x.atom x.mid x.following x.yes x.is) lacks (omega arith) k in
     no_one x.atom x.following (sym q.1 ∙ x.is) x.yes
 
-pub goes_on_inside : (n : ℕ) (text : List ℕ) (ts rest : List Token) → 1 ≤ n → n ≤ 65 → AreOpening n ts rest → (n < 65 → Lacks punctuators.OpenParenthesis rest) → Refuses text rest → GoesInside n rest → Failed 6 (place text rest) (NoFilter 0) (HasFilter 0) text ts
+pub goes_on_inside : (n : ℕ) (text : List ℕ) (ts rest : List Token) → 1 ≤ n → n ≤ 65 → AreOpening n ts rest → (n < 65 → Lacks punctuators.OpenParenthesis rest) → Refuses text rest → ContinuesInside n rest → Failed 6 (place text rest) (NoFilter 0) (HasFilter 0) text ts
 goes_on_inside n text ts rest l k h lacks no_one g =
     let m = opening_moves n text ts rest h in
     let o = opening_alone n text ts rest h in
@@ -148,7 +148,7 @@ goes_on_inside n text ts rest l k h lacks no_one g =
       fault = rest;
       split = m.split;
       located = refl;
-      against = λ text' other a same. none_accepts n text' (m.front ++ other) other k (m.again text' other a) (λ d. lacks_first punctuators.OpenParenthesis rest other same (lacks d)) (refuses_first text text' rest other (alike_behind text' m a) same no_one);
+      against = λ text' other a same. none_accepts n text' (m.front ++ other) other k (m.again text' other a) (λ d. lacks_first punctuators.OpenParenthesis rest other same (lacks d)) (refuses_first text text' rest other (alike_after text' m a) same no_one);
       able = λ text' a s. able_inside n text' m.front l k o;
       further = λ text' j a s e. onward text' m.front rest g.1 g.0 j e g.2 (g.3 text' m.front s o);
     }
@@ -166,9 +166,9 @@ departs_inside n text ts rest l k h g =
 
 -- ---- after a token that accepts
 
-able_behind : (n c : ℕ) (text : List ℕ) (t : Token) (before middle : List Token) → c < n → n ≤ 65 → AreOpening n before [] → accepts_alone text t ≡ true → AreClosing c middle [] → Able (HasFilter 0) 6 text (before ++ t ∷ middle)
-able_behind zero c text t before middle l k h y g = absurd (omega arith)
-able_behind (suc n) c text t before middle l k h y g =
+able_after : (n c : ℕ) (text : List ℕ) (t : Token) (before middle : List Token) → c < n → n ≤ 65 → AreOpening n before [] → accepts_alone text t ≡ true → AreClosing c middle [] → Able (HasFilter 0) 6 text (before ++ t ∷ middle)
+able_after zero c text t before middle l k h y g = absurd (omega arith)
+able_after (suc n) c text t before middle l k h y g =
     let e = atom text t y in
     let more = closing (suc n - c) in
     let v = middle ++ more in
@@ -208,34 +208,34 @@ parts n c text t ts mid following rest h is good g =
       split = i.split ∙ ap (λ (z : List Token). i.front ++ z) (is ∙ ap (λ (z : List Token). t ∷ z) u.split) ∙ sym (append_assoc i.front (t ∷ u.front) rest);
       opening = opening_alone n text ts mid h;
       closing = closing_alone c text following rest g;
-      accepts = λ text' a. sym (accepts_alike text text' t (subst (λ (z : List Token). Alike text text' z) is (alike_behind text' i a)).0) ∙ good;
+      accepts = λ text' a. sym (accepts_alike text text' t (subst (λ (z : List Token). Alike text text' z) is (alike_after text' i a)).0) ∙ good;
     }
 
-against_behind : (n c : ℕ) (text : List ℕ) (t : Token) (before middle other : List Token) → c < n → n ≤ 65 → AreOpening n before [] → accepts_alone text t ≡ true → AreClosing c middle [] → Lacks punctuators.CloseParenthesis other → NoFilter 0 6 text ((before ++ t ∷ middle) ++ other)
-against_behind n c text t before middle other l k o good u lacks =
+against_after : (n c : ℕ) (text : List ℕ) (t : Token) (before middle other : List Token) → c < n → n ≤ 65 → AreOpening n before [] → accepts_alone text t ≡ true → AreClosing c middle [] → Lacks punctuators.CloseParenthesis other → NoFilter 0 6 text ((before ++ t ∷ middle) ++ other)
+against_after n c text t before middle other l k o good u lacks =
     let v = t ∷ (middle ++ other) in
     subst (λ (z : List Token). NoFilter 0 6 text z) (sym (append_assoc before (t ∷ middle) other)) (none_closes n c text t (before ++ v) v (middle ++ other) other l k (opening_again n before v o) refl good (closing_again c middle other u) lacks)
 
-pub goes_on_behind : (n c : ℕ) (text : List ℕ) (t : Token) (ts mid following rest : List Token) → c < n → n ≤ 65 → AreOpening n ts mid → mid ≡ t ∷ following → accepts_alone text t ≡ true → AreClosing c following rest → Lacks punctuators.CloseParenthesis rest → GoesBehind n c t rest → Failed 6 (place text rest) (NoFilter 0) (HasFilter 0) text ts
-goes_on_behind n c text t ts mid following rest l k h is good g lacks f =
+pub failed_after : (n c : ℕ) (text : List ℕ) (t : Token) (ts mid following rest : List Token) → c < n → n ≤ 65 → AreOpening n ts mid → mid ≡ t ∷ following → accepts_alone text t ≡ true → AreClosing c following rest → Lacks punctuators.CloseParenthesis rest → ContinuesAfter n c t rest → Failed 6 (place text rest) (NoFilter 0) (HasFilter 0) text ts
+failed_after n c text t ts mid following rest l k h is good g lacks f =
     let x = parts n c text t ts mid following rest h is good g in
     record {
       front = x.before ++ t ∷ x.middle;
       fault = rest;
       split = x.split;
       located = refl;
-      against = λ text' other a same. against_behind n c text' t x.before x.middle other l k x.opening (x.accepts text' a) x.closing (lacks_first punctuators.CloseParenthesis rest other same lacks);
-      able = λ text' a s. able_behind n c text' t x.before x.middle l k x.opening (x.accepts text' a) x.closing;
+      against = λ text' other a same. against_after n c text' t x.before x.middle other l k x.opening (x.accepts text' a) x.closing (lacks_first punctuators.CloseParenthesis rest other same lacks);
+      able = λ text' a s. able_after n c text' t x.before x.middle l k x.opening (x.accepts text' a) x.closing;
       further = λ text' j a s e. onward text' (x.before ++ t ∷ x.middle) rest f.1 f.0 j e f.2 (f.3 text' x.before x.middle x.opening (x.accepts text' a) x.closing);
     }
 
-pub departs_behind : (n c : ℕ) (text : List ℕ) (t : Token) (ts mid following rest : List Token) → c < n → n ≤ 65 → AreOpening n ts mid → mid ≡ t ∷ following → accepts_alone text t ≡ true → AreClosing c following rest → NoneBehind n c t rest → Departs text ts rest
-departs_behind n c text t ts mid following rest l k h is good g f =
+pub departs_after : (n c : ℕ) (text : List ℕ) (t : Token) (ts mid following rest : List Token) → c < n → n ≤ 65 → AreOpening n ts mid → mid ≡ t ∷ following → accepts_alone text t ≡ true → AreClosing c following rest → NoneAfter n c t rest → Departs text ts rest
+departs_after n c text t ts mid following rest l k h is good g f =
     let x = parts n c text t ts mid following rest h is good g in
     record {
       front = x.before ++ t ∷ x.middle;
       split = x.split;
-      able = λ text' a s. able_behind n c text' t x.before x.middle l k x.opening (x.accepts text' a) x.closing;
+      able = λ text' a s. able_after n c text' t x.before x.middle l k x.opening (x.accepts text' a) x.closing;
       none = λ text' other a same. f text' x.before x.middle other x.opening (x.accepts text' a) x.closing same;
     }
 

@@ -9,7 +9,7 @@ use Rattle.c_syntax.specs.Faults.{Alike, SameFirst, Wraps}
 use Rattle.c_syntax.specs.Follow.{punctuator_follows, Stops}
 use Rattle.c_syntax.specs.Statements.{IsCondition}
 use Rattle.c_syntax.specs.Tokens.{HasPunctuator}
-use Rattle.c_syntax.proofs.Failing.{first_keeps, first_behind}
+use Rattle.c_syntax.proofs.Failing.{first_keeps, first_after}
 use Rattle.c_syntax.proofs.Fronts.{has_same}
 use Rattle.c_syntax.proofs.Moves.{both, has_punctuator, derives}
 use Rattle.c_syntax.proofs.Once.{one_expression, has_stops}
@@ -26,8 +26,8 @@ flat before inner more other = append_assoc (before ++ inner) more other ∙ app
 pub stops_first : (l : ℕ) (ts other : List Token) → SameFirst ts other → Stops l ts → Stops l other
 stops_first l ts other same s = first_keeps (Stops l) (λ t xs ys h. h) ts other same s
 
-pub same_behind : (before ts ts' other : List Token) → ts' ≡ before ++ ts → SameFirst ts other → SameFirst ts' (before ++ other)
-same_behind before ts ts' other e same = subst (λ (z : List Token). SameFirst z (before ++ other)) (sym e) (first_behind before ts other same)
+pub same_after : (before ts ts' other : List Token) → ts' ≡ before ++ ts → SameFirst ts other → SameFirst ts' (before ++ other)
+same_after before ts ts' other e same = subst (λ (z : List Token). SameFirst z (before ++ other)) (sym e) (first_after before ts other same)
 
 -- ---- conditions
 
@@ -123,7 +123,7 @@ unended text s room e ts b l lacks d st low some =
     record {
       before = m.front;
       split = m.split;
-      no = λ n text' other k same none. unended_at text' s room e (m.front ++ other) other n l (lacks_first s ts (m.front ++ other) (same_behind m.front b ts other m.split same) lacks) (m.again text' other k) (stops_first 16 b other same st) none;
+      no = λ n text' other k same none. unended_at text' s room e (m.front ++ other) other n l (lacks_first s ts (m.front ++ other) (same_after m.front b ts other m.split same) lacks) (m.again text' other k) (stops_first 16 b other same st) none;
       has = λ n text' inner k speaks h. record {
         more = [];
         has = record {

@@ -3,15 +3,15 @@ use Rattle.std.proofs.Common.{◌≡◌, ◌≤◌, ℕ, Bool, true, false, List
 use Rattle.c_lex.specs.declared.token.Token.{Token}
 use Rattle.c_syntax.specs.Expression.{Expression, height}
 use Rattle.c_syntax.specs.Faults.{Alike, SameFirst, Speaks, Able, Failed, Wraps}
-use Rattle.c_syntax.specs.Limits.{accepts}
+use Rattle.c_syntax.specs.Limits.{Number, order, accepts}
 use Rattle.c_syntax.specs.Statements.{IsCondition}
 use Rattle.c_syntax.proofs.Blocks.{condition}
 use Rattle.c_syntax.proofs.Failing.{alike_same, first_same}
-use Rattle.c_parse_expr.specs.declared.refusal.Count.{Count}
-use Rattle.c_parse_expr.specs.declared.refusal.Count.TheVariants.{Locals, Parameters, Functions, Globals, Funclets}
+use Rattle.c_syntax.specs.declared.limit.Count.{Count}
+use Rattle.c_syntax.specs.declared.limit.Count.TheVariants.{Locals, Parameters, Functions, Globals, Funclets}
 use Rattle.c_parse_expr.specs.declared.refusal.ParseErr.{ParseErr}
 use Rattle.c_parse_expr.specs.declared.refusal.ParseErr.TheVariants.{Unexpected, TooDeep, TooMany, Memory}
-use Rattle.c_parse_expr.specs.Refusals.{number, Placed}
+use Rattle.c_parse_expr.specs.Refusals.{Placed}
 use Rattle.c_parse_stmt.specs.Filters.{numbers_of, NoFilter, HasFilter, Departs}
 use Rattle.c_parse_stmt.specs.Parts.{NoCondition, HasCondition}
 
@@ -55,7 +55,7 @@ failed_none kind at text ts d f end h low count =
 pub placed_none : (e : ParseErr) (text : List ℕ) (ts : List Token) → (e ≡ Memory → ⊥) → Placed e NoCondition HasCondition text ts → NoFilter 0 6 text ts
 placed_none (Unexpected at) text ts m d = failed_none 0 at text ts d
 placed_none (TooDeep at) text ts m d = failed_none 1 at text ts d
-placed_none (TooMany at what) text ts m d = failed_none (number what) at text ts d
+placed_none (TooMany at what) text ts m d = failed_none (order (Number what)) at text ts d
 placed_none Memory text ts m d = absurd (m refl)
 
 -- another filter is there, and each continues where those depart that accept
@@ -109,7 +109,7 @@ stays kind at text ts rest l d f = record {
       record { token = x.token; rest = x.rest; more = x.more; is = x.is; has = record { tree = x.has.tree; is = x.has.is; low = x.has.low; count = λ j. absurd (omega arith) } };
 }
 
-number_low : (what : Count) → number what ≤ 6
+number_low : (what : Count) → order (Number what) ≤ 6
 number_low Locals = omega arith
 number_low Parameters = omega arith
 number_low Functions = omega arith
@@ -119,7 +119,7 @@ number_low Funclets = omega arith
 pub placed_stays : (e : ParseErr) (text : List ℕ) (ts rest : List Token) → Departs text ts rest → Placed e NoCondition HasCondition text ts → Placed e (NoFilter 0) (HasFilter 0) text ts
 placed_stays (Unexpected at) text ts rest d f = stays 0 at text ts rest (omega arith) d f
 placed_stays (TooDeep at) text ts rest d f = stays 1 at text ts rest (omega arith) d f
-placed_stays (TooMany at what) text ts rest d f = stays (number what) at text ts rest (number_low what) d f
+placed_stays (TooMany at what) text ts rest d f = stays (order (Number what)) at text ts rest (number_low what) d f
 placed_stays Memory text ts rest d f = tt
 
 -- by whether another filter continues

@@ -20,7 +20,7 @@ use Rattle.c_syntax.proofs.Moves.{Moves, kind, has_punctuator}
 use Rattle.c_syntax.proofs.MovesStatements.{first, optional}
 use Rattle.c_parse_stmt.specs.declared.left.Left.{Left}
 use Rattle.c_parse_stmt.specs.Parts.{NoPunctuator, APunctuator, IsUpTo, NoCondition, HasCondition, NoneUpTo, HasUpTo, NoForInitialiser, HasForInitialiser}
-use Rattle.c_parse_stmt.specs.Within.{NoStatement, HasStatement, NoEvaluation, HasEvaluation, Behind}
+use Rattle.c_parse_stmt.specs.Within.{NoStatement, HasStatement, NoEvaluation, HasEvaluation, AfterKeyword}
 use Rattle.c_parse_stmt.proofs.Sequences.{Both, Fixed, both_fixed, both_moves, moves_so, able_now, wraps, punctuator, word, a_punctuator, a_word, first_kind, kind_place}
 use Rattle.c_parse_stmt.proofs.Wholes.{no_if_room, no_if_condition, no_while_room, no_while_condition, no_do_room, no_for_room, no_for_open, no_for_initialiser, Started, no_for_condition, no_for_next, no_return, no_break, no_continue, no_leave, no_try, no_evaluation, Lacks, Plain, only_evaluations}
 
@@ -206,7 +206,7 @@ try_too_many room at left text ts a z y k =
 -- ---- after the keyword
 
 pub key_wraps : (k : Keyword) (at room : ℕ) (left : Left) (No Has : Family) (text : List ℕ) (ts a : List Token) → IsKeyword k at ts a →
-    ((n : ℕ) (text' : List ℕ) (other : List Token) → No n text' other → Behind k at other (NoStatement room left n text')) →
+    ((n : ℕ) (text' : List ℕ) (other : List Token) → No n text' other → AfterKeyword k at other (NoStatement room left n text')) →
     ((n : ℕ) (text' : List ℕ) (inner : List Token) (end : ℕ) → Has n text' inner → Able (HasStatement room left) n text' (token (kinds.Keyword k) at end ∷ inner)) →
     Wraps No Has (NoStatement room left) (HasStatement room left) text a ts
 key_wraps k at room left No Has text ts a key f g = record {
@@ -400,8 +400,8 @@ evaluation_wraps room left text ts o p = record {
 }
 
 -- no statement but one of an expression begins with the keyword
-pub evaluation_behind : (room at : ℕ) (left : Left) (k : Keyword) (text : List ℕ) (ts a : List Token) → IsKeyword k at ts a → Plain k → Wraps (NoEvaluation room left) (HasEvaluation room left) (NoStatement room left) (HasStatement room left) text ts ts
-evaluation_behind room at left k text ts a is p =
+pub evaluation_after : (room at : ℕ) (left : Left) (k : Keyword) (text : List ℕ) (ts a : List Token) → IsKeyword k at ts a → Plain k → Wraps (NoEvaluation room left) (HasEvaluation room left) (NoStatement room left) (HasStatement room left) text ts ts
+evaluation_after room at left k text ts a is p =
     evaluation_wraps room left text ts
     (λ rest h. let q = kind_same (kinds.Punctuator punctuators.OpenBrace) (kinds.Keyword k) h.0 at ts ts rest a refl h.1 is in let e : kinds.Punctuator punctuators.OpenBrace ≡ kinds.Keyword k = q.0 in cc)
     (λ j rest h. subst Plain (sym (keyword_same j k ts ts rest a refl h (at, is)).0) p)

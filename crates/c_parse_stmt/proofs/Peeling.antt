@@ -20,7 +20,7 @@ use Rattle.c_syntax.proofs.Once.{rank_low, has_front}
 use Rattle.c_syntax.proofs.Spine.{spine, run_height}
 use Rattle.c_parse_type.specs.Bases.{NoBase}
 use Rattle.c_parse_stmt.specs.Begins.{over_first, first_over, Expressed, BeginsExpression, BeginsNoExpression}
-use Rattle.c_parse_stmt.specs.Filters.{AreOpening, AreClosing, Continued, GoesInside, NoneInside}
+use Rattle.c_parse_stmt.specs.Filters.{AreOpening, AreClosing, Continued, ContinuesInside, NoneInside}
 use Rattle.c_parse_stmt.specs.Parts.{NoCondition, HasCondition}
 use Rattle.c_parse_stmt.proofs.Begins.{punctuator, name, variable, base_at, untyped, punctuator_untyped}
 use Rattle.c_parse_stmt.proofs.Nesting.{opening_again, opening_split, closing, closing_is, enclosed}
@@ -146,7 +146,7 @@ too_deep (suc m) ts l over text before other o same =
 pub closing_all : (n : ℕ) → AreClosing n (closing n) []
 closing_all n = subst (λ (z : List Token). AreClosing n z []) (append-nil (closing n)) (closing_is n [])
 
-pub goes : (opened : ℕ) (ts : List Token) → 1 ≤ opened → opened ≤ 65 → BeginsExpression ts → opened + first_over ts ≤ 65 → GoesInside opened ts
+pub goes : (opened : ℕ) (ts : List Token) → 1 ≤ opened → opened ≤ 65 → BeginsExpression ts → opened + first_over ts ≤ 65 → ContinuesInside opened ts
 goes zero ts l k b d = absurd (omega arith)
 goes (suc m) ts l k b d = (b.0, b.1, b.2, λ text before speaks o. continued text before o (b.3 text speaks))
   where
@@ -158,7 +158,7 @@ goes (suc m) ts l k b d = (b.0, b.1, b.2, λ text before speaks o. continued tex
         let w = n.high in
         record { more = x.more ++ closing (suc m); has = has_condition 1 text (before ++ b.0 ∷ (x.more ++ closing (suc m))) n.tree n.is (omega arith) }
 
-pub goes_type : (opened : ℕ) (ts : List Token) → 2 ≤ opened → opened ≤ 65 → front ts ≡ 7 → GoesInside opened ts
+pub goes_type : (opened : ℕ) (ts : List Token) → 2 ≤ opened → opened ≤ 65 → front ts ≡ 7 → ContinuesInside opened ts
 goes_type opened [] l k h = absurd (omega arith)
 goes_type zero (t ∷ ts) l k h = absurd (omega arith)
 goes_type (suc zero) (t ∷ ts) l k h = absurd (omega arith)

@@ -8,18 +8,19 @@ use Rattle.c_lex.specs.declared.token.Kind.TheVariants as kinds
 use Rattle.c_lex.specs.declared.token.Token.{Token}
 use Rattle.c_syntax.specs.Faults.{Family, Alike, SameFirst, place, Able, Onward, Failed, Wraps}
 use Rattle.c_syntax.specs.Tokens.{token, IsKind, IsKeyword, HasPunctuator}
-use Rattle.c_syntax.proofs.Failing.{append_append, append_nothing, alike_inner, first_behind, wrapped}
+use Rattle.c_syntax.proofs.Failing.{append_append, append_nothing, alike_inner, first_after, wrapped}
 use Rattle.c_syntax.proofs.Moves.{Moves}
+use Rattle.c_syntax.specs.Limits.{Number, order}
 use Rattle.c_parse_expr.specs.declared.refusal.ParseErr.{ParseErr}
 use Rattle.c_parse_expr.specs.declared.refusal.ParseErr.TheVariants.{Unexpected, TooDeep, TooMany, Memory}
-use Rattle.c_parse_expr.specs.Refusals.{number, Placed}
+use Rattle.c_parse_expr.specs.Refusals.{Placed}
 
 -- ---- refusals
 
 pub placed : (e : ParseErr) (No Has No' Has' : Family) (text : List ℕ) (ts ts' : List Token) → Wraps No Has No' Has' text ts ts' → Placed e No Has text ts → Placed e No' Has' text ts'
 placed (Unexpected at) No Has No' Has' text ts ts' w f = wrapped No Has No' Has' 0 at text ts ts' w f
 placed (TooDeep at) No Has No' Has' text ts ts' w f = wrapped No Has No' Has' 1 at text ts ts' w f
-placed (TooMany at what) No Has No' Has' text ts ts' w f = wrapped No Has No' Has' (number what) at text ts ts' w f
+placed (TooMany at what) No Has No' Has' text ts ts' w f = wrapped No Has No' Has' (order (Number what)) at text ts ts' w f
 placed Memory No Has No' Has' text ts ts' w f = tt
 
 pub placed_so : {A : Type 0} (r : Result A ParseErr) (No Has No' Has' : Family) (text : List ℕ) (ts ts' : List Token) → Wraps No Has No' Has' text ts ts' → IfErr r (λ e. Placed e No Has text ts) → IfErr r (λ e. Placed e No' Has' text ts')
@@ -93,7 +94,7 @@ wraps_wraps A B A' B' A'' B'' text ts ts' ts'' v w = record {
   split = w.split ∙ ap (λ (z : List Token). w.before ++ z) v.split ∙ sym (append_append w.before v.before ts);
   no = λ n text' other h s none.
       subst (λ (z : List Token). A'' n text' z) (sym (append_append w.before v.before other))
-      (w.no n text' (v.before ++ other) h (subst (λ (z : List Token). SameFirst z (v.before ++ other)) (sym v.split) (first_behind v.before ts other s))
+      (w.no n text' (v.before ++ other) h (subst (λ (z : List Token). SameFirst z (v.before ++ other)) (sym v.split) (first_after v.before ts other s))
       (v.no n text' other (alike_inner text text' w.before ts' ts'' w.split h) s none));
   has = λ n text' inner h k has.
       let a = v.has n text' inner (alike_inner text text' w.before ts' ts'' w.split h) k has in

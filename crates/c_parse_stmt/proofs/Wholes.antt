@@ -17,7 +17,7 @@ use Rattle.c_syntax.proofs.Blocks.{condition, optional, first, place, word, abse
 use Rattle.c_parse_stmt.specs.declared.left.Left.{Left}
 use Rattle.c_parse_stmt.specs.Filters.{numbers_of, NoFilter}
 use Rattle.c_parse_stmt.specs.Parts.{IsUpTo, NoCondition, NoneUpTo, NoForInitialiser}
-use Rattle.c_parse_stmt.specs.Within.{AllWithin, AllTaken, NoBlockItems, Within, Reads, NoStatement, NoEvaluation, Behind}
+use Rattle.c_parse_stmt.specs.Within.{AllWithin, AllTaken, NoBlockItems, Within, Reads, NoStatement, NoEvaluation, AfterKeyword}
 use Rattle.c_parse_stmt.proofs.Tails.{IsBraced, AfterIf, AfterIfElse, AfterExcept, AfterFinally, after_if, after_while, after_do, after_for, after_return, after_break, after_continue, after_leave, after_try, after_brace}
 
 abbrev Fits : ℕ → List ℕ → ℕ → Left → Statement → Type 0
@@ -42,23 +42,23 @@ after_condition text c d a b e h g = (condition text c d a a b e refl h g).1
 
 -- ---- `while`
 
-pub while_found : (text : List ℕ) (room less at : ℕ) (left after : Left) (c : Expression) (z : Statement) (a b rest : List Token) → less + 1 ≡ room → IsCondition text c a b → height c ≤ 64 → Reads text less left after z b rest → Behind keywords.While at a (λ ts. Reads text room left after (While at c z) ts rest)
+pub while_found : (text : List ℕ) (room less at : ℕ) (left after : Left) (c : Expression) (z : Statement) (a b rest : List Token) → less + 1 ≡ room → IsCondition text c a b → height c ≤ 64 → Reads text less left after z b rest → AfterKeyword keywords.While at a (λ ts. Reads text room left after (While at c z) ts rest)
 while_found text room less at left after c z a b rest n is low r ts k =
     let t = r.taken in let o = t.statements in let x = t.expressions in
     record { is = (a, b, k, is, r.statement, r.is); statement = refl; closed = r.closed; taken = record { statements = omega arith; expressions = omega arith; locals = t.locals; funclets = t.funclets } }
 
-pub no_while_room : (limits : ℕ) (text : List ℕ) (room at : ℕ) (left : Left) (a : List Token) → 1 ≤ limits → room ≡ 0 → Behind keywords.While at a (NoStatement room left limits text)
+pub no_while_room : (limits : ℕ) (text : List ℕ) (room at : ℕ) (left : Left) (a : List Token) → 1 ≤ limits → room ≡ 0 → AfterKeyword keywords.While at a (NoStatement room left limits text)
 no_while_room limits text room at left a i n ts k s end h d c w =
     let t = after_while text at s ts a end k h in
     let v = fits limits text room left s (While at t.0 t.1) t.3 w in let o = v.statements (omega arith) in absurd (omega arith)
 
-pub no_while_condition : (limits : ℕ) (text : List ℕ) (room at : ℕ) (left : Left) (a : List Token) → NoCondition limits text a → Behind keywords.While at a (NoStatement room left limits text)
+pub no_while_condition : (limits : ℕ) (text : List ℕ) (room at : ℕ) (left : Left) (a : List Token) → NoCondition limits text a → AfterKeyword keywords.While at a (NoStatement room left limits text)
 no_while_condition limits text room at left a none ts k s end h d c w =
     let t = after_while text at s ts a end k h in
     let v = fits limits text room left s (While at t.0 t.1) t.3 w in
     none t.0 t.2 t.4 (λ lim. let o = v.expressions lim in omega arith)
 
-pub no_while_body : (limits : ℕ) (text : List ℕ) (room less at : ℕ) (left : Left) (e : Expression) (a b : List Token) → less + 1 ≡ room → IsCondition text e a b → NoStatement less left limits text b → Behind keywords.While at a (NoStatement room left limits text)
+pub no_while_body : (limits : ℕ) (text : List ℕ) (room less at : ℕ) (left : Left) (e : Expression) (a b : List Token) → less + 1 ≡ room → IsCondition text e a b → NoStatement less left limits text b → AfterKeyword keywords.While at a (NoStatement room left limits text)
 no_while_body limits text room less at left e a b n is none ts k s end h d c w =
     let t = after_while text at s ts a end k h in
     let v = fits limits text room left s (While at t.0 t.1) t.3 w in
@@ -67,21 +67,21 @@ no_while_body limits text room less at left e a b n is none ts k s end h d c w =
 
 -- ---- `if`
 
-pub no_if_room : (limits : ℕ) (text : List ℕ) (room at : ℕ) (left : Left) (a : List Token) → 1 ≤ limits → room ≡ 0 → Behind keywords.If at a (NoStatement room left limits text)
+pub no_if_room : (limits : ℕ) (text : List ℕ) (room at : ℕ) (left : Left) (a : List Token) → 1 ≤ limits → room ≡ 0 → AfterKeyword keywords.If at a (NoStatement room left limits text)
 no_if_room limits text room at left a i n ts k s end h d c w = by (after_if text at s ts a end k h)
   where
     by : (AfterIf text at s a end ⊎ AfterIfElse text at s a end) → ⊥
     by (inl t) = let v = fits limits text room left s (If at t.0 t.1) t.3 w in let o = v.statements (omega arith) in absurd (omega arith)
     by (inr t) = let v = fits limits text room left s (IfElse at t.0 t.1 t.2) t.6 w in let o = v.statements (omega arith) in absurd (omega arith)
 
-pub no_if_condition : (limits : ℕ) (text : List ℕ) (room at : ℕ) (left : Left) (a : List Token) → NoCondition limits text a → Behind keywords.If at a (NoStatement room left limits text)
+pub no_if_condition : (limits : ℕ) (text : List ℕ) (room at : ℕ) (left : Left) (a : List Token) → NoCondition limits text a → AfterKeyword keywords.If at a (NoStatement room left limits text)
 no_if_condition limits text room at left a none ts k s end h d c w = by (after_if text at s ts a end k h)
   where
     by : (AfterIf text at s a end ⊎ AfterIfElse text at s a end) → ⊥
     by (inl t) = let v = fits limits text room left s (If at t.0 t.1) t.3 w in none t.0 t.2 t.4 (λ lim. let o = v.expressions lim in omega arith)
     by (inr t) = let v = fits limits text room left s (IfElse at t.0 t.1 t.2) t.6 w in none t.0 t.3 t.7 (λ lim. let o = v.expressions lim in omega arith)
 
-pub no_then : (limits : ℕ) (text : List ℕ) (room less at : ℕ) (left : Left) (e : Expression) (a b : List Token) → less + 1 ≡ room → IsCondition text e a b → NoStatement less left limits text b → Behind keywords.If at a (NoStatement room left limits text)
+pub no_then : (limits : ℕ) (text : List ℕ) (room less at : ℕ) (left : Left) (e : Expression) (a b : List Token) → less + 1 ≡ room → IsCondition text e a b → NoStatement less left limits text b → AfterKeyword keywords.If at a (NoStatement room left limits text)
 no_then limits text room less at left e a b n is none ts k s end h d c w = by (after_if text at s ts a end k h)
   where
     by : (AfterIf text at s a end ⊎ AfterIfElse text at s a end) → ⊥
@@ -95,7 +95,7 @@ no_then limits text room less at left e a b n is none ts k s end h d c w = by (a
         let p = after_condition text e t.0 a b t.3 is t.7 in
         none t.1 t.4 (subst (λ (y : List Token). IsBlockItem text t.1 y t.4) (sym p) t.10) t.8 (absent t.1 t.4 t.9) (record { statements = λ lim. let o = v.statements lim in omega arith; expressions = λ lim. let o = v.expressions lim in omega arith; locals = λ lim. let o = v.locals lim in omega arith; funclets = λ lim. let o = v.funclets lim in omega (arith, length-append {A = ℕ}) })
 
-pub no_otherwise : (limits : ℕ) (text : List ℕ) (room less at : ℕ) (left mid : Left) (e : Expression) (z : Statement) (a b j g : List Token) → less + 1 ≡ room → IsCondition text e a b → Reads text less left mid z b j → HasKeyword keywords.Else j g → NoStatement less mid limits text g → Behind keywords.If at a (NoStatement room left limits text)
+pub no_otherwise : (limits : ℕ) (text : List ℕ) (room less at : ℕ) (left mid : Left) (e : Expression) (z : Statement) (a b j g : List Token) → less + 1 ≡ room → IsCondition text e a b → Reads text less left mid z b j → HasKeyword keywords.Else j g → NoStatement less mid limits text g → AfterKeyword keywords.If at a (NoStatement room left limits text)
 no_otherwise limits text room less at left mid e z a b j g n is r els none ts k s end h d c w = by (after_if text at s ts a end k h)
   where
     by : (AfterIf text at s a end ⊎ AfterIfElse text at s a end) → ⊥
@@ -114,7 +114,7 @@ no_otherwise limits text room less at left mid e z a b j g n is r els none ts k 
         let m1 = ap (λ (y : Statement). length (numbered text y)) u.0 in
         none t.2 end (subst (λ (y : List Token). IsBlockItem text t.2 y end) (sym q) t.13) t.12 (closed_as s (IfElse at t.0 t.1 t.2) end t.6 c) (record { statements = λ lim. let o = v.statements lim in omega arith; expressions = λ lim. let o = v.expressions lim in omega arith; locals = λ lim. let o = v.locals lim in omega arith; funclets = λ lim. let o = v.funclets lim in omega (arith, length-append {A = ℕ}) })
 
-pub if_found : (text : List ℕ) (room less at : ℕ) (left after : Left) (c : Expression) (z : Statement) (a b rest : List Token) → less + 1 ≡ room → IsCondition text c a b → height c ≤ 64 → Reads text less left after z b rest → NoElse rest → Behind keywords.If at a (λ ts. Reads text room left after (If at c z) ts rest)
+pub if_found : (text : List ℕ) (room less at : ℕ) (left after : Left) (c : Expression) (z : Statement) (a b rest : List Token) → less + 1 ≡ room → IsCondition text c a b → height c ≤ 64 → Reads text less left after z b rest → NoElse rest → AfterKeyword keywords.If at a (λ ts. Reads text room left after (If at c z) ts rest)
 if_found text room less at left after c z a b rest n is low r f ts k =
     let t = r.taken in let o = t.statements in let x = t.expressions in
     record { is = (a, b, k, is, r.statement, r.is); statement = refl; closed = λ i. f; taken = record { statements = omega arith; expressions = omega arith; locals = t.locals; funclets = t.funclets } }
@@ -123,7 +123,7 @@ pub not_dangling : (b : Bool) → (IsTrue b → ⊥) → IsFalse b
 not_dangling true h = absurd (h refl)
 not_dangling false h = refl
 
-pub if_else_found : (text : List ℕ) (room less at : ℕ) (left mid after : Left) (c : Expression) (z y : Statement) (a b d e rest : List Token) → less + 1 ≡ room → IsCondition text c a b → height c ≤ 64 → Reads text less left mid z b d → HasKeyword keywords.Else d e → Reads text less mid after y e rest → Behind keywords.If at a (λ ts. Reads text room left after (IfElse at c z y) ts rest)
+pub if_else_found : (text : List ℕ) (room less at : ℕ) (left mid after : Left) (c : Expression) (z y : Statement) (a b d e rest : List Token) → less + 1 ≡ room → IsCondition text c a b → height c ≤ 64 → Reads text less left mid z b d → HasKeyword keywords.Else d e → Reads text less mid after y e rest → AfterKeyword keywords.If at a (λ ts. Reads text room left after (IfElse at c z y) ts rest)
 if_else_found text room less at left mid after c z y a b d e rest n is low r els q ts k =
     let t = r.taken in let o = t.statements in let x = t.expressions in let l = t.locals in let m = t.funclets in
     let u = q.taken in let o' = u.statements in let x' = u.expressions in let l' = u.locals in let m' = u.funclets in
@@ -136,24 +136,24 @@ if_else_found text room less at left mid after c z y a b d e rest n is low r els
 
 -- ---- `do`
 
-pub no_do_room : (limits : ℕ) (text : List ℕ) (room at : ℕ) (left : Left) (a : List Token) → 1 ≤ limits → room ≡ 0 → Behind keywords.Do at a (NoStatement room left limits text)
+pub no_do_room : (limits : ℕ) (text : List ℕ) (room at : ℕ) (left : Left) (a : List Token) → 1 ≤ limits → room ≡ 0 → AfterKeyword keywords.Do at a (NoStatement room left limits text)
 no_do_room limits text room at left a i n ts k s end h d c w =
     let t = after_do text at s ts a end k h in
     let v = fits limits text room left s (DoWhile t.0 t.1 t.2) t.6 w in let o = v.statements (omega arith) in absurd (omega arith)
 
-pub no_do_body : (limits : ℕ) (text : List ℕ) (room less at : ℕ) (left : Left) (a : List Token) → less + 1 ≡ room → NoStatement less left limits text a → Behind keywords.Do at a (NoStatement room left limits text)
+pub no_do_body : (limits : ℕ) (text : List ℕ) (room less at : ℕ) (left : Left) (a : List Token) → less + 1 ≡ room → NoStatement less left limits text a → AfterKeyword keywords.Do at a (NoStatement room left limits text)
 no_do_body limits text room less at left a n none ts k s end h d c w =
     let t = after_do text at s ts a end k h in
     let v = fits limits text room left s (DoWhile t.0 t.1 t.2) t.6 w in
     none t.0 t.3 t.8 t.7 (λ i. while_else t.1 t.3 t.4 t.9) (record { statements = λ lim. let o = v.statements lim in omega arith; expressions = λ lim. let o = v.expressions lim in omega arith; locals = v.locals; funclets = v.funclets })
 
-pub no_do_while : (limits : ℕ) (text : List ℕ) (room less at : ℕ) (left mid : Left) (z : Statement) (a b : List Token) → Reads text less left mid z a b → ((rest : List Token) → HasKeyword keywords.While b rest → ⊥) → Behind keywords.Do at a (NoStatement room left limits text)
+pub no_do_while : (limits : ℕ) (text : List ℕ) (room less at : ℕ) (left mid : Left) (z : Statement) (a b : List Token) → Reads text less left mid z a b → ((rest : List Token) → HasKeyword keywords.While b rest → ⊥) → AfterKeyword keywords.Do at a (NoStatement room left limits text)
 no_do_while limits text room less at left mid z a b r none ts k s end h d c w =
     let t = after_do text at s ts a end k h in
     let p = (one_statement text z t.0 a b t.3 r.is t.8 r.closed (λ i. while_else t.1 t.3 t.4 t.9)).1 in
     none t.4 (subst (λ (y : List Token). HasKeyword keywords.While y t.4) (sym p) (t.1, t.9))
 
-pub no_do_condition : (limits : ℕ) (text : List ℕ) (room less at p : ℕ) (left mid : Left) (z : Statement) (a b j : List Token) → Reads text less left mid z a b → IsKeyword keywords.While p b j → NoCondition limits text j → Behind keywords.Do at a (NoStatement room left limits text)
+pub no_do_condition : (limits : ℕ) (text : List ℕ) (room less at p : ℕ) (left mid : Left) (z : Statement) (a b j : List Token) → Reads text less left mid z a b → IsKeyword keywords.While p b j → NoCondition limits text j → AfterKeyword keywords.Do at a (NoStatement room left limits text)
 no_do_condition limits text room less at p left mid z a b j r kw none ts k s end h d c w =
     let t = after_do text at s ts a end k h in
     let v = fits limits text room left s (DoWhile t.0 t.1 t.2) t.6 w in
@@ -161,7 +161,7 @@ no_do_condition limits text room less at p left mid z a b j r kw none ts k s end
     let u = place keywords.While p t.1 b t.3 j t.4 q kw t.9 in
     none t.2 t.5 (subst (λ (y : List Token). IsCondition text t.2 y t.5) (sym u.1) t.10) (λ lim. let o = v.expressions lim in omega arith)
 
-pub no_do_end : (limits : ℕ) (text : List ℕ) (room less at p : ℕ) (left mid : Left) (z : Statement) (e : Expression) (a b j g : List Token) → Reads text less left mid z a b → IsKeyword keywords.While p b j → IsCondition text e j g → Lacks punctuators.Semicolon g → Behind keywords.Do at a (NoStatement room left limits text)
+pub no_do_end : (limits : ℕ) (text : List ℕ) (room less at p : ℕ) (left mid : Left) (z : Statement) (e : Expression) (a b j g : List Token) → Reads text less left mid z a b → IsKeyword keywords.While p b j → IsCondition text e j g → Lacks punctuators.Semicolon g → AfterKeyword keywords.Do at a (NoStatement room left limits text)
 no_do_end limits text room less at p left mid z e a b j g r kw is none ts k s end h d c w =
     let t = after_do text at s ts a end k h in
     let q = (one_statement text z t.0 a b t.3 r.is t.8 r.closed (λ i. while_else t.1 t.3 t.4 t.9)).1 in
@@ -169,7 +169,7 @@ no_do_end limits text room less at p left mid z e a b j g r kw is none ts k s en
     let v = condition text e t.2 j t.4 g t.5 u.1 is t.10 in
     none end (subst (λ (y : List Token). HasPunctuator punctuators.Semicolon y end) (sym v.1) t.11)
 
-pub do_found : (text : List ℕ) (room less at p : ℕ) (left after : Left) (z : Statement) (c : Expression) (a b d e rest : List Token) → less + 1 ≡ room → Reads text less left after z a b → IsKeyword keywords.While p b d → IsCondition text c d e → height c ≤ 64 → HasPunctuator punctuators.Semicolon e rest → Behind keywords.Do at a (λ ts. Reads text room left after (DoWhile z p c) ts rest)
+pub do_found : (text : List ℕ) (room less at p : ℕ) (left after : Left) (z : Statement) (c : Expression) (a b d e rest : List Token) → less + 1 ≡ room → Reads text less left after z a b → IsKeyword keywords.While p b d → IsCondition text c d e → height c ≤ 64 → HasPunctuator punctuators.Semicolon e rest → AfterKeyword keywords.Do at a (λ ts. Reads text room left after (DoWhile z p c) ts rest)
 do_found text room less at p left after z c a b d e rest n r kw is low semi ts k =
     let t = r.taken in let o = t.statements in let x = t.expressions in
     record { is = (a, b, d, e, (at, k), r.statement, r.is, kw, is, semi); statement = refl; closed = λ i. absurd cc; taken = record { statements = omega arith; expressions = omega arith; locals = t.locals; funclets = t.funclets } }
@@ -185,10 +185,10 @@ evaluated text room left e ts rest is low over = record { is = is; statement = r
 pub no_evaluation : (limits : ℕ) (text : List ℕ) (room : ℕ) (left : Left) (ts : List Token) → NoneUpTo punctuators.Semicolon room limits text ts → NoEvaluation room left limits text ts
 no_evaluation limits text room left ts none e end h w = none e end h w.expressions w.statements
 
-pub returned : (text : List ℕ) (room at : ℕ) (left : Left) (e : Option Expression) (a rest : List Token) → IsUpTo text punctuators.Semicolon e a rest → height_of e ≤ 64 → one_over e ≤ room → Behind keywords.Return at a (λ ts. Reads text room left left (Return at e) ts rest)
+pub returned : (text : List ℕ) (room at : ℕ) (left : Left) (e : Option Expression) (a rest : List Token) → IsUpTo text punctuators.Semicolon e a rest → height_of e ≤ 64 → one_over e ≤ room → AfterKeyword keywords.Return at a (λ ts. Reads text room left left (Return at e) ts rest)
 returned text room at left e a rest is low over ts k = record { is = (a, is.0, k, is.1, is.2); statement = refl; closed = λ i. absurd cc; taken = record { statements = over; expressions = low; locals = omega arith; funclets = omega arith } }
 
-pub no_return : (limits : ℕ) (text : List ℕ) (room at : ℕ) (left : Left) (a : List Token) → NoneUpTo punctuators.Semicolon room limits text a → Behind keywords.Return at a (NoStatement room left limits text)
+pub no_return : (limits : ℕ) (text : List ℕ) (room at : ℕ) (left : Left) (a : List Token) → NoneUpTo punctuators.Semicolon room limits text a → AfterKeyword keywords.Return at a (NoStatement room left limits text)
 no_return limits text room at left a none ts k s end h d c w =
     let t = after_return text at s ts a end k h in
     let v = fits limits text room left s (Return at t.0) t.1 w in
@@ -214,15 +214,15 @@ no_leave limits text room at left ts a k none s end h d c w = none end (after_le
 
 -- ---- `for`
 
-pub no_for_room : (limits : ℕ) (text : List ℕ) (room at : ℕ) (left : Left) (a : List Token) → 1 ≤ limits → room ≡ 0 → Behind keywords.For at a (NoStatement room left limits text)
+pub no_for_room : (limits : ℕ) (text : List ℕ) (room at : ℕ) (left : Left) (a : List Token) → 1 ≤ limits → room ≡ 0 → AfterKeyword keywords.For at a (NoStatement room left limits text)
 no_for_room limits text room at left a i n ts k s end h d c w =
     let t = after_for text at s ts a end k h in
     let v = fits limits text room left s (For at t.0 t.1 t.2 t.3) t.8 w in let o = v.statements (omega arith) in absurd (omega arith)
 
-pub no_for_open : (limits : ℕ) (text : List ℕ) (room at : ℕ) (left : Left) (a : List Token) → Lacks punctuators.OpenParenthesis a → Behind keywords.For at a (NoStatement room left limits text)
+pub no_for_open : (limits : ℕ) (text : List ℕ) (room at : ℕ) (left : Left) (a : List Token) → Lacks punctuators.OpenParenthesis a → AfterKeyword keywords.For at a (NoStatement room left limits text)
 no_for_open limits text room at left a none ts k s end h d c w = let t = after_for text at s ts a end k h in none t.4 t.9
 
-pub no_for_initialiser : (limits : ℕ) (text : List ℕ) (room at : ℕ) (left : Left) (a b : List Token) → HasPunctuator punctuators.OpenParenthesis a b → NoForInitialiser left.locals limits text b → Behind keywords.For at a (NoStatement room left limits text)
+pub no_for_initialiser : (limits : ℕ) (text : List ℕ) (room at : ℕ) (left : Left) (a b : List Token) → HasPunctuator punctuators.OpenParenthesis a b → NoForInitialiser left.locals limits text b → AfterKeyword keywords.For at a (NoStatement room left limits text)
 no_for_initialiser limits text room at left a b o none ts k s end h d c w =
     let t = after_for text at s ts a end k h in
     let v = fits limits text room left s (For at t.0 t.1 t.2 t.3) t.8 w in
@@ -244,14 +244,14 @@ some_over : (e : Option Expression) → one_over e ≤ 1
 some_over None = omega arith
 some_over (Some e) = omega arith
 
-pub no_for_condition : (limits : ℕ) (text : List ℕ) (room at : ℕ) (left mid : Left) (f : ForInitialiser) (a b e : List Token) → Started text left mid f a b e → NoneUpTo punctuators.Semicolon 1 limits text e → Behind keywords.For at a (NoStatement room left limits text)
+pub no_for_condition : (limits : ℕ) (text : List ℕ) (room at : ℕ) (left mid : Left) (f : ForInitialiser) (a b e : List Token) → Started text left mid f a b e → NoneUpTo punctuators.Semicolon 1 limits text e → AfterKeyword keywords.For at a (NoStatement room left limits text)
 no_for_condition limits text room at left mid f a b e st none ts k s end h d c w =
     let t = after_for text at s ts a end k h in
     let v = fits limits text room left s (For at t.0 t.1 t.2 t.3) t.8 w in
     let p = after_first text left mid f t.0 a b e t.4 t.5 st t.9 t.10 in
     none t.1 t.6 (subst (λ (y : List Token). IsUpTo text punctuators.Semicolon t.1 y t.6) (sym p.1) t.11) (λ lim. let o = v.expressions lim in omega arith) (λ i. some_over t.1)
 
-pub no_for_next : (limits : ℕ) (text : List ℕ) (room at : ℕ) (left mid : Left) (f : ForInitialiser) (m : Option Expression) (a b e g : List Token) → Started text left mid f a b e → IsUpTo text punctuators.Semicolon m e g → NoneUpTo punctuators.CloseParenthesis 1 limits text g → Behind keywords.For at a (NoStatement room left limits text)
+pub no_for_next : (limits : ℕ) (text : List ℕ) (room at : ℕ) (left mid : Left) (f : ForInitialiser) (m : Option Expression) (a b e g : List Token) → Started text left mid f a b e → IsUpTo text punctuators.Semicolon m e g → NoneUpTo punctuators.CloseParenthesis 1 limits text g → AfterKeyword keywords.For at a (NoStatement room left limits text)
 no_for_next limits text room at left mid f m a b e g st is none ts k s end h d c w =
     let t = after_for text at s ts a end k h in
     let v = fits limits text room left s (For at t.0 t.1 t.2 t.3) t.8 w in
@@ -259,7 +259,7 @@ no_for_next limits text room at left mid f m a b e g st is none ts k s end h d c
     let q = up_to text punctuators.Semicolon m t.1 e t.5 g t.6 p.1 (omega arith) refl is t.11 in
     none t.2 t.7 (subst (λ (y : List Token). IsUpTo text punctuators.CloseParenthesis t.2 y t.7) (sym q) t.12) (λ lim. let o = v.expressions lim in omega arith) (λ i. some_over t.2)
 
-pub no_for_body : (limits : ℕ) (text : List ℕ) (room less at : ℕ) (left mid : Left) (f : ForInitialiser) (m n : Option Expression) (a b e g j : List Token) → less + 1 ≡ room → Started text left mid f a b e → IsUpTo text punctuators.Semicolon m e g → IsUpTo text punctuators.CloseParenthesis n g j → NoStatement less mid limits text j → Behind keywords.For at a (NoStatement room left limits text)
+pub no_for_body : (limits : ℕ) (text : List ℕ) (room less at : ℕ) (left mid : Left) (f : ForInitialiser) (m n : Option Expression) (a b e g j : List Token) → less + 1 ≡ room → Started text left mid f a b e → IsUpTo text punctuators.Semicolon m e g → IsUpTo text punctuators.CloseParenthesis n g j → NoStatement less mid limits text j → AfterKeyword keywords.For at a (NoStatement room left limits text)
 no_for_body limits text room less at left mid f m n a b e g j i st is is' none ts k s end h d c w =
     let t = after_for text at s ts a end k h in
     let v = fits limits text room left s (For at t.0 t.1 t.2 t.3) t.8 w in
@@ -270,7 +270,7 @@ no_for_body limits text room less at left mid f m n a b e g j i st is is' none t
     let z = st.locals in let z' = st.funclets in
     none t.3 end (subst (λ (y : List Token). IsBlockItem text t.3 y end) (sym r) t.14) t.13 (closed_as s (For at t.0 t.1 t.2 t.3) end t.8 c) (record { statements = λ lim. let o = v.statements lim in omega arith; expressions = λ lim. let o = v.expressions lim in omega arith; locals = λ lim. let o = v.locals lim in omega arith; funclets = λ lim. let o = v.funclets lim in omega (arith, length-append {A = ℕ}) })
 
-pub for_found : (text : List ℕ) (room less at : ℕ) (left mid after : Left) (f : ForInitialiser) (m n : Option Expression) (z : Statement) (a b e g j rest : List Token) → less + 1 ≡ room → Started text left mid f a b e → IsUpTo text punctuators.Semicolon m e g → height_of m ≤ 64 → IsUpTo text punctuators.CloseParenthesis n g j → height_of n ≤ 64 → Reads text less mid after z j rest → Behind keywords.For at a (λ ts. Reads text room left after (For at f m n z) ts rest)
+pub for_found : (text : List ℕ) (room less at : ℕ) (left mid after : Left) (f : ForInitialiser) (m n : Option Expression) (z : Statement) (a b e g j rest : List Token) → less + 1 ≡ room → Started text left mid f a b e → IsUpTo text punctuators.Semicolon m e g → height_of m ≤ 64 → IsUpTo text punctuators.CloseParenthesis n g j → height_of n ≤ 64 → Reads text less mid after z j rest → AfterKeyword keywords.For at a (λ ts. Reads text room left after (For at f m n z) ts rest)
 for_found text room less at left mid after f m n z a b e g j rest i st is low is' low' r ts k =
     let t = r.taken in let o = t.statements in let x = t.expressions in let l = t.locals in let u = t.funclets in
     let y = st.low in let v = st.locals in let v' = st.funclets in
@@ -299,14 +299,14 @@ pub number_length : (b : Bool) (at : ℕ) → length (cond b [] (at ∷ [])) ≡
 number_length true at = refl
 number_length false at = refl
 
-pub no_try : (limits : ℕ) (text : List ℕ) (room at : ℕ) (left : Left) (a : List Token) → 6 ≤ limits → room ≡ 0 → left.funclets ≡ 0 → Behind keywords.Try at a (NoStatement room left limits text)
+pub no_try : (limits : ℕ) (text : List ℕ) (room at : ℕ) (left : Left) (a : List Token) → 6 ≤ limits → room ≡ 0 → left.funclets ≡ 0 → AfterKeyword keywords.Try at a (NoStatement room left limits text)
 no_try limits text room at left a i n m ts k s end h d c w = by (after_try text at s ts a end k h)
   where
     by : (AfterExcept text s a end ⊎ AfterFinally text s a end) → ⊥
     by (inl t) = let v = fits limits text room left s (TryExcept t.0 t.1 t.2 t.3) t.7 w in let o = v.statements (omega arith) in absurd (omega arith)
     by (inr t) = let v = fits limits text room left s (TryFinally t.0 t.1 t.2) t.5 w in let o = v.funclets i in absurd (omega (arith, length-append {A = ℕ}))
 
-pub no_try_body : (limits : ℕ) (text : List ℕ) (room at : ℕ) (left : Left) (a : List Token) → NoneBraced room left limits text a → Behind keywords.Try at a (NoStatement room left limits text)
+pub no_try_body : (limits : ℕ) (text : List ℕ) (room at : ℕ) (left : Left) (a : List Token) → NoneBraced room left limits text a → AfterKeyword keywords.Try at a (NoStatement room left limits text)
 no_try_body limits text room at left a none ts k s end h d c w = by (after_try text at s ts a end k h)
   where
     by : (AfterExcept text s a end ⊎ AfterFinally text s a end) → ⊥
@@ -327,14 +327,14 @@ not_except text body p s a b j end is kw t =
     let u = after_braces text body t.0 a b t.4 is t.8 in
     let e : keywords.Finally ≡ keywords.Except = (keyword_same keywords.Finally keywords.Except b t.4 j t.5 u.1 (p, kw) (t.1, t.9)).0 in cc
 
-pub no_except_room : (limits : ℕ) (text : List ℕ) (room at p : ℕ) (left : Left) (body : Statements) (a b j : List Token) → 1 ≤ limits → room ≡ 0 → IsBraced text body a b → IsKeyword keywords.Except p b j → Behind keywords.Try at a (NoStatement room left limits text)
+pub no_except_room : (limits : ℕ) (text : List ℕ) (room at p : ℕ) (left : Left) (body : Statements) (a b j : List Token) → 1 ≤ limits → room ≡ 0 → IsBraced text body a b → IsKeyword keywords.Except p b j → AfterKeyword keywords.Try at a (NoStatement room left limits text)
 no_except_room limits text room at p left body a b j i n is kw ts k s end h d c w = by (after_try text at s ts a end k h)
   where
     by : (AfterExcept text s a end ⊎ AfterFinally text s a end) → ⊥
     by (inl t) = let v = fits limits text room left s (TryExcept t.0 t.1 t.2 t.3) t.7 w in let o = v.statements (omega arith) in absurd (omega arith)
     by (inr t) = not_finally text body p s a b j end is kw t
 
-pub no_filter : (limits : ℕ) (text : List ℕ) (room at p : ℕ) (left mid : Left) (body : Statements) (a b j : List Token) → IsBraced text body a b → AllTaken text room left mid body → IsKeyword keywords.Except p b j → NoFilter mid.funclets limits text j → Behind keywords.Try at a (NoStatement room left limits text)
+pub no_filter : (limits : ℕ) (text : List ℕ) (room at p : ℕ) (left mid : Left) (body : Statements) (a b j : List Token) → IsBraced text body a b → AllTaken text room left mid body → IsKeyword keywords.Except p b j → NoFilter mid.funclets limits text j → AfterKeyword keywords.Try at a (NoStatement room left limits text)
 no_filter limits text room at p left mid body a b j is tk kw none ts k s end h d c w = by (after_try text at s ts a end k h)
   where
     by : (AfterExcept text s a end ⊎ AfterFinally text s a end) → ⊥
@@ -348,7 +348,7 @@ no_filter limits text room at p left mid body a b j is tk kw none ts k s end h d
         none t.2 t.6 (subst (λ (i : List Token). IsCondition text t.2 i t.6) (sym q.1) t.10) (λ lim. let o = v.expressions lim in omega arith) (λ lim. let o = v.funclets lim in omega (arith, length-append {A = ℕ}))
     by (inr t) = not_finally text body p s a b j end is kw t
 
-pub no_handler : (limits : ℕ) (text : List ℕ) (room at p : ℕ) (left mid next : Left) (body : Statements) (f : Expression) (a b j g : List Token) → IsBraced text body a b → AllTaken text room left mid body → IsKeyword keywords.Except p b j → IsCondition text f j g → next.funclets + numbers_of (accepts text f) ≡ mid.funclets → next.locals ≡ mid.locals → NoneBraced room next limits text g → Behind keywords.Try at a (NoStatement room left limits text)
+pub no_handler : (limits : ℕ) (text : List ℕ) (room at p : ℕ) (left mid next : Left) (body : Statements) (f : Expression) (a b j g : List Token) → IsBraced text body a b → AllTaken text room left mid body → IsKeyword keywords.Except p b j → IsCondition text f j g → next.funclets + numbers_of (accepts text f) ≡ mid.funclets → next.locals ≡ mid.locals → NoneBraced room next limits text g → AfterKeyword keywords.Try at a (NoStatement room left limits text)
 no_handler limits text room at p left mid next body f a b j g is tk kw cn nx ny none ts k s end h d c w = by (after_try text at s ts a end k h)
   where
     by : (AfterExcept text s a end ⊎ AfterFinally text s a end) → ⊥
@@ -365,7 +365,7 @@ no_handler limits text room at p left mid next body f a b j g is tk kw cn nx ny 
         none t.3 end (subst (λ (i : List Token). IsBraced text t.3 i end) (sym r.1) t.11) (record { statements = λ lim. let o = v.statements lim in omega arith; expressions = λ lim. let o = v.expressions lim in omega arith; locals = λ lim. let o = v.locals lim in omega arith; funclets = λ lim. let o = v.funclets lim in omega (arith, length-append {A = ℕ}) })
     by (inr t) = not_finally text body p s a b j end is kw t
 
-pub except_found : (text : List ℕ) (room at p : ℕ) (left mid next after : Left) (body handler : Statements) (f : Expression) (a b j g rest : List Token) → 1 ≤ room → IsBraced text body a b → AllTaken text room left mid body → IsKeyword keywords.Except p b j → IsCondition text f j g → height f ≤ 64 → next.funclets + numbers_of (accepts text f) ≡ mid.funclets → next.locals ≡ mid.locals → IsBraced text handler g rest → AllTaken text room next after handler → Behind keywords.Try at a (λ ts. Reads text room left after (TryExcept body p f handler) ts rest)
+pub except_found : (text : List ℕ) (room at p : ℕ) (left mid next after : Left) (body handler : Statements) (f : Expression) (a b j g rest : List Token) → 1 ≤ room → IsBraced text body a b → AllTaken text room left mid body → IsKeyword keywords.Except p b j → IsCondition text f j g → height f ≤ 64 → next.funclets + numbers_of (accepts text f) ≡ mid.funclets → next.locals ≡ mid.locals → IsBraced text handler g rest → AllTaken text room next after handler → AfterKeyword keywords.Try at a (λ ts. Reads text room left after (TryExcept body p f handler) ts rest)
 except_found text room at p left mid next after body handler f a b j g rest n is tk kw cn low nx ny is' tk' ts k =
     let o = tk.statements in let x = tk.expressions in let l = tk.locals in let m = tk.funclets in
     let o' = tk'.statements in let x' = tk'.expressions in let l' = tk'.locals in let m' = tk'.funclets in
@@ -377,14 +377,14 @@ except_found text room at p left mid next after body handler f a b j g rest n is
       taken = record { statements = omega arith; expressions = omega arith; locals = omega arith; funclets = omega (arith, length-append {A = ℕ}) };
     }
 
-pub unguarded : (limits : ℕ) (text : List ℕ) (room at : ℕ) (left : Left) (body : Statements) (a b : List Token) → IsBraced text body a b → ((rest : List Token) → HasKeyword keywords.Except b rest → ⊥) → ((rest : List Token) → HasKeyword keywords.Finally b rest → ⊥) → Behind keywords.Try at a (NoStatement room left limits text)
+pub unguarded : (limits : ℕ) (text : List ℕ) (room at : ℕ) (left : Left) (body : Statements) (a b : List Token) → IsBraced text body a b → ((rest : List Token) → HasKeyword keywords.Except b rest → ⊥) → ((rest : List Token) → HasKeyword keywords.Finally b rest → ⊥) → AfterKeyword keywords.Try at a (NoStatement room left limits text)
 unguarded limits text room at left body a b is x y ts k s end h d c w = by (after_try text at s ts a end k h)
   where
     by : (AfterExcept text s a end ⊎ AfterFinally text s a end) → ⊥
     by (inl t) = let u = after_braces text body t.0 a b t.4 is t.8 in x t.5 (subst (λ (i : List Token). HasKeyword keywords.Except i t.5) (sym u.1) (t.1, t.9))
     by (inr t) = let u = after_braces text body t.0 a b t.3 is t.6 in y t.4 (subst (λ (i : List Token). HasKeyword keywords.Finally i t.4) (sym u.1) (t.1, t.7))
 
-pub no_finally_left : (limits : ℕ) (text : List ℕ) (room at p : ℕ) (left mid : Left) (body : Statements) (a b j : List Token) → IsBraced text body a b → AllTaken text room left mid body → IsKeyword keywords.Finally p b j → 6 ≤ limits → mid.funclets ≡ 0 → Behind keywords.Try at a (NoStatement room left limits text)
+pub no_finally_left : (limits : ℕ) (text : List ℕ) (room at p : ℕ) (left mid : Left) (body : Statements) (a b j : List Token) → IsBraced text body a b → AllTaken text room left mid body → IsKeyword keywords.Finally p b j → 6 ≤ limits → mid.funclets ≡ 0 → AfterKeyword keywords.Try at a (NoStatement room left limits text)
 no_finally_left limits text room at p left mid body a b j is tk kw i n ts k s end h d c w = by (after_try text at s ts a end k h)
   where
     by : (AfterExcept text s a end ⊎ AfterFinally text s a end) → ⊥
@@ -396,7 +396,7 @@ no_finally_left limits text room at p left mid body a b j is tk kw i n ts k s en
         let z = tk.funclets in
         let o = v.funclets i in absurd (omega (arith, length-append {A = ℕ}))
 
-pub no_last : (limits : ℕ) (text : List ℕ) (room at p : ℕ) (left mid next : Left) (body : Statements) (a b j : List Token) → IsBraced text body a b → AllTaken text room left mid body → IsKeyword keywords.Finally p b j → next.funclets + 1 ≡ mid.funclets → next.locals ≡ mid.locals → NoneBraced room next limits text j → Behind keywords.Try at a (NoStatement room left limits text)
+pub no_last : (limits : ℕ) (text : List ℕ) (room at p : ℕ) (left mid next : Left) (body : Statements) (a b j : List Token) → IsBraced text body a b → AllTaken text room left mid body → IsKeyword keywords.Finally p b j → next.funclets + 1 ≡ mid.funclets → next.locals ≡ mid.locals → NoneBraced room next limits text j → AfterKeyword keywords.Try at a (NoStatement room left limits text)
 no_last limits text room at p left mid next body a b j is tk kw nx ny none ts k s end h d c w = by (after_try text at s ts a end k h)
   where
     by : (AfterExcept text s a end ⊎ AfterFinally text s a end) → ⊥
@@ -410,7 +410,7 @@ no_last limits text room at p left mid next body a b j is tk kw nx ny none ts k 
         let e' = ap locals_of_all u.0 in
         none t.2 end (subst (λ (i : List Token). IsBraced text t.2 i end) (sym q.1) t.8) (record { statements = λ lim. let o = v.statements lim in omega arith; expressions = λ lim. let o = v.expressions lim in omega arith; locals = λ lim. let o = v.locals lim in omega arith; funclets = λ lim. let o = v.funclets lim in omega (arith, length-append {A = ℕ}) })
 
-pub finally_found : (text : List ℕ) (room at p : ℕ) (left mid next after : Left) (body last : Statements) (a b j rest : List Token) → IsBraced text body a b → AllTaken text room left mid body → IsKeyword keywords.Finally p b j → next.funclets + 1 ≡ mid.funclets → next.locals ≡ mid.locals → IsBraced text last j rest → AllTaken text room next after last → Behind keywords.Try at a (λ ts. Reads text room left after (TryFinally body p last) ts rest)
+pub finally_found : (text : List ℕ) (room at p : ℕ) (left mid next after : Left) (body last : Statements) (a b j rest : List Token) → IsBraced text body a b → AllTaken text room left mid body → IsKeyword keywords.Finally p b j → next.funclets + 1 ≡ mid.funclets → next.locals ≡ mid.locals → IsBraced text last j rest → AllTaken text room next after last → AfterKeyword keywords.Try at a (λ ts. Reads text room left after (TryFinally body p last) ts rest)
 finally_found text room at p left mid next after body last a b j rest is tk kw nx ny is' tk' ts k =
     let o = tk.statements in let x = tk.expressions in let l = tk.locals in let m = tk.funclets in
     let o' = tk'.statements in let x' = tk'.expressions in let l' = tk'.locals in let m' = tk'.funclets in

@@ -1,8 +1,10 @@
 -- How statements continue after the first statement or block in them.
 use Rattle.std.specs.Prelude.{◌≡◌, ◌≤◌, ℕ, ◌+◌, List}
+use Rattle.c_lex.specs.declared.keyword.Keyword.{Keyword}
 use Rattle.c_lex.specs.declared.keyword.Keyword.TheVariants as keywords
 use Rattle.c_lex.specs.declared.punctuator.Punctuator.TheVariants as punctuators
 use Rattle.c_lex.specs.declared.token.Token.{Token}
+use Rattle.c_syntax.specs.declared.limit.TheConstants.{MOST_EXPRESSIONS}
 use Rattle.c_syntax.specs.Expression as trees
 use Rattle.c_syntax.specs.Expression.{expression}
 use Rattle.c_syntax.specs.Limits.{accepts}
@@ -18,7 +20,7 @@ use Rattle.c_parse_stmt.specs.declared.openings.Head.{Head}
 use Rattle.c_parse_stmt.specs.declared.openings.Head.TheVariants as heads
 use Rattle.c_parse_stmt.specs.Filters.{numbers_of}
 use Rattle.c_parse_stmt.specs.Openings.{Holds}
-use Rattle.c_parse_stmt.specs.Within.{Reads}
+use Rattle.c_parse_stmt.specs.Within.{Reads, AfterKeyword}
 
 -- With the head and the first statement it is a whole statement, or an `else` follows that belongs to the head's `if`.
 abbrev pub Ends : List ℕ → Head → Statement → Ending → List Token → List Token → Type 0
@@ -48,9 +50,13 @@ numbers text (clauses.Finally at) = 1
 pub record Continues (text : List ℕ) (room : ℕ) (left after : Left) (c : Clause) (ts rest : List Token) : Type 0 where
   pub is : IsClause text c ts rest
   pub statements : statements_over c ≤ room
-  pub low : height c ≤ 64
+  pub low : height c ≤ MOST_EXPRESSIONS
   pub locals : after.locals ≡ left.locals
   pub funclets : after.funclets + numbers text c ≡ left.funclets
+
+-- after the keyword of the clause, which is at a place
+abbrev pub ContinuesAfterKeyword : Keyword → ℕ → List ℕ → ℕ → Left → Left → Clause → List Token → List Token → Type 0
+ContinuesAfterKeyword keyword at text room left after c following rest = AfterKeyword keyword at following (λ ts. Continues text room left after c ts rest)
 
 abbrev pub with_clause : Statements → Clause → Statements → Statement
 with_clause body (clauses.Except at f) last = TryExcept body at (expression f) last

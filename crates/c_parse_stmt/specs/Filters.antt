@@ -7,9 +7,11 @@ use Rattle.c_lex.specs.declared.token.Kind.TheVariants as kinds
 use Rattle.c_lex.specs.declared.token.Token.{Token}
 use Rattle.c_syntax.specs.declared.expression.Literal.{Literal}
 use Rattle.c_syntax.specs.declared.expression.Literal.TheVariants as literals
+use Rattle.c_syntax.specs.declared.limit.Count.TheVariants.{Funclets}
+use Rattle.c_syntax.specs.declared.limit.TheConstants.{MOST_EXPRESSIONS}
 use Rattle.c_syntax.specs.Expression.{Expression, height}
 use Rattle.c_syntax.specs.Faults.{Alike, SameFirst, Speaks, Able}
-use Rattle.c_syntax.specs.Limits.{accepts}
+use Rattle.c_syntax.specs.Limits.{Nesting, Number, IsInForce, every_limit, accepts}
 use Rattle.c_syntax.specs.Statements.{IsCondition}
 use Rattle.c_syntax.specs.Tokens.{HasPunctuator}
 use Rattle.c_parse_stmt.specs.Parts.{NoCondition, HasCondition}
@@ -53,34 +55,34 @@ pub record Continued (text : List ℕ) (front : List Token) (t : Token) : Type 0
   pub has : HasCondition 1 text (front ++ t ∷ more)
 
 -- after so many opening parentheses one does with the first of these tokens
-abbrev pub GoesInside : ℕ → List Token → Type 0
-GoesInside opened ts = (t : Token) × (rest : List Token) × (ts ≡ t ∷ rest) × ((text : List ℕ) (before : List Token) → Speaks text → AreOpening opened before [] → Continued text before t)
+abbrev pub ContinuesInside : ℕ → List Token → Type 0
+ContinuesInside opened ts = (t : Token) × (rest : List Token) × (ts ≡ t ∷ rest) × ((text : List ℕ) (before : List Token) → Speaks text → AreOpening opened before [] → Continued text before t)
 
 abbrev pub NoneInside : ℕ → List Token → Type 0
 NoneInside opened ts = (text : List ℕ) (before other : List Token) → AreOpening opened before [] → SameFirst ts other → NoCondition 1 text (before ++ other)
 
 -- or after opening ones, a token that accepts alone, and closing ones
-abbrev pub GoesBehind : ℕ → ℕ → Token → List Token → Type 0
-GoesBehind opened closed atom ts = (t : Token) × (rest : List Token) × (ts ≡ t ∷ rest) × ((text : List ℕ) (before between : List Token) → AreOpening opened before [] → accepts_alone text atom ≡ true → AreClosing closed between [] → Continued text (before ++ atom ∷ between) t)
+abbrev pub ContinuesAfter : ℕ → ℕ → Token → List Token → Type 0
+ContinuesAfter opened closed atom ts = (t : Token) × (rest : List Token) × (ts ≡ t ∷ rest) × ((text : List ℕ) (before between : List Token) → AreOpening opened before [] → accepts_alone text atom ≡ true → AreClosing closed between [] → Continued text (before ++ atom ∷ between) t)
 
-abbrev pub NoneBehind : ℕ → ℕ → Token → List Token → Type 0
-NoneBehind opened closed atom ts = (text : List ℕ) (before between other : List Token) → AreOpening opened before [] → accepts_alone text atom ≡ true → AreClosing closed between [] → SameFirst ts other → NoCondition 1 text ((before ++ atom ∷ between) ++ other)
+abbrev pub NoneAfter : ℕ → ℕ → Token → List Token → Type 0
+NoneAfter opened closed atom ts = (text : List ℕ) (before between other : List Token) → AreOpening opened before [] → accepts_alone text atom ≡ true → AreClosing closed between [] → SameFirst ts other → NoCondition 1 text ((before ++ atom ∷ between) ++ other)
 
 -- ---- filters
 
--- with at most 64 expressions around each where the first limit holds, and a number only where one is left, if the sixth does
+-- within the limit of nesting, and with a number only where one is left, where these limits are in force
 abbrev pub NoFilter : ℕ → ℕ → List ℕ → List Token → Type 0
-NoFilter funclets n text ts = (f : Expression) (end : List Token) → IsCondition text f ts end → (1 ≤ n → height f ≤ 64) → (6 ≤ n → numbers_of (accepts text f) ≤ funclets) → ⊥
+NoFilter funclets n text ts = (f : Expression) (end : List Token) → IsCondition text f ts end → (IsInForce Nesting n → height f ≤ MOST_EXPRESSIONS) → (IsInForce (Number Funclets) n → numbers_of (accepts text f) ≤ funclets) → ⊥
 
 pub record HasFilter (funclets n : ℕ) (text : List ℕ) (ts : List Token) : Type 0 where
   pub tree : Expression
   pub is : (other : List Token) → IsCondition text tree (ts ++ other) other
-  pub low : 1 ≤ n → height tree ≤ 64
-  pub count : 6 ≤ n → numbers_of (accepts text tree) ≤ funclets
+  pub low : IsInForce Nesting n → height tree ≤ MOST_EXPRESSIONS
+  pub count : IsInForce (Number Funclets) n → numbers_of (accepts text tree) ≤ funclets
 
 -- Up to the rest, tokens can be completed to a filter that has no number; and no condition within the limit of nesting continues with the first token there.
 pub record Departs (text : List ℕ) (ts rest : List Token) : Type 0 where
   pub front : List Token
   pub split : ts ≡ front ++ rest
-  pub able : (text' : List ℕ) → Alike text text' ts → Speaks text' → Able (HasFilter 0) 6 text' front
+  pub able : (text' : List ℕ) → Alike text text' ts → Speaks text' → Able (HasFilter 0) every_limit text' front
   pub none : (text' : List ℕ) (other : List Token) → Alike text text' ts → SameFirst rest other → NoCondition 1 text' (front ++ other)

@@ -4,3 +4,4 @@ pub mod Within
 pub mod Openings
 pub mod Endings
 pub mod Begins
+pub mod Refused

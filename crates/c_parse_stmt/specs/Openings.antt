@@ -1,8 +1,10 @@
 -- What statements begin with, up to the first statement or block that is in them; and that, with what is in them.
 use Rattle.std.specs.Prelude.{◌≡◌, ◌≤◌, ℕ, ◌+◌, max, List, option_map}
+use Rattle.c_lex.specs.declared.keyword.Keyword.{Keyword}
 use Rattle.c_lex.specs.declared.keyword.Keyword.TheVariants as keywords
 use Rattle.c_lex.specs.declared.punctuator.Punctuator.TheVariants as punctuators
 use Rattle.c_lex.specs.declared.token.Token.{Token}
+use Rattle.c_syntax.specs.declared.limit.TheConstants.{MOST_EXPRESSIONS}
 use Rattle.c_syntax.specs.Expression.{expression, height}
 use Rattle.c_syntax.specs.Limits.{height_of, height_of_for_initialiser, locals_of_for_initialiser}
 use Rattle.c_syntax.specs.Statement.{Statement, Statements, first, statement}
@@ -14,7 +16,7 @@ use Rattle.c_parse_stmt.specs.declared.openings.Head.TheVariants as heads
 use Rattle.c_parse_stmt.specs.declared.openings.Opening.{Opening}
 use Rattle.c_parse_stmt.specs.declared.openings.Opening.TheVariants as openings
 use Rattle.c_parse_stmt.specs.Parts.{IsUpTo}
-use Rattle.c_parse_stmt.specs.Within.{AllTaken, Reads}
+use Rattle.c_parse_stmt.specs.Within.{AllTaken, Reads, AfterKeyword}
 
 -- ---- what is before the first statement
 
@@ -42,7 +44,7 @@ locals (heads.For at f c n) = locals_of_for_initialiser (first f)
 pub record Heads (text : List ℕ) (room : ℕ) (left after : Left) (h : Head) (ts rest : List Token) : Type 0 where
   pub is : IsHead text h ts rest
   pub some : 1 ≤ room
-  pub low : expressions_over h ≤ 64
+  pub low : expressions_over h ≤ MOST_EXPRESSIONS
   pub locals : after.locals + locals h ≡ left.locals
   pub funclets : after.funclets ≡ left.funclets
 
@@ -73,3 +75,17 @@ pub record Guards (text : List ℕ) (room : ℕ) (left after : Left) (body : Sta
   pub is : IsTry ts mid
   pub are : AreBlockItems text body mid rest
   pub taken : AllTaken text room left after body
+
+-- ---- what follows the first tokens
+
+-- the keyword of a statement, which is at a place
+abbrev pub OpensAfter : Keyword → ℕ → List ℕ → ℕ → Left → Left → Opening → List Token → List Token → Type 0
+OpensAfter keyword at text room left after o following rest = AfterKeyword keyword at following (λ ts. Opens text room left after o ts rest)
+
+-- the head of a statement
+abbrev pub ReadsAfterHead : Head → List ℕ → ℕ → Left → Left → Statement → List Token → List Token → Type 0
+ReadsAfterHead h text room left after s following rest = (whole : Left) (ts : List Token) → Heads text room whole left h ts following → Reads text room whole after s ts rest
+
+-- `__try` and a brace
+abbrev pub ReadsAfterTry : List ℕ → ℕ → Left → Left → Statement → List Token → List Token → Type 0
+ReadsAfterTry text room left after s following rest = (ts : List Token) → IsTry ts following → Reads text room left after s ts rest

@@ -1,11 +1,13 @@
--- Parts of statements with what ends them; that none is at the front; and that tokens are such a part, whatever follows. Limits count where the first n of them hold: the first is nesting, the second the locals of a function.
+-- Parts of statements with what ends them; that none is at the front; and that tokens are such a part, whatever follows. The first n limits are in force.
 use Rattle.std.specs.Prelude.{◌≡◌, ◌≤◌, ◌⊎◌, ℕ, List, [], ◌++◌, length, Option}
 use Rattle.c_lex.specs.declared.punctuator.Punctuator.{Punctuator}
 use Rattle.c_lex.specs.declared.token.Token.{Token}
 use Rattle.c_syntax.specs.declared.expression.Base.{Base}
+use Rattle.c_syntax.specs.declared.limit.Count.TheVariants.{Locals}
+use Rattle.c_syntax.specs.declared.limit.TheConstants.{MOST_EXPRESSIONS}
 use Rattle.c_syntax.specs.Expression.{Expression, height}
 use Rattle.c_syntax.specs.Follow.{Stops}
-use Rattle.c_syntax.specs.Limits.{height_of, one_over, height_of_locals, one_over_locals, height_of_for_initialiser, locals_of_for_initialiser}
+use Rattle.c_syntax.specs.Limits.{Nesting, Number, IsInForce, height_of, one_over, height_of_locals, one_over_locals, height_of_for_initialiser, locals_of_for_initialiser}
 use Rattle.c_syntax.specs.Statement.{Local, ForInitialiser}
 use Rattle.c_syntax.specs.Statements.{IsInitialiser, IsLocal, AreMoreLocals, AreLocals, IsDeclaration, IsOptional, IsCondition, IsForInitialiser}
 use Rattle.c_syntax.specs.Tokens.{HasPunctuator}
@@ -25,47 +27,47 @@ APunctuator punctuator n text ts = (other : List Token) → HasPunctuator punctu
 -- ---- expressions
 
 abbrev pub NoCondition : ℕ → List ℕ → List Token → Type 0
-NoCondition n text ts = (e : Expression) (end : List Token) → IsCondition text e ts end → (1 ≤ n → height e ≤ 64) → ⊥
+NoCondition n text ts = (e : Expression) (end : List Token) → IsCondition text e ts end → (IsInForce Nesting n → height e ≤ MOST_EXPRESSIONS) → ⊥
 
 pub record HasCondition (n : ℕ) (text : List ℕ) (ts : List Token) : Type 0 where
   pub tree : Expression
   pub is : (other : List Token) → IsCondition text tree (ts ++ other) other
-  pub low : 1 ≤ n → height tree ≤ 64
+  pub low : IsInForce Nesting n → height tree ≤ MOST_EXPRESSIONS
 
 abbrev pub NoneUpTo : Punctuator → ℕ → ℕ → List ℕ → List Token → Type 0
-NoneUpTo punctuator room n text ts = (e : Option Expression) (end : List Token) → IsUpTo text punctuator e ts end → (1 ≤ n → height_of e ≤ 64) → (1 ≤ n → one_over e ≤ room) → ⊥
+NoneUpTo punctuator room n text ts = (e : Option Expression) (end : List Token) → IsUpTo text punctuator e ts end → (IsInForce Nesting n → height_of e ≤ MOST_EXPRESSIONS) → (IsInForce Nesting n → one_over e ≤ room) → ⊥
 
 pub record HasUpTo (punctuator : Punctuator) (room n : ℕ) (text : List ℕ) (ts : List Token) : Type 0 where
   pub tree : Option Expression
   pub is : (other : List Token) → IsUpTo text punctuator tree (ts ++ other) other
-  pub low : 1 ≤ n → height_of tree ≤ 64
-  pub over : 1 ≤ n → one_over tree ≤ room
+  pub low : IsInForce Nesting n → height_of tree ≤ MOST_EXPRESSIONS
+  pub over : IsInForce Nesting n → one_over tree ≤ room
 
 -- ---- locals
 
 abbrev pub NoInitialiser : ℕ → ℕ → List ℕ → List Token → Type 0
-NoInitialiser room n text ts = (e : Option Expression) (end : List Token) → IsInitialiser text e ts end → Stops 15 end → (1 ≤ n → height_of e ≤ 64) → (1 ≤ n → one_over e ≤ room) → ⊥
+NoInitialiser room n text ts = (e : Option Expression) (end : List Token) → IsInitialiser text e ts end → Stops 15 end → (IsInForce Nesting n → height_of e ≤ MOST_EXPRESSIONS) → (IsInForce Nesting n → one_over e ≤ room) → ⊥
 
 pub record HasInitialiser (room n : ℕ) (text : List ℕ) (ts : List Token) : Type 0 where
   pub tree : Option Expression
   pub is : (other : List Token) → IsInitialiser text tree (ts ++ other) other
-  pub low : 1 ≤ n → height_of tree ≤ 64
-  pub over : 1 ≤ n → one_over tree ≤ room
+  pub low : IsInForce Nesting n → height_of tree ≤ MOST_EXPRESSIONS
+  pub over : IsInForce Nesting n → one_over tree ≤ room
 
 abbrev pub NoLocal : ℕ → ℕ → List ℕ → List Token → Type 0
-NoLocal room n text ts = (l : Local) (end : List Token) → IsLocal text l ts end → Stops 15 end → (1 ≤ n → height_of l.initialiser ≤ 64) → (1 ≤ n → one_over l.initialiser ≤ room) → ⊥
+NoLocal room n text ts = (l : Local) (end : List Token) → IsLocal text l ts end → Stops 15 end → (IsInForce Nesting n → height_of l.initialiser ≤ MOST_EXPRESSIONS) → (IsInForce Nesting n → one_over l.initialiser ≤ room) → ⊥
 
 pub record HasLocal (room n : ℕ) (text : List ℕ) (ts : List Token) : Type 0 where
   pub tree : Local
   pub is : (other : List Token) → IsLocal text tree (ts ++ other) other
-  pub low : 1 ≤ n → height_of tree.initialiser ≤ 64
-  pub over : 1 ≤ n → one_over tree.initialiser ≤ room
+  pub low : IsInForce Nesting n → height_of tree.initialiser ≤ MOST_EXPRESSIONS
+  pub over : IsInForce Nesting n → one_over tree.initialiser ≤ room
 
--- at most so many, with 64 expressions around each expression at most, and one statement where there may be one
+-- at most so many, with not too many expressions around each expression, and one statement where there may be one
 pub record LocalsWithin (n room left : ℕ) (ls : List Local) : Type 0 where
-  pub expressions : 1 ≤ n → height_of_locals ls ≤ 64
-  pub statements : 1 ≤ n → one_over_locals ls ≤ room
-  pub count : 2 ≤ n → length ls ≤ left
+  pub expressions : IsInForce Nesting n → height_of_locals ls ≤ MOST_EXPRESSIONS
+  pub statements : IsInForce Nesting n → one_over_locals ls ≤ room
+  pub count : IsInForce (Number Locals) n → length ls ≤ left
 
 abbrev pub NoMoreLocals : ℕ → ℕ → ℕ → List ℕ → List Token → Type 0
 NoMoreLocals room left n text ts = (ls : List Local) (end : List Token) → AreMoreLocals text ls ts end → LocalsWithin n room left ls → ⊥
@@ -92,10 +94,10 @@ abbrev pub HasDeclaration : ℕ → ℕ → ℕ → List ℕ → List Token → 
 HasDeclaration room left n text ts = (ts ≡ []) ⊎ ADeclaration room left n text ts
 
 abbrev pub NoForInitialiser : ℕ → ℕ → List ℕ → List Token → Type 0
-NoForInitialiser left n text ts = (f : ForInitialiser) (end : List Token) → IsForInitialiser text f ts end → (1 ≤ n → height_of_for_initialiser f ≤ 64) → (2 ≤ n → locals_of_for_initialiser f ≤ left) → ⊥
+NoForInitialiser left n text ts = (f : ForInitialiser) (end : List Token) → IsForInitialiser text f ts end → (IsInForce Nesting n → height_of_for_initialiser f ≤ MOST_EXPRESSIONS) → (IsInForce (Number Locals) n → locals_of_for_initialiser f ≤ left) → ⊥
 
 pub record HasForInitialiser (left n : ℕ) (text : List ℕ) (ts : List Token) : Type 0 where
   pub tree : ForInitialiser
   pub is : (other : List Token) → IsForInitialiser text tree (ts ++ other) other
-  pub low : 1 ≤ n → height_of_for_initialiser tree ≤ 64
-  pub count : 2 ≤ n → locals_of_for_initialiser tree ≤ left
+  pub low : IsInForce Nesting n → height_of_for_initialiser tree ≤ MOST_EXPRESSIONS
+  pub count : IsInForce (Number Locals) n → locals_of_for_initialiser tree ≤ left

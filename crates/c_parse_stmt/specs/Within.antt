@@ -1,10 +1,12 @@
--- Limits of statements, with what is left of the counts; and what is read, and what refusals say. Where the first n limits hold, the first is nesting, the second the locals of a function, the sixth the funclets of the program.
+-- Limits of statements, with what is left of the counts; and what is read, and what refusals say. The first n limits are in force.
 use Rattle.std.specs.Prelude.{◌≡◌, ◌≤◌, ◌⊎◌, ℕ, ◌+◌, List, [], ◌++◌, length, Option, IsFalse}
 use Rattle.c_lex.specs.declared.keyword.Keyword.{Keyword}
 use Rattle.c_lex.specs.declared.token.Token.{Token}
+use Rattle.c_syntax.specs.declared.limit.Count.TheVariants.{Locals, Funclets}
+use Rattle.c_syntax.specs.declared.limit.TheConstants.{MOST_EXPRESSIONS}
 use Rattle.c_syntax.specs.Expression.{Expression}
 use Rattle.c_syntax.specs.Follow.{Closed}
-use Rattle.c_syntax.specs.Limits.{one_over, expressions_over, expressions_over_all, statements_over, statements_over_all, over_block_item, locals, locals_of_all, numbered, funclets_of_all}
+use Rattle.c_syntax.specs.Limits.{Nesting, Number, IsInForce, one_over, expressions_over, expressions_over_all, statements_over, statements_over_all, over_block_item, locals, locals_of_all, numbered, funclets_of_all}
 use Rattle.c_syntax.specs.Statement.{Statement, Statements, Evaluate}
 use Rattle.c_syntax.specs.Statements.{is_declaration, IsBlockItem, AreBlockItems}
 use Rattle.c_syntax.specs.Tokens.{IsKeyword}
@@ -12,17 +14,17 @@ use Rattle.c_parse_stmt.specs.declared.left.Left.{Left}
 
 -- ---- what a block holds
 
--- at most so many statements around each part, 64 expressions around each expression, and no more of the counts than is left
+-- at most so many statements around each part, not too many expressions around each expression, and no more of the counts than is left
 pub record AllWithin (n : ℕ) (text : List ℕ) (room : ℕ) (left : Left) (ss : Statements) : Type 0 where
-  pub statements : 1 ≤ n → statements_over_all ss ≤ room
-  pub expressions : 1 ≤ n → expressions_over_all ss ≤ 64
-  pub locals : 2 ≤ n → locals_of_all ss ≤ left.locals
-  pub funclets : 6 ≤ n → length (funclets_of_all text ss) ≤ left.funclets
+  pub statements : IsInForce Nesting n → statements_over_all ss ≤ room
+  pub expressions : IsInForce Nesting n → expressions_over_all ss ≤ MOST_EXPRESSIONS
+  pub locals : IsInForce (Number Locals) n → locals_of_all ss ≤ left.locals
+  pub funclets : IsInForce (Number Funclets) n → length (funclets_of_all text ss) ≤ left.funclets
 
 -- within the limits, and of the counts so much is left after it
 pub record AllTaken (text : List ℕ) (room : ℕ) (left after : Left) (ss : Statements) : Type 0 where
   pub statements : statements_over_all ss ≤ room
-  pub expressions : expressions_over_all ss ≤ 64
+  pub expressions : expressions_over_all ss ≤ MOST_EXPRESSIONS
   pub locals : after.locals + locals_of_all ss ≡ left.locals
   pub funclets : after.funclets + length (funclets_of_all text ss) ≡ left.funclets
 
@@ -38,14 +40,14 @@ pub record HasBlockItems (room : ℕ) (left : Left) (n : ℕ) (text : List ℕ) 
 -- ---- one statement, with so many statements over its parts
 
 pub record Within (n : ℕ) (text : List ℕ) (over room : ℕ) (left : Left) (s : Statement) : Type 0 where
-  pub statements : 1 ≤ n → over ≤ room
-  pub expressions : 1 ≤ n → expressions_over s ≤ 64
-  pub locals : 2 ≤ n → locals s ≤ left.locals
-  pub funclets : 6 ≤ n → length (numbered text s) ≤ left.funclets
+  pub statements : IsInForce Nesting n → over ≤ room
+  pub expressions : IsInForce Nesting n → expressions_over s ≤ MOST_EXPRESSIONS
+  pub locals : IsInForce (Number Locals) n → locals s ≤ left.locals
+  pub funclets : IsInForce (Number Funclets) n → length (numbered text s) ≤ left.funclets
 
 pub record Taken (text : List ℕ) (over room : ℕ) (left after : Left) (s : Statement) : Type 0 where
   pub statements : over ≤ room
-  pub expressions : expressions_over s ≤ 64
+  pub expressions : expressions_over s ≤ MOST_EXPRESSIONS
   pub locals : after.locals + locals s ≡ left.locals
   pub funclets : after.funclets + length (numbered text s) ≡ left.funclets
 
@@ -84,8 +86,8 @@ abbrev pub HasBlockItem : ℕ → Left → ℕ → List ℕ → List Token → T
 HasBlockItem room left n text ts = (ts ≡ []) ⊎ AnItem room left n text ts
 
 -- whatever the tokens are that begin with this keyword and continue with those after it
-abbrev pub Behind : Keyword → ℕ → List Token → (List Token → Type 0) → Type 0
-Behind keyword at following P = (ts : List Token) → IsKeyword keyword at ts following → P ts
+abbrev pub AfterKeyword : Keyword → ℕ → List Token → (List Token → Type 0) → Type 0
+AfterKeyword keyword at following P = (ts : List Token) → IsKeyword keyword at ts following → P ts
 
 -- no expression statement is at the front
 abbrev pub NoEvaluation : ℕ → Left → ℕ → List ℕ → List Token → Type 0

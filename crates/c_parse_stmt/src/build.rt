@@ -13,7 +13,8 @@ use std::alloc::Global;
 
 /// A declaration in a block.
 pub fn declare(declaration: Declaration) -> Stmt
-    ensures { statement result ≡ trees.Declare declaration.base (map trees.local declaration.locals.items) }
+    ensures { statement result
+        ≡ trees.Declare declaration.base (map trees.local declaration.locals.items) }
 {
     Stmt::Declaration(declaration)
 }
@@ -62,7 +63,8 @@ pub fn leave_of(at: u64) -> Stmt
 
 /// An `if` without `else`.
 pub fn if_of(alloc: Global, at: u64, condition: Expr, then: Stmt) -> Result<Stmt, ParseErr>
-    ensures made { IfOk result (λ s. statement s ≡ trees.If at (expression condition) (statement then)) }
+    ensures made { IfOk result (λ s.
+        statement s ≡ trees.If at (expression condition) (statement then)) }
     ensures err { IfErr result (λ e. e ≡ Memory) }
 {
     let then = Box::new(alloc, then)?;
@@ -82,7 +84,9 @@ pub fn if_else_of(
     then: Stmt,
     otherwise: Stmt,
 ) -> Result<Stmt, ParseErr>
-    ensures made { IfOk result (λ s. statement s ≡ trees.IfElse at (expression condition) (statement then) (statement otherwise)) }
+    ensures made { IfOk result (λ s.
+        statement s
+        ≡ trees.IfElse at (expression condition) (statement then) (statement otherwise)) }
     ensures err { IfErr result (λ e. e ≡ Memory) }
 {
     let then = Box::new(alloc, then)?;
@@ -97,7 +101,8 @@ pub fn if_else_of(
 
 /// A `while`.
 pub fn while_of(alloc: Global, at: u64, condition: Expr, body: Stmt) -> Result<Stmt, ParseErr>
-    ensures made { IfOk result (λ s. statement s ≡ trees.While at (expression condition) (statement body)) }
+    ensures made { IfOk result (λ s.
+        statement s ≡ trees.While at (expression condition) (statement body)) }
     ensures err { IfErr result (λ e. e ≡ Memory) }
 {
     let body = Box::new(alloc, body)?;
@@ -110,7 +115,8 @@ pub fn while_of(alloc: Global, at: u64, condition: Expr, body: Stmt) -> Result<S
 
 /// A `do`; `at` is the place of its `while`.
 pub fn do_of(alloc: Global, body: Stmt, at: u64, condition: Expr) -> Result<Stmt, ParseErr>
-    ensures made { IfOk result (λ s. statement s ≡ trees.DoWhile (statement body) at (expression condition)) }
+    ensures made { IfOk result (λ s.
+        statement s ≡ trees.DoWhile (statement body) at (expression condition)) }
     ensures err { IfErr result (λ e. e ≡ Memory) }
 {
     let body = Box::new(alloc, body)?;
@@ -130,7 +136,9 @@ pub fn for_of(
     next: Option<Expr>,
     body: Stmt,
 ) -> Result<Stmt, ParseErr>
-    ensures made { IfOk result (λ s. statement s ≡ trees.For at (trees.first first) (option_map expression condition) (option_map expression next) (statement body)) }
+    ensures made { IfOk result (λ s.
+        statement s ≡ trees.For at (trees.first first) (option_map expression condition)
+        (option_map expression next) (statement body)) }
     ensures err { IfErr result (λ e. e ≡ Memory) }
 {
     let body = Box::new(alloc, body)?;
@@ -145,7 +153,8 @@ pub fn for_of(
 
 /// A `__try` with a filter; `at` is the place of `__except`.
 pub fn except_of(body: Vec<Stmt>, at: u64, filter: Expr, handler: Vec<Stmt>) -> Stmt
-    ensures { statement result ≡ trees.TryExcept (statements (map statement body.items)) at (expression filter) (statements (map statement handler.items)) }
+    ensures { statement result ≡ trees.TryExcept (statements (map statement body.items)) at
+        (expression filter) (statements (map statement handler.items)) }
 {
     Stmt::TryExcept {
         body,
@@ -157,7 +166,8 @@ pub fn except_of(body: Vec<Stmt>, at: u64, filter: Expr, handler: Vec<Stmt>) -> 
 
 /// A `__try` with a `__finally` block; `at` is the place of `__finally`.
 pub fn finally_of(body: Vec<Stmt>, at: u64, last: Vec<Stmt>) -> Stmt
-    ensures { statement result ≡ trees.TryFinally (statements (map statement body.items)) at (statements (map statement last.items)) }
+    ensures { statement result ≡ trees.TryFinally (statements (map statement body.items)) at
+        (statements (map statement last.items)) }
 {
     Stmt::TryFinally { body, at, last }
 }

@@ -1,15 +1,13 @@
 //! How statements continue after the first statement or block that is in them.
 
-ghost use Rattle.std.specs.Prelude.{◌≡◌, ◌≤◌, ◌+◌, ℕ, List, IfOk, IfErr, map};
+ghost use Rattle.std.specs.Prelude.{◌≡◌, ◌≤◌, ◌+◌, IfOk, IfErr, map};
 ghost use Rattle.c_lex.specs.declared.keyword.Keyword.TheVariants as keywords;
 ghost use Rattle.c_lex.specs.declared.token.Token.{Token};
-ghost use Rattle.c_syntax.specs.Statement.{Statements, statement, statements};
-ghost use Rattle.c_parse_expr.specs.Refusals.{Placed};
+ghost use Rattle.c_syntax.specs.Statement.{statement, statements};
 ghost use Rattle.c_parse_stmt.specs.declared.left.Left.{Left};
 ghost use Rattle.c_parse_stmt.specs.declared.openings.Head.TheVariants.{Do};
-ghost use Rattle.c_parse_stmt.specs.Within.{NoStatement, HasStatement, Behind};
-ghost use Rattle.c_parse_stmt.specs.Openings.{Holds, Guards};
-ghost use Rattle.c_parse_stmt.specs.Endings.{Ends, Continues, with_clause};
+ghost use Rattle.c_parse_stmt.specs.Endings.{Ends, Continues, ContinuesAfterKeyword, with_clause};
+ghost use Rattle.c_parse_stmt.specs.Refused.{RefusesEnd, RefusesClause, RefusesClauseAfter};
 
 use crate::build::{do_of, except_of, finally_of, for_of, if_of, while_of};
 use crate::filters::{filter, too_many_funclets};
@@ -52,7 +50,7 @@ fn do_end<'a>(
     tokens: &'a [Token],
 ) -> Result<(Ending, &'a [Token]), ParseErr>
     ensures found { IfOk result (λ x. Ends text.now Do (statement body) x.0 tokens.now x.1.now) }
-    ensures refused { IfErr result (λ e. (room : ℕ) (left after : Left) (ts : List Token) → Holds text.now room left after Do (statement body) ts tokens.now → Placed e (NoStatement room left) (HasStatement room left) text.now ts) }
+    ensures refused { IfErr result (λ e. RefusesEnd Do (statement body) e text.now tokens.now) }
 {
     match word(Keyword::While, tokens) {
         Some((at, following)) => {
@@ -65,8 +63,8 @@ fn do_end<'a>(
     }
 }
 
-/// How the statement with this head and this first statement continues, and what follows that. An `else`
-/// belongs to the nearest `if` (C11, 6.8.4.1).
+/// How the statement with this head and this first statement continues, and what follows that. An
+/// `else` belongs to the nearest `if` (C11, 6.8.4.1).
 pub fn read_ending<'a>(
     alloc: Global,
     text: &[u8],
@@ -75,20 +73,18 @@ pub fn read_ending<'a>(
     tokens: &'a [Token],
 ) -> Result<(Ending, &'a [Token]), ParseErr>
     ensures found { IfOk result (λ x. Ends text.now head (statement inner) x.0 tokens.now x.1.now) }
-    ensures refused { IfErr result (λ e. (room : ℕ) (left after : Left) (ts : List Token) → Holds text.now room left after head (statement inner) ts tokens.now → Placed e (NoStatement room left) (HasStatement room left) text.now ts) }
+    ensures refused { IfErr result (λ e. RefusesEnd head (statement inner) e text.now tokens.now) }
 {
     match head {
         Head::If { at, condition } => match word(Keyword::Else, tokens) {
             Some((_, rest)) => {
                 let then = inner;
-                Ok((
-                    Ending::Else {
-                        at,
-                        condition,
-                        then,
-                    },
-                    rest,
-                ))
+                let ending = Ending::Else {
+                    at,
+                    condition,
+                    then,
+                };
+                Ok((ending, rest))
             }
             None => {
                 let made = if_of(alloc, at, condition, inner)?;
@@ -122,8 +118,10 @@ fn except_clause<'a>(
     tokens: &'a [Token],
 ) -> Result<(Clause, Left, &'a [Token]), ParseErr>
     requires { 1 ≤ room + left.funclets }
-    ensures found { IfOk result (λ x. Behind keywords.Except at tokens.now (λ ts. Continues text.now room left x.1 x.0 ts x.2.now)) }
-    ensures refused { IfErr result (λ e. Behind keywords.Except at tokens.now (λ following. (whole : Left) (body : Statements) (ts : List Token) → Guards text.now room whole left body ts following → Placed e (NoStatement room whole) (HasStatement room whole) text.now ts)) }
+    ensures found { IfOk result (λ x.
+        ContinuesAfterKeyword keywords.Except at text.now room left x.1 x.0 tokens.now x.2.now) }
+    ensures refused { IfErr result (λ e.
+        RefusesClauseAfter keywords.Except at e room left text.now tokens.now) }
 {
     if room == 0 {
         return Err(ParseErr::TooDeep { at });
@@ -147,8 +145,10 @@ fn finally_clause<'a>(
     tokens: &'a [Token],
 ) -> Result<(Clause, Left, &'a [Token]), ParseErr>
     requires { 1 ≤ room + left.funclets }
-    ensures found { IfOk result (λ x. Behind keywords.Finally at tokens.now (λ ts. Continues text.now room left x.1 x.0 ts x.2.now)) }
-    ensures refused { IfErr result (λ e. Behind keywords.Finally at tokens.now (λ following. (whole : Left) (body : Statements) (ts : List Token) → Guards text.now room whole left body ts following → Placed e (NoStatement room whole) (HasStatement room whole) text.now ts)) }
+    ensures found { IfOk result (λ x.
+        ContinuesAfterKeyword keywords.Finally at text.now room left x.1 x.0 tokens.now x.2.now) }
+    ensures refused { IfErr result (λ e.
+        RefusesClauseAfter keywords.Finally at e room left text.now tokens.now) }
 {
     if left.funclets == 0 {
         return Err(too_many_funclets(at));
@@ -161,9 +161,9 @@ fn finally_clause<'a>(
     Ok((Clause::Finally { at }, after, rest))
 }
 
-/// What follows the first block of a `__try`: `__except` with its filter in parentheses, or `__finally`,
-/// and the brace of the second block (Microsoft C reference, "try-except statement" and "try-finally
-/// statement").
+/// What follows the first block of a `__try`: `__except` with its filter in parentheses, or
+/// `__finally`, and the brace of the second block (Microsoft C reference, "try-except statement"
+/// and "try-finally statement").
 pub fn read_clause<'a>(
     alloc: Global,
     text: &[u8],
@@ -173,7 +173,7 @@ pub fn read_clause<'a>(
 ) -> Result<(Clause, Left, &'a [Token]), ParseErr>
     requires { 1 ≤ room + left.funclets }
     ensures found { IfOk result (λ x. Continues text.now room left x.1 x.0 tokens.now x.2.now) }
-    ensures refused { IfErr result (λ e. (whole : Left) (body : Statements) (ts : List Token) → Guards text.now room whole left body ts tokens.now → Placed e (NoStatement room whole) (HasStatement room whole) text.now ts) }
+    ensures refused { IfErr result (λ e. RefusesClause e room left text.now tokens.now) }
 {
     if let Some((at, following)) = word(Keyword::Except, tokens) {
         return except_clause(alloc, text, room, left, at, following);
@@ -186,7 +186,8 @@ pub fn read_clause<'a>(
 
 /// The `__try` statement of these blocks.
 pub fn try_of(body: Vec<Stmt>, clause: Clause, last: Vec<Stmt>) -> Stmt
-    ensures { statement result ≡ with_clause (statements (map statement body.items)) clause (statements (map statement last.items)) }
+    ensures { statement result ≡ with_clause (statements (map statement body.items)) clause
+        (statements (map statement last.items)) }
 {
     match clause {
         Clause::Except { at, filter } => except_of(body, at, filter, last),

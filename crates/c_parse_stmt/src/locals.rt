@@ -1,16 +1,15 @@
 //! Declarations of locals.
 
-ghost use Rattle.std.specs.Prelude.{◌≡◌, ◌≤◌, ◌+◌, List, IfOk, IfErr, map, length, option_map};
+ghost use Rattle.std.specs.Prelude.{◌≡◌, ◌≤◌, ◌+◌, IfOk, IfErr, map, length, option_map};
 ghost use Rattle.c_syntax.specs.Expression.{expression};
 ghost use Rattle.c_syntax.specs.Faults as faults;
 ghost use Rattle.c_syntax.specs.Follow.{Stops};
 ghost use Rattle.c_syntax.specs.Limits.{height_of, one_over, height_of_locals, one_over_locals, height_of_for_initialiser, locals_of_for_initialiser};
 ghost use Rattle.c_syntax.specs.Statement as trees;
 ghost use Rattle.c_syntax.specs.Statements.{IsInitialiser, IsLocal, AreLocals, IsDeclaration, IsForInitialiser};
-ghost use Rattle.c_parse_expr.specs.declared.refusal.Count.TheVariants.{Locals};
+ghost use Rattle.c_syntax.specs.declared.limit.Count.TheVariants.{Locals};
 ghost use Rattle.c_parse_expr.specs.declared.refusal.ParseErr.TheVariants.{TooMany};
-ghost use Rattle.c_parse_expr.specs.Refusals.{Placed};
-ghost use Rattle.c_parse_stmt.specs.Parts.{NoInitialiser, HasInitialiser, NoLocal, HasLocal, NoLocals, HasLocals, NoDeclaration, HasDeclaration, NoForInitialiser, HasForInitialiser};
+ghost use Rattle.c_parse_stmt.specs.Refused.{RefusesInitialiser, RefusesLocal, RefusesLocals, RefusesDeclaration, RefusesForInitialiser};
 
 use crate::parts::{expect, optional};
 use c_lex::punctuator::Punctuator;
@@ -18,15 +17,13 @@ use c_lex::token::Token;
 use c_parse_atom::operands::name;
 use c_parse_atom::operators::follows;
 use c_parse_expr::expressions::expression;
-use c_parse_expr::refusal::{Count, ParseErr, place, too_deep, unexpected};
+use c_parse_expr::refusal::{ParseErr, place, too_deep, unexpected};
 use c_parse_type::front::after;
 use c_parse_type::specifiers::{base, stars};
 use c_syntax::expression::Expr;
+use c_syntax::limit::{Count, MOST_EXPRESSIONS};
 use c_syntax::statement::{Declaration, ForInitialiser, Local};
 use std::alloc::Global;
-
-/// The most expressions that stand around an expression.
-const DEEPEST: u64 = 64;
 
 /// The level of an assignment, which is what an initialiser is (C11, 6.7.9).
 const ASSIGNMENT: u8 = 15;
@@ -49,18 +46,19 @@ fn initialiser<'a>(
     room: u64,
     tokens: &'a [Token],
 ) -> Result<(Option<Expr>, &'a [Token]), ParseErr>
-    ensures found { IfOk result (λ x. IsInitialiser text.now (option_map expression x.0) tokens.now x.1.now) }
+    ensures found { IfOk result (λ x.
+        IsInitialiser text.now (option_map expression x.0) tokens.now x.1.now) }
     ensures stops { IfOk result (λ x. Stops 15 x.1.now) }
-    ensures low { IfOk result (λ x. height_of (option_map expression x.0) ≤ 64) }
+    ensures low { IfOk result (λ x. height_of (option_map expression x.0) ≤ MOST_EXPRESSIONS) }
     ensures over { IfOk result (λ x. one_over (option_map expression x.0) ≤ room) }
-    ensures refused { IfErr result (λ e. Placed e (NoInitialiser room) (HasInitialiser room) text.now tokens.now) }
+    ensures refused { IfErr result (λ e. RefusesInitialiser e room text.now tokens.now) }
 {
     match after(Punctuator::Assign, tokens) {
         Some(value) => {
             if room == 0 {
                 return Err(too_deep(text, tokens));
             }
-            let parsed = expression(alloc, text, DEEPEST, ASSIGNMENT, value)?;
+            let parsed = expression(alloc, text, MOST_EXPRESSIONS, ASSIGNMENT, value)?;
             Ok((Some(parsed.expr), parsed.rest))
         }
         None => {
@@ -81,9 +79,9 @@ fn local<'a>(
 ) -> Result<(Local, &'a [Token]), ParseErr>
     ensures found { IfOk result (λ x. IsLocal text.now (trees.local x.0) tokens.now x.1.now) }
     ensures stops { IfOk result (λ x. Stops 15 x.1.now) }
-    ensures low { IfOk result (λ x. height_of (trees.local x.0).initialiser ≤ 64) }
+    ensures low { IfOk result (λ x. height_of (trees.local x.0).initialiser ≤ MOST_EXPRESSIONS) }
     ensures over { IfOk result (λ x. one_over (trees.local x.0).initialiser ≤ room) }
-    ensures refused { IfErr result (λ e. Placed e (NoLocal room) (HasLocal room) text.now tokens.now) }
+    ensures refused { IfErr result (λ e. RefusesLocal e room text.now tokens.now) }
 {
     let (pointers, declarator) = stars(tokens);
     match name(declarator) {
@@ -100,8 +98,8 @@ fn local<'a>(
     }
 }
 
-/// The locals of a declaration after their base, up to the semicolon, how many the function may still
-/// declare, and what follows the semicolon. The function may declare at least one.
+/// The locals of a declaration after their base, up to the semicolon, how many the function may
+/// still declare, and what follows the semicolon. The function may declare at least one.
 fn locals<'a>(
     alloc: Global,
     text: &[u8],
@@ -110,11 +108,13 @@ fn locals<'a>(
     tokens: &'a [Token],
 ) -> Result<(Vec<Local>, u64, &'a [Token]), ParseErr>
     requires { 1 ≤ left }
-    ensures found { IfOk result (λ x. AreLocals text.now (map trees.local x.0.items) tokens.now x.2.now) }
-    ensures low { IfOk result (λ x. height_of_locals (map trees.local x.0.items) ≤ 64) }
+    ensures found { IfOk result (λ x.
+        AreLocals text.now (map trees.local x.0.items) tokens.now x.2.now) }
+    ensures low { IfOk result (λ x.
+        height_of_locals (map trees.local x.0.items) ≤ MOST_EXPRESSIONS) }
     ensures over { IfOk result (λ x. one_over_locals (map trees.local x.0.items) ≤ room) }
     ensures taken { IfOk result (λ x. x.1 + length (map trees.local x.0.items) ≡ left) }
-    ensures refused { IfErr result (λ e. Placed e (NoLocals room left) (HasLocals room left) text.now tokens.now) }
+    ensures refused { IfErr result (λ e. RefusesLocals e room left text.now tokens.now) }
 {
     let (first, mut rest) = local(alloc, text, room, tokens)?;
     let mut left = left - 1;
@@ -133,8 +133,8 @@ fn locals<'a>(
     Ok((found, left, end))
 }
 
-/// The declaration of locals at the front (C11, 6.7), how many the function may still declare, and what
-/// follows it. At most `room` statements stand around an initialiser.
+/// The declaration of locals at the front (C11, 6.7), how many the function may still declare, and
+/// what follows it. At most `room` statements stand around an initialiser.
 pub fn declaration<'a>(
     alloc: Global,
     text: &[u8],
@@ -142,11 +142,13 @@ pub fn declaration<'a>(
     left: u64,
     tokens: &'a [Token],
 ) -> Result<(Declaration, u64, &'a [Token]), ParseErr>
-    ensures found { IfOk result (λ x. IsDeclaration text.now x.0.base (map trees.local x.0.locals.items) tokens.now x.2.now) }
-    ensures low { IfOk result (λ x. height_of_locals (map trees.local x.0.locals.items) ≤ 64) }
+    ensures found { IfOk result (λ x.
+        IsDeclaration text.now x.0.base (map trees.local x.0.locals.items) tokens.now x.2.now) }
+    ensures low { IfOk result (λ x.
+        height_of_locals (map trees.local x.0.locals.items) ≤ MOST_EXPRESSIONS) }
     ensures over { IfOk result (λ x. one_over_locals (map trees.local x.0.locals.items) ≤ room) }
     ensures taken { IfOk result (λ x. x.1 + length (map trees.local x.0.locals.items) ≡ left) }
-    ensures refused { IfErr result (λ e. Placed e (NoDeclaration room left) (HasDeclaration room left) text.now tokens.now) }
+    ensures refused { IfErr result (λ e. RefusesDeclaration e room left text.now tokens.now) }
 {
     match base(tokens) {
         Some((base, following)) => {
@@ -160,18 +162,20 @@ pub fn declaration<'a>(
     }
 }
 
-/// What a `for` does first, up to its semicolon (C11, 6.8.5.3), how many locals the function may still
-/// declare, and what follows the semicolon.
+/// What a `for` does first, up to its semicolon (C11, 6.8.5.3), how many locals the function may
+/// still declare, and what follows the semicolon.
 pub fn for_initialiser<'a>(
     alloc: Global,
     text: &[u8],
     left: u64,
     tokens: &'a [Token],
 ) -> Result<(ForInitialiser, u64, &'a [Token]), ParseErr>
-    ensures found { IfOk result (λ x. IsForInitialiser text.now (trees.first x.0) tokens.now x.2.now) }
-    ensures low { IfOk result (λ x. height_of_for_initialiser (trees.first x.0) ≤ 64) }
+    ensures found { IfOk result (λ x.
+        IsForInitialiser text.now (trees.first x.0) tokens.now x.2.now) }
+    ensures low { IfOk result (λ x.
+        height_of_for_initialiser (trees.first x.0) ≤ MOST_EXPRESSIONS) }
     ensures taken { IfOk result (λ x. x.1 + locals_of_for_initialiser (trees.first x.0) ≡ left) }
-    ensures refused { IfErr result (λ e. Placed e (NoForInitialiser left) (HasForInitialiser left) text.now tokens.now) }
+    ensures refused { IfErr result (λ e. RefusesForInitialiser e left text.now tokens.now) }
 {
     match base(tokens) {
         Some(_) => {

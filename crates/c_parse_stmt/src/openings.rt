@@ -3,9 +3,8 @@
 ghost use Rattle.std.specs.Prelude.{IfOk, IfErr};
 ghost use Rattle.c_lex.specs.declared.keyword.Keyword.TheVariants as keywords;
 ghost use Rattle.c_syntax.specs.Tokens.{IsKeyword};
-ghost use Rattle.c_parse_expr.specs.Refusals.{Placed};
-ghost use Rattle.c_parse_stmt.specs.Openings.{Opens};
-ghost use Rattle.c_parse_stmt.specs.Within.{NoStatement, HasStatement, NoEvaluation, HasEvaluation, Behind};
+ghost use Rattle.c_parse_stmt.specs.Openings.{Opens, OpensAfter};
+ghost use Rattle.c_parse_stmt.specs.Refused.{RefusesStatement, RefusesEvaluation, RefusesAfter};
 
 use crate::build::{break_of, continue_of, evaluate_of, leave_of, return_of};
 use crate::filters::too_many_funclets;
@@ -63,7 +62,7 @@ fn evaluate<'a>(
     tokens: &'a [Token],
 ) -> Result<(Opening, Left, &'a [Token]), ParseErr>
     ensures found { IfOk result (λ x. Opens text.now room left x.1 x.0 tokens.now x.2.now) }
-    ensures refused { IfErr result (λ e. Placed e (NoEvaluation room left) (HasEvaluation room left) text.now tokens.now) }
+    ensures refused { IfErr result (λ e. RefusesEvaluation e room left text.now tokens.now) }
 {
     let (expr, rest) = optional(alloc, text, room, Punctuator::Semicolon, tokens)?;
     Ok((Opening::Whole(evaluate_of(expr)), left, rest))
@@ -78,8 +77,10 @@ fn returning<'a>(
     at: u64,
     tokens: &'a [Token],
 ) -> Result<(Opening, Left, &'a [Token]), ParseErr>
-    ensures found { IfOk result (λ x. Behind keywords.Return at tokens.now (λ ts. Opens text.now room left x.1 x.0 ts x.2.now)) }
-    ensures refused { IfErr result (λ e. Behind keywords.Return at tokens.now (λ ts. Placed e (NoStatement room left) (HasStatement room left) text.now ts)) }
+    ensures found { IfOk result (λ x.
+        OpensAfter keywords.Return at text.now room left x.1 x.0 tokens.now x.2.now) }
+    ensures refused { IfErr result (λ e.
+        RefusesAfter keywords.Return at e room left text.now tokens.now) }
 {
     let (value, rest) = optional(alloc, text, room, Punctuator::Semicolon, tokens)?;
     Ok((Opening::Whole(return_of(at, value)), left, rest))
@@ -93,8 +94,10 @@ fn breaking<'a>(
     at: u64,
     tokens: &'a [Token],
 ) -> Result<(Opening, Left, &'a [Token]), ParseErr>
-    ensures found { IfOk result (λ x. Behind keywords.Break at tokens.now (λ ts. Opens text.now room left x.1 x.0 ts x.2.now)) }
-    ensures refused { IfErr result (λ e. Behind keywords.Break at tokens.now (λ ts. Placed e (NoStatement room left) (HasStatement room left) text.now ts)) }
+    ensures found { IfOk result (λ x.
+        OpensAfter keywords.Break at text.now room left x.1 x.0 tokens.now x.2.now) }
+    ensures refused { IfErr result (λ e.
+        RefusesAfter keywords.Break at e room left text.now tokens.now) }
 {
     let rest = expect(text, Punctuator::Semicolon, tokens)?;
     Ok((Opening::Whole(break_of(at)), left, rest))
@@ -108,8 +111,10 @@ fn continuing<'a>(
     at: u64,
     tokens: &'a [Token],
 ) -> Result<(Opening, Left, &'a [Token]), ParseErr>
-    ensures found { IfOk result (λ x. Behind keywords.Continue at tokens.now (λ ts. Opens text.now room left x.1 x.0 ts x.2.now)) }
-    ensures refused { IfErr result (λ e. Behind keywords.Continue at tokens.now (λ ts. Placed e (NoStatement room left) (HasStatement room left) text.now ts)) }
+    ensures found { IfOk result (λ x.
+        OpensAfter keywords.Continue at text.now room left x.1 x.0 tokens.now x.2.now) }
+    ensures refused { IfErr result (λ e.
+        RefusesAfter keywords.Continue at e room left text.now tokens.now) }
 {
     let rest = expect(text, Punctuator::Semicolon, tokens)?;
     Ok((Opening::Whole(continue_of(at)), left, rest))
@@ -123,8 +128,10 @@ fn leaving<'a>(
     at: u64,
     tokens: &'a [Token],
 ) -> Result<(Opening, Left, &'a [Token]), ParseErr>
-    ensures found { IfOk result (λ x. Behind keywords.Leave at tokens.now (λ ts. Opens text.now room left x.1 x.0 ts x.2.now)) }
-    ensures refused { IfErr result (λ e. Behind keywords.Leave at tokens.now (λ ts. Placed e (NoStatement room left) (HasStatement room left) text.now ts)) }
+    ensures found { IfOk result (λ x.
+        OpensAfter keywords.Leave at text.now room left x.1 x.0 tokens.now x.2.now) }
+    ensures refused { IfErr result (λ e.
+        RefusesAfter keywords.Leave at e room left text.now tokens.now) }
 {
     let rest = expect(text, Punctuator::Semicolon, tokens)?;
     Ok((Opening::Whole(leave_of(at)), left, rest))
@@ -139,8 +146,10 @@ fn if_head<'a>(
     at: u64,
     tokens: &'a [Token],
 ) -> Result<(Opening, Left, &'a [Token]), ParseErr>
-    ensures found { IfOk result (λ x. Behind keywords.If at tokens.now (λ ts. Opens text.now room left x.1 x.0 ts x.2.now)) }
-    ensures refused { IfErr result (λ e. Behind keywords.If at tokens.now (λ ts. Placed e (NoStatement room left) (HasStatement room left) text.now ts)) }
+    ensures found { IfOk result (λ x.
+        OpensAfter keywords.If at text.now room left x.1 x.0 tokens.now x.2.now) }
+    ensures refused { IfErr result (λ e.
+        RefusesAfter keywords.If at e room left text.now tokens.now) }
 {
     if room == 0 {
         return Err(ParseErr::TooDeep { at });
@@ -158,8 +167,10 @@ fn while_head<'a>(
     at: u64,
     tokens: &'a [Token],
 ) -> Result<(Opening, Left, &'a [Token]), ParseErr>
-    ensures found { IfOk result (λ x. Behind keywords.While at tokens.now (λ ts. Opens text.now room left x.1 x.0 ts x.2.now)) }
-    ensures refused { IfErr result (λ e. Behind keywords.While at tokens.now (λ ts. Placed e (NoStatement room left) (HasStatement room left) text.now ts)) }
+    ensures found { IfOk result (λ x.
+        OpensAfter keywords.While at text.now room left x.1 x.0 tokens.now x.2.now) }
+    ensures refused { IfErr result (λ e.
+        RefusesAfter keywords.While at e room left text.now tokens.now) }
 {
     if room == 0 {
         return Err(ParseErr::TooDeep { at });
@@ -176,8 +187,10 @@ fn do_head<'a>(
     at: u64,
     tokens: &'a [Token],
 ) -> Result<(Opening, Left, &'a [Token]), ParseErr>
-    ensures found { IfOk result (λ x. Behind keywords.Do at tokens.now (λ ts. Opens text.now room left x.1 x.0 ts x.2.now)) }
-    ensures refused { IfErr result (λ e. Behind keywords.Do at tokens.now (λ ts. Placed e (NoStatement room left) (HasStatement room left) text.now ts)) }
+    ensures found { IfOk result (λ x.
+        OpensAfter keywords.Do at text.now room left x.1 x.0 tokens.now x.2.now) }
+    ensures refused { IfErr result (λ e.
+        RefusesAfter keywords.Do at e room left text.now tokens.now) }
 {
     if room == 0 {
         return Err(ParseErr::TooDeep { at });
@@ -185,8 +198,8 @@ fn do_head<'a>(
     Ok((Opening::Head(Head::Do), left, tokens))
 }
 
-/// What follows `for`: in parentheses a declaration or an expression, a condition and an expression, of
-/// which each may be missing (C11, 6.8.5.3).
+/// What follows `for`: in parentheses a declaration or an expression, a condition and an
+/// expression, of which each may be missing (C11, 6.8.5.3).
 fn for_head<'a>(
     alloc: Global,
     text: &[u8],
@@ -195,8 +208,10 @@ fn for_head<'a>(
     at: u64,
     tokens: &'a [Token],
 ) -> Result<(Opening, Left, &'a [Token]), ParseErr>
-    ensures found { IfOk result (λ x. Behind keywords.For at tokens.now (λ ts. Opens text.now room left x.1 x.0 ts x.2.now)) }
-    ensures refused { IfErr result (λ e. Behind keywords.For at tokens.now (λ ts. Placed e (NoStatement room left) (HasStatement room left) text.now ts)) }
+    ensures found { IfOk result (λ x.
+        OpensAfter keywords.For at text.now room left x.1 x.0 tokens.now x.2.now) }
+    ensures refused { IfErr result (λ e.
+        RefusesAfter keywords.For at e room left text.now tokens.now) }
 {
     if room == 0 {
         return Err(ParseErr::TooDeep { at });
@@ -216,8 +231,8 @@ fn for_head<'a>(
 }
 
 /// What follows `__try`: the brace of its block (Microsoft C reference, "try-except statement" and
-/// "try-finally statement"). Where no statement may stand inside and no block may have a number, neither
-/// continues.
+/// "try-finally statement"). Where no statement may stand inside and no block may have a number,
+/// neither continues.
 fn try_head<'a>(
     text: &[u8],
     room: u64,
@@ -225,8 +240,10 @@ fn try_head<'a>(
     at: u64,
     tokens: &'a [Token],
 ) -> Result<(Opening, Left, &'a [Token]), ParseErr>
-    ensures found { IfOk result (λ x. Behind keywords.Try at tokens.now (λ ts. Opens text.now room left x.1 x.0 ts x.2.now)) }
-    ensures refused { IfErr result (λ e. Behind keywords.Try at tokens.now (λ ts. Placed e (NoStatement room left) (HasStatement room left) text.now ts)) }
+    ensures found { IfOk result (λ x.
+        OpensAfter keywords.Try at text.now room left x.1 x.0 tokens.now x.2.now) }
+    ensures refused { IfErr result (λ e.
+        RefusesAfter keywords.Try at e room left text.now tokens.now) }
 {
     if room == 0 && left.funclets == 0 {
         return Err(too_many_funclets(at));
@@ -248,7 +265,7 @@ fn by_keyword<'a>(
 ) -> Result<(Opening, Left, &'a [Token]), ParseErr>
     requires { IsKeyword keyword at tokens.now following.now }
     ensures found { IfOk result (λ x. Opens text.now room left x.1 x.0 tokens.now x.2.now) }
-    ensures refused { IfErr result (λ e. Placed e (NoStatement room left) (HasStatement room left) text.now tokens.now) }
+    ensures refused { IfErr result (λ e. RefusesStatement e room left text.now tokens.now) }
 {
     match keyword {
         Keyword::If => if_head(alloc, text, room, left, at, following),
@@ -264,8 +281,8 @@ fn by_keyword<'a>(
     }
 }
 
-/// How the statement at the front begins, what is left of the counts after that, and what follows it.
-/// At most `room` statements stand around each of the statement's parts.
+/// How the statement at the front begins, what is left of the counts after that, and what follows
+/// it. At most `room` statements stand around each of the statement's parts.
 pub fn read_opening<'a>(
     alloc: Global,
     text: &[u8],
@@ -274,7 +291,7 @@ pub fn read_opening<'a>(
     tokens: &'a [Token],
 ) -> Result<(Opening, Left, &'a [Token]), ParseErr>
     ensures found { IfOk result (λ x. Opens text.now room left x.1 x.0 tokens.now x.2.now) }
-    ensures refused { IfErr result (λ e. Placed e (NoStatement room left) (HasStatement room left) text.now tokens.now) }
+    ensures refused { IfErr result (λ e. RefusesStatement e room left text.now tokens.now) }
 {
     if let Some(inner) = after(Punctuator::OpenBrace, tokens) {
         return Ok((Opening::Block, left, inner));

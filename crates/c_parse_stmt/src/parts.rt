@@ -1,6 +1,7 @@
-//! Parts of statements: keywords and punctuators that have to stand, expressions and what ends them.
+//! Parts of statements: keywords and punctuators that have to stand, expressions and what ends
+//! them.
 
-ghost use Rattle.std.specs.Prelude.{◌≤◌, ◌<◌, ℕ, List, IsTrue, IsFalse, IfOk, IfErr, IfSome, IfNone, option_map};
+ghost use Rattle.std.specs.Prelude.{◌≤◌, ◌<◌, List, IsTrue, IsFalse, IfOk, IfErr, IfSome, IfNone, option_map};
 ghost use Rattle.c_lex.specs.declared.keyword.Keyword.{Keyword};
 ghost use Rattle.c_lex.specs.declared.punctuator.Punctuator.{Punctuator};
 ghost use Rattle.c_lex.specs.declared.token.Token.{Token};
@@ -9,12 +10,11 @@ ghost use Rattle.c_syntax.specs.Follow.{punctuator_follows};
 ghost use Rattle.c_syntax.specs.Limits.{height_of, one_over};
 ghost use Rattle.c_syntax.specs.Statements.{IsCondition};
 ghost use Rattle.c_syntax.specs.Tokens.{IsKeyword, HasKeyword, HasPunctuator};
-ghost use Rattle.c_parse_expr.specs.Refusals.{Placed};
 ghost use Rattle.c_parse_type.specs.Bases.{NoBase};
 ghost use Rattle.c_parse_stmt.specs.declared.left.Left.{Left};
 ghost use Rattle.c_parse_stmt.specs.Begins.{BeginsExpression, BeginsNoExpression, BeginsStatement, BeginsNoStatement};
-ghost use Rattle.c_parse_stmt.specs.Parts.{NoPunctuator, APunctuator, IsUpTo, NoCondition, HasCondition, NoneUpTo, HasUpTo};
-ghost use Rattle.c_parse_stmt.specs.Within.{NoBlockItem, HasBlockItem};
+ghost use Rattle.c_parse_stmt.specs.Parts.{IsUpTo};
+ghost use Rattle.c_parse_stmt.specs.Refused.{RefusesPunctuator, RefusesCondition, RefusesUpTo, RefusesBlockItem};
 
 use c_lex::keyword::Keyword;
 use c_lex::punctuator::Punctuator;
@@ -23,10 +23,8 @@ use c_parse_expr::expressions::expression;
 use c_parse_expr::refusal::{ParseErr, too_deep, unexpected};
 use c_parse_type::front::{after, front};
 use c_syntax::expression::Expr;
+use c_syntax::limit::MOST_EXPRESSIONS;
 use std::alloc::Global;
-
-/// The most expressions that stand around an expression.
-const DEEPEST: u64 = 64;
 
 /// The level of a whole expression, commas too (C11, 6.5.17).
 const COMMA: u8 = 16;
@@ -34,7 +32,8 @@ const COMMA: u8 = 16;
 /// The keyword at the front, its place, and what follows it.
 pub fn keyword_at(tokens: &[Token]) -> Option<(Keyword, u64, &[Token])>
     ensures found { IfSome result (λ x. IsKeyword x.0 x.1 tokens.now x.2.now) }
-    ensures none { IfNone result ((keyword : Keyword) (rest : List Token) → HasKeyword keyword tokens.now rest → ⊥) }
+    ensures none { IfNone result ((keyword : Keyword) (rest : List Token)
+        → HasKeyword keyword tokens.now rest → ⊥) }
 {
     let (token, rest) = front(tokens)?;
     match token.kind {
@@ -67,7 +66,7 @@ pub fn expect<'a>(
     tokens: &'a [Token],
 ) -> Result<&'a [Token], ParseErr>
     ensures found { IfOk result (λ rest. HasPunctuator wanted tokens.now rest.now) }
-    ensures refused { IfErr result (λ e. Placed e (NoPunctuator wanted) (APunctuator wanted) text.now tokens.now) }
+    ensures refused { IfErr result (λ e. RefusesPunctuator e wanted text.now tokens.now) }
 {
     match after(wanted, tokens) {
         Some(rest) => Ok(rest),
@@ -134,10 +133,11 @@ fn begins_statement(tokens: &[Token]) -> bool
     }
 }
 
-/// The refusal of the first token where an expression is one statement too deep: if none begins with
-/// it, no program continues so at all.
+/// The refusal of the first token where an expression is one statement too deep: if none begins
+/// with it, no program continues so at all.
 fn no_room_for_expression(text: &[u8], tokens: &[Token]) -> ParseErr
-    ensures { (end : Punctuator) → ((rest : List Token) → HasPunctuator end tokens.now rest → ⊥) → Placed result (NoneUpTo end 0) (HasUpTo end 0) text.now tokens.now }
+    ensures { (end : Punctuator) → ((rest : List Token) → HasPunctuator end tokens.now rest → ⊥)
+        → RefusesUpTo result end 0 text.now tokens.now }
 {
     if begins_expression(tokens) {
         too_deep(text, tokens)
@@ -146,10 +146,11 @@ fn no_room_for_expression(text: &[u8], tokens: &[Token]) -> ParseErr
     }
 }
 
-/// The refusal of the first token where no declaration begins with it, and each statement is one too
-/// deep: if none begins with it, no program continues so at all.
+/// The refusal of the first token where no declaration begins with it, and each statement is one
+/// too deep: if none begins with it, no program continues so at all.
 pub fn no_room_for_statement(text: &[u8], tokens: &[Token]) -> ParseErr
-    ensures { (left : Left) → NoBase tokens.now → Placed result (NoBlockItem 0 left) (HasBlockItem 0 left) text.now tokens.now }
+    ensures { (left : Left) → NoBase tokens.now
+        → RefusesBlockItem result 0 left text.now tokens.now }
 {
     if begins_statement(tokens) {
         too_deep(text, tokens)
@@ -165,17 +166,17 @@ pub fn condition<'a>(
     tokens: &'a [Token],
 ) -> Result<(Expr, &'a [Token]), ParseErr>
     ensures found { IfOk result (λ x. IsCondition text.now (expression x.0) tokens.now x.1.now) }
-    ensures low { IfOk result (λ x. height (expression x.0) ≤ 64) }
-    ensures refused { IfErr result (λ e. Placed e NoCondition HasCondition text.now tokens.now) }
+    ensures low { IfOk result (λ x. height (expression x.0) ≤ MOST_EXPRESSIONS) }
+    ensures refused { IfErr result (λ e. RefusesCondition e text.now tokens.now) }
 {
     let inner = expect(text, Punctuator::OpenParenthesis, tokens)?;
-    let parsed = expression(alloc, text, DEEPEST, COMMA, inner)?;
+    let parsed = expression(alloc, text, MOST_EXPRESSIONS, COMMA, inner)?;
     let rest = expect(text, Punctuator::CloseParenthesis, parsed.rest)?;
     Ok((parsed.expr, rest))
 }
 
-/// The expression, or nothing, up to a punctuator that ends it, and what follows the punctuator. At most `room`
-/// statements stand around the expression.
+/// The expression, or nothing, up to a punctuator that ends it, and what follows the punctuator. At
+/// most `room` statements stand around the expression.
 pub fn optional<'a>(
     alloc: Global,
     text: &[u8],
@@ -184,10 +185,11 @@ pub fn optional<'a>(
     tokens: &'a [Token],
 ) -> Result<(Option<Expr>, &'a [Token]), ParseErr>
     requires { 16 < punctuator_follows end }
-    ensures found { IfOk result (λ x. IsUpTo text.now end (option_map expression x.0) tokens.now x.1.now) }
-    ensures low { IfOk result (λ x. height_of (option_map expression x.0) ≤ 64) }
+    ensures found { IfOk result (λ x.
+        IsUpTo text.now end (option_map expression x.0) tokens.now x.1.now) }
+    ensures low { IfOk result (λ x. height_of (option_map expression x.0) ≤ MOST_EXPRESSIONS) }
     ensures over { IfOk result (λ x. one_over (option_map expression x.0) ≤ room) }
-    ensures refused { IfErr result (λ e. Placed e (NoneUpTo end room) (HasUpTo end room) text.now tokens.now) }
+    ensures refused { IfErr result (λ e. RefusesUpTo e end room text.now tokens.now) }
 {
     match after(end, tokens) {
         Some(rest) => Ok((None, rest)),
@@ -195,7 +197,7 @@ pub fn optional<'a>(
             if room == 0 {
                 return Err(no_room_for_expression(text, tokens));
             }
-            let parsed = expression(alloc, text, DEEPEST, COMMA, tokens)?;
+            let parsed = expression(alloc, text, MOST_EXPRESSIONS, COMMA, tokens)?;
             let rest = expect(text, end, parsed.rest)?;
             Ok((Some(parsed.expr), rest))
         }

@@ -1,14 +1,14 @@
 //! Statements, and what is in blocks.
 
-ghost use Rattle.std.specs.Prelude.{◌≤◌, ◌+◌, List, IfOk, IfErr, IfSome, IfNone, map};
+ghost use Rattle.std.specs.Prelude.{◌≤◌, ◌<◌, ◌+◌, IfOk, IfErr, IfSome, IfNone, map};
 ghost use Rattle.c_lex.specs.declared.token.Token.{Token};
 ghost use Rattle.c_syntax.specs.Statement.{statement, statements};
 ghost use Rattle.c_syntax.specs.Statements.{AreBlockItems};
 ghost use Rattle.c_parse_type.specs.Bases.{NoBase};
-ghost use Rattle.c_parse_expr.specs.Refusals.{Placed};
 ghost use Rattle.c_parse_stmt.specs.declared.left.Left.{Left};
-ghost use Rattle.c_parse_stmt.specs.Openings.{Heads, IsTry};
-ghost use Rattle.c_parse_stmt.specs.Within.{AllTaken, NoBlockItems, HasBlockItems, Reads, NoStatement, HasStatement, ReadsBlockItem, NoBlockItem, HasBlockItem};
+ghost use Rattle.c_parse_stmt.specs.Openings.{ReadsAfterHead, ReadsAfterTry};
+ghost use Rattle.c_parse_stmt.specs.Within.{AllTaken, Reads, ReadsBlockItem};
+ghost use Rattle.c_parse_stmt.specs.Refused.{RefusesStatement, RefusesBlockItem, RefusesBlockItems, RefusesAfterHead, RefusesAfterTry};
 
 use crate::build::{block_of, declare, if_else_of};
 use crate::endings::{Ending, read_clause, read_ending, try_of};
@@ -21,6 +21,7 @@ use c_lex::token::Token;
 use c_parse_expr::refusal::ParseErr;
 use c_parse_type::front::after;
 use c_parse_type::specifiers::base;
+use c_syntax::limit::MOST_STATEMENTS;
 use c_syntax::statement::Stmt;
 use std::alloc::Global;
 
@@ -33,10 +34,11 @@ fn declared<'a>(
     left: Left,
     tokens: &'a [Token],
 ) -> Result<Option<(Stmt, Left, &'a [Token])>, ParseErr>
-    ensures found { IfOk result (λ o. IfSome o (λ x. ReadsBlockItem text.now room left x.1 (statement x.0) tokens.now x.2.now)) }
+    ensures found { IfOk result (λ o. IfSome o (λ x.
+        ReadsBlockItem text.now room left x.1 (statement x.0) tokens.now x.2.now)) }
     ensures room { IfOk result (λ o. IfNone o (1 ≤ room)) }
     ensures none { IfOk result (λ o. IfNone o (NoBase tokens.now)) }
-    ensures refused { IfErr result (λ e. Placed e (NoBlockItem room left) (HasBlockItem room left) text.now tokens.now) }
+    ensures refused { IfErr result (λ e. RefusesBlockItem e room left text.now tokens.now) }
 {
     match base(tokens) {
         Some(_) => {
@@ -53,8 +55,8 @@ fn declared<'a>(
     }
 }
 
-/// What follows the head of a statement: the statement in it, and what continues after that, up to a
-/// second one after an `else`.
+/// What follows the head of a statement: the statement in it, and what continues after that, up to
+/// a second one after an `else`.
 #[cycle(nested)]
 fn inside<'a>(
     alloc: Global,
@@ -65,9 +67,10 @@ fn inside<'a>(
     tokens: &'a [Token],
 ) -> Result<(Stmt, Left, &'a [Token]), ParseErr>
     requires some { 1 ≤ room }
-    requires low { room ≤ 64 }
-    ensures found { IfOk result (λ x. (whole : Left) (ts : List Token) → Heads text.now room whole left head ts tokens.now → Reads text.now room whole x.1 (statement x.0) ts x.2.now) }
-    ensures refused { IfErr result (λ e. (whole : Left) (ts : List Token) → Heads text.now room whole left head ts tokens.now → Placed e (NoStatement room whole) (HasStatement room whole) text.now ts) }
+    requires low { room < MOST_STATEMENTS }
+    ensures found { IfOk result (λ x.
+        ReadsAfterHead head text.now room left x.1 (statement x.0) tokens.now x.2.now) }
+    ensures refused { IfErr result (λ e. RefusesAfterHead head e room left text.now tokens.now) }
 {
     let (inner, left, following) = statement(alloc, text, room - 1, left, tokens)?;
     let (ending, following) = read_ending(alloc, text, head, inner, following)?;
@@ -85,9 +88,9 @@ fn inside<'a>(
     }
 }
 
-/// What follows `__try` and a brace: the rest of the block, `__except` with its filter in parentheses or
-/// `__finally`, and another block (Microsoft C reference, "try-except statement" and "try-finally
-/// statement").
+/// What follows `__try` and a brace: the rest of the block, `__except` with its filter in
+/// parentheses or `__finally`, and another block (Microsoft C reference, "try-except statement" and
+/// "try-finally statement").
 #[cycle(nested)]
 fn guarded<'a>(
     alloc: Global,
@@ -97,9 +100,10 @@ fn guarded<'a>(
     tokens: &'a [Token],
 ) -> Result<(Stmt, Left, &'a [Token]), ParseErr>
     requires some { 1 ≤ room + left.funclets }
-    requires low { room ≤ 64 }
-    ensures found { IfOk result (λ x. (ts : List Token) → IsTry ts tokens.now → Reads text.now room left x.1 (statement x.0) ts x.2.now) }
-    ensures refused { IfErr result (λ e. (ts : List Token) → IsTry ts tokens.now → Placed e (NoStatement room left) (HasStatement room left) text.now ts) }
+    requires low { room < MOST_STATEMENTS }
+    ensures found { IfOk result (λ x.
+        ReadsAfterTry text.now room left x.1 (statement x.0) tokens.now x.2.now) }
+    ensures refused { IfErr result (λ e. RefusesAfterTry e room left text.now tokens.now) }
 {
     let (body, left, following) = items(alloc, text, room, left, tokens)?;
     let (clause, left, following) = read_clause(alloc, text, room, left, following)?;
@@ -107,8 +111,8 @@ fn guarded<'a>(
     Ok((try_of(body, clause, last), left, rest))
 }
 
-/// The statement at the front as far as it goes (C11, 6.8), what is left of the counts after it, and
-/// what follows it. At most `room` statements stand around each of its parts.
+/// The statement at the front as far as it goes (C11, 6.8), what is left of the counts after it,
+/// and what follows it. At most `room` statements stand around each of its parts.
 #[cycle(nested)]
 fn statement<'a>(
     alloc: Global,
@@ -117,9 +121,10 @@ fn statement<'a>(
     left: Left,
     tokens: &'a [Token],
 ) -> Result<(Stmt, Left, &'a [Token]), ParseErr>
-    requires { room ≤ 64 }
-    ensures found { IfOk result (λ x. Reads text.now room left x.1 (statement x.0) tokens.now x.2.now) }
-    ensures refused { IfErr result (λ e. Placed e (NoStatement room left) (HasStatement room left) text.now tokens.now) }
+    requires { room < MOST_STATEMENTS }
+    ensures found { IfOk result (λ x.
+        Reads text.now room left x.1 (statement x.0) tokens.now x.2.now) }
+    ensures refused { IfErr result (λ e. RefusesStatement e room left text.now tokens.now) }
 {
     let (opening, left, following) = read_opening(alloc, text, room, left, tokens)?;
     match opening {
@@ -133,8 +138,8 @@ fn statement<'a>(
     }
 }
 
-/// The statement or declaration of a block at the front, what is left of the counts after it, and what
-/// follows it. At most `room` statements stand around it and each expression in it.
+/// The statement or declaration of a block at the front, what is left of the counts after it, and
+/// what follows it. At most `room` statements stand around it and each expression in it.
 #[cycle(nested)]
 fn item<'a>(
     alloc: Global,
@@ -143,9 +148,10 @@ fn item<'a>(
     left: Left,
     tokens: &'a [Token],
 ) -> Result<(Stmt, Left, &'a [Token]), ParseErr>
-    requires { room ≤ 65 }
-    ensures found { IfOk result (λ x. ReadsBlockItem text.now room left x.1 (statement x.0) tokens.now x.2.now) }
-    ensures refused { IfErr result (λ e. Placed e (NoBlockItem room left) (HasBlockItem room left) text.now tokens.now) }
+    requires { room ≤ MOST_STATEMENTS }
+    ensures found { IfOk result (λ x.
+        ReadsBlockItem text.now room left x.1 (statement x.0) tokens.now x.2.now) }
+    ensures refused { IfErr result (λ e. RefusesBlockItem e room left text.now tokens.now) }
 {
     match declared(alloc, text, room, left, tokens)? {
         Some(found) => Ok(found),
@@ -153,9 +159,9 @@ fn item<'a>(
     }
 }
 
-/// The statements and declarations of a block up to its brace, what is left of the counts after them,
-/// and what follows the brace. At most `room` statements stand around each statement and each
-/// expression in the block, and at most 64 expressions around each expression.
+/// The statements and declarations of a block up to its brace, what is left of the counts after
+/// them, and what follows the brace. At most `room` statements stand around each statement and each
+/// expression in the block, and at most `MOST_EXPRESSIONS` expressions around each expression.
 #[cycle(nested)]
 pub fn items<'a>(
     alloc: Global,
@@ -164,10 +170,12 @@ pub fn items<'a>(
     left: Left,
     tokens: &'a [Token],
 ) -> Result<(Vec<Stmt>, Left, &'a [Token]), ParseErr>
-    requires { room ≤ 65 }
-    ensures found { IfOk result (λ x. AreBlockItems text.now (statements (map statement x.0.items)) tokens.now x.2.now) }
-    ensures taken { IfOk result (λ x. AllTaken text.now room left x.1 (statements (map statement x.0.items))) }
-    ensures refused { IfErr result (λ e. Placed e (NoBlockItems room left) (HasBlockItems room left) text.now tokens.now) }
+    requires { room ≤ MOST_STATEMENTS }
+    ensures found { IfOk result (λ x.
+        AreBlockItems text.now (statements (map statement x.0.items)) tokens.now x.2.now) }
+    ensures taken { IfOk result (λ x.
+        AllTaken text.now room left x.1 (statements (map statement x.0.items))) }
+    ensures refused { IfErr result (λ e. RefusesBlockItems e room left text.now tokens.now) }
 {
     let mut found = Vec::new(alloc);
     let mut left = left;

@@ -1,7 +1,7 @@
 //! Types of C from tokens.
 //!
-//! A type at the front of tokens is read as far as its specifiers and stars go (C11, 6.7.2 and 6.7.6).
-//! What is read is such a type, and a type that nothing of a type follows is read.
+//! A type at the front of tokens is read as far as its specifiers and stars go (C11, 6.7.2 and
+//! 6.7.6). What is read is such a type, and a type that nothing of a type follows is read.
 #![tactic(auto)]
 
 pub mod front;

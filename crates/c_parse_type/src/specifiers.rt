@@ -80,12 +80,13 @@ fn specifiers(tokens: &[Token]) -> Option<(Base, &[Token])>
     }
 }
 
-/// The base that specifiers at the front name (C11, 6.7.2), as many as belong to it, and what follows
-/// them; none where no specifiers are at the front.
+/// The base that specifiers at the front name (C11, 6.7.2), as many as belong to it, and what
+/// follows them; none where no specifiers are at the front.
 pub fn base(tokens: &[Token]) -> Option<(Base, &[Token])>
     ensures found { IfSome result (λ x. IsBase x.0 tokens.now x.1.now) }
     ensures far { IfSome result (λ x. EndsBase x.0 tokens.now x.1.now) }
-    ensures only { (b : Base) (rest : List Token) → IsBase b tokens.now rest → NoBase rest → option_map {U = Base × List Token} (λ x. (x.0, x.1.now)) result ≡ Some (b, rest) }
+    ensures only { (b : Base) (rest : List Token) → IsBase b tokens.now rest → NoBase rest
+        → option_map {U = Base × List Token} (λ x. (x.0, x.1.now)) result ≡ Some (b, rest) }
     ensures none { IfNone result (NoBase tokens.now) }
 {
     specifiers(tokens)
@@ -105,12 +106,14 @@ pub fn stars(tokens: &[Token]) -> (u64, &[Token])
     (count, rest)
 }
 
-/// The type at the front, its specifiers and stars as far as they go, and what follows it; none where
-/// no specifiers are at the front.
+/// The type at the front, its specifiers and stars as far as they go, and what follows it; none
+/// where no specifiers are at the front.
 pub fn c_type(tokens: &[Token]) -> Option<(CType, &[Token])>
     ensures found { IfSome result (λ x. IsType x.0 tokens.now x.1.now) }
     ensures far { IfSome result (λ x. EndsType x.0 tokens.now x.1.now) }
-    ensures only { (of : CType) (rest : List Token) → IsType of tokens.now rest → NoBase rest → NoStar rest → option_map {U = CType × List Token} (λ x. (x.0, x.1.now)) result ≡ Some (of, rest) }
+    ensures only { (of : CType) (rest : List Token) → IsType of tokens.now rest → NoBase rest
+        → NoStar rest → option_map {U = CType × List Token} (λ x. (x.0, x.1.now)) result
+        ≡ Some (of, rest) }
     ensures none { IfNone result (NoBase tokens.now) }
 {
     let (base, rest) = base(tokens)?;

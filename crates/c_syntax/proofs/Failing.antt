@@ -18,9 +18,9 @@ pub alike_same : (text : List ℕ) (ts : List Token) → Alike text text ts
 alike_same text [] = tt
 alike_same text (t ∷ ts) = (refl, alike_same text ts)
 
-pub first_behind : (front fault other : List Token) → SameFirst fault other → SameFirst (front ++ fault) (front ++ other)
-first_behind [] fault other h = h
-first_behind (t ∷ front) fault other h = (front ++ other, refl)
+pub first_after : (front fault other : List Token) → SameFirst fault other → SameFirst (front ++ fault) (front ++ other)
+first_after [] fault other h = h
+first_after (t ∷ front) fault other h = (front ++ other, refl)
 
 pub first_same : (ts : List Token) → SameFirst ts ts
 first_same [] = refl
@@ -58,7 +58,7 @@ wrapped No Has No' Has' kind at text ts ts' w f = record {
   located = f.located;
   against = λ text' other a s.
       subst (λ z. No' kind text' z) (sym (append_assoc w.before f.front other))
-      (w.no kind text' (f.front ++ other) a (subst (λ z. SameFirst z (f.front ++ other)) (sym f.split) (first_behind f.front f.fault other s))
+      (w.no kind text' (f.front ++ other) a (subst (λ z. SameFirst z (f.front ++ other)) (sym f.split) (first_after f.front f.fault other s))
       (f.against text' other (alike_inner text text' w.before ts ts' w.split a) s));
   able = λ text' a k. able_so Has Has' 6 text' w.before f.front (λ inner h. w.has 6 text' inner a k h) (f.able text' (alike_inner text text' w.before ts ts' w.split a) k);
   further = λ text' n a k e. onward Has Has' n text' w.before f.front f.fault (λ inner h. w.has n text' inner a k h) (f.further text' n (alike_inner text text' w.before ts ts' w.split a) k e);

@@ -5,7 +5,7 @@ use Rattle.c_syntax.specs.Faults.{place}
 use Rattle.c_syntax.specs.Limits.{Within, EachWithin}
 use Rattle.c_syntax.specs.Program.{ExternalDeclaration, Globals, Function}
 use Rattle.c_syntax.specs.Programs.{IsProgram}
-use Rattle.c_syntax.specs.Viable.{EachWithinFirst, WithinFirst, Viable, Continues, IsSyntaxFault, OneFirstFault, NoFaultInProgram}
+use Rattle.c_syntax.specs.Viable.{WithinIsWithinEach, EachWithinFirst, WithinFirst, Viable, Continues, IsSyntaxFault, OneFirstFault, NoFaultInProgram}
 
 -- ---- fewer limits
 
@@ -48,6 +48,9 @@ each_whole (Function returns name ps body ∷ xs) h =
 
 pub within_whole : (text : List ℕ) (xs : List ExternalDeclaration) → WithinFirst 6 text xs → Within text xs
 within_whole text xs h = record { each = each_whole xs h.each; functions = h.functions (omega arith); bytes = h.bytes (omega arith); numbered = h.numbered (omega arith) }
+
+pub within_is_within_each : WithinIsWithinEach
+within_is_within_each text xs = (within_first text xs, within_whole text xs)
 
 -- ---- one first fault
 

@@ -43,8 +43,8 @@ pub map : {R S : Phrase} {text : List ℕ} {ts rest : List Token} → Moves R te
 map m f = record { front = m.front; split = m.split; again = λ text' other a. f text' (m.front ++ other) other (m.again text' other a) }
 
 -- texts that spell a phrase and what follows alike spell what follows alike
-pub alike_behind : {R : Phrase} {text : List ℕ} {ts rest : List Token} (text' : List ℕ) → Moves R text ts rest → Alike text text' ts → Alike text text' rest
-alike_behind {text = text} {ts = ts} {rest = rest} text' m a = alike_inner text text' m.front rest ts m.split a
+pub alike_after : {R : Phrase} {text : List ℕ} {ts rest : List Token} (text' : List ℕ) → Moves R text ts rest → Alike text text' ts → Alike text text' rest
+alike_after {text = text} {ts = ts} {rest = rest} text' m a = alike_inner text text' m.front rest ts m.split a
 
 pub both : {R S : Phrase} {text : List ℕ} {ts mid rest : List Token} → Moves R text ts mid → Moves S text mid rest → Moves (Both R S) text ts rest
 both {R = R} {rest = rest} m n = record {
@@ -53,7 +53,7 @@ both {R = R} {rest = rest} m n = record {
   again = λ text' other a. (
     n.front ++ other,
     subst (λ z. R text' z (n.front ++ other)) (sym (append_assoc m.front n.front other)) (m.again text' (n.front ++ other) a),
-    n.again text' other (alike_behind text' m a),
+    n.again text' other (alike_after text' m a),
   );
 }
 

@@ -13,7 +13,7 @@ use Rattle.c_syntax.specs.Limits as limits
 use Rattle.c_syntax.specs.Program.{Initialiser, Single, Several, Global, ExternalDeclaration, Globals, Function}
 use Rattle.c_syntax.specs.Programs.{IsLiteral, IsConstant, AreMoreConstants, AreConstants, IsInitialiser, IsLength, IsGlobal, AreMoreGlobals, AreGlobals, IsParameter, AreMoreParameters, AreParameters, IsExternalDeclaration, IsProgram}
 use Rattle.c_syntax.proofs.Failing.{alike_same}
-use Rattle.c_syntax.proofs.Moves.{Moves, map, both, nothing, alike_behind, kind, punctuator, has_punctuator, has_keyword, name, base, stars, type}
+use Rattle.c_syntax.proofs.Moves.{Moves, map, both, nothing, alike_after, kind, punctuator, has_punctuator, has_keyword, name, base, stars, type}
 use Rattle.c_syntax.proofs.MovesStatements as statements
 pub use Rattle.c_syntax.proofs.Moves.{integer}
 
@@ -89,8 +89,8 @@ external_declaration (Function returns n ps body) text ts rest h =
 pub funclets_before : (x : ExternalDeclaration) (xs : List ExternalDeclaration) (text text' : List ℕ) (ts rest : List Token) → IsExternalDeclaration text x ts rest → Alike text text' ts → limits.funclets_in text' xs ≡ limits.funclets_in text xs → limits.funclets_in text' (x ∷ xs) ≡ limits.funclets_in text (x ∷ xs)
 funclets_before (Globals b gs) xs text text' ts rest h a e = e
 funclets_before (Function returns n ps body) xs text text' ts rest h a e =
-    let b = alike_behind text' (both (type returns text ts h.0 h.5) (both (name n text h.0 h.1 h.6) (has_punctuator punctuators.OpenParenthesis text h.1 h.2 h.7))) a in
-    let c = alike_behind text' (both (parameters ps text h.2 h.3 h.8) (has_punctuator punctuators.OpenBrace text h.3 h.4 h.9)) b in
+    let b = alike_after text' (both (type returns text ts h.0 h.5) (both (name n text h.0 h.1 h.6) (has_punctuator punctuators.OpenParenthesis text h.1 h.2 h.7))) a in
+    let c = alike_after text' (both (parameters ps text h.2 h.3 h.8) (has_punctuator punctuators.OpenBrace text h.3 h.4 h.9)) b in
     ap (λ z. z ++ limits.funclets_in text' xs) (statements.funclets_of_all body text text' h.4 rest h.10 c) ∙ ap (λ z. limits.funclets_of_all text body ++ z) e
 
 pub funclets_in : (x : ExternalDeclaration) (text text' : List ℕ) (ts rest : List Token) → IsExternalDeclaration text x ts rest → Alike text text' ts → limits.funclets_in text' (x ∷ []) ≡ limits.funclets_in text (x ∷ [])
@@ -102,12 +102,12 @@ pub program : (xs : List ExternalDeclaration) (text text' : List ℕ) (ts : List
 program [] text text' ts h a = h
 program (x ∷ xs) text text' ts h a =
     let m = external_declaration x text ts h.0 h.1 in
-    (h.0, subst (λ z. IsExternalDeclaration text' x z h.0) (sym m.split) (m.again text' h.0 a), program xs text text' h.0 h.2 (alike_behind text' m a))
+    (h.0, subst (λ z. IsExternalDeclaration text' x z h.0) (sym m.split) (m.again text' h.0 a), program xs text text' h.0 h.2 (alike_after text' m a))
 
 pub funclets_in_program : (xs : List ExternalDeclaration) (text text' : List ℕ) (ts : List Token) → IsProgram text xs ts → Alike text text' ts → limits.funclets_in text' xs ≡ limits.funclets_in text xs
 funclets_in_program [] text text' ts h a = refl
 funclets_in_program (x ∷ xs) text text' ts h a =
-    funclets_before x xs text text' ts h.0 h.1 a (funclets_in_program xs text text' h.0 h.2 (alike_behind text' (external_declaration x text ts h.0 h.1) a))
+    funclets_before x xs text text' ts h.0 h.1 a (funclets_in_program xs text text' h.0 h.2 (alike_after text' (external_declaration x text ts h.0 h.1) a))
 
 -- a program after another
 pub programs_joined : (xs ys : List ExternalDeclaration) (text : List ℕ) (ts us : List Token) → IsProgram text xs ts → IsProgram text ys us → IsProgram text (xs ++ ys) (ts ++ us)

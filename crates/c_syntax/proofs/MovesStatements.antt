@@ -14,7 +14,7 @@ use Rattle.c_syntax.specs.Statement.{Local, ForInitialiser, Declaring, Evaluatin
 use Rattle.c_syntax.specs.Statements.{IsInitialiser, IsLocal, AreMoreLocals, AreLocals, IsDeclaration, IsOptional, IsCondition, IsForInitialiser, IsBlockItem, AreBlockItems}
 use Rattle.c_syntax.specs.Tokens.{IsKeyword}
 use Rattle.c_syntax.proofs.Moves as moves
-use Rattle.c_syntax.proofs.Moves.{Moves, map, both, nothing, alike_behind, has_punctuator, has_keyword, name, base, stars, derives}
+use Rattle.c_syntax.proofs.Moves.{Moves, map, both, nothing, alike_after, has_punctuator, has_keyword, name, base, stars, derives}
 
 pub keyword : (k : Keyword) (at : ℕ) (text : List ℕ) (ts rest : List Token) → IsKeyword k at ts rest → Moves (λ t. IsKeyword k at) text ts rest
 keyword k at text ts rest h = moves.kind (kinds.Keyword k) at text ts rest h
@@ -106,40 +106,40 @@ joined : {xs xs' ys ys' : List ℕ} → xs' ≡ xs → ys' ≡ ys → xs' ++ ys'
 joined {xs = xs} {ys' = ys'} p q = ap (λ z. z ++ ys') p ∙ ap (λ z. xs ++ z) q
 
 pub filter : (f : Expression) (text text' : List ℕ) (ts rest : List Token) → IsCondition text f ts rest → Alike text text' ts → limits.accepts text' f ≡ limits.accepts text f
-filter f text text' ts rest h a = moves.accepts f text text' h.0 h.1 h.3.spells (alike_behind text' (has_punctuator punctuators.OpenParenthesis text ts h.0 h.2) a)
+filter f text text' ts rest h a = moves.accepts f text text' h.0 h.1 h.3.spells (alike_after text' (has_punctuator punctuators.OpenParenthesis text ts h.0 h.2) a)
 
 mutual
   pub numbered : (s : Statement) (text text' : List ℕ) (ts rest : List Token) → IsBlockItem text s ts rest → Alike text text' ts → limits.numbered text' s ≡ limits.numbered text s
   numbered (Declare b ls) text text' ts rest h a = refl
-  numbered (Block ss) text text' ts rest h a = funclets_of_all ss text text' h.0 rest h.2 (alike_behind text' (has_punctuator punctuators.OpenBrace text ts h.0 h.1) a)
+  numbered (Block ss) text text' ts rest h a = funclets_of_all ss text text' h.0 rest h.2 (alike_after text' (has_punctuator punctuators.OpenBrace text ts h.0 h.1) a)
   numbered (Evaluate e) text text' ts rest h a = refl
   numbered (If at c s) text text' ts rest h a =
-      numbered s text text' h.1 rest h.5 (alike_behind text' (condition c text h.0 h.1 h.3) (alike_behind text' (keyword keywords.If at text ts h.0 h.2) a))
+      numbered s text text' h.1 rest h.5 (alike_after text' (condition c text h.0 h.1 h.3) (alike_after text' (keyword keywords.If at text ts h.0 h.2) a))
   numbered (IfElse at c s z) text text' ts rest h a =
-      let b = alike_behind text' (condition c text h.0 h.1 h.5) (alike_behind text' (keyword keywords.If at text ts h.0 h.4) a) in
-      let d = alike_behind text' (has_keyword keywords.Else text h.2 h.3 h.9) (alike_behind text' (item s text h.1 h.2 h.8) b) in
+      let b = alike_after text' (condition c text h.0 h.1 h.5) (alike_after text' (keyword keywords.If at text ts h.0 h.4) a) in
+      let d = alike_after text' (has_keyword keywords.Else text h.2 h.3 h.9) (alike_after text' (item s text h.1 h.2 h.8) b) in
       joined (numbered s text text' h.1 h.2 h.8 b) (numbered z text text' h.3 rest h.11 d)
   numbered (While at c s) text text' ts rest h a =
-      numbered s text text' h.1 rest h.5 (alike_behind text' (condition c text h.0 h.1 h.3) (alike_behind text' (keyword keywords.While at text ts h.0 h.2) a))
-  numbered (DoWhile s at c) text text' ts rest h a = numbered s text text' h.0 h.1 h.6 (alike_behind text' (has_keyword keywords.Do text ts h.0 h.4) a)
+      numbered s text text' h.1 rest h.5 (alike_after text' (condition c text h.0 h.1 h.3) (alike_after text' (keyword keywords.While at text ts h.0 h.2) a))
+  numbered (DoWhile s at c) text text' ts rest h a = numbered s text text' h.0 h.1 h.6 (alike_after text' (has_keyword keywords.Do text ts h.0 h.4) a)
   numbered (For at f c n s) text text' ts rest h a =
-      let b = alike_behind text' (both (keyword keywords.For at text ts h.0 h.7) (both (has_punctuator punctuators.OpenParenthesis text h.0 h.1 h.8) (first f text h.1 h.2 h.9))) a in
-      let d = alike_behind text' (both (optional c text h.2 h.3 h.10) (has_punctuator punctuators.Semicolon text h.3 h.4 h.11)) b in
-      numbered s text text' h.6 rest h.15 (alike_behind text' (both (optional n text h.4 h.5 h.12) (has_punctuator punctuators.CloseParenthesis text h.5 h.6 h.13)) d)
+      let b = alike_after text' (both (keyword keywords.For at text ts h.0 h.7) (both (has_punctuator punctuators.OpenParenthesis text h.0 h.1 h.8) (first f text h.1 h.2 h.9))) a in
+      let d = alike_after text' (both (optional c text h.2 h.3 h.10) (has_punctuator punctuators.Semicolon text h.3 h.4 h.11)) b in
+      numbered s text text' h.6 rest h.15 (alike_after text' (both (optional n text h.4 h.5 h.12) (has_punctuator punctuators.CloseParenthesis text h.5 h.6 h.13)) d)
   numbered (Return at e) text text' ts rest h a = refl
   numbered (Break at) text text' ts rest h a = refl
   numbered (Continue at) text text' ts rest h a = refl
   numbered (Leave at) text text' ts rest h a = refl
   numbered (TryExcept body at f handler) text text' ts rest h a =
-      let b = alike_behind text' (both (has_keyword keywords.Try text ts h.0 h.6) (has_punctuator punctuators.OpenBrace text h.0 h.1 h.7)) a in
-      let d = alike_behind text' (both (items body text h.1 h.2 h.8) (keyword keywords.Except at text h.2 h.3 h.9)) b in
-      let e = alike_behind text' (both (condition f text h.3 h.4 h.10) (has_punctuator punctuators.OpenBrace text h.4 h.5 h.11)) d in
+      let b = alike_after text' (both (has_keyword keywords.Try text ts h.0 h.6) (has_punctuator punctuators.OpenBrace text h.0 h.1 h.7)) a in
+      let d = alike_after text' (both (items body text h.1 h.2 h.8) (keyword keywords.Except at text h.2 h.3 h.9)) b in
+      let e = alike_after text' (both (condition f text h.3 h.4 h.10) (has_punctuator punctuators.OpenBrace text h.4 h.5 h.11)) d in
       joined (joined (funclets_of_all body text text' h.1 h.2 h.8 b) (ap (λ z. cond z [] (at ∷ [])) (filter f text text' h.3 h.4 h.10 d))) (funclets_of_all handler text text' h.5 rest h.12 e)
   numbered (TryFinally body at last) text text' ts rest h a =
-      let b = alike_behind text' (both (has_keyword keywords.Try text ts h.0 h.5) (has_punctuator punctuators.OpenBrace text h.0 h.1 h.6)) a in
-      let d = alike_behind text' (both (items body text h.1 h.2 h.7) (both (keyword keywords.Finally at text h.2 h.3 h.8) (has_punctuator punctuators.OpenBrace text h.3 h.4 h.9))) b in
+      let b = alike_after text' (both (has_keyword keywords.Try text ts h.0 h.5) (has_punctuator punctuators.OpenBrace text h.0 h.1 h.6)) a in
+      let d = alike_after text' (both (items body text h.1 h.2 h.7) (both (keyword keywords.Finally at text h.2 h.3 h.8) (has_punctuator punctuators.OpenBrace text h.3 h.4 h.9))) b in
       joined (joined (funclets_of_all body text text' h.1 h.2 h.7 b) refl) (funclets_of_all last text text' h.4 rest h.10 d)
 
   pub funclets_of_all : (ss : Statements) (text text' : List ℕ) (ts rest : List Token) → AreBlockItems text ss ts rest → Alike text text' ts → limits.funclets_of_all text' ss ≡ limits.funclets_of_all text ss
   funclets_of_all Empty text text' ts rest h a = refl
-  funclets_of_all (Then s ss) text text' ts rest h a = joined (numbered s text text' ts h.0 h.1 a) (funclets_of_all ss text text' h.0 rest h.2 (alike_behind text' (item s text ts h.0 h.1) a))
+  funclets_of_all (Then s ss) text text' ts rest h a = joined (numbered s text text' ts h.0 h.1 a) (funclets_of_all ss text text' h.0 rest h.2 (alike_after text' (item s text ts h.0 h.1) a))

@@ -2,6 +2,7 @@
 use Rattle.std.specs.Prelude.{◌≡◌, ℕ, suc, List, [], ◌∷◌, ◌++◌, length, codes, slice_range}
 use Rattle.c_lex.specs.declared.token.Token.{Token}
 use Rattle.c_syntax.specs.declared.expression.Identifier.{Identifier}
+use Rattle.c_syntax.specs.Limits.{every_limit}
 
 -- A kind of phrase, or that there is none of it, by how many limits hold, the text of the names, and tokens.
 abbrev pub Family : Type 1
@@ -49,7 +50,7 @@ pub record Failed (kind at : ℕ) (No Has : Family) (text : List ℕ) (ts : List
   pub split : ts ≡ front ++ fault
   pub located : at ≡ place text fault
   pub against : (text' : List ℕ) (other : List Token) → Alike text text' ts → SameFirst fault other → No kind text' (front ++ other)
-  pub able : (text' : List ℕ) → Alike text text' ts → Speaks text' → Able Has 6 text' front
+  pub able : (text' : List ℕ) → Alike text text' ts → Speaks text' → Able Has every_limit text' front
   pub further : (text' : List ℕ) (k : ℕ) → Alike text text' ts → Speaks text' → kind ≡ suc k → Onward Has k text' front fault
 
 -- A phrase is in a greater one, which begins with the tokens before it.

@@ -6,6 +6,9 @@ use Rattle.c_syntax.specs.declared.declaration.Parameter.{Parameter}
 use Rattle.c_syntax.specs.declared.expression.Base.{Base}
 use Rattle.c_syntax.specs.declared.expression.Base.TheVariants as bases
 use Rattle.c_syntax.specs.declared.expression.Literal.TheVariants as literals
+use Rattle.c_syntax.specs.declared.limit.Count.{Count}
+use Rattle.c_syntax.specs.declared.limit.Count.TheVariants as counts
+use Rattle.c_syntax.specs.declared.limit.TheConstants.{MOST_EXPRESSIONS, MOST_STATEMENTS, MOST_LOCALS, MOST_PARAMETERS, MOST_FUNCTIONS, MOST_GLOBALS, MOST_FUNCLETS}
 use Rattle.c_syntax.specs.Expression.{Expression, Constant, Variable, Information, Call, Parentheses, Index, Postfix, Prefix, Unary, Cast, Binary, Conditional, Assign, Comma, height}
 use Rattle.c_syntax.specs.Program.{Global, ExternalDeclaration, Globals, Function}
 use Rattle.c_syntax.specs.Statement.{Local, ForInitialiser, Declaring, Evaluating, Statement, Declare, Block, Evaluate, If, IfElse, While, DoWhile, For, Return, Break, Continue, Leave, TryExcept, TryFinally, Statements, Empty, Then}
@@ -209,19 +212,43 @@ bytes_from [] at = at
 bytes_from (Globals base gs ∷ xs) at = bytes_from xs (end_of_globals base gs at)
 bytes_from (Function returns name ps body ∷ xs) at = bytes_from xs at
 
--- ---- the limits
+-- ---- functions of a program
 
 abbrev pub functions : List ExternalDeclaration → ℕ
 functions [] = 0
 functions (Globals base gs ∷ xs) = functions xs
 functions (Function returns name ps body ∷ xs) = suc (functions xs)
 
+-- ---- the limits
+
+-- of nesting, and of the number of something
+pub data Limit : Type 0 where
+  Nesting : Limit
+  Number : Count → Limit
+
+-- the limits are in this order
+abbrev pub order : Limit → ℕ
+order Nesting = 1
+order (Number counts.Locals) = 2
+order (Number counts.Parameters) = 3
+order (Number counts.Functions) = 4
+order (Number counts.Globals) = 5
+order (Number counts.Funclets) = 6
+
+-- how many there are
+abbrev pub every_limit : ℕ
+every_limit = order (Number counts.Funclets)
+
+-- The first n limits are in force.
+abbrev pub IsInForce : Limit → ℕ → Type 0
+IsInForce l n = order l ≤ n
+
 pub record FunctionWithin (ps : List Parameter) (body : Statements) : Type 0 where
-  pub parameters : length ps ≤ 8
-  pub locals : locals_of_all body ≤ 256
+  pub parameters : length ps ≤ MOST_PARAMETERS
+  pub locals : locals_of_all body ≤ MOST_LOCALS
   -- the function's own block is no statement
-  pub statements : statements_over_all body ≤ 65
-  pub expressions : expressions_over_all body ≤ 64
+  pub statements : statements_over_all body ≤ MOST_STATEMENTS
+  pub expressions : expressions_over_all body ≤ MOST_EXPRESSIONS
 
 abbrev pub EachWithin : List ExternalDeclaration → Type 0
 EachWithin [] = Unit {0}
@@ -230,6 +257,6 @@ EachWithin (Function returns name ps body ∷ xs) = FunctionWithin ps body × Ea
 
 pub record Within (text : List ℕ) (program : List ExternalDeclaration) : Type 0 where
   pub each : EachWithin program
-  pub functions : functions program ≤ 4096
-  pub bytes : bytes_from program 0 ≤ 1048576
-  pub numbered : length (funclets_in text program) ≤ 16384
+  pub functions : functions program ≤ MOST_FUNCTIONS
+  pub bytes : bytes_from program 0 ≤ MOST_GLOBALS
+  pub numbered : length (funclets_in text program) ≤ MOST_FUNCLETS

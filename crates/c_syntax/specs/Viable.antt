@@ -2,21 +2,23 @@
 use Rattle.std.specs.Prelude.{◌≡◌, ◌≤◌, ℕ, suc, List, [], ◌∷◌, ◌++◌, length}
 use Rattle.c_lex.specs.declared.token.Token.{Token}
 use Rattle.c_syntax.specs.declared.declaration.Parameter.{Parameter}
+use Rattle.c_syntax.specs.declared.limit.Count.TheVariants as counts
+use Rattle.c_syntax.specs.declared.limit.TheConstants.{MOST_EXPRESSIONS, MOST_STATEMENTS, MOST_LOCALS, MOST_PARAMETERS, MOST_FUNCTIONS, MOST_GLOBALS, MOST_FUNCLETS}
 use Rattle.c_syntax.specs.Faults.{place}
 use Rattle.c_syntax.specs.Limits as limits
-use Rattle.c_syntax.specs.Limits.{Within, statements_over_all, expressions_over_all, locals_of_all, bytes_from, funclets_in}
+use Rattle.c_syntax.specs.Limits.{Nesting, Number, IsInForce, every_limit, Within, statements_over_all, expressions_over_all, locals_of_all, bytes_from, funclets_in}
 use Rattle.c_syntax.specs.Program.{ExternalDeclaration, Globals, Function}
 use Rattle.c_syntax.specs.Programs.{IsProgram}
 use Rattle.c_syntax.specs.Statement.{Statements}
 
--- ---- the first n limits, in this order: 1 nesting, 2 locals of a function, 3 parameters, 4 functions, 5 bytes of globals, 6 funclets
+-- ---- the first n limits
 
 pub record FunctionWithinFirst (n : ℕ) (ps : List Parameter) (body : Statements) : Type 0 where
   -- the function's own block is no statement
-  pub statements : 1 ≤ n → statements_over_all body ≤ 65
-  pub expressions : 1 ≤ n → expressions_over_all body ≤ 64
-  pub locals : 2 ≤ n → locals_of_all body ≤ 256
-  pub parameters : 3 ≤ n → length ps ≤ 8
+  pub statements : IsInForce Nesting n → statements_over_all body ≤ MOST_STATEMENTS
+  pub expressions : IsInForce Nesting n → expressions_over_all body ≤ MOST_EXPRESSIONS
+  pub locals : IsInForce (Number counts.Locals) n → locals_of_all body ≤ MOST_LOCALS
+  pub parameters : IsInForce (Number counts.Parameters) n → length ps ≤ MOST_PARAMETERS
 
 abbrev pub EachWithinFirst : ℕ → List ExternalDeclaration → Type 0
 EachWithinFirst n [] = Unit {0}
@@ -25,9 +27,13 @@ EachWithinFirst n (Function returns name ps body ∷ xs) = FunctionWithinFirst n
 
 pub record WithinFirst (n : ℕ) (text : List ℕ) (program : List ExternalDeclaration) : Type 0 where
   pub each : EachWithinFirst n program
-  pub functions : 4 ≤ n → limits.functions program ≤ 4096
-  pub bytes : 5 ≤ n → bytes_from program 0 ≤ 1048576
-  pub numbered : 6 ≤ n → length (funclets_in text program) ≤ 16384
+  pub functions : IsInForce (Number counts.Functions) n → limits.functions program ≤ MOST_FUNCTIONS
+  pub bytes : IsInForce (Number counts.Globals) n → bytes_from program 0 ≤ MOST_GLOBALS
+  pub numbered : IsInForce (Number counts.Funclets) n → length (funclets_in text program) ≤ MOST_FUNCLETS
+
+-- A program is within the limits where it is within the first of them up to the last.
+abbrev pub WithinIsWithinEach : Type 0
+WithinIsWithinEach = (text : List ℕ) (program : List ExternalDeclaration) → (Within text program → WithinFirst every_limit text program) × (WithinFirst every_limit text program → Within text program)
 
 -- ---- beginnings
 
@@ -46,7 +52,7 @@ pub record IsSyntaxFault (n at : ℕ) (text : List ℕ) (ts : List Token) : Type
   pub fault : List Token
   pub split : ts ≡ front ++ fault
   pub located : at ≡ place text fault
-  pub viable : Viable 6 text front
+  pub viable : Viable every_limit text front
   pub stops : Continues n text front fault → ⊥
   pub fewer : (k : ℕ) → n ≡ suc k → Continues k text front fault
 

@@ -3,7 +3,8 @@
 use crate::expression::{Base, CType, Identifier, Literal};
 use crate::statement::Stmt;
 
-/// A constant of an initialiser; `at` is the place of its first token, the punctuator or the literal.
+/// A constant of an initialiser; `at` is the place of its first token, the punctuator or the
+/// literal.
 #[derive(Clone, Copy, Debug, PartialEq, Eq)]
 pub struct Constant {
     pub at: u64,

@@ -22,8 +22,8 @@ pub enum Literal {
     CharacterConstant(i8),
 }
 
-/// The types that specifiers name (C11, 6.7.2). `char` is signed, and `long` is `int`: 32 bits, as on
-/// Windows.
+/// The types that specifiers name (C11, 6.7.2). `char` is signed, and `long` is `int`: 32 bits, as
+/// on Windows.
 #[derive(Clone, Copy, Debug, PartialEq, Eq)]
 pub enum Base {
     Void,

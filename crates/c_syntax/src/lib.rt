@@ -1,13 +1,14 @@
 //! Programs of C as trees, and what derives a tree from tokens.
 //!
 //! A tree is what the grammar makes of a list of tokens (C11, annex A.2, and the Microsoft C
-//! reference, "try-except statement" and "try-finally statement"). Each node holds the places in the
-//! text where its faults are reported. Parentheses are nodes: they mean nothing, but nesting counts them.
-//! The grammar itself is in `specs/`: `Expressions`, `Statements` and `Programs`.
+//! reference, "try-except statement" and "try-finally statement"). Each node holds the places in
+//! the text where its faults are reported. Parentheses are nodes: they mean nothing, but nesting
+//! counts them. The grammar itself is in `specs/`: `Expressions`, `Statements` and `Programs`.
 #![tactic(auto)]
 
 pub mod declaration;
 pub mod expression;
 pub mod laws;
+pub mod limit;
 pub mod operator;
 pub mod statement;

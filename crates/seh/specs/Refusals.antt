@@ -6,8 +6,8 @@ use Rattle.seh_io.specs.Text.{ended}
 use Rattle.seh_io.specs.Writer.{TookPart}
 use Rattle.c_lex.specs.declared.lexing.LexErr.{LexErr}
 use Rattle.c_lex.specs.declared.lexing.LexErr.TheVariants as lexes
-use Rattle.c_parse_expr.specs.declared.refusal.Count.{Count}
-use Rattle.c_parse_expr.specs.declared.refusal.Count.TheVariants as counts
+use Rattle.c_syntax.specs.declared.limit.Count.{Count}
+use Rattle.c_syntax.specs.declared.limit.Count.TheVariants as counts
 use Rattle.c_parse_expr.specs.declared.refusal.ParseErr.{ParseErr}
 use Rattle.c_parse_expr.specs.declared.refusal.ParseErr.TheVariants as parses
 use Rattle.pe_image.specs.declared.refusal.ImageErr.{ImageErr}

@@ -6,8 +6,9 @@ ghost use Rattle.seh.specs.Streams.{stream};
 
 use crate::status::Status;
 use c_lex::lexing::LexErr;
-use c_parse_expr::refusal::{Count, ParseErr};
+use c_parse_expr::refusal::ParseErr;
 use c_resolved::fault::Fault;
+use c_syntax::limit::Count;
 use c_text::accepting::TextErr;
 use pe_image::ImageErr;
 use seh_host::{LoadErr, TableErr};

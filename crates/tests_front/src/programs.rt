@@ -3,8 +3,9 @@
 
 use c_lex::lexing::lex;
 use c_parse::program::parse;
-use c_parse_expr::refusal::{Count, ParseErr};
+use c_parse_expr::refusal::ParseErr;
 use c_syntax::declaration::ExternalDeclaration;
+use c_syntax::limit::Count;
 use std::alloc::{AllocError, Global};
 use std::process::Abort;
 use std::test::Fail;

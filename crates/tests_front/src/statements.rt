@@ -2,9 +2,10 @@
 //! refusals: a fault is at the first token with which no program within the limits continues.
 
 use c_lex::lexing::lex;
-use c_parse_expr::refusal::{Count, ParseErr};
+use c_parse_expr::refusal::ParseErr;
 use c_parse_stmt::left::Left;
 use c_parse_stmt::statements::items;
+use c_syntax::limit::Count;
 use std::alloc::Global;
 use std::process::Abort;
 use std::test::Fail;

@@ -1,26 +1,14 @@
 use Rattle.std.proofs.lemmas.Result.{err_from_is_err_and}
 use Rattle.c_parse.specs.Counts.{NoExternalDeclaration, HasExternalDeclaration}
-use Rattle.c_parse.specs.Parts.{NoGlobals, HasGlobals, NoTail, HasTail, NoHead, HasHead}
+use Rattle.c_parse.specs.Parts.{NoGlobals, HasGlobals, NoHead, HasHead}
 use Rattle.c_parse.proofs.Refusing.{placed_in, placed_so}
-use Rattle.c_parse.proofs.ExternalDeclarations.{in_head, functions_full, in_tail, as_globals}
+use Rattle.c_parse.proofs.ExternalDeclarations.{in_head, as_globals}
 use Rattle.c_parse.proofs.program.external_declaration.Goals as goal
 
 pub returns-in_err-head-clause-refused : goal.returns-in_err-head-clause-refused
 returns-in_err-head-clause-refused c =
     let p = err_from_is_err_and c.from_residual.result c.from_residual.ensures.1 in
     rw (p.1, p.2) (placed_in c.in_err-head.field-0.0 NoHead HasHead (NoExternalDeclaration c.args.counts) (HasExternalDeclaration c.args.counts) c.args.text.now c.args.tokens.now c.args.tokens.now (in_head c.args.text.now c.args.counts c.args.tokens.now c.requires) c.in_err-head.ensures.refused)
-
-pub returns-then-counts-eq0-clause-refused : goal.returns-then-counts-eq0-clause-refused
-returns-then-counts-eq0-clause-refused c =
-    let k = c.in_ok-head in
-    rw c.too_many_functions.ensures (functions_full c.args.text.now c.args.counts k.head.base k.head.pointers k.head.name c.args.tokens.now k.head.declarators.now k.head.rest.now c.in-Some.inner.now c.requires k.ensures.found c.in-Some.ensures.found c.if-counts-eq0.true)
-
-pub returns-in_err-parameters-in-Some-clause-refused : goal.returns-in_err-parameters-in-Some-clause-refused
-returns-in_err-parameters-in-Some-clause-refused c =
-    let r = c.from_residual-in_err-parameters-in-Some in
-    let p = err_from_is_err_and r.result r.ensures.1 in
-    let k = c.in_ok-head in
-    rw (p.1, p.2) (placed_in c.in_err-parameters-in-Some.field-0.0 (NoTail c.args.counts.funclets) (HasTail c.args.counts.funclets) (NoExternalDeclaration c.args.counts) (HasExternalDeclaration c.args.counts) c.args.text.now c.in-Some.inner.now c.args.tokens.now (in_tail c.args.text.now c.args.counts k.head.base k.head.pointers k.head.name c.args.tokens.now k.head.declarators.now k.head.rest.now c.in-Some.inner.now c.requires k.ensures.found c.in-Some.ensures.found c.if-counts-eq0.false) c.in_err-parameters-in-Some.ensures.refused)
 
 pub returns-in_err-globals-in-None-clause-refused : goal.returns-in_err-globals-in-None-clause-refused
 returns-in_err-globals-in-None-clause-refused c =

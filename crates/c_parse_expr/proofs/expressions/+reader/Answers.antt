@@ -15,17 +15,17 @@ use Rattle.c_parse_atom.proofs.Punctuators.{increment_only, unary_only}
 use Rattle.c_parse_type.proofs.Types.{punctuator_shorter}
 use Rattle.c_parse_expr.specs.declared.step.Operation.{Operation}
 use Rattle.c_parse_expr.specs.Operations.{with}
-use Rattle.c_parse_expr.specs.Readings.{NoExpression, HasExpression, NoOperand, NoArguments, HasArguments, NoneBehind, HasBehind, AreListed, IsBehind}
+use Rattle.c_parse_expr.specs.Readings.{NoExpression, HasExpression, NoOperand, NoArguments, HasArguments, NoneAfterPunctuator, HasAfterPunctuator, AreListed, IsAfterPunctuator}
 use Rattle.c_parse_expr.specs.Refusals.{Placed}
 use Rattle.c_parse_expr.specs.Steps as code_steps
 use Rattle.c_parse_expr.proofs.Arguing.{first_wraps, next_wraps, stuck_there}
 use Rattle.c_parse_expr.proofs.Beginning.{call_wraps, information_wraps, prefix_wraps, unary_wraps, group_wraps, cast_wraps, cast_unclosed, no_operand_there, no_room_there}
 use Rattle.c_parse_expr.proofs.Climbing.{continues}
-use Rattle.c_parse_expr.proofs.Listing.{listed_behind, heights_behind, mapped_behind, positive, listed_spelled}
+use Rattle.c_parse_expr.proofs.Listing.{listed_after, heights_after, mapped_after, positive, listed_spelled}
 use Rattle.c_parse_expr.proofs.Operands.{no_parenthesis}
-use Rattle.c_parse_expr.proofs.Operations.{applied_height, right_behind, is_step}
+use Rattle.c_parse_expr.proofs.Operations.{applied_height, right_after, is_step}
 use Rattle.c_parse_expr.proofs.Placing.{placed_so, placed_as}
-use Rattle.c_parse_expr.proofs.Wrapping.{operand_wraps, step_wraps, enclosed_wraps, unclosed, index_wraps, right_wraps, first_branch_wraps, second_branch_wraps, behind_wraps, signless, no_operator_there, loose_there, high_there}
+use Rattle.c_parse_expr.proofs.Wrapping.{operand_wraps, step_wraps, enclosed_wraps, unclosed, index_wraps, right_wraps, first_branch_wraps, second_branch_wraps, after_punctuator_wraps, signless, no_operator_there, loose_there, high_there}
 use Rattle.c_parse_expr.proofs.expressions.+reader.Goals as goal
 
 -- ---- expressions
@@ -144,7 +144,7 @@ step-returns-clause-refused t c =
     let m = c.if-room-operand.false in
     let x = c.args.operand.now.exact in
     IfErr-weaker c.operated.result _ _
-    (λ y h. placed_so y _ _ _ _ _ _ _ (behind_wraps c.args.room e c.in-Some.punctuator c.in-Some-operation_of.operation c.in-Some.at text c.args.operand.now.rest.now c.in-Some.rest.now c.in-Some.ensures.found (sym c.in-Some-operation_of.ensures) (omega arith) (omega arith)) h)
+    (λ y h. placed_so y _ _ _ _ _ _ _ (after_punctuator_wraps c.args.room e c.in-Some.punctuator c.in-Some-operation_of.operation c.in-Some.at text c.args.operand.now.rest.now c.in-Some.rest.now c.in-Some.ensures.found (sym c.in-Some-operation_of.ensures) (omega arith) (omega arith)) h)
     c.operated.ensures.refused
 
 pub chosen-returns-in_err-yes-clause-refused : goal.chosen-returns-in_err-yes-clause-refused
@@ -165,7 +165,7 @@ pub operated-returns-in_err-inner-in-Index-clause-refused : goal.operated-return
 operated-returns-in_err-inner-in-Index-clause-refused t c =
     let p = err_from_is_err_and c.from_residual.result c.from_residual.ensures.1 in
     let e = c.in_err-inner-in-Index.field-0.0 in
-    rw (p.1, p.2) (subst (λ (o : Operation). Placed e (NoneBehind c.args.room o) (HasBehind c.args.room o c.args.at) c.args.text.now c.args.tokens.now) (sym c.in-Index.is)
+    rw (p.1, p.2) (subst (λ (o : Operation). Placed e (NoneAfterPunctuator c.args.room o) (HasAfterPunctuator c.args.room o c.args.at) c.args.text.now c.args.tokens.now) (sym c.in-Index.is)
     (placed_so e _ _ _ _ _ _ _ (index_wraps c.args.room c.args.at c.args.text.now c.args.tokens.now) c.in_err-inner-in-Index.ensures.refused))
 
 pub operated-returns-in_err-value-in-Infix-clause-refused : goal.operated-returns-in_err-value-in-Infix-clause-refused
@@ -175,7 +175,7 @@ operated-returns-in_err-value-in-Infix-clause-refused t c =
     let e = k.field-0.0 in
     let p = err_from_is_err_and c.from_residual-in_err-value-in-Infix.result c.from_residual-in_err-value-in-Infix.ensures.1 in
     let h = subst (λ (l : ℕ). Placed e (NoExpression l c.args.room) (HasExpression l c.args.room) c.args.text.now c.args.tokens.now) c.right.ensures k.ensures.refused in
-    rw (p.1, p.2) (subst (λ (o : Operation). Placed e (NoneBehind c.args.room o) (HasBehind c.args.room o c.args.at) c.args.text.now c.args.tokens.now) (sym c.in-Infix.is)
+    rw (p.1, p.2) (subst (λ (o : Operation). Placed e (NoneAfterPunctuator c.args.room o) (HasAfterPunctuator c.args.room o c.args.at) c.args.text.now c.args.tokens.now) (sym c.in-Infix.is)
     (placed_so e _ _ _ _ _ _ _ (right_wraps c.args.room op c.args.at c.args.text.now c.args.tokens.now) h))
 
 pub operated-returns-in_ok-value-in-Infix-clause-found : goal.operated-returns-in_ok-value-in-Infix-clause-found
@@ -187,8 +187,8 @@ operated-returns-in_ok-value-in-Infix-clause-found t c =
     let ts = c.args.tokens.now in
     let rest = k.value.rest.now in
     let q = c.right.ensures in
-    subst (λ (o : Operation). IsBehind text o c.args.at (with op c.args.at e) ts rest) (sym c.in-Infix.is)
-    (right_behind text op c.args.at e ts rest (subst (λ (l : ℕ). Derives text l e ts rest) q k.ensures.found) (subst (λ (l : ℕ). Stops l rest) q k.ensures.stops))
+    subst (λ (o : Operation). IsAfterPunctuator text o c.args.at (with op c.args.at e) ts rest) (sym c.in-Infix.is)
+    (right_after text op c.args.at e ts rest (subst (λ (l : ℕ). Derives text l e ts rest) q k.ensures.found) (subst (λ (l : ℕ). Stops l rest) q k.ensures.stops))
 
 -- ---- operands
 
@@ -301,12 +301,12 @@ arguments-loop-following-preserved t c =
     let i = c.loop-following.invariant in
     let old = c.loop-following.exprs.items in
     let e = expression c.in_ok-next.next.expr in
-    let q = ap (map expression) c.in_ok-push-2.ensures.items ∙ mapped_behind expression old c.in_ok-next.next.expr in
+    let q = ap (map expression) c.in_ok-push-2.ensures.items ∙ mapped_after expression old c.in_ok-next.next.expr in
     let r = positive c.args.room i.0 in
     let a = c.higher-over.ensures in
     let b = c.in_ok-next.ensures.low in
     let d = c.in_ok-next.next.exact in
-    let h = heights_behind (map expression old) e in
+    let h = heights_after (map expression old) e in
     let k = ap (λ (z : List Expression). heights (arguments z)) q in
     let l = i.1 in
     let m = i.2 in (
@@ -314,7 +314,7 @@ arguments-loop-following-preserved t c =
       omega arith,
       omega arith,
       subst (λ (z : List Expression). AreListed c.args.text.now z c.args.tokens.now c.in_ok-next.next.rest.now) (sym q)
-          (listed_behind c.args.text.now (map expression old) e c.args.tokens.now c.loop-following.rest.now c.in-Some-after.following.now c.in_ok-next.next.rest.now i.3 c.in-Some-after.ensures.found c.in_ok-next.ensures.found),
+          (listed_after c.args.text.now (map expression old) e c.args.tokens.now c.loop-following.rest.now c.in-Some-after.following.now c.in_ok-next.next.rest.now i.3 c.in-Some-after.ensures.found c.in_ok-next.ensures.found),
       c.in_ok-next.ensures.stops,
     )
 

@@ -1,6 +1,6 @@
 use Rattle.std.proofs.Common.{subst, arith}
 use Rattle.c_parse_stmt.specs.Filters.{AreClosing}
-use Rattle.c_parse_stmt.proofs.Departing.{unopened, goes_on_inside, departs_inside, goes_on_behind, departs_behind, whole}
+use Rattle.c_parse_stmt.proofs.Departing.{unopened, goes_on_inside, departs_inside, failed_after, departs_after, whole}
 use Rattle.c_parse_stmt.proofs.filters.departure.Goals as goal
 
 pub returns-then-opened-eq0-clause-none : goal.returns-then-opened-eq0-clause-none
@@ -15,8 +15,8 @@ returns-then-closed-opened-clause-none c = λ h none.
     let s = c.in-Some in
     absurd (whole o.result.0 c.args.text.now s.token c.args.tokens.now o.result.1.now s.following.now q.result.1.now (omega (arith, c.if-opened-eq0.false)) o.ensures.most o.ensures.opened s.ensures.found s.ensures.accepts (subst (λ n. AreClosing n s.following.now q.result.1.now) c.if-closed-opened.true q.ensures.closed) none)
 
-pub goes_behind-requires-clause-unclosed : goal.goes_behind-requires-clause-unclosed
-goes_behind-requires-clause-unclosed c =
+pub continues_after-requires-clause-unclosed : goal.continues_after-requires-clause-unclosed
+continues_after-requires-clause-unclosed c =
     let q = c.past_closing-closed in
     q.ensures.all (omega (arith, q.ensures.most, c.if-closed-opened.false))
 
@@ -25,21 +25,21 @@ returns-else-closed-opened-clause-many c = λ h none.
     let o = c.past_opening-opened in
     let q = c.past_closing-closed in
     let s = c.in-Some in
-    goes_on_behind o.result.0 q.result.0 c.args.text.now s.token c.args.tokens.now o.result.1.now s.following.now q.result.1.now (omega (arith, q.ensures.most, c.if-closed-opened.false)) o.ensures.most o.ensures.opened s.ensures.found s.ensures.accepts q.ensures.closed (q.ensures.all (omega (arith, q.ensures.most, c.if-closed-opened.false))) (c.goes_behind.ensures.some h)
+    failed_after o.result.0 q.result.0 c.args.text.now s.token c.args.tokens.now o.result.1.now s.following.now q.result.1.now (omega (arith, q.ensures.most, c.if-closed-opened.false)) o.ensures.most o.ensures.opened s.ensures.found s.ensures.accepts q.ensures.closed (q.ensures.all (omega (arith, q.ensures.most, c.if-closed-opened.false))) (c.continues_after.ensures.some h)
 
 pub returns-else-closed-opened-clause-none : goal.returns-else-closed-opened-clause-none
 returns-else-closed-opened-clause-none c = λ h none.
     let o = c.past_opening-opened in
     let q = c.past_closing-closed in
     let s = c.in-Some in
-    departs_behind o.result.0 q.result.0 c.args.text.now s.token c.args.tokens.now o.result.1.now s.following.now q.result.1.now (omega (arith, q.ensures.most, c.if-closed-opened.false)) o.ensures.most o.ensures.opened s.ensures.found s.ensures.accepts q.ensures.closed (c.goes_behind.ensures.none h)
+    departs_after o.result.0 q.result.0 c.args.text.now s.token c.args.tokens.now o.result.1.now s.following.now q.result.1.now (omega (arith, q.ensures.most, c.if-closed-opened.false)) o.ensures.most o.ensures.opened s.ensures.found s.ensures.accepts q.ensures.closed (c.continues_after.ensures.none h)
 
 pub returns-in-None-clause-many : goal.returns-in-None-clause-many
 returns-in-None-clause-many c = λ h none.
     let o = c.past_opening-opened in
-    goes_on_inside o.result.0 c.args.text.now c.args.tokens.now o.result.1.now (omega (arith, c.if-opened-eq0.false)) o.ensures.most o.ensures.opened o.ensures.all c.in-None.ensures.none (c.goes_inside.ensures.some h)
+    goes_on_inside o.result.0 c.args.text.now c.args.tokens.now o.result.1.now (omega (arith, c.if-opened-eq0.false)) o.ensures.most o.ensures.opened o.ensures.all c.in-None.ensures.none (c.continues_inside.ensures.some h)
 
 pub returns-in-None-clause-none : goal.returns-in-None-clause-none
 returns-in-None-clause-none c = λ h none.
     let o = c.past_opening-opened in
-    departs_inside o.result.0 c.args.text.now c.args.tokens.now o.result.1.now (omega (arith, c.if-opened-eq0.false)) o.ensures.most o.ensures.opened (c.goes_inside.ensures.none h)
+    departs_inside o.result.0 c.args.text.now c.args.tokens.now o.result.1.now (omega (arith, c.if-opened-eq0.false)) o.ensures.most o.ensures.opened (c.continues_inside.ensures.none h)

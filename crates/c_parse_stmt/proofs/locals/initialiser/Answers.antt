@@ -1,7 +1,7 @@
 use Rattle.std.proofs.Common.{arith}
 use Rattle.std.proofs.lemmas.Result.{err_from_is_err_and}
 use Rattle.c_parse_stmt.proofs.Placing.{placed_so}
-use Rattle.c_parse_stmt.proofs.Declarators.{no_room, in_initialiser, operator_behind}
+use Rattle.c_parse_stmt.proofs.Declarators.{no_room, in_initialiser, operator_after}
 use Rattle.c_parse_stmt.proofs.locals.initialiser.Goals as goal
 
 pub returns-then-room-eq0-clause-refused : goal.returns-then-room-eq0-clause-refused
@@ -13,4 +13,4 @@ returns-in_err-parsed-in-Some-clause-refused c =
     rw (p.1, p.2) (placed_so c.in_err-parsed-in-Some.field-0.0 _ _ _ _ c.args.text.now _ _ (in_initialiser c.args.text.now c.args.room c.args.tokens.now c.in-Some.value.now c.in-Some.ensures.found (omega arith)) c.in_err-parsed-in-Some.ensures.refused)
 
 pub returns-then-follows-le-ASSIGNMENT-clause-refused : goal.returns-then-follows-le-ASSIGNMENT-clause-refused
-returns-then-follows-le-ASSIGNMENT-clause-refused c = rw c.unexpected.ensures (operator_behind c.args.text.now c.args.room c.args.tokens.now (omega arith) c.in-None.ensures.none)
+returns-then-follows-le-ASSIGNMENT-clause-refused c = rw c.unexpected.ensures (operator_after c.args.text.now c.args.room c.args.tokens.now (omega arith) c.in-None.ensures.none)

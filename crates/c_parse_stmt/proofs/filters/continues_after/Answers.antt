@@ -1,7 +1,7 @@
 use Rattle.std.proofs.Common.{◌≤◌, ◌<◌, arith}
 use Rattle.std.proofs.lemmas.Bool.Decides.{nat_tests}
-use Rattle.c_parse_stmt.proofs.Continuing.{goes_call, goes_step, stops_behind, no_call, deep_behind}
-use Rattle.c_parse_stmt.proofs.filters.goes_behind.Goals as goal
+use Rattle.c_parse_stmt.proofs.Continuing.{goes_call, goes_step, stops_after, no_call, deep_after}
+use Rattle.c_parse_stmt.proofs.filters.continues_after.Goals as goal
 
 pub returns-in-Identifier-clause-some : goal.returns-in-Identifier-clause-some
 returns-in-Identifier-clause-some c = λ h.
@@ -29,9 +29,9 @@ pub returns-then-level-le-COMMA-clause-none : goal.returns-then-level-le-COMMA-c
 returns-then-level-le-COMMA-clause-none c = λ h.
     let e = c.follows-level.ensures in
     let k : 65 ≤ c.args.opened = grind (arith, nat_tests) in
-    deep_behind c.args.opened c.args.closed c.args.atom c.args.tokens.now c.requires.fewer k (omega arith) (omega arith)
+    deep_after c.args.opened c.args.closed c.args.atom c.args.tokens.now c.requires.fewer k (omega arith) (omega arith)
 
 pub returns-else-level-le-COMMA-clause-none : goal.returns-else-level-le-COMMA-clause-none
 returns-else-level-le-COMMA-clause-none c = λ h.
     let e = c.follows-level.ensures in
-    stops_behind c.args.opened c.args.closed c.args.atom c.args.tokens.now c.requires.fewer c.requires.unclosed (omega arith)
+    stops_after c.args.opened c.args.closed c.args.atom c.args.tokens.now c.requires.fewer c.requires.unclosed (omega arith)

@@ -1,0 +1,38 @@
+//! The limits of a program (own).
+
+/// What has a limit of number, in the order in which refusals name them.
+#[derive(Clone, Copy, Debug, PartialEq, Eq)]
+pub enum Count {
+    /// Locals of a function.
+    Locals,
+    /// Parameters of a function.
+    Parameters,
+    /// Functions of a program.
+    Functions,
+    /// Bytes of a program's globals.
+    Globals,
+    /// Filters and `__finally` blocks of a program that have a number.
+    Funclets,
+}
+
+/// The most expressions around a part of an expression.
+pub const MOST_EXPRESSIONS: u64 = 64;
+
+/// The most statements around a part of a statement: 64, and the statement itself around each
+/// expression. The function's own block is no statement.
+pub const MOST_STATEMENTS: u64 = 65;
+
+/// The most locals of a function.
+pub const MOST_LOCALS: u64 = 256;
+
+/// The most parameters of a function.
+pub const MOST_PARAMETERS: u64 = 8;
+
+/// The most functions of a program.
+pub const MOST_FUNCTIONS: u64 = 4_096;
+
+/// The most bytes of a program's globals.
+pub const MOST_GLOBALS: u64 = 1_048_576;
+
+/// The most filters and `__finally` blocks of a program that have a number.
+pub const MOST_FUNCLETS: u64 = 16_384;
