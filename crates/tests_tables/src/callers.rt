@@ -1,273 +1,324 @@
-//! Callers of frames, at each boundary of two functions: code, unwind infos and answers are those of
-//! the published tests of Wine's unwinder (dlls/ntdll/tests/exception.c, "test_virtual_unwind").
-//! The word at each place of the stack is its distance from RSP. Where our answer differs by our own
-//! choice: in an epilogue the establisher frame is RSP as it is there.
+//! Callers of frames, at each instruction's boundary of twenty-three functions.
+//!
+//! The first six have the form of Wine's published tests (dlls/ntdll/tests/exception.c,
+//! "test_virtual_unwind"); the others are of our own making. The answers are those of Wine 8.0: its
+//! `RtlVirtualUnwind` was called for each row on these bytes and a stack of such words, for handlers of
+//! searching and of unwinding alike. Where our answer differs by our own choice, the row's note has
+//! Wine's, and the table says what was chosen. Wine tells a handler or none: that a row without one
+//! stands in a body is ours to say.
 
-use crate::table_image::table_image;
-use eh_tables::Tables;
-use pe_image::ImageView;
-use seh_num::width::Width;
-use std::alloc::{AllocError, Global};
-use std::process::Abort;
+use crate::caller_rows::all_unwind;
 use std::test::Fail;
-use virtual_unwind::frame::Caller;
-use virtual_unwind::unwinding::caller;
-use x64_machine::context::Context;
-use x64_memory::page_map::PageMap;
-use x64_memory::region::Region;
-use x64_memory::space::AddressSpace;
 
-/// Where the code begins, and RSP.
-const CODE: u64 = 0x1_4000_2000;
+/// The functions of the published tests. Where our answers differ: in an epilogue the establisher frame is
+/// RSP as it is, and Wine's is the frame register's; an entry without codes has epilogues too, which Wine
+/// looks for only where there are codes.
+const PUBLISHED: &str = r"
+# a frame register, saves and a large allocation
+info 09 1C 08 35 1C 64 25 00 15 34 24 00 0E 03 09 01 22 00 02 50 00 02 00 00
+with rbp=40
+FF F5                | push rbp           | - 0 8 0            |
+48 81 EC 10 01 00 00 | sub rsp,0x110      | - 8 10 0           | rbp=0
+48 8D 6C 24 30       | lea rbp,[rsp+0x30] | - 118 120 0        | rbp=110
+48 89 9D F0 00 00 00 | mov [rbp+0xF0],rbx | - 128 130 10       | rbp=120
+48 89 B5 F8 00 00 00 | mov [rbp+0xF8],rsi | - 128 130 10       | rbx=130 rbp=120
+90                   | nop                | handler 128 130 10 | rbx=130 rbp=120 rsi=138
+48 8B 9D F0 00 00 00 | mov rbx,[rbp+0xF0] | handler 128 130 10 | rbx=130 rbp=120 rsi=138
+48 8B B5 F8 00 00 00 | mov rsi,[rbp+0xF8] | handler 128 130 10 | rbx=130 rbp=120 rsi=138
+48 8D A5 E0 00 00 00 | lea rsp,[rbp+0xE0] | - 128 130 0        | rbp=120                 | Wine's frame: 10
+5D                   | pop rbp            | - 8 10 0           | rbp=0                   | Wine's frame: 10
+C3                   | ret                | - 0 8 0            |                         | Wine's frame: 10
+# five pushes and a small allocation
+info 09 0A 06 00 0A 52 06 C0 04 70 03 60 02 50 01 30 00 02 00 00
+with rbp=50
+53          | push rbx     | - 0 8 0         |
+55          | push rbp     | - 8 10 0        | rbx=0
+56          | push rsi     | - 10 18 0       | rbx=8 rbp=0
+57          | push rdi     | - 18 20 0       | rbx=10 rbp=8 rsi=0
+41 54       | push r12     | - 20 28 0       | rbx=18 rbp=10 rsi=8 rdi=0
+48 83 EC 30 | sub rsp,0x30 | - 28 30 0       | rbx=20 rbp=18 rsi=10 rdi=8 r12=0
+90          | nop          | handler 58 60 0 | rbx=50 rbp=48 rsi=40 rdi=38 r12=30
+90          | nop          | handler 58 60 0 | rbx=50 rbp=48 rsi=40 rdi=38 r12=30
+48 83 C4 30 | add rsp,0x30 | - 58 60 0       | rbx=50 rbp=48 rsi=40 rdi=38 r12=30
+41 5C       | pop r12      | - 28 30 0       | rbx=20 rbp=18 rsi=10 rdi=8 r12=0
+5F          | pop rdi      | - 20 28 0       | rbx=18 rbp=10 rsi=8 rdi=0
+5E          | pop rsi      | - 18 20 0       | rbx=10 rbp=8 rsi=0
+5D          | pop rbp      | - 10 18 0       | rbx=8 rbp=0
+5B          | pop rbx      | - 8 10 0        | rbx=0
+C3          | ret          | - 0 8 0         |
+# a machine frame without an error code, and a push
+info 09 00 02 00 01 50 00 0A 00 02 00 00
+with rbp=50
+55 | push rbp | handler 8 20 0 | rbp=0
+90 | nop      | handler 8 20 0 | rbp=0
+90 | nop      | handler 8 20 0 | rbp=0
+90 | nop      | handler 8 20 0 | rbp=0
+90 | nop      | handler 8 20 0 | rbp=0
+# a machine frame with an error code, and a push
+info 09 00 02 00 01 50 00 1A 00 02 00 00
+with rbp=50
+55 | push rbp | handler 10 28 0 | rbp=0
+90 | nop      | handler 10 28 0 | rbp=0
+90 | nop      | handler 10 28 0 | rbp=0
+90 | nop      | handler 10 28 0 | rbp=0
+90 | nop      | handler 10 28 0 | rbp=0
+# a push, and an allocation by a push
+info 09 02 02 00 02 02 01 50 00 02 00 00
+with rbp=50
+55          | push rbp    | - 0 8 0         |
+50          | push rax    | - 8 10 0        | rbp=0
+90          | nop         | handler 10 18 0 | rbp=8
+90          | nop         | handler 10 18 0 | rbp=8
+48 83 C4 08 | add rsp,0x8 | - 10 18 0       | rbp=8
+5D          | pop rbp     | - 8 10 0        | rbp=0
+C3          | ret         | - 0 8 0         |
+# no codes, and a handler
+info 09 00 00 00 00 02 00 00
+with rbp=50
+55 | push rbp | handler 0 8 0 |
+5D | pop rbp  | - 8 10 0      | rbp=0 | Wine: handler 0 8 0
+C3 | ret      | - 0 8 0       |       | Wine: handler 0 8 0
+";
 
-const STACK: u64 = 0x7000_0000;
+/// Allocations, and saved registers.
+const ALLOCATIONS: &str = r"
+# an allocation in three slots, saves near and far, vectors near and far
+info 11 2F 10 00 2F 79 F0 FF 07 00 27 68 03 00 22 74 05 00 1D E5 18 00 08 00 15 35 10 00 08 00 0D 11
+info 08 00 08 00 00 02 00 00
+with rbp=50
+B8 08 00 08 00          | mov eax,0x80008           | - 0 8 0               |
+E8 F6 0F 00 00          | call                      | - 0 8 0               |
+48 29 C4                | sub rsp,rax               | - 0 8 0               |
+48 89 9C 24 10 00 08 00 | mov [rsp+0x80010],rbx     | - 80008 80010 0       |
+4C 89 B4 24 18 00 08 00 | mov [rsp+0x80018],r14     | - 80008 80010 0       | rbx=80010
+48 89 7C 24 28          | mov [rsp+0x28],rdi        | - 80008 80010 0       | rbx=80010 r14=80018
+0F 29 74 24 30          | movaps [rsp+0x30],xmm6    | - 80008 80010 0       | rbx=80010 rdi=28 r14=80018
+0F 29 BC 24 F0 FF 07 00 | movaps [rsp+0x7FFF0],xmm7 | - 80008 80010 0       | rbx=80010 rdi=28 r14=80018
+90                      | nop                       | handler 80008 80010 0 | rbx=80010 rdi=28 r14=80018
+48 8B 7C 24 28          | mov rdi,[rsp+0x28]        | handler 80008 80010 0 | rbx=80010 rdi=28 r14=80018
+48 81 C4 08 00 08 00    | add rsp,0x80008           | - 80008 80010 0       |
+C3                      | ret                       | - 0 8 0               |
+# an argument's home is a save, as Microsoft's compiler writes it
+info 19 0A 04 00 0A 34 06 00 0A 32 06 70 00 02 00 00
+with rbp=50
+48 89 5C 24 08 | mov [rsp+0x8],rbx  | - 0 8 0         |
+57             | push rdi           | - 0 8 0         |
+48 83 EC 20    | sub rsp,0x20       | - 8 10 0        | rdi=0
+90             | nop                | handler 28 30 0 | rbx=30 rdi=20
+48 8B 5C 24 30 | mov rbx,[rsp+0x30] | handler 28 30 0 | rbx=30 rdi=20
+48 83 C4 20    | add rsp,0x20       | - 28 30 0       | rdi=20
+5F             | pop rdi            | - 8 10 0        | rdi=0
+C3             | ret                | - 0 8 0         |
+# the largest allocation in one slot
+info 09 08 02 00 08 F2 01 30 00 02 00 00
+with rbp=50
+53                   | push rbx     | - 0 8 0         |
+48 81 EC 80 00 00 00 | sub rsp,0x80 | - 8 10 0        | rbx=0
+90                   | nop          | handler 88 90 0 | rbx=80
+48 81 C4 80 00 00 00 | add rsp,0x80 | - 88 90 0       | rbx=80
+5B                   | pop rbx      | - 8 10 0        | rbx=0
+C3                   | ret          | - 0 8 0         |
+# a code that pushes a volatile register, and no handler
+info 01 02 02 00 02 00 01 30
+with rbp=50
+53 | push rbx | - 0 8 0      |
+50 | push rax | - 8 10 0     | rbx=0
+90 | nop      | body 10 18 0 | rbx=8
+58 | pop rax  | - 10 18 0    | rbx=8
+5B | pop rbx  | - 8 10 0     | rbx=0
+C3 | ret      | - 0 8 0      |
+";
 
-/// The function, with the info at 0x3000: its code ends at or before 0x2040.
-const ENTRY: [u8; 12] = [0, 0x20, 0, 0, 0x40, 0x20, 0, 0, 0, 0x30, 0, 0];
+/// Functions with a frame register. In an epilogue the establisher frame is RSP as it is; Wine's is the
+/// frame register's.
+const FRAME_REGISTERS: &str = r"
+# a frame register of the upper eight, and lea by one byte
+info 09 11 06 2D 11 F4 09 00 0D 03 08 B2 04 C0 02 D0 00 02 00 00
+with r13=70
+41 55          | push r13           | - 0 8 0          |
+41 54          | push r12           | - 8 10 0         | r13=0
+48 83 EC 60    | sub rsp,0x60       | - 10 18 0        | r12=0 r13=8
+4C 8D 6C 24 20 | lea r13,[rsp+0x20] | - 70 78 0        | r12=60 r13=68
+4D 89 7D 28    | mov [r13+0x28],r15 | - C0 C8 50       | r12=B0 r13=B8
+90             | nop                | handler C0 C8 50 | r12=B0 r13=B8 r15=98
+4D 8B 7D 28    | mov r15,[r13+0x28] | handler C0 C8 50 | r12=B0 r13=B8 r15=98
+49 8D 65 40    | lea rsp,[r13+0x40] | - C0 C8 0        | r12=B0 r13=B8        | Wine's frame: 50
+41 5C          | pop r12            | - 10 18 0        | r12=0 r13=8          | Wine's frame: 50
+41 5D          | pop r13            | - 8 10 0         | r13=0                | Wine's frame: 50
+C3             | ret                | - 0 8 0          |                      | Wine's frame: 50
+# a frame register that is set before the allocation, as GCC writes it
+info 09 08 03 05 08 52 04 03 01 50 00 00 00 02 00 00
+with rbp=30
+55          | push rbp     | - 0 8 0          |
+48 89 E5    | mov rbp,rsp  | - 8 10 0         | rbp=0
+48 83 EC 30 | sub rsp,0x30 | - 38 40 30       |
+90          | nop          | handler 38 40 30 |
+48 83 C4 30 | add rsp,0x30 | - 38 40 0        |       | Wine's frame: 30
+5D          | pop rbp      | - 8 10 0         | rbp=0 | Wine's frame: 30
+C3          | ret          | - 0 8 0          |       | Wine's frame: 30
+# a vector saved by its frame register, and no code
+info 09 0F 05 05 0F 68 02 00 0A 03 05 72 01 50 00 00 00 02 00 00
+with rbp=10
+55             | push rbp               | - 0 8 0          |
+48 83 EC 40    | sub rsp,0x40           | - 8 10 0         | rbp=0
+48 8D 6C 24 00 | lea rbp,[rsp+0]        | - 48 50 0        | rbp=40
+0F 29 74 24 20 | movaps [rsp+0x20],xmm6 | - 58 60 10       | rbp=50
+90             | nop                    | handler 58 60 10 | rbp=50
+48 8D 65 40    | lea rsp,[rbp+0x40]     | - 58 60 0        | rbp=50 | Wine's frame: 10
+5D             | pop rbp                | - 8 10 0         | rbp=0  | Wine's frame: 10
+C3             | ret                    | - 0 8 0          |        | Wine's frame: 10
+";
 
-const REGIONS: [Region; 3] = [
-    Region {
-        start: 0x2000_0000,
-        end: 0x2010_0000,
-        read: false,
-        write: false,
-        execute: false,
-    },
-    Region {
-        start: STACK,
-        end: STACK + 0x1000,
-        read: true,
-        write: true,
-        execute: false,
-    },
-    Region {
-        start: CODE,
-        end: CODE + 0x1000,
-        read: true,
-        write: true,
-        execute: true,
-    },
-];
+/// What is an epilogue and what is none. Here an epilogue ends in a plain `ret`, or in a jump through memory
+/// whose ModRM mod is 00, as the x64 ABI has it. Wine takes no jump through memory for an end, and answers
+/// as in the body; and it takes a `ret` with a prefix or an operand for an end, and a jump to a `ret` of the
+/// same function, where our answer is that of the body.
+const ENDS: &str = r"
+# a frame register, lea by one byte, and a jump through memory
+info 09 0A 03 15 0A 03 05 32 01 50 00 00 00 02 00 00
+with rbp=30
+55                | push rbp           | - 0 8 0          |
+48 83 EC 20       | sub rsp,0x20       | - 8 10 0         | rbp=0
+48 8D 6C 24 10    | lea rbp,[rsp+0x10] | - 28 30 0        | rbp=20
+90                | nop                | handler 48 50 20 | rbp=40
+48 8D 65 10       | lea rsp,[rbp+0x10] | - 48 50 0        | rbp=40 | Wine: handler 48 50 20, rbp=40
+5D                | pop rbp            | - 8 10 0         | rbp=0  | Wine: handler 48 50 20, rbp=40
+FF 25 00 10 00 00 | jmp [rip+0x1000]   | - 0 8 0          |        | Wine: handler 48 50 20, rbp=40
+# add and a jump through memory with a prefix
+info 09 05 02 00 05 42 01 60 00 02 00 00
+with rbp=50
+56                   | push rsi         | - 0 8 0         |
+48 83 EC 28          | sub rsp,0x28     | - 8 10 0        | rsi=0
+90                   | nop              | handler 30 38 0 | rsi=28
+48 83 C4 28          | add rsp,0x28     | - 30 38 0       | rsi=28 | Wine: handler 30 38 0, rsi=28
+5E                   | pop rsi          | - 8 10 0        | rsi=0  | Wine: handler 30 38 0, rsi=28
+48 FF 25 00 10 00 00 | jmp [rip+0x1000] | - 0 8 0         |        | Wine: handler 30 38 0, rsi=28
+# a jump through memory by a register
+info 09 05 02 00 05 42 01 60 00 02 00 00
+with rbp=50
+56          | push rsi     | - 0 8 0         |
+48 83 EC 28 | sub rsp,0x28 | - 8 10 0        | rsi=0
+90          | nop          | handler 30 38 0 | rsi=28
+48 83 C4 28 | add rsp,0x28 | - 30 38 0       | rsi=28 | Wine: handler 30 38 0, rsi=28
+5E          | pop rsi      | - 8 10 0        | rsi=0  | Wine: handler 30 38 0, rsi=28
+FF 20       | jmp [rax]    | - 0 8 0         |        | Wine: handler 30 38 0, rsi=28
+# a jump through memory with a displacement
+info 09 05 02 00 05 42 01 60 00 02 00 00
+with rbp=50
+56          | push rsi     | - 0 8 0         |
+48 83 EC 28 | sub rsp,0x28 | - 8 10 0        | rsi=0
+90          | nop          | handler 30 38 0 | rsi=28
+48 83 C4 28 | add rsp,0x28 | handler 30 38 0 | rsi=28
+5E          | pop rsi      | handler 30 38 0 | rsi=28
+FF 60 08    | jmp [rax+8]  | handler 30 38 0 | rsi=28
+# what is no epilogue
+info 09 05 02 00 05 42 01 60 00 02 00 00
+with rbp=50
+56             | push rsi           | - 0 8 0         |
+48 83 EC 28    | sub rsp,0x28       | - 8 10 0        | rsi=0
+90             | nop                | handler 30 38 0 | rsi=28
+48 83 C4 28    | add rsp,0x28       | handler 30 38 0 | rsi=28
+31 C0          | xor eax,eax        | handler 30 38 0 | rsi=28
+5E             | pop rsi            | - 8 10 0        | rsi=0
+C3             | ret                | - 0 8 0         |
+48 8D 64 24 28 | lea rsp,[rsp+0x28] | handler 30 38 0 | rsi=28
+5E             | pop rsi            | - 8 10 0        | rsi=0
+C3             | ret                | - 0 8 0         |
+5E             | pop rsi            | handler 30 38 0 | rsi=28
+48 83 C4 28    | add rsp,0x28       | - 28 30 0       |
+C3             | ret                | - 0 8 0         |
+48 83 EC D8    | sub rsp,-0x28      | handler 30 38 0 | rsi=28
+5E             | pop rsi            | - 8 10 0        | rsi=0
+C3             | ret                | - 0 8 0         |
+FF D0          | call rax           | handler 30 38 0 | rsi=28
+5E             | pop rsi            | handler 30 38 0 | rsi=28
+FF E0          | jmp rax            | handler 30 38 0 | rsi=28
+# other ends
+info 09 05 02 00 05 42 01 60 00 02 00 00
+with rbp=50
+56             | push rsi           | - 0 8 0         |
+48 83 EC 28    | sub rsp,0x28       | - 8 10 0        | rsi=0
+90             | nop                | handler 30 38 0 | rsi=28
+5E             | pop rsi            | handler 30 38 0 | rsi=28 | Wine: - 8 10 0, rsi=0
+F3 C3          | rep ret            | handler 30 38 0 | rsi=28 | Wine: - 0 8 0
+5E             | pop rsi            | handler 30 38 0 | rsi=28 | Wine: - 8 18 0, rsi=0
+C2 08 00       | ret 8              | handler 30 38 0 | rsi=28 | Wine: - 0 10 0
+5E             | pop rsi            | handler 30 38 0 | rsi=28
+E9 00 10 00 00 | jmp 0x1000 further | handler 30 38 0 | rsi=28
+5E             | pop rsi            | handler 30 38 0 | rsi=28
+EB 7F          | jmp                | handler 30 38 0 | rsi=28
+5E             | pop rsi            | handler 30 38 0 | rsi=28 | Wine: - 8 10 0, rsi=0
+EB 00          | jmp to the next    | handler 30 38 0 | rsi=28 | Wine: - 0 8 0
+C3             | ret                | - 0 8 0         |
+";
 
-/// Memory with the code, and the words of the stack.
-fn space(alloc: Global, code: &[u8]) -> Result<PageMap, AllocError> {
-    let mut space = PageMap::new(alloc, &REGIONS)?;
-    let mut at = CODE;
-    for &byte in code {
-        let _ = space.store(at, Width::W8, byte as u64);
-        at = at.wrapping_add(1);
-    }
-    for index in 0..64 {
-        let _ = space.store(STACK + 8 * index, Width::W64, 8 * index);
-    }
-    Ok(space)
-}
+/// Chained fragments. Here no handler is looked for in one, and in its own prologue the establisher frame is
+/// RSP as it is. Wine asks the parent's handler, in that prologue too, and takes the frame register's frame
+/// there, which the parent has set.
+const CHAINED: &str = r"
+# a fragment chained to its function
+info 21 05 02 00 05 64 04 00 00 22 00 00 40 22 00 00 20 30 00 00
+info 09 06 03 00 06 42 02 30 01 50 00 00 00 02 00 00
+with rbp=50
+48 89 74 24 20 | mov [rsp+0x20],rsi | - 38 40 0    | rbx=28 rbp=30        | Wine: handler 38 40 0, rbx=28 rbp=30
+90             | nop                | body 38 40 0 | rbx=28 rbp=30 rsi=20 | Wine: handler 38 40 0, rbx=28 rbp=30 rsi=20
+48 8B 74 24 20 | mov rsi,[rsp+0x20] | body 38 40 0 | rbx=28 rbp=30 rsi=20 | Wine: handler 38 40 0, rbx=28 rbp=30 rsi=20
+48 83 C4 28    | add rsp,0x28       | - 38 40 0    | rbx=28 rbp=30
+5B             | pop rbx            | - 10 18 0    | rbx=0 rbp=8
+5D             | pop rbp            | - 8 10 0     | rbp=0
+C3             | ret                | - 0 8 0      |
+# a fragment without codes, chained to another one
+info 21 00 00 00 40 21 00 00 80 21 00 00 20 30 00 00
+info 21 05 02 00 05 64 04 00 00 22 00 00 40 22 00 00 40 30 00 00
+info 09 06 03 00 06 42 02 30 01 50 00 00 00 02 00 00
+with rbp=50
+90             | nop                | body 38 40 0 | rbx=28 rbp=30 rsi=20 | Wine: handler 38 40 0, rbx=28 rbp=30 rsi=20
+48 8B 74 24 20 | mov rsi,[rsp+0x20] | body 38 40 0 | rbx=28 rbp=30 rsi=20 | Wine: handler 38 40 0, rbx=28 rbp=30 rsi=20
+48 83 C4 28    | add rsp,0x28       | - 38 40 0    | rbx=28 rbp=30
+5B             | pop rbx            | - 10 18 0    | rbx=0 rbp=8
+5D             | pop rbp            | - 8 10 0     | rbp=0
+C3             | ret                | - 0 8 0      |
+# a fragment chained to a function with a frame register
+info 21 04 02 25 04 74 06 00 00 22 00 00 40 22 00 00 20 30 00 00
+info 09 0A 03 25 0A 03 05 72 01 50 00 00 00 02 00 00
+with rbp=40
+48 89 7D 10 | mov [rbp+0x10],rdi | - 68 70 0     | rbp=60        | Wine: handler 68 70 20, rbp=60
+90          | nop                | body 68 70 20 | rbp=60 rdi=50 | Wine: handler 68 70 20, rbp=60 rdi=50
+48 8B 7D 10 | mov rdi,[rbp+0x10] | body 68 70 20 | rbp=60 rdi=50 | Wine: handler 68 70 20, rbp=60 rdi=50
+48 8D 65 20 | lea rsp,[rbp+0x20] | - 68 70 0     | rbp=60        | Wine's frame: 20
+5D          | pop rbp            | - 8 10 0      | rbp=0         | Wine's frame: 20
+C3          | ret                | - 0 8 0       |               | Wine's frame: 20
+# a fragment chained to a machine frame
+info 21 03 02 00 03 12 01 30 00 22 00 00 40 22 00 00 20 30 00 00
+info 01 00 01 00 00 1A 00 00
+with rbp=50
+53 | push rbx | - 8 20 0     |
+50 | push rax | - 10 28 0    | rbx=0
+50 | push rax | - 10 28 0    | rbx=0
+90 | nop      | body 20 38 0 | rbx=10
+";
 
-/// RBX, RBP, RSI, RDI and R12 to R15 of the callee, by their places in a context: RBP points into
-/// the stack.
-fn context(offset: u64, rbp: u64) -> Context {
-    Context {
-        rip: CODE.wrapping_add(offset),
-        kept: [
-            STACK,
-            0xB1,
-            STACK.wrapping_add(rbp),
-            0xB3,
-            0xB4,
-            0xB5,
-            0xB6,
-            0xB7,
-            0xB8,
-        ],
-    }
-}
-
-/// What a row expects: the offset of RIP, whether its handler is asked, the place of the return
-/// address, the establisher frame, and the caller's registers that are read from the stack.
-#[derive(Clone, Copy, Debug)]
-struct Boundary<'a> {
-    offset: u64,
-    asked: bool,
-    rip: u64,
-    frame: u64,
-    read: &'a [(usize, u64)],
-}
-
-fn expects<'a>(
-    offset: u64,
-    asked: bool,
-    rip: u64,
-    frame: u64,
-    read: &'a [(usize, u64)],
-) -> Boundary<'a> {
-    Boundary {
-        offset,
-        asked,
-        rip,
-        frame,
-        read,
-    }
-}
-
-const RBX: usize = 1;
-
-const RBP: usize = 2;
-
-const RSI: usize = 3;
-
-const RDI: usize = 4;
-
-const R12: usize = 5;
-
-/// The caller that a row expects: RSP is above the return address, and the registers that aren't read
-/// are kept.
-fn expected(context: &Context, row: Boundary<'_>) -> Caller {
-    let mut kept = context.kept;
-    for &(register, place) in row.read {
-        if let Some(value) = kept.get_mut(register) {
-            *value = place;
-        }
-    }
-    kept[0] = STACK.wrapping_add(row.rip).wrapping_add(8);
-    Caller {
-        frame: STACK.wrapping_add(row.frame),
-        context: Context { rip: row.rip, kept },
-        handler: if row.asked { Some(0x200) } else { None },
-        in_body: row.asked,
-    }
-}
-
-/// Compares the callers at the boundaries of a function.
-fn unwinds(
-    rt: &impl Abort,
-    alloc: Global,
-    code: &[u8],
-    info: &[u8],
-    rbp: u64,
-    rows: &[Boundary<'_>],
-) -> Result<(), Fail> {
-    let bytes = table_image(alloc, info, &ENTRY)?;
-    let view = ImageView::read(alloc, &bytes)?;
-    let tables = Tables::read(&view)?;
-    let space = space(alloc, code)?;
-    for &row in rows {
-        let context = context(row.offset, rbp);
-        let found = caller(&tables, &space, &context);
-        assert_eq!(rt; found, Ok(expected(&context, row)), "{row:?}");
-    }
-    Ok(())
+#[test]
+fn published_functions(rt: HostRuntime) -> Result<(), Fail> {
+    all_unwind(&rt, rt.alloc(), PUBLISHED)
 }
 
 #[test]
-fn a_frame_register(rt: HostRuntime) -> Result<(), Fail> {
-    let code = [
-        0xFF, 0xF5, // push rbp
-        0x48, 0x81, 0xEC, 0x10, 0x01, 0, 0, // sub rsp,0x110
-        0x48, 0x8D, 0x6C, 0x24, 0x30, // lea rbp,[rsp+0x30]
-        0x48, 0x89, 0x9D, 0xF0, 0, 0, 0, // mov [rbp+0xF0],rbx
-        0x48, 0x89, 0xB5, 0xF8, 0, 0, 0, // mov [rbp+0xF8],rsi
-        0x90, // nop
-        0x48, 0x8B, 0x9D, 0xF0, 0, 0, 0, // mov rbx,[rbp+0xF0]
-        0x48, 0x8B, 0xB5, 0xF8, 0, 0, 0, // mov rsi,[rbp+0xF8]
-        0x48, 0x8D, 0xA5, 0xE0, 0, 0, 0, // lea rsp,[rbp+0xE0]
-        0x5D, // pop rbp
-        0xC3, // ret
-    ];
-    // EHANDLER; the prologue has 0x1C bytes; the frame register is RBP at 0x30.
-    let info = [
-        0x09, 0x1C, 8, 0x35, 0x1C, 0x64, 0x25, 0, 0x15, 0x34, 0x24, 0, 0x0E, 0x03, 0x09, 0x01,
-        0x22, 0, 0x02, 0x50, 0, 2, 0, 0,
-    ];
-    let rows = [
-        expects(0x00, false, 0x000, 0x000, &[]),
-        expects(0x02, false, 0x008, 0x000, &[(RBP, 0x000)]),
-        expects(0x09, false, 0x118, 0x000, &[(RBP, 0x110)]),
-        expects(0x0E, false, 0x128, 0x010, &[(RBP, 0x120)]),
-        expects(0x15, false, 0x128, 0x010, &[(RBP, 0x120), (RBX, 0x130)]),
-        expects(
-            0x1C,
-            true,
-            0x128,
-            0x010,
-            &[(RBP, 0x120), (RBX, 0x130), (RSI, 0x138)],
-        ),
-        expects(
-            0x1D,
-            true,
-            0x128,
-            0x010,
-            &[(RBP, 0x120), (RBX, 0x130), (RSI, 0x138)],
-        ),
-        expects(
-            0x24,
-            true,
-            0x128,
-            0x010,
-            &[(RBP, 0x120), (RBX, 0x130), (RSI, 0x138)],
-        ),
-        // In the epilogue Wine answers the frame 0x010.
-        expects(0x2B, false, 0x128, 0x000, &[(RBP, 0x120)]),
-        expects(0x32, false, 0x008, 0x000, &[(RBP, 0x000)]),
-        expects(0x33, false, 0x000, 0x000, &[]),
-    ];
-    unwinds(&rt, rt.alloc(), &code, &info, 0x40, &rows)
+fn allocations_and_saves(rt: HostRuntime) -> Result<(), Fail> {
+    all_unwind(&rt, rt.alloc(), ALLOCATIONS)
 }
 
 #[test]
-fn pushes(rt: HostRuntime) -> Result<(), Fail> {
-    let code = [
-        0x53, // push rbx
-        0x55, // push rbp
-        0x56, // push rsi
-        0x57, // push rdi
-        0x41, 0x54, // push r12
-        0x48, 0x83, 0xEC, 0x30, // sub rsp,0x30
-        0x90, 0x90, // nop; nop
-        0x48, 0x83, 0xC4, 0x30, // add rsp,0x30
-        0x41, 0x5C, // pop r12
-        0x5F, // pop rdi
-        0x5E, // pop rsi
-        0x5D, // pop rbp
-        0x5B, // pop rbx
-        0xC3, // ret
-    ];
-    // EHANDLER; the prologue has 0x0A bytes; there is no frame register.
-    let info = [
-        0x09, 0x0A, 6, 0, 0x0A, 0x52, 0x06, 0xC0, 0x04, 0x70, 0x03, 0x60, 0x02, 0x50, 0x01, 0x30,
-        0, 2, 0, 0,
-    ];
-    let all = [
-        (RBX, 0x050),
-        (RBP, 0x048),
-        (RSI, 0x040),
-        (RDI, 0x038),
-        (R12, 0x030),
-    ];
-    let pushed = [
-        (RBX, 0x020),
-        (RBP, 0x018),
-        (RSI, 0x010),
-        (RDI, 0x008),
-        (R12, 0x000),
-    ];
-    let four = [(RBX, 0x018), (RBP, 0x010), (RSI, 0x008), (RDI, 0x000)];
-    let three = [(RBX, 0x010), (RBP, 0x008), (RSI, 0x000)];
-    let two = [(RBX, 0x008), (RBP, 0x000)];
-    let rows = [
-        expects(0x00, false, 0x000, 0, &[]),
-        expects(0x01, false, 0x008, 0, &[(RBX, 0x000)]),
-        expects(0x02, false, 0x010, 0, &two),
-        expects(0x03, false, 0x018, 0, &three),
-        expects(0x04, false, 0x020, 0, &four),
-        expects(0x06, false, 0x028, 0, &pushed),
-        expects(0x0A, true, 0x058, 0, &all),
-        expects(0x0C, false, 0x058, 0, &all),
-        expects(0x10, false, 0x028, 0, &pushed),
-        expects(0x12, false, 0x020, 0, &four),
-        expects(0x13, false, 0x018, 0, &three),
-        expects(0x14, false, 0x010, 0, &two),
-        expects(0x15, false, 0x008, 0, &[(RBX, 0x000)]),
-        expects(0x16, false, 0x000, 0, &[]),
-    ];
-    unwinds(&rt, rt.alloc(), &code, &info, 0x50, &rows)
+fn frame_registers(rt: HostRuntime) -> Result<(), Fail> {
+    all_unwind(&rt, rt.alloc(), FRAME_REGISTERS)
+}
+
+#[test]
+fn ends_of_epilogues(rt: HostRuntime) -> Result<(), Fail> {
+    all_unwind(&rt, rt.alloc(), ENDS)
+}
+
+#[test]
+fn chained_fragments(rt: HostRuntime) -> Result<(), Fail> {
+    all_unwind(&rt, rt.alloc(), CHAINED)
 }

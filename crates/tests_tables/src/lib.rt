@@ -2,6 +2,8 @@
 #![tactic(auto)]
 
 #[cfg(test)]
+mod caller_rows;
+#[cfg(test)]
 mod callers;
 #[cfg(test)]
 mod headers;
