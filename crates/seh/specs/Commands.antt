@@ -23,7 +23,7 @@ IsCommandAnswer (Meaning options) source source' out out' answer = IsMeaningInpu
 abbrev pub Untouched : Stream → Stream → Stream → Stream → Type 0
 Untouched source source' out out' = (source' ≡ source) × Quiet out out'
 
--- the words are no line of the command set, or stand for a command that has this answer; or there was no memory to read them
+-- the words are no line of the command set, or mean a command that has this answer; or there was no memory to read them
 abbrev pub IsAnswer : List (List ℕ) → Stream → Stream → Stream → Stream → Result Outcome Refusal → Type 0
 IsAnswer words source source' out out' answer =
     ((answer ≡ Err refusals.Usage) × IsNoLine words × Untouched source source' out out')

@@ -18,7 +18,7 @@ use Rattle.seh.specs.declared.refusal.Refusal.{Refusal}
 use Rattle.seh.specs.declared.refusal.Refusal.TheVariants as refusals
 use Rattle.whole_runs.specs.Laws.{ShowsNoMore}
 
--- how many steps of a text's program one turn of its image may stand for, by the text's length
+-- how many steps of a text's program one turn of its image may take, by the text's length
 abbrev pub pace : List ℕ → ℕ
 pace text = pace_in (length text)
 

@@ -19,7 +19,8 @@ pub const TEXT_LIMIT: u64 = 1_048_576;
 /// Compiles a text, and writes the bytes of its image.
 fn compile_text<O: Sink>(alloc: Global, text: &[u8], out: &mut O) -> Result<Outcome, Refusal>
     requires { length text.now ≤ 1048576 }
-    ensures { IsCompileAnswer text.now (stream O.taken O.faults out.old) (stream O.taken O.faults out.new) result }
+    ensures { IsCompileAnswer text.now
+        (stream O.taken O.faults out.old) (stream O.taken O.faults out.new) result }
 {
     let image = match image_of(alloc, text) {
         Ok(image) => image,
@@ -37,7 +38,9 @@ pub fn compile<S: Source, O: Sink>(
     src: &mut S,
     out: &mut O,
 ) -> Result<Outcome, Refusal>
-    ensures { IsInputAnswer text_limit IsCompileAnswer (stream S.left S.faults src.old) (stream S.left S.faults src.new) (stream O.taken O.faults out.old) (stream O.taken O.faults out.new) result }
+    ensures { IsInputAnswer text_limit IsCompileAnswer
+        (stream S.left S.faults src.old) (stream S.left S.faults src.new)
+        (stream O.taken O.faults out.old) (stream O.taken O.faults out.new) result }
 {
     match read_all(alloc, src, TEXT_LIMIT) {
         Ok(text) => compile_text(alloc, &text, out),

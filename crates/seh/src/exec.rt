@@ -25,7 +25,8 @@ pub fn run_image<O: Sink>(
     bytes: &[u8],
     out: &mut O,
 ) -> Result<Outcome, Refusal>
-    ensures { IsRunAnswer options bytes.now (stream O.taken O.faults out.old) (stream O.taken O.faults out.new) result }
+    ensures { IsRunAnswer options bytes.now
+        (stream O.taken O.faults out.old) (stream O.taken O.faults out.new) result }
 {
     let image = match ImageView::read(alloc, bytes) {
         Ok(image) => image,
@@ -48,7 +49,9 @@ pub fn exec<S: Source, O: Sink>(
     src: &mut S,
     out: &mut O,
 ) -> Result<Outcome, Refusal>
-    ensures { IsInputAnswer image_limit (IsRunAnswer options) (stream S.left S.faults src.old) (stream S.left S.faults src.new) (stream O.taken O.faults out.old) (stream O.taken O.faults out.new) result }
+    ensures { IsInputAnswer image_limit (IsRunAnswer options)
+        (stream S.left S.faults src.old) (stream S.left S.faults src.new)
+        (stream O.taken O.faults out.old) (stream O.taken O.faults out.new) result }
 {
     match read_all(alloc, src, IMAGE_LIMIT) {
         Ok(bytes) => run_image(alloc, options, &bytes, out),

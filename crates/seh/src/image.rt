@@ -15,7 +15,7 @@ use program_link::link::compile_program;
 use seh_ir::lower::lower;
 use std::alloc::{AllocError, Global};
 
-/// Each byte of an image is below 256: what reads them knows it, and so it is told here.
+/// Each byte of an image is below 256: what reads them knows it, and so it is said here.
 fn bytes_are_octets(bytes: &[u8])
     ensures { AllByRecursion (λ (b : ℕ). b < 256) bytes.now }
 {

@@ -23,7 +23,8 @@ fn mean_text<O: Sink>(
     out: &mut O,
 ) -> Result<Outcome, Refusal>
     requires { length text.now ≤ 1048576 }
-    ensures { IsMeaningAnswer options text.now (stream O.taken O.faults out.old) (stream O.taken O.faults out.new) result }
+    ensures { IsMeaningAnswer options text.now
+        (stream O.taken O.faults out.old) (stream O.taken O.faults out.new) result }
 {
     let accepted = match accept(alloc, text) {
         Ok(accepted) => accepted,
@@ -48,7 +49,9 @@ pub fn meaning<S: Source, O: Sink>(
     src: &mut S,
     out: &mut O,
 ) -> Result<Outcome, Refusal>
-    ensures { IsMeaningInputAnswer options (stream S.left S.faults src.old) (stream S.left S.faults src.new) (stream O.taken O.faults out.old) (stream O.taken O.faults out.new) result }
+    ensures { IsMeaningInputAnswer options
+        (stream S.left S.faults src.old) (stream S.left S.faults src.new)
+        (stream O.taken O.faults out.old) (stream O.taken O.faults out.new) result }
 {
     match read_all(alloc, src, TEXT_LIMIT) {
         Ok(text) => mean_text(alloc, options, &text, out),

@@ -67,7 +67,7 @@ fn text_status(error: &TextErr) -> Status
     }
 }
 
-/// A name and a number behind it.
+/// A name and a number after it.
 fn named(line: &mut Line, name: &[u8], number: u64)
     requires { length line.old + length name.now ≤ 43 }
     ensures value { line.new ≡ line.old ++ named name.now number }
@@ -77,7 +77,7 @@ fn named(line: &mut Line, name: &[u8], number: u64)
     line.natural(number);
 }
 
-/// A name and two numbers behind it.
+/// A name and two numbers after it.
 fn named_two(line: &mut Line, name: &[u8], first: u64, second: u64)
     requires { length line.old + length name.now ≤ 22 }
     ensures value { line.new ≡ line.old ++ named_two name.now first second }
@@ -282,7 +282,8 @@ fn refusal_text(refusal: &Refusal) -> Line
 /// Writes a refusal's line, and gives the status: that of a write fault where the line can't be
 /// written.
 pub fn report<E: Sink>(err: &mut E, refusal: &Refusal) -> Status
-    ensures { Reported (Err refusal.now) (stream E.taken E.faults err.old) (stream E.taken E.faults err.new) result }
+    ensures { Reported (Err refusal.now) (stream E.taken E.faults err.old)
+        (stream E.taken E.faults err.new) result }
 {
     let mut line = refusal_text(refusal);
     line.end();

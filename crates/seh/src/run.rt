@@ -23,7 +23,8 @@ fn run_text<O: Sink>(
     out: &mut O,
 ) -> Result<Outcome, Refusal>
     requires { length text.now ≤ 1048576 }
-    ensures { IsTextRunAnswer options text.now (stream O.taken O.faults out.old) (stream O.taken O.faults out.new) result }
+    ensures { IsTextRunAnswer options text.now
+        (stream O.taken O.faults out.old) (stream O.taken O.faults out.new) result }
 {
     match image_of(alloc, text) {
         Ok(image) => run_image(alloc, options, &image, out),
@@ -38,7 +39,9 @@ pub fn run<S: Source, O: Sink>(
     src: &mut S,
     out: &mut O,
 ) -> Result<Outcome, Refusal>
-    ensures { IsInputAnswer text_limit (IsTextRunAnswer options) (stream S.left S.faults src.old) (stream S.left S.faults src.new) (stream O.taken O.faults out.old) (stream O.taken O.faults out.new) result }
+    ensures { IsInputAnswer text_limit (IsTextRunAnswer options)
+        (stream S.left S.faults src.old) (stream S.left S.faults src.new)
+        (stream O.taken O.faults out.old) (stream O.taken O.faults out.new) result }
 {
     match read_all(alloc, src, TEXT_LIMIT) {
         Ok(text) => run_text(alloc, options, &text, out),

@@ -16,7 +16,8 @@ use table_view::view;
 
 /// Writes the view of an image's function table.
 fn show_image<O: Sink>(alloc: Global, bytes: &[u8], out: &mut O) -> Result<Outcome, Refusal>
-    ensures { IsShowAnswer bytes.now (stream O.taken O.faults out.old) (stream O.taken O.faults out.new) result }
+    ensures { IsShowAnswer bytes.now
+        (stream O.taken O.faults out.old) (stream O.taken O.faults out.new) result }
 {
     let image = match ImageView::read(alloc, bytes) {
         Ok(image) => image,
@@ -30,7 +31,9 @@ fn show_image<O: Sink>(alloc: Global, bytes: &[u8], out: &mut O) -> Result<Outco
 
 /// Reads an image from the source and shows its function table.
 pub fn show<S: Source, O: Sink>(alloc: Global, src: &mut S, out: &mut O) -> Result<Outcome, Refusal>
-    ensures { IsInputAnswer image_limit IsShowAnswer (stream S.left S.faults src.old) (stream S.left S.faults src.new) (stream O.taken O.faults out.old) (stream O.taken O.faults out.new) result }
+    ensures { IsInputAnswer image_limit IsShowAnswer
+        (stream S.left S.faults src.old) (stream S.left S.faults src.new)
+        (stream O.taken O.faults out.old) (stream O.taken O.faults out.new) result }
 {
     match read_all(alloc, src, IMAGE_LIMIT) {
         Ok(bytes) => show_image(alloc, &bytes, out),

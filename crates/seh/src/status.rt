@@ -29,7 +29,7 @@ pub enum Status {
     StackLimit,
     /// The turns were used up.
     OutOfTurns,
-    /// The run couldn't go on.
+    /// The run couldn't continue.
     Stopped,
     /// A byte was accessed of which the language says nothing.
     Undefined,

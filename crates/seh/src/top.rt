@@ -26,7 +26,9 @@ fn answer<S: Source, O: Sink>(
     src: &mut S,
     out: &mut O,
 ) -> Result<Outcome, Refusal>
-    ensures { IsAnswer (map string_bytes words.now) (stream S.left S.faults src.old) (stream S.left S.faults src.new) (stream O.taken O.faults out.old) (stream O.taken O.faults out.new) result }
+    ensures { IsAnswer (map string_bytes words.now) (stream S.left S.faults src.old)
+        (stream S.left S.faults src.new) (stream O.taken O.faults out.old)
+        (stream O.taken O.faults out.new) result }
 {
     match command_of(alloc, words) {
         Ok(Command::Compile) => compile(alloc, src, out),
@@ -49,16 +51,16 @@ fn answer<S: Source, O: Sink>(
 /// `--trace` the lines of all events; the status is that of the run's end. `run`, with the same
 /// options, reads a text and answers as `exec` does for the image that the text is compiled to.
 ///
-/// `meaning`, with the same options, reads a text and runs it as its meaning says, for at most `--turns`
-/// steps; after `no memory` `out` may have taken a part of the text from the front.
+/// `meaning`, with the same options, reads a text and runs it as its meaning says, for at most
+/// `--turns` steps; after `no memory` `out` may have taken a part of the text from the front.
 ///
 /// `show` reads an image and writes the view of its function table.
 ///
-/// A refusal writes one line to `err` and nothing to `out`, but for a write fault, after which `out` has taken a part of
-/// the text from the front. Where the line can't be written the status is that of a write fault, and
-/// `err` has taken a part of the line from the front. `too long` comes exactly where the source holds
-/// more than the command's limit. After it, a read fault or want of memory the source has lost at most
-/// the limit and one byte, from the front.
+/// A refusal writes one line to `err` and nothing to `out`, but for a write fault, after which `out`
+/// has taken a part of the text from the front. Where the line can't be written the status is that
+/// of a write fault, and `err` has taken a part of the line from the front. `too long` comes exactly
+/// where the source holds more than the command's limit. After it, a read fault or want of memory
+/// the source has lost at most the limit and one byte, from the front.
 pub fn top<S: Source, O: Sink, E: Sink>(
     alloc: Global,
     words: &[String],
