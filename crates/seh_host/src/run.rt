@@ -71,7 +71,8 @@ pub enum RunErr {
 /// With `trace` each event has its line, else what is put alone. The last line is that of the end
 /// that is answered. The host is then as its turns left it, so that a later run begins there; one
 /// that has ended answers the same end. After `Write` the sink has taken a part of the text from the
-/// front, of `taken` bytes, and no turn was made after the one whose line failed.
+/// front, of `taken` bytes (a count that stays at 2^64 - 1), and no turn was made after the one whose
+/// line failed.
 pub fn run<O: Sink>(
     host: &mut Host<'_, '_>,
     turns: u64,
