@@ -1,5 +1,5 @@
 -- The least of what a program breaks, as a walk keeps it.
-use Rattle.std.specs.Prelude.{if◌then◌else◌, List, [], ◌∷◌, Option, Some, None, option_map}
+use Rattle.std.specs.Prelude.{◌≡◌, if◌then◌else◌, List, [], ◌∷◌, Option, Some, None, option_map}
 use Rattle.c_resolved.specs.Accepted.{is_earlier}
 use Rattle.c_resolved.specs.Expressions.{FaultAt}
 use Rattle.c_expressions.specs.declared.least.Broken.{Broken}
@@ -20,3 +20,7 @@ kept_one (Some g) f = if is_earlier f g then Some f else Some g
 abbrev pub kept : Option FaultAt → List FaultAt → Option FaultAt
 kept so_far [] = so_far
 kept so_far (f ∷ fs) = kept (kept_one so_far f) fs
+
+-- the least of what was kept before and of these faults is kept after
+abbrev pub AddsFaults : Least → Least → List FaultAt → Type 0
+AddsFaults before after faults = least_of after ≡ kept (least_of before) faults

@@ -2,7 +2,7 @@
 use Rattle.std.specs.Prelude.{◌≡◌, ℕ, Bool, true, false, List, Option, Some, None, option_map}
 use Rattle.c_expressions.specs.declared.least.Least.{Least}
 use Rattle.c_expressions.specs.Kept.{least_of, kept}
-use Rattle.c_resolved.specs.Expressions.{FaultAt, Names, ResolvedExpression, only_where, unless, rule_1, rule_2, is_lvalue, operand_is_lvalue}
+use Rattle.c_resolved.specs.Expressions.{Entity, UserFunction, BuiltInFunction, FaultAt, Names, ResolvedExpression, only_where, unless, rule_1, rule_2, rule_3, is_lvalue, operand_is_lvalue}
 use Rattle.c_resolved.specs.Operators.{TypedNode, assigned, compound_assigned, incremented, unary_of}
 use Rattle.c_syntax.specs.declared.operator.Arithmetic.{Arithmetic}
 use Rattle.c_syntax.specs.declared.operator.Increment.{Increment}
@@ -22,6 +22,17 @@ Finds r rule = (fs : List FaultAt) → option_map typed_node r ≡ (rule fs).fou
 -- Where the operands' faults are kept, it keeps the rule's too.
 abbrev pub Adds : Least → Least → (List FaultAt → ResolvedExpression) → Type 0
 Adds before after rule = (first : Option FaultAt) (fs : List FaultAt) → least_of before ≡ kept first fs → least_of after ≡ kept first (rule fs).faults
+
+-- ---- rules on the types of one operand, of two and of three, after operands with these faults
+
+abbrev pub unary_rule : ℕ → (TypedNode → Option TypedNode) → Option TypedNode' → List FaultAt → ResolvedExpression
+unary_rule at rule a fs = rule_1 at rule fs (option_map typed_node a)
+
+abbrev pub binary_rule : ℕ → (TypedNode → TypedNode → Option TypedNode) → Option TypedNode' → Option TypedNode' → List FaultAt → ResolvedExpression
+binary_rule at rule a b fs = rule_2 at rule fs (option_map typed_node a) (option_map typed_node b)
+
+abbrev pub ternary_rule : ℕ → (TypedNode → TypedNode → TypedNode → Option TypedNode) → Option TypedNode' → Option TypedNode' → Option TypedNode' → List FaultAt → ResolvedExpression
+ternary_rule at rule c a b fs = rule_3 at rule fs (option_map typed_node c) (option_map typed_node a) (option_map typed_node b)
 
 -- `=`, or with an operator its compound form
 abbrev pub assigning_rule : Option Arithmetic → TypedNode → TypedNode → Option TypedNode
@@ -51,6 +62,14 @@ assigning_to s target at o fs a b = unless (is_lvalue s target) (start target) N
 abbrev pub allowed_call : Bool → ℕ → Fault → List FaultAt → Option TypedNode → ResolvedExpression
 allowed_call allowed at f fs a = only_where allowed at f (record { found = a; faults = fs })
 
+-- ---- what a called name means
+
+-- no function that means the same everywhere
+abbrev pub is_special : Option Entity → Bool
+is_special (Some (UserFunction f t ps)) = false
+is_special (Some (BuiltInFunction k)) = false
+is_special meaning = true
+
 -- ---- kinds of expressions
 
 abbrev pub is_conditional_or_assignment : Expression → Bool
@@ -64,3 +83,10 @@ has_several (trees.Index a at i) = true
 has_several (trees.Binary a at o b) = true
 has_several (trees.Comma a at b) = true
 has_several other = is_conditional_or_assignment other
+
+-- with an operator before its operand, or with several operands
+abbrev pub has_prefix_or_several : Expression → Bool
+has_prefix_or_several (trees.Prefix at o a) = true
+has_prefix_or_several (trees.Unary at o a) = true
+has_prefix_or_several (trees.Cast at t a) = true
+has_prefix_or_several other = has_several other

@@ -1,16 +1,14 @@
 //! Arguments as they are passed, and the nodes of calls.
 
-ghost use Rattle.std.specs.Prelude.{◌≡◌, ◌<◌, [], nat_eq, Some, slice_index_or as get_or, IfOk, List, Option, length, map, option_map};
+ghost use Rattle.std.specs.Prelude.{◌≡◌, ◌<◌, [], nat_eq, Some, slice_index_or as get_or, IfOk};
+ghost use Rattle.std.specs.Prelude.{length, option_map};
 ghost use Rattle.c_checked.specs.Expression as nodes;
 ghost use Rattle.c_resolved.specs.Expressions as definitions;
-ghost use Rattle.c_resolved.specs.Expressions.{FaultAt};
 ghost use Rattle.c_resolved.specs.Operators as operators;
-ghost use Rattle.c_syntax.specs.Expression.{expression, start};
-ghost use Rattle.c_expressions.specs.Calls.{passed_of, put_after, PassesFirst};
-ghost use Rattle.c_expressions.specs.Kept.{least_of, kept};
+ghost use Rattle.c_expressions.specs.Calls.{call_of, expressions_of, passed_first, put_after};
+ghost use Rattle.c_expressions.specs.Calls.{AddsBefore, Passes};
 ghost use Rattle.c_expressions.specs.Rules.{Finds, Adds, allowed_call};
-ghost use Rattle.c_expressions.specs.Views.{wanted};
-ghost use Rattle.c_types.specs.Views.{typed_node};
+ghost use Rattle.c_types.specs.Views.{typed_node, FindsTyped};
 
 use crate::least::Least;
 use crate::wanted::{Wanted, built_in_result};
@@ -24,8 +22,8 @@ use std::alloc::{AllocError, Global};
 
 /// An argument as it is passed, if it is what is wanted at its place.
 pub fn pass(worst: &mut Least, want: Wanted, e: &Expr, found: Option<TypedNode>) -> Option<Checked>
-    ensures passed { (fs : List FaultAt) (rest : definitions.Passed) → PassesFirst (option_map nodes.expression result) rest (definitions.pass (wanted want) (start (expression e.now)) fs (option_map typed_node found) rest) }
-    ensures faults { (first : Option FaultAt) (fs : List FaultAt) (rest : definitions.Passed) → least_of worst.old ≡ kept first fs → kept (least_of worst.new) rest.faults ≡ kept first (definitions.pass (wanted want) (start (expression e.now)) fs (option_map typed_node found) rest).faults }
+    ensures passed { Passes result (passed_first want e.now found) }
+    ensures faults { AddsBefore worst.old worst.new (passed_first want e.now found) }
 {
     match found {
         None => None,
@@ -41,7 +39,7 @@ pub fn pass(worst: &mut Least, want: Wanted, e: &Expr, found: Option<TypedNode>)
 
 /// No arguments yet.
 pub fn no_arguments(alloc: Global) -> Option<Vec<Checked>>
-    ensures { option_map (λ v. map nodes.expression v.items) result ≡ Some [] }
+    ensures { expressions_of result ≡ Some [] }
 {
     Some(Vec::new(alloc))
 }
@@ -59,7 +57,8 @@ pub fn with_one(
     passed: Option<Vec<Checked>>,
     one: Option<Checked>,
 ) -> Result<Option<Vec<Checked>>, AllocError>
-    ensures { IfOk result (λ r. option_map (λ v. map nodes.expression v.items) r ≡ put_after (option_map (λ v. map nodes.expression v.items) passed) (option_map nodes.expression one)) }
+    ensures { IfOk result (λ r. expressions_of r ≡
+        put_after (expressions_of passed) (option_map nodes.expression one)) }
 {
     match passed {
         None => Ok(None),
@@ -82,7 +81,8 @@ pub fn same_count(wants: &[Wanted], given: &[Expr]) -> bool
 
 /// `GetExceptionCode()`, if its arguments are good.
 pub fn code_call(passed: Option<Vec<Checked>>) -> Option<TypedNode>
-    ensures { option_map typed_node result ≡ option_map (λ v. operators.typed definitions.unsigned nodes.ExceptionCode) passed }
+    ensures { FindsTyped result
+        (call_of definitions.unsigned (λ es. nodes.ExceptionCode) passed) }
 {
     match passed {
         Some(_) => Some(typed(plain(Base::Unsigned), Node::ExceptionCode)),
@@ -92,7 +92,8 @@ pub fn code_call(passed: Option<Vec<Checked>>) -> Option<TypedNode>
 
 /// `AbnormalTermination()`, if its arguments are good.
 pub fn abnormal_call(passed: Option<Vec<Checked>>) -> Option<TypedNode>
-    ensures { option_map typed_node result ≡ option_map (λ v. operators.typed operators.int nodes.AbnormalTermination) passed }
+    ensures { FindsTyped result
+        (call_of operators.int (λ es. nodes.AbnormalTermination) passed) }
 {
     match passed {
         Some(_) => Some(typed(plain(Base::Int), Node::AbnormalTermination)),
@@ -102,7 +103,7 @@ pub fn abnormal_call(passed: Option<Vec<Checked>>) -> Option<TypedNode>
 
 /// A call of a function of the text, if its arguments are good.
 pub fn user_call(function: u64, of: CType, passed: Option<Vec<Checked>>) -> Option<TypedNode>
-    ensures { option_map typed_node result ≡ option_map (λ v. operators.typed of (nodes.Call function (passed_of v.items))) passed }
+    ensures { FindsTyped result (call_of of (nodes.Call function) passed) }
 {
     match passed {
         Some(arguments) => Some(typed(
@@ -118,7 +119,8 @@ pub fn user_call(function: u64, of: CType, passed: Option<Vec<Checked>>) -> Opti
 
 /// A call of a built-in function, if its arguments are good.
 pub fn built_in_call(function: BuiltIn, passed: Option<Vec<Checked>>) -> Option<TypedNode>
-    ensures { option_map typed_node result ≡ option_map (λ v. operators.typed (definitions.built_in_result function) (nodes.CallBuiltIn function (passed_of v.items))) passed }
+    ensures { FindsTyped result
+        (call_of (definitions.built_in_result function) (nodes.CallBuiltIn function) passed) }
 {
     match passed {
         Some(arguments) => Some(typed(
@@ -140,8 +142,10 @@ pub fn only_where(
     fault: Fault,
     found: Option<TypedNode>,
 ) -> Option<TypedNode>
-    ensures found { Finds result (λ fs. allowed_call allowed at fault fs (option_map typed_node found)) }
-    ensures faults { Adds worst.old worst.new (λ fs. allowed_call allowed at fault fs (option_map typed_node found)) }
+    ensures found { Finds result (λ fs. allowed_call allowed at fault fs
+        (option_map typed_node found)) }
+    ensures faults { Adds worst.old worst.new
+        (λ fs. allowed_call allowed at fault fs (option_map typed_node found)) }
 {
     if allowed {
         return found;

@@ -6,8 +6,8 @@ ghost use Rattle.c_expressions.specs.Views.{entity, names_of};
 use crate::scopes::{Entity, Scopes, meaning, spelled};
 use c_syntax::expression::Identifier;
 
-/// Where an expression is: the text and the names there, and whether the exception's code, its record
-/// and AbnormalTermination mean something.
+/// Where an expression is: the text and the names there, and whether the exception's code, its
+/// record and AbnormalTermination mean something.
 #[derive(Clone, Copy)]
 pub struct Context<'t, 's> {
     pub text: &'t [u8],

@@ -1,17 +1,15 @@
 //! Expressions: the type and the node of each, or the rules that it breaks.
 
-ghost use Rattle.std.specs.Prelude.{◌≡◌, true, Some, IfOk, OnOk, length, map, option_map};
-ghost use Rattle.c_checked.specs.Expression as nodes;
-ghost use Rattle.c_resolved.specs.Expressions as definitions;
-ghost use Rattle.c_resolved.specs.Expressions.{resolve_expression};
-ghost use Rattle.c_resolved.specs.Operators as operators;
-ghost use Rattle.c_syntax.specs.declared.expression.CType.{CType};
+ghost use Rattle.std.specs.Prelude.{◌≡◌, true, IfOk, OnOk, length, option_map};
+ghost use Rattle.c_resolved.specs.Expressions.{faults_of};
 ghost use Rattle.c_syntax.specs.Expression.{expression};
-ghost use Rattle.c_expressions.specs.Calls.{passed_of, resolved_all};
-ghost use Rattle.c_expressions.specs.Kept.{least_of, kept};
-ghost use Rattle.c_expressions.specs.Rules.{has_several, is_conditional_or_assignment};
-ghost use Rattle.c_expressions.specs.Views.{entity, names_of, wanted};
-ghost use Rattle.c_types.specs.Views.{typed_node};
+ghost use Rattle.c_expressions.specs.Calls.{passed_of, resolved_all, AddsCall, FindsCall};
+ghost use Rattle.c_expressions.specs.Kept.{AddsFaults};
+ghost use Rattle.c_expressions.specs.Resolved.{all_passed, called, called_with, resolved};
+ghost use Rattle.c_expressions.specs.Rules.{has_prefix_or_several, has_several, is_special};
+ghost use Rattle.c_expressions.specs.Rules.{is_conditional_or_assignment};
+ghost use Rattle.c_expressions.specs.Views.{entity, names_of};
+ghost use Rattle.c_types.specs.Views.{FindsTyped};
 
 use crate::calls::{
     abnormal_call, built_in_call, code_call, no_arguments, only_where, pass, same_count, user_call,
@@ -40,8 +38,10 @@ fn pass_all(
     given: &[Expr],
 ) -> Result<Option<Vec<Checked>>, AllocError>
     requires same { length wants.now ≡ length given.now }
-    ensures found { IfOk result (λ r. option_map (λ v. passed_of v.items) r ≡ (definitions.pass_all (map wanted wants.now) (resolved_all (names_of context.now) given.now)).found) }
-    ensures faults { OnOk result (least_of worst.new ≡ kept (least_of worst.old) (definitions.pass_all (map wanted wants.now) (resolved_all (names_of context.now) given.now)).faults) }
+    ensures found { IfOk result (λ r. option_map (λ v. passed_of v.items) r ≡
+        (all_passed context.now wants.now given.now).found) }
+    ensures faults { OnOk result (AddsFaults worst.old worst.new
+        (all_passed context.now wants.now given.now).faults) }
 {
     let mut passed = no_arguments(alloc);
     let mut i = 0;
@@ -63,7 +63,8 @@ fn resolve_all(
     worst: &mut Least,
     given: &[Expr],
 ) -> Result<(), AllocError>
-    ensures { OnOk result (least_of worst.new ≡ kept (least_of worst.old) (definitions.faults_of (resolved_all (names_of context.now) given.now))) }
+    ensures { OnOk result (AddsFaults worst.old worst.new
+        (faults_of (resolved_all (names_of context.now) given.now))) }
 {
     for e in given {
         resolve(alloc, context, worst, e)?;
@@ -81,8 +82,10 @@ fn call_with(
     wants: &[Wanted],
     given: &[Expr],
 ) -> Result<Option<Vec<Checked>>, AllocError>
-    ensures found { IfOk result (λ r. (t : CType) (make : nodes.Arguments → nodes.Node) → option_map (λ v. operators.typed t (make (passed_of v.items))) r ≡ (definitions.call_with at (map wanted wants.now) t make (resolved_all (names_of context.now) given.now)).found) }
-    ensures faults { OnOk result ((t : CType) (make : nodes.Arguments → nodes.Node) → least_of worst.new ≡ kept (least_of worst.old) (definitions.call_with at (map wanted wants.now) t make (resolved_all (names_of context.now) given.now)).faults) }
+    ensures found { IfOk result (λ r. FindsCall r
+        (called_with context.now at wants.now given.now)) }
+    ensures faults { OnOk result (AddsCall worst.old worst.new
+        (called_with context.now at wants.now given.now)) }
 {
     if same_count(wants, given) {
         return pass_all(alloc, context, worst, wants, given);
@@ -92,9 +95,10 @@ fn call_with(
     Ok(None)
 }
 
-/// A call of a name.
+/// A call of a function that means something in some places alone, or of a name that is no
+/// function.
 #[cycle(expressions)]
-fn call(
+fn special_call(
     alloc: Global,
     context: &Context<'_, '_>,
     worst: &mut Least,
@@ -102,26 +106,13 @@ fn call(
     meaning: Option<Entity<'_>>,
     given: &[Expr],
 ) -> Result<Option<TypedNode>, AllocError>
-    ensures found { IfOk result (λ r. option_map typed_node r ≡ (definitions.call (names_of context.now) at (option_map entity meaning.entry) (resolved_all (names_of context.now) given.now)).found) }
-    ensures faults { OnOk result (least_of worst.new ≡ kept (least_of worst.old) (definitions.call (names_of context.now) at (option_map entity meaning.entry) (resolved_all (names_of context.now) given.now)).faults) }
+    requires { is_special (option_map entity meaning) ≡ true }
+    ensures found { IfOk result (λ r. FindsTyped r
+        (called context.now at meaning.entry given.now).found) }
+    ensures faults { OnOk result (AddsFaults worst.old worst.new
+        (called context.now at meaning.entry given.now).faults) }
 {
     match meaning {
-        Some(
-            Entity::UserFunction {
-                number,
-                returns,
-                parameters,
-            },
-        ) => {
-            let wants = wanted_by(alloc, parameters)?;
-            let passed = call_with(alloc, context, worst, at, &wants, given)?;
-            Ok(user_call(number, returns, passed))
-        }
-        Some(Entity::BuiltInFunction(function)) => {
-            let wants = built_in_wants(alloc, function)?;
-            let passed = call_with(alloc, context, worst, at, &wants, given)?;
-            Ok(built_in_call(function, passed))
-        }
         Some(Entity::CodeFunction) => {
             let passed = call_with(alloc, context, worst, at, &[], given)?;
             let found = code_call(passed);
@@ -146,6 +137,42 @@ fn call(
     }
 }
 
+/// A call of a name.
+#[cycle(expressions)]
+fn call(
+    alloc: Global,
+    context: &Context<'_, '_>,
+    worst: &mut Least,
+    at: u64,
+    meaning: Option<Entity<'_>>,
+    given: &[Expr],
+) -> Result<Option<TypedNode>, AllocError>
+    ensures found { IfOk result (λ r. FindsTyped r
+        (called context.now at meaning.entry given.now).found) }
+    ensures faults { OnOk result (AddsFaults worst.old worst.new
+        (called context.now at meaning.entry given.now).faults) }
+{
+    match meaning {
+        Some(
+            Entity::UserFunction {
+                number,
+                returns,
+                parameters,
+            },
+        ) => {
+            let wants = wanted_by(alloc, parameters)?;
+            let passed = call_with(alloc, context, worst, at, &wants, given)?;
+            Ok(user_call(number, returns, passed))
+        }
+        Some(Entity::BuiltInFunction(function)) => {
+            let wants = built_in_wants(alloc, function)?;
+            let passed = call_with(alloc, context, worst, at, &wants, given)?;
+            Ok(built_in_call(function, passed))
+        }
+        _ => special_call(alloc, context, worst, at, meaning, given),
+    }
+}
+
 /// An expression with several operands.
 #[cycle(expressions)]
 fn several(
@@ -155,8 +182,9 @@ fn several(
     e: &Expr,
 ) -> Result<Option<TypedNode>, AllocError>
     requires { has_several (expression e.now) ≡ true }
-    ensures found { IfOk result (λ r. option_map typed_node r ≡ (resolve_expression (names_of context.now) (expression e.now)).found) }
-    ensures faults { OnOk result (least_of worst.new ≡ kept (least_of worst.old) (resolve_expression (names_of context.now) (expression e.now)).faults) }
+    ensures found { IfOk result (λ r. FindsTyped r (resolved context.now e.now).found) }
+    ensures faults { OnOk result (AddsFaults worst.old worst.new
+        (resolved context.now e.now).faults) }
 {
     match e {
         Expr::Index { array, at, index } => {
@@ -192,8 +220,9 @@ fn conditional_or_assignment(
     e: &Expr,
 ) -> Result<Option<TypedNode>, AllocError>
     requires { is_conditional_or_assignment (expression e.now) ≡ true }
-    ensures found { IfOk result (λ r. option_map typed_node r ≡ (resolve_expression (names_of context.now) (expression e.now)).found) }
-    ensures faults { OnOk result (least_of worst.new ≡ kept (least_of worst.old) (resolve_expression (names_of context.now) (expression e.now)).faults) }
+    ensures found { IfOk result (λ r. FindsTyped r (resolved context.now e.now).found) }
+    ensures faults { OnOk result (AddsFaults worst.old worst.new
+        (resolved context.now e.now).faults) }
 {
     match e {
         Expr::Conditional {
@@ -222,35 +251,20 @@ fn conditional_or_assignment(
     }
 }
 
-/// The type and the node of an expression, if it breaks no rule; the least fault of those before and of
-/// its own is kept.
+/// An expression with an operator before its operand, or with several operands.
 #[cycle(expressions)]
-pub fn resolve(
+fn preceded(
     alloc: Global,
     context: &Context<'_, '_>,
     worst: &mut Least,
     e: &Expr,
 ) -> Result<Option<TypedNode>, AllocError>
-    ensures found { IfOk result (λ r. option_map typed_node r ≡ (resolve_expression (names_of context.now) (expression e.now)).found) }
-    ensures faults { OnOk result (least_of worst.new ≡ kept (least_of worst.old) (resolve_expression (names_of context.now) (expression e.now)).faults) }
+    requires { has_prefix_or_several (expression e.now) ≡ true }
+    ensures found { IfOk result (λ r. FindsTyped r (resolved context.now e.now).found) }
+    ensures faults { OnOk result (AddsFaults worst.old worst.new
+        (resolved context.now e.now).faults) }
 {
     match e {
-        Expr::Literal { literal: l, .. } => Ok(Some(literal(*l))),
-        Expr::Variable(n) => name(worst, n.start, named(context, *n)),
-        Expr::Information { at, field } => Ok(information(context, worst, *at, *field)),
-        Expr::Call { name: n, arguments } => {
-            let meaning = named(context, *n);
-            call(alloc, context, worst, n.start, meaning, arguments)
-        }
-        Expr::Parentheses { inner, .. } => resolve(alloc, context, worst, inner),
-        Expr::Postfix {
-            operand,
-            operator,
-            at,
-        } => {
-            let a = resolve(alloc, context, worst, operand)?;
-            Ok(step(context, worst, *at, Fixity::Postfix, *operator, operand, a))
-        }
         Expr::Prefix {
             at,
             operator,
@@ -272,5 +286,39 @@ pub fn resolve(
             rules::cast(alloc, worst, *at, *to, a)
         }
         _ => several(alloc, context, worst, e),
+    }
+}
+
+/// The type and the node of an expression, if it breaks no rule; the least fault of those before
+/// and of its own is kept.
+#[cycle(expressions)]
+pub fn resolve(
+    alloc: Global,
+    context: &Context<'_, '_>,
+    worst: &mut Least,
+    e: &Expr,
+) -> Result<Option<TypedNode>, AllocError>
+    ensures found { IfOk result (λ r. FindsTyped r (resolved context.now e.now).found) }
+    ensures faults { OnOk result (AddsFaults worst.old worst.new
+        (resolved context.now e.now).faults) }
+{
+    match e {
+        Expr::Literal { literal: l, .. } => Ok(Some(literal(*l))),
+        Expr::Variable(n) => name(worst, n.start, named(context, *n)),
+        Expr::Information { at, field } => Ok(information(context, worst, *at, *field)),
+        Expr::Call { name: n, arguments } => {
+            let meaning = named(context, *n);
+            call(alloc, context, worst, n.start, meaning, arguments)
+        }
+        Expr::Parentheses { inner, .. } => resolve(alloc, context, worst, inner),
+        Expr::Postfix {
+            operand,
+            operator,
+            at,
+        } => {
+            let a = resolve(alloc, context, worst, operand)?;
+            Ok(step(context, worst, *at, Fixity::Postfix, *operator, operand, a))
+        }
+        _ => preceded(alloc, context, worst, e),
     }
 }

@@ -1,9 +1,9 @@
 //! The least fault.
 
-ghost use Rattle.std.specs.Prelude.{◌≡◌, ◌∷◌, []};
+ghost use Rattle.std.specs.Prelude.{◌≡◌};
 ghost use Rattle.c_resolved.specs.Accepted.{rank, is_earlier};
 ghost use Rattle.c_resolved.specs.Expressions.{fault_at};
-ghost use Rattle.c_expressions.specs.Kept.{broken, least_of, kept};
+ghost use Rattle.c_expressions.specs.Kept.{broken, AddsFaults};
 
 use c_resolved::fault::Fault;
 
@@ -40,8 +40,8 @@ fn is_earlier(a: Broken, b: Broken) -> bool
     a.at < b.at || (a.at == b.at && rank(a.fault) < rank(b.fault))
 }
 
-/// The least of the faults so far: the one at the least place, and at one place that of the earliest
-/// rule.
+/// The least of the faults so far: the one at the least place, and at one place that of the
+/// earliest rule.
 #[derive(Clone, Copy, Drop)]
 pub struct Least {
     pub found: Option<Broken>,
@@ -50,7 +50,7 @@ pub struct Least {
 impl Least {
     /// One more fault.
     pub fn add(&mut self, at: u64, fault: Fault)
-        ensures { least_of self.new ≡ kept (least_of self.old) (fault_at at fault) }
+        ensures { AddsFaults self.old self.new (fault_at at fault) }
     {
         let new = Broken { at, fault };
         match self.found {

@@ -4,7 +4,8 @@ ghost use Rattle.std.specs.Prelude.{◌≡◌, IfOk, OnOk, option_map};
 ghost use Rattle.c_resolved.specs.Expressions as definitions;
 ghost use Rattle.c_resolved.specs.Expressions.{is_lvalue, is_addressable};
 ghost use Rattle.c_syntax.specs.Expression.{expression, start};
-ghost use Rattle.c_expressions.specs.Rules.{Finds, Adds, stepping, preceding, assigning_at, assigning_to};
+ghost use Rattle.c_expressions.specs.Rules.{Finds, Adds, stepping, preceding, assigning_at};
+ghost use Rattle.c_expressions.specs.Rules.{assigning_to};
 ghost use Rattle.c_expressions.specs.Views.{names_of};
 ghost use Rattle.c_types.specs.Views.{typed_node};
 
@@ -19,8 +20,8 @@ use c_syntax::operator::{Arithmetic, Increment, UnaryOperator};
 use c_types::typed::TypedNode;
 use std::alloc::{AllocError, Global};
 
-/// Whether an expression is a variable, `*e` or `a[i]`, parentheses aside; of an unknown name no further
-/// rule is broken.
+/// Whether an expression is a variable, `*e` or `a[i]`, parentheses aside; of an unknown name no
+/// further rule is broken.
 fn is_lvalue(context: &Context<'_, '_>, e: &Expr) -> bool
     ensures { result ≡ is_lvalue (names_of context.now) (expression e.now) }
 {
@@ -63,7 +64,8 @@ fn is_indirection(operator: UnaryOperator) -> bool
 
 /// Whether the operand of `&` is one.
 fn operand_is_lvalue(context: &Context<'_, '_>, operator: UnaryOperator, e: &Expr) -> bool
-    ensures { result ≡ definitions.operand_is_lvalue operator (names_of context.now) (expression e.now) }
+    ensures { result ≡ definitions.operand_is_lvalue operator (names_of context.now)
+        (expression e.now) }
 {
     match operator {
         UnaryOperator::AddressOf => is_addressable(context, e),
@@ -81,8 +83,11 @@ pub fn step(
     operand: &Expr,
     a: Option<TypedNode>,
 ) -> Option<TypedNode>
-    ensures found { Finds result (λ fs. stepping (names_of context.now) at fixity operator (expression operand.now) fs (option_map typed_node a)) }
-    ensures faults { Adds worst.old worst.new (λ fs. stepping (names_of context.now) at fixity operator (expression operand.now) fs (option_map typed_node a)) }
+    ensures found { Finds result (λ fs. stepping (names_of context.now) at fixity operator
+        (expression operand.now) fs (option_map typed_node a)) }
+    ensures faults { Adds worst.old worst.new
+        (λ fs. stepping (names_of context.now) at fixity operator (expression operand.now) fs
+        (option_map typed_node a)) }
 {
     if is_lvalue(context, operand) {
         return rules::increment(worst, at, fixity, operator, a);
@@ -101,8 +106,12 @@ pub fn unary(
     operand: &Expr,
     a: Option<TypedNode>,
 ) -> Result<Option<TypedNode>, AllocError>
-    ensures found { IfOk result (λ r. Finds r (λ fs. preceding (names_of context.now) at operator (expression operand.now) fs (option_map typed_node a))) }
-    ensures faults { OnOk result (Adds worst.old worst.new (λ fs. preceding (names_of context.now) at operator (expression operand.now) fs (option_map typed_node a))) }
+    ensures found { IfOk result (λ r. Finds r
+        (λ fs. preceding (names_of context.now) at operator (expression operand.now) fs
+        (option_map typed_node a))) }
+    ensures faults { OnOk result (Adds worst.old worst.new
+        (λ fs. preceding (names_of context.now) at operator (expression operand.now) fs
+        (option_map typed_node a))) }
 {
     if operand_is_lvalue(context, operator, operand) {
         return rules::unary(alloc, worst, at, operator, a);
@@ -132,8 +141,12 @@ pub fn assign(
     a: Option<TypedNode>,
     b: Option<TypedNode>,
 ) -> Result<Option<TypedNode>, AllocError>
-    ensures found { IfOk result (λ r. Finds r (λ fs. assigning_to (names_of context.now) (expression target.now) at operator fs (option_map typed_node a) (option_map typed_node b))) }
-    ensures faults { OnOk result (Adds worst.old worst.new (λ fs. assigning_to (names_of context.now) (expression target.now) at operator fs (option_map typed_node a) (option_map typed_node b))) }
+    ensures found { IfOk result (λ r. Finds r
+        (λ fs. assigning_to (names_of context.now) (expression target.now) at operator fs
+        (option_map typed_node a) (option_map typed_node b))) }
+    ensures faults { OnOk result (Adds worst.old worst.new
+        (λ fs. assigning_to (names_of context.now) (expression target.now) at operator fs
+        (option_map typed_node a) (option_map typed_node b))) }
 {
     if is_lvalue(context, target) {
         return rules::assign(alloc, worst, operator, at, a, b);

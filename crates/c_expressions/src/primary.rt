@@ -3,12 +3,12 @@
 ghost use Rattle.std.specs.Prelude.{◌≡◌, IfOk, OnOk, option_map};
 ghost use Rattle.c_resolved.specs.Expressions as definitions;
 ghost use Rattle.c_resolved.specs.Expressions.{name};
-ghost use Rattle.c_expressions.specs.Kept.{least_of, kept};
+ghost use Rattle.c_expressions.specs.Kept.{AddsFaults};
 ghost use Rattle.c_expressions.specs.Views.{entity, names_of};
 ghost use Rattle.c_operations.specs.Numbers.{width};
 ghost use Rattle.c_syntax.specs.Expression as trees;
 ghost use Rattle.seh_num.specs.Widths.{low};
-ghost use Rattle.c_types.specs.Views.{typed_node};
+ghost use Rattle.c_types.specs.Views.{typed_node, FindsTyped};
 
 use crate::context::Context;
 use crate::least::Least;
@@ -83,8 +83,10 @@ pub fn name(
     at: u64,
     meaning: Option<Entity<'_>>,
 ) -> Result<Option<TypedNode>, AllocError>
-    ensures found { IfOk result (λ r. option_map typed_node r ≡ (name at (option_map entity meaning.entry)).found) }
-    ensures faults { OnOk result (least_of worst.new ≡ kept (least_of worst.old) (name at (option_map entity meaning.entry)).faults) }
+    ensures found { IfOk result (λ r. FindsTyped r
+        (name at (option_map entity meaning.entry)).found) }
+    ensures faults { OnOk result (AddsFaults worst.old worst.new
+        (name at (option_map entity meaning.entry)).faults) }
 {
     match meaning {
         Some(Entity::LocalVariable { number, of }) => Ok(Some(typed(
@@ -106,8 +108,8 @@ pub fn name(
 
 /// A field of the exception's record.
 fn field(worst: &mut Least, of: Field) -> Option<TypedNode>
-    ensures found { option_map typed_node result ≡ (definitions.field of).found }
-    ensures faults { least_of worst.new ≡ kept (least_of worst.old) (definitions.field of).faults }
+    ensures found { FindsTyped result (definitions.field of).found }
+    ensures faults { AddsFaults worst.old worst.new (definitions.field of).faults }
 {
     let unsigned = plain(Base::Unsigned);
     match of {
@@ -132,8 +134,10 @@ pub fn information(
     at: u64,
     of: Field,
 ) -> Option<TypedNode>
-    ensures found { option_map typed_node result ≡ (definitions.resolve_expression (names_of context.now) (trees.Information at of)).found }
-    ensures faults { least_of worst.new ≡ kept (least_of worst.old) (definitions.resolve_expression (names_of context.now) (trees.Information at of)).faults }
+    ensures found { FindsTyped result
+        (definitions.resolve_expression (names_of context.now) (trees.Information at of)).found }
+    ensures faults { AddsFaults worst.old worst.new
+        (definitions.resolve_expression (names_of context.now) (trees.Information at of)).faults }
 {
     if context.information {
         return field(worst, of);

@@ -1,12 +1,13 @@
-//! Rules on the types of operands: an operand that holds a fault has no type, and no rule fails for it.
+//! Rules on the types of operands: an operand that holds a fault has no type, and breaks no rule.
 
-ghost use Rattle.std.specs.Prelude.{◌≡◌, ℕ, IfOk, OnOk, List, Option, option_map};
+ghost use Rattle.std.specs.Prelude.{◌≡◌, ℕ, IfOk, OnOk, List, option_map};
 ghost use Rattle.c_resolved.specs.declared.fault.Fault.TheVariants.{TypeClash};
-ghost use Rattle.c_resolved.specs.Expressions.{FaultAt, ruled, rule_1, rule_2, rule_3, changed};
-ghost use Rattle.c_resolved.specs.Operators.{binary_of, unary_of, cast_of, element_of, comma_of, conditional_of, incremented};
-ghost use Rattle.c_expressions.specs.Kept.{least_of, kept};
-ghost use Rattle.c_expressions.specs.Rules.{Finds, Adds, assigning, assigning_rule};
-ghost use Rattle.c_types.specs.Views.{typed_node};
+ghost use Rattle.c_resolved.specs.Expressions.{FaultAt, ruled};
+ghost use Rattle.c_resolved.specs.Operators.{binary_of, unary_of, cast_of, element_of, comma_of};
+ghost use Rattle.c_resolved.specs.Operators.{conditional_of, incremented};
+ghost use Rattle.c_expressions.specs.Rules.{Finds, Adds, assigning_rule};
+ghost use Rattle.c_expressions.specs.Rules.{unary_rule, binary_rule, ternary_rule};
+ghost use Rattle.c_types.specs.Views.{typed_node, FindsTyped};
 
 use crate::least::Least;
 use c_checked::expression::Fixity;
@@ -20,7 +21,8 @@ use std::alloc::{AllocError, Global};
 /// What a rule gave; a fault where it gave nothing.
 fn ruled(worst: &mut Least, at: u64, found: Option<TypedNode>) -> Option<TypedNode>
     ensures found { Finds result (λ fs. ruled at TypeClash fs (option_map typed_node found)) }
-    ensures faults { Adds worst.old worst.new (λ fs. ruled at TypeClash fs (option_map typed_node found)) }
+    ensures faults { Adds worst.old worst.new
+        (λ fs. ruled at TypeClash fs (option_map typed_node found)) }
 {
     match found {
         Some(a) => Some(a),
@@ -39,8 +41,8 @@ pub fn element(
     a: Option<TypedNode>,
     i: Option<TypedNode>,
 ) -> Result<Option<TypedNode>, AllocError>
-    ensures found { IfOk result (λ r. Finds r (λ fs. rule_2 at element_of fs (option_map typed_node a) (option_map typed_node i))) }
-    ensures faults { OnOk result (Adds worst.old worst.new (λ fs. rule_2 at element_of fs (option_map typed_node a) (option_map typed_node i))) }
+    ensures found { IfOk result (λ r. Finds r (binary_rule at element_of a i)) }
+    ensures faults { OnOk result (Adds worst.old worst.new (binary_rule at element_of a i)) }
 {
     match (a, i) {
         (Some(a), Some(i)) => {
@@ -60,8 +62,9 @@ pub fn binary(
     a: Option<TypedNode>,
     b: Option<TypedNode>,
 ) -> Result<Option<TypedNode>, AllocError>
-    ensures found { IfOk result (λ r. Finds r (λ fs. rule_2 at (binary_of operator) fs (option_map typed_node a) (option_map typed_node b))) }
-    ensures faults { OnOk result (Adds worst.old worst.new (λ fs. rule_2 at (binary_of operator) fs (option_map typed_node a) (option_map typed_node b))) }
+    ensures found { IfOk result (λ r. Finds r (binary_rule at (binary_of operator) a b)) }
+    ensures faults { OnOk result (Adds worst.old worst.new
+        (binary_rule at (binary_of operator) a b)) }
 {
     match (a, b) {
         (Some(a), Some(b)) => {
@@ -78,8 +81,8 @@ pub fn comma(
     a: Option<TypedNode>,
     b: Option<TypedNode>,
 ) -> Result<Option<TypedNode>, AllocError>
-    ensures found { IfOk result (λ r. (at : ℕ) → Finds r (λ fs. rule_2 at comma_of fs (option_map typed_node a) (option_map typed_node b))) }
-    ensures faults { (at : ℕ) (fs : List FaultAt) → (rule_2 at comma_of fs (option_map typed_node a) (option_map typed_node b)).faults ≡ fs }
+    ensures found { IfOk result (λ r. (at : ℕ) → Finds r (binary_rule at comma_of a b)) }
+    ensures faults { (at : ℕ) (fs : List FaultAt) → (binary_rule at comma_of a b fs).faults ≡ fs }
 {
     match (a, b) {
         (Some(a), Some(b)) => operators::comma_of(alloc, a, b),
@@ -96,8 +99,8 @@ pub fn conditional(
     a: Option<TypedNode>,
     b: Option<TypedNode>,
 ) -> Result<Option<TypedNode>, AllocError>
-    ensures found { IfOk result (λ r. Finds r (λ fs. rule_3 at conditional_of fs (option_map typed_node c) (option_map typed_node a) (option_map typed_node b))) }
-    ensures faults { OnOk result (Adds worst.old worst.new (λ fs. rule_3 at conditional_of fs (option_map typed_node c) (option_map typed_node a) (option_map typed_node b))) }
+    ensures found { IfOk result (λ r. Finds r (ternary_rule at conditional_of c a b)) }
+    ensures faults { OnOk result (Adds worst.old worst.new (ternary_rule at conditional_of c a b)) }
 {
     match (c, a, b) {
         (Some(c), Some(a), Some(b)) => {
@@ -117,8 +120,9 @@ pub fn assign(
     a: Option<TypedNode>,
     b: Option<TypedNode>,
 ) -> Result<Option<TypedNode>, AllocError>
-    ensures found { IfOk result (λ r. Finds r (λ fs. assigning operator at fs (option_map typed_node a) (option_map typed_node b))) }
-    ensures faults { OnOk result (Adds worst.old worst.new (λ fs. assigning operator at fs (option_map typed_node a) (option_map typed_node b))) }
+    ensures found { IfOk result (λ r. Finds r (binary_rule at (assigning_rule operator) a b)) }
+    ensures faults { OnOk result (Adds worst.old worst.new
+        (binary_rule at (assigning_rule operator) a b)) }
 {
     match (a, b) {
         (Some(a), Some(b)) => {
@@ -135,7 +139,8 @@ fn assigned(
     a: TypedNode,
     b: TypedNode,
 ) -> Result<Option<TypedNode>, AllocError>
-    ensures { IfOk result (λ r. option_map typed_node r ≡ assigning_rule operator (typed_node a) (typed_node b)) }
+    ensures { IfOk result (λ r. FindsTyped r
+        (assigning_rule operator (typed_node a) (typed_node b))) }
 {
     match operator {
         None => changes::assigned(alloc, a, b),
@@ -151,8 +156,8 @@ pub fn increment(
     operator: Increment,
     a: Option<TypedNode>,
 ) -> Option<TypedNode>
-    ensures found { Finds result (λ fs. rule_1 at (incremented fixity operator) fs (option_map typed_node a)) }
-    ensures faults { Adds worst.old worst.new (λ fs. rule_1 at (incremented fixity operator) fs (option_map typed_node a)) }
+    ensures found { Finds result (unary_rule at (incremented fixity operator) a) }
+    ensures faults { Adds worst.old worst.new (unary_rule at (incremented fixity operator) a) }
 {
     match a {
         Some(a) => {
@@ -171,8 +176,8 @@ pub fn unary(
     operator: UnaryOperator,
     a: Option<TypedNode>,
 ) -> Result<Option<TypedNode>, AllocError>
-    ensures found { IfOk result (λ r. Finds r (λ fs. rule_1 at (unary_of operator) fs (option_map typed_node a))) }
-    ensures faults { OnOk result (Adds worst.old worst.new (λ fs. rule_1 at (unary_of operator) fs (option_map typed_node a))) }
+    ensures found { IfOk result (λ r. Finds r (unary_rule at (unary_of operator) a)) }
+    ensures faults { OnOk result (Adds worst.old worst.new (unary_rule at (unary_of operator) a)) }
 {
     match a {
         Some(a) => {
@@ -191,8 +196,8 @@ pub fn cast(
     to: CType,
     a: Option<TypedNode>,
 ) -> Result<Option<TypedNode>, AllocError>
-    ensures found { IfOk result (λ r. Finds r (λ fs. rule_1 at (cast_of to) fs (option_map typed_node a))) }
-    ensures faults { OnOk result (Adds worst.old worst.new (λ fs. rule_1 at (cast_of to) fs (option_map typed_node a))) }
+    ensures found { IfOk result (λ r. Finds r (unary_rule at (cast_of to) a)) }
+    ensures faults { OnOk result (Adds worst.old worst.new (unary_rule at (cast_of to) a)) }
 {
     match a {
         Some(a) => {

@@ -3,7 +3,8 @@
 ghost use Rattle.std.specs.Prelude.{◌≡◌, ◌++◌, None, OnOk, option_map, IfSome};
 ghost use Rattle.c_resolved.specs.Scopes.{spelled, same_bytes, meaning_in, built_ins};
 ghost use Rattle.c_resolved.specs.Statements.{is_taken, with_name};
-ghost use Rattle.c_expressions.specs.Views.{entity, block_of, scopes_of, built_in_functions, built_in_constants};
+ghost use Rattle.c_expressions.specs.Views.{entity, block_of, scopes_of, built_in_functions};
+ghost use Rattle.c_expressions.specs.Views.{built_in_constants};
 
 use c_operations::built_in::BuiltIn;
 use c_syntax::declaration::Parameter;
@@ -41,8 +42,8 @@ pub enum Entity<'a> {
     BuiltInConstant(u64),
 }
 
-/// The blocks around a place, innermost first, and the file last. Each has its names in the order of
-/// their declarations.
+/// The blocks around a place, innermost first, and the file last. Each has its names in the order
+/// of their declarations.
 #[derive(Clone, Copy)]
 pub enum Scopes<'t, 's> {
     File(&'s IndexMap<&'t [u8], Entity<'t>>),
@@ -179,7 +180,8 @@ pub fn declare<'a>(
     meaning: Entity<'a>,
     block: &mut IndexMap<&'a [u8], Entity<'a>>,
 ) -> Result<(), AllocError>
-    ensures { OnOk result (block_of block.new.entries ≡ with_name (block_of block.old.entries) name.now (entity meaning.entry)) }
+    ensures { OnOk result (block_of block.new.entries ≡ with_name (block_of block.old.entries)
+        name.now (entity meaning.entry)) }
 {
     if is_taken(name, block) {
         return Ok(());

@@ -1,13 +1,11 @@
 //! Values of expressions in statements.
 
-ghost use Rattle.std.specs.Prelude.{◌≡◌, ◌++◌, IfOk, OnOk, List, Option, option_map};
+ghost use Rattle.std.specs.Prelude.{◌≡◌};
 ghost use Rattle.c_checked.specs.Expression.{expression};
-ghost use Rattle.c_resolved.specs.Expressions.{FaultAt};
 ghost use Rattle.c_resolved.specs.Statements as definitions;
 ghost use Rattle.c_resolved.specs.Statements.{unless_holds};
-ghost use Rattle.c_expressions.specs.Kept.{least_of, kept};
+ghost use Rattle.c_expressions.specs.Kept.{AddsFaults};
 ghost use Rattle.c_expressions.specs.Values.{Values};
-ghost use Rattle.c_types.specs.Views.{typed_node};
 
 use crate::least::Least;
 use c_checked::expression::{Conversion, Expr, Node};
@@ -19,7 +17,7 @@ use c_types::types::{is_integer, is_scalar, plain};
 
 /// A fault, unless a rule holds.
 pub fn unless_holds(worst: &mut Least, holds: bool, at: u64, fault: Fault)
-    ensures { least_of worst.new ≡ kept (least_of worst.old) (unless_holds holds at fault) }
+    ensures { AddsFaults worst.old worst.new (unless_holds holds at fault) }
 {
     if !holds {
         worst.add(at, fault);

@@ -39,7 +39,8 @@ fn types_of(alloc: Global, parameters: &[Parameter]) -> Result<Vec<Wanted>, Allo
 
 /// What the arguments of a function with these parameters have to be.
 pub fn wanted_by(alloc: Global, parameters: &[Parameter]) -> Result<Vec<Wanted>, AllocError>
-    ensures { IfOk result (λ v. map wanted v.items ≡ map definitions.OfType (parameter_types parameters.now)) }
+    ensures { IfOk result (λ v. map wanted v.items ≡ map definitions.OfType
+        (parameter_types parameters.now)) }
 {
     types_of(alloc, parameters)
 }

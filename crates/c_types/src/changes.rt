@@ -1,8 +1,9 @@
 //! Assignments, `++` and `--` (C11, 6.5.16, 6.5.2.4 and 6.5.3.1).
 
-ghost use Rattle.std.specs.Prelude.{◌≡◌, IfOk, option_map};
-ghost use Rattle.c_resolved.specs.Operators.{assigned, is_additive, compound_assigned, increment_operator, incremented};
-ghost use Rattle.c_types.specs.Views.{typed_node};
+ghost use Rattle.std.specs.Prelude.{◌≡◌, IfOk};
+ghost use Rattle.c_resolved.specs.Operators.{assigned, is_additive, compound_assigned};
+ghost use Rattle.c_resolved.specs.Operators.{increment_operator, incremented};
+ghost use Rattle.c_types.specs.Views.{typed_node, FindsTyped};
 
 use crate::nodes::{assign, compound_assign, increment, lvalue_of};
 use crate::operators::{operation_in, right_operand, working_type};
@@ -17,7 +18,7 @@ use std::alloc::{AllocError, Global};
 
 /// `a = b`
 pub fn assigned(alloc: Global, a: TypedNode, b: TypedNode) -> Result<Option<TypedNode>, AllocError>
-    ensures { IfOk result (λ r. option_map typed_node r ≡ assigned (typed_node a) (typed_node b)) }
+    ensures { IfOk result (λ r. FindsTyped r (assigned (typed_node a) (typed_node b))) }
 {
     let t = a.of;
     if !can_become(t, &b) {
@@ -48,7 +49,8 @@ pub fn compound_assigned(
     a: TypedNode,
     b: TypedNode,
 ) -> Result<Option<TypedNode>, AllocError>
-    ensures { IfOk result (λ r. option_map typed_node r ≡ compound_assigned operator (typed_node a) (typed_node b)) }
+    ensures { IfOk result (λ r. FindsTyped r
+        (compound_assigned operator (typed_node a) (typed_node b))) }
 {
     let t = a.of;
     if is_pointer(t) {
@@ -96,7 +98,7 @@ fn increment_operator(operator: Increment) -> Arithmetic
 
 /// `++a`, `--a`, `a++` and `a--`.
 pub fn incremented(fixity: Fixity, operator: Increment, a: TypedNode) -> Option<TypedNode>
-    ensures { option_map typed_node result ≡ incremented fixity operator (typed_node a) }
+    ensures { FindsTyped result (incremented fixity operator (typed_node a)) }
 {
     let t = a.of;
     let operator = increment_operator(operator);

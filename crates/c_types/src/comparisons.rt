@@ -1,8 +1,9 @@
 //! Comparisons, and all operators between two operands.
 
-ghost use Rattle.std.specs.Prelude.{◌≡◌, IfOk, option_map};
-ghost use Rattle.c_resolved.specs.Operators.{relation_of, compared, are_comparable, void_pointer, comparison_of, binary_of};
-ghost use Rattle.c_types.specs.Views.{typed_node};
+ghost use Rattle.std.specs.Prelude.{◌≡◌, IfOk};
+ghost use Rattle.c_resolved.specs.Operators.{relation_of, compared, are_comparable, void_pointer};
+ghost use Rattle.c_resolved.specs.Operators.{comparison_of, binary_of};
+ghost use Rattle.c_types.specs.Views.{typed_node, FindsTyped};
 
 use crate::nodes::binary;
 use crate::operators::{logical_and, logical_or};
@@ -48,8 +49,8 @@ fn compared(
     Ok(typed(plain(Base::Int), made))
 }
 
-/// Whether two operands of which one is a pointer can be compared: pointers of one type, one to void,
-/// or one and a literal 0.
+/// Whether two operands of which one is a pointer can be compared: pointers of one type, one to
+/// void, or one and a literal 0.
 fn are_comparable(a: &TypedNode, b: &TypedNode) -> bool
     ensures { result ≡ are_comparable (typed_node a.now) (typed_node b.now) }
 {
@@ -76,7 +77,8 @@ fn comparison_of(
     a: TypedNode,
     b: TypedNode,
 ) -> Result<Option<TypedNode>, AllocError>
-    ensures { IfOk result (λ r. option_map typed_node r ≡ comparison_of operator (typed_node a) (typed_node b)) }
+    ensures { IfOk result (λ r. FindsTyped r
+        (comparison_of operator (typed_node a) (typed_node b))) }
 {
     if is_pointer(a.of) || is_pointer(b.of) {
         if !are_comparable(&a, &b) {
@@ -99,7 +101,7 @@ pub fn binary_of(
     a: TypedNode,
     b: TypedNode,
 ) -> Result<Option<TypedNode>, AllocError>
-    ensures { IfOk result (λ r. option_map typed_node r ≡ binary_of operator (typed_node a) (typed_node b)) }
+    ensures { IfOk result (λ r. FindsTyped r (binary_of operator (typed_node a) (typed_node b))) }
 {
     match operator {
         BinaryOperator::Arithmetic(operator) => arithmetic_of(alloc, operator, a, b),

@@ -18,7 +18,8 @@ pub fn binary(
     left: Expr,
     right: Expr,
 ) -> Result<Node, AllocError>
-    ensures { IfOk result (λ n. nodes.node n ≡ nodes.Binary operation (expression left) (expression right)) }
+    ensures { IfOk result (λ n. nodes.node n ≡
+        nodes.Binary operation (expression left) (expression right)) }
 {
     let left = Box::new(alloc, left)?;
     let right = Box::new(alloc, right)?;
@@ -36,7 +37,8 @@ pub fn pointer_difference(
     left: Expr,
     right: Expr,
 ) -> Result<Node, AllocError>
-    ensures { IfOk result (λ n. nodes.node n ≡ nodes.PointerDifference size (expression left) (expression right)) }
+    ensures { IfOk result (λ n. nodes.node n ≡
+        nodes.PointerDifference size (expression left) (expression right)) }
 {
     let left = Box::new(alloc, left)?;
     let right = Box::new(alloc, right)?;
@@ -88,7 +90,8 @@ pub fn not(alloc: Global, operand: Expr) -> Result<Node, AllocError>
 
 /// `condition ? yes : no`
 pub fn conditional(alloc: Global, condition: Expr, yes: Expr, no: Expr) -> Result<Node, AllocError>
-    ensures { IfOk result (λ n. nodes.node n ≡ nodes.Conditional (expression condition) (expression yes) (expression no)) }
+    ensures { IfOk result (λ n. nodes.node n ≡
+        nodes.Conditional (expression condition) (expression yes) (expression no)) }
 {
     let condition = Box::new(alloc, condition)?;
     let yes = Box::new(alloc, yes)?;
@@ -113,7 +116,8 @@ pub fn compound_assign(
     value: Expr,
     after: Conversion,
 ) -> Result<Node, AllocError>
-    ensures { IfOk result (λ n. nodes.node n ≡ nodes.CompoundAssign (lvalue target) before operation (expression value) after) }
+    ensures { IfOk result (λ n. nodes.node n ≡
+        nodes.CompoundAssign (lvalue target) before operation (expression value) after) }
 {
     let value = Box::new(alloc, value)?;
     Ok(Node::CompoundAssign {
@@ -133,7 +137,8 @@ pub fn increment(
     amount: u64,
     after: Conversion,
 ) -> Node
-    ensures { nodes.node result ≡ nodes.Increment fixity (lvalue target) Kept operation amount after }
+    ensures { nodes.node result ≡
+        nodes.Increment fixity (lvalue target) Kept operation amount after }
 {
     Node::Increment {
         fixity,
@@ -161,7 +166,8 @@ pub fn address_of(of: Lvalue) -> Node
 
 /// `*pointer`
 pub fn indirection(alloc: Global, access: Access, pointer: Expr) -> Result<Node, AllocError>
-    ensures { IfOk result (λ n. nodes.node n ≡ nodes.Read (nodes.Indirection access (expression pointer))) }
+    ensures { IfOk result (λ n. nodes.node n ≡
+        nodes.Read (nodes.Indirection access (expression pointer))) }
 {
     let pointer = Box::new(alloc, pointer)?;
     Ok(Node::Read(Lvalue::Indirection { access, pointer }))
@@ -169,7 +175,8 @@ pub fn indirection(alloc: Global, access: Access, pointer: Expr) -> Result<Node,
 
 /// `array[index]`
 pub fn element(alloc: Global, access: Access, array: Expr, index: Expr) -> Result<Node, AllocError>
-    ensures { IfOk result (λ n. nodes.node n ≡ nodes.Read (nodes.Element access (expression array) (expression index))) }
+    ensures { IfOk result (λ n. nodes.node n ≡
+        nodes.Read (nodes.Element access (expression array) (expression index))) }
 {
     let array = Box::new(alloc, array)?;
     let index = Box::new(alloc, index)?;

@@ -1,11 +1,12 @@
 //! Operators between two operands.
 
-ghost use Rattle.std.specs.Prelude.{◌≡◌, IfOk, option_map};
+ghost use Rattle.std.specs.Prelude.{◌≡◌, IfOk};
 ghost use Rattle.c_checked.specs.Expression.{expression};
 ghost use Rattle.c_resolved.specs.Operators as operators;
-ghost use Rattle.c_resolved.specs.Operators.{operation_of, operation_in, is_shift, working_type, right_operand, on_integers, comma_of};
+ghost use Rattle.c_resolved.specs.Operators.{operation_of, operation_in, is_shift, working_type};
+ghost use Rattle.c_resolved.specs.Operators.{right_operand, on_integers, comma_of};
 ghost use Rattle.c_syntax.specs.declared.operator.BinaryOperator.TheVariants as binary;
-ghost use Rattle.c_types.specs.Views.{typed_node};
+ghost use Rattle.c_types.specs.Views.{typed_node, FindsTyped};
 
 use crate::nodes::{and, binary, comma, or};
 use crate::typed::{TypedNode, as_is, as_type, typed};
@@ -50,8 +51,8 @@ fn is_shift(operator: Arithmetic) -> bool
     }
 }
 
-/// The type in which two integers are computed: a shift's is that of its promoted left operand (C11,
-/// 6.5.7).
+/// The type in which two integers are computed: a shift's is that of its promoted left operand
+/// (C11, 6.5.7).
 pub fn working_type(operator: Arithmetic, a: CType, b: CType) -> CType
     ensures { result ≡ working_type operator a b }
 {
@@ -80,7 +81,7 @@ pub fn on_integers(
     a: TypedNode,
     b: TypedNode,
 ) -> Result<Option<TypedNode>, AllocError>
-    ensures { IfOk result (λ r. option_map typed_node r ≡ on_integers operator (typed_node a) (typed_node b)) }
+    ensures { IfOk result (λ r. FindsTyped r (on_integers operator (typed_node a) (typed_node b))) }
 {
     if !(is_integer(a.of) && is_integer(b.of)) {
         return Ok(None);
@@ -98,7 +99,8 @@ pub fn logical_and(
     a: TypedNode,
     b: TypedNode,
 ) -> Result<Option<TypedNode>, AllocError>
-    ensures { IfOk result (λ r. option_map typed_node r ≡ operators.binary_of binary.LogicalAnd (typed_node a) (typed_node b)) }
+    ensures { IfOk result (λ r. FindsTyped r
+        (operators.binary_of binary.LogicalAnd (typed_node a) (typed_node b))) }
 {
     if !(is_scalar(a.of) && is_scalar(b.of)) {
         return Ok(None);
@@ -113,7 +115,8 @@ pub fn logical_or(
     a: TypedNode,
     b: TypedNode,
 ) -> Result<Option<TypedNode>, AllocError>
-    ensures { IfOk result (λ r. option_map typed_node r ≡ operators.binary_of binary.LogicalOr (typed_node a) (typed_node b)) }
+    ensures { IfOk result (λ r. FindsTyped r
+        (operators.binary_of binary.LogicalOr (typed_node a) (typed_node b))) }
 {
     if !(is_scalar(a.of) && is_scalar(b.of)) {
         return Ok(None);
@@ -124,7 +127,7 @@ pub fn logical_or(
 
 /// `a, b`
 pub fn comma_of(alloc: Global, a: TypedNode, b: TypedNode) -> Result<Option<TypedNode>, AllocError>
-    ensures { IfOk result (λ r. option_map typed_node r ≡ comma_of (typed_node a) (typed_node b)) }
+    ensures { IfOk result (λ r. FindsTyped r (comma_of (typed_node a) (typed_node b))) }
 {
     let t = b.of;
     let made = comma(alloc, as_is(a), as_is(b))?;

@@ -1,8 +1,9 @@
 //! Operators on pointers.
 
-ghost use Rattle.std.specs.Prelude.{◌≡◌, IfOk, option_map};
-ghost use Rattle.c_resolved.specs.Operators.{long_operation, moved, sum, difference, arithmetic_of, element_of};
-ghost use Rattle.c_types.specs.Views.{typed_node};
+ghost use Rattle.std.specs.Prelude.{◌≡◌, IfOk};
+ghost use Rattle.c_resolved.specs.Operators.{long_operation, moved, sum, difference, arithmetic_of};
+ghost use Rattle.c_resolved.specs.Operators.{element_of};
+ghost use Rattle.c_types.specs.Views.{typed_node, FindsTyped};
 
 use crate::nodes::{binary, element, pointer_difference};
 use crate::operators::{on_integers, operation_of};
@@ -39,7 +40,7 @@ fn moved(
 
 /// `a + b`
 pub fn sum(alloc: Global, a: TypedNode, b: TypedNode) -> Result<Option<TypedNode>, AllocError>
-    ensures { IfOk result (λ r. option_map typed_node r ≡ sum (typed_node a) (typed_node b)) }
+    ensures { IfOk result (λ r. FindsTyped r (sum (typed_node a) (typed_node b))) }
 {
     if is_pointer(a.of) {
         if !(is_sized_pointer(a.of) && is_integer(b.of)) {
@@ -65,7 +66,7 @@ pub fn difference(
     a: TypedNode,
     b: TypedNode,
 ) -> Result<Option<TypedNode>, AllocError>
-    ensures { IfOk result (λ r. option_map typed_node r ≡ difference (typed_node a) (typed_node b)) }
+    ensures { IfOk result (λ r. FindsTyped r (difference (typed_node a) (typed_node b))) }
 {
     if is_pointer(a.of) && is_pointer(b.of) {
         if !(is_sized_pointer(a.of) && same_type(a.of, b.of)) {
@@ -91,7 +92,8 @@ pub fn arithmetic_of(
     a: TypedNode,
     b: TypedNode,
 ) -> Result<Option<TypedNode>, AllocError>
-    ensures { IfOk result (λ r. option_map typed_node r ≡ arithmetic_of operator (typed_node a) (typed_node b)) }
+    ensures { IfOk result (λ r. FindsTyped r
+        (arithmetic_of operator (typed_node a) (typed_node b))) }
 {
     match operator {
         Arithmetic::Add => sum(alloc, a, b),
@@ -106,7 +108,7 @@ pub fn element_of(
     a: TypedNode,
     i: TypedNode,
 ) -> Result<Option<TypedNode>, AllocError>
-    ensures { IfOk result (λ r. option_map typed_node r ≡ element_of (typed_node a) (typed_node i)) }
+    ensures { IfOk result (λ r. FindsTyped r (element_of (typed_node a) (typed_node i))) }
 {
     if !(is_sized_pointer(a.of) && is_integer(i.of)) {
         return Ok(None);

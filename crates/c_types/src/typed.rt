@@ -63,8 +63,8 @@ pub fn as_index(p: CType, a: TypedNode) -> Expr
     }
 }
 
-/// Whether the value is converted to a type without a cast: an integer to an integer, a literal 0 to a
-/// pointer, a pointer to one of an equal type, and one to void to and from every pointer.
+/// Whether the value is converted to a type without a cast: an integer to an integer, a literal 0
+/// to a pointer, a pointer to one of an equal type, and one to void to and from every pointer.
 pub fn can_become(t: CType, a: &TypedNode) -> bool
     ensures { result ≡ can_become t (typed_node a.now) }
 {

@@ -1,7 +1,12 @@
 //! Types, and how values of one become values of another.
 
 ghost use Rattle.std.specs.Prelude.{◌≡◌, IfOk};
-ghost use Rattle.c_resolved.specs.Types.{plain, pointer_to, pointed, is_void_base, is_pointer, is_void, is_integer, is_scalar, is_void_pointer, is_sized_pointer, same_base, same_type, base_width, base_sort, width_of, sort_of, access_of, size_of_width, size_of, bytes_in, promoted_base, promoted, wider, common, to_width, conversion, index_width, scaled};
+ghost use Rattle.c_resolved.specs.Types.{plain, pointer_to, pointed, is_void_base, is_pointer};
+ghost use Rattle.c_resolved.specs.Types.{is_void, is_integer, is_scalar, is_void_pointer};
+ghost use Rattle.c_resolved.specs.Types.{is_sized_pointer, same_base, same_type, base_width};
+ghost use Rattle.c_resolved.specs.Types.{base_sort, width_of, sort_of, access_of, size_of_width};
+ghost use Rattle.c_resolved.specs.Types.{size_of, bytes_in, promoted_base, promoted, wider, common};
+ghost use Rattle.c_resolved.specs.Types.{to_width, conversion, index_width, scaled};
 
 use c_checked::expression::{Access, Conversion};
 use c_operations::operation::{Signedness, Size};
@@ -16,8 +21,8 @@ pub fn plain(base: Base) -> CType
     CType { base, pointers: 0 }
 }
 
-/// A pointer to a type. One of 2^64 stars would need a text of as many bytes, so it counts as want of
-/// memory.
+/// A pointer to a type. One of 2^64 stars would need a text of as many bytes, so it counts as want
+/// of memory.
 pub fn pointer_to(t: CType) -> Result<CType, AllocError>
     ensures { IfOk result (λ p. p ≡ pointer_to t) }
 {

@@ -1,13 +1,14 @@
 //! Operators with one operand, and the conditional operator.
 
-ghost use Rattle.std.specs.Prelude.{◌≡◌, IfOk, option_map};
+ghost use Rattle.std.specs.Prelude.{◌≡◌, IfOk};
 ghost use Rattle.c_checked.specs.Expression.{expression};
 ghost use Rattle.c_checked.specs.Expression as nodes;
 ghost use Rattle.c_resolved.specs.Operators as operators;
 ghost use Rattle.c_resolved.specs.Types.{is_integer, promoted};
-ghost use Rattle.c_resolved.specs.Operators.{unary_of, cast_of, branch_type, as_branch, conditional_of};
+ghost use Rattle.c_resolved.specs.Operators.{unary_of, cast_of, branch_type, as_branch};
+ghost use Rattle.c_resolved.specs.Operators.{conditional_of};
 ghost use Rattle.c_syntax.specs.declared.operator.UnaryOperator.TheVariants as variants;
-ghost use Rattle.c_types.specs.Views.{typed_node};
+ghost use Rattle.c_types.specs.Views.{typed_node, FindsTyped};
 
 use crate::comparisons::void_pointer;
 use crate::nodes::{address_of, conditional, indirection, lvalue_of, not, unary};
@@ -24,7 +25,9 @@ use std::alloc::{AllocError, Global};
 
 /// An operation on a promoted integer.
 fn on_integer(alloc: Global, operation: Pure, a: TypedNode) -> Result<Option<TypedNode>, AllocError>
-    ensures { IfOk result (λ r. option_map typed_node r ≡ operators.only_if (is_integer a.of) (operators.typed (promoted a.of) (nodes.Unary operation (operators.as_is (typed_node a))))) }
+    ensures { IfOk result (λ r. FindsTyped r (operators.only_if (is_integer a.of)
+        (operators.typed (promoted a.of)
+        (nodes.Unary operation (operators.as_is (typed_node a)))))) }
 {
     if !is_integer(a.of) {
         return Ok(None);
@@ -35,7 +38,7 @@ fn on_integer(alloc: Global, operation: Pure, a: TypedNode) -> Result<Option<Typ
 }
 
 fn logical_not(alloc: Global, a: TypedNode) -> Result<Option<TypedNode>, AllocError>
-    ensures { IfOk result (λ r. option_map typed_node r ≡ unary_of variants.LogicalNot (typed_node a)) }
+    ensures { IfOk result (λ r. FindsTyped r (unary_of variants.LogicalNot (typed_node a))) }
 {
     if !is_scalar(a.of) {
         return Ok(None);
@@ -45,7 +48,7 @@ fn logical_not(alloc: Global, a: TypedNode) -> Result<Option<TypedNode>, AllocEr
 }
 
 fn indirection_of(alloc: Global, a: TypedNode) -> Result<Option<TypedNode>, AllocError>
-    ensures { IfOk result (λ r. option_map typed_node r ≡ unary_of variants.Indirection (typed_node a)) }
+    ensures { IfOk result (λ r. FindsTyped r (unary_of variants.Indirection (typed_node a))) }
 {
     if !is_sized_pointer(a.of) {
         return Ok(None);
@@ -56,7 +59,7 @@ fn indirection_of(alloc: Global, a: TypedNode) -> Result<Option<TypedNode>, Allo
 }
 
 fn address(a: TypedNode) -> Result<Option<TypedNode>, AllocError>
-    ensures { IfOk result (λ r. option_map typed_node r ≡ unary_of variants.AddressOf (typed_node a)) }
+    ensures { IfOk result (λ r. FindsTyped r (unary_of variants.AddressOf (typed_node a))) }
 {
     let t = a.of;
     match lvalue_of(a.node) {
@@ -65,14 +68,14 @@ fn address(a: TypedNode) -> Result<Option<TypedNode>, AllocError>
     }
 }
 
-/// An operator before its operand, `++` and `--` aside (C11, 6.5.3.2 and 6.5.3.3); none where the type
-/// breaks its rule.
+/// An operator before its operand, `++` and `--` aside (C11, 6.5.3.2 and 6.5.3.3); none where the
+/// type breaks its rule.
 pub fn unary_of(
     alloc: Global,
     operator: UnaryOperator,
     a: TypedNode,
 ) -> Result<Option<TypedNode>, AllocError>
-    ensures { IfOk result (λ r. option_map typed_node r ≡ unary_of operator (typed_node a)) }
+    ensures { IfOk result (λ r. FindsTyped r (unary_of operator (typed_node a))) }
 {
     let size = size_of(promoted(a.of));
     match operator {
@@ -87,7 +90,7 @@ pub fn unary_of(
 
 /// A cast between integers and pointers (C11, 6.5.4).
 pub fn cast_of(alloc: Global, t: CType, a: TypedNode) -> Result<Option<TypedNode>, AllocError>
-    ensures { IfOk result (λ r. option_map typed_node r ≡ cast_of t (typed_node a)) }
+    ensures { IfOk result (λ r. FindsTyped r (cast_of t (typed_node a))) }
 {
     if !(is_scalar(t) && is_scalar(a.of)) {
         return Ok(None);
@@ -132,7 +135,8 @@ pub fn conditional_of(
     a: TypedNode,
     b: TypedNode,
 ) -> Result<Option<TypedNode>, AllocError>
-    ensures { IfOk result (λ r. option_map typed_node r ≡ conditional_of (typed_node c) (typed_node a) (typed_node b)) }
+    ensures { IfOk result (λ r. FindsTyped r
+        (conditional_of (typed_node c) (typed_node a) (typed_node b))) }
 {
     if !is_scalar(c.of) {
         return Ok(None);

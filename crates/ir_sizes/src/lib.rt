@@ -1,5 +1,5 @@
-//! How many instructions of linear code a part of a checked program is lowered to, and how many locals its
-//! blocks need for codes and flags.
+//! How many instructions of linear code a part of a checked program is lowered to, and how many
+//! locals its blocks need for codes and flags.
 #![tactic(auto)]
 
 pub mod sizes;

@@ -1,7 +1,8 @@
 //! How many instructions a part of a program is lowered to.
 
-ghost use Rattle.std.specs.Prelude.{◌≡◌, ◌+◌, map, IfOk};
+ghost use Rattle.std.specs.Prelude.{◌≡◌, ◌+◌, map, true, IfOk};
 ghost use Rattle.c_checked.specs.Expression as tree;
+ghost use Rattle.ir_sizes.specs.Kinds.{is_assignment};
 ghost use Rattle.ir_sizes.specs.Sizes as spec;
 
 use crate::sums::sum;
@@ -74,7 +75,8 @@ pub fn locate_size(place: &Lvalue) -> Result<u64, AllocError>
 /// The size of a call with these arguments.
 #[cycle(sizes)]
 fn call_size(arguments: &[Expr]) -> Result<u64, AllocError>
-    ensures { IfOk result (λ n. n ≡ spec.arguments_size (tree.arguments (map tree.expression arguments.now)) + 1) }
+    ensures { IfOk result (λ n. n ≡
+        spec.arguments_size (tree.arguments (map tree.expression arguments.now)) + 1) }
 {
     let mut total = 1;
     for argument in arguments {
@@ -95,7 +97,7 @@ fn more_size(expr: &Expr, more: u64) -> Result<u64, AllocError>
 
 #[cycle(sizes)]
 fn read_node_size(place: &Lvalue) -> Result<u64, AllocError>
-    ensures { IfOk result (λ n. n ≡ spec.locate_size (tree.lvalue place.now) + spec.read_size (tree.lvalue place.now)) }
+    ensures { IfOk result (λ n. n ≡ spec.node_size (tree.Read (tree.lvalue place.now))) }
 {
     let located = locate_size(place)?;
     sum(located, read_size(place))
@@ -103,7 +105,7 @@ fn read_node_size(place: &Lvalue) -> Result<u64, AllocError>
 
 #[cycle(sizes)]
 fn address_size(place: &Lvalue) -> Result<u64, AllocError>
-    ensures { IfOk result (λ n. n ≡ spec.address_size (tree.lvalue place.now) (spec.locate_size (tree.lvalue place.now))) }
+    ensures { IfOk result (λ n. n ≡ spec.node_size (tree.AddressOf (tree.lvalue place.now))) }
 {
     let located = locate_size(place)?;
     match place {
@@ -116,7 +118,9 @@ fn address_size(place: &Lvalue) -> Result<u64, AllocError>
 
 #[cycle(sizes)]
 fn increment_size(target: &Lvalue, before: Conversion, after: Conversion) -> Result<u64, AllocError>
-    ensures { IfOk result (λ n. n ≡ spec.locate_size (tree.lvalue target.now) + (spec.read_size (tree.lvalue target.now) + (1 + (spec.conversion_size before + (2 + (spec.conversion_size after + 2)))))) }
+    ensures { IfOk result (λ n. n ≡ spec.locate_size (tree.lvalue target.now)
+        + (spec.read_size (tree.lvalue target.now)
+        + (1 + (spec.conversion_size before + (2 + (spec.conversion_size after + 2)))))) }
 {
     let located = locate_size(target)?;
     sum(
@@ -125,14 +129,13 @@ fn increment_size(target: &Lvalue, before: Conversion, after: Conversion) -> Res
     )
 }
 
+/// The size of `=`, also with an operator.
 #[cycle(sizes)]
-fn node_size(node: &Node) -> Result<u64, AllocError>
+fn assignment_size(node: &Node) -> Result<u64, AllocError>
+    requires { is_assignment (tree.node node.now) ≡ true }
     ensures { IfOk result (λ n. n ≡ spec.node_size (tree.node node.now)) }
 {
     match node {
-        Node::Constant { .. } => Ok(1),
-        Node::Read(place) => read_node_size(place),
-        Node::AddressOf(place) => address_size(place),
         Node::Assign { target, value } => sum(locate_size(target)?, more_size(value, 1)?),
         Node::CompoundAssign {
             target,
@@ -145,6 +148,18 @@ fn node_size(node: &Node) -> Result<u64, AllocError>
             let rest = sum(read_size(target) + conversion_size(*before), changed)?;
             sum(locate_size(target)?, rest)
         }
+        _ => unreachable!(),
+    }
+}
+
+#[cycle(sizes)]
+fn node_size(node: &Node) -> Result<u64, AllocError>
+    ensures { IfOk result (λ n. n ≡ spec.node_size (tree.node node.now)) }
+{
+    match node {
+        Node::Constant { .. } => Ok(1),
+        Node::Read(place) => read_node_size(place),
+        Node::AddressOf(place) => address_size(place),
         Node::Increment {
             target,
             before,
@@ -170,5 +185,6 @@ fn node_size(node: &Node) -> Result<u64, AllocError>
         Node::ExceptionCode => Ok(1),
         Node::Information(_) => Ok(1),
         Node::AbnormalTermination => Ok(1),
+        _ => assignment_size(node),
     }
 }

@@ -1,8 +1,9 @@
-//! How many instructions statements are lowered to, and how many locals for codes and flags they need.
+//! How many instructions statements are lowered to, and how many locals their codes and flags need.
 
-ghost use Rattle.std.specs.Prelude.{◌≡◌, ◌+◌, map, IfOk, option_map};
+ghost use Rattle.std.specs.Prelude.{◌≡◌, ◌+◌, map, true, IfOk, option_map};
 ghost use Rattle.c_checked.specs.Expression as tree;
 ghost use Rattle.c_checked.specs.Statement as statements;
+ghost use Rattle.ir_sizes.specs.Kinds.{is_loop};
 ghost use Rattle.ir_sizes.specs.Sizes as spec;
 
 use crate::sizes::expression_size;
@@ -62,7 +63,8 @@ pub fn all_declared_size(declared: &[Declared]) -> Result<u64, AllocError>
 
 #[cycle(sizes)]
 pub fn statements_size(stmts: &[Stmt]) -> Result<u64, AllocError>
-    ensures { IfOk result (λ n. n ≡ spec.statements_size (statements.statements (map statements.statement stmts.now))) }
+    ensures { IfOk result (λ n. n ≡
+        spec.statements_size (statements.statements (map statements.statement stmts.now))) }
 {
     let mut total = 0;
     for stmt in stmts {
@@ -70,6 +72,38 @@ pub fn statements_size(stmts: &[Stmt]) -> Result<u64, AllocError>
         total = sum(total, size)?;
     }
     Ok(total)
+}
+
+/// The size of a loop.
+#[cycle(sizes)]
+fn loop_size(stmt: &Stmt) -> Result<u64, AllocError>
+    requires { is_loop (statements.statement stmt.now) ≡ true }
+    ensures { IfOk result (λ n. n ≡ spec.statement_size (statements.statement stmt.now)) }
+{
+    match stmt {
+        Stmt::For {
+            declared,
+            first,
+            condition,
+            next,
+            body,
+        } => {
+            let last = sum(1, sum(discarded_size(next)?, 1)?)?;
+            let turn = sum(
+                condition_size(condition)?,
+                sum(statement_size(body)?, last)?,
+            )?;
+            sum(
+                all_declared_size(declared)?,
+                sum(discarded_size(first)?, turn)?,
+            )
+        }
+        Stmt::Do { body, condition } => {
+            let last = sum(1, sum(expression_size(condition)?, 2)?)?;
+            sum(statement_size(body)?, last)
+        }
+        _ => unreachable!(),
+    }
 }
 
 #[cycle(sizes)]
@@ -94,27 +128,6 @@ pub fn statement_size(stmt: &Stmt) -> Result<u64, AllocError>
             let both = sum(statement_size(then)?, rest)?;
             sum(expression_size(condition)?, sum(1, both)?)
         }
-        Stmt::For {
-            declared,
-            first,
-            condition,
-            next,
-            body,
-        } => {
-            let last = sum(1, sum(discarded_size(next)?, 1)?)?;
-            let turn = sum(
-                condition_size(condition)?,
-                sum(statement_size(body)?, last)?,
-            )?;
-            sum(
-                all_declared_size(declared)?,
-                sum(discarded_size(first)?, turn)?,
-            )
-        }
-        Stmt::Do { body, condition } => {
-            let last = sum(1, sum(expression_size(condition)?, 2)?)?;
-            sum(statement_size(body)?, last)
-        }
         Stmt::Return(expr) => sum(returned_size(expr)?, 2),
         Stmt::Break => Ok(2),
         Stmt::Continue => Ok(2),
@@ -123,12 +136,14 @@ pub fn statement_size(stmt: &Stmt) -> Result<u64, AllocError>
             sum(statements_size(body)?, sum(2, statements_size(handler)?)?)
         }
         Stmt::TryFinally { body, .. } => sum(statements_size(body)?, 3),
+        _ => loop_size(stmt),
     }
 }
 
 #[cycle(notes)]
 pub fn statements_notes(stmts: &[Stmt]) -> Result<u64, AllocError>
-    ensures { IfOk result (λ n. n ≡ spec.statements_notes (statements.statements (map statements.statement stmts.now))) }
+    ensures { IfOk result (λ n. n ≡
+        spec.statements_notes (statements.statements (map statements.statement stmts.now))) }
 {
     let mut most = 0;
     for stmt in stmts {

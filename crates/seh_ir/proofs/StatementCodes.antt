@@ -16,7 +16,7 @@ use Rattle.seh_ir.specs.declared.scope.Scope.{Scope}
 use Rattle.seh_ir.specs.Scope.{in_loop, in_try, in_except, in_guarded}
 use Rattle.ir_sizes.specs.Sizes.{expression_size, discarded_size, condition_size, returned_size, declared_size, all_declared_size, statement_size, statements_size}
 use Rattle.seh_ir.specs.Expressions.{copy, expression_code}
-use Rattle.seh_ir.specs.Statements.{jump_code, return_code, discarded_code, returned_code, condition_code, initialiser_code, declared_code, all_declared_code, landed, repeated, statement_code, statements_code}
+use Rattle.seh_ir.specs.Statements.{jump_code, return_code, discarded_code, returned_code, condition_code, initialiser_code, declared_code, all_declared_code, landed, repeated, statement_code, statements_code, when_code}
 use Rattle.seh_ir.proofs.Codes.{joined, longer, more, two, expression_length}
 use Rattle.seh_ir.proofs.Arms.{after, after_one, after_expression}
 
@@ -128,25 +128,20 @@ Run scope s old new = new ≡ old ++ statement_code scope s (length old)
 of : (scope : Scope) (s t : Statement) (old new : List Instruction) → s ≡ t → Run scope t old new → Run scope s old new
 of scope s t old new e h = subst (λ x. Run scope x old new) (sym e) h
 
--- a condition, a jump where it is 0, and a statement
-abbrev When : Scope → Expression → Statement → ℕ → ℕ → List Instruction
-When scope c s more at =
-    expression_code scope.names c 0 at ++ JumpIfZero (Temporary 0) (at + expression_size c + (statement_size s + more)) ∷ statement_code scope s (at + expression_size c + 1)
-
-pub when_is : (scope : Scope) (c : Expression) (s : Statement) (size more' : ℕ) (old one two three : List Instruction) → size ≡ statement_size s → one ≡ old ++ expression_code scope.names c 0 (length old) → two ≡ one ++ JumpIfZero (Temporary 0) (length one + (size + more')) ∷ [] → three ≡ two ++ statement_code scope s (length two) → three ≡ old ++ When scope c s more' (length old)
+pub when_is : (scope : Scope) (c : Expression) (s : Statement) (size more' : ℕ) (old one two three : List Instruction) → size ≡ statement_size s → one ≡ old ++ expression_code scope.names c 0 (length old) → two ≡ one ++ JumpIfZero (Temporary 0) (length one + (size + more')) ∷ [] → three ≡ two ++ statement_code scope s (length two) → three ≡ old ++ when_code scope c s more' (length old)
 when_is scope c s size more' old one two three z a b k =
     let h = after_one (JumpIfZero (Temporary 0) (length one + (size + more'))) one two three (λ at. statement_code scope s at) b k in
     after_expression scope.names c 0 old one three (λ at. JumpIfZero (Temporary 0) (at + (statement_size s + more')) ∷ statement_code scope s (at + 1)) a
     (h ∙ ap (λ n. one ++ JumpIfZero (Temporary 0) (length one + (n + more')) ∷ statement_code scope s (length one + 1)) z)
 
-pub if_is : (scope : Scope) (c : Expression) (s : Statement) (x : Statement) (old new : List Instruction) → x ≡ If c s → new ≡ old ++ When scope c s 1 (length old) → Run scope x old new
+pub if_is : (scope : Scope) (c : Expression) (s : Statement) (x : Statement) (old new : List Instruction) → x ≡ If c s → new ≡ old ++ when_code scope c s 1 (length old) → Run scope x old new
 if_is scope c s x old new is a =
     let then = length old + expression_size c in
     let e : then + (statement_size s + 1) ≡ then + 1 + statement_size s = omega arith in
     of scope x (If c s) old new is
     (a ∙ ap (λ k. old ++ (expression_code scope.names c 0 (length old) ++ JumpIfZero (Temporary 0) k ∷ statement_code scope s (then + 1))) e)
 
-pub if_else_is : (scope : Scope) (c : Expression) (s t : Statement) (x : Statement) (other : ℕ) (old l1 l2 l3 : List Instruction) → x ≡ IfElse c s t → other ≡ statement_size t → l1 ≡ old ++ When scope c s 2 (length old) → l2 ≡ l1 ++ Jump (length l1 + (other + 1)) ∷ [] → l3 ≡ l2 ++ statement_code scope t (length l2) → Run scope x old l3
+pub if_else_is : (scope : Scope) (c : Expression) (s t : Statement) (x : Statement) (other : ℕ) (old l1 l2 l3 : List Instruction) → x ≡ IfElse c s t → other ≡ statement_size t → l1 ≡ old ++ when_code scope c s 2 (length old) → l2 ≡ l1 ++ Jump (length l1 + (other + 1)) ∷ [] → l3 ≡ l2 ++ statement_code scope t (length l2) → Run scope x old l3
 if_else_is scope c s t x other old l1 l2 l3 is z a b k =
     let i = statement_size s in
     let j = statement_size t in
@@ -158,7 +153,7 @@ if_else_is scope c s t x other old l1 l2 l3 is z a b k =
     let long = nc + (1 + i) in
     let g = after_one (Jump (length l1 + (other + 1))) l1 l2 l3 (λ p. statement_code scope t p) b k in
     let g' = g ∙ ap (λ n. l1 ++ Jump (length l1 + (n + 1)) ∷ statement_code scope t (length l1 + 1)) z in
-    let h = after (When scope c s 2 at) long old l1 l3 (λ p. Jump (p + (j + 1)) ∷ statement_code scope t (p + 1)) two_lengths a g' in
+    let h = after (when_code scope c s 2 at) long old l1 l3 (λ p. Jump (p + (j + 1)) ∷ statement_code scope t (p + 1)) two_lengths a g' in
     let rest = Jump (at + long + (j + 1)) ∷ statement_code scope t (at + long + 1) in
     let e : at + nc + (i + 2) ≡ at + nc + 1 + i + 1 = omega arith in
     let f : at + long + 1 ≡ at + nc + 1 + i + 1 = omega arith in
@@ -169,7 +164,7 @@ if_else_is scope c s t x other old l1 l2 l3 is z a b k =
     ∙ ap (λ p. old ++ (front ++ JumpIfZero (Temporary 0) (at + nc + 1 + i + 1) ∷ (body ++ Jump p ∷ statement_code scope t (at + long + 1)))) m
     ∙ ap (λ p. old ++ (front ++ JumpIfZero (Temporary 0) (at + nc + 1 + i + 1) ∷ (body ++ Jump (at + nc + 1 + i + 1 + j) ∷ statement_code scope t p))) f)
   where
-    two_lengths : length (When scope c s 2 (length old)) ≡ expression_size c + (1 + statement_size s)
+    two_lengths : length (when_code scope c s 2 (length old)) ≡ expression_size c + (1 + statement_size s)
     two_lengths =
         two (expression_code scope.names c 0 (length old)) (JumpIfZero (Temporary 0) (length old + expression_size c + (statement_size s + 2)) ∷ statement_code scope s (length old + expression_size c + 1)) (expression_size c) (1 + statement_size s) (expression_length scope.names c 0 (length old))
         (more (JumpIfZero (Temporary 0) (length old + expression_size c + (statement_size s + 2))) (statement_code scope s (length old + expression_size c + 1)) (statement_size s) (statement_length scope s (length old + expression_size c + 1)))

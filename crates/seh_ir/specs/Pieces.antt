@@ -1,4 +1,4 @@
--- What stands between and after the operands of a node.
+-- What is between and after the operands of a node.
 use Rattle.std.specs.Prelude.{ℕ, ◌+◌, List, [], ◌∷◌, ◌++◌}
 use Rattle.c_operations.specs.declared.operation.Operation.{Operation}
 use Rattle.c_operations.specs.declared.operation.Operation.TheVariants.{Pure, Divide}

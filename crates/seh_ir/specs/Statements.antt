@@ -70,6 +70,10 @@ landed end x = Jump end ∷ Landing (Local x) ∷ []
 abbrev pub repeated : ℕ → ℕ → List Instruction
 repeated end begin = JumpIfZero (Temporary 0) end ∷ Jump begin ∷ []
 
+-- of the body of a `__try` with a `__finally` block
+abbrev pub finally_called : ℕ → List Instruction
+finally_called k = Separator ∷ CallFinally k ∷ Separator ∷ []
+
 -- ---- statements, placed at an instruction
 
 abbrev mutual
@@ -127,3 +131,19 @@ abbrev mutual
   pub statements_code : Scope → Statements → ℕ → List Instruction
   statements_code scope Empty at = []
   statements_code scope (Then s ss) at = statement_code scope s at ++ statements_code scope ss (at + statement_size s)
+
+-- ---- parts of statements, placed at an instruction
+
+-- a condition, and a statement with a jump over it, and so many instructions more, where it is 0
+abbrev pub when_code : Scope → Expression → Statement → ℕ → ℕ → List Instruction
+when_code scope c s more at =
+    let then = at + expression_size c in
+    expression_code scope.names c 0 at
+    ++ JumpIfZero (Temporary 0) (then + (statement_size s + more))
+    ∷ statement_code scope s (then + 1)
+
+-- the body of a `__try` with an `__except` block of this size, and the beginning of that block
+abbrev pub tried_code : Scope → Statements → ℕ → ℕ → List Instruction
+tried_code scope body block at =
+    let end = at + (statements_size body + (block + 2)) in
+    statements_code (in_try end scope) body at ++ landed end scope.names.free

@@ -1,7 +1,9 @@
 //! The code of expressions.
 
-ghost use Rattle.std.specs.Prelude.{◌≡◌, ◌+◌, ◌++◌, [], ◌∷◌, map, length, OnOk};
+ghost use Rattle.std.specs.Prelude.{◌≡◌, map, length, true, OnOk};
 ghost use Rattle.c_checked.specs.Expression as tree;
+ghost use Rattle.ir_sizes.specs.Kinds.{is_assignment, is_branch_or_assignment, has_several};
+ghost use Rattle.seh_ir.specs.Appended.{Places};
 ghost use Rattle.seh_ir.specs.Expressions as spec;
 
 use crate::instructions::{
@@ -34,7 +36,8 @@ pub fn expression(
     expr: &Expr,
     d: u64,
 ) -> Result<(), AllocError>
-    ensures { OnOk result (code.new.items ≡ code.old.items ++ spec.expression_code names (tree.expression expr.now) d (length code.old.items)) }
+    ensures { OnOk result (Places code.old code.new
+        (spec.expression_code names (tree.expression expr.now) d)) }
 {
     node(code, names, &expr.node, d)?;
     convert(code, expr.conversion, d)
@@ -48,7 +51,8 @@ fn locate(
     place: &Lvalue,
     d: u64,
 ) -> Result<(), AllocError>
-    ensures { OnOk result (code.new.items ≡ code.old.items ++ spec.locate_code names (tree.lvalue place.now) d (length code.old.items)) }
+    ensures { OnOk result (Places code.old code.new
+        (spec.locate_code names (tree.lvalue place.now) d)) }
 {
     match place {
         Lvalue::Local(_) => Ok(()),
@@ -71,7 +75,8 @@ fn read_node(
     place: &Lvalue,
     d: u64,
 ) -> Result<(), AllocError>
-    ensures { OnOk result (code.new.items ≡ code.old.items ++ (spec.locate_code names (tree.lvalue place.now) d (length code.old.items) ++ spec.read_code (tree.lvalue place.now) d d)) }
+    ensures { OnOk result (Places code.old code.new
+        (spec.node_code names (tree.Read (tree.lvalue place.now)) d)) }
 {
     locate(code, names, place, d)?;
     read(code, place, d, d)
@@ -84,7 +89,8 @@ fn address(
     place: &Lvalue,
     d: u64,
 ) -> Result<(), AllocError>
-    ensures { OnOk result (code.new.items ≡ code.old.items ++ spec.address_code (tree.lvalue place.now) d (spec.locate_code names (tree.lvalue place.now) d (length code.old.items))) }
+    ensures { OnOk result (Places code.old code.new
+        (spec.node_code names (tree.AddressOf (tree.lvalue place.now)) d)) }
 {
     match place {
         Lvalue::Local(_) => put(code, constant(d, 0)),
@@ -102,7 +108,8 @@ fn arguments(
     args: &[Expr],
     d: u64,
 ) -> Result<(), AllocError>
-    ensures { OnOk result (code.new.items ≡ code.old.items ++ spec.arguments_code names (tree.arguments (map tree.expression args.now)) d (length code.old.items)) }
+    ensures { OnOk result (Places code.old code.new
+        (spec.arguments_code names (tree.arguments (map tree.expression args.now)) d)) }
 {
     let mut next = d;
     for arg in args {
@@ -124,7 +131,9 @@ fn stepped(
     after: Conversion,
     d: u64,
 ) -> Result<(), AllocError>
-    ensures { OnOk result (code.new.items ≡ code.old.items ++ spec.node_code names (tree.Increment fixity (tree.lvalue target.now) before operation amount after) d (length code.old.items)) }
+    ensures { OnOk result (Places code.old code.new
+        (spec.node_code names
+        (tree.Increment fixity (tree.lvalue target.now) before operation amount after) d)) }
 {
     locate(code, names, target, d)?;
     increment(code, target, fixity, before, operation, amount, after, d)?;
@@ -139,7 +148,8 @@ fn one_operand(
     operand: &Expr,
     d: u64,
 ) -> Result<(), AllocError>
-    ensures { OnOk result (code.new.items ≡ code.old.items ++ spec.node_code names (tree.Unary operation (tree.expression operand.now)) d (length code.old.items)) }
+    ensures { OnOk result (Places code.old code.new
+        (spec.node_code names (tree.Unary operation (tree.expression operand.now)) d)) }
 {
     expression(code, names, operand, d)?;
     unary(code, operation, d)?;
@@ -153,7 +163,8 @@ fn negation(
     operand: &Expr,
     d: u64,
 ) -> Result<(), AllocError>
-    ensures { OnOk result (code.new.items ≡ code.old.items ++ spec.node_code names (tree.Not (tree.expression operand.now)) d (length code.old.items)) }
+    ensures { OnOk result (Places code.old code.new
+        (spec.node_code names (tree.Not (tree.expression operand.now)) d)) }
 {
     expression(code, names, operand, d)?;
     choose(code, d, 1, 0)?;
@@ -168,7 +179,9 @@ fn call(
     args: &[Expr],
     d: u64,
 ) -> Result<(), AllocError>
-    ensures { OnOk result (code.new.items ≡ code.old.items ++ spec.node_code names (tree.Call function (tree.arguments (map tree.expression args.now))) d (length code.old.items)) }
+    ensures { OnOk result (Places code.old code.new
+        (spec.node_code names
+        (tree.Call function (tree.arguments (map tree.expression args.now))) d)) }
 {
     arguments(code, names, args, d)?;
     put(
@@ -190,21 +203,27 @@ fn call_built_in(
     args: &[Expr],
     d: u64,
 ) -> Result<(), AllocError>
-    ensures { OnOk result (code.new.items ≡ code.old.items ++ spec.node_code names (tree.CallBuiltIn function (tree.arguments (map tree.expression args.now))) d (length code.old.items)) }
+    ensures { OnOk result (Places code.old code.new
+        (spec.node_code names
+        (tree.CallBuiltIn function (tree.arguments (map tree.expression args.now))) d)) }
 {
     arguments(code, names, args, d)?;
     put(code, Instruction::CallBuiltIn { function, first: d })?;
     Ok(())
 }
 
+/// `=`, also with an operator (C11, 6.5.16).
 #[cycle(expressions)]
-fn node(code: &mut Vec<Instruction>, names: Names, node: &Node, d: u64) -> Result<(), AllocError>
-    ensures { OnOk result (code.new.items ≡ code.old.items ++ spec.node_code names (tree.node node.now) d (length code.old.items)) }
+fn assignment(
+    code: &mut Vec<Instruction>,
+    names: Names,
+    node: &Node,
+    d: u64,
+) -> Result<(), AllocError>
+    requires { is_assignment (tree.node node.now) ≡ true }
+    ensures { OnOk result (Places code.old code.new (spec.node_code names (tree.node node.now) d)) }
 {
     match node {
-        Node::Constant { value, .. } => put(code, constant(d, *value)),
-        Node::Read(place) => read_node(code, names, place, d),
-        Node::AddressOf(place) => address(code, names, place, d),
         Node::Assign { target, value } => {
             let from = after_place(target, d)?;
             locate(code, names, target, d)?;
@@ -227,38 +246,17 @@ fn node(code: &mut Vec<Instruction>, names: Names, node: &Node, d: u64) -> Resul
             end_compound(code, target, *operation, *after, d)?;
             Ok(())
         }
-        Node::Increment {
-            fixity,
-            target,
-            before,
-            operation,
-            amount,
-            after,
-        } => {
-            stepped(
-                code, names, *fixity, target, *before, *operation, *amount, *after, d,
-            )
-        }
-        Node::Unary { operation, operand } => one_operand(code, names, *operation, operand, d),
-        Node::Binary {
-            operation,
-            left,
-            right,
-        } => {
-            let next = sum(d, 1)?;
-            expression(code, names, left, d)?;
-            expression(code, names, right, next)?;
-            operate(code, d, *operation)?;
-            Ok(())
-        }
-        Node::PointerDifference { size, left, right } => {
-            let next = sum(d, 1)?;
-            expression(code, names, left, d)?;
-            expression(code, names, right, next)?;
-            end_difference(code, *size, d)?;
-            Ok(())
-        }
-        Node::Not(operand) => negation(code, names, operand, d),
+        _ => unreachable!(),
+    }
+}
+
+/// `&&`, `||` and `? :`, whose first operand chooses what is evaluated (C11, 6.5.13 to 6.5.15).
+#[cycle(expressions)]
+fn branch(code: &mut Vec<Instruction>, names: Names, node: &Node, d: u64) -> Result<(), AllocError>
+    requires { is_branch_or_assignment (tree.node node.now) ≡ true }
+    ensures { OnOk result (Places code.old code.new (spec.node_code names (tree.node node.now) d)) }
+{
+    match node {
         Node::And(left, right) => {
             let size = expression_size(right)?;
             expression(code, names, left, d)?;
@@ -287,6 +285,35 @@ fn node(code: &mut Vec<Instruction>, names: Names, node: &Node, d: u64) -> Resul
             expression(code, names, no, d)?;
             Ok(())
         }
+        _ => assignment(code, names, node, d),
+    }
+}
+
+/// A node with several operands.
+#[cycle(expressions)]
+fn several(code: &mut Vec<Instruction>, names: Names, node: &Node, d: u64) -> Result<(), AllocError>
+    requires { has_several (tree.node node.now) ≡ true }
+    ensures { OnOk result (Places code.old code.new (spec.node_code names (tree.node node.now) d)) }
+{
+    match node {
+        Node::Binary {
+            operation,
+            left,
+            right,
+        } => {
+            let next = sum(d, 1)?;
+            expression(code, names, left, d)?;
+            expression(code, names, right, next)?;
+            operate(code, d, *operation)?;
+            Ok(())
+        }
+        Node::PointerDifference { size, left, right } => {
+            let next = sum(d, 1)?;
+            expression(code, names, left, d)?;
+            expression(code, names, right, next)?;
+            end_difference(code, *size, d)?;
+            Ok(())
+        }
         Node::Comma(left, right) => {
             let next = sum(d, 1)?;
             expression(code, names, left, d)?;
@@ -294,6 +321,32 @@ fn node(code: &mut Vec<Instruction>, names: Names, node: &Node, d: u64) -> Resul
             copy_down(code, d)?;
             Ok(())
         }
+        _ => branch(code, names, node, d),
+    }
+}
+
+#[cycle(expressions)]
+fn node(code: &mut Vec<Instruction>, names: Names, node: &Node, d: u64) -> Result<(), AllocError>
+    ensures { OnOk result (Places code.old code.new (spec.node_code names (tree.node node.now) d)) }
+{
+    match node {
+        Node::Constant { value, .. } => put(code, constant(d, *value)),
+        Node::Read(place) => read_node(code, names, place, d),
+        Node::AddressOf(place) => address(code, names, place, d),
+        Node::Increment {
+            fixity,
+            target,
+            before,
+            operation,
+            amount,
+            after,
+        } => {
+            stepped(
+                code, names, *fixity, target, *before, *operation, *amount, *after, d,
+            )
+        }
+        Node::Unary { operation, operand } => one_operand(code, names, *operation, operand, d),
+        Node::Not(operand) => negation(code, names, operand, d),
         Node::Call {
             function,
             arguments,
@@ -305,5 +358,6 @@ fn node(code: &mut Vec<Instruction>, names: Names, node: &Node, d: u64) -> Resul
         Node::ExceptionCode => put(code, exception_code(names.exception, d)),
         Node::Information(field) => put(code, information(*field, d)),
         Node::AbnormalTermination => put(code, abnormal(names.abnormal, d)),
+        _ => several(code, names, node, d),
     }
 }

@@ -1,9 +1,11 @@
 //! Filters and `__finally` blocks.
 
-ghost use Rattle.std.specs.Prelude.{◌≡◌, ◌-◌, ◌++◌, map, OnOk, IfOk};
+ghost use Rattle.std.specs.Prelude.{◌≡◌, ◌-◌, map, true, OnOk, IfOk};
 ghost use Rattle.linear_code.specs.Program.{linear_funclet};
 ghost use Rattle.c_checked.specs.Expression as tree;
 ghost use Rattle.c_checked.specs.Statement as statements;
+ghost use Rattle.ir_sizes.specs.Kinds.{is_try};
+ghost use Rattle.seh_ir.specs.Appended.{AppendsFunclets};
 ghost use Rattle.seh_ir.specs.Funclets as spec;
 
 use crate::bodies::body_with;
@@ -18,8 +20,8 @@ use linear_code::program::{FuncletKind, IrFunclet};
 use linear_code::slot::Slot;
 use std::alloc::{AllocError, Global};
 
-/// The function that funclets belong to, with the locals of its activations, and the funclet whose body
-/// their regions are in.
+/// The function that funclets belong to, with the locals of its activations, and the funclet whose
+/// body has their regions.
 #[derive(Clone, Copy)]
 pub struct Owner {
     pub function: u64,
@@ -34,7 +36,8 @@ fn filter_funclet(
     names: Names,
     value: &Expr,
 ) -> Result<IrFunclet, AllocError>
-    ensures { IfOk result (λ f. linear_funclet f ≡ spec.filter_funclet owner names (tree.expression value.now)) }
+    ensures { IfOk result (λ f. linear_funclet f ≡
+        spec.filter_funclet owner names (tree.expression value.now)) }
 {
     let mut code = Vec::new(alloc);
     expression(&mut code, names, value, 0)?;
@@ -57,7 +60,9 @@ fn finally_funclet(
     names: Names,
     last: &[Stmt],
 ) -> Result<IrFunclet, AllocError>
-    ensures { IfOk result (λ f. linear_funclet f ≡ spec.finally_funclet owner names (statements.statements (map statements.statement last.now))) }
+    ensures { IfOk result (λ f. linear_funclet f ≡
+        spec.finally_funclet owner names
+        (statements.statements (map statements.statement last.now))) }
 {
     let scope = finally_scope(names)?;
     let mut code = Vec::new(alloc);
@@ -83,7 +88,8 @@ fn filter_funclets(
     names: Names,
     filter: &Filter,
 ) -> Result<(), AllocError>
-    ensures { OnOk result (map linear_funclet funclets.new.items ≡ map linear_funclet funclets.old.items ++ spec.filter_funclets owner names (statements.filter filter.now)) }
+    ensures { OnOk result (AppendsFunclets funclets.old funclets.new
+        (spec.filter_funclets owner names (statements.filter filter.now))) }
 {
     match filter {
         Filter::Always => Ok(()),
@@ -115,12 +121,51 @@ pub fn statements_funclets(
     names: Names,
     stmts: &[Stmt],
 ) -> Result<(), AllocError>
-    ensures { OnOk result (map linear_funclet funclets.new.items ≡ map linear_funclet funclets.old.items ++ spec.statements_funclets owner names (statements.statements (map statements.statement stmts.now))) }
+    ensures { OnOk result (AppendsFunclets funclets.old funclets.new
+        (spec.statements_funclets owner names
+        (statements.statements (map statements.statement stmts.now)))) }
 {
     for stmt in stmts {
         statement_funclets(funclets, alloc, owner, names, stmt)?;
     }
     Ok(())
+}
+
+/// Those of a `__try`: of its body, its own, and those of its block.
+#[cycle(funclets)]
+fn try_funclets(
+    funclets: &mut Vec<IrFunclet>,
+    alloc: Global,
+    owner: Owner,
+    names: Names,
+    stmt: &Stmt,
+) -> Result<(), AllocError>
+    requires { is_try (statements.statement stmt.now) ≡ true }
+    ensures { OnOk result (AppendsFunclets funclets.old funclets.new
+        (spec.statement_funclets owner names (statements.statement stmt.now))) }
+{
+    match stmt {
+        Stmt::TryExcept {
+            body,
+            filter,
+            handler,
+        } => {
+            let inner = except_names(names)?;
+            statements_funclets(funclets, alloc, owner, names, body)?;
+            filter_funclets(funclets, alloc, owner, filter_names(names), filter)?;
+            statements_funclets(funclets, alloc, owner, inner, handler)?;
+            Ok(())
+        }
+        Stmt::TryFinally { body, number, last } => {
+            let inner = finally_scope(names)?.names;
+            statements_funclets(funclets, alloc, owner, names, body)?;
+            let funclet = finally_funclet(alloc, owner, names, last)?;
+            funclets.push(funclet)?;
+            statements_funclets(funclets, alloc, in_funclet(*number, owner), inner, last)?;
+            Ok(())
+        }
+        _ => unreachable!(),
+    }
 }
 
 #[cycle(funclets)]
@@ -131,7 +176,8 @@ fn statement_funclets(
     names: Names,
     stmt: &Stmt,
 ) -> Result<(), AllocError>
-    ensures { OnOk result (map linear_funclet funclets.new.items ≡ map linear_funclet funclets.old.items ++ spec.statement_funclets owner names (statements.statement stmt.now)) }
+    ensures { OnOk result (AppendsFunclets funclets.old funclets.new
+        (spec.statement_funclets owner names (statements.statement stmt.now))) }
 {
     match stmt {
         Stmt::Declare(_) => Ok(()),
@@ -157,24 +203,6 @@ fn statement_funclets(
         Stmt::Break => Ok(()),
         Stmt::Continue => Ok(()),
         Stmt::Leave => Ok(()),
-        Stmt::TryExcept {
-            body,
-            filter,
-            handler,
-        } => {
-            let inner = except_names(names)?;
-            statements_funclets(funclets, alloc, owner, names, body)?;
-            filter_funclets(funclets, alloc, owner, filter_names(names), filter)?;
-            statements_funclets(funclets, alloc, owner, inner, handler)?;
-            Ok(())
-        }
-        Stmt::TryFinally { body, number, last } => {
-            let inner = finally_scope(names)?.names;
-            statements_funclets(funclets, alloc, owner, names, body)?;
-            let funclet = finally_funclet(alloc, owner, names, last)?;
-            funclets.push(funclet)?;
-            statements_funclets(funclets, alloc, in_funclet(*number, owner), inner, last)?;
-            Ok(())
-        }
+        _ => try_funclets(funclets, alloc, owner, names, stmt),
     }
 }

@@ -1,11 +1,12 @@
 //! Single instructions, and those of conversions, names and places.
 
-ghost use Rattle.std.specs.Prelude.{◌≡◌, ◌+◌, ◌++◌, [], ◌∷◌, length, OnOk, IfOk};
+ghost use Rattle.std.specs.Prelude.{◌≡◌, ◌+◌, [], ◌∷◌, length, OnOk, IfOk};
 ghost use Rattle.c_operations.specs.declared.operation.Operation.TheVariants as operations;
 ghost use Rattle.c_operations.specs.declared.operation.Pure.TheVariants as pures;
 ghost use Rattle.linear_code.specs.declared.slot.Slot.TheVariants.{Temporary};
 ghost use Rattle.linear_code.specs.declared.instruction.Instruction.TheVariants.{Information};
 ghost use Rattle.c_checked.specs.Expression as tree;
+ghost use Rattle.seh_ir.specs.Appended.{Appends, Places};
 ghost use Rattle.seh_ir.specs.Expressions as spec;
 
 use crate::scope::ExceptionSource;
@@ -20,7 +21,7 @@ use std::alloc::AllocError;
 
 /// One instruction more.
 pub fn put(code: &mut Vec<Instruction>, instruction: Instruction) -> Result<(), AllocError>
-    ensures { OnOk result (code.new.items ≡ code.old.items ++ instruction ∷ []) }
+    ensures { OnOk result (Appends code.old code.new (instruction ∷ [])) }
 {
     code.push(instruction)?;
     Ok(())
@@ -94,7 +95,7 @@ pub fn convert(
     conversion: Conversion,
     d: u64,
 ) -> Result<(), AllocError>
-    ensures { OnOk result (code.new.items ≡ code.old.items ++ spec.conversion_code conversion d) }
+    ensures { OnOk result (Appends code.old code.new (spec.conversion_code conversion d)) }
 {
     match conversion {
         Conversion::Kept => Ok(()),
@@ -128,7 +129,7 @@ fn size_of(width: Width) -> Size
 }
 
 pub fn unary(code: &mut Vec<Instruction>, operation: Pure, d: u64) -> Result<(), AllocError>
-    ensures { OnOk result (code.new.items ≡ code.old.items ++ spec.unary_code operation d) }
+    ensures { OnOk result (Appends code.old code.new (spec.unary_code operation d)) }
 {
     match operation {
         Pure::First => Ok(()),
@@ -142,7 +143,7 @@ pub fn unary(code: &mut Vec<Instruction>, operation: Pure, d: u64) -> Result<(),
 
 /// One number where the temporary is 0, and another where it isn't.
 pub fn choose(code: &mut Vec<Instruction>, d: u64, zero: u64, other: u64) -> Result<(), AllocError>
-    ensures { OnOk result (code.new.items ≡ code.old.items ++ spec.choice_code d (length code.old.items) zero other) }
+    ensures { OnOk result (Places code.old code.new (λ at. spec.choice_code d at zero other)) }
 {
     let at = code.len() as u64;
     code.push(Instruction::JumpIfZero {
@@ -194,7 +195,7 @@ fn load(
     address: u64,
     to: u64,
 ) -> Result<(), AllocError>
-    ensures { OnOk result (code.new.items ≡ code.old.items ++ spec.load_code access address to) }
+    ensures { OnOk result (Appends code.old code.new (spec.load_code access address to)) }
 {
     code.push(Instruction::Compute {
         to: Slot::Temporary(to),
@@ -220,7 +221,8 @@ pub fn read(
     address: u64,
     to: u64,
 ) -> Result<(), AllocError>
-    ensures { OnOk result (code.new.items ≡ code.old.items ++ spec.read_code (tree.lvalue place.now) address to) }
+    ensures { OnOk result (Appends code.old code.new
+        (spec.read_code (tree.lvalue place.now) address to)) }
 {
     match place {
         Lvalue::Local(local) => {

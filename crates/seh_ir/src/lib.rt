@@ -1,7 +1,7 @@
 //! From checked programs to linear code.
 //!
-//! `lower::lower` makes the linear code that `specs/Lowered` defines by recursion on the program. Begin
-//! reading there.
+//! `lower::lower` makes the linear code that `specs/Lowered` defines by recursion on the program.
+//! Begin with that definition.
 #![tactic(auto)]
 
 pub mod bodies;

@@ -1,9 +1,10 @@
 //! Whole programs.
 
-ghost use Rattle.std.specs.Prelude.{◌≡◌, ◌++◌, map, OnOk, IfOk};
-ghost use Rattle.linear_code.specs.Program.{linear_function, linear_funclet, linear_program};
+ghost use Rattle.std.specs.Prelude.{◌≡◌, OnOk, IfOk};
+ghost use Rattle.linear_code.specs.Program.{linear_function, linear_program};
 ghost use Rattle.c_checked.specs.Program as programs;
 ghost use Rattle.c_checked.specs.Whole.{program};
+ghost use Rattle.seh_ir.specs.Appended.{AppendsFunclets};
 ghost use Rattle.seh_ir.specs.Lowered as spec;
 
 use crate::bodies::body_with;
@@ -52,7 +53,8 @@ fn scope_of(f: &Function) -> Result<Scope, AllocError>
 }
 
 fn lower_function(alloc: Global, f: &Function) -> Result<IrFunction, AllocError>
-    ensures { IfOk result (λ r. linear_function r ≡ spec.lowered_function (programs.function f.now)) }
+    ensures { IfOk result (λ r. linear_function r ≡
+        spec.lowered_function (programs.function f.now)) }
 {
     let scope = scope_of(f)?;
     let locals = all_locals(f)?;
@@ -78,7 +80,8 @@ fn lower_funclets(
     number: u64,
     f: &Function,
 ) -> Result<(), AllocError>
-    ensures { OnOk result (map linear_funclet funclets.new.items ≡ map linear_funclet funclets.old.items ++ spec.lowered_funclets number (programs.function f.now)) }
+    ensures { OnOk result (AppendsFunclets funclets.old funclets.new
+        (spec.lowered_funclets number (programs.function f.now))) }
 {
     let scope = scope_of(f)?;
     let owner = Owner {

@@ -1,10 +1,11 @@
-//! What stands between and after the operands of a node.
+//! What is between and after the operands of a node.
 
-ghost use Rattle.std.specs.Prelude.{◌≡◌, ◌+◌, ◌++◌, [], ◌∷◌, length, OnOk, IfOk};
+ghost use Rattle.std.specs.Prelude.{◌≡◌, ◌+◌, [], ◌∷◌, OnOk, IfOk};
 ghost use Rattle.linear_code.specs.declared.slot.Slot.TheVariants.{Temporary};
 ghost use Rattle.linear_code.specs.declared.instruction.Instruction.TheVariants.{Jump, JumpIfZero};
 ghost use Rattle.c_checked.specs.Expression as tree;
 ghost use Rattle.ir_sizes.specs.Sizes as sizes;
+ghost use Rattle.seh_ir.specs.Appended.{Appends, Places};
 ghost use Rattle.seh_ir.specs.Expressions as spec;
 ghost use Rattle.seh_ir.specs.Pieces as pieces;
 
@@ -25,14 +26,14 @@ pub fn after_place(place: &Lvalue, d: u64) -> Result<u64, AllocError>
 }
 
 pub fn operate(code: &mut Vec<Instruction>, d: u64, operation: Operation) -> Result<(), AllocError>
-    ensures { OnOk result (code.new.items ≡ code.old.items ++ spec.combine d operation ∷ []) }
+    ensures { OnOk result (Appends code.old code.new (spec.combine d operation ∷ [])) }
 {
     code.push(combine(d, operation)?)?;
     Ok(())
 }
 
 pub fn assign(code: &mut Vec<Instruction>, place: &Lvalue, d: u64) -> Result<(), AllocError>
-    ensures { OnOk result (code.new.items ≡ code.old.items ++ pieces.assigned (tree.lvalue place.now) d) }
+    ensures { OnOk result (Appends code.old code.new (pieces.assigned (tree.lvalue place.now) d)) }
 {
     let from = after_place(place, d)?;
     code.push(write(place, d, from, d))?;
@@ -45,7 +46,8 @@ pub fn begin_compound(
     before: Conversion,
     d: u64,
 ) -> Result<(), AllocError>
-    ensures { OnOk result (code.new.items ≡ code.old.items ++ pieces.compound_begun (tree.lvalue place.now) before d) }
+    ensures { OnOk result (Appends code.old code.new
+        (pieces.compound_begun (tree.lvalue place.now) before d)) }
 {
     let old = after_place(place, d)?;
     read(code, place, d, old)?;
@@ -59,7 +61,8 @@ pub fn end_compound(
     after: Conversion,
     d: u64,
 ) -> Result<(), AllocError>
-    ensures { OnOk result (code.new.items ≡ code.old.items ++ pieces.compound_ended (tree.lvalue place.now) operation after d) }
+    ensures { OnOk result (Appends code.old code.new
+        (pieces.compound_ended (tree.lvalue place.now) operation after d)) }
 {
     let old = after_place(place, d)?;
     operate(code, old, operation)?;
@@ -69,7 +72,7 @@ pub fn end_compound(
 }
 
 pub fn end_difference(code: &mut Vec<Instruction>, size: u64, d: u64) -> Result<(), AllocError>
-    ensures { OnOk result (code.new.items ≡ code.old.items ++ pieces.difference_ended size d) }
+    ensures { OnOk result (Appends code.old code.new (pieces.difference_ended size d)) }
 {
     let next = sum(d, 1)?;
     operate(code, d, Operation::Pure(Pure::Subtract(Size::Long)))?;
@@ -79,7 +82,8 @@ pub fn end_difference(code: &mut Vec<Instruction>, size: u64, d: u64) -> Result<
 
 /// A jump over so many instructions, itself among them, where the temporary is 0.
 pub fn test(code: &mut Vec<Instruction>, d: u64, size: u64, more: u64) -> Result<(), AllocError>
-    ensures { OnOk result (code.new.items ≡ code.old.items ++ JumpIfZero (Temporary d) (length code.old.items + (size + more)) ∷ []) }
+    ensures { OnOk result (Places code.old code.new
+        (λ at. JumpIfZero (Temporary d) (at + (size + more)) ∷ [])) }
 {
     let over = sum(size, more)?;
     let label = sum(code.len() as u64, over)?;
@@ -92,7 +96,7 @@ pub fn test(code: &mut Vec<Instruction>, d: u64, size: u64, more: u64) -> Result
 
 /// A jump over so many instructions, itself among them.
 pub fn skip(code: &mut Vec<Instruction>, size: u64, more: u64) -> Result<(), AllocError>
-    ensures { OnOk result (code.new.items ≡ code.old.items ++ Jump (length code.old.items + (size + more)) ∷ []) }
+    ensures { OnOk result (Places code.old code.new (λ at. Jump (at + (size + more)) ∷ [])) }
 {
     let over = sum(size, more)?;
     let label = sum(code.len() as u64, over)?;
@@ -101,15 +105,16 @@ pub fn skip(code: &mut Vec<Instruction>, size: u64, more: u64) -> Result<(), All
 }
 
 pub fn copy_down(code: &mut Vec<Instruction>, d: u64) -> Result<(), AllocError>
-    ensures { OnOk result (code.new.items ≡ code.old.items ++ spec.copy (Temporary d) (Temporary (d + 1)) ∷ []) }
+    ensures { OnOk result (Appends code.old code.new
+        (spec.copy (Temporary d) (Temporary (d + 1)) ∷ [])) }
 {
     let next = sum(d, 1)?;
     code.push(copy(Slot::Temporary(d), Slot::Temporary(next)))?;
     Ok(())
 }
 
-/// The end of `++` and `--`, with the new value converted: it goes to the place, and the value of the
-/// expression to the temporary `d`.
+/// The end of `++` and `--`, with the new value converted: it comes to the place, and the value of
+/// the expression to the temporary `d`.
 fn end_increment(
     code: &mut Vec<Instruction>,
     place: &Lvalue,
@@ -117,7 +122,8 @@ fn end_increment(
     old: u64,
     d: u64,
 ) -> Result<(), AllocError>
-    ensures { OnOk result (code.new.items ≡ code.old.items ++ pieces.increment_ended (tree.lvalue place.now) fixity old d) }
+    ensures { OnOk result (Appends code.old code.new
+        (pieces.increment_ended (tree.lvalue place.now) fixity old d)) }
 {
     let new = sum(old, 1)?;
     code.push(write(place, d, new, new))?;
@@ -134,7 +140,8 @@ fn next_value(
     after: Conversion,
     old: u64,
 ) -> Result<(), AllocError>
-    ensures { OnOk result (code.new.items ≡ code.old.items ++ pieces.next_value before operation amount after old) }
+    ensures { OnOk result (Appends code.old code.new
+        (pieces.next_value before operation amount after old)) }
 {
     let new = sum(old, 1)?;
     code.push(copy(Slot::Temporary(new), Slot::Temporary(old)))?;
@@ -155,7 +162,8 @@ pub fn increment(
     after: Conversion,
     d: u64,
 ) -> Result<(), AllocError>
-    ensures { OnOk result (code.new.items ≡ code.old.items ++ pieces.incremented (tree.lvalue place.now) fixity before operation amount after d) }
+    ensures { OnOk result (Appends code.old code.new
+        (pieces.incremented (tree.lvalue place.now) fixity before operation amount after d)) }
 {
     let old = after_place(place, d)?;
     read(code, place, d, old)?;

@@ -1,9 +1,10 @@
 //! The regions of a body.
 
-ghost use Rattle.std.specs.Prelude.{◌≡◌, ◌+◌, ◌-◌, ◌++◌, [], ◌∷◌, map, OnOk, IfOk};
+ghost use Rattle.std.specs.Prelude.{◌≡◌, ◌+◌, ◌-◌, map, true, OnOk, IfOk};
 ghost use Rattle.linear_code.specs.declared.program.RegionKind.TheVariants as kinds;
 ghost use Rattle.c_checked.specs.Statement as statements;
-ghost use Rattle.ir_sizes.specs.Sizes as sizes;
+ghost use Rattle.ir_sizes.specs.Kinds.{is_try, is_loop_or_try};
+ghost use Rattle.seh_ir.specs.Appended.{AppendsRegions};
 ghost use Rattle.seh_ir.specs.Regions as spec;
 
 use c_checked::statement::{Filter, Stmt};
@@ -49,7 +50,8 @@ pub fn statements_regions(
     stmts: &[Stmt],
     at: u64,
 ) -> Result<(), AllocError>
-    ensures { OnOk result (regions.new.items ≡ regions.old.items ++ spec.statements_regions (statements.statements (map statements.statement stmts.now)) at) }
+    ensures { OnOk result (AppendsRegions regions.old regions.new
+        (spec.statements_regions (statements.statements (map statements.statement stmts.now)) at)) }
 {
     let mut place = at;
     for stmt in stmts {
@@ -60,51 +62,14 @@ pub fn statements_regions(
     Ok(())
 }
 
+/// The region of a `__try`, after those in its body and before those in its block.
 #[cycle(regions)]
-fn statement_regions(regions: &mut Vec<Region>, stmt: &Stmt, at: u64) -> Result<(), AllocError>
-    ensures { OnOk result (regions.new.items ≡ regions.old.items ++ spec.statement_regions (statements.statement stmt.now) at) }
+fn try_regions(regions: &mut Vec<Region>, stmt: &Stmt, at: u64) -> Result<(), AllocError>
+    requires { is_try (statements.statement stmt.now) ≡ true }
+    ensures { OnOk result (AppendsRegions regions.old regions.new
+        (spec.statement_regions (statements.statement stmt.now) at)) }
 {
     match stmt {
-        Stmt::Declare(_) => Ok(()),
-        Stmt::Block(stmts) => statements_regions(regions, stmts, at),
-        Stmt::Evaluate(_) => Ok(()),
-        Stmt::If {
-            condition,
-            then,
-            otherwise: None,
-        } => {
-            let first = shifted(at, expression_size(condition)?, 1)?;
-            statement_regions(regions, then, first)?;
-            Ok(())
-        }
-        Stmt::If {
-            condition,
-            then,
-            otherwise: Some(otherwise),
-        } => {
-            let first = shifted(at, expression_size(condition)?, 1)?;
-            let second = shifted(first, statement_size(then)?, 1)?;
-            statement_regions(regions, then, first)?;
-            statement_regions(regions, otherwise, second)?;
-            Ok(())
-        }
-        Stmt::For {
-            declared,
-            first,
-            condition,
-            body,
-            ..
-        } => {
-            let begun = shifted(at, all_declared_size(declared)?, discarded_size(first)?)?;
-            let place = sum(begun, condition_size(condition)?)?;
-            statement_regions(regions, body, place)?;
-            Ok(())
-        }
-        Stmt::Do { body, .. } => statement_regions(regions, body, at),
-        Stmt::Return(_) => Ok(()),
-        Stmt::Break => Ok(()),
-        Stmt::Continue => Ok(()),
-        Stmt::Leave => Ok(()),
         Stmt::TryExcept {
             body,
             filter,
@@ -131,5 +96,67 @@ fn statement_regions(regions: &mut Vec<Region>, stmt: &Stmt, at: u64) -> Result<
             })?;
             Ok(())
         }
+        _ => unreachable!(),
+    }
+}
+
+#[cycle(regions)]
+fn loop_or_try_regions(regions: &mut Vec<Region>, stmt: &Stmt, at: u64) -> Result<(), AllocError>
+    requires { is_loop_or_try (statements.statement stmt.now) ≡ true }
+    ensures { OnOk result (AppendsRegions regions.old regions.new
+        (spec.statement_regions (statements.statement stmt.now) at)) }
+{
+    match stmt {
+        Stmt::For {
+            declared,
+            first,
+            condition,
+            body,
+            ..
+        } => {
+            let begun = shifted(at, all_declared_size(declared)?, discarded_size(first)?)?;
+            let place = sum(begun, condition_size(condition)?)?;
+            statement_regions(regions, body, place)?;
+            Ok(())
+        }
+        Stmt::Do { body, .. } => statement_regions(regions, body, at),
+        _ => try_regions(regions, stmt, at),
+    }
+}
+
+#[cycle(regions)]
+fn statement_regions(regions: &mut Vec<Region>, stmt: &Stmt, at: u64) -> Result<(), AllocError>
+    ensures { OnOk result (AppendsRegions regions.old regions.new
+        (spec.statement_regions (statements.statement stmt.now) at)) }
+{
+    match stmt {
+        Stmt::Declare(_) => Ok(()),
+        Stmt::Block(stmts) => statements_regions(regions, stmts, at),
+        Stmt::Evaluate(_) => Ok(()),
+        Stmt::If {
+            condition,
+            then,
+            otherwise: None,
+        } => {
+            let first = shifted(at, expression_size(condition)?, 1)?;
+            statement_regions(regions, then, first)?;
+            Ok(())
+        }
+        Stmt::If {
+            condition,
+            then,
+            otherwise: Some(otherwise),
+        } => {
+            let first = shifted(at, expression_size(condition)?, 1)?;
+            let second = shifted(first, statement_size(then)?, 1)?;
+            statement_regions(regions, then, first)?;
+            statement_regions(regions, otherwise, second)?;
+            Ok(())
+        }
+        Stmt::Return(_) => Ok(()),
+        Stmt::Break => Ok(()),
+        Stmt::Continue => Ok(()),
+        Stmt::Leave => Ok(()),
+        _ => loop_or_try_regions(regions, stmt, at),
     }
 }

@@ -1,13 +1,10 @@
 //! The code of statements.
 
-ghost use Rattle.std.specs.Prelude.{◌≡◌, ◌+◌, ◌-◌, ◌++◌, [], ◌∷◌, map, length, OnOk, IfOk, option_map};
-ghost use Rattle.linear_code.specs.declared.slot.Slot.TheVariants.{Temporary};
-ghost use Rattle.linear_code.specs.declared.instruction.Instruction.TheVariants.{CallFinally, JumpIfZero, Separator};
+ghost use Rattle.std.specs.Prelude.{◌≡◌, ◌-◌, map, length, true, OnOk, option_map};
 ghost use Rattle.c_checked.specs.Expression as tree;
 ghost use Rattle.c_checked.specs.Statement as statements;
-ghost use Rattle.ir_sizes.specs.Sizes as sizes;
-ghost use Rattle.seh_ir.specs.Scope as scopes;
-ghost use Rattle.seh_ir.specs.Expressions as expressions;
+ghost use Rattle.ir_sizes.specs.Kinds.{is_loop_or_try};
+ghost use Rattle.seh_ir.specs.Appended.{Appends, Places};
 ghost use Rattle.seh_ir.specs.Statements as spec;
 
 use crate::expressions::expression;
@@ -32,7 +29,7 @@ fn here(code: &Vec<Instruction>) -> u64
 
 /// Two instructions to where `break` or `continue` lead.
 fn jump(code: &mut Vec<Instruction>, way: Way) -> Result<(), AllocError>
-    ensures { OnOk result (code.new.items ≡ code.old.items ++ spec.jump_code way) }
+    ensures { OnOk result (Appends code.old code.new (spec.jump_code way)) }
 {
     match way {
         Way::Nowhere => code.push(Instruction::Separator)?,
@@ -45,7 +42,7 @@ fn jump(code: &mut Vec<Instruction>, way: Way) -> Result<(), AllocError>
 
 /// The end of a `return`, with its number in the first temporary.
 fn end_return(code: &mut Vec<Instruction>, way: Way) -> Result<(), AllocError>
-    ensures { OnOk result (code.new.items ≡ code.old.items ++ spec.return_code way) }
+    ensures { OnOk result (Appends code.old code.new (spec.return_code way)) }
 {
     match way {
         Way::Nowhere => code.push(Instruction::Separator)?,
@@ -73,7 +70,8 @@ fn discarded(
     names: Names,
     expr: &Option<Expr>,
 ) -> Result<(), AllocError>
-    ensures { OnOk result (code.new.items ≡ code.old.items ++ spec.discarded_code names (option_map tree.expression expr.now) (length code.old.items)) }
+    ensures { OnOk result (Places code.old code.new
+        (spec.discarded_code names (option_map tree.expression expr.now))) }
 {
     match expr {
         None => Ok(()),
@@ -90,7 +88,8 @@ fn returned(
     names: Names,
     expr: &Option<Expr>,
 ) -> Result<(), AllocError>
-    ensures { OnOk result (code.new.items ≡ code.old.items ++ spec.returned_code names (option_map tree.expression expr.now) (length code.old.items)) }
+    ensures { OnOk result (Places code.old code.new
+        (spec.returned_code names (option_map tree.expression expr.now))) }
 {
     match expr {
         None => put(code, constant(0, 0)),
@@ -104,7 +103,8 @@ fn leave_function(
     scope: &Scope,
     expr: &Option<Expr>,
 ) -> Result<(), AllocError>
-    ensures { OnOk result (code.new.items ≡ code.old.items ++ spec.statement_code scope.now (statements.Return (option_map tree.expression expr.now)) (length code.old.items)) }
+    ensures { OnOk result (Places code.old code.new
+        (spec.statement_code scope.now (statements.Return (option_map tree.expression expr.now)))) }
 {
     returned(code, scope.names, expr)?;
     end_return(code, scope.exit)?;
@@ -118,7 +118,8 @@ fn tested(
     expr: &Option<Expr>,
     label: u64,
 ) -> Result<(), AllocError>
-    ensures { OnOk result (code.new.items ≡ code.old.items ++ spec.condition_code names (option_map tree.expression expr.now) label (length code.old.items)) }
+    ensures { OnOk result (Places code.old code.new
+        (spec.condition_code names (option_map tree.expression expr.now) label)) }
 {
     match expr {
         None => Ok(()),
@@ -139,7 +140,8 @@ fn initialise(
     local: u64,
     value: &Option<Expr>,
 ) -> Result<(), AllocError>
-    ensures { OnOk result (code.new.items ≡ code.old.items ++ spec.initialiser_code names local (option_map tree.expression value.now) (length code.old.items)) }
+    ensures { OnOk result (Places code.old code.new
+        (spec.initialiser_code names local (option_map tree.expression value.now))) }
 {
     match value {
         None => Ok(()),
@@ -153,7 +155,8 @@ fn initialise(
 }
 
 fn declare(code: &mut Vec<Instruction>, names: Names, declared: &Declared) -> Result<(), AllocError>
-    ensures { OnOk result (code.new.items ≡ code.old.items ++ spec.declared_code names (statements.declared declared.now) (length code.old.items)) }
+    ensures { OnOk result (Places code.old code.new
+        (spec.declared_code names (statements.declared declared.now))) }
 {
     let slot = Slot::Local(declared.local);
     code.push(Instruction::Compute {
@@ -171,7 +174,8 @@ fn declare_all(
     names: Names,
     declared: &[Declared],
 ) -> Result<(), AllocError>
-    ensures { OnOk result (code.new.items ≡ code.old.items ++ spec.all_declared_code names (map statements.declared declared.now) (length code.old.items)) }
+    ensures { OnOk result (Places code.old code.new
+        (spec.all_declared_code names (map statements.declared declared.now))) }
 {
     for one in declared {
         declare(code, names, one)?;
@@ -181,7 +185,7 @@ fn declare_all(
 
 /// The call of a `__finally` block at the normal end of its body.
 fn call_finally(code: &mut Vec<Instruction>, number: u32) -> Result<(), AllocError>
-    ensures { OnOk result (code.new.items ≡ code.old.items ++ Separator ∷ CallFinally (number - 1) ∷ Separator ∷ []) }
+    ensures { OnOk result (Appends code.old code.new (spec.finally_called (number - 1))) }
 {
     code.push(Instruction::Separator)?;
     code.push(Instruction::CallFinally {
@@ -193,7 +197,7 @@ fn call_finally(code: &mut Vec<Instruction>, number: u32) -> Result<(), AllocErr
 
 /// The end of the body of a `__try`, with the beginning of its `__except` block.
 fn land(code: &mut Vec<Instruction>, end: u64, local: u64) -> Result<(), AllocError>
-    ensures { OnOk result (code.new.items ≡ code.old.items ++ spec.landed end local) }
+    ensures { OnOk result (Appends code.old code.new (spec.landed end local)) }
 {
     code.push(Instruction::Jump { label: end })?;
     code.push(Instruction::Landing {
@@ -204,7 +208,7 @@ fn land(code: &mut Vec<Instruction>, end: u64, local: u64) -> Result<(), AllocEr
 
 /// The end of a `do`: its condition was evaluated.
 fn end_do(code: &mut Vec<Instruction>, end: u64, begin: u64) -> Result<(), AllocError>
-    ensures { OnOk result (code.new.items ≡ code.old.items ++ spec.repeated end begin) }
+    ensures { OnOk result (Appends code.old code.new (spec.repeated end begin)) }
 {
     code.push(Instruction::JumpIfZero {
         slot: Slot::Temporary(0),
@@ -221,7 +225,9 @@ pub fn statements(
     scope: &Scope,
     stmts: &[Stmt],
 ) -> Result<(), AllocError>
-    ensures { OnOk result (code.new.items ≡ code.old.items ++ spec.statements_code scope.now (statements.statements (map statements.statement stmts.now)) (length code.old.items)) }
+    ensures { OnOk result (Places code.old code.new
+        (spec.statements_code scope.now
+        (statements.statements (map statements.statement stmts.now)))) }
 {
     for stmt in stmts {
         statement(code, scope, stmt)?;
@@ -238,7 +244,9 @@ fn when(
     condition: &Expr,
     more: u64,
 ) -> Result<(), AllocError>
-    ensures { OnOk result (code.new.items ≡ code.old.items ++ (expressions.expression_code scope.now.names (tree.expression condition.now) 0 (length code.old.items) ++ JumpIfZero (Temporary 0) (length code.old.items + sizes.expression_size (tree.expression condition.now) + (sizes.statement_size (statements.statement then.now) + more)) ∷ spec.statement_code scope.now (statements.statement then.now) (length code.old.items + sizes.expression_size (tree.expression condition.now) + 1))) }
+    ensures { OnOk result (Places code.old code.new
+        (spec.when_code scope.now (tree.expression condition.now)
+        (statements.statement then.now) more)) }
 {
     let size = statement_size(then)?;
     expression(code, scope.names, condition, 0)?;
@@ -257,7 +265,12 @@ fn for_loop(
     condition: &Option<Expr>,
     next: &Option<Expr>,
 ) -> Result<(), AllocError>
-    ensures { OnOk result (code.new.items ≡ code.old.items ++ spec.statement_code scope.now (statements.For (map statements.declared declared.now) (option_map tree.expression first.now) (option_map tree.expression condition.now) (option_map tree.expression next.now) (statements.statement body.now)) (length code.old.items)) }
+    ensures { OnOk result (Places code.old code.new
+        (spec.statement_code scope.now
+        (statements.For (map statements.declared declared.now)
+        (option_map tree.expression first.now)
+        (option_map tree.expression condition.now)
+        (option_map tree.expression next.now) (statements.statement body.now)))) }
 {
     let turn = sum(condition_size(condition)?, statement_size(body)?)?;
     let last = sum(discarded_size(next)?, 2)?;
@@ -281,7 +294,10 @@ fn do_loop(
     body: &Stmt,
     condition: &Expr,
 ) -> Result<(), AllocError>
-    ensures { OnOk result (code.new.items ≡ code.old.items ++ spec.statement_code scope.now (statements.DoWhile (statements.statement body.now) (tree.expression condition.now)) (length code.old.items)) }
+    ensures { OnOk result (Places code.old code.new
+        (spec.statement_code scope.now
+        (statements.DoWhile (statements.statement body.now)
+        (tree.expression condition.now)))) }
 {
     let size = statement_size(body)?;
     let last = sum(expression_size(condition)?, 3)?;
@@ -303,7 +319,9 @@ fn tried(
     body: &[Stmt],
     block: u64,
 ) -> Result<(), AllocError>
-    ensures { OnOk result (code.new.items ≡ code.old.items ++ (spec.statements_code (scopes.in_try (length code.old.items + (sizes.statements_size (statements.statements (map statements.statement body.now)) + (block + 2))) scope.now) (statements.statements (map statements.statement body.now)) (length code.old.items) ++ spec.landed (length code.old.items + (sizes.statements_size (statements.statements (map statements.statement body.now)) + (block + 2))) scope.now.names.free)) }
+    ensures { OnOk result (Places code.old code.new
+        (spec.tried_code scope.now
+        (statements.statements (map statements.statement body.now)) block)) }
 {
     let size = statements_size(body)?;
     let both = sum(size, sum(block, 2)?)?;
@@ -321,7 +339,10 @@ fn try_finally(
     body: &[Stmt],
     number: u32,
 ) -> Result<(), AllocError>
-    ensures { OnOk result (code.new.items ≡ code.old.items ++ spec.statement_code scope.now (statements.TryFinally (statements.statements (map statements.statement body.now)) number statements.Empty) (length code.old.items)) }
+    ensures { OnOk result (Places code.old code.new
+        (spec.statement_code scope.now
+        (statements.TryFinally (statements.statements (map statements.statement body.now))
+        number statements.Empty))) }
 {
     let size = statements_size(body)?;
     let end = ahead(code, size)?;
@@ -330,9 +351,38 @@ fn try_finally(
     Ok(())
 }
 
+/// A loop (C11, 6.8.5) or a `__try`.
+#[cycle(statements)]
+fn loop_or_try(code: &mut Vec<Instruction>, scope: &Scope, stmt: &Stmt) -> Result<(), AllocError>
+    requires { is_loop_or_try (statements.statement stmt.now) ≡ true }
+    ensures { OnOk result (Places code.old code.new
+        (spec.statement_code scope.now (statements.statement stmt.now))) }
+{
+    match stmt {
+        Stmt::For {
+            declared,
+            first,
+            condition,
+            next,
+            body,
+        } => for_loop(code, scope, body, declared, first, condition, next),
+        Stmt::Do { body, condition } => do_loop(code, scope, body, condition),
+        Stmt::TryExcept { body, handler, .. } => {
+            let inner = in_except(scope)?;
+            let block = statements_size(handler)?;
+            tried(code, scope, body, block)?;
+            statements(code, &inner, handler)?;
+            Ok(())
+        }
+        Stmt::TryFinally { body, number, .. } => try_finally(code, scope, body, *number),
+        _ => unreachable!(),
+    }
+}
+
 #[cycle(statements)]
 fn statement(code: &mut Vec<Instruction>, scope: &Scope, stmt: &Stmt) -> Result<(), AllocError>
-    ensures { OnOk result (code.new.items ≡ code.old.items ++ spec.statement_code scope.now (statements.statement stmt.now) (length code.old.items)) }
+    ensures { OnOk result (Places code.old code.new
+        (spec.statement_code scope.now (statements.statement stmt.now))) }
 {
     match stmt {
         Stmt::Declare(declared) => declare(code, scope.names, declared),
@@ -355,25 +405,10 @@ fn statement(code: &mut Vec<Instruction>, scope: &Scope, stmt: &Stmt) -> Result<
                 Ok(())
             }
         },
-        Stmt::For {
-            declared,
-            first,
-            condition,
-            next,
-            body,
-        } => for_loop(code, scope, body, declared, first, condition, next),
-        Stmt::Do { body, condition } => do_loop(code, scope, body, condition),
         Stmt::Return(expr) => leave_function(code, scope, expr),
         Stmt::Break => jump(code, scope.loop_end),
         Stmt::Continue => jump(code, scope.loop_next),
         Stmt::Leave => put(code, leave(scope.leave)),
-        Stmt::TryExcept { body, handler, .. } => {
-            let inner = in_except(scope)?;
-            let block = statements_size(handler)?;
-            tried(code, scope, body, block)?;
-            statements(code, &inner, handler)?;
-            Ok(())
-        }
-        Stmt::TryFinally { body, number, .. } => try_finally(code, scope, body, *number),
+        _ => loop_or_try(code, scope, stmt),
     }
 }

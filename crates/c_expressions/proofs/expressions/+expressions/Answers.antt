@@ -1,4 +1,4 @@
-use Rattle.std.proofs.Common.{◌≡◌, ◌∙◌, ◌+◌, ◌<◌, ◌≤◌, [], get_or, length, map, ap, sym, refl, subst, arith, rules, nat_eq, false, true, Some}
+use Rattle.std.proofs.Common.{◌≡◌, ◌∙◌, ◌+◌, ◌++◌, ◌<◌, ◌≤◌, [], get_or, length, map, ap, sym, refl, subst, arith, rules, nat_eq, false, true, Some}
 use Rattle.std.proofs.lemmas.Result.{on_ok_weaker, IfOk-weaker}
 use Rattle.std.specs.Prelude.{option_map}
 use Rattle.c_expressions.proofs.Kept.{kept_more}
@@ -33,6 +33,22 @@ several-returns-in_ok-i-in-Index-clause-faults t c =
     (λ h. two (least_of c.args.worst.now) _ _ _ (resolve_expression s (expression x.array.value)) (resolve_expression s (expression x.index.value)) (rule_2 x.at element_of) _ _
     (rw c.deref.ensures at c.in_ok-a-in-Index.ensures.faults) (rw c.deref-in-Index.ensures at c.in_ok-i-in-Index.ensures.faults)
     (rw c.deref.ensures at c.in_ok-a-in-Index.ensures.found) (rw c.deref-in-Index.ensures at c.in_ok-i-in-Index.ensures.found) h) c.element.ensures.faults)
+
+pub several-returns-in_ok-b-in-Binary-clause-found : goal.several-returns-in_ok-b-in-Binary-clause-found
+unfolding roll-Expr Carrier.roll
+several-returns-in_ok-b-in-Binary-clause-found t c =
+    let x = c.in-Binary in
+    let s = names_of c.args.context.now in
+    let ja = resolve_expression s (expression x.left.value) in
+    let jb = resolve_expression s (expression x.right.value) in
+    let b = option_map typed_node c.in_ok-b-in-Binary.b in
+    let rule = rule_2 x.at (binary_of x.operator) (ja.faults ++ jb.faults) in
+    let left : option_map typed_node c.in_ok-a-in-Binary.a ≡ ja.found = rw c.deref-in-Binary.ensures at c.in_ok-a-in-Binary.ensures.found in
+    let right : b ≡ jb.found = rw c.deref-in-Binary-2.ensures at c.in_ok-b-in-Binary.ensures.found in
+    let q : expression c.args.e.now ≡ trees.Binary (expression x.left.value) x.at x.operator (expression x.right.value) = ap expression c.in-Binary.is ∙ ap expression (rolls-Binary x.left x.at x.operator x.right) ∙ fold-roll-Expr Expression node (Binary_F x.left x.at x.operator x.right) in
+    rw q
+    (IfOk-weaker c.binary.result _ _
+    (λ r h. h (ja.faults ++ jb.faults) ∙ ap (λ o. (rule o b).found) left ∙ ap (λ o. (rule ja.found o).found) right) c.binary.ensures.found)
 
 pub several-returns-in_ok-b-in-Binary-clause-faults : goal.several-returns-in_ok-b-in-Binary-clause-faults
 unfolding roll-Expr Carrier.roll
@@ -162,8 +178,8 @@ pass_all-returns-clause-found t c =
     fused nodes.arguments (λ v. map nodes.expression v.items) c.loop-e.passed
     ∙ (all_passed_at s (least_of c.args.worst.now) (pass_all (map wanted ws) (resolved_all s es)) done (least_of c.loop-e.worst) ws es i past' past c.loop-e.invariant.1).0
 
-pub call-returns-in_ok-passed-in-Some-CodeFunction-clause-found : goal.call-returns-in_ok-passed-in-Some-CodeFunction-clause-found
-call-returns-in_ok-passed-in-Some-CodeFunction-clause-found t c =
+pub special_call-returns-in_ok-passed-in-Some-CodeFunction-clause-found : goal.special_call-returns-in_ok-passed-in-Some-CodeFunction-clause-found
+special_call-returns-in_ok-passed-in-Some-CodeFunction-clause-found t c =
     let s = names_of c.args.context.now in
     let args = resolved_all s c.args.given.now in
     let j = call_with c.args.at [] unsigned (λ es. nodes.ExceptionCode) args in
@@ -171,8 +187,8 @@ call-returns-in_ok-passed-in-Some-CodeFunction-clause-found t c =
     let told : option_map typed_node c.only_where.result ≡ (call s c.args.at (Some CodeFunction) args).found = allowed_found s.code c.args.at CodeOutsideFilter j _ _ found c.only_where.ensures.found in
     search (rules, told)
 
-pub call-returns-in_ok-passed-in-Some-CodeFunction-clause-faults : goal.call-returns-in_ok-passed-in-Some-CodeFunction-clause-faults
-call-returns-in_ok-passed-in-Some-CodeFunction-clause-faults t c =
+pub special_call-returns-in_ok-passed-in-Some-CodeFunction-clause-faults : goal.special_call-returns-in_ok-passed-in-Some-CodeFunction-clause-faults
+special_call-returns-in_ok-passed-in-Some-CodeFunction-clause-faults t c =
     let s = names_of c.args.context.now in
     let args = resolved_all s c.args.given.now in
     let first = least_of c.args.worst.now in
@@ -182,8 +198,8 @@ call-returns-in_ok-passed-in-Some-CodeFunction-clause-faults t c =
     let told : least_of c.only_where.new.worst ≡ kept first (call s c.args.at (Some CodeFunction) args).faults = allowed_kept s.code c.args.at CodeOutsideFilter j _ first _ _ found so_far c.only_where.ensures.faults in
     search (rules, told)
 
-pub call-returns-in_ok-passed-in-Some-AbnormalFunction-clause-found : goal.call-returns-in_ok-passed-in-Some-AbnormalFunction-clause-found
-call-returns-in_ok-passed-in-Some-AbnormalFunction-clause-found t c =
+pub special_call-returns-in_ok-passed-in-Some-AbnormalFunction-clause-found : goal.special_call-returns-in_ok-passed-in-Some-AbnormalFunction-clause-found
+special_call-returns-in_ok-passed-in-Some-AbnormalFunction-clause-found t c =
     let s = names_of c.args.context.now in
     let args = resolved_all s c.args.given.now in
     let j = call_with c.args.at [] int (λ es. nodes.AbnormalTermination) args in
@@ -191,8 +207,8 @@ call-returns-in_ok-passed-in-Some-AbnormalFunction-clause-found t c =
     let told : option_map typed_node c.only_where-in-Some-AbnormalFunction.result ≡ (call s c.args.at (Some AbnormalFunction) args).found = allowed_found s.abnormal c.args.at AbnormalOutsideFinally j _ _ found c.only_where-in-Some-AbnormalFunction.ensures.found in
     search (rules, told)
 
-pub call-returns-in_ok-passed-in-Some-AbnormalFunction-clause-faults : goal.call-returns-in_ok-passed-in-Some-AbnormalFunction-clause-faults
-call-returns-in_ok-passed-in-Some-AbnormalFunction-clause-faults t c =
+pub special_call-returns-in_ok-passed-in-Some-AbnormalFunction-clause-faults : goal.special_call-returns-in_ok-passed-in-Some-AbnormalFunction-clause-faults
+special_call-returns-in_ok-passed-in-Some-AbnormalFunction-clause-faults t c =
     let s = names_of c.args.context.now in
     let args = resolved_all s c.args.given.now in
     let first = least_of c.args.worst.now in

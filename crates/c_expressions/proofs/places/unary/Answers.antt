@@ -1,11 +1,12 @@
 use Rattle.std.proofs.Common.{◌∙◌, ap, sym}
+use Rattle.std.proofs.lemmas.Result.{IfOk-weaker}
 use Rattle.std.specs.Prelude.{option_map}
 use Rattle.c_expressions.proofs.Ruled.{refused_kept}
 use Rattle.c_expressions.proofs.places.unary.Goals as goal
 use Rattle.c_expressions.specs.Kept.{least_of, kept}
 use Rattle.c_expressions.specs.Views.{names_of}
 use Rattle.c_resolved.specs.declared.fault.Fault.TheVariants.{NotLvalue}
-use Rattle.c_resolved.specs.Expressions.{fault_at, rule_1, operand_is_lvalue}
+use Rattle.c_resolved.specs.Expressions.{fault_at, rule_1, unless, operand_is_lvalue}
 use Rattle.c_resolved.specs.Operators.{unary_of}
 use Rattle.c_syntax.specs.Expression.{expression, start}
 use Rattle.c_types.specs.Views.{typed_node}
@@ -16,3 +17,9 @@ returns-clause-faults c = λ first fs p.
     let e = expression c.args.operand.now in
     refused_kept first (least_of c.args.worst.now) (least_of c.add.new.self) (operand_is_lvalue c.args.operator s e) (start e) NotLvalue fs (rule_1 c.args.at (unary_of c.args.operator) fs (option_map typed_node c.args.a))
     (sym c.operand_is_lvalue.ensures ∙ c.if-operand_is_lvalue.false) p (c.add.ensures ∙ ap (λ k. kept (least_of c.args.worst.now) (fault_at k NotLvalue)) c.start.ensures)
+
+pub returns-then-operand_is_lvalue-clause-found : goal.returns-then-operand_is_lvalue-clause-found
+returns-then-operand_is_lvalue-clause-found c =
+    let e = expression c.args.operand.now in
+    IfOk-weaker c.unary.result _ _
+    (λ r h. λ fs. h fs ∙ ap (λ b. (unless b (start e) NotLvalue fs (rule_1 c.args.at (unary_of c.args.operator) fs (option_map typed_node c.args.a))).found) (sym c.if-operand_is_lvalue.true ∙ c.operand_is_lvalue.ensures)) c.unary.ensures.found

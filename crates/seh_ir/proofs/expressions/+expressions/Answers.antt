@@ -8,36 +8,36 @@ pub locate-returns-in_ok-operate-in-Element : goal.locate-returns-in_ok-operate-
 locate-returns-in_ok-operate-in-Element t c =
     element_is _ _ _ _ _ _ _ _ _ _ _ (ap tree.lvalue c.in-Element.is ∙ made.element_is c.in-Element.access c.in-Element.array c.in-Element.index) c.in_ok-next-in-Element.ensures (rw c.deref-in-Element.ensures at c.in_ok-expression-in-Element.ensures) (rw c.deref-in-Element-2.ensures at c.in_ok-expression-in-Element-2.ensures) c.in_ok-operate-in-Element.ensures
 
-pub node-returns-in_ok-assign-in-Assign : goal.node-returns-in_ok-assign-in-Assign
-node-returns-in_ok-assign-in-Assign t c =
+pub assignment-returns-in_ok-assign-in-Assign : goal.assignment-returns-in_ok-assign-in-Assign
+assignment-returns-in_ok-assign-in-Assign t c =
     assign_is _ _ _ _ _ _ _ _ _ _ (ap tree.node c.in-Assign.is ∙ made.assign_is c.in-Assign.target c.in-Assign.value) c.in_ok-from-in-Assign.ensures c.in_ok-locate-in-Assign.ensures (rw c.deref.ensures at c.in_ok-expression-in-Assign.ensures) c.in_ok-assign-in-Assign.ensures
 
-pub node-returns-in_ok-end_compound-in-CompoundAssign : goal.node-returns-in_ok-end_compound-in-CompoundAssign
-node-returns-in_ok-end_compound-in-CompoundAssign t c =
+pub assignment-returns-in_ok-end_compound-in-CompoundAssign : goal.assignment-returns-in_ok-end_compound-in-CompoundAssign
+assignment-returns-in_ok-end_compound-in-CompoundAssign t c =
     compound_is _ _ _ _ _ _ _ _ _ _ _ _ _ _ _ (ap tree.node c.in-CompoundAssign.is ∙ made.compound_is c.in-CompoundAssign.target c.in-CompoundAssign.before c.in-CompoundAssign.operation c.in-CompoundAssign.value c.in-CompoundAssign.after) c.in_ok-old-in-CompoundAssign.ensures c.in_ok-next-in-CompoundAssign.ensures c.in_ok-locate-in-CompoundAssign.ensures c.in_ok-begin_compound-in-CompoundAssign.ensures (rw c.deref-in-CompoundAssign.ensures at c.in_ok-expression-in-CompoundAssign.ensures) c.in_ok-end_compound-in-CompoundAssign.ensures
 
-pub node-returns-in_ok-operate-in-Binary : goal.node-returns-in_ok-operate-in-Binary
-node-returns-in_ok-operate-in-Binary t c =
-    binary_is _ _ _ _ _ _ _ _ _ _ _ (ap tree.node c.in-Binary.is ∙ made.binary_is c.in-Binary.operation c.in-Binary.left c.in-Binary.right) c.in_ok-next-in-Binary.ensures (rw c.deref-in-Binary.ensures at c.in_ok-expression-in-Binary.ensures) (rw c.deref-in-Binary-2.ensures at c.in_ok-expression-in-Binary-2.ensures) c.in_ok-operate-in-Binary.ensures
+pub several-returns-in_ok-operate-in-Binary : goal.several-returns-in_ok-operate-in-Binary
+several-returns-in_ok-operate-in-Binary t c =
+    binary_is _ _ _ _ _ _ _ _ _ _ _ (ap tree.node c.in-Binary.is ∙ made.binary_is c.in-Binary.operation c.in-Binary.left c.in-Binary.right) c.in_ok-next-in-Binary.ensures (rw c.deref.ensures at c.in_ok-expression-in-Binary.ensures) (rw c.deref-in-Binary.ensures at c.in_ok-expression-in-Binary-2.ensures) c.in_ok-operate-in-Binary.ensures
 
-pub node-returns-in_ok-end_difference-in-PointerDifference : goal.node-returns-in_ok-end_difference-in-PointerDifference
-node-returns-in_ok-end_difference-in-PointerDifference t c =
+pub several-returns-in_ok-end_difference-in-PointerDifference : goal.several-returns-in_ok-end_difference-in-PointerDifference
+several-returns-in_ok-end_difference-in-PointerDifference t c =
     difference_is _ _ _ _ _ _ _ _ _ _ _ (ap tree.node c.in-PointerDifference.is ∙ made.difference_is c.in-PointerDifference.size c.in-PointerDifference.left c.in-PointerDifference.right) c.in_ok-next-in-PointerDifference.ensures (rw c.deref-in-PointerDifference.ensures at c.in_ok-expression-in-PointerDifference.ensures) (rw c.deref-in-PointerDifference-2.ensures at c.in_ok-expression-in-PointerDifference-2.ensures) c.in_ok-end_difference-in-PointerDifference.ensures
 
-pub node-returns-in_ok-choose-in-And : goal.node-returns-in_ok-choose-in-And
-node-returns-in_ok-choose-in-And t c =
-    and_is _ _ _ _ _ _ _ _ _ _ _ (ap tree.node c.in-And.is ∙ made.and_is c.in-And.left c.in-And.right) (rw c.deref-in-And.ensures at c.in_ok-size-in-And.ensures) (rw c.deref-in-And-2.ensures at c.in_ok-expression-in-And.ensures) c.in_ok-test-in-And.ensures (rw c.deref-in-And-3.ensures at c.in_ok-expression-in-And-2.ensures) c.in_ok-choose-in-And.ensures
+pub branch-returns-in_ok-choose-in-And : goal.branch-returns-in_ok-choose-in-And
+branch-returns-in_ok-choose-in-And t c =
+    and_is _ _ _ _ _ _ _ _ _ _ _ (ap tree.node c.in-And.is ∙ made.and_is c.in-And.left c.in-And.right) (rw c.deref.ensures at c.in_ok-size-in-And.ensures) (rw c.deref-in-And.ensures at c.in_ok-expression-in-And.ensures) c.in_ok-test-in-And.ensures (rw c.deref-in-And-2.ensures at c.in_ok-expression-in-And-2.ensures) c.in_ok-choose-in-And.ensures
 
-pub node-returns-in_ok-choose-in-Or : goal.node-returns-in_ok-choose-in-Or
-node-returns-in_ok-choose-in-Or t c =
-    or_is _ _ _ _ _ _ _ _ _ _ _ _ _ (ap tree.node c.in-Or.is ∙ made.or_is c.in-Or.left c.in-Or.right) (rw c.deref-in-Or.ensures at c.in_ok-size-in-Or.ensures) (rw c.deref-in-Or-2.ensures at c.in_ok-expression-in-Or.ensures) c.in_ok-test-in-Or.ensures (rw c.constant-in-Or.ensures at c.in_ok-put-in-Or.ensures) c.in_ok-skip-in-Or.ensures (rw c.deref-in-Or-3.ensures at c.in_ok-expression-in-Or-2.ensures) c.in_ok-choose-in-Or.ensures
+pub branch-returns-in_ok-choose-in-Or : goal.branch-returns-in_ok-choose-in-Or
+branch-returns-in_ok-choose-in-Or t c =
+    or_is _ _ _ _ _ _ _ _ _ _ _ _ _ (ap tree.node c.in-Or.is ∙ made.or_is c.in-Or.left c.in-Or.right) (rw c.deref-in-Or.ensures at c.in_ok-size-in-Or.ensures) (rw c.deref-in-Or-2.ensures at c.in_ok-expression-in-Or.ensures) c.in_ok-test-in-Or.ensures (rw c.constant.ensures at c.in_ok-put-in-Or.ensures) c.in_ok-skip-in-Or.ensures (rw c.deref-in-Or-3.ensures at c.in_ok-expression-in-Or-2.ensures) c.in_ok-choose-in-Or.ensures
 
-pub node-returns-in_ok-expression-in-Conditional-3 : goal.node-returns-in_ok-expression-in-Conditional-3
-node-returns-in_ok-expression-in-Conditional-3 t c =
+pub branch-returns-in_ok-expression-in-Conditional-3 : goal.branch-returns-in_ok-expression-in-Conditional-3
+branch-returns-in_ok-expression-in-Conditional-3 t c =
     conditional_is _ _ _ _ _ _ _ _ _ _ _ _ _ _ (ap tree.node c.in-Conditional.is ∙ made.conditional_is c.in-Conditional.condition c.in-Conditional.yes c.in-Conditional.no) (rw c.deref-in-Conditional.ensures at c.in_ok-first-in-Conditional.ensures) (rw c.deref-in-Conditional-2.ensures at c.in_ok-other-in-Conditional.ensures) (rw c.deref-in-Conditional-3.ensures at c.in_ok-expression-in-Conditional.ensures) c.in_ok-test-in-Conditional.ensures (rw c.deref-in-Conditional-4.ensures at c.in_ok-expression-in-Conditional-2.ensures) c.in_ok-skip-in-Conditional.ensures (rw c.deref-in-Conditional-5.ensures at c.in_ok-expression-in-Conditional-3.ensures)
 
-pub node-returns-in_ok-copy_down-in-Comma : goal.node-returns-in_ok-copy_down-in-Comma
-node-returns-in_ok-copy_down-in-Comma t c =
+pub several-returns-in_ok-copy_down-in-Comma : goal.several-returns-in_ok-copy_down-in-Comma
+several-returns-in_ok-copy_down-in-Comma t c =
     comma_is _ _ _ _ _ _ _ _ _ _ (ap tree.node c.in-Comma.is ∙ made.comma_is c.in-Comma.left c.in-Comma.right) c.in_ok-next-in-Comma.ensures (rw c.deref-in-Comma.ensures at c.in_ok-expression-in-Comma.ensures) (rw c.deref-in-Comma-2.ensures at c.in_ok-expression-in-Comma-2.ensures) c.in_ok-copy_down-in-Comma.ensures
 
 pub arguments-loop-arg-preserved : goal.arguments-loop-arg-preserved

@@ -41,7 +41,7 @@ statement-returns-in_ok-statement-in-Some t c =
     if_else_is _ _ _ _ _ _ _ _ _ _ (made.if_some c.in-If.condition c.in-If.then c.in-If.otherwise c.in-Some.other c.args.stmt.now c.in-If.is c.in-Some.is)
     (rw c.deref-in-Some.ensures at c.in_ok-more-in-Some.ensures) (rw c.deref-in-Some-2.ensures at c.in_ok-when-in-Some.ensures) c.in_ok-skip-in-Some.ensures (rw c.deref-in-Some-3.ensures at c.in_ok-statement-in-Some.ensures)
 
-pub statement-returns-in_ok-statements-in-TryExcept : goal.statement-returns-in_ok-statements-in-TryExcept
-statement-returns-in_ok-statements-in-TryExcept t c =
+pub loop_or_try-returns-in_ok-statements-in-TryExcept : goal.loop_or_try-returns-in_ok-statements-in-TryExcept
+loop_or_try-returns-in_ok-statements-in-TryExcept t c =
     except_is _ _ _ _ _ _ _ _ _ _ (ap tree.statement c.in-TryExcept.is ∙ made.try_except_is c.in-TryExcept.body c.in-TryExcept.filter c.in-TryExcept.handler)
     (rw c.deref-in-TryExcept.ensures.value at c.in_ok-block-in-TryExcept.ensures) c.in_ok-inner-in-TryExcept.ensures (rw c.deref-in-TryExcept-2.ensures.value at c.in_ok-tried-in-TryExcept.ensures) (rw c.deref-in-TryExcept-3.ensures.value at c.in_ok-statements-in-TryExcept.ensures)

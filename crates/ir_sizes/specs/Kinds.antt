@@ -1,0 +1,46 @@
+-- Kinds of nodes and of statements, as the standard groups them.
+use Rattle.std.specs.Prelude.{Bool, true, false}
+use Rattle.c_checked.specs.Expression as nodes
+use Rattle.c_checked.specs.Expression.{Node}
+use Rattle.c_checked.specs.Statement.{Statement, For, DoWhile, TryExcept, TryFinally}
+
+-- ---- nodes
+
+-- `=`, also with an operator (C11, 6.5.16)
+abbrev pub is_assignment : Node → Bool
+is_assignment (nodes.Assign p e) = true
+is_assignment (nodes.CompoundAssign p before o e after) = true
+is_assignment n = false
+
+-- `&&`, `||` and `? :`, which may leave an operand out (C11, 6.5.13 to 6.5.15), and assignments
+abbrev pub is_branch_or_assignment : Node → Bool
+is_branch_or_assignment (nodes.And e f) = true
+is_branch_or_assignment (nodes.Or e f) = true
+is_branch_or_assignment (nodes.Conditional c e f) = true
+is_branch_or_assignment n = is_assignment n
+
+-- with several operands
+abbrev pub has_several : Node → Bool
+has_several (nodes.Binary o e f) = true
+has_several (nodes.PointerDifference n e f) = true
+has_several (nodes.Comma e f) = true
+has_several n = is_branch_or_assignment n
+
+-- ---- statements
+
+-- a `__try` (Microsoft C reference, "try-except statement", "try-finally statement")
+abbrev pub is_try : Statement → Bool
+is_try (TryExcept body filter block) = true
+is_try (TryFinally body k last) = true
+is_try s = false
+
+-- a loop (C11, 6.8.5)
+abbrev pub is_loop : Statement → Bool
+is_loop (For ds first c next s) = true
+is_loop (DoWhile s c) = true
+is_loop s = false
+
+abbrev pub is_loop_or_try : Statement → Bool
+is_loop_or_try (For ds first c next s) = true
+is_loop_or_try (DoWhile s c) = true
+is_loop_or_try s = is_try s
