@@ -2,16 +2,12 @@
 #![tactic(auto)]
 
 #[cfg(test)]
-mod caller_rows;
-#[cfg(test)]
-mod callers;
-#[cfg(test)]
 mod headers;
-#[cfg(test)]
-mod table_image;
 #[cfg(test)]
 mod tables;
 #[cfg(test)]
 mod views;
 #[cfg(test)]
 mod written_images;
+#[cfg(test)]
+mod written_tables;

@@ -1,9 +1,9 @@
-use crate::table_image::{ENTRY, table_image};
 use pe_image::ImageView;
 use seh_io::plain::VecSink;
 use seh_io::planned::{MemSink, Plan};
 use std::test::Fail;
 use table_view::view;
+use test_images::tables::{ENTRY, table_image};
 
 /// An entry with the info of the first bytes of a prologue `push rbx; sub rsp, 32`.
 const INFO: [u8; 8] = [1, 5, 2, 0, 5, 0x32, 1, 0x30];

@@ -13,13 +13,13 @@
 //! NOTE is for the reader. All are distances from the callee's RSP, in hexadecimal. Each word of the
 //! stack is its own address, so that a value tells where it was read.
 
-use crate::table_image::table_image;
 use eh_tables::Tables;
 use pe_image::ImageView;
 use seh_num::width::Width;
 use std::alloc::{AllocError, Global};
 use std::process::Abort;
 use std::test::Fail;
+use test_images::tables::table_image;
 use virtual_unwind::frame::Caller;
 use virtual_unwind::unwinding::caller;
 use x64_machine::context::Context;

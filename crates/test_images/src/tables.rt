@@ -1,4 +1,4 @@
-//! Images that have a function table.
+//! Images of two sections, unwind infos and a function table, whose bytes are given.
 
 use std::alloc::{AllocError, Global};
 
