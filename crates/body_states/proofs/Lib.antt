@@ -3,3 +3,5 @@ pub mod Moved
 pub mod Waiting
 pub mod Resumed
 pub mod Inside
+pub mod Found
+pub mod Flowing
