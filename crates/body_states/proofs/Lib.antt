@@ -1,3 +1,4 @@
+pub mod StackWalks
 pub mod QuietTurns
 pub mod Moved
 pub mod Waiting
