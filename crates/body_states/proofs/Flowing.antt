@@ -1,6 +1,6 @@
 -- Code that flows, in a routine whose return address is found by the walk, keeps the shadow at each of its turns.
-use Rattle.std.proofs.Common.{◌≡◌, ℕ, zero, suc, ◌+◌, ◌^◌, ◌<◌, ◌≤◌, true, false, Some, Ok, List, [], ◌∷◌, ◌++◌, inl, inr, length, get_or, refl, sym, ap, subst, ◌∙◌, arith}
-use Rattle.std.specs.Prelude.{◌⊎◌, slice_set}
+use Rattle.std.proofs.Common.{◌≡◌, ℕ, zero, suc, ◌+◌, ◌^◌, ◌<◌, false, Ok, List, ◌∷◌, ◌++◌, inl, inr, length, get_or, refl, sym, ap, subst, ◌∙◌, arith}
+use Rattle.std.specs.Prelude.{slice_set}
 use Rattle.flat_memory.specs.Memory.{Memory, executable}
 use Rattle.x64_instr.specs.declared.register.Reg.TheVariants.{Rsp}
 use Rattle.x64_instr.specs.declared.instruction.Instr.{Instr}
@@ -8,7 +8,7 @@ use Rattle.x64_instr.specs.declared.instruction.Instr.TheVariants as instrs
 use Rattle.x64_instr.specs.Spelling.{leading}
 use Rattle.x64_machine.specs.declared.context.Context.{Context}
 use Rattle.x64_machine.specs.Contexts.{kept_of, context_of}
-use Rattle.x64_machine.specs.Effect.{State, register, step}
+use Rattle.x64_machine.specs.Effect.{State, register}
 use Rattle.virtual_unwind.specs.CallerOf.{Functions}
 use Rattle.virtual_unwind.specs.Undone.{word}
 use Rattle.host_model.specs.declared.funclet.Funclet.{Funclet}
@@ -18,7 +18,7 @@ use Rattle.x64_templates.specs.Runs.{Reaches, HasCode}
 use Rattle.x64_templates.specs.Keeping.{is_call, Flows, StoresOnce}
 use Rattle.x64_templates.specs.Chains.{AllTurns, IsMidst, IsTurnOf}
 use Rattle.x64_templates.proofs.PlacedCode.{Encodable}
-use Rattle.x64_templates.proofs.Chains.{all_turns, turns_then}
+use Rattle.x64_templates.proofs.Chains.{all_turns}
 use Rattle.linked_stack.specs.PlainWalks.{state}
 use Rattle.linked_stack.specs.ImagePlan.{Plan}
 use Rattle.whole_runs.specs.Shadow as shadows
@@ -36,14 +36,6 @@ no_call i e = refl
 pub all_keep : (t : Functions) (fs : List Funclet) (n : ℕ) (s : State) → AllTurns (KeepsShadow t fs) n s → AllKeep t fs n s
 all_keep t fs zero s h = tt
 all_keep t fs (suc n) s h = λ u e. (let x = h u e in (x.0, all_keep t fs n u x.1))
-
-pub all_turns_keep : (t : Functions) (fs : List Funclet) (n : ℕ) (s : State) → AllKeep t fs n s → AllTurns (KeepsShadow t fs) n s
-all_turns_keep t fs zero s h = tt
-all_turns_keep t fs (suc n) s h = λ u e. (let x = h u e in (x.0, all_turns_keep t fs n u x.1))
-
--- one run after another
-pub keep_then : (t : Functions) (fs : List Funclet) (m n k : ℕ) (s u : State) → k ≡ m + n → Reaches m s u → AllKeep t fs m s → AllKeep t fs n u → AllKeep t fs k s
-keep_then t fs m n k s u e r a b = all_keep t fs k s (turns_then (KeepsShadow t fs) m n k s u e r (all_turns_keep t fs m s a) (all_turns_keep t fs n u b))
 
 -- what a routine's caller goes on with, where the return address is so far above RSP
 abbrev pub caller_by : List ℕ → ℕ → ℕ → Context
