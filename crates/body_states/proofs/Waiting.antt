@@ -1,20 +1,24 @@
 -- A body that runs stands on top of what waits below it, as one that waits.
-use Rattle.std.proofs.Common.{◌≡◌, ℕ, ◌+◌, Bool, true, false, List, [], ◌∷◌, refl, sym, ap, subst, ◌∙◌, arith}
+use Rattle.std.proofs.Common.{◌≡◌, ℕ, ◌+◌, ◌^◌, ◌<◌, ◌≤◌, Bool, true, false, List, [], ◌∷◌, length, Option, Some, None, Ok, refl, sym, ap, subst, ◌∙◌, arith}
+use Rattle.flat_memory.specs.Memory.{Memory}
 use Rattle.x64_instr.specs.declared.register.Reg.TheVariants.{Rsp, Rbx, Rbp, Rsi, Rdi, R12, R13, R14, R15}
+use Rattle.x64_machine.specs.declared.context.Context.{Context}
 use Rattle.x64_machine.specs.Contexts.{context_of}
 use Rattle.x64_machine.specs.Effect.{State, register}
+use Rattle.virtual_unwind.specs.Contexts.{rsp}
 use Rattle.virtual_unwind.specs.CallerOf.{Functions}
 use Rattle.virtual_unwind.specs.Undone.{word}
 use Rattle.host_model.specs.declared.funclet.Funclet.{Funclet}
+use Rattle.template_code.specs.declared.layout.Layout.{Layout}
 use Rattle.linear_code.specs.Program.{LinearProgram, LinearBody}
-use Rattle.linear_machine.specs.Frames.{BodyName, FunctionBody, FuncletBody, Waits, Configuration}
+use Rattle.linear_machine.specs.Frames.{BodyName, FunctionBody, FuncletBody, body_of, Waits, Configuration}
 use Rattle.linear_machine.specs.Regions.{regions_of}
 use Rattle.linked_stack.specs.Stack.{StackItem, Framed, Leaf}
 use Rattle.linked_stack.specs.WalkLaws.{context_below}
 use Rattle.linked_stack.specs.ImagePlan.{Plan, IsGiven}
-use Rattle.linked_stack.specs.Linked.{Activation, activations_below, BodyWaits}
+use Rattle.linked_stack.specs.Linked.{Activation, activations_below, home_end, BodyWaits}
 use Rattle.linked_stack.proofs.Ends.{in_stack}
-use Rattle.linked_stack.specs.Records.{On}
+use Rattle.linked_stack.specs.Records.{IsData, On}
 use Rattle.body_states.specs.Sites.{Sites}
 use Rattle.body_states.specs.Layouts.{IsLayoutIf, IsLeafLayout, IsLaidOut}
 use Rattle.body_states.specs.Programs.{HasProgram, IsResumed, IsProgramImage, frame_with}
