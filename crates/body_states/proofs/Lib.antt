@@ -6,3 +6,4 @@ pub mod Resumed
 pub mod Inside
 pub mod Found
 pub mod Flowing
+pub mod Pieces
