@@ -50,7 +50,7 @@ module _ (t : Functions) (fs : List Funclet) (program : LinearProgram) (p : Plan
 
   module _ (goes : IsReturn i → ⊥) (before code after : List Instr) (parts : code_of ≡ before ++ (code ++ after)) where
     -- a walk finds the return address at each of its instructions
-    piece_finds : (m : Memory) (a : ℕ) (done left : List Instr) (item : Instr) → a ≡ p.address name label + sizes before → HasProgram t fs program p q m → code ≡ done ++ (item ∷ left) → FindsReturn t m (a + sizes done) (p.layout name).frame
+    pub piece_finds : (m : Memory) (a : ℕ) (done left : List Instr) (item : Instr) → a ≡ p.address name label + sizes before → HasProgram t fs program p q m → code ≡ done ++ (item ∷ left) → FindsReturn t m (a + sizes done) (p.layout name).frame
     piece_finds m a done left item e has split = resumed_finds t fs program p q image m name b label there has (a + sizes done) (record {
       instruction = i;
       there = at;
@@ -62,7 +62,8 @@ module _ (t : Functions) (fs : List Funclet) (program : LinearProgram) (p : Plan
       here = omega (arith, sizes_append before done);
     })
 
-    piece_there : (m : Memory) → HasProgram t fs program p q m → HasCode m (p.address name label + sizes before) code
+    -- and its code stands there
+    pub piece_there : (m : Memory) → HasProgram t fs program p q m → HasCode m (p.address name label + sizes before) code
     piece_there m has =
         let all = subst (HasCode m (p.address name label)) parts (template_there m has) in
         (code_split m (p.address name label + sizes before) code after (code_split m (p.address name label) before (code ++ after) all).1).0
