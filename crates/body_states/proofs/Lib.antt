@@ -4,3 +4,5 @@ pub mod Moved
 pub mod Waiting
 pub mod Resumed
 pub mod Inside
+pub mod Found
+pub mod Flowing

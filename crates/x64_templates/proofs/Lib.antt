@@ -1,6 +1,8 @@
+pub mod Keeping
 pub mod Leaves
 pub mod Registers
 pub mod PlacedCode
+pub mod Chains
 pub mod Straight
 pub mod Compares
 pub mod Pures
