@@ -1,4 +1,5 @@
 pub mod StackWalks
+pub mod UnwoundWalks
 pub mod QuietTurns
 pub mod Moved
 pub mod Waiting

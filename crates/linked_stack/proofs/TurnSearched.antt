@@ -97,6 +97,7 @@ module _ (t : Functions) (fs : List Funclet) (program : LinearProgram) (p : Plan
               before = a.before;
               near = h.near;
             }));
+        named = a.named new.cpu;
         hand = hand;
         same_saved = refl;
         list = refl;

@@ -89,6 +89,7 @@ module _ (t : Functions) (fs : List Funclet) (program : LinearProgram) (p : Plan
               space = subst (λ n. HasSpace at (below_end + record_room) n) (sym a.counted) h.space;
             }));
         untouched = laid_record_leaves_others s.memory at hand finally_return above h.on.data_alone room (in_stack t fs program p s.memory r.walk is w.items w.acts h.on.stands.stack h.on.stands.linked) (omega arith);
+        named = a.named new.cpu ∙ ap (λ v. events.Finally (a.block + 1) (not (low W32 v == 0)) ∷ []) first;
         to = a.to;
         row = a.row;
         inner = a.is;
@@ -155,6 +156,7 @@ module _ (t : Functions) (fs : List Funclet) (program : LinearProgram) (p : Plan
         is = a.is;
         outer = a.acts;
         answer = e ∙ a.answer;
+        quiet = a.quiet;
         turns =
             ap turn_of a.answer
             ∙ ap (arrived t fs) (by_code a.to w.target.code h.purpose)

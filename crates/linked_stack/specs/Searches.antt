@@ -5,11 +5,11 @@ use Rattle.seh_num.specs.declared.end.RunEnd.TheVariants as ends
 use Rattle.x64_instr.specs.declared.register.Reg.TheVariants.{Rcx, Rsp}
 use Rattle.x64_machine.specs.declared.context.Context.{Context}
 use Rattle.x64_machine.specs.Effect.{State, register}
-use Rattle.virtual_unwind.specs.CallerOf.{Functions}
+use Rattle.virtual_unwind.specs.CallerOf.{Functions, distance}
 use Rattle.seh_records.specs.declared.dispatch.DispatchRecord.{DispatchRecord}
 use Rattle.host_model.specs.declared.funclet.Funclet.{Funclet}
 use Rattle.host_model.specs.Turns.{Turn, Continues, Ends}
-use Rattle.host_model.specs.Funclets.{arrived}
+use Rattle.host_model.specs.Funclets.{arrivals, arrived}
 use Rattle.host_model.specs.Dispatch.{accepted}
 use Rattle.c_model.specs.declared.ended.Ended.TheVariants.{Unhandled}
 use Rattle.c_model.specs.State.{Exception}
@@ -34,6 +34,7 @@ module _ (t : Functions) (fs : List Funclet) (program : LinearProgram) (p : Plan
     pub turns : turn ≡ Continues state (events.Filter (filter + 1) ∷ [])
     pub goes : (next : Next) → linear.search program next found exception resumption c ≡ deeper 2 c.frame.held c.store c.events (next (begin_filter filter handler rest exception resumption c))
     pub arrives : Arrives t fs program p state filter handler.activation ((at + 80) % 2 ^ 64) (Searches exception resumption handler rest ∷ Waits c.frame ∷ c.below) acts
+    pub named : arrivals state.cpu (distance t.base state.cpu.rip) 1 fs ≡ events.Filter (filter + 1) ∷ []
     pub hand : DispatchRecord
     pub same_saved : hand.saved ≡ r.saved
     pub list : arrives.is ≡ Searching hand ∷ is

@@ -4,16 +4,18 @@ use Rattle.seh_num.specs.declared.event.Event.{Event}
 use Rattle.seh_num.specs.declared.event.Event.TheVariants as events
 use Rattle.flat_memory.specs.Memory.{Memory}
 use Rattle.x64_machine.specs.declared.context.Context.{Context}
+use Rattle.x64_machine.specs.declared.cpu.Cpu.{Cpu}
 use Rattle.x64_instr.specs.declared.register.Reg.TheVariants.{Rdx}
 use Rattle.x64_machine.specs.Effect.{State, register}
 use Rattle.virtual_unwind.specs.Contexts.{rsp}
-use Rattle.virtual_unwind.specs.CallerOf.{Functions}
+use Rattle.virtual_unwind.specs.CallerOf.{Functions, distance}
 use Rattle.seh_records.specs.declared.dispatch.DispatchRecord.{DispatchRecord}
 use Rattle.seh_walk.specs.Walk.{walk_in, steps}
 use Rattle.seh_unwind.specs.declared.unwind_result.UnwindResult.TheVariants as results
 use Rattle.seh_unwind.specs.Unwind.{unwind}
 use Rattle.host_model.specs.declared.funclet.Funclet.{Funclet}
 use Rattle.host_model.specs.Turns.{Turn, Continues}
+use Rattle.host_model.specs.Funclets.{arrivals}
 use Rattle.host_model.specs.Dispatch.{at_landing}
 use Rattle.linear_code.specs.declared.program.Region.{Region}
 use Rattle.linear_code.specs.Program.{LinearProgram}
@@ -63,6 +65,7 @@ module _ (t : Functions) (fs : List Funclet) (program : LinearProgram) (p : Plan
         ≡ run_finally program block true held (Unwinds rest (record w.target { held = held }) ∷ Waits body ∷ below) next (on_top body below w.source outer w.shown)
     pub arrives : Arrives t fs program p state block body.activation 1 (Unwinds rest (record w.target { held = held }) ∷ Waits body ∷ below) outer
     pub untouched : IsUntouched s.memory state.memory
+    pub named : arrivals state.cpu (distance t.base state.cpu.rip) 1 fs ≡ events.Finally (block + 1) true ∷ []
     pub to : Context
     pub row : ℕ
     pub inner : List StackItem
@@ -84,6 +87,7 @@ module _ (t : Functions) (fs : List Funclet) (program : LinearProgram) (p : Plan
     pub is : List StackItem
     pub outer : List Activation
     pub answer : unwind steps t s.memory r.target_frame r.target (walk_in r) ≡ results.Land to
+    pub quiet : (cpu : Cpu) → arrivals cpu (distance t.base r.target) 1 fs ≡ []
     pub turns : turn ≡ Continues (at_landing s to (landing_value w.target.code) r.target) (landing_events w.target.code)
     pub goes :
         (next : Next) → linear.unwind program next w.target w.items w.left w.shown (store_of w.source w.acts)
