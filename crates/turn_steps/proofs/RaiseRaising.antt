@@ -8,6 +8,9 @@ use Rattle.seh_num.specs.declared.width.Width.TheVariants.{W32}
 use Rattle.seh_num.specs.declared.event.Code.{Code}
 use Rattle.seh_num.specs.Widths.{low}
 use Rattle.x64_instr.specs.declared.register.Reg.TheVariants.{Rcx, Rdx}
+use Rattle.host_layout.specs.declared.service.Service.TheVariants as services
+use Rattle.host_layout.specs.Services.{address_of}
+use Rattle.x64_machine.specs.Contexts.{context_of}
 use Rattle.x64_machine.specs.Effect.{State, register}
 use Rattle.virtual_unwind.specs.CallerOf.{Functions}
 use Rattle.host_model.specs.declared.funclet.Funclet.{Funclet}
@@ -127,6 +130,7 @@ module _ (t : Functions) (fs : List Funclet) (program : LinearProgram) (p : Plan
         let high = asking.high_enough t fs program p q image made s c b known RaiseException first at in
         let low = asking.low_enough t fs program p q image made s c b known RaiseException first at in
         let sane = asking.sane t fs program p q image made s c b known RaiseException first at in
+        let there = asking.sp_there t fs program p q image made s c b known RaiseException first at in
         let walk =
         service_walk t fs program p q image state (address_of services.RaiseException) back asks.is refl (omega arith) (omega arith) (λ e. absurd (omega arith)) (λ e. absurd (omega arith))
         (asking.returns t fs program p q image made s c b known RaiseException first at) sane.count (omega arith) asks.asks.on.stands.stack in

@@ -322,6 +322,7 @@ module _ (t : Functions) (fs : List Funclet) (program : LinearProgram) (p : Plan
         let n1 = n.1 in
         let h = high_enough in
         let l = low_enough in
+        let there = pushing.sp_there given sp back low_enough high_enough b.memory.data_alone b.memory.stack service s.cpu.flags back_small many in
         let walk =
         service_walk t fs program p q image state service back asks.is refl (omega arith) (omega arith) (λ e. absurd (omega arith)) (λ e. absurd (omega arith)) returns sane.count (omega arith) asks.asks.on.stands.stack in
         let shown = unwound_to t fs program p q image fits state saved asks.is b.body.acts c asks.asks memory b.body.store sp target label (omega arith) (omega arith) aimed rule clear in
