@@ -7,3 +7,4 @@ pub mod Resumed
 pub mod Inside
 pub mod Found
 pub mod Flowing
+pub mod Pieces

@@ -160,16 +160,6 @@ module _ (Turn : State → State → Type 0) (code : List Instr) (s w : State) (
 
 -- ---- runs one after another
 
-module _ (Turn : State → State → Type 0) where
-  pub turns_then : (m n k : ℕ) (s t : State) → k ≡ m + n → Reaches m s t → AllTurns Turn m s → AllTurns Turn n t → AllTurns Turn k s
-  turns_then zero n k s t e r a b =
-      let z : n ≡ k = omega arith in
-      subst (λ (x : State). AllTurns Turn k x) (sym r) (subst (λ j. AllTurns Turn j t) z b)
-  turns_then (suc m) n zero s t e r a b = absurd (omega arith)
-  turns_then (suc m) n (suc k) s t e r a b =
-      let f = a r.0 r.1.steps.steps in
-      turns_first Turn k s r.0 r.1.steps.steps f.0 (turns_then m n k r.0 t (omega arith) r.2 f.1 b)
-
 -- the rest of a run, past where its begin leads
 pub rest_of : (m n k : ℕ) (s t w : State) → k ≡ m + n → Reaches m s t → Reaches k s w → Reaches n t w
 rest_of zero n k s t w e a r =

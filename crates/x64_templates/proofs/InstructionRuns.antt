@@ -100,7 +100,7 @@ instruction_run p k (instructions.Return from) v here f b room has near at h cod
 
 -- ---- inside a body
 
-body_most : (y : Layout) (body : List Instruction) (number : ℕ) → offset_of y body number ≤ body_size y body
+pub body_most : (y : Layout) (body : List Instruction) (number : ℕ) → offset_of y body number ≤ body_size y body
 body_most y [] zero = omega arith
 body_most y [] (suc number) = omega arith
 body_most y (instruction ∷ more) zero = omega arith
@@ -110,7 +110,8 @@ body_most y (instruction ∷ more) (suc number) = let r = body_most y more numbe
 inside : (start n a b : ℕ) → start + n < 2 ^ 48 → n < 2 ^ 31 → a ≤ n → b ≤ n → IsNear (start + a) (start + b)
 inside start n a b high small la lb = (omega arith, omega arith, omega arith, omega arith)
 
-labels_near : (k : Links) (y : Layout) (start : ℕ) (body : List Instruction) (number : ℕ) (instruction : Instruction) → IsBody k y start body → start + body_size y body < 2 ^ 48 → body_size y body < 2 ^ 31 → offset_of y body number + template_size y instruction ≤ body_size y body → LabelsNear k y (start + offset_of y body number) instruction
+-- those of an instruction in a body are
+pub labels_near : (k : Links) (y : Layout) (start : ℕ) (body : List Instruction) (number : ℕ) (instruction : Instruction) → IsBody k y start body → start + body_size y body < 2 ^ 48 → body_size y body < 2 ^ 31 → offset_of y body number + template_size y instruction ≤ body_size y body → LabelsNear k y (start + offset_of y body number) instruction
 labels_near k y start body number (instructions.Jump label) is high small le =
     let near = inside start (body_size y body) (offset_of y body number + template_size y (instructions.Jump label)) (offset_of y body label) high small le (body_most y body label) in
     let z : start + (offset_of y body number + template_size y (instructions.Jump label)) ≡ start + offset_of y body number + template_size y (instructions.Jump label) = omega arith in

@@ -23,6 +23,7 @@ pub mod Unwinds
 pub mod Parameters
 pub mod Funclets
 pub mod Information
+pub mod Flows
 pub mod Entering
 pub mod Stretches
 pub mod Retries
