@@ -1,3 +1,4 @@
+pub mod Effects
 pub mod QuietTurns
 pub mod Moved
 pub mod Waiting

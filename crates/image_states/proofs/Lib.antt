@@ -4,6 +4,7 @@ pub mod Addresses
 pub mod Slots
 pub mod Entering
 pub mod Framed
+pub mod Callers
 pub mod Inserting
 pub mod Funclets
 pub mod Giving
