@@ -1,3 +1,4 @@
+pub mod Shadows
 pub mod Turns
 pub mod Steps
 pub mod Matches

@@ -1,3 +1,5 @@
+pub mod Walked
+pub mod Shadow
 pub mod Comes
 pub mod Ends
 pub mod Matched
