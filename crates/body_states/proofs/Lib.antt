@@ -1,6 +1,6 @@
 pub mod StackWalks
 pub mod Effects
-pub mod QuietTurns
+pub mod Beneath
 pub mod QuietTurns
 pub mod Moved
 pub mod Waiting

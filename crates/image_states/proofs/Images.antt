@@ -23,7 +23,7 @@ use Rattle.image_states.proofs.Framed.{frames_stand, leaves_stand', allocation}
 use Rattle.image_states.proofs.Funclets.{funclets_begin}
 use Rattle.image_states.proofs.Giving.{gives}
 use Rattle.image_states.proofs.Resuming.{resumptions}
-use Rattle.image_states.proofs.Callers.{callers, callers_outside}
+use Rattle.image_states.proofs.Found.{callers, callers_outside}
 
 module _ (program : LinearProgram) (c : IsCompiled program) (name : BodyName) (b : LinearBody) (is : body_of program name ≡ Some b) where
   abbrev x : Placed

@@ -1,0 +1,147 @@
+-- Code that runs below its routine's return address, and what a walk gives there.
+use Rattle.std.proofs.Common.{◌≡◌, ℕ, zero, suc, ◌+◌, ◌-◌, ◌%◌, ◌^◌, ◌<◌, ◌≤◌, Bool, true, false, List, [], ◌∷◌, ◌++◌, length, Option, Some, None, Ok, refl, sym, ap, subst, ◌∙◌, arith, inl, inr}
+use Rattle.std.specs.Prelude.{◌⊎◌, slice_set}
+use Rattle.std.proofs.lemmas.Bool.{le-leb, le-ltb, cases_lt}
+use Rattle.host_layout.specs.Services.{in_host_page}
+use Rattle.flat_memory.specs.declared.protection.Protection.{Protection}
+use Rattle.flat_memory.specs.Protections.{is_readable, is_writable}
+use Rattle.flat_memory.specs.Memory.{Memory, executable, may_read, may_write, first_refused, number_at, with_bytes, access}
+use Rattle.x64_instr.specs.declared.register.Reg.{Reg}
+use Rattle.x64_instr.specs.declared.register.Reg.TheVariants.{Rax, Rsp}
+use Rattle.x64_instr.specs.declared.operand.RegisterOrMemory.TheVariants as places
+use Rattle.x64_instr.specs.declared.operand.Operand.TheVariants as operands
+use Rattle.x64_instr.specs.declared.instruction.Instr.{Instr}
+use Rattle.x64_instr.specs.declared.instruction.Instr.TheVariants as instrs
+use Rattle.x64_instr.specs.Spelling.{leading}
+use Rattle.x64_encode.specs.Chosen.{chosen, is_encodable}
+use Rattle.x64_encode.proofs.Lengths.{longest}
+use Rattle.x64_machine.specs.declared.context.Context.{Context}
+use Rattle.x64_machine.specs.Contexts.{context_of}
+use Rattle.x64_machine.specs.Effect.{State, register, with_rip, is_trap, effect, step}
+use Rattle.virtual_unwind.specs.Contexts.{rsp}
+use Rattle.virtual_unwind.specs.CallerOf.{Functions}
+use Rattle.virtual_unwind.specs.Undone.{word, readable}
+use Rattle.host_model.specs.declared.funclet.Funclet.{Funclet}
+use Rattle.linear_code.specs.Program.{LinearProgram}
+use Rattle.template_code.specs.Bytes.{spelled, size, sizes}
+use Rattle.x64_templates.specs.Placed.{IsPlaced}
+use Rattle.x64_templates.specs.Runs.{Steps, Reaches, HasCode}
+use Rattle.x64_templates.proofs.PlacedCode.{same_number, bytes_kept, bytes_split, spells, reads}
+use Rattle.linked_stack.specs.Stack.{StackItem, IsStack, Owned, Agree}
+use Rattle.linked_stack.specs.WalkLaws.{context_below}
+use Rattle.linked_stack.specs.PlainWalks.{state}
+use Rattle.linked_stack.proofs.WalkKeeping.{kept_by_other_stores, nothing_below_is_owned}
+use Rattle.linked_stack.specs.ImagePlan.{Plan}
+use Rattle.whole_runs.specs.Shadow.{is_call, calls, caller_at, GivesCallers, WalkGives, KeepsShadow, AllKeep}
+use Rattle.whole_runs.proofs.Shadows.{past_frame, HeadAbove, straight, call_keeps, return_keeps, keep_first}
+use Rattle.body_states.specs.Sites.{Sites}
+use Rattle.body_states.specs.Callers.{caller_above, HasCaller, FindsReturn}
+use Rattle.body_states.proofs.StackWalks.{callers, on_stack, stack_rises}
+use Rattle.body_states.proofs.Effects.{others_of, is_idle, idle_leaves, above_rsp, store_leaves}
+
+-- ---- the instruction at RIP is run
+
+outside_page : (a : ℕ) → 0x100000000 ≤ a → in_host_page a ≡ false
+outside_page a h = rw (le-leb 0x7FF00000 a (omega arith), le-ltb a 0x7FF01000 (omega arith)) refl
+
+module _ (s u : State) (i : Instr) (more : List Instr) (enc : is_encodable i ≡ true) (code : HasCode s.memory s.cpu.rip (i ∷ more)) where
+  pub read_here : leading (executable s.memory 15 s.cpu.rip) ≡ Some (i, length (chosen i))
+  unfolding size
+  read_here =
+      let l = code.placed.low in
+      let h = code.placed.high in
+      reads s i (chosen i) (spells i enc) (longest i) (bytes_split s.memory s.cpu.rip (chosen i) (spelled more) code.stands).0 (record { low = l; high = omega arith })
+
+  pub effect_here : is_trap i ≡ false → step s ≡ Ok u → effect (with_rip s (s.cpu.rip + size i)) i ≡ Ok u
+  unfolding step size
+  effect_here trap e =
+      let l = code.placed.low in
+      let h = code.placed.high in
+      let next : (s.cpu.rip + length (chosen i)) % 2 ^ 64 ≡ s.cpu.rip + length (chosen i) = omega arith in
+      let stepped : step s ≡ effect (with_rip s (s.cpu.rip + length (chosen i))) i = rw (outside_page s.cpu.rip l, read_here, trap, next) refl in
+      sym stepped ∙ e
+
+  -- what follows it is still there
+  pub code_next : Steps s u → u.cpu.rip ≡ s.cpu.rip + size i → HasCode u.memory u.cpu.rip more
+  unfolding size
+  code_next st at =
+      let l = code.placed.low in
+      let h = code.placed.high in
+      let next = s.cpu.rip + length (chosen i) in
+      subst (λ a. HasCode u.memory a more) (sym at)
+      (record { stands = bytes_kept s.memory u.memory next (spelled more) st.fixed st.protection (bytes_split s.memory s.cpu.rip (chosen i) (spelled more) code.stands).1; placed = record { low = omega arith; high = omega arith } })
+
+-- ---- words
+
+-- a word that is read has its number
+pub word_number : (m : Memory) (at v : ℕ) → word m at ≡ Ok v → number_at m.byte 8 at ≡ v
+word_number m at v e = by (first_refused (may_read m) 8 at) e
+  where
+    by : (o : Option ℕ) → readable at (access false o (number_at m.byte 8 at)) ≡ Ok v → number_at m.byte 8 at ≡ v
+    by None is = cc
+    by (Some a) is = absurd cc
+
+-- and is read again in bytes that are the same
+pub word_stays : (m m' : Memory) (at v : ℕ) → at + 8 < 2 ^ 64 → m'.protection ≡ m.protection → ((a : ℕ) → at ≤ a → a < at + 8 → m'.byte a ≡ m.byte a) → word m at ≡ Ok v → word m' at ≡ Ok v
+word_stays m m' at v lt same bytes e =
+    let n : number_at m'.byte 8 at ≡ number_at m.byte 8 at = same_number m'.byte m.byte 8 at lt bytes in
+    ap (λ (f : ℕ → Protection). readable at (access false (first_refused (λ a. is_readable (f a).rights) 8 at) (number_at m'.byte 8 at))) same
+    ∙ ap (λ x. readable at (access false (first_refused (may_read m) 8 at) x)) n
+    ∙ e
+
+-- ---- below a return address
+
+module _ (t : Functions) where
+  -- RSP and a routine's return address aren't above `top`; from there on the list stands for these nonvolatile registers, and no byte below `from` is owned by it
+  pub record Beneath (s : State) (top from back : ℕ) (others : List ℕ) (is : List StackItem) : Type 0 where
+    pub others_are : others_of s.cpu.registers ≡ others
+    pub count : length s.cpu.registers ≡ 16
+    pub returns : word s.memory top ≡ Ok back
+    pub list : IsStack t s.memory (context_below back (top + 8) others) is
+    pub owned : (a : ℕ) → Owned (context_below back (top + 8) others) is a → from ≤ a
+    pub high : top + 8 < 2 ^ 63
+    pub no_code : (a : ℕ) → may_write s.memory a ≡ true → (s.memory.protection a).execute ≡ false
+
+  -- bytes that a step leaves
+  abbrev pub Stays : State → State → ℕ → ℕ → Type 0
+  Stays s u top from = (a : ℕ) → ((top ≤ a) × (a < top + 8)) ⊎ (from ≤ a) → u.memory.byte a ≡ s.memory.byte a
+
+  fixed_code : (m : Memory) (a : ℕ) (b : Bool) → may_write m a ≡ b → ((a : ℕ) → may_write m a ≡ true → (m.protection a).execute ≡ false) → (m.protection a).execute ≡ true → may_write m a ≡ false
+  fixed_code m a true w alone e = let z : true ≡ false = sym e ∙ alone a w in absurd cc
+  fixed_code m a false w alone e = w
+
+  pub beneath_stays : (s u : State) (top from back : ℕ) (others : List ℕ) (is : List StackItem) → Steps s u → others_of u.cpu.registers ≡ others_of s.cpu.registers → Stays s u top from
+      → Beneath s top from back others is → Beneath u top from back others is
+  beneath_stays s u top from back others is st same stays b =
+      let high = b.high in
+      let m : Memory = with_bytes s.memory u.memory.byte in
+      let is_m : m ≡ u.memory = ap (λ (f : ℕ → Protection). let x : Memory = record { protection = f; byte = u.memory.byte } in x) (sym st.protection) in
+      let agree : Agree s.memory u.memory.byte (Owned (context_below back (top + 8) others) is) = record {
+        code = λ a e. st.fixed a (fixed_code s.memory a (may_write s.memory a) refl b.no_code e);
+        owned = λ a o. stays a (inr (b.owned a o));
+      } in
+      record {
+        others_are = same ∙ b.others_are;
+        count = st.count ∙ b.count;
+        returns = word_stays s.memory u.memory top back (omega arith) st.protection (λ a l h. stays a (inl (l, h))) b.returns;
+        list = subst (λ (x : Memory). IsStack t x (context_below back (top + 8) others) is) is_m (kept_by_other_stores t s.memory u.memory.byte (context_below back (top + 8) others) is agree b.list);
+        owned = b.owned;
+        high = b.high;
+        no_code = λ a w. ap (λ (f : ℕ → Protection). (f a).execute) st.protection ∙ b.no_code a (ap (λ (f : ℕ → Protection). is_writable (f a).rights) (sym st.protection) ∙ w);
+      }
+
+  -- the callers there
+  abbrev pub callers_above : (top back : ℕ) → List ℕ → List StackItem → List Context
+  callers_above top back others is = context_below back (top + 8) others ∷ callers (context_below back (top + 8) others) is
+
+  -- a walk gives them, where it finds the return address
+  pub gives_above : (s : State) (top from back : ℕ) (others : List ℕ) (is : List StackItem) (d : ℕ) → Beneath s top from back others is → FindsReturn t s.memory s.cpu.rip d → register s.cpu Rsp + d ≡ top → WalkGives t s (callers_above top back others is)
+  gives_above s top from back others is d b finds at =
+      let high = b.high in
+      let c = context_of s.cpu in
+      let above = context_below back (top + 8) others in
+      let h = finds c back refl refl (let z : rsp c + d + 8 < 2 ^ 64 = omega arith in z) (ap (word s.memory) at ∙ b.returns) in
+      let same : caller_above c d back ≡ above = λ i. context_below back (at i + 8) (b.others_are i) in
+      let k = subst (HasCaller t s.memory c) same h in
+      subst (λ x. GivesCallers t s.memory (state c 0) (x ∷ callers above is)) k.context
+      (past_frame t s.memory (state c 0) k.frame (state above 0) (callers above is) k.visits (on_stack t s.memory above 0 is b.list))
