@@ -1,6 +1,6 @@
 -- Code that runs below its routine's return address, and what a walk gives there.
 use Rattle.std.proofs.Common.{◌≡◌, ℕ, zero, suc, ◌+◌, ◌-◌, ◌%◌, ◌^◌, ◌<◌, ◌≤◌, Bool, true, false, List, [], ◌∷◌, ◌++◌, length, Option, Some, None, Ok, refl, sym, ap, subst, ◌∙◌, arith, inl, inr}
-use Rattle.std.specs.Prelude.{◌⊎◌, slice_set}
+use Rattle.std.specs.Prelude.{◌⊎◌, slice_index, slice_set}
 use Rattle.std.proofs.lemmas.Bool.{le-leb, le-ltb, cases_lt}
 use Rattle.host_layout.specs.Services.{in_host_page}
 use Rattle.flat_memory.specs.declared.protection.Protection.{Protection}
@@ -24,6 +24,7 @@ use Rattle.virtual_unwind.specs.Undone.{word, readable}
 use Rattle.host_model.specs.declared.funclet.Funclet.{Funclet}
 use Rattle.linear_code.specs.Program.{LinearProgram}
 use Rattle.template_code.specs.Bytes.{spelled, size, sizes}
+use Rattle.template_code.specs.Calls.{keep_register}
 use Rattle.x64_templates.specs.Placed.{IsPlaced}
 use Rattle.x64_templates.specs.Runs.{Steps, Reaches, HasCode}
 use Rattle.x64_templates.proofs.PlacedCode.{same_number, bytes_kept, bytes_split, spells, reads}
@@ -35,9 +36,11 @@ use Rattle.linked_stack.specs.ImagePlan.{Plan}
 use Rattle.whole_runs.specs.Shadow.{is_call, calls, caller_at, GivesCallers, WalkGives, KeepsShadow, AllKeep}
 use Rattle.whole_runs.proofs.Shadows.{past_frame, HeadAbove, straight, call_keeps, return_keeps, keep_first}
 use Rattle.body_states.specs.Sites.{Sites}
+use Rattle.body_states.specs.Programs.{HasProgram}
 use Rattle.body_states.specs.Callers.{caller_above, HasCaller, FindsReturn}
 use Rattle.body_states.proofs.StackWalks.{callers, on_stack, stack_rises}
-use Rattle.body_states.proofs.Effects.{others_of, is_idle, idle_leaves, above_rsp, store_leaves}
+use Rattle.body_states.proofs.Effects.{others_of, is_idle, idle_leaves, idle_goes_on, store_leaves}
+use Rattle.body_states.proofs.QuietTurns.{program_kept}
 
 -- ---- the instruction at RIP is run
 
@@ -145,3 +148,100 @@ module _ (t : Functions) where
       let k = subst (HasCaller t s.memory c) same h in
       subst (λ x. GivesCallers t s.memory (state c 0) (x ∷ callers above is)) k.context
       (past_frame t s.memory (state c 0) k.frame (state above 0) (callers above is) k.visits (on_stack t s.memory above 0 is b.list))
+
+-- ---- straight code
+
+-- a register is kept in a routine's own frame, or in the home space above its return address; d: from RSP up to the return address, e: from there up to the end of what it may write
+pub record IsKept (d e : ℕ) (i : Instr) : Type 0 where
+  pub kept : Reg
+  pub offset : ℕ
+  pub is : i ≡ keep_register kept offset
+  pub inside : (offset + 8 ≤ d) ⊎ ((d + 8 ≤ offset) × (offset + 8 ≤ d + e))
+
+-- that, or volatile registers alone are written
+abbrev pub IsPlain : ℕ → ℕ → Instr → Type 0
+IsPlain d e i = (is_encodable i ≡ true) × ((is_idle i ≡ true) ⊎ IsKept d e i)
+
+abbrev pub AllPlain : ℕ → ℕ → List Instr → Type 0
+AllPlain d e [] = Unit {0}
+AllPlain d e (i ∷ is) = IsPlain d e i × AllPlain d e is
+
+plain_goes_on : (d e : ℕ) (i : Instr) → (is_idle i ≡ true) ⊎ IsKept d e i → (is_trap i ≡ false) × (calls i ≡ false)
+plain_goes_on d e i (inl q) = idle_goes_on i q
+plain_goes_on d e i (inr k) = (ap is_trap k.is, ap calls k.is)
+
+module _ (t : Functions) (fs : List Funclet) (program : LinearProgram) (p : Plan) (q : Sites) where
+  module _ (top from back : ℕ) (others : List ℕ) (is : List StackItem) where
+    -- after an instruction that isn't a jump
+    pub record Moved (s u : State) (i : Instr) : Type 0 where
+      pub beneath : Beneath t u top from back others is
+      pub rip : u.cpu.rip ≡ s.cpu.rip + size i
+      pub stack : register u.cpu Rsp ≡ register s.cpu Rsp
+
+    pub plain_step : (s u : State) (d e : ℕ) (i : Instr) (more : List Instr) → IsPlain d e i → HasCode s.memory s.cpu.rip (i ∷ more) → Steps s u → Beneath t s top from back others is → register s.cpu Rsp + d ≡ top → from ≡ top + e → top + e < 2 ^ 63 → Moved s u i
+    plain_step s u d e i more plain code st b at up high =
+        let go = (plain_goes_on d e i plain.1).0 in
+        let effect' = effect_here s u i more plain.0 code go st.steps in
+        by plain.1 effect'
+      where
+        a : State
+        a = with_rip s (s.cpu.rip + size i)
+
+        by : (is_idle i ≡ true) ⊎ IsKept d e i → effect a i ≡ Ok u → Moved s u i
+        by (inl idle) ef =
+            let l = idle_leaves a u i idle ef in
+            record { beneath = beneath_stays t s u top from back others is st l.others (λ x o. ap (λ (m : Memory). m.byte x) l.memory) b; rip = l.rip; stack = l.stack }
+        by (inr k) ef =
+            let sp = register s.cpu Rsp in
+            let inside = k.inside in
+            let l = store_leaves a u k.offset k.kept (elim inside [ inl x ↦ omega arith | inr x ↦ (let z = x.1 in omega arith) ]) (subst (λ j. effect a j ≡ Ok u) k.is ef) in
+            record {
+              beneath = beneath_stays t s u top from back others is st (ap others_of l.registers)
+                  (λ x o. l.beside x (elim inside [
+                    | inl z ↦ inr (elim o [ inl w ↦ (let w0 = w.0 in omega arith) | inr w ↦ omega arith ])
+                    | inr z ↦ (let z0 = z.0 in let z1 = z.1 in elim o [ inl w ↦ (let w1 = w.1 in inl (omega arith)) | inr w ↦ inr (omega arith) ])
+                  ]))
+                  b;
+              rip = l.rip;
+              stack = ap (λ (r : List ℕ). slice_index r 4) l.registers;
+            }
+
+    -- where straight code comes to
+    pub record Ran (s w : State) (code : List Instr) : Type 0 where
+      pub keeps : AllKeep t fs (length code) s
+      pub beneath : Beneath t w top from back others is
+      pub has : HasProgram t fs program p q w.memory
+      pub rip : w.cpu.rip ≡ s.cpu.rip + sizes code
+      pub stack : register w.cpu Rsp ≡ register s.cpu Rsp
+
+    -- a walk finds the return address at each of its instructions
+    abbrev pub Finds : ℕ → List Instr → ℕ → Type 0
+    Finds rip code d = (done left : List Instr) → code ≡ done ++ left → (m : Memory) → HasProgram t fs program p q m → FindsReturn t m (rip + sizes done) d
+
+    pub ran : (code : List Instr) (s w : State) (d e : ℕ) → Reaches (length code) s w → AllPlain d e code → HasCode s.memory s.cpu.rip code → HasProgram t fs program p q s.memory → Beneath t s top from back others is
+        → register s.cpu Rsp + d ≡ top → from ≡ top + e → top + e < 2 ^ 63 → Finds s.cpu.rip code d → Ran s w code
+    ran [] s w d e r plain code has b at up high finds =
+        subst (λ (x : State). Ran s x []) r (record { keeps = tt; beneath = b; has = has; rip = (let z : s.cpu.rip ≡ s.cpu.rip + 0 = omega arith in z); stack = refl })
+    ran (i ∷ code) s w d e r plain code' has b at up high finds =
+        let u = r.0 in
+        let st = r.1.steps in
+        let first = plain_step s u d e i code plain.0 code' st b at up high in
+        let has' = program_kept t fs program p q s.memory u.memory (record { protection = st.protection; fixed = st.fixed }) has in
+        let at' : register u.cpu Rsp + d ≡ top = omega (arith, first.stack) in
+        let z : s.cpu.rip + 0 ≡ s.cpu.rip = omega arith in
+        let next : s.cpu.rip + (size i + 0) ≡ u.cpu.rip = omega (arith, first.rip) in
+        let before = gives_above t s top from back others is d b (subst (λ a. FindsReturn t s.memory a d) z (finds [] (i ∷ code) refl s.memory has)) at in
+        let after = gives_above t u top from back others is d first.beneath (subst (λ a. FindsReturn t u.memory a d) next (finds (i ∷ []) code refl u.memory has')) at' in
+        let quiet = ap is_call (read_here s u i code plain.0.0 code') ∙ (plain_goes_on d e i plain.0.1).1 in
+        let keep = straight t fs s u (callers_above t top back others is) st.steps quiet before after (let h : register u.cpu Rsp + 8 ≤ top + 8 = omega arith in h) in
+        let finds' : Finds u.cpu.rip code d = λ done left parts m h.
+        (let same : s.cpu.rip + (size i + sizes done) ≡ u.cpu.rip + sizes done = omega (arith, first.rip) in
+        subst (λ a. FindsReturn t m a d) same (finds (i ∷ done) left (ap (λ (xs : List Instr). i ∷ xs) parts) m h)) in
+        let rest = ran code u w d e r.2 plain.1 (code_next s u i code plain.0.0 code' st first.rip) has' first.beneath at' up high finds' in
+        record {
+          keeps = keep_first t fs (length code) s u st.steps keep rest.keeps;
+          beneath = rest.beneath;
+          has = rest.has;
+          rip = rest.rip ∙ (let same : u.cpu.rip + sizes code ≡ s.cpu.rip + (size i + sizes code) = omega (arith, first.rip) in same);
+          stack = rest.stack ∙ first.stack;
+        }

@@ -2,9 +2,10 @@
 use Rattle.std.proofs.Common.{◌≡◌, ◌≢◌, ℕ, ◌+◌, ◌-◌, ◌*◌, ◌%◌, ◌^◌, ◌<◌, ◌≤◌, Bool, true, false, List, [], ◌∷◌, length, get_or, Option, Some, None, Result, Ok, Err, refl, sym, ap, subst, ◌∙◌, arith, inl, inr, get_or-set_same, get_or-set_other, length-set}
 use Rattle.std.specs.Prelude.{◌⊎◌, slice_index, slice_set}
 use Rattle.seh_num.specs.declared.width.Width.{Width}
-use Rattle.seh_num.specs.declared.width.Width.TheVariants.{W64}
-use Rattle.flat_memory.specs.Memory.{Memory, may_write, first_refused, with_number, with_bytes, unless_refused, after_store}
-use Rattle.flat_memory.proofs.Stores.{untouched}
+use Rattle.seh_num.specs.declared.width.Width.TheVariants.{W32, W64}
+use Rattle.flat_memory.specs.declared.access.RefusedAccess.{RefusedAccess}
+use Rattle.flat_memory.specs.Memory.{Memory, may_write, first_refused, with_number, with_bytes, loaded, stored, unless_refused, after_store}
+use Rattle.flat_memory.proofs.Stores.{untouched, loads_what_was_stored}
 use Rattle.x64_instr.specs.declared.register.Reg.{Reg}
 use Rattle.x64_instr.specs.declared.register.Reg.TheVariants as regs
 use Rattle.x64_instr.specs.declared.register.Reg.TheVariants.{Rax, Rsp}
@@ -21,7 +22,9 @@ use Rattle.x64_instr.specs.declared.instruction.Instr.{Instr}
 use Rattle.x64_instr.specs.declared.instruction.Instr.TheVariants as instrs
 use Rattle.x64_instr.specs.Registers.{number}
 use Rattle.x64_machine.specs.Words.{added, subtracted}
-use Rattle.x64_machine.specs.Effect.{State, Answer, ◌>>=◌, register, with_register, with_flags, with_rip, load, store, read, operand, write, may_change, computed, change, compare, effect}
+use Rattle.virtual_unwind.specs.Undone.{word, readable}
+use Rattle.x64_machine.specs.Effect.{State, Answer, ◌>>=◌, granted, register, with_register, with_flags, with_rip, load, store, read, operand, write, may_change, computed, change, compare, is_trap, effect}
+use Rattle.whole_runs.specs.Shadow.{calls as is_a_call}
 
 -- ---- registers
 
@@ -212,17 +215,33 @@ pub record Calls (s t : State) (sp to : ℕ) : Type 0 where
   pub others : others_of t.cpu.registers ≡ others_of s.cpu.registers
   pub count : length t.cpu.registers ≡ length s.cpu.registers
   pub rax : register t.cpu Rax ≡ register s.cpu Rax
-  pub memory : t.memory ≡ after_store s.memory sp W64 s.cpu.rip
+  pub pushed : word t.memory sp ≡ Ok s.cpu.rip
   pub beside : (x : ℕ) → (x < sp) ⊎ (sp + 8 ≤ x) → t.memory.byte x ≡ s.memory.byte x
 
-pub calls : (s t : State) (d sp to : ℕ) → length s.cpu.registers ≡ 16 → register s.cpu Rsp ≡ sp + 8 → sp + 8 < 2 ^ 63 → (s.cpu.rip + d) % 2 ^ 64 ≡ to → effect s (instrs.Call (Relative d)) ≡ Ok t → Calls s t sp to
-calls s t d sp to n at high target e =
+granted_ok : {A : Type 0} → (r : Result A RefusedAccess) (x : A) → granted r ≡ Ok x → r ≡ Ok x
+granted_ok (Ok y) x e = cc
+granted_ok (Err a) x e = absurd cc
+
+-- what is read where it was stored
+stored_word : (m : Memory) (at v : ℕ) → at < 2 ^ 64 → v < 2 ^ 64 → stored m at W64 ≡ Ok tt → word (after_store m at W64 v) at ≡ Ok v
+stored_word m at v lt small ok = ap (readable at) (loads_what_was_stored m at v W64 lt ok) ∙ (let z : v % 2 ^ 64 ≡ v = omega arith in ap (λ x. Ok x) z)
+
+pub word_loads : (m : Memory) (at v : ℕ) → word m at ≡ Ok v → load m at W64 ≡ Ok v
+word_loads m at v e = by (loaded m at W64) e
+  where
+    by : (r : Result ℕ RefusedAccess) → readable at r ≡ Ok v → granted r ≡ Ok v
+    by (Ok x) is = cc
+    by (Err a) is = absurd cc
+
+pub calls : (s t : State) (d sp to : ℕ) → length s.cpu.registers ≡ 16 → s.cpu.rip < 2 ^ 64 → register s.cpu Rsp ≡ sp + 8 → sp + 8 < 2 ^ 63 → (s.cpu.rip + d) % 2 ^ 64 ≡ to → effect s (instrs.Call (Relative d)) ≡ Ok t → Calls s t sp to
+calls s t d sp to n small at high target e =
     let next = s.cpu.rip in
     let lowered = λ (a : ℕ). record s { cpu = with_register W64 s.cpu Rsp a } in
     let place : (register s.cpu Rsp + (2 ^ 64 - 8)) % 2 ^ 64 ≡ sp = omega arith in
     let moved = subst (λ (a : ℕ). (store (lowered a) a W64 next >>= λ after. Ok (with_rip after ((next + d) % 2 ^ 64))) ≡ Ok t) place e in
     let k = bound (store (lowered sp) sp W64 next) (λ after. Ok (with_rip after ((next + d) % 2 ^ 64))) t moved in
     let is = store_is (lowered sp) k.value sp next k.is in
+    let may = granted_ok (stored s.memory sp W64) _ (bound (granted (stored s.memory sp W64)) (λ _. Ok (record (lowered sp) { memory = after_store s.memory sp W64 next })) k.value k.is).is in
     let w : State = with_rip (record (lowered sp) { memory = after_store s.memory sp W64 next }) ((next + d) % 2 ^ 64) in
     let same : w ≡ t = ap (λ (u : State). with_rip u ((next + d) % 2 ^ 64)) (sym is) ∙ the_same k.then in
     subst (λ u. Calls s u sp to) same
@@ -232,7 +251,7 @@ calls s t d sp to n at high target e =
       others = others_rsp s.cpu.registers (sp % 2 ^ 64);
       count = length-set s.cpu.registers 4 (sp % 2 ^ 64);
       rax = get_or-set_other s.cpu.registers 4 0 (sp % 2 ^ 64) 0 (λ z. absurd (omega arith));
-      memory = refl;
+      pushed = stored_word s.memory sp next (omega arith) small may;
       beside = λ x out. store_beside s.memory sp next x high out;
     })
 
@@ -260,3 +279,45 @@ returns s t sp back n at high is e =
       rax = get_or-set_other s.cpu.registers 4 0 (up % 2 ^ 64) 0 (λ z. absurd (omega arith));
       memory = refl;
     })
+
+-- ---- RAX
+
+-- a number is put into it
+pub puts_rax : (s t : State) (v : ℕ) → length s.cpu.registers ≡ 16 → v < 2 ^ 32 → effect s (instrs.Move W32 (places.Register Rax) (operands.Immediate v)) ≡ Ok t → register t.cpu Rax ≡ v
+puts_rax s t v n lt e =
+    let z : v % 2 ^ 32 % 2 ^ 32 ≡ v = omega arith in
+    subst (λ (u : State). register u.cpu Rax ≡ v) (the_same e) (get_or-set_same s.cpu.registers 0 (v % 2 ^ 32 % 2 ^ 32) 0 (omega arith) ∙ z)
+
+-- these leave it
+abbrev pub is_probing : Instr → Bool
+is_probing (instrs.LoadAddress W64 regs.R11 m) = true
+is_probing (instrs.Test w first second) = true
+is_probing (instrs.Arithmetic operations.Sub W64 (places.Register regs.R11) from) = true
+is_probing i = false
+
+pub probing_is_idle : (i : Instr) → is_probing i ≡ true → is_idle i ≡ true
+probing_is_idle (instrs.LoadAddress W64 regs.R11 m) q = refl
+probing_is_idle (instrs.Test w first second) q = refl
+probing_is_idle (instrs.Arithmetic operations.Sub W64 (places.Register regs.R11) from) q = refl
+probing_is_idle i q = absurd cc
+
+pub rax_stays : (s t : State) (i : Instr) → is_probing i ≡ true → effect s i ≡ Ok t → register t.cpu Rax ≡ register s.cpu Rax
+rax_stays s t (instrs.LoadAddress W64 regs.R11 m) q e = subst (λ (u : State). register u.cpu Rax ≡ register s.cpu Rax) (the_same e) (get_or-set_other s.cpu.registers 11 0 _ 0 (λ z. absurd (omega arith)))
+rax_stays s t (instrs.Test w first second) q e =
+    let b = bound (operand s w second) (λ b. read s w first >>= λ a. Ok (with_flags s (computed operations.And w a b).1)) t e in
+    let c = bound (read s w first) (λ a. Ok (with_flags s (computed operations.And w a b.value).1)) t b.then in
+    subst (λ (u : State). register u.cpu Rax ≡ register s.cpu Rax) (the_same c.then) refl
+rax_stays s t (instrs.Arithmetic operations.Sub W64 (places.Register regs.R11) from) q e =
+    let o = operations.Sub in
+    let to = places.Register regs.R11 in
+    let b = bound (operand s W64 from) (λ b. may_change s W64 to >>= λ _. read s W64 to >>= λ a. write (with_flags s (computed o W64 a b).1) W64 to (computed o W64 a b).0) t e in
+    subst (λ (u : State). register u.cpu Rax ≡ register s.cpu Rax) (the_same b.then) (get_or-set_other s.cpu.registers 11 0 _ 0 (λ z. absurd (omega arith)))
+rax_stays s t i q e = absurd cc
+
+-- none of these is a trap, or a call
+pub idle_goes_on : (i : Instr) → is_idle i ≡ true → (is_trap i ≡ false) × (is_a_call i ≡ false)
+idle_goes_on (instrs.Move w to from) q = (refl, refl)
+idle_goes_on (instrs.LoadAddress w to m) q = (refl, refl)
+idle_goes_on (instrs.Test w first second) q = (refl, refl)
+idle_goes_on (instrs.Arithmetic o w to from) q = (refl, refl)
+idle_goes_on i q = absurd cc

@@ -1,7 +1,7 @@
 pub mod StackWalks
 pub mod Effects
-pub mod Beneath
 pub mod QuietTurns
+pub mod Beneath
 pub mod Moved
 pub mod Waiting
 pub mod Resumed
