@@ -102,6 +102,7 @@ module _ (t : Functions) where
     pub returns : word s.memory top ≡ Ok back
     pub list : IsStack t s.memory (context_below back (top + 8) others) is
     pub owned : (a : ℕ) → Owned (context_below back (top + 8) others) is a → from ≤ a
+    pub past : top + 8 ≤ from
     pub high : top + 8 < 2 ^ 63
     pub no_code : (a : ℕ) → may_write s.memory a ≡ true → (s.memory.protection a).execute ≡ false
 
@@ -129,6 +130,7 @@ module _ (t : Functions) where
         returns = word_stays s.memory u.memory top back (omega arith) st.protection (λ a l h. stays a (inl (l, h))) b.returns;
         list = subst (λ (x : Memory). IsStack t x (context_below back (top + 8) others) is) is_m (kept_by_other_stores t s.memory u.memory.byte (context_below back (top + 8) others) is agree b.list);
         owned = b.owned;
+        past = b.past;
         high = b.high;
         no_code = λ a w. ap (λ (f : ℕ → Protection). (f a).execute) st.protection ∙ b.no_code a (ap (λ (f : ℕ → Protection). is_writable (f a).rights) (sym st.protection) ∙ w);
       }

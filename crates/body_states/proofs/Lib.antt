@@ -2,6 +2,7 @@ pub mod StackWalks
 pub mod Effects
 pub mod QuietTurns
 pub mod Beneath
+pub mod Crossing
 pub mod Moved
 pub mod Waiting
 pub mod Resumed
