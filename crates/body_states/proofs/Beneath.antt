@@ -26,7 +26,7 @@ use Rattle.linear_code.specs.Program.{LinearProgram}
 use Rattle.template_code.specs.Bytes.{spelled, size, sizes}
 use Rattle.template_code.specs.Calls.{keep_register}
 use Rattle.x64_templates.specs.Placed.{IsPlaced}
-use Rattle.x64_templates.specs.Runs.{Steps, Reaches, HasCode}
+use Rattle.x64_templates.specs.Runs.{Steps, Reaches, Enters, HasCode}
 use Rattle.x64_templates.proofs.PlacedCode.{same_number, bytes_kept, bytes_split, spells, reads}
 use Rattle.linked_stack.specs.Stack.{StackItem, IsStack, Owned, Agree}
 use Rattle.linked_stack.specs.WalkLaws.{context_below}
@@ -73,6 +73,36 @@ module _ (s u : State) (i : Instr) (more : List Instr) (enc : is_encodable i ≡
       let next = s.cpu.rip + length (chosen i) in
       subst (λ a. HasCode u.memory a more) (sym at)
       (record { stands = bytes_kept s.memory u.memory next (spelled more) st.fixed st.protection (bytes_split s.memory s.cpu.rip (chosen i) (spelled more) code.stands).1; placed = record { low = omega arith; high = omega arith } })
+
+-- ---- steps one after another
+
+abbrev pub StepsTo : ℕ → State → State → Type 0
+StepsTo zero s w = s ≡ w
+StepsTo (suc n) s w = (u : State) × Steps s u × StepsTo n u w
+
+pub reaches_steps : (n : ℕ) (s w : State) → Reaches n s w → StepsTo n s w
+reaches_steps zero s w r = r
+reaches_steps (suc n) s w r = (r.0, r.1.steps, reaches_steps n r.0 w r.2)
+
+pub enters_steps : (n : ℕ) (s w : State) → Enters n s w → StepsTo n s w
+enters_steps zero s w r = r
+enters_steps (suc n) s w r = (r.0, r.1, reaches_steps n r.0 w r.2)
+
+-- where the first of them lead
+pub steps_split : (m n : ℕ) (s w : State) → StepsTo (m + n) s w → (u : State) × StepsTo m s u × StepsTo n u w
+steps_split zero n s w r = (s, refl, subst (λ k. StepsTo k s w) (let z : 0 + n ≡ n = omega arith in z) r)
+steps_split (suc m) n s w r =
+    let z : suc m + n ≡ suc (m + n) = omega arith in
+    let r' = subst (λ k. StepsTo k s w) z r in
+    let x = steps_split m n r'.0 w r'.2 in
+    (x.0, (r'.0, r'.1, x.1), x.2)
+
+pub keeps_split : (t : Functions) (fs : List Funclet) (m n : ℕ) (s u : State) → StepsTo m s u → AllKeep t fs m s → AllKeep t fs n u → AllKeep t fs (m + n) s
+keeps_split t fs zero n s u r before after = subst (λ k. AllKeep t fs k s) (let z : n ≡ 0 + n = omega arith in z) (subst (AllKeep t fs n) (sym r) after)
+keeps_split t fs (suc m) n s u r before after =
+    let e : suc (m + n) ≡ suc m + n = omega arith in
+    let first = before r.0 r.1.steps in
+    subst (λ k. AllKeep t fs k s) e (keep_first t fs (m + n) s r.0 r.1.steps first.0 (keeps_split t fs m n r.0 u r.2 first.1 after))
 
 -- ---- words
 
@@ -220,13 +250,13 @@ module _ (t : Functions) (fs : List Funclet) (program : LinearProgram) (p : Plan
     abbrev pub Finds : ℕ → List Instr → ℕ → Type 0
     Finds rip code d = (done left : List Instr) → code ≡ done ++ left → (m : Memory) → HasProgram t fs program p q m → FindsReturn t m (rip + sizes done) d
 
-    pub ran : (code : List Instr) (s w : State) (d e : ℕ) → Reaches (length code) s w → AllPlain d e code → HasCode s.memory s.cpu.rip code → HasProgram t fs program p q s.memory → Beneath t s top from back others is
+    pub ran : (code : List Instr) (s w : State) (d e : ℕ) → StepsTo (length code) s w → AllPlain d e code → HasCode s.memory s.cpu.rip code → HasProgram t fs program p q s.memory → Beneath t s top from back others is
         → register s.cpu Rsp + d ≡ top → from ≡ top + e → top + e < 2 ^ 63 → Finds s.cpu.rip code d → Ran s w code
     ran [] s w d e r plain code has b at up high finds =
         subst (λ (x : State). Ran s x []) r (record { keeps = tt; beneath = b; has = has; rip = (let z : s.cpu.rip ≡ s.cpu.rip + 0 = omega arith in z); stack = refl })
     ran (i ∷ code) s w d e r plain code' has b at up high finds =
         let u = r.0 in
-        let st = r.1.steps in
+        let st = r.1 in
         let first = plain_step s u d e i code plain.0 code' st b at up high in
         let has' = program_kept t fs program p q s.memory u.memory (record { protection = st.protection; fixed = st.fixed }) has in
         let at' : register u.cpu Rsp + d ≡ top = omega (arith, first.stack) in

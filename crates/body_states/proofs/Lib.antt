@@ -7,3 +7,4 @@ pub mod Moved
 pub mod Waiting
 pub mod Resumed
 pub mod Inside
+pub mod Finding
