@@ -134,6 +134,7 @@ module _ (t : Functions) where
     pub owned : (a : ℕ) → Owned (context_below back (top + 8) others) is a → from ≤ a
     pub past : top + 8 ≤ from
     pub high : top + 8 < 2 ^ 63
+    pub limit : from < 2 ^ 63
     pub no_code : (a : ℕ) → may_write s.memory a ≡ true → (s.memory.protection a).execute ≡ false
 
   -- bytes that a step leaves
@@ -162,6 +163,7 @@ module _ (t : Functions) where
         owned = b.owned;
         past = b.past;
         high = b.high;
+        limit = b.limit;
         no_code = λ a w. ap (λ (f : ℕ → Protection). (f a).execute) st.protection ∙ b.no_code a (ap (λ (f : ℕ → Protection). is_writable (f a).rights) (sym st.protection) ∙ w);
       }
 
@@ -210,8 +212,9 @@ module _ (t : Functions) (fs : List Funclet) (program : LinearProgram) (p : Plan
       pub rip : u.cpu.rip ≡ s.cpu.rip + size i
       pub stack : register u.cpu Rsp ≡ register s.cpu Rsp
 
-    pub plain_step : (s u : State) (d e : ℕ) (i : Instr) (more : List Instr) → IsPlain d e i → HasCode s.memory s.cpu.rip (i ∷ more) → Steps s u → Beneath t s top from back others is → register s.cpu Rsp + d ≡ top → from ≡ top + e → top + e < 2 ^ 63 → Moved s u i
-    plain_step s u d e i more plain code st b at up high =
+    pub plain_step : (s u : State) (d e : ℕ) (i : Instr) (more : List Instr) → IsPlain d e i → HasCode s.memory s.cpu.rip (i ∷ more) → Steps s u → Beneath t s top from back others is → register s.cpu Rsp + d ≡ top → from ≡ top + e → Moved s u i
+    plain_step s u d e i more plain code st b at up =
+        let high = b.limit in
         let go = (plain_goes_on d e i plain.1).0 in
         let effect' = effect_here s u i more plain.0 code go st.steps in
         by plain.1 effect'
@@ -251,13 +254,13 @@ module _ (t : Functions) (fs : List Funclet) (program : LinearProgram) (p : Plan
     Finds rip code d = (done left : List Instr) → code ≡ done ++ left → (m : Memory) → HasProgram t fs program p q m → FindsReturn t m (rip + sizes done) d
 
     pub ran : (code : List Instr) (s w : State) (d e : ℕ) → StepsTo (length code) s w → AllPlain d e code → HasCode s.memory s.cpu.rip code → HasProgram t fs program p q s.memory → Beneath t s top from back others is
-        → register s.cpu Rsp + d ≡ top → from ≡ top + e → top + e < 2 ^ 63 → Finds s.cpu.rip code d → Ran s w code
-    ran [] s w d e r plain code has b at up high finds =
+        → register s.cpu Rsp + d ≡ top → from ≡ top + e → Finds s.cpu.rip code d → Ran s w code
+    ran [] s w d e r plain code has b at up finds =
         subst (λ (x : State). Ran s x []) r (record { keeps = tt; beneath = b; has = has; rip = (let z : s.cpu.rip ≡ s.cpu.rip + 0 = omega arith in z); stack = refl })
-    ran (i ∷ code) s w d e r plain code' has b at up high finds =
+    ran (i ∷ code) s w d e r plain code' has b at up finds =
         let u = r.0 in
         let st = r.1 in
-        let first = plain_step s u d e i code plain.0 code' st b at up high in
+        let first = plain_step s u d e i code plain.0 code' st b at up in
         let has' = program_kept t fs program p q s.memory u.memory (record { protection = st.protection; fixed = st.fixed }) has in
         let at' : register u.cpu Rsp + d ≡ top = omega (arith, first.stack) in
         let z : s.cpu.rip + 0 ≡ s.cpu.rip = omega arith in
@@ -269,7 +272,7 @@ module _ (t : Functions) (fs : List Funclet) (program : LinearProgram) (p : Plan
         let finds' : Finds u.cpu.rip code d = λ done left parts m h.
         (let same : s.cpu.rip + (size i + sizes done) ≡ u.cpu.rip + sizes done = omega (arith, first.rip) in
         subst (λ a. FindsReturn t m a d) same (finds (i ∷ done) left (ap (λ (xs : List Instr). i ∷ xs) parts) m h)) in
-        let rest = ran code u w d e r.2 plain.1 (code_next s u i code plain.0.0 code' st first.rip) has' first.beneath at' up high finds' in
+        let rest = ran code u w d e r.2 plain.1 (code_next s u i code plain.0.0 code' st first.rip) has' first.beneath at' up finds' in
         record {
           keeps = keep_first t fs (length code) s u st.steps keep rest.keeps;
           beneath = rest.beneath;

@@ -162,6 +162,7 @@ module _ (t : Functions) (fs : List Funclet) where
               owned = λ a o. elim o [ inl w ↦ (let l = w.low in omega arith) | inr w ↦ (let l = b.owned a (subst (λ x. Owned x is a) (sym same) w) in omega arith) ];
               past = le;
               high = omega arith;
+              limit = omega arith;
               no_code = b'.no_code;
             }
 

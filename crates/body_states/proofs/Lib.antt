@@ -8,3 +8,4 @@ pub mod Waiting
 pub mod Resumed
 pub mod Inside
 pub mod Finding
+pub mod FrameMaking
