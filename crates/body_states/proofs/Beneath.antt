@@ -280,3 +280,19 @@ module _ (t : Functions) (fs : List Funclet) (program : LinearProgram) (p : Plan
           rip = rest.rip ∙ (let same : u.cpu.rip + sizes code ≡ s.cpu.rip + (size i + sizes code) = omega (arith, first.rip) in same);
           stack = rest.stack ∙ first.stack;
         }
+
+-- ---- where a list stands above a return address
+
+pub beneath_by : (t : Functions) (s : State) (top back : ℕ) (is : List StackItem) → length s.cpu.registers ≡ 16 → word s.memory top ≡ Ok back → IsStack t s.memory (context_below back (top + 8) (others_of s.cpu.registers)) is → top + 8 < 2 ^ 62
+    → ((a : ℕ) → may_write s.memory a ≡ true → (s.memory.protection a).execute ≡ false) → Beneath t s top (top + 8) back (others_of s.cpu.registers) is
+beneath_by t s top back is count returns list high no_code = record {
+  others_are = refl;
+  count = count;
+  returns = returns;
+  list = list;
+  owned = λ a o. elim (cases_lt a (top + 8)) [ inl lt ↦ absurd (nothing_below_is_owned t s.memory (context_below back (top + 8) (others_of s.cpu.registers)) is a list lt o) | inr ge ↦ ge ];
+  past = (let z : top + 8 ≤ top + 8 = omega arith in z);
+  high = omega arith;
+  limit = omega arith;
+  no_code = no_code;
+}

@@ -17,13 +17,14 @@ use Rattle.x64_instr.specs.declared.operand.Operand.{Operand}
 use Rattle.x64_instr.specs.declared.operand.Operand.TheVariants as operands
 use Rattle.x64_instr.specs.declared.instruction.Operation.{Operation}
 use Rattle.x64_instr.specs.declared.instruction.Operation.TheVariants as operations
+use Rattle.x64_instr.specs.declared.instruction.Target.{Target}
 use Rattle.x64_instr.specs.declared.instruction.Target.TheVariants.{Relative}
 use Rattle.x64_instr.specs.declared.instruction.Instr.{Instr}
 use Rattle.x64_instr.specs.declared.instruction.Instr.TheVariants as instrs
 use Rattle.x64_instr.specs.Registers.{number}
 use Rattle.x64_machine.specs.Words.{added, subtracted}
 use Rattle.virtual_unwind.specs.Undone.{word, readable}
-use Rattle.x64_machine.specs.Effect.{State, Answer, ◌>>=◌, granted, register, with_register, with_flags, with_rip, load, store, read, operand, write, may_change, computed, change, compare, is_trap, effect}
+use Rattle.x64_machine.specs.Effect.{State, Answer, ◌>>=◌, granted, register, with_register, with_flags, with_rip, load, store, read, operand, write, may_change, computed, change, compare, is_trap, target_of, effect}
 use Rattle.whole_runs.specs.Shadow.{calls as is_a_call}
 
 -- ---- registers
@@ -321,3 +322,14 @@ idle_goes_on (instrs.LoadAddress w to m) q = (refl, refl)
 idle_goes_on (instrs.Test w first second) q = (refl, refl)
 idle_goes_on (instrs.Arithmetic o w to from) q = (refl, refl)
 idle_goes_on i q = absurd cc
+
+-- ---- a jump
+
+pub record Jumps (s t : State) : Type 0 where
+  pub memory : t.memory ≡ s.memory
+  pub registers : t.cpu.registers ≡ s.cpu.registers
+
+pub jumps : (s t : State) (to : Target) → effect s (instrs.Jump to) ≡ Ok t → Jumps s t
+jumps s t to e =
+    let k = bound (target_of s to) (λ a. Ok (with_rip s a)) t e in
+    subst (λ (u : State). Jumps s u) (the_same k.then) (record { memory = refl; registers = refl })

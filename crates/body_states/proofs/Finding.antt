@@ -1,7 +1,7 @@
 -- Where an image's code is, a walk finds the return address of its routine.
-use Rattle.std.proofs.Common.{◌≡◌, ℕ, ◌+◌, ◌<◌, ◌≤◌, Bool, true, false, Option, Some, None, List, [], ◌∷◌, ◌++◌, length, refl, sym, ap, subst, ◌∙◌, arith, inl, inr}
+use Rattle.std.proofs.Common.{◌≡◌, ℕ, ◌+◌, ◌<◌, ◌≤◌, Bool, true, false, Option, Some, None, List, [], ◌∷◌, ◌++◌, length, get_or, refl, sym, ap, subst, ◌∙◌, arith, inl, inr}
 use Rattle.std.specs.Prelude.{slice_get, slice_set}
-use Rattle.std.proofs.lemmas.Option.{slice_get_cases}
+use Rattle.std.proofs.lemmas.Option.{slice_get_cases, slice_get_within, get_or_from_slice_get}
 use Rattle.std.proofs.lemmas.List.{append-nil}
 use Rattle.flat_memory.specs.Memory.{Memory}
 use Rattle.x64_instr.specs.declared.register.Reg.TheVariants.{Rax}
@@ -17,14 +17,17 @@ use Rattle.linear_code.specs.Program.{LinearProgram, LinearBody}
 use Rattle.linear_machine.specs.Frames.{BodyName, body_of}
 use Rattle.template_code.specs.Bytes.{sizes}
 use Rattle.template_code.specs.Slots.{fetch}
-use Rattle.template_code.specs.Template.{template}
+use Rattle.template_code.specs.Template.{template, offset_of, code_from}
 use Rattle.template_code.proofs.Sizes.{sizes_append, template_sizes}
 use Rattle.x64_templates.specs.Quiet.{IsReturn}
+use Rattle.x64_templates.specs.Runs.{HasCode}
+use Rattle.x64_templates.proofs.Computes.{code_split}
+use Rattle.x64_templates.proofs.Linked.{template_placed}
 use Rattle.linked_stack.specs.Stack.{after_leaf}
 use Rattle.linked_stack.specs.PlainWalks.{state}
 use Rattle.linked_stack.proofs.Visiting.{frame_is_visited, leaf_is_visited}
 use Rattle.linked_stack.specs.ImagePlan.{Plan}
-use Rattle.body_states.specs.Sites.{Sites, links_of, begin_of, making_size, frame_code, arguments_code}
+use Rattle.body_states.specs.Sites.{Sites, links_of, begin_of, making_size, frame_code, arguments_code, entry_code}
 use Rattle.body_states.specs.Programs.{frame_with, HasProgram, IsResumed, IsProgramImage}
 use Rattle.body_states.specs.Callers.{caller_above, HasCaller, FindsReturn}
 use Rattle.body_states.proofs.Waiting.{leaf_layout}
@@ -97,3 +100,16 @@ module _ (t : Functions) (fs : List Funclet) (program : LinearProgram) (p : Plan
           | inl x ↦ subst (λ a. FindsReturn t m a (p.layout name).frame) z (label_found 0 x.0 x.2)
           | inr x ↦ let le = x.0 in absurd (omega arith)
         ]
+
+    -- the code of an instruction
+    pub template_there : (label : ℕ) (i : Instruction) → slice_get b.code label ≡ Some i → HasCode m (p.address name label) (template (links_of p q name) (p.layout name) (p.address name label) i)
+    template_there label i at =
+        let a = image.addresses name b is in
+        let y = p.layout name in
+        let k = links_of p q name in
+        let same : get_or b.code label instructions.Separator ≡ i = get_or_from_slice_get b.code label i instructions.Separator at in
+        let h = code_split m (begin_of p q name) (entry_code program p q name) (code_from k y (p.address name 0) b.code) (has.code name b is) in
+        let all = subst (λ x. HasCode m x (code_from k y (p.address name 0) b.code)) (sym a.first) h.1 in
+        subst (λ x. HasCode m x (template k y x i)) (sym (a.labels label))
+        (subst (λ j. HasCode m (p.address name 0 + offset_of y b.code label) (template k y (p.address name 0 + offset_of y b.code label) j)) same
+        (template_placed k y m (p.address name 0) b.code label instructions.Separator all (slice_get_within b.code label i at)))

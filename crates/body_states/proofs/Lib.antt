@@ -9,3 +9,4 @@ pub mod Resumed
 pub mod Inside
 pub mod Finding
 pub mod FrameMaking
+pub mod CallKeeping
