@@ -1,5 +1,9 @@
 pub mod StackWalks
+pub mod UnwoundWalks
+pub mod Effects
 pub mod QuietTurns
+pub mod Beneath
+pub mod Crossing
 pub mod Moved
 pub mod Waiting
 pub mod Resumed
@@ -7,3 +11,6 @@ pub mod Inside
 pub mod Found
 pub mod Flowing
 pub mod Pieces
+pub mod Finding
+pub mod FrameMaking
+pub mod CallKeeping

@@ -192,7 +192,7 @@ module _ (t : Functions) (fs : List Funclet) (program : LinearProgram) (p : Plan
 
   -- until a frame is made the return address is at RSP, in it above the frame, and at RSP again once the frame is given back
   pub record FindsCallers (name : BodyName) (b : LinearBody) : Type 0 where
-    pub entries : (m : Memory) → FindsReturn t m (begin_of p q name) 0
+    pub entries : (m : Memory) → (p.leaf name ≡ true → 0 < length b.code) → FindsReturn t m (begin_of p q name) 0
     pub probes : (m : Memory) → p.leaf name ≡ false → 4096 < (p.layout name).frame → FindsReturn t m (begin_of p q name + 5) 0 × FindsReturn t m (begin_of p q name + 10) 0
     pub arguments :
         (m : Memory) (done left : List Instr) (item : Instr)
