@@ -8,9 +8,9 @@ pub mod Moved
 pub mod Waiting
 pub mod Resumed
 pub mod Inside
+pub mod Finding
 pub mod Found
 pub mod Flowing
 pub mod Pieces
-pub mod Finding
 pub mod FrameMaking
 pub mod CallKeeping
