@@ -1,5 +1,5 @@
 -- What the walk gives where the host dispatches: at the first byte of a funclet that it starts, where it lands, and at its services.
-use Rattle.std.proofs.Common.{◌≡◌, ◌≢◌, ℕ, ◌+◌, ◌%◌, ◌^◌, ◌<◌, ◌≤◌, true, Option, Some, None, Ok, List, [], ◌∷◌, length, refl, sym, ap, subst, ◌∙◌, arith}
+use Rattle.std.proofs.Common.{◌≡◌, ◌≢◌, ℕ, ◌+◌, ◌%◌, ◌^◌, ◌<◌, ◌≤◌, true, false, Option, Some, None, Ok, List, [], ◌∷◌, length, refl, sym, ap, subst, ◌∙◌, arith}
 use Rattle.std.specs.Prelude.{Result, slice_get, slice_index, slice_set}
 use Rattle.seh_num.specs.declared.width.Width.TheVariants.{W64}
 use Rattle.seh_num.specs.declared.event.Event.TheVariants as events
@@ -79,7 +79,10 @@ module _ (t : Functions) (fs : List Funclet) (program : LinearProgram) (p : Plan
     where
       by : (o : Option LinearFunclet) → slice_get program.funclets k ≡ o → parent_body o ≡ Some name → FindsReturn t m (p.funclet k) 0
       by None e h = absurd cc
-      by (Some g) e h = (image.callers (FuncletBody k) g.body (ap funclet_body e)).entries m
+      by (Some g) e h =
+          let is = ap funclet_body e in
+          let framed = (image.laid_out (FuncletBody k) g.body is).framed in
+          (image.callers (FuncletBody k) g.body is).entries m (λ leaf. absurd (let no : true ≡ false = sym leaf ∙ framed in cc))
 
   funclet_gives : (u : State) (k activation first : ℕ) (items : List Item) (acts : List Activation) (a : Arrives t fs program p u k activation first items acts) (cs : List Context)
       → ((others : List ℕ) → callers (context_below a.back a.at others) a.is ≡ cs) → WalkGives t u (caller_at u ∷ cs)
@@ -148,19 +151,25 @@ module _ (t : Functions) (fs : List Funclet) (program : LinearProgram) (p : Plan
 
   -- ---- at a service of the host
 
-  -- the walk gives the service's own call, and what it gives from the state after its return
-  pub service_walk : (s : State) (a ret : ℕ) (is : List StackItem) → s.cpu.rip ≡ a → 0 < a → a < 0x100000000 → a ≢ filter_return → a ≢ finally_return
-      → loaded s.memory (register s.cpu Rsp) W64 ≡ Ok ret → length s.cpu.registers ≡ 16 → register s.cpu Rsp + 8 < 2 ^ 64 → IsStack t s.memory (context_of (back s ret).cpu) is
-      → (c : Context) × WalkGives t s (c ∷ callers (context_of (back s ret).cpu) is)
-  service_walk s a ret is here low high other another w count small stack =
+  -- the walk gives the service's own call, and what it gives where the call returns to
+  pub service_gives : (s : State) (a ret : ℕ) (cs : List Context) → s.cpu.rip ≡ a → 0 < a → a < 0x100000000 → a ≢ filter_return → a ≢ finally_return
+      → loaded s.memory (register s.cpu Rsp) W64 ≡ Ok ret → length s.cpu.registers ≡ 16 → register s.cpu Rsp + 8 < 2 ^ 64 → GivesCallers t s.memory (state (context_of (back s ret).cpu) 0) cs
+      → WalkGives t s (caller_above (context_of s.cpu) 0 ret ∷ cs)
+  service_gives s a ret cs here low high other another w count small gives =
       let sp = register s.cpu Rsp in
       let flat : sp + 0 ≡ sp = omega arith in
       let up : (sp + 8) % 2 ^ 64 % 2 ^ 64 ≡ sp + 0 + 8 = omega arith in
       let c = caller_above (context_of s.cpu) 0 ret in
-      let after = context_of (back s ret).cpu in
-      let cs = callers after is in
-      let same : after ≡ c =
+      let same : context_of (back s ret).cpu ≡ c =
       ap (λ (ks : List ℕ). let x : Context = record { rip = ret; kept = ks } in x) (kept_with s.cpu.registers ((sp + 8) % 2 ^ 64 % 2 ^ 64) count) ∙ ap (λ n. let x : Context = record { rip = ret; kept = slice_set (kept_of s.cpu.registers) 0 n } in x) up in
       let returns : word s.memory (sp + 0) ≡ Ok ret = ap (word s.memory) flat ∙ ap (λ (x : Result ℕ RefusedAccess). readable sp x) w in
       let found = image.callers_outside.services s.memory a low high other another (context_of s.cpu) ret here refl (omega arith) returns in
-      (c, gives_caller t s.memory (context_of s.cpu) c cs found (subst (λ (x : Context). GivesCallers t s.memory (state x 0) cs) same (on_stack t s.memory after 0 is stack)))
+      gives_caller t s.memory (context_of s.cpu) c cs found (subst (λ (x : Context). GivesCallers t s.memory (state x 0) cs) same gives)
+
+  pub service_walk : (s : State) (a ret : ℕ) (is : List StackItem) → s.cpu.rip ≡ a → 0 < a → a < 0x100000000 → a ≢ filter_return → a ≢ finally_return
+      → loaded s.memory (register s.cpu Rsp) W64 ≡ Ok ret → length s.cpu.registers ≡ 16 → register s.cpu Rsp + 8 < 2 ^ 64 → IsStack t s.memory (context_of (back s ret).cpu) is
+      → (c : Context) × WalkGives t s (c ∷ callers (context_of (back s ret).cpu) is)
+  service_walk s a ret is here low high other another w count small stack = (
+    caller_above (context_of s.cpu) 0 ret,
+    service_gives s a ret (callers (context_of (back s ret).cpu) is) here low high other another w count small (on_stack t s.memory (context_of (back s ret).cpu) 0 is stack),
+  )
