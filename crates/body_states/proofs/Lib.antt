@@ -10,3 +10,6 @@ pub mod Inside
 pub mod Finding
 pub mod FrameMaking
 pub mod CallKeeping
+pub mod Found
+pub mod Flowing
+pub mod Pieces
