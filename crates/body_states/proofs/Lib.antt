@@ -10,6 +10,7 @@ pub mod Inside
 pub mod Finding
 pub mod FrameMaking
 pub mod CallKeeping
+pub mod EntryKeeping
 pub mod Found
 pub mod Flowing
 pub mod Pieces
