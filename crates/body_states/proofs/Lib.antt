@@ -1,4 +1,5 @@
 pub mod StackWalks
+pub mod UnwoundWalks
 pub mod Effects
 pub mod QuietTurns
 pub mod Beneath

@@ -12,15 +12,8 @@ use Rattle.linked_stack.specs.Stack.{StackItem, Framed, Leaf, Searching, Unwindi
 use Rattle.linked_stack.specs.PlainWalks.{state}
 use Rattle.linked_stack.proofs.Visiting.{set_head, frame_is_visited, leaf_is_visited, search_is_passed, unwinding_is_passed}
 use Rattle.whole_runs.specs.Shadow.{GivesCallers, KeepsShadow, AllKeep}
+pub use Rattle.body_states.specs.Callers.{callers}
 use Rattle.whole_runs.proofs.Shadows.{past_frame, past_host, at_end, HeadAbove, head_above, keep_first}
-
--- the callers of a list of stack items
-abbrev pub callers : Context → List StackItem → List Context
-callers c [] = []
-callers c (Framed f ∷ is) = after_frame c f ∷ callers (after_frame c f) is
-callers c (Leaf back ∷ is) = after_leaf c back ∷ callers (after_leaf c back) is
-callers c (Searching r ∷ is) = callers (context_of r.saved) is
-callers c (Unwinding r ∷ is) = callers r.walk is
 
 -- the walk gives them
 pub on_stack : (t : Functions) (m : Memory) (c : Context) (row : ℕ) (is : List StackItem) → IsStack t m c is → GivesCallers t m (state c row) (callers c is)

@@ -26,6 +26,7 @@ pub mod FuncletSteps
 pub mod Memories
 pub mod Counted
 pub mod Outcomes
+pub mod DispatchWalks
 pub mod Unlanded
 pub mod Landed
 pub mod TurnUnwinding

@@ -48,6 +48,7 @@ use Rattle.whole_runs.specs.Comes.{Comes}
 use Rattle.whole_runs.specs.Ends.{HasRule}
 use Rattle.whole_runs.specs.Matched.{IsMatched}
 use Rattle.ir_typed.specs.Waiting.{LandsWell}
+use Rattle.body_states.specs.Callers.{callers}
 use Rattle.body_states.specs.Sites.{Sites, links_of}
 use Rattle.body_states.specs.Programs.{IsResumed, IsMachineMemory, IsProgramImage}
 use Rattle.body_states.specs.Bodies.{turns_left, InBody, Begins}
@@ -68,7 +69,8 @@ use Rattle.turn_steps.proofs.Hosts.{Asks, asks_host}
 use Rattle.turn_steps.proofs.Memories.{memory_untouched}
 use Rattle.turn_steps.proofs.Pushed as pushing
 use Rattle.turn_steps.proofs.TurnQuiet.{host_quiet}
-use Rattle.turn_steps.proofs.Served.{local_unwind_turns, matched_when_shown}
+use Rattle.turn_steps.proofs.DispatchWalks.{service_walk}
+use Rattle.turn_steps.proofs.Served.{local_unwind_turns, local_unwind_keeps, matched_when_shown}
 use Rattle.turn_steps.specs.Places.{AreFollowed, StayInside}
 use Rattle.turn_steps.specs.RaiseLaws.{LocalUnwindsAreMatched}
 use Rattle.turn_steps.proofs.Clear.{clear_below}
@@ -319,10 +321,14 @@ module _ (t : Functions) (fs : List Funclet) (program : LinearProgram) (p : Plan
         let n = label_near label in
         let n1 = n.1 in
         let h = high_enough in
+        let l = low_enough in
+        let there = pushing.sp_there given sp back low_enough high_enough b.memory.data_alone b.memory.stack service s.cpu.flags back_small many in
+        let walk =
+        service_walk t fs program p q image state service back asks.is refl (omega arith) (omega arith) (λ e. absurd (omega arith)) (λ e. absurd (omega arith)) returns sane.count (omega arith) asks.asks.on.stands.stack in
         let shown = unwound_to t fs program p q image fits state saved asks.is b.body.acts c asks.asks memory b.body.store sp target label (omega arith) (omega arith) aimed rule clear in
         matched_when_shown t fs program p q 16 4 (turns_left c) s state c i
-        (arrived t fs (unwound_locally t state sp target saved)) [] (λ next. local_unwind program next label c)
-        comes refl (local_unwind_turns t fs state back refl returns) shown (λ next. refl) (omega arith) after
+        (arrived t fs (unwound_locally t state sp target saved)) [] (λ next. local_unwind program next label c) (callers (context_of saved) asks.is)
+        comes refl (local_unwind_turns t fs state back refl returns) (local_unwind_keeps t fs program p q state walk.0 (callers (context_of saved) asks.is) refl walk.1) shown (λ next. refl) (omega arith) after
 
 pub local_unwinds_are_matched : LocalUnwindsAreMatched
 local_unwinds_are_matched t fs program p q image made follows stays fits s c label b known at rule after =
