@@ -156,13 +156,13 @@ module _ (t : Functions) (fs : List Funclet) (program : LinearProgram) (p : Plan
           let around = surrounded t fs program p q image made (resumed AfterCall c) known code.0 code.1 (length acts) (sym (locals_count acts) ∙ sym (ap length store)) in
           let u : State = record { cpu = saved; memory = s.memory } in
           let f = fits in
-          let z = kept.resumes t fs program p q image made.room u c.frame c.below acts c.store.memory c.events (context_of saved) is on refl sane memory code.0 code.1 i first done here refl (omega arith)
+          let z = kept.resumes t fs program p q image made.room u c.frame c.below acts c.store.memory c.events (context_of saved) is on refl sane memory code.0 code.1 i first done here (λ h. h) refl (omega arith)
           ((made.apart name code.0 code.1).within c.frame.next i here refl) held free back_is counted around in
           record {
             turns = 1;
             few = omega arith;
             state = z.0;
-            comes = reaches_quietly t fs program p q image 1 u z.0 z.1 memory.code z.2;
+            comes = reaches_quietly t fs program p q image 1 u z.0 z.1 z.4 memory.code z.2;
             stands = subst (λ xs. Begins t fs program p q z.0 (record {
               frame = record c.frame { next = c.frame.next + 1; temporaries = c.frame.temporaries ++ 0 ∷ [] };
               below = c.below;

@@ -28,7 +28,8 @@ use Rattle.x64_templates.specs.Keeping.{is_volatile, is_volatile_or_memory, is_r
 
 -- ---- registers
 
-index_other : (xs : List ℕ) (i j v : ℕ) → (i ≡ j → ⊥) → slice_index (slice_set xs i v) j ≡ slice_index xs j
+-- a register is as it was where another one is set
+pub index_other : (xs : List ℕ) (i j v : ℕ) → (i ≡ j → ⊥) → slice_index (slice_set xs i v) j ≡ slice_index xs j
 index_other [] i j v n = refl
 index_other (x ∷ xs) zero zero v n = absurd (n refl)
 index_other (x ∷ xs) zero (suc j) v n = refl
