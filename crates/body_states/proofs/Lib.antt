@@ -12,6 +12,7 @@ pub mod Finding
 pub mod FrameMaking
 pub mod CallKeeping
 pub mod EntryKeeping
+pub mod ReturnKeeping
 pub mod Found
 pub mod Flowing
 pub mod Pieces
