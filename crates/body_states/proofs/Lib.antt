@@ -8,9 +8,11 @@ pub mod Moved
 pub mod Waiting
 pub mod Resumed
 pub mod Inside
-pub mod Found
-pub mod Flowing
-pub mod Pieces
 pub mod Finding
 pub mod FrameMaking
 pub mod CallKeeping
+pub mod EntryKeeping
+pub mod ReturnKeeping
+pub mod Found
+pub mod Flowing
+pub mod Pieces
