@@ -46,6 +46,7 @@ pub mod Fields
 pub mod ServiceFilters
 pub mod Informing
 pub mod Elsewhere
+pub mod ServiceShadow
 pub mod Arena
 pub mod Reached
 pub mod ServiceReturned
