@@ -72,3 +72,5 @@ pub mod Answers
 pub mod Records
 pub mod EndReturned
 pub mod EndSteps
+pub mod FuncletKeeping
+pub mod Grounds
