@@ -1,5 +1,5 @@
 -- A body calls: the instructions up to the callee's first byte keep the shadow; so does the jump of a thunk to a service.
-use Rattle.std.proofs.Common.{◌≡◌, ℕ, ◌+◌, ◌-◌, ◌^◌, ◌<◌, ◌≤◌, false, Some, None, List, [], ◌∷◌, ◌++◌, length, refl, sym, ap, subst, ◌∙◌, arith, append_assoc}
+use Rattle.std.proofs.Common.{◌≡◌, ℕ, ◌+◌, ◌-◌, ◌^◌, ◌<◌, ◌≤◌, Bool, true, false, Some, None, Ok, List, [], ◌∷◌, ◌++◌, length, refl, sym, ap, subst, ◌∙◌, arith, append_assoc}
 use Rattle.std.specs.Prelude.{slice_get, slice_index}
 use Rattle.std.proofs.lemmas.List.{append-nil}
 use Rattle.flat_memory.specs.Memory.{Memory}
@@ -8,6 +8,7 @@ use Rattle.x64_instr.specs.declared.operand.Base.TheVariants as bases
 use Rattle.x64_instr.specs.declared.operand.RegisterOrMemory.TheVariants as places
 use Rattle.x64_instr.specs.declared.instruction.Target.TheVariants.{Indirect}
 use Rattle.x64_instr.specs.declared.instruction.Instr.{Instr}
+use Rattle.x64_machine.specs.declared.context.Context.{Context}
 use Rattle.x64_machine.specs.Effect.{State, register, with_rip}
 use Rattle.virtual_unwind.specs.CallerOf.{Functions}
 use Rattle.virtual_unwind.specs.Undone.{word}
@@ -23,22 +24,23 @@ use Rattle.x64_templates.specs.Runs.{Steps, HasCode}
 use Rattle.x64_templates.specs.Thunks.{HasThunk}
 use Rattle.x64_templates.proofs.PlacedCode.{thunk_encodable}
 use Rattle.x64_templates.proofs.Computes.{code_split}
-use Rattle.linked_stack.specs.Stack.{StackFrame, StackItem, Framed}
+use Rattle.linked_stack.specs.Stack.{StackItem, Framed, Leaf, Stands, OwnedBy, context_after}
 use Rattle.linked_stack.specs.WalkLaws.{context_below}
 use Rattle.linked_stack.specs.ImagePlan.{Plan}
 use Rattle.whole_runs.specs.Shadow.{is_call, KeepsShadow, AllKeep}
 use Rattle.whole_runs.proofs.Shadows.{straight, keep_first}
 use Rattle.body_states.specs.Sites.{Sites, links_of}
-use Rattle.body_states.specs.Programs.{frame_with, HasProgram, IsResumed, IsFramed, IsProgramImage}
+use Rattle.body_states.specs.Programs.{frame_with, HasProgram, IsResumed, IsProgramImage}
 use Rattle.body_states.specs.Callers.{FindsReturn}
 use Rattle.body_states.proofs.Effects.{others_of, Calls, jumps}
 use Rattle.body_states.proofs.QuietTurns.{program_kept}
+use Rattle.body_states.proofs.Waiting.{leaf_layout}
 use Rattle.body_states.proofs.Beneath.{read_here, effect_here, StepsTo, steps_split, keeps_split, Beneath, beneath_stays, callers_above, AllPlain, Finds, Ran, ran}
 use Rattle.body_states.proofs.Crossing.{gives_here, called, beneath_called, call_keeps_shadow, beneath_callee}
 use Rattle.body_states.proofs.Finding.{resumed_found, within_found, template_there}
 
 module _ (t : Functions) (fs : List Funclet) (program : LinearProgram) (p : Plan) (q : Sites) (image : IsProgramImage t fs program p q) where
-  module _ (name : BodyName) (b : LinearBody) (is : body_of program name ≡ Some b) (framed : p.leaf name ≡ false) (label : ℕ) (i : Instruction) (at : slice_get b.code label ≡ Some i) (goes : IsReturn i → ⊥)
+  module _ (name : BodyName) (b : LinearBody) (is : body_of program name ≡ Some b) (label : ℕ) (i : Instruction) (at : slice_get b.code label ≡ Some i) (goes : IsReturn i → ⊥)
       (before after : List Instr) (next to : ℕ) (parts : template (links_of p q name) (p.layout name) (p.address name label) i ≡ before ++ (call next to ∷ after))
       (next_is : p.address name label + sizes before + 5 ≡ next) (near : IsNear next to) (there : ℕ) (resumed : IsResumed t fs program p q name b there next) (enters : (m : Memory) → FindsReturn t m to 0)
       (s w : State) (top back : ℕ) (others : List ℕ) (list : List StackItem) (here : s.cpu.rip ≡ p.address name label) (beneath : Beneath t s top (top + 8) back others list)
@@ -115,33 +117,74 @@ module _ (t : Functions) (fs : List Funclet) (program : LinearProgram) (p : Plan
     pub calls_keep : AllKeep t fs (length before + 1) s
     calls_keep = keeps_split t fs (length before) 1 s u halves.1 first.keeps (keep_first t fs 0 u v st.steps keeps_called tt)
 
-    -- at the callee's first byte the caller's frame is one of the list
-    waits : IsFramed t fs program p q v.memory name (context_below next (sp - 8 + 8) others) back
-    waits =
-        let high = beneath.high in
-        let eight : length others ≡ 8 = ap (λ (xs : List ℕ). length xs) (sym beneath.others_are) in
-        image.frames v.memory name b there (context_below next (sp - 8 + 8) others) back is framed has_called resumed (omega arith) (omega arith) (ap (word v.memory) up ∙ still_beneath.returns)
+    -- at the callee's first byte the caller is an item of the list
+    abbrev from_here : Context
+    from_here = context_below next (sp - 8 + 8) others
+
+    record Waits (limit : ℕ) : Type 0 where
+      item : StackItem
+      stands : Stands t v.memory from_here item
+      same : context_after from_here item ≡ context_below back (top + 8) others
+      owned : (a : ℕ) → OwnedBy from_here item a → limit ≤ a
+
+    waits : (limit : ℕ) → limit ≤ top → Waits limit
+    waits limit most = by (p.leaf name) refl
+      where
+        eight : length others ≡ 8
+        eight = ap (λ (xs : List ℕ). length xs) (sym beneath.others_are)
+
+        back_there : word v.memory (sp - 8 + 8 + frame) ≡ Ok back
+        back_there = ap (word v.memory) up ∙ still_beneath.returns
+
+        by : (leaf : Bool) → p.leaf name ≡ leaf → Waits limit
+        by false e =
+            let high = beneath.high in
+            let f = image.frames v.memory name b there from_here back is e has_called resumed (let n = eight in omega arith) (omega arith) back_there in
+            let z : sp - 8 + 8 + frame + 8 ≡ top + 8 = omega arith in
+            record {
+              item = Framed (frame_with (p.entry name) frame f.offset back);
+              stands = f.stands;
+              same = ap (λ n. context_below back n others) z;
+              owned = λ a o. (let l = o.low in omega arith);
+            }
+        by true e =
+            let high = beneath.high in
+            let none = (leaf_layout t fs program p q name b e (image.laid_out name b is)).frame in
+            let z : sp - 8 + 8 ≡ sp - 8 + 8 + frame = omega arith in
+            let y : sp - 8 + 8 + 8 ≡ top + 8 = omega arith in
+            record {
+              item = Leaf back;
+              stands = image.leaves v.memory name b there from_here back is e resumed (let n = eight in omega arith) (omega arith) (ap (word v.memory) z ∙ back_there);
+              same = ap (λ n. context_below back n others) y;
+              owned = λ a o. (let l = o.low in omega arith);
+            }
+
+    record CalleeFrom (limit : ℕ) (x : State) : Type 0 where
+      item : StackItem
+      beneath_it : Beneath t x (sp - 8) limit next others (item ∷ list)
+      rip : x.cpu.rip ≡ to
+      stack : register x.cpu Rsp ≡ sp - 8
+      program_there : HasProgram t fs program p q x.memory
 
     pub record CalleeBegins (limit : ℕ) : Type 0 where
-      pub frame_of : StackFrame
-      pub beneath_it : Beneath t w (sp - 8) limit next others (Framed frame_of ∷ list)
-      pub home : frame_of.size ≡ frame
+      pub item : StackItem
+      pub beneath_it : Beneath t w (sp - 8) limit next others (item ∷ list)
       pub rip : w.cpu.rip ≡ to
       pub stack : register w.cpu Rsp ≡ sp - 8
       pub program_there : HasProgram t fs program p q w.memory
 
     pub callee_begins : (limit : ℕ) → sp ≤ limit → limit ≤ top → CalleeBegins limit
     callee_begins limit le most =
-        let f = frame_with (p.entry name) frame waits.offset back in
-        let v_begins : (x : State) → v ≡ x → Beneath t x (sp - 8) limit next others (Framed f ∷ list) × (x.cpu.rip ≡ to) × (register x.cpu Rsp ≡ sp - 8) × HasProgram t fs program p q x.memory = λ x e.
-        subst (λ (y : State). Beneath t y (sp - 8) limit next others (Framed f ∷ list) × (y.cpu.rip ≡ to) × (register y.cpu Rsp ≡ sp - 8) × HasProgram t fs program p q y.memory) e (
-          beneath_callee t fs top (top + 8) back others list u v st first.beneath (sp - 8) frame to sp_below up next there_is near after code_there f limit waits.stands refl refl (omega arith) most,
-          is_called.rip,
-          is_called.stack,
-          has_called,
-        ) in
-        let k = v_begins w halves.2.2 in
-        record { frame_of = f; beneath_it = k.0; home = refl; rip = k.1; stack = k.2; program_there = k.3 }
+        let i = waits limit most in
+        let first_state : CalleeFrom limit v = record {
+          item = i.item;
+          beneath_it = beneath_callee t fs top (top + 8) back others list u v st first.beneath (sp - 8) frame to sp_below up next there_is near after code_there i.item limit i.stands i.same i.owned (omega arith) most;
+          rip = is_called.rip;
+          stack = is_called.stack;
+          program_there = has_called;
+        } in
+        let k = subst (CalleeFrom limit) halves.2.2 first_state in
+        record { item = k.item; beneath_it = k.beneath_it; rip = k.rip; stack = k.stack; program_there = k.program_there }
 
   -- a thunk leads to its service
   module _ (s w : State) (top from back : ℕ) (others : List ℕ) (list : List StackItem) (beneath : Beneath t s top from back others list) (at_top : register s.cpu Rsp ≡ top) (at service : ℕ) (here : s.cpu.rip ≡ at) (there : HasThunk s.memory at service)

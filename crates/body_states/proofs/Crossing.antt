@@ -18,7 +18,7 @@ use Rattle.template_code.specs.Bytes.{size}
 use Rattle.template_code.specs.Jumps.{IsNear, call, distance}
 use Rattle.template_code.proofs.Sizes.{call_size, arrives, short}
 use Rattle.x64_templates.specs.Runs.{Steps, HasCode}
-use Rattle.linked_stack.specs.Stack.{StackFrame, StackItem, Framed, FrameStands, IsStack, Owned, after_frame}
+use Rattle.linked_stack.specs.Stack.{StackItem, Stands, IsStack, OwnedBy, Owned, context_after}
 use Rattle.linked_stack.specs.WalkLaws.{context_below}
 use Rattle.linked_stack.specs.PlainWalks.{state}
 use Rattle.whole_runs.specs.Shadow.{is_call, caller_at, GivesCallers, WalkGives, KeepsShadow}
@@ -100,8 +100,8 @@ module _ (t : Functions) (fs : List Funclet) where
             (word_loads s.memory (register s.cpu Rsp) back (ap (word s.memory) at ∙ b.returns))
             (effect_here s u instrs.Return more refl code refl st.steps)
 
-        pub context_after : context_of u.cpu ≡ above
-        context_after = context_is u back (top + 8) others returned.rip returned.stack (returned.others ∙ b.others_are)
+        pub returned_context : context_of u.cpu ≡ above
+        returned_context = context_is u back (top + 8) others returned.rip returned.stack (returned.others ∙ b.others_are)
 
         pub list_after : IsStack t u.memory above is
         list_after = subst (λ (m : Memory). IsStack t m above is) (sym returned.memory) b.list
@@ -112,7 +112,7 @@ module _ (t : Functions) (fs : List Funclet) where
             let quiet = ap is_call (read_here s u instrs.Return more refl code) in
             let r = returned.stack in
             return_keeps t fs s u above (callers above is) st.steps quiet (gives_here s 0 b finds z)
-            (subst (λ c. GivesCallers t u.memory (state c 0) (callers above is)) (sym context_after) (on_stack t u.memory above 0 is list_after))
+            (subst (λ c. GivesCallers t u.memory (state c 0) (callers above is)) (sym returned_context) (on_stack t u.memory above 0 is list_after))
             (let h : top + 8 < register u.cpu Rsp + 8 = omega arith in h)
             (subst (λ sp. HeadAbove sp (callers above is)) (sym r) (stack_rises t s.memory above is b.list))
 
@@ -145,21 +145,20 @@ module _ (t : Functions) (fs : List Funclet) where
             let same : context_below next (sp + 8) others ≡ caller_at u = λ i. context_below (sym n i) (sym c.stack i + 8) (sym o i) in
             call_keeps t fs s u mine st.steps quiet (gives_here s d b before z) (subst (λ x. WalkGives t u (x ∷ mine)) same there)
 
-        -- it runs below its own return address, where the caller's frame stands
-        pub beneath_callee : (f : StackFrame) (limit : ℕ) → FrameStands t u.memory (context_below next (sp + 8) others) f → f.size ≡ d → f.return_address ≡ back → sp + 8 ≤ limit → limit ≤ top → Beneath t u sp limit next others (Framed f ∷ is)
-        beneath_callee f limit stands size returns_to le most =
+        -- it runs below its own return address, where the caller stands as an item of the list
+        pub beneath_callee : (i : StackItem) (limit : ℕ) → Stands t u.memory (context_below next (sp + 8) others) i → context_after (context_below next (sp + 8) others) i ≡ above → ((a : ℕ) → OwnedBy (context_below next (sp + 8) others) i a → limit ≤ a) → sp + 8 ≤ limit → limit ≤ top
+            → Beneath t u sp limit next others (i ∷ is)
+        beneath_callee i limit stands same owned le most =
             let c = called in
             let b' = beneath_called in
             let past = b.past in
             let high = b.high in
-            let z : top + 8 ≡ sp + 8 + f.size + 8 = omega arith in
-            let same : above ≡ after_frame (context_below next (sp + 8) others) f = λ i. context_below (sym returns_to i) (z i) others in
             record {
               others_are = c.others ∙ b.others_are;
               count = c.count ∙ b.count;
               returns = c.pushed;
-              list = (stands, subst (λ x. IsStack t u.memory x is) same b'.list);
-              owned = λ a o. elim o [ inl w ↦ (let l = w.low in omega arith) | inr w ↦ (let l = b.owned a (subst (λ x. Owned x is a) (sym same) w) in omega arith) ];
+              list = (stands, subst (λ x. IsStack t u.memory x is) (sym same) b'.list);
+              owned = λ a o. elim o [ inl w ↦ owned a w | inr w ↦ (let l = b.owned a (subst (λ x. Owned x is a) same w) in omega arith) ];
               past = le;
               high = omega arith;
               limit = omega arith;

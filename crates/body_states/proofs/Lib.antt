@@ -9,8 +9,10 @@ pub mod Waiting
 pub mod Resumed
 pub mod Inside
 pub mod Finding
+pub mod FrameMaking
+pub mod CallKeeping
+pub mod EntryKeeping
+pub mod ReturnKeeping
 pub mod Found
 pub mod Flowing
 pub mod Pieces
-pub mod FrameMaking
-pub mod CallKeeping

@@ -264,7 +264,7 @@ module _ (t : Functions) (fs : List Funclet) (program : LinearProgram) (p : Plan
 
       -- ---- the list below
 
-      data_stays : IsData u.memory
+      pub data_stays : IsData u.memory
       data_stays = stays_data program.globals s u y (counts_of code) sp c.frame.activation b.body.acts here cnt r.changed b.memory.data_alone b.memory.stack
 
       function_below : (number : ℕ) (acts : List Activation) (size : ℕ) → HasActivation s.memory y sp size c.frame.activation acts (FunctionBody number) → activations_below (FunctionBody number) acts ≡ activations_below (FunctionBody number) (with_values acts c.frame.activation values)

@@ -28,7 +28,7 @@ use Rattle.x64_templates.proofs.Bodies.{holds_same, changes_same}
 use Rattle.x64_templates.proofs.Flows.{IsFlow}
 use Rattle.x64_templates.proofs.InstructionRuns.{LabelsNear, body_most, labels_near}
 use Rattle.linked_stack.specs.ImagePlan.{Plan}
-use Rattle.whole_runs.specs.Shadow.{AllKeep}
+use Rattle.whole_runs.specs.Shadow.{WalkGives, AllKeep}
 use Rattle.body_states.specs.Sites.{Sites, links_of}
 use Rattle.body_states.specs.Callers.{FindsReturn}
 use Rattle.body_states.specs.Programs.{IsProgramImage}
@@ -36,7 +36,7 @@ use Rattle.body_states.specs.Bodies.{Begins}
 use Rattle.body_states.proofs.StackWalks.{callers, on_stack, keep_then}
 use Rattle.body_states.proofs.QuietTurns.{program_kept}
 use Rattle.body_states.proofs.Found.{begin_finds}
-use Rattle.body_states.proofs.Flowing.{caller_by, StandsBelow}
+use Rattle.body_states.proofs.Flowing.{caller_by, StandsBelow, from_state}
 use Rattle.body_states.proofs.Pieces.{piece_finds, piece_keeps}
 use Rattle.body_steps.specs.Views.{counts_of, state_of}
 use Rattle.body_steps.specs.Stores.{OwnerHasFrame}
@@ -128,6 +128,12 @@ module _ (t : Functions) (fs : List Funclet) (program : LinearProgram) (p : Plan
     stands = stands;
     finds = subst (λ a. FindsReturn t u.memory a layout_here.frame) (sym rip) (begin_finds t fs program p q image u.memory c.frame.body code_here label b.body.slots.body stands.program_there lt);
   }
+
+  -- there the walk gives these callers
+  pub ends_gives : (u : State) → Ends u → WalkGives t u (caller_here ∷ beyond_here)
+  ends_gives u e =
+      let nine : length kept_here ≡ 9 = refl in
+      from_state t fs program p q u kept_here layout_here.frame b.body.back beyond_here e.finds e.registers nine enough e.stands
 
   -- each turn of a run that ends so keeps the shadow
   abbrev pub RunsKeep : ℕ → State → Type 0

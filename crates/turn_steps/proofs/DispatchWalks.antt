@@ -151,25 +151,19 @@ module _ (t : Functions) (fs : List Funclet) (program : LinearProgram) (p : Plan
 
   -- ---- at a service of the host
 
-  -- the walk gives the service's own call, and what it gives where the call returns to
-  pub service_gives : (s : State) (a ret : ℕ) (cs : List Context) → s.cpu.rip ≡ a → 0 < a → a < 0x100000000 → a ≢ filter_return → a ≢ finally_return
-      → loaded s.memory (register s.cpu Rsp) W64 ≡ Ok ret → length s.cpu.registers ≡ 16 → register s.cpu Rsp + 8 < 2 ^ 64 → GivesCallers t s.memory (state (context_of (back s ret).cpu) 0) cs
-      → WalkGives t s (caller_above (context_of s.cpu) 0 ret ∷ cs)
-  service_gives s a ret cs here low high other another w count small gives =
+  -- the walk gives the service's own call, and what it gives from the state after its return
+  pub service_walk : (s : State) (a ret : ℕ) (is : List StackItem) → s.cpu.rip ≡ a → 0 < a → a < 0x100000000 → a ≢ filter_return → a ≢ finally_return
+      → loaded s.memory (register s.cpu Rsp) W64 ≡ Ok ret → length s.cpu.registers ≡ 16 → register s.cpu Rsp + 8 < 2 ^ 64 → IsStack t s.memory (context_of (back s ret).cpu) is
+      → (c : Context) × WalkGives t s (c ∷ callers (context_of (back s ret).cpu) is)
+  service_walk s a ret is here low high other another w count small stack =
       let sp = register s.cpu Rsp in
       let flat : sp + 0 ≡ sp = omega arith in
       let up : (sp + 8) % 2 ^ 64 % 2 ^ 64 ≡ sp + 0 + 8 = omega arith in
       let c = caller_above (context_of s.cpu) 0 ret in
-      let same : context_of (back s ret).cpu ≡ c =
+      let after = context_of (back s ret).cpu in
+      let cs = callers after is in
+      let same : after ≡ c =
       ap (λ (ks : List ℕ). let x : Context = record { rip = ret; kept = ks } in x) (kept_with s.cpu.registers ((sp + 8) % 2 ^ 64 % 2 ^ 64) count) ∙ ap (λ n. let x : Context = record { rip = ret; kept = slice_set (kept_of s.cpu.registers) 0 n } in x) up in
       let returns : word s.memory (sp + 0) ≡ Ok ret = ap (word s.memory) flat ∙ ap (λ (x : Result ℕ RefusedAccess). readable sp x) w in
       let found = image.callers_outside.services s.memory a low high other another (context_of s.cpu) ret here refl (omega arith) returns in
-      gives_caller t s.memory (context_of s.cpu) c cs found (subst (λ (x : Context). GivesCallers t s.memory (state x 0) cs) same gives)
-
-  pub service_walk : (s : State) (a ret : ℕ) (is : List StackItem) → s.cpu.rip ≡ a → 0 < a → a < 0x100000000 → a ≢ filter_return → a ≢ finally_return
-      → loaded s.memory (register s.cpu Rsp) W64 ≡ Ok ret → length s.cpu.registers ≡ 16 → register s.cpu Rsp + 8 < 2 ^ 64 → IsStack t s.memory (context_of (back s ret).cpu) is
-      → (c : Context) × WalkGives t s (c ∷ callers (context_of (back s ret).cpu) is)
-  service_walk s a ret is here low high other another w count small stack = (
-    caller_above (context_of s.cpu) 0 ret,
-    service_gives s a ret (callers (context_of (back s ret).cpu) is) here low high other another w count small (on_stack t s.memory (context_of (back s ret).cpu) 0 is stack),
-  )
+      (c, gives_caller t s.memory (context_of s.cpu) c cs found (subst (λ (x : Context). GivesCallers t s.memory (state x 0) cs) same (on_stack t s.memory after 0 is stack)))

@@ -1,7 +1,6 @@
 -- The same body in another memory, whose stack is the same from RSP up.
-use Rattle.std.proofs.Common.{◌≡◌, ℕ, ◌+◌, ◌≤◌, Bool, true, false, List, refl, sym, ap, ◌∙◌, arith}
+use Rattle.std.proofs.Common.{◌≡◌, ℕ, ◌+◌, ◌≤◌, false, List, sym, ap, ◌∙◌, arith}
 use Rattle.host_layout.specs.declared.range.TheConstants.{STACK_START, STACK_END}
-use Rattle.flat_memory.specs.declared.protection.Protection.{Protection}
 use Rattle.flat_memory.specs.Memory.{Memory}
 use Rattle.x64_instr.specs.declared.register.Reg.TheVariants.{Rsp}
 use Rattle.x64_machine.specs.Contexts.{context_of}
@@ -26,23 +25,6 @@ use Rattle.body_steps.proofs.Around.{some_is}
 -- the stack from further up
 pub higher_stack : (m m' : Memory) (low high : ℕ) → low ≤ high → KeepsStack m m' low → KeepsStack m m' high
 higher_stack m m' low high le k = record { bytes = λ x from to. k.bytes x (omega arith) to; protection = k.protection; code = k.code; no_more_code = k.no_more_code }
-
--- and the other way round
-pub keeps_back : (m m' : Memory) (low : ℕ) → KeepsStack m m' low → KeepsStack m' m low
-keeps_back m m' low k = record {
-  bytes = λ x l u. sym (k.bytes x l u);
-  protection = λ x l u. sym (k.protection x l u);
-  code = λ x e. code x (m.protection x).execute refl e;
-  no_more_code = λ x e. fewer x (m.protection x).execute refl e;
-}
-  where
-    code : (x : ℕ) (b : Bool) → (m.protection x).execute ≡ b → (m'.protection x).execute ≡ true → (m.byte x ≡ m'.byte x) × (m.protection x ≡ m'.protection x)
-    code x true h e = let z = k.code x h in (sym z.0, sym z.1)
-    code x false h e = let z = k.no_more_code x h in absurd (let no : true ≡ false = sym e ∙ z in cc)
-
-    fewer : (x : ℕ) (b : Bool) → (m.protection x).execute ≡ b → (m'.protection x).execute ≡ false → (m.protection x).execute ≡ false
-    fewer x false h e = h
-    fewer x true h e = let z = (k.code x h).1 in absurd (let no : true ≡ false = sym h ∙ sym (ap (λ (o : Protection). o.execute) z) ∙ e in cc)
 
 module _ (t : Functions) (fs : List Funclet) (program : LinearProgram) (p : Plan) (q : Sites) (image : IsProgramImage t fs program p q) (s : State) (c : Configuration) (b : Begins t fs program p q s c) (counted : IsCounted t fs program p q image c) (framed : p.leaf c.frame.body ≡ false)
     (m source : Memory) (keeps : KeepsStack s.memory m (register s.cpu Rsp)) (memory : IsMachineMemory t fs program p q m source) where

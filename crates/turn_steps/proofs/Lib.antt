@@ -46,6 +46,7 @@ pub mod Fields
 pub mod ServiceFilters
 pub mod Informing
 pub mod Elsewhere
+pub mod ServiceShadow
 pub mod Arena
 pub mod Reached
 pub mod ServiceReturned
@@ -71,3 +72,5 @@ pub mod Answers
 pub mod Records
 pub mod EndReturned
 pub mod EndSteps
+pub mod FuncletKeeping
+pub mod Grounds

@@ -49,7 +49,7 @@ clear_size : size clear_result ≡ 5
 unfolding size opcode_register
 clear_size = refl
 
-pub service_low : (f : BuiltIn) → (0 < address_of (service_of f)) × (address_of (service_of f) < 0x100000000)
+service_low : (f : BuiltIn) → (0 < address_of (service_of f)) × (address_of (service_of f) < 0x100000000)
 service_low Put = (omega arith, omega arith)
 service_low Protect = (omega arith, omega arith)
 service_low RaiseException = (omega arith, omega arith)

@@ -75,7 +75,7 @@ module _ (t : Functions) (fs : List Funclet) where
       → (u : State) (es : List Event) → arrivals u.cpu (distance t.base u.cpu.rip) 1 fs ≡ es → WalkGives t u (drop_below (register u.cpu Rsp) (started u es (served (service_at a) cs))) → KeepsShadow t fs s u
   keeps_at s a cs e before u es arrives after = host_keeps t fs s u a es cs (drop_below (register u.cpu Rsp) (started u es (served (service_at a) cs))) e arrives before after refl
 
-  pub service_step : (s : State) (a : ℕ) → s.cpu.rip ≡ a → step s ≡ cond (in_host_page a) (Err (hosted a (service_at a))) (execute s (leading (executable s.memory 15 s.cpu.rip)))
+  service_step : (s : State) (a : ℕ) → s.cpu.rip ≡ a → step s ≡ cond (in_host_page a) (Err (hosted a (service_at a))) (execute s (leading (executable s.memory 15 s.cpu.rip)))
   unfolding step
   service_step s a e = ap (λ b. cond (in_host_page b) (Err (hosted b (service_at b))) (execute s (leading (executable s.memory 15 s.cpu.rip)))) e
 

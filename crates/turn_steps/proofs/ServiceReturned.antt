@@ -1,26 +1,21 @@
 -- A service returns: its result goes to the temporary of the first argument, and the next instruction begins.
-use Rattle.std.proofs.Common.{◌≡◌, ◌≢◌, ℕ, zero, suc, ◌+◌, ◌-◌, ◌%◌, ◌^◌, ◌<◌, ◌≤◌, false, List, [], ◌∷◌, ◌++◌, length, take, drop, get_or, set, Option, Some, None, Err, refl, sym, ap, subst, ◌∙◌, arith, inl, inr}
+use Rattle.std.proofs.Common.{◌≡◌, ℕ, zero, suc, ◌+◌, ◌-◌, ◌%◌, ◌^◌, ◌<◌, ◌≤◌, false, List, [], ◌∷◌, ◌++◌, length, take, drop, get_or, set, Option, Some, None, refl, sym, ap, subst, ◌∙◌, arith, inl, inr}
 use Rattle.std.specs.Prelude.{◌⊎◌, slice_get, slice_index}
 use Rattle.std.proofs.lemmas.List.{append-nil, length-set}
 use Rattle.std.proofs.lemmas.Option.{slice_get_within}
 use Rattle.seh_num.specs.declared.event.Event.{Event}
-use Rattle.host_layout.specs.declared.range.TheConstants.{STACK_END}
-use Rattle.host_layout.specs.Services.{address_of, service_at}
 use Rattle.flat_memory.specs.Memory.{Memory}
 use Rattle.x64_instr.specs.declared.register.Reg.TheVariants.{Rsp}
 use Rattle.x64_instr.specs.declared.instruction.Instr.{Instr}
 use Rattle.x64_machine.specs.declared.context.Context.{Context}
-use Rattle.x64_machine.specs.declared.outcome.Stop.TheVariants as stops
-use Rattle.x64_machine.specs.Contexts.{kept_of, context_of}
-use Rattle.x64_machine.specs.Effect.{State, register, step}
+use Rattle.x64_machine.specs.Contexts.{kept_of}
+use Rattle.x64_machine.specs.Effect.{State, register}
 use Rattle.virtual_unwind.specs.CallerOf.{Functions, distance}
 use Rattle.host_model.specs.declared.funclet.Funclet.{Funclet}
 use Rattle.host_model.specs.Funclets.{arrivals}
 use Rattle.host_model.specs.Turns.{Continues}
-use Rattle.host_model.specs.HostStep.{turn, back as returned}
-use Rattle.seh_walk.specs.Walk.{filter_return, finally_return}
+use Rattle.host_model.specs.HostStep.{turn}
 use Rattle.c_operations.specs.declared.built_in.BuiltIn.{BuiltIn}
-use Rattle.c_operations.specs.declared.built_in.BuiltIn.TheVariants.{Put, Protect, RaiseException}
 use Rattle.linear_code.specs.declared.slot.Slot.TheVariants.{Temporary}
 use Rattle.linear_code.specs.declared.instruction.Instruction.TheVariants as instructions
 use Rattle.linear_code.specs.BodyState.{BodyState, with_slot}
@@ -29,7 +24,7 @@ use Rattle.linear_machine.specs.Frames as linear
 use Rattle.linear_machine.specs.Frames.{Configuration, Next}
 use Rattle.linear_machine.specs.Instructions.{act}
 use Rattle.template_code.specs.Bytes.{sizes}
-use Rattle.template_code.specs.Slots.{keep, put_back, temporary_at}
+use Rattle.template_code.specs.Slots.{keep}
 use Rattle.template_code.specs.Jumps.{call}
 use Rattle.template_code.specs.Calls.{arguments_code, return_at, begin_call, clear_result}
 use Rattle.template_code.proofs.Sizes.{sizes_append, call_size}
@@ -40,40 +35,34 @@ use Rattle.x64_templates.proofs.Keeping.{index_other}
 use Rattle.x64_templates.proofs.Returns.{call_ends}
 use Rattle.x64_templates.proofs.Flows.{keep_flow}
 use Rattle.linked_stack.specs.ImagePlan.{Plan}
-use Rattle.linked_stack.specs.Linked.{locals_of, activations_below}
+use Rattle.linked_stack.specs.Linked.{locals_of}
 use Rattle.linked_stack.specs.ListLaws.{KeepsAbove, KeepsStack}
-use Rattle.linked_stack.proofs.ListKeeping.{reads_other, kept_by_other_memories}
-use Rattle.whole_runs.specs.Shadow.{served as past_service, drop_below, WalkGives, KeepsShadow, AllKeep}
-use Rattle.whole_runs.proofs.Shadows.{one_below, none_below, host_keeps}
+use Rattle.whole_runs.specs.Shadow.{WalkGives, KeepsShadow, AllKeep}
 use Rattle.whole_runs.specs.Comes.{Comes}
 use Rattle.whole_runs.specs.Matched.{Moves}
-use Rattle.whole_runs.proofs.Turns.{comes_one, comes_then}
+use Rattle.whole_runs.proofs.Turns.{comes_then}
 use Rattle.ir_typed.specs.Room.{HaveRoom}
 use Rattle.body_states.specs.Sites.{Sites}
-use Rattle.body_states.specs.Callers.{caller_above, FindsReturn}
-use Rattle.body_states.specs.Programs.{service_of, HasProgram, IsMachineMemory, IsProgramImage}
+use Rattle.body_states.specs.Programs.{HasProgram, IsMachineMemory, IsProgramImage}
 use Rattle.body_states.specs.Bodies.{turns_left, Begins}
-use Rattle.body_states.proofs.QuietTurns.{program_reaches, quiet_here, reaches_quietly}
-use Rattle.body_states.proofs.StackWalks.{on_stack}
-use Rattle.body_states.proofs.Finding.{resumed_found}
-use Rattle.body_states.proofs.Flowing.{StandsBelow, from_state}
+use Rattle.body_states.proofs.QuietTurns.{quiet_here, reaches_quietly, program_reaches}
 use Rattle.body_steps.specs.Views.{counts_of}
 use Rattle.body_steps.specs.Stores.{with_values, OwnerHasFrame}
 use Rattle.body_steps.proofs.Activations.{locals_count}
 use Rattle.body_steps.proofs.Activated.{same_activations}
-use Rattle.body_steps.proofs.Viewed.{IsCounted, placed, room_here, holds_here, locals_here, frame_top}
+use Rattle.body_steps.proofs.Viewed.{IsCounted, placed, room_here, holds_here, locals_here}
 use Rattle.body_steps.proofs.Reaching.{Keeps, keeps_then, reaches_keeps, stays_sane}
 use Rattle.body_steps.proofs.Next.{Ran, begins_next}
-use Rattle.body_steps.proofs.Shadowed.{kept_by_rest, caller_here, beyond_here, stands_here, stands_after, ends_at, IsPast, one_piece}
+use Rattle.body_steps.proofs.Shadowed.{kept_by_rest, caller_here, beyond_here, stands_here, stands_after, ends_at, ends_gives, IsPast, one_piece, past_ends}
 use Rattle.body_steps.proofs.Running.{frame, slots, has_slots, quiet_at, dropped, Surroundings}
 use Rattle.body_steps.proofs.Written.{one_more}
 use Rattle.body_steps.proofs.Plain.{label_small}
 use Rattle.body_steps.proofs.Computing.{leaves_stored}
 use Rattle.turn_steps.proofs.Asking.{clear_size}
-use Rattle.turn_steps.proofs.Pushed.{keeps_above, sp_there, sp_saved}
-use Rattle.turn_steps.proofs.DispatchWalks.{service_gives}
-use Rattle.turn_steps.proofs.Elsewhere.{higher_stack, keeps_back, elsewhere, source_elsewhere, begins_elsewhere, same_activations as same_acts, same_code}
-use Rattle.turn_steps.proofs.Reached.{sp, given, back, at_service, flags_there, low, top, many, next_is, back_small, service_low, returns, reaches, comes_there, live_there, code_after}
+use Rattle.turn_steps.proofs.Pushed.{keeps_above, sp_there as returned_sp, sp_saved}
+use Rattle.turn_steps.proofs.Elsewhere.{elsewhere, source_elsewhere, begins_elsewhere, same_activations as same_acts, same_code}
+use Rattle.turn_steps.proofs.Reached.{sp, given, back, at_service, flags_there, low, top, many, next_is, back_small, reaches, comes_there, live_there, returns, code_after}
+use Rattle.turn_steps.proofs.ServiceShadow.{stands_elsewhere, service_keeps, set_back}
 
 -- numbers of 64 bits, with another of 64 bits among them
 small_set : (xs : List ℕ) (i v : ℕ) → AreSmall xs → v < 2 ^ 64 → AreSmall (set xs i v)
@@ -95,12 +84,6 @@ saved_kept xs third fourth low sp old back was =
 
 nothing : (landed : Option ℕ) (code : ℕ) → landed ≡ None → landed ≡ Some code → ⊥
 nothing landed code e h = let z : ◌≡◌ {A = Option ℕ} None (Some code) = sym e ∙ h in cc
-
--- no service is at a return address of the host
-service_apart : (f : BuiltIn) → (address_of (service_of f) ≢ filter_return) × (address_of (service_of f) ≢ finally_return)
-service_apart Put = (λ e. absurd (omega arith), λ e. absurd (omega arith))
-service_apart Protect = (λ e. absurd (omega arith), λ e. absurd (omega arith))
-service_apart RaiseException = (λ e. absurd (omega arith), λ e. absurd (omega arith))
 
 module _ (t : Functions) (fs : List Funclet) (program : LinearProgram) (p : Plan) (q : Sites) (image : IsProgramImage t fs program p q) (roomy : HaveRoom program) where
   module _ (s : State) (c : Configuration) (b : Begins t fs program p q s c) (counted : IsCounted t fs program p q image c) (around : Surroundings t fs program p q image roomy s c b counted) (f : BuiltIn) (first : ℕ)
@@ -316,88 +299,49 @@ module _ (t : Functions) (fs : List Funclet) (program : LinearProgram) (p : Plan
           (keep_flow (p.layout c.frame.body) (counts_of body) (register earlier.cpu Rsp) (placed t fs program p q image earlier calling begins counted).base room (Temporary first) (omega arith))
           past_call after run.comes ends
 
+      -- and so does the service's own turn
+      program_there : HasProgram t fs program p q memory_there
+      program_there = program_reaches t fs program p q 7 s there (reaches t fs program p q image roomy s c b counted f first at) b.memory.code
+
+      keeps_there : KeepsStack s.memory memory_there called_from
+      keeps_there = record { bytes = λ a l h. above.above a l; protection = λ a l h. refl; code = λ a e. (above.code a e, refl); no_more_code = λ a e. e }
+
+      abbrev caller : Context
+      caller = caller_here t fs program p q image s c b counted
+
+      abbrev callers : List Context
+      callers = beyond_here t fs program p q image s c b counted
+
+      gives_by : (n : Memory) → KeepsStack s.memory n called_from → HasProgram t fs program p q n → WalkGives t (record { cpu = u.cpu; memory = n }) (caller ∷ callers)
+      gives_by n same has =
+          let x : State = record { cpu = u.cpu; memory = n } in
+          ends_gives t fs program p q image s c b counted x
+          (past_ends t fs program p q image s c b counted (instructions.CallBuiltIn f first) at (λ h. h) call_code after_code x refl (omega arith)
+          (record { rip = back_is; registers = kept_back; stands = stands_elsewhere t fs program p q image s c b counted n same has }))
+
+      sp_there : register there.cpu Rsp ≡ called_from - 8
+      sp_there =
+          returned_sp with_given called_from to (let l = low t fs program p q image roomy s c b counted f first at in omega arith) (top t fs program p q image roomy s c b counted f first at) b.memory.data_alone b.memory.stack there.cpu.rip there.cpu.flags
+          (back_small t fs program p q image roomy s c b counted f first at) (many t fs program p q image roomy s c b counted f first at)
+
+      pub keeps_served : KeepsShadow t fs there u
+      keeps_served =
+          let l = low t fs program p q image roomy s c b counted f first at in
+          let h = top t fs program p q image roomy s c b counted f first at in
+          let z = sp_there in
+          let e : register u.cpu Rsp ≡ called_from = sp_is x m in
+          let up : called_from ≡ register there.cpu Rsp + 0 + 8 = omega arith in
+          let same = ap (λ (ks : List ℕ). let k : Context = record { rip = to; kept = ks } in k) (set_back (set with_given.rest 1 (called_from - 8)) sp_after (register there.cpu Rsp + 0 + 8) (e ∙ up)) in
+          service_keeps t fs program p q image f there u to caller callers refl (returns t fs program p q image roomy s c b counted f first at) (omega arith) same (gives_by memory_there keeps_there program_there) (gives_by m keeps_all memory.code) (omega arith) (omega arith) quiet_back
+
       comes_after : Comes t fs 1 u [] after
       comes_after = reaches_quietly t fs program p q image 1 u after run.comes keeps_shadow memory.code (quiet_at t fs program p q image roomy earlier calling begins counted (c.frame.next + 1) rip rip_is inside rip_small after refl)
 
-      -- ---- the service's own turn
-
-      abbrev kept_now : List ℕ
-      kept_now = kept_of s.cpu.registers
-
-      abbrev frame_now : ℕ
-      frame_now = (p.layout c.frame.body).frame
-
-      abbrev caller : Context
-      caller = caller_here t fs program p q image earlier calling begins counted
-
-      abbrev beyond : List Context
-      beyond = beyond_here t fs program p q image earlier calling begins counted
-
-      abbrev service : ℕ
-      service = address_of (service_of f)
-
-      high_here : called_from + frame_now + 8 ≤ STACK_END
-      high_here = frame_top t fs program p q image earlier calling begins counted
-
-      room_now : called_from + frame_now + 8 < 2 ^ 64
-      room_now = let h = high_here in omega arith
-
-      -- the list stands in the memory where the service was called too
-      stands_there : StandsBelow t fs program p q memory_there kept_now frame_now begins.body.back beyond
-      stands_there =
-          let l = low t fs program p q image roomy s c b counted f first at in
-          let h = high_here in
-          let other = keeps_back memory_there m called_from keeps in
-          let reads = reads_other m memory_there called_from 0x70800000 (record { bytes = other.bytes; protection = other.protection; code = other.code; no_more_code = other.no_more_code }) (omega arith) (omega arith) in
-          let on = begins.body.below (drop 1 kept_now) refl in
-          record {
-            program_there = program_reaches t fs program p q 7 s there (reaches t fs program p q image roomy s c b counted f first at) b.memory.code;
-            returns = reads.words (called_from + frame_now) begins.body.back (omega arith) (omega arith) begins.body.returns;
-            beyond = on_stack t memory_there caller 0 begins.body.is
-                (kept_by_other_memories t fs program p m memory_there caller begins.body.is c.below (activations_below c.frame.body begins.body.acts) (higher_stack m memory_there called_from (called_from + frame_now + 8) (omega arith) other) (omega arith) on.stands).stack;
-          }
-
-      -- where it returns to, the walk finds the return address above the body's frame
-      finds_back : (n : Memory) → HasProgram t fs program p q n → FindsReturn t n to frame_now
-      finds_back n has = resumed_found t fs program p q image c.frame.body body begins.body.slots.body n has c.frame.next to (record {
-        instruction = instructions.CallBuiltIn f first;
-        there = at_earlier;
-        goes_on = λ h. h;
-        done = call_code;
-        item = put_back Rsp (temporary_at (p.layout c.frame.body) first);
-        left = [];
-        parts = refl;
-        here = back_is;
-      })
-
-      gives_back : WalkGives t u (caller ∷ beyond)
-      gives_back = from_state t fs program p q u kept_now frame_now begins.body.back beyond (finds_back m memory.code) kept_back refl room_now (stands_here t fs program p q image earlier calling begins counted)
-
-      gives_there : WalkGives t there (caller_above (context_of there.cpu) 0 to ∷ (caller ∷ beyond))
-      gives_there =
-          let l = low t fs program p q image roomy s c b counted f first at in
-          let h = high_here in
-          let sp_now = sp_there with_given called_from to (omega arith) (top t fs program p q image roomy s c b counted f first at) b.memory.data_alone b.memory.stack there.cpu.rip there.cpu.flags (back_small t fs program p q image roomy s c b counted f first at) (many t fs program p q image roomy s c b counted f first at) in
-          let apart = service_apart f in
-          let near = service_low f in
-          let count = reaches_keeps 7 s there (reaches t fs program p q image roomy s c b counted f first at) in
-          service_gives t fs program p q image there service to (caller ∷ beyond) refl near.0 near.1 apart.0 apart.1 (returns t fs program p q image roomy s c b counted f first at) (count.count ∙ b.sane.count) (omega arith)
-          (from_state t fs program p q (returned there to) kept_now frame_now begins.body.back beyond (finds_back memory_there stands_there.program_there) kept_back refl room_now stands_there)
-
-      own_turn : step there ≡ Err (stops.Host service) → ((cs : List Context) → past_service (service_at service) cs ≡ cs) → KeepsShadow t fs there u
-      own_turn hosted own =
-          let l = low t fs program p q image roomy s c b counted f first at in
-          let sp_now = sp_there with_given called_from to (omega arith) (top t fs program p q image roomy s c b counted f first at) b.memory.data_alone b.memory.stack there.cpu.rip there.cpu.flags (back_small t fs program p q image roomy s c b counted f first at) (many t fs program p q image roomy s c b counted f first at) in
-          let sp_back : register u.cpu Rsp ≡ called_from = sp_is x m in
-          let first_caller = caller_above (context_of there.cpu) 0 to in
-          host_keeps t fs there u service [] (first_caller ∷ (caller ∷ beyond)) (caller ∷ beyond) hosted quiet_back gives_there gives_back
-          (ap (drop_below (register u.cpu Rsp)) (own (first_caller ∷ (caller ∷ beyond))) ∙ one_below (register u.cpu Rsp) first_caller (caller ∷ beyond) (omega arith) ∙ none_below (register u.cpu Rsp) (caller ∷ beyond) (omega arith))
-
-      -- a service that shows these events, and drops nothing of what it is called by
-      pub served : step there ≡ Err (stops.Host service) → ((cs : List Context) → past_service (service_at service) cs ≡ cs) → (shown : List Event) → turn t fs there ≡ Continues u shown → events ≡ c.events ++ shown → ((next : Next) → act program (instructions.CallBuiltIn f first) next c ≡ next (answered x source events))
+      -- a service that shows these events
+      pub served : (shown : List Event) → turn t fs there ≡ Continues u shown → events ≡ c.events ++ shown → ((next : Next) → act program (instructions.CallBuiltIn f first) next c ≡ next (answered x source events))
           → Moves t fs program 16 turns_left (Begins t fs program p q) s c (instructions.CallBuiltIn f first)
-      served hosted own shown turns all acts =
-          let one : Comes t fs 1 there shown u = comes_one t fs there u shown (live_there t fs program p q image roomy s c b counted f first at) turns (own_turn hosted own) in
+      served shown turns all acts =
+          let one : Comes t fs 1 there shown u = record { live = live_there t fs program p q image roomy s c b counted f first at; state = u; first = shown; others = []; turns = turns; shadow = keeps_served; whole = sym (append-nil shown); rest = (refl, refl) } in
           let more = one_more c.frame.temporaries (Temporary first) x fits in
           record {
             turns = 7 + (1 + 1);

@@ -14,7 +14,6 @@ use Rattle.flat_memory.specs.declared.access.RefusedAccess.{RefusedAccess}
 use Rattle.flat_memory.specs.Memory.{Memory, executable, loaded, protected, rights_asked}
 use Rattle.x64_instr.specs.declared.register.Reg.TheVariants.{Rcx, Rdx, Rsp}
 use Rattle.x64_instr.specs.Spelling.{leading}
-use Rattle.x64_machine.specs.declared.outcome.Stop.TheVariants as stops
 use Rattle.x64_machine.specs.Effect.{State, register, hosted, execute, step}
 use Rattle.virtual_unwind.specs.CallerOf.{Functions}
 use Rattle.host_model.specs.declared.funclet.Funclet.{Funclet}
@@ -42,7 +41,6 @@ use Rattle.turn_steps.proofs.Memories.{memory_untouched}
 use Rattle.turn_steps.proofs.Pushed.{pushed_untouched, pushed_data}
 use Rattle.turn_steps.proofs.Arena.{arena_memory, arena_stack}
 use Rattle.turn_steps.proofs.Reached.{sp, low, top, numbers, returns}
-use Rattle.turn_steps.proofs.Served.{service_step}
 use Rattle.turn_steps.proofs.ServiceReturned.{with_given, to, there, memory_there, returned_to, answered, quiet_back, served}
 
 module _ (t : Functions) (fs : List Funclet) where
@@ -57,12 +55,6 @@ module _ (t : Functions) (fs : List Funclet) where
   put_turns : (s : State) (ret : ℕ) → s.cpu.rip ≡ address_of services.Put → loaded s.memory (register s.cpu Rsp) W64 ≡ Ok ret
       → turn t fs s ≡ arrived t fs (Continues (back s ret) (events.Put (signed W64 (register s.cpu Rcx)) ∷ []))
   put_turns s ret e w = at_service s (address_of services.Put) e ∙ ap (λ (x : Result ℕ RefusedAccess). arrived t fs (returned s x (λ u. Continues u (events.Put (signed W64 (register s.cpu Rcx)) ∷ [])))) w
-
-  put_hosted : (s : State) → s.cpu.rip ≡ address_of services.Put → step s ≡ Err (stops.Host (address_of services.Put))
-  put_hosted s e = service_step t fs s (address_of services.Put) e
-
-  protect_hosted : (s : State) → s.cpu.rip ≡ address_of services.Protect → step s ≡ Err (stops.Host (address_of services.Protect))
-  protect_hosted s e = service_step t fs s (address_of services.Protect) e
 
   protect_turns : (s : State) (ret : ℕ) → s.cpu.rip ≡ address_of services.Protect → loaded s.memory (register s.cpu Rsp) W64 ≡ Ok ret
       → turn t fs s ≡ arrived t fs (protecting s (back s ret))
@@ -150,7 +142,7 @@ module _ (t : Functions) (fs : List Funclet) (program : LinearProgram) (p : Plan
     put_step =
         served t fs program p q image roomy s c b counted around Put first at framed within held fits free 0 (omega arith) here.memory c.store.memory (c.events ++ shown)
         (same_stack s c b counted around Put first at framed within held fits free here.memory (sp t fs program p q image roomy s c b counted Put first at)) (pushed_memory s c b counted around Put first at framed within held fits free)
-        (put_hosted t fs here refl) (λ cs. refl) shown turns refl puts
+        shown turns refl puts
 
   -- `protect`
   module _ (s : State) (c : Configuration) (b : Begins t fs program p q s c) (counted : IsCounted t fs program p q image c) (around : Surroundings t fs program p q image roomy s c b counted) (first : ℕ)
@@ -212,4 +204,4 @@ module _ (t : Functions) (fs : List Funclet) (program : LinearProgram) (p : Plan
     pub protect_step : Moves t fs program 16 turns_left (Begins t fs program p q) s c (instructions.CallBuiltIn Protect first)
     protect_step =
         served t fs program p q image roomy s c b counted around Protect first at framed within held enough free result (omega arith) new_memory new_source c.events kept_stack kept_memory
-        (protect_hosted t fs at_protect refl) (λ cs. refl) [] protect_turn (sym (append-nil c.events)) protects
+        [] protect_turn (sym (append-nil c.events)) protects
