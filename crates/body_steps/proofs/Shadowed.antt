@@ -28,7 +28,7 @@ use Rattle.x64_templates.proofs.Bodies.{holds_same, changes_same}
 use Rattle.x64_templates.proofs.Flows.{IsFlow}
 use Rattle.x64_templates.proofs.InstructionRuns.{LabelsNear, body_most, labels_near}
 use Rattle.linked_stack.specs.ImagePlan.{Plan}
-use Rattle.whole_runs.specs.Shadow.{AllKeep}
+use Rattle.whole_runs.specs.Shadow.{WalkGives, AllKeep}
 use Rattle.body_states.specs.Sites.{Sites, links_of}
 use Rattle.body_states.specs.Callers.{FindsReturn}
 use Rattle.body_states.specs.Programs.{IsProgramImage}
@@ -36,7 +36,7 @@ use Rattle.body_states.specs.Bodies.{Begins}
 use Rattle.body_states.proofs.StackWalks.{callers, on_stack, keep_then}
 use Rattle.body_states.proofs.QuietTurns.{program_kept}
 use Rattle.body_states.proofs.Found.{begin_finds}
-use Rattle.body_states.proofs.Flowing.{caller_by, StandsBelow}
+use Rattle.body_states.proofs.Flowing.{caller_by, StandsBelow, from_state}
 use Rattle.body_states.proofs.Pieces.{piece_finds, piece_keeps}
 use Rattle.body_steps.specs.Views.{counts_of, state_of}
 use Rattle.body_steps.specs.Stores.{OwnerHasFrame}
@@ -129,6 +129,12 @@ module _ (t : Functions) (fs : List Funclet) (program : LinearProgram) (p : Plan
     finds = subst (λ a. FindsReturn t u.memory a layout_here.frame) (sym rip) (begin_finds t fs program p q image u.memory c.frame.body code_here label b.body.slots.body stands.program_there lt);
   }
 
+  -- there the walk gives these callers
+  pub ends_gives : (u : State) → Ends u → WalkGives t u (caller_here ∷ beyond_here)
+  ends_gives u e =
+      let nine : length kept_here ≡ 9 = refl in
+      from_state t fs program p q u kept_here layout_here.frame b.body.back beyond_here e.finds e.registers nine enough e.stands
+
   -- each turn of a run that ends so keeps the shadow
   abbrev pub RunsKeep : ℕ → State → Type 0
   RunsKeep n x = (u : State) → Reaches n x u → Ends u → AllKeep t fs n x
@@ -152,16 +158,21 @@ module _ (t : Functions) (fs : List Funclet) (program : LinearProgram) (p : Plan
         piece_keeps t fs program p q image c.frame.body code_here c.frame.next i b.body.slots.body at goes before code [] (parts ∙ ap (λ (xs : List Instr). before ++ xs) (sym (append-nil code)))
         x u kept_here b.body.back beyond_here flow r past.rip past.registers ends.registers enough past.stands ends.stands ends.finds
 
+    -- where another instruction of the template is left, the walk finds the return address
+    pub past_ends : (before left : List Instr) (x : State) → whole ≡ before ++ left → 1 ≤ length left → IsPast before x → Ends x
+    past_ends before left x parts some past =
+        let z = some_length left some in
+        let begin = p.address c.frame.body c.frame.next + sizes before in
+        let none : begin + sizes [] ≡ begin = omega arith in
+        let parts_after : whole ≡ before ++ (left ++ []) = parts ∙ ap (λ (xs : List Instr). before ++ xs) (sym (append-nil left)) in
+        let finds = piece_finds t fs program p q image c.frame.body code_here c.frame.next i b.body.slots.body at goes before left [] parts_after x.memory begin [] z.1 z.0 refl past.stands.program_there z.2 in
+        record { registers = past.registers; stands = past.stands; finds = subst (λ a. FindsReturn t x.memory a layout_here.frame) (none ∙ sym past.rip) finds }
+
     -- a piece before others, up to where they begin
     pub piece_to : (before first second : List Instr) (x mid : State) → whole ≡ before ++ (first ++ second) → IsFlow first → 1 ≤ length second → IsPast before x → Reaches (length first) x mid → IsPast (before ++ first) mid → AllKeep t fs (length first) x
     piece_to before first second x mid parts flow some past comes there =
-        let z = some_length second some in
-        let begin = p.address c.frame.body c.frame.next + sizes (before ++ first) in
-        let none : begin + sizes [] ≡ begin = omega arith in
-        let parts_after : whole ≡ (before ++ first) ++ (second ++ []) = parts ∙ sym (append_assoc before first second) ∙ ap (λ (xs : List Instr). (before ++ first) ++ xs) (sym (append-nil second)) in
-        let finds = piece_finds t fs program p q image c.frame.body code_here c.frame.next i b.body.slots.body at goes (before ++ first) second [] parts_after mid.memory begin [] z.1 z.0 refl there.stands.program_there z.2 in
-        let found = subst (λ a. FindsReturn t mid.memory a layout_here.frame) (none ∙ sym there.rip) finds in
-        piece_keeps t fs program p q image c.frame.body code_here c.frame.next i b.body.slots.body at goes before first second parts x mid kept_here b.body.back beyond_here flow comes past.rip past.registers there.registers enough past.stands there.stands found
+        let ends = past_ends (before ++ first) second mid (parts ∙ sym (append_assoc before first second)) some there in
+        piece_keeps t fs program p q image c.frame.body code_here c.frame.next i b.body.slots.body at goes before first second parts x mid kept_here b.body.back beyond_here flow comes past.rip past.registers ends.registers enough past.stands ends.stands ends.finds
 
     -- and with them, where they do so too
     pub piece_then : (before first second : List Instr) (x mid : State) → whole ≡ before ++ (first ++ second) → IsFlow first → 1 ≤ length second → IsPast before x → Reaches (length first) x mid → IsPast (before ++ first) mid → AllKeep t fs (length second) mid → AllKeep t fs (length (first ++ second)) x

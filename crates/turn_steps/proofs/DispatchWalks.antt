@@ -1,5 +1,5 @@
 -- What the walk gives where the host dispatches: at the first byte of a funclet that it starts, where it lands, and at its services.
-use Rattle.std.proofs.Common.{◌≡◌, ◌≢◌, ℕ, ◌+◌, ◌%◌, ◌^◌, ◌<◌, ◌≤◌, true, Option, Some, None, Ok, List, [], ◌∷◌, length, refl, sym, ap, subst, ◌∙◌, arith}
+use Rattle.std.proofs.Common.{◌≡◌, ◌≢◌, ℕ, ◌+◌, ◌%◌, ◌^◌, ◌<◌, ◌≤◌, true, false, Option, Some, None, Ok, List, [], ◌∷◌, length, refl, sym, ap, subst, ◌∙◌, arith}
 use Rattle.std.specs.Prelude.{Result, slice_get, slice_index, slice_set}
 use Rattle.seh_num.specs.declared.width.Width.TheVariants.{W64}
 use Rattle.seh_num.specs.declared.event.Event.TheVariants as events
@@ -79,7 +79,10 @@ module _ (t : Functions) (fs : List Funclet) (program : LinearProgram) (p : Plan
     where
       by : (o : Option LinearFunclet) → slice_get program.funclets k ≡ o → parent_body o ≡ Some name → FindsReturn t m (p.funclet k) 0
       by None e h = absurd cc
-      by (Some g) e h = (image.callers (FuncletBody k) g.body (ap funclet_body e)).entries m
+      by (Some g) e h =
+          let is = ap funclet_body e in
+          let framed = (image.laid_out (FuncletBody k) g.body is).framed in
+          (image.callers (FuncletBody k) g.body is).entries m (λ leaf. absurd (let no : true ≡ false = sym leaf ∙ framed in cc))
 
   funclet_gives : (u : State) (k activation first : ℕ) (items : List Item) (acts : List Activation) (a : Arrives t fs program p u k activation first items acts) (cs : List Context)
       → ((others : List ℕ) → callers (context_below a.back a.at others) a.is ≡ cs) → WalkGives t u (caller_at u ∷ cs)

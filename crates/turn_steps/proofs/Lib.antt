@@ -49,6 +49,7 @@ pub mod Fields
 pub mod ServiceFilters
 pub mod Informing
 pub mod Elsewhere
+pub mod ServiceShadow
 pub mod Arena
 pub mod Reached
 pub mod ServiceReturned
@@ -74,3 +75,5 @@ pub mod Answers
 pub mod Records
 pub mod EndReturned
 pub mod EndSteps
+pub mod FuncletKeeping
+pub mod Grounds

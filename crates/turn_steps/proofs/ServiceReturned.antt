@@ -7,6 +7,7 @@ use Rattle.seh_num.specs.declared.event.Event.{Event}
 use Rattle.flat_memory.specs.Memory.{Memory}
 use Rattle.x64_instr.specs.declared.register.Reg.TheVariants.{Rsp}
 use Rattle.x64_instr.specs.declared.instruction.Instr.{Instr}
+use Rattle.x64_machine.specs.declared.context.Context.{Context}
 use Rattle.x64_machine.specs.Contexts.{kept_of}
 use Rattle.x64_machine.specs.Effect.{State, register}
 use Rattle.virtual_unwind.specs.CallerOf.{Functions, distance}
@@ -36,15 +37,15 @@ use Rattle.x64_templates.proofs.Flows.{keep_flow}
 use Rattle.linked_stack.specs.ImagePlan.{Plan}
 use Rattle.linked_stack.specs.Linked.{locals_of}
 use Rattle.linked_stack.specs.ListLaws.{KeepsAbove, KeepsStack}
-use Rattle.whole_runs.specs.Shadow.{AllKeep}
+use Rattle.whole_runs.specs.Shadow.{WalkGives, KeepsShadow, AllKeep}
 use Rattle.whole_runs.specs.Comes.{Comes}
 use Rattle.whole_runs.specs.Matched.{Moves}
 use Rattle.whole_runs.proofs.Turns.{comes_then}
 use Rattle.ir_typed.specs.Room.{HaveRoom}
 use Rattle.body_states.specs.Sites.{Sites}
-use Rattle.body_states.specs.Programs.{IsMachineMemory, IsProgramImage}
+use Rattle.body_states.specs.Programs.{HasProgram, IsMachineMemory, IsProgramImage}
 use Rattle.body_states.specs.Bodies.{turns_left, Begins}
-use Rattle.body_states.proofs.QuietTurns.{quiet_here, reaches_quietly}
+use Rattle.body_states.proofs.QuietTurns.{quiet_here, reaches_quietly, program_reaches}
 use Rattle.body_steps.specs.Views.{counts_of}
 use Rattle.body_steps.specs.Stores.{with_values, OwnerHasFrame}
 use Rattle.body_steps.proofs.Activations.{locals_count}
@@ -52,15 +53,16 @@ use Rattle.body_steps.proofs.Activated.{same_activations}
 use Rattle.body_steps.proofs.Viewed.{IsCounted, placed, room_here, holds_here, locals_here}
 use Rattle.body_steps.proofs.Reaching.{Keeps, keeps_then, reaches_keeps, stays_sane}
 use Rattle.body_steps.proofs.Next.{Ran, begins_next}
-use Rattle.body_steps.proofs.Shadowed.{kept_by_rest, stands_here, stands_after, ends_at, IsPast, one_piece}
+use Rattle.body_steps.proofs.Shadowed.{kept_by_rest, caller_here, beyond_here, stands_here, stands_after, ends_at, ends_gives, IsPast, one_piece, past_ends}
 use Rattle.body_steps.proofs.Running.{frame, slots, has_slots, quiet_at, dropped, Surroundings}
 use Rattle.body_steps.proofs.Written.{one_more}
 use Rattle.body_steps.proofs.Plain.{label_small}
 use Rattle.body_steps.proofs.Computing.{leaves_stored}
 use Rattle.turn_steps.proofs.Asking.{clear_size}
-use Rattle.turn_steps.proofs.Pushed.{keeps_above, sp_saved}
+use Rattle.turn_steps.proofs.Pushed.{keeps_above, sp_there as returned_sp, sp_saved}
 use Rattle.turn_steps.proofs.Elsewhere.{elsewhere, source_elsewhere, begins_elsewhere, same_activations as same_acts, same_code}
-use Rattle.turn_steps.proofs.Reached.{sp, given, back, at_service, flags_there, low, top, many, next_is, back_small, reaches, comes_there, live_there, code_after}
+use Rattle.turn_steps.proofs.Reached.{sp, given, back, at_service, flags_there, low, top, many, next_is, back_small, reaches, comes_there, live_there, returns, code_after}
+use Rattle.turn_steps.proofs.ServiceShadow.{stands_elsewhere, service_keeps, set_back}
 
 -- numbers of 64 bits, with another of 64 bits among them
 small_set : (xs : List ℕ) (i v : ℕ) → AreSmall xs → v < 2 ^ 64 → AreSmall (set xs i v)
@@ -73,11 +75,11 @@ saved_kept : (xs : List ℕ) (third fourth low sp old : ℕ) → get_or (set (se
 saved_kept xs third fourth low sp old back was =
     let all = set (set (set (set xs 5 third) 6 fourth) 1 low) 1 sp in
     let same = λ (k : ℕ) (a : 1 ≡ k → ⊥) (b : 5 ≡ k → ⊥) (c : 6 ≡ k → ⊥).
-        index_other (set (set (set xs 5 third) 6 fourth) 1 low) 1 k sp a ∙ index_other (set (set xs 5 third) 6 fourth) 1 k low a ∙ index_other (set xs 5 third) 6 k fourth c ∙ index_other xs 5 k third b in
+    index_other (set (set (set xs 5 third) 6 fourth) 1 low) 1 k sp a ∙ index_other (set (set xs 5 third) 6 fourth) 1 k low a ∙ index_other (set xs 5 third) 6 k fourth c ∙ index_other xs 5 k third b in
     let rsp = back ∙ was in
     let at = λ (k : ℕ) (h : (k < 1) ⊎ ((1 < k) × (k < 5)) ⊎ (6 < k)). same k (λ e. absurd (elim h [ inl l ↦ omega arith | inr (inl l) ↦ (let z = l.0 in omega arith) | inr (inr l) ↦ omega arith ]))
-        (λ e. absurd (elim h [ inl l ↦ omega arith | inr (inl l) ↦ (let z = l.1 in omega arith) | inr (inr l) ↦ omega arith ]))
-        (λ e. absurd (elim h [ inl l ↦ omega arith | inr (inl l) ↦ (let z = l.1 in omega arith) | inr (inr l) ↦ omega arith ])) in
+    (λ e. absurd (elim h [ inl l ↦ omega arith | inr (inl l) ↦ (let z = l.1 in omega arith) | inr (inr l) ↦ omega arith ]))
+    (λ e. absurd (elim h [ inl l ↦ omega arith | inr (inl l) ↦ (let z = l.1 in omega arith) | inr (inr l) ↦ omega arith ])) in
     λ j. rsp j ∷ at 0 (inl (omega arith)) j ∷ at 2 (inr (inl (omega arith, omega arith))) j ∷ at 3 (inr (inl (omega arith, omega arith))) j ∷ at 4 (inr (inl (omega arith, omega arith))) j ∷ at 9 (inr (inr (omega arith))) j ∷ at 10 (inr (inr (omega arith))) j ∷ at 11 (inr (inr (omega arith))) j ∷ at 12 (inr (inr (omega arith))) j ∷ []
 
 nothing : (landed : Option ℕ) (code : ℕ) → landed ≡ None → landed ≡ Some code → ⊥
@@ -297,6 +299,41 @@ module _ (t : Functions) (fs : List Funclet) (program : LinearProgram) (p : Plan
           (keep_flow (p.layout c.frame.body) (counts_of body) (register earlier.cpu Rsp) (placed t fs program p q image earlier calling begins counted).base room (Temporary first) (omega arith))
           past_call after run.comes ends
 
+      -- and so does the service's own turn
+      program_there : HasProgram t fs program p q memory_there
+      program_there = program_reaches t fs program p q 7 s there (reaches t fs program p q image roomy s c b counted f first at) b.memory.code
+
+      keeps_there : KeepsStack s.memory memory_there called_from
+      keeps_there = record { bytes = λ a l h. above.above a l; protection = λ a l h. refl; code = λ a e. (above.code a e, refl); no_more_code = λ a e. e }
+
+      abbrev caller : Context
+      caller = caller_here t fs program p q image s c b counted
+
+      abbrev callers : List Context
+      callers = beyond_here t fs program p q image s c b counted
+
+      gives_by : (n : Memory) → KeepsStack s.memory n called_from → HasProgram t fs program p q n → WalkGives t (record { cpu = u.cpu; memory = n }) (caller ∷ callers)
+      gives_by n same has =
+          let x : State = record { cpu = u.cpu; memory = n } in
+          ends_gives t fs program p q image s c b counted x
+          (past_ends t fs program p q image s c b counted (instructions.CallBuiltIn f first) at (λ h. h) call_code after_code x refl (omega arith)
+          (record { rip = back_is; registers = kept_back; stands = stands_elsewhere t fs program p q image s c b counted n same has }))
+
+      sp_there : register there.cpu Rsp ≡ called_from - 8
+      sp_there =
+          returned_sp with_given called_from to (let l = low t fs program p q image roomy s c b counted f first at in omega arith) (top t fs program p q image roomy s c b counted f first at) b.memory.data_alone b.memory.stack there.cpu.rip there.cpu.flags
+          (back_small t fs program p q image roomy s c b counted f first at) (many t fs program p q image roomy s c b counted f first at)
+
+      pub keeps_served : KeepsShadow t fs there u
+      keeps_served =
+          let l = low t fs program p q image roomy s c b counted f first at in
+          let h = top t fs program p q image roomy s c b counted f first at in
+          let z = sp_there in
+          let e : register u.cpu Rsp ≡ called_from = sp_is x m in
+          let up : called_from ≡ register there.cpu Rsp + 0 + 8 = omega arith in
+          let same = ap (λ (ks : List ℕ). let k : Context = record { rip = to; kept = ks } in k) (set_back (set with_given.rest 1 (called_from - 8)) sp_after (register there.cpu Rsp + 0 + 8) (e ∙ up)) in
+          service_keeps t fs program p q image f there u to caller callers refl (returns t fs program p q image roomy s c b counted f first at) (omega arith) same (gives_by memory_there keeps_there program_there) (gives_by m keeps_all memory.code) (omega arith) (omega arith) quiet_back
+
       comes_after : Comes t fs 1 u [] after
       comes_after = reaches_quietly t fs program p q image 1 u after run.comes keeps_shadow memory.code (quiet_at t fs program p q image roomy earlier calling begins counted (c.frame.next + 1) rip rip_is inside rip_small after refl)
 
@@ -304,7 +341,7 @@ module _ (t : Functions) (fs : List Funclet) (program : LinearProgram) (p : Plan
       pub served : (shown : List Event) → turn t fs there ≡ Continues u shown → events ≡ c.events ++ shown → ((next : Next) → act program (instructions.CallBuiltIn f first) next c ≡ next (answered x source events))
           → Moves t fs program 16 turns_left (Begins t fs program p q) s c (instructions.CallBuiltIn f first)
       served shown turns all acts =
-          let one : Comes t fs 1 there shown u = record { live = live_there t fs program p q image roomy s c b counted f first at; state = u; first = shown; others = []; turns = turns; whole = sym (append-nil shown); rest = (refl, refl) } in
+          let one : Comes t fs 1 there shown u = record { live = live_there t fs program p q image roomy s c b counted f first at; state = u; first = shown; others = []; turns = turns; shadow = keeps_served; whole = sym (append-nil shown); rest = (refl, refl) } in
           let more = one_more c.frame.temporaries (Temporary first) x fits in
           record {
             turns = 7 + (1 + 1);

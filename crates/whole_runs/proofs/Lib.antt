@@ -5,3 +5,4 @@ pub mod Matches
 pub mod All
 pub mod NoMore
 pub mod Programs
+pub mod Shadowed
