@@ -75,5 +75,3 @@ pub mod Answers
 pub mod Records
 pub mod EndReturned
 pub mod EndSteps
-pub mod FuncletKeeping
-pub mod Grounds
