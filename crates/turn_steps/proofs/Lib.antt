@@ -1,5 +1,6 @@
 pub mod Kept
 pub mod Resuming
+pub mod Grounds
 pub mod Returning
 pub mod Outgoing
 pub mod Outward
@@ -17,6 +18,7 @@ pub mod Standing
 pub mod Known
 pub mod Spaces
 pub mod Entering
+pub mod FuncletKeeping
 pub mod FuncletFilters
 pub mod Blocks
 pub mod Unwound
@@ -37,6 +39,7 @@ pub mod Served
 pub mod Funclets
 pub mod Hosts
 pub mod BuiltIns
+pub mod BuiltInKeeping
 pub mod Pushed
 pub mod TurnQuiet
 pub mod Apart
@@ -72,5 +75,3 @@ pub mod Answers
 pub mod Records
 pub mod EndReturned
 pub mod EndSteps
-pub mod FuncletKeeping
-pub mod Grounds
