@@ -39,6 +39,7 @@ use Rattle.x64_templates.proofs.PlacedCode.{bytes_kept, bytes_split, spells, rea
 use Rattle.x64_templates.proofs.Computes.{code_split}
 use Rattle.x64_templates.proofs.Encoded.{near}
 use Rattle.linked_stack.specs.ImagePlan.{Plan}
+use Rattle.whole_runs.specs.Shadow.{AllKeep}
 use Rattle.whole_runs.specs.Comes.{IsLive, Comes}
 use Rattle.whole_runs.proofs.Turns.{comes_by_step, comes_then}
 use Rattle.body_states.specs.Sites.{Sites, begin_of, making, frame_code, arguments_code, entry_code, links_of, code_of}
@@ -135,30 +136,30 @@ module _ (t : Functions) (fs : List Funclet) (program : LinearProgram) (p : Plan
     live_here : (s u : State) → Steps s u → IsLive s
     live_here s u st = ne_eqb s.cpu.rip 0 st.live
 
-    from_step : (n : ℕ) (s u w : State) → Steps s u → Reaches n u w → HasProgram t fs program p q s.memory → Comes t fs (suc n) s (arrivals w.cpu (distance t.base w.cpu.rip) 1 fs) w
-    from_step zero s u w st e has = subst (λ (x : State). Comes t fs 1 s (arrivals x.cpu (distance t.base x.cpu.rip) 1 fs) x) e (comes_by_step t fs s u (live_here s u st) st.steps)
-    from_step (suc n) s u w st r has =
+    from_step : (n : ℕ) (s u w : State) → Steps s u → Reaches n u w → AllKeep t fs (suc n) s → HasProgram t fs program p q s.memory → Comes t fs (suc n) s (arrivals w.cpu (distance t.base w.cpu.rip) 1 fs) w
+    from_step zero s u w st e keep has = subst (λ (x : State). Comes t fs 1 s (arrivals x.cpu (distance t.base x.cpu.rip) 1 fs) x) e (comes_by_step t fs s u (live_here s u st) st.steps (keep u st.steps).0)
+    from_step (suc n) s u w st r keep has =
         let kept = program_kept s.memory u.memory (step_keeps s u st) has in
-        let one : Comes t fs 1 s [] u = subst (λ (es : List Event). Comes t fs 1 s es u) (quiet_here u r.0 u.cpu r.1 kept) (comes_by_step t fs s u (live_here s u st) st.steps) in
+        let one : Comes t fs 1 s [] u = subst (λ (es : List Event). Comes t fs 1 s es u) (quiet_here u r.0 u.cpu r.1 kept) (comes_by_step t fs s u (live_here s u st) st.steps (keep u st.steps).0) in
         let k : 1 + suc n ≡ suc (suc n) = omega arith in
         subst (λ m. Comes t fs m s (arrivals w.cpu (distance t.base w.cpu.rip) 1 fs) w) k
-        (comes_then t fs 1 (suc n) s u w [] (arrivals w.cpu (distance t.base w.cpu.rip) 1 fs) one (from_step n u r.0 w r.1.steps r.2 kept))
+        (comes_then t fs 1 (suc n) s u w [] (arrivals w.cpu (distance t.base w.cpu.rip) 1 fs) one (from_step n u r.0 w r.1.steps r.2 (keep u st.steps).1 kept))
 
-    -- a run of at least one turn shows what its last state's RIP arrives at
-    pub enters_comes : (n : ℕ) (s w : State) (events : List Event) → Enters (suc n) s w → HasProgram t fs program p q s.memory → arrivals w.cpu (distance t.base w.cpu.rip) 1 fs ≡ events → Comes t fs (suc n) s events w
-    enters_comes n s w events r has e = subst (λ (es : List Event). Comes t fs (suc n) s es w) e (from_step n s r.0 w r.1 r.2 has)
+    -- a run of at least one turn, each of which keeps the shadow, shows what its last state's RIP arrives at
+    pub enters_comes : (n : ℕ) (s w : State) (events : List Event) → Enters (suc n) s w → AllKeep t fs (suc n) s → HasProgram t fs program p q s.memory → arrivals w.cpu (distance t.base w.cpu.rip) 1 fs ≡ events → Comes t fs (suc n) s events w
+    enters_comes n s w events r keep has e = subst (λ (es : List Event). Comes t fs (suc n) s es w) e (from_step n s r.0 w r.1 r.2 keep has)
 
-    pub reaches_comes : (n : ℕ) (s w : State) (events : List Event) → Reaches (suc n) s w → HasProgram t fs program p q s.memory → arrivals w.cpu (distance t.base w.cpu.rip) 1 fs ≡ events → Comes t fs (suc n) s events w
-    reaches_comes n s w events r has e = subst (λ (es : List Event). Comes t fs (suc n) s es w) e (from_step n s r.0 w r.1.steps r.2 has)
+    pub reaches_comes : (n : ℕ) (s w : State) (events : List Event) → Reaches (suc n) s w → AllKeep t fs (suc n) s → HasProgram t fs program p q s.memory → arrivals w.cpu (distance t.base w.cpu.rip) 1 fs ≡ events → Comes t fs (suc n) s events w
+    reaches_comes n s w events r keep has e = subst (λ (es : List Event). Comes t fs (suc n) s es w) e (from_step n s r.0 w r.1.steps r.2 keep has)
 
     -- and nothing, where no funclet begins there
-    pub reaches_quietly : (n : ℕ) (s w : State) → Reaches n s w → HasProgram t fs program p q s.memory → arrivals w.cpu (distance t.base w.cpu.rip) 1 fs ≡ [] → Comes t fs n s [] w
-    reaches_quietly zero s w r has e = (refl, r)
-    reaches_quietly (suc n) s w r has e = reaches_comes n s w [] r has e
+    pub reaches_quietly : (n : ℕ) (s w : State) → Reaches n s w → AllKeep t fs n s → HasProgram t fs program p q s.memory → arrivals w.cpu (distance t.base w.cpu.rip) 1 fs ≡ [] → Comes t fs n s [] w
+    reaches_quietly zero s w r keep has e = (refl, r)
+    reaches_quietly (suc n) s w r keep has e = reaches_comes n s w [] r keep has e
 
-    pub enters_quietly : (n : ℕ) (s w : State) → Enters n s w → HasProgram t fs program p q s.memory → arrivals w.cpu (distance t.base w.cpu.rip) 1 fs ≡ [] → Comes t fs n s [] w
-    enters_quietly zero s w r has e = (refl, r)
-    enters_quietly (suc n) s w r has e = enters_comes n s w [] r has e
+    pub enters_quietly : (n : ℕ) (s w : State) → Enters n s w → AllKeep t fs n s → HasProgram t fs program p q s.memory → arrivals w.cpu (distance t.base w.cpu.rip) 1 fs ≡ [] → Comes t fs n s [] w
+    enters_quietly zero s w r keep has e = (refl, r)
+    enters_quietly (suc n) s w r keep has e = enters_comes n s w [] r keep has e
 
   -- the code of the program stands where a run comes to
   pub program_reaches : (n : ℕ) (s w : State) → Reaches n s w → HasProgram t fs program p q s.memory → HasProgram t fs program p q w.memory

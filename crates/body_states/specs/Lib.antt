@@ -1,4 +1,5 @@
 pub mod Sites
 pub mod Layouts
+pub mod Callers
 pub mod Programs
 pub mod Bodies

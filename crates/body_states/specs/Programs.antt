@@ -1,5 +1,5 @@
 -- What an image has of a linear program: its code in memory, and what is known of its addresses.
-use Rattle.std.specs.Prelude.{◌≡◌, ◌≢◌, ℕ, ◌+◌, ◌^◌, ◌<◌, ◌≤◌, Bool, true, false, List, [], ◌∷◌, ◌++◌, length, drop, slice_get, Option, Some, Ok}
+use Rattle.std.specs.Prelude.{◌≡◌, ◌≢◌, ℕ, suc, ◌+◌, ◌^◌, ◌<◌, ◌≤◌, Bool, true, false, List, [], ◌∷◌, ◌++◌, length, drop, slice_get, Option, Some, Ok}
 use Rattle.host_layout.specs.declared.range.TheConstants.{IMAGE_BASE, IMAGE_RANGE_END, STACK_START, STACK_END}
 use Rattle.host_layout.specs.Ranges.{in_arena}
 use Rattle.host_layout.specs.declared.service.Service.{Service}
@@ -32,8 +32,8 @@ use Rattle.linear_code.specs.declared.program.FuncletKind.TheVariants.{Filter, F
 use Rattle.linear_code.specs.Program.{LinearProgram, LinearBody, LinearFunclet}
 use Rattle.linear_machine.specs.Frames.{BodyName, body_of, Frame, Resumption, AfterCall, SameOperation}
 use Rattle.linear_machine.specs.Run.{instruction_in}
-use Rattle.template_code.specs.Bytes.{sizes}
-use Rattle.template_code.specs.Slots.{operands_code}
+use Rattle.template_code.specs.Bytes.{size, sizes}
+use Rattle.template_code.specs.Slots.{fetch, operands_code}
 use Rattle.template_code.specs.Calls.{return_at}
 use Rattle.template_code.specs.Probing.{check_stack}
 use Rattle.template_code.specs.Template.{template, IsBody, body_size}
@@ -46,8 +46,10 @@ use Rattle.x64_templates.specs.Quiet.{IsReturn}
 use Rattle.linked_stack.specs.Stack.{StackFrame, FrameStands, LeafStands}
 use Rattle.linked_stack.specs.ImagePlan.{Plan, Gives}
 use Rattle.linked_stack.specs.Records.{IsData}
-use Rattle.body_states.specs.Sites.{Sites, links_of, begin_of, entry_code, code_of}
+use Rattle.seh_walk.specs.Walk.{filter_return, finally_return}
+use Rattle.body_states.specs.Sites.{Sites, links_of, begin_of, making_size, give_back, arguments_code, entry_code, code_of}
 use Rattle.body_states.specs.Layouts.{AreLaidOut}
+use Rattle.body_states.specs.Callers.{FindsReturn}
 
 abbrev pub service_of : BuiltIn → Service
 service_of Put = services.Put
@@ -186,6 +188,32 @@ module _ (t : Functions) (fs : List Funclet) (program : LinearProgram) (p : Plan
     pub named : (k : ℕ) (f : LinearFunclet) → slice_get program.funclets k ≡ Some f → (c : Cpu) → arrivals c (distance t.base (p.funclet k)) 1 fs ≡ by_kind c (k + 1) (is_finally f.kind) ∷ []
     pub none : (a : ℕ) → a < 2 ^ 64 → ((k : ℕ) → k < length program.funclets → a ≢ p.funclet k) → (c : Cpu) → arrivals c (distance t.base a) 1 fs ≡ []
 
+  -- ---- where a walk finds callers
+
+  -- until a frame is made the return address is at RSP, in it above the frame, and at RSP again once the frame is given back
+  pub record FindsCallers (name : BodyName) (b : LinearBody) : Type 0 where
+    pub entries : (m : Memory) → (p.leaf name ≡ true → 0 < length b.code) → FindsReturn t m (begin_of p q name) 0
+    pub probes : (m : Memory) → p.leaf name ≡ false → 4096 < (p.layout name).frame → FindsReturn t m (begin_of p q name + 5) 0 × FindsReturn t m (begin_of p q name + 10) 0
+    pub arguments :
+        (m : Memory) (done left : List Instr) (item : Instr)
+        → HasProgram m → arguments_code program p name ≡ done ++ (item ∷ left)
+        → FindsReturn t m (begin_of p q name + making_size p q name + sizes done) (p.layout name).frame
+    pub returns :
+        (m : Memory) (label : ℕ) (from : Slot) (done left : List Instr)
+        → HasProgram m → slice_get b.code label ≡ Some (instructions.Return from) → fetch (p.layout name) Rax from ≡ done ++ left
+        → FindsReturn t m (p.address name label + sizes done) (p.layout name).frame
+    pub ends :
+        (m : Memory) (label : ℕ) (from : Slot) (n : ℕ)
+        → HasProgram m → slice_get b.code label ≡ Some (instructions.Return from) → (p.layout name).frame ≡ suc n
+        → FindsReturn t m (p.address name label + sizes (fetch (p.layout name) Rax from) + size (give_back (p.layout name).frame)) 0
+
+  -- so it is where no entry of the function table is: in thunks, in `__chkstk`, and at the host's services
+  pub record FindsCallersOutside : Type 0 where
+    pub thunks : (m : Memory) (f : BuiltIn) → FindsReturn t m (q.thunk f) 0
+    pub local_unwind : (m : Memory) → FindsReturn t m q.local_unwind 0
+    pub check_stack : (m : Memory) (d : ℕ) → d < sizes check_stack → FindsReturn t m (q.check_stack + d) 0
+    pub services : (m : Memory) (a : ℕ) → 0 < a → a < 0x100000000 → a ≢ filter_return → a ≢ finally_return → FindsReturn t m a 0
+
   -- ---- all of it
 
   pub record IsProgramImage : Type 0 where
@@ -200,3 +228,5 @@ module _ (t : Functions) (fs : List Funclet) (program : LinearProgram) (p : Plan
     pub leaves : LeavesStand
     pub funclets : FuncletsBegin
     pub resumptions : (resumption : Resumption) (b : Frame) (saved : Cpu) → SaysResumptions resumption b saved
+    pub callers : (name : BodyName) (b : LinearBody) → body_of program name ≡ Some b → FindsCallers name b
+    pub callers_outside : FindsCallersOutside

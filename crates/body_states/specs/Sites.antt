@@ -1,8 +1,12 @@
 -- Where the code of a program's parts begins, and what comes before a body.
 use Rattle.std.specs.Prelude.{ℕ, Bool, true, false, nat_le, if◌then◌else◌, List, [], ◌∷◌, ◌++◌, slice_get, Option, Some, None}
-use Rattle.seh_num.specs.declared.width.Width.TheVariants.{W32}
-use Rattle.x64_instr.specs.declared.register.Reg.TheVariants.{Rax, Rcx}
+use Rattle.seh_num.specs.declared.width.Width.TheVariants.{W32, W64}
+use Rattle.x64_instr.specs.declared.register.Reg.TheVariants.{Rax, Rcx, Rsp}
+use Rattle.x64_instr.specs.declared.operand.RegisterOrMemory.TheVariants as places
+use Rattle.x64_instr.specs.declared.operand.Operand.TheVariants as operands
+use Rattle.x64_instr.specs.declared.instruction.Operation.TheVariants as arithmetic
 use Rattle.x64_instr.specs.declared.instruction.Instr.{Instr}
+use Rattle.x64_instr.specs.declared.instruction.Instr.TheVariants as instrs
 use Rattle.c_operations.specs.declared.built_in.BuiltIn.{BuiltIn}
 use Rattle.linear_code.specs.declared.slot.Slot.TheVariants.{Local}
 use Rattle.linear_code.specs.declared.program.FuncletKind.{FuncletKind}
@@ -10,6 +14,7 @@ use Rattle.linear_code.specs.declared.program.FuncletKind.TheVariants.{Filter, F
 use Rattle.linear_code.specs.Program.{LinearProgram, LinearBody, LinearFunction, LinearFunclet}
 use Rattle.linear_machine.specs.Frames.{BodyName, FunctionBody, FuncletBody}
 use Rattle.template_code.specs.declared.layout.Layout.{Layout}
+use Rattle.template_code.specs.Bytes.{sizes}
 use Rattle.template_code.specs.Operations.{move}
 use Rattle.template_code.specs.Slots.{keep}
 use Rattle.template_code.specs.Calls as calls
@@ -44,6 +49,14 @@ making size at check false = enter_large size at check
 abbrev pub frame_code : ℕ → ℕ → ℕ → Bool → List Instr
 frame_code size at check true = []
 frame_code size at check false = making size at check (nat_le size 4096)
+
+-- how many bytes that takes
+abbrev pub making_size : Plan → Sites → BodyName → ℕ
+making_size p q name = sizes (frame_code (p.layout name).frame (begin_of p q name) q.check_stack (p.leaf name))
+
+-- and given back
+abbrev pub give_back : ℕ → Instr
+give_back frame = instrs.Arithmetic arithmetic.Add W64 (places.Register Rsp) (operands.Immediate frame)
 
 -- where a funclet keeps the base, and where its parent does, if that is a funclet
 abbrev pub base_in : Layout → ℕ

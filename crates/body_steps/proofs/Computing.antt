@@ -45,6 +45,7 @@ use Rattle.body_steps.proofs.Viewed.{IsCounted, count, room_here, holds_here, sl
 use Rattle.body_steps.proofs.Next.{Leaves}
 use Rattle.body_steps.proofs.Running.{code, frame, slots, v, sp_is, has_slots, template_here, next_address, Surroundings}
 use Rattle.body_steps.proofs.Written.{locals_after, temporaries_after, FitsAfter, local_after, temporary_after, locals_count_after, one_more}
+use Rattle.body_steps.proofs.Whole.{compute_keeps}
 use Rattle.body_steps.proofs.Plain.{at_other, same_store, GoesInside, from_here, label_small, is_read, moves_to}
 
 -- the size of its template, and that it isn't empty
@@ -168,4 +169,4 @@ module _ (t : Functions) (fs : List Funclet) (program : LinearProgram) (p : Plan
       moves_to t fs program p q image roomy s c b counted around (instructions.Compute to o first second) (length (compute_code y to o first second)) (c.frame.next + 1) (s.cpu.rip + sizes (compute_code y to o first second))
       (record { slots = with_slot now.slots to value; memory = m }) (locals_after (linear.locals_of c.store c.frame.activation) to value) (temporaries_after c.frame.temporaries to value) c.frame.landed
       (from_here t fs program p q image roomy s c b counted around (length (compute_code y to o first second)) (s.cpu.rip + sizes (compute_code y to o first second)) (record { slots = with_slot now.slots to value; memory = m }) run)
-      (let z = compute_size y to o first second in omega arith) lt (let z = compute_size y to o first second in omega arith) (leaves_stored to value m held fits there.0) free acts (some_code y to o first second) (omega arith)
+      (let z = compute_size y to o first second in omega arith) lt (let z = compute_size y to o first second in omega arith) (leaves_stored to value m held fits there.0) free (compute_keeps t fs program p q image roomy s c b counted around to o first second e value m gives) acts (some_code y to o first second) (omega arith)

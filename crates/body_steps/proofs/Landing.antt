@@ -32,6 +32,7 @@ use Rattle.body_states.specs.Bodies.{turns_left, Begins}
 use Rattle.body_steps.proofs.Viewed.{IsCounted, room_here, holds_here, locals_here}
 use Rattle.body_steps.proofs.Running.{code, frame, slots, v, sp_is, has_slots, template_here, next_address, Surroundings}
 use Rattle.body_steps.proofs.Written.{locals_after, temporaries_after, FitsAfter, one_more}
+use Rattle.body_steps.proofs.Whole.{landing_keeps}
 use Rattle.body_steps.proofs.Plain.{at_other, same_store, GoesInside, from_here, label_small, moves_to}
 use Rattle.body_steps.proofs.Computing.{leaves_stored}
 
@@ -95,4 +96,4 @@ module _ (t : Functions) (fs : List Funclet) (program : LinearProgram) (p : Plan
       (locals_after (linear.locals_of c.store c.frame.activation) to value) (temporaries_after c.frame.temporaries to value) None
       (from_here t fs program p q image roomy s c b counted around (length (keep y to)) (s.cpu.rip + sizes (keep y to)) (record { slots = with_slot now.slots to value; memory = c.store.memory })
       (subst (λ x. ReachesBody (frame t fs program p q image roomy s c b counted) (length (keep y to)) (machine (v t fs program p q image roomy s c b counted) s.cpu.rip s.cpu.flags) (s.cpu.rip + sizes (keep y to)) (v t fs program p q image roomy s c b counted).rest (record { slots = with_slot now.slots to x; memory = c.store.memory })) rax run))
-      (omega arith) lt (omega arith) (leaves_stored t fs program p q image roomy s c b counted around to value c.store.memory held fits there) refl acts (some_keep y to) (omega arith)
+      (omega arith) lt (omega arith) (leaves_stored t fs program p q image roomy s c b counted around to value c.store.memory held fits there) refl (landing_keeps t fs program p q image roomy s c b counted to e) acts (some_keep y to) (omega arith)

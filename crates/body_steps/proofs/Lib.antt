@@ -8,9 +8,11 @@ pub mod Reaching
 pub mod Becoming
 pub mod Homes
 pub mod Next
+pub mod Shadowed
 pub mod Activated
 pub mod Written
 pub mod Running
+pub mod Whole
 pub mod Plain
 pub mod Computing
 pub mod Landing

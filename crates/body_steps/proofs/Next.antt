@@ -222,7 +222,8 @@ module _ (t : Functions) (fs : List Funclet) (program : LinearProgram) (p : Plan
             | inr w ↦ (let g = w.0 in elim o [ inl e ↦ absurd (omega arith) | inr e ↦ absurd (omega arith) ])
           ]
 
-      returns : word u.memory (sp + y.frame) ≡ Ok b.body.back
+      -- the return address
+      pub returns : word u.memory (sp + y.frame) ≡ Ok b.body.back
       returns = kept_word (sp + y.frame) b.body.back (let l = low in omega arith) (let h = top in omega arith)
           (elim (kind t fs program p q image s c b counted) [ inl f ↦ function_beside f | inr (inl f) ↦ leaf_beside f | inr (inr f) ↦ funclet_beside f y.frame (inr refl) ])
           b.body.returns
@@ -263,7 +264,7 @@ module _ (t : Functions) (fs : List Funclet) (program : LinearProgram) (p : Plan
 
       -- ---- the list below
 
-      data_stays : IsData u.memory
+      pub data_stays : IsData u.memory
       data_stays = stays_data program.globals s u y (counts_of code) sp c.frame.activation b.body.acts here cnt r.changed b.memory.data_alone b.memory.stack
 
       function_below : (number : ℕ) (acts : List Activation) (size : ℕ) → HasActivation s.memory y sp size c.frame.activation acts (FunctionBody number) → activations_below (FunctionBody number) acts ≡ activations_below (FunctionBody number) (with_values acts c.frame.activation values)

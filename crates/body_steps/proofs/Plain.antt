@@ -23,7 +23,7 @@ use Rattle.template_code.specs.declared.layout.Layout.{Layout}
 use Rattle.x64_templates.specs.Straight.{machine}
 use Rattle.x64_templates.specs.InstructionRuns.{InstructionDone}
 use Rattle.x64_templates.specs.Runs.{ReachesBody}
-use Rattle.template_code.specs.Template.{template_size, body_size, offset_of}
+use Rattle.template_code.specs.Template.{template, template_size, body_size, offset_of}
 use Rattle.body_steps.specs.Views.{counts_of}
 use Rattle.linked_stack.specs.ImagePlan.{Plan}
 use Rattle.linked_stack.specs.Linked.{locals_of}
@@ -38,6 +38,8 @@ use Rattle.body_steps.proofs.Activated.{activated, same_activations}
 use Rattle.body_steps.proofs.Viewed.{IsCounted, placed, count, slots_here, locals_here}
 use Rattle.body_steps.proofs.Next.{Leaves}
 use Rattle.body_steps.proofs.Running.{code, frame, slots, v, same_state, done, has_slots, next_address, Surroundings, to_label}
+use Rattle.body_steps.proofs.Shadowed.{RunsKeep}
+use Rattle.body_steps.proofs.Whole.{separator_keeps, jump_keeps, jump_if_zero_keeps}
 
 -- an instruction of a body begins within it
 offset_most : (y : Layout) (body : List Instruction) (number : ℕ) → offset_of y body number ≤ body_size y body
@@ -81,10 +83,11 @@ module _ (t : Functions) (fs : List Funclet) (program : LinearProgram) (p : Plan
     -- a turn of linear code that is a run of a template to an instruction of the body
     pub moves_to : (i : Instruction) (n label rip : ℕ) (d : BodyState) (values ts : List ℕ) (landed : Option ℕ)
         → ReachesBody (frame t fs program p q image roomy s c b counted) n s rip (v t fs program p q image roomy s c b counted).rest d → rip ≡ p.address c.frame.body label → label < length body.code → rip < 2 ^ 64 → Leaves body d values ts → landed ≡ None
+        → RunsKeep t fs program p q image s c b counted n s
         → ((next : Next) → act program i next c ≡ next (at_other c label values ts landed d.memory c.events)) → 1 ≤ n → n + 3 * length ts ≤ 16 + 3 * length c.frame.temporaries
         → Moves t fs program 16 turns_left (Begins t fs program p q) s c i
-    moves_to i n label rip d values ts landed r at lt small leaves free acts some few =
-        let m = to_label t fs program p q image roomy s c b counted around n label rip d values ts landed c.events r at lt small leaves free in
+    moves_to i n label rip d values ts landed r at lt small leaves free keep acts some few =
+        let m = to_label t fs program p q image roomy s c b counted around n label rip d values ts landed c.events r at lt small leaves free keep in
         let store : locals_of (with_values b.body.acts c.frame.activation values) ≡ slice_set c.store.activations c.frame.activation values =
         activated b.body.acts c.frame.activation values is_there ∙ ap (λ xs. slice_set xs c.frame.activation values) (sym b.body.store) in
         record {
@@ -151,8 +154,8 @@ module _ (t : Functions) (fs : List Funclet) (program : LinearProgram) (p : Plan
         let r = done t fs program p q image roomy s c b counted (instructions.Jump label) e in
         let most = r.most in
         let lt = inside (at_label label c) (λ next. refl) body b.body.slots.body in
-        moves_to (instructions.Jump label) r.turns label (p.address c.frame.body label) (slots t fs program p q image roomy s c b counted) values_here c.frame.temporaries c.frame.landed
-        (from_here r.turns (p.address c.frame.body label) (slots t fs program p q image roomy s c b counted) r.follows) refl lt (label_small label lt) (all_as_they_are held) free
+        moves_to (instructions.Jump label) 1 label (p.address c.frame.body label) (slots t fs program p q image roomy s c b counted) values_here c.frame.temporaries c.frame.landed
+        (from_here 1 (p.address c.frame.body label) (slots t fs program p q image roomy s c b counted) r.follows) refl lt (label_small label lt) (all_as_they_are held) free (jump_keeps t fs program p q image roomy s c b counted label e)
         (λ next. ap (λ xs. let o : Configuration = record { frame = record c.frame { next = label }; below = c.below; store = record { memory = c.store.memory; activations = xs }; events = c.events } in next o) (sym same_store)) r.least (omega arith)
 
     -- ---- slots that are read
@@ -184,8 +187,8 @@ module _ (t : Functions) (fs : List Funclet) (program : LinearProgram) (p : Plan
         let lt = inside (forth (with_last [] c)) (λ next. refl) body b.body.slots.body in
         let at = next_address t fs program p q image roomy s c b counted instructions.Separator e in
         let small = label_small (c.frame.next + 1) lt in
-        moves_to instructions.Separator r.turns (c.frame.next + 1) (s.cpu.rip + template_size (p.layout c.frame.body) instructions.Separator) slots_now values_here [] c.frame.landed
-        (from_here r.turns (s.cpu.rip + template_size (p.layout c.frame.body) instructions.Separator) slots_now r.follows) (sym at) lt (omega arith) (fewer [] held (omega arith) (λ i v g. cc)) free
+        moves_to instructions.Separator 1 (c.frame.next + 1) (s.cpu.rip + template_size (p.layout c.frame.body) instructions.Separator) slots_now values_here [] c.frame.landed
+        (from_here 1 (s.cpu.rip + template_size (p.layout c.frame.body) instructions.Separator) slots_now r.follows) (sym at) lt (omega arith) (fewer [] held (omega arith) (λ i v g. cc)) free (separator_keeps t fs program p q image roomy s c b counted e)
         (λ next. ap (λ xs. let o : Configuration = record { frame = record c.frame { next = c.frame.next + 1; temporaries = [] }; below = c.below; store = record { memory = c.store.memory; activations = xs }; events = c.events } in next o) (sym same_store)) r.least (omega arith)
 
     -- the temporaries after a test
@@ -229,13 +232,13 @@ module _ (t : Functions) (fs : List Funclet) (program : LinearProgram) (p : Plan
     goes_on slot label value r e next = acts_tested slot label value false r e next ∙ ap next (forth_is slot)
 
     -- a test takes fewer turns than it frees
-    to_tested : (slot : Slot) (label n rip to : ℕ) → c.frame.landed ≡ None → rip ≡ p.address c.frame.body to → Reached n rip slots_now → length c.frame.temporaries ≤ body.temporaries → GoesInside (instructions.JumpIfZero slot label)
+    to_tested : (slot : Slot) (label n rip to : ℕ) → c.frame.landed ≡ None → rip ≡ p.address c.frame.body to → Reached n rip slots_now → length c.frame.temporaries ≤ body.temporaries → GoesInside (instructions.JumpIfZero slot label) → RunsKeep t fs program p q image s c b counted n s
         → ((next : Next) → act program (instructions.JumpIfZero slot label) next c ≡ next (tested_at slot to)) → 1 ≤ n → n ≤ 16 → Moves t fs program 16 turns_left (Begins t fs program p q) s c (instructions.JumpIfZero slot label)
-    to_tested slot label n rip to free at r held inside acts some most =
+    to_tested slot label n rip to free at r held inside keep acts some most =
         let lt = inside (tested_at slot to) acts body b.body.slots.body in
         let small = label_small to lt in
         let len = test_fewer slot in
-        moves_to (instructions.JumpIfZero slot label) n to rip slots_now values_here (after_test slot) c.frame.landed r at lt (omega arith) (test_front slot held) free
+        moves_to (instructions.JumpIfZero slot label) n to rip slots_now values_here (after_test slot) c.frame.landed r at lt (omega arith) (test_front slot held) free keep
         (λ next. acts next ∙ ap (λ xs. let o : Configuration = record { frame = record c.frame { next = to; temporaries = after_test slot }; below = c.below; store = record { memory = c.store.memory; activations = xs }; events = c.events } in next o) (sym same_store)) some (omega arith)
 
     pub jump_if_zero_step : (slot : Slot) (label : ℕ) → c.frame.landed ≡ None → slice_get body.code c.frame.next ≡ Some (instructions.JumpIfZero slot label) → length c.frame.temporaries ≤ body.temporaries → IsHeld (length c.frame.temporaries) slot → GoesInside (instructions.JumpIfZero slot label)
@@ -244,9 +247,15 @@ module _ (t : Functions) (fs : List Funclet) (program : LinearProgram) (p : Plan
         let r = is_read slot (has_slots t fs program p q image roomy s c b counted (instructions.JumpIfZero slot label) e) there in
         by_value r (nat_eq (slots_now.slots slot) 0) refl (done t fs program p q image roomy s c b counted (instructions.JumpIfZero slot label) e)
       where
+        turns : ℕ
+        turns = length (template (links_of p q c.frame.body) (p.layout c.frame.body) s.cpu.rip (instructions.JumpIfZero slot label))
+
+        keep : RunsKeep t fs program p q image s c b counted turns s
+        keep = jump_if_zero_keeps t fs program p q image roomy s c b counted slot label e
+
         by_value : (r : IsRead slot) (z : Bool) → nat_eq (slots_now.slots slot) 0 ≡ z → InstructionDone (frame t fs program p q image roomy s c b counted) (links_of p q c.frame.body) (v t fs program p q image roomy s c b counted) s.cpu.rip s.cpu.flags slots_now (instructions.JumpIfZero slot label) (cond z (JumpsTo slots_now label) (meanings.Next slots_now))
             → Moves t fs program 16 turns_left (Begins t fs program p q) s c (instructions.JumpIfZero slot label)
-        by_value r true z d = to_tested slot label d.turns (p.address c.frame.body label) label free refl (from_here d.turns (p.address c.frame.body label) slots_now d.follows) held inside (jumps slot label r.value r.reads (ap (λ x. nat_eq x 0) (sym r.same) ∙ z)) d.least d.most
+        by_value r true z d = to_tested slot label turns (p.address c.frame.body label) label free refl (from_here turns (p.address c.frame.body label) slots_now d.follows) held inside keep (jumps slot label r.value r.reads (ap (λ x. nat_eq x 0) (sym r.same) ∙ z)) d.least d.most
         by_value r false z d =
-            to_tested slot label d.turns (s.cpu.rip + template_size (p.layout c.frame.body) (instructions.JumpIfZero slot label)) (c.frame.next + 1) free (sym (next_address t fs program p q image roomy s c b counted (instructions.JumpIfZero slot label) e))
-            (from_here d.turns (s.cpu.rip + template_size (p.layout c.frame.body) (instructions.JumpIfZero slot label)) slots_now d.follows) held inside (goes_on slot label r.value r.reads (ap (λ x. nat_eq x 0) (sym r.same) ∙ z)) d.least d.most
+            to_tested slot label turns (s.cpu.rip + template_size (p.layout c.frame.body) (instructions.JumpIfZero slot label)) (c.frame.next + 1) free (sym (next_address t fs program p q image roomy s c b counted (instructions.JumpIfZero slot label) e))
+            (from_here turns (s.cpu.rip + template_size (p.layout c.frame.body) (instructions.JumpIfZero slot label)) slots_now d.follows) held inside keep (goes_on slot label r.value r.reads (ap (λ x. nat_eq x 0) (sym r.same) ∙ z)) d.least d.most

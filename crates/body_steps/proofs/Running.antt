@@ -35,6 +35,7 @@ use Rattle.body_states.proofs.QuietTurns.{reaches_quietly}
 use Rattle.body_steps.specs.Views.{seen_by_templates, counts_of, frame_at, state_of}
 use Rattle.body_steps.specs.Stores.{OwnerHasFrame}
 use Rattle.body_steps.proofs.Homes.{CallerHasFrame}
+use Rattle.body_steps.proofs.Shadowed.{kept_by_rest, stands_after, ends_at, RunsKeep}
 use Rattle.body_steps.proofs.Viewed.{IsCounted, is_machine, room_here, holds_here, placed}
 use Rattle.body_steps.proofs.Reaching.{reaches_keeps, stays_sane}
 use Rattle.body_steps.proofs.Next.{Leaves, further, Ran, begins_next}
@@ -163,13 +164,16 @@ module _ (t : Functions) (fs : List Funclet) (program : LinearProgram) (p : Plan
     module _ (around : Surroundings) where
       -- a run of so many turns to an instruction of the body, with these slots
       pub to_label : (n label rip : ℕ) (d : BodyState) (values ts : List ℕ) (landed : Option ℕ) (events : List Event) → ReachesBody frame n s rip v.rest d → rip ≡ p.address name label → label < length code.code → rip < 2 ^ 64 → Leaves code d values ts → landed ≡ None
+          → RunsKeep t fs program p q image s c b counted n s
           → (u : State) × (Comes t fs n s [] u) × (Begins t fs program p q u (further t fs program p q image c b.body.acts label values ts landed d.memory events))
-      to_label n label rip d values ts landed events r at lt small leaves free =
+      to_label n label rip d values ts landed events r at lt small leaves free keep =
           let u : State = machine r.after rip r.flags in
           let keeps = reaches_keeps n s u r.comes in
           let sp : register u.cpu Rsp ≡ register s.cpu Rsp = ap (λ (xs : List ℕ). slice_index xs 1) r.rest ∙ dropped s.cpu.registers in
-          let ran : Ran t fs program p q image s c b counted u d values ts = record { changed = record { changes = r.changes; keeps = keeps }; holds = r.holds; stack = sp; leaves = leaves } in (
+          let ran : Ran t fs program p q image s c b counted u d values ts = record { changed = record { changes = r.changes; keeps = keeps }; holds = r.holds; stack = sp; leaves = leaves } in
+          let kept = kept_by_rest r.after.rest s.cpu.registers r.rest in
+          let ends = ends_at t fs program p q image s c b counted u label at lt kept (stands_after t fs program p q image s c b counted u d values ts ran around.caller around.owner) in (
             u,
-            reaches_quietly t fs program p q image n s u r.comes b.memory.code (quiet_at label rip at lt small u refl),
+            reaches_quietly t fs program p q image n s u r.comes (keep u r.comes ends) b.memory.code (quiet_at label rip at lt small u refl),
             begins_next t fs program p q image s c b counted u d values ts ran label landed events at lt (stays_sane s u keeps small b.sane) (λ value e. absurd (nothing landed value free e)) around.caller around.owner,
           )

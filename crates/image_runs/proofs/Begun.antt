@@ -1,6 +1,7 @@
 -- The first function of a run begins: nothing waits below it, and it returns to 0.
 use Rattle.std.proofs.Common.{◌≡◌, ℕ, ◌+◌, ◌-◌, ◌*◌, ◌^◌, ◌<◌, ◌≤◌, Bool, true, false, Some, Ok, List, [], ◌++◌, length, refl, sym, ap, subst, ◌∙◌, arith, inl, inr}
 use Rattle.std.specs.Prelude.{slice_get}
+use Rattle.std.proofs.lemmas.List.{append-nil}
 use Rattle.std.proofs.lemmas.Option.{slice_get_within}
 use Rattle.host_layout.specs.declared.range.TheConstants.{STACK_START, STACK_END}
 use Rattle.flat_memory.specs.Memory.{Memory, may_write, number_at}
@@ -15,6 +16,8 @@ use Rattle.host_model.specs.Funclets.{arrivals}
 use Rattle.linear_code.specs.Program.{LinearProgram, LinearBody, LinearFunction}
 use Rattle.linear_machine.specs.Frames.{FunctionBody, body_of}
 use Rattle.template_code.specs.declared.layout.Layout.{Layout}
+use Rattle.x64_instr.specs.declared.instruction.Instr.{Instr}
+use Rattle.template_code.specs.Calls.{parameters_code}
 use Rattle.x64_templates.specs.Straight.{machine}
 use Rattle.x64_templates.proofs.PlacedCode.{same_number}
 use Rattle.linked_stack.specs.WalkLaws.{context_below}
@@ -22,13 +25,17 @@ use Rattle.linked_stack.specs.ImagePlan.{Plan}
 use Rattle.linked_stack.specs.Linked.{home_end, HoldsWords}
 use Rattle.linked_stack.specs.Records.{IsData, On}
 use Rattle.linked_stack.specs.States.{IsSane}
+use Rattle.whole_runs.specs.Shadow.{AllKeep}
 use Rattle.whole_runs.specs.Comes.{Comes}
 use Rattle.ir_typed.specs.Small.{AreSmall}
-use Rattle.body_states.specs.Sites.{Sites}
+use Rattle.body_states.specs.Sites.{Sites, function_arguments, arguments_code}
 use Rattle.body_states.specs.Layouts.{IsLayoutIf}
 use Rattle.body_states.specs.Programs.{IsMachineMemory, IsProgramImage}
 use Rattle.body_states.specs.Bodies.{slots_end, Begins}
 use Rattle.body_states.proofs.QuietTurns.{enters_quietly}
+use Rattle.body_states.proofs.Effects.{others_of}
+use Rattle.body_states.proofs.Beneath.{enters_steps, Beneath, AllPlain}
+use Rattle.body_states.proofs.EntryKeeping.{parameters_plain, entry_ran}
 use Rattle.body_steps.proofs.Programs.{KeepsImage, program_stays}
 use Rattle.body_steps.proofs.Reaching.{Keeps, enters_keeps, stays_sane}
 use Rattle.body_steps.proofs.Views.{stack_is_reserved}
@@ -73,8 +80,52 @@ module _ (t : Functions) (fs : List Funclet) (program : LinearProgram) (p : Plan
   quiet_after : arrivals after.cpu (distance t.base after.cpu.rip) 1 fs ≡ []
   quiet_after = image.funclets.none after.cpu.rip rip_small (λ k lt e. (image.addresses (FunctionBody f) o there).not_first 0 k some lt (sym inside.rip ∙ e)) after.cpu
 
+  -- each turn keeps the shadow
+  beneath_main : Beneath t first top (top + 40) 0 (others_of first.cpu.registers) []
+  beneath_main =
+      let high = h.high in
+      let sane' = subst IsSane first_is sane in
+      record {
+        others_are = refl;
+        count = sane'.count;
+        returns = returns_to;
+        list = refl;
+        owned = λ a w. absurd w;
+        past = omega arith;
+        high = omega arith;
+        limit = omega arith;
+        no_code = h.memory.data_alone.no_code;
+      }
+
+  arguments_are : arguments_code program p (FunctionBody f) ≡ parameters_code layout 0 fn.parameters
+  arguments_are = ap (λ x. function_arguments layout x) h.function
+
+  arguments_stored : (leaf : Bool) → IsLayoutIf program p layout o leaf → AllPlain layout.frame 40 (parameters_code layout 0 fn.parameters) × (layout.frame ≤ 8184)
+  arguments_stored true l =
+      let e = l.frame in
+      let a = l.locals in
+      let n = l.few in
+      let fits = h.fits in
+      let few = h.few in
+      (parameters_plain layout.frame 40 layout 0 fn.parameters (omega arith) (omega arith) (λ j lt. inr (omega arith, omega arith)), omega arith)
+  arguments_stored false l =
+      let a = l.locals in
+      let z = l.small in
+      let fits = h.fits in
+      let few = h.few in
+      (parameters_plain layout.frame 40 layout 0 fn.parameters (omega arith) (omega arith) (λ j lt. inl (omega arith)), l.small)
+
+  keeps_shadow : AllKeep t fs inside.turns first
+  keeps_shadow =
+      let stored = arguments_stored (p.leaf (FunctionBody f)) (image.laid_out (FunctionBody f) o there) in
+      let lo = h.low in
+      let at : register first.cpu Rsp ≡ top = subst (λ (x : State). register x.cpu Rsp ≡ top) first_is h.stack in
+      (entry_ran t fs program p q image (FunctionBody f) o there some top (top + 40) 0 (others_of first.cpu.registers) [] inside.turns first after (arguments_code program p (FunctionBody f)) [] 40
+      (sym (append-nil (arguments_code program p (FunctionBody f)))) inside.exact (enters_steps inside.turns first after inside.comes) refl at beneath_main h.memory.code stored.1 (omega arith) refl
+      (subst (λ (xs : List Instr). AllPlain layout.frame 40 xs) (sym arguments_are) stored.0)).keeps
+
   pub comes : Comes t fs inside.turns s [] after
-  comes = subst (λ (x : State). Comes t fs inside.turns x [] after) (sym first_is) (enters_quietly t fs program p q image inside.turns first after inside.comes h.memory.code quiet_after)
+  comes = subst (λ (x : State). Comes t fs inside.turns x [] after) (sym first_is) (enters_quietly t fs program p q image inside.turns first after inside.comes keeps_shadow h.memory.code quiet_after)
 
   pub soon : inside.turns ≤ 16
   soon = inside.soon

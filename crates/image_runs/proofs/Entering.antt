@@ -25,7 +25,8 @@ use Rattle.x64_templates.proofs.PlacedCode.{bytes_kept, enters_then}
 use Rattle.x64_templates.proofs.Entries.{pushed_agrees, pushed_bytes}
 use Rattle.x64_templates.proofs.Entering.{fresh_holds, parameters_run}
 use Rattle.linked_stack.specs.ImagePlan.{Plan}
-use Rattle.body_states.specs.Sites.{Sites}
+use Rattle.body_states.specs.Sites.{Sites, arguments_code}
+use Rattle.body_states.proofs.FrameMaking.{making_steps}
 use Rattle.body_states.specs.Programs.{IsMachineMemory, IsProgramImage}
 use Rattle.body_steps.specs.Views.{seen_by_templates, counts_of}
 use Rattle.body_steps.proofs.Views.{stack_is_reserved}
@@ -83,6 +84,7 @@ module _ (t : Functions) (fs : List Funclet) (program : LinearProgram) (p : Plan
     pub place : sp + layout.frame ≡ top
     pub state : State
     pub turns : ℕ
+    pub exact : turns ≡ making_steps (p.leaf (FunctionBody f)) layout.frame + length (arguments_code program p (FunctionBody f))
     pub soon : turns ≤ 16
     pub comes : Enters turns first state
     pub rip : state.cpu.rip ≡ p.address (FunctionBody f) 0
@@ -97,9 +99,10 @@ module _ (t : Functions) (fs : List Funclet) (program : LinearProgram) (p : Plan
 
   -- ---- once the frame is made, the parameters
 
-  module _ (sp to : ℕ) (made : Made view target to s.cpu.flags top sp arguments) (y : Layout) (own : IsOwn program.globals y o sp) (whole : IsFunction (own_frame program.globals y o sp)) (same_locals : y.locals ≡ layout.locals) (short : y.frame ≤ 8184)
+  module _ (sp to n : ℕ) (made : Made view target to s.cpu.flags top sp arguments n) (y : Layout) (own : IsOwn program.globals y o sp) (whole : IsFunction (own_frame program.globals y o sp)) (same_locals : y.locals ≡ layout.locals) (short : y.frame ≤ 8184)
       (place : sp + layout.frame ≡ top) (code : HasCode s.memory to (parameters_code y 0 count)) (ends : to + sizes (parameters_code y 0 count) ≡ p.address (FunctionBody f) 0)
-      (outside : (a : ℕ) → Outside a → InTemporaries y (counts_of o) sp a ⊎ InLocals y (counts_of o) sp a → ⊥) where
+      (outside : (a : ℕ) → Outside a → InTemporaries y (counts_of o) sp a ⊎ InLocals y (counts_of o) sp a → ⊥)
+      (counted_turns : n + length (parameters_code y 0 count) ≡ making_steps (p.leaf (FunctionBody f)) layout.frame + length (arguments_code program p (FunctionBody f))) where
     abbrev k : State
     k = machine made.after to made.flags
 
@@ -152,6 +155,7 @@ module _ (t : Functions) (fs : List Funclet) (program : LinearProgram) (p : Plan
           place = place;
           state = machine run.after (to + sizes (parameters_code y 0 count)) run.flags;
           turns = made.turns + length (parameters_code y 0 count);
+          exact = ap (λ k. k + length (parameters_code y 0 count)) made.exact ∙ counted_turns;
           soon = omega arith;
           comes = enters_then made.turns (length (parameters_code y 0 count)) first k (machine run.after (to + sizes (parameters_code y 0 count)) run.flags) made.comes run.comes;
           rip = ends;

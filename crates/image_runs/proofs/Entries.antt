@@ -1,6 +1,6 @@
 -- The function is entered, whatever its frame is.
 use Rattle.std.proofs.Common.{◌≡◌, ℕ, ◌+◌, ◌-◌, ◌<◌, ◌≤◌, Bool, true, false, Some, List, ◌++◌, length, refl, sym, ap, subst, ◌∙◌, arith, inl, inr, length-drop}
-use Rattle.std.specs.Prelude.{slice_get, nat_le}
+use Rattle.std.specs.Prelude.{slice_get, nat_le, if◌then◌else◌}
 use Rattle.std.proofs.lemmas.Bool.{cases_lt, le-leb}
 use Rattle.host_layout.specs.declared.range.TheConstants.{STACK_START, STACK_END}
 use Rattle.flat_memory.specs.Memory.{Memory}
@@ -20,7 +20,8 @@ use Rattle.x64_templates.specs.Straight.{MachineView}
 use Rattle.x64_templates.specs.Runs.{HasCode}
 use Rattle.x64_templates.proofs.Computes.{code_split}
 use Rattle.linked_stack.specs.ImagePlan.{Plan}
-use Rattle.body_states.specs.Sites.{Sites, links_of, making, frame_code, function_arguments, entry_code}
+use Rattle.body_states.specs.Sites.{Sites, links_of, making, frame_code, function_arguments, entry_code, arguments_code}
+use Rattle.body_states.proofs.FrameMaking.{making_steps}
 use Rattle.body_states.specs.Layouts.{IsFunctionLayout, IsLeafLayout, IsLayoutIf}
 use Rattle.body_states.specs.Programs.{IsProgramImage}
 use Rattle.body_steps.specs.Views.{seen_by_templates}
@@ -76,6 +77,12 @@ module _ (t : Functions) (fs : List Funclet) (program : LinearProgram) (p : Plan
       let z = ap sizes (entry_is leaf e) in
       omega (arith, a, z, sizes_append (making_frame leaf) (parameters_code layout 0 count))
 
+  -- how many turns the frame and the arguments take
+  turns_are : (n : ℕ) (leaf : Bool) → p.leaf (FunctionBody f) ≡ leaf → making_steps leaf layout.frame ≡ n → n + length (parameters_code layout 0 count) ≡ making_steps (p.leaf (FunctionBody f)) layout.frame + length (arguments_code program p (FunctionBody f))
+  turns_are n leaf e same =
+      let stored : arguments_code program p (FunctionBody f) ≡ parameters_code layout 0 count = ap (λ x. function_arguments layout x) h.function in
+      λ i. (sym same ∙ ap (λ l. making_steps l layout.frame) (sym e)) i + length (sym stored i)
+
   -- ---- a leaf function
 
   leaf_entered : p.leaf (FunctionBody f) ≡ true → IsLeafLayout layout o → Goal
@@ -91,7 +98,7 @@ module _ (t : Functions) (fs : List Funclet) (program : LinearProgram) (p : Plan
       let none : target + sizes (making_frame true) ≡ target = omega arith in
       let same = home_parameters layout 0 count small in
       let made = no_frame view target s.cpu.flags top arguments (entering.view_stack t fs program p q image s source f fn top arguments h) registers h.registers in
-      entering.entered t fs program p q image s source f fn top arguments h top target made (with_home layout)
+      entering.entered t fs program p q image s source f fn top arguments h top target 0 made (with_home layout)
       (record {
         none = l.none;
         low = omega arith;
@@ -108,6 +115,7 @@ module _ (t : Functions) (fs : List Funclet) (program : LinearProgram) (p : Plan
         | inl w ↦ (let g = w.0 in let u = w.1 in elim out [ inl o1 ↦ absurd (omega arith) | inr (inl o1) ↦ absurd (omega arith) | inr (inr o1) ↦ (let o2 = o1.0 in let o3 = o1.1 in absurd (omega arith)) ])
         | inr w ↦ (let g = w.0 in let u = w.1 in elim out [ inl o1 ↦ absurd (omega arith) | inr (inl o1) ↦ absurd (omega arith) | inr (inr o1) ↦ (let o2 = o1.0 in let o3 = o1.1 in absurd (omega arith)) ])
       ])
+      (ap (λ code. 0 + length code) same ∙ turns_are 0 true leaf refl)
 
   -- ---- a function with a frame
 
@@ -118,14 +126,14 @@ module _ (t : Functions) (fs : List Funclet) (program : LinearProgram) (p : Plan
     abbrev sp : ℕ
     sp = top - frame
 
-    framed_entered : (making : List Instr) → making_frame false ≡ making → Made view target (target + sizes making) s.cpu.flags top sp arguments → Goal
-    framed_entered making e made =
+    framed_entered : (making : List Instr) (n : ℕ) → making_frame false ≡ making → making_steps false frame ≡ n → Made view target (target + sizes making) s.cpu.flags top sp arguments n → Goal
+    framed_entered making n e same made =
         let x = h.low in
         let z = h.high in
         let a = l.temporaries in
         let m = l.locals in
         let k = l.small in
-        entering.entered t fs program p q image s source f fn top arguments h sp (target + sizes making) made layout
+        entering.entered t fs program p q image s source f fn top arguments h sp (target + sizes making) n made layout
         (record {
           none = l.none;
           low = omega arith;
@@ -142,6 +150,7 @@ module _ (t : Functions) (fs : List Funclet) (program : LinearProgram) (p : Plan
           | inl w ↦ (let g = w.0 in let u = w.1 in elim out [ inl o1 ↦ absurd (omega arith) | inr (inl o1) ↦ absurd (omega arith) | inr (inr o1) ↦ (let o2 = o1.0 in let o3 = o1.1 in absurd (omega arith)) ])
           | inr w ↦ (let g = w.0 in let u = w.1 in elim out [ inl o1 ↦ absurd (omega arith) | inr (inl o1) ↦ absurd (omega arith) | inr (inr o1) ↦ (let o2 = o1.0 in let o3 = o1.1 in absurd (omega arith)) ])
         ])
+        (turns_are n false leaf same)
 
     small_entered : nat_le frame 4096 ≡ true → Goal
     small_entered e =
@@ -149,7 +158,7 @@ module _ (t : Functions) (fs : List Funclet) (program : LinearProgram) (p : Plan
         let z = h.high in
         let k = l.small in
         let is : making_frame false ≡ enter_code frame = ap (making frame target q.check_stack) e in
-        framed_entered (enter_code frame) is
+        framed_entered (enter_code frame) 1 is (ap (λ x. if x then 1 else 8) e)
         (small_frame view target s.cpu.flags top arguments (entering.view_stack t fs program p q image s source f fn top arguments h) registers h.registers frame (omega arith) (omega arith) (omega arith)
         (subst (HasCode s.memory target) is (codes false leaf).0))
 
@@ -166,7 +175,7 @@ module _ (t : Functions) (fs : List Funclet) (program : LinearProgram) (p : Plan
         let c1 = image.check_stack.low in
         let c2 = image.check_stack.high in
         let reads = λ (i : ℕ) (lo : STACK_START ≤ i) (hi : i < STACK_END). may_read_written s.memory i (h.memory.stack i lo hi) in
-        framed_entered (enter_large frame target q.check_stack) is
+        framed_entered (enter_large frame target q.check_stack) 8 is (ap (λ x. if x then 1 else 8) e)
         (large_frame view target s.cpu.flags top arguments (entering.view_stack t fs program p q image s source f fn top arguments h) registers h.registers frame q.check_stack (omega arith) (entering.below_top t fs program p q image s source f fn top arguments h)
         (record { enough = omega arith; more = omega arith; high = omega arith; first = reads (top - 4096) (omega arith) (omega arith); last = reads (top - frame) (omega arith) (omega arith) })
         ((omega arith, omega arith, omega arith, omega arith)) (omega arith) h.memory.code.check_stack

@@ -8,7 +8,7 @@ use Rattle.virtual_unwind.specs.CallerOf.{Functions}
 use Rattle.linked_stack.specs.Stack.{StackItem, Framed, Leaf, Searching, Unwinding, IsStack, after_frame, after_leaf}
 use Rattle.linked_stack.specs.PlainWalks.{state}
 use Rattle.linked_stack.proofs.Visiting.{frame_is_visited, leaf_is_visited, search_is_passed, unwinding_is_passed, stack_is_over}
-use Rattle.image_runs.specs.Walked.{LiveFrame, with_frame, given_by, walked}
+use Rattle.whole_runs.specs.Walked.{LiveFrame, with_frame, given_by, walked}
 
 -- the frames of a list of stack items
 abbrev pub frames : Context → List StackItem → List LiveFrame

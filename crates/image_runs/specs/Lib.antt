@@ -9,7 +9,6 @@ pub mod RunLaws
 pub mod Images
 pub mod Realises
 pub mod AcceptedLaws
-pub mod Walked
 pub mod Live
 pub mod Returns
 pub mod Passing
@@ -19,3 +18,4 @@ pub mod WalkLaws
 pub mod Walks
 pub mod WalkedLaws
 pub mod Texts
+pub mod Shadows

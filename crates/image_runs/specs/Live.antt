@@ -18,7 +18,7 @@ use Rattle.linked_stack.specs.PlainWalks.{state}
 use Rattle.linked_stack.specs.ImagePlan.{Plan}
 use Rattle.linked_stack.specs.Linked.{Activation, locals_of, activations_below, return_of, BodyWaits}
 use Rattle.body_states.specs.Bodies.{slots_end, last_temporary}
-use Rattle.image_runs.specs.Walked.{LiveFrame, walked}
+use Rattle.whole_runs.specs.Walked.{LiveFrame, walked}
 
 module _ (t : Functions) (fs : List Funclet) (program : LinearProgram) (p : Plan) where
   -- where a body returns to, by what is below it: the first one to 0, a called one past its call, a filter or a block that the dispatcher called to the host's return address for it

@@ -54,7 +54,7 @@ making_same n at check at' check' false e f lt =
     ap (λ (i : Instr). instrs.Move W32 (places.Register Rax) (operands.Immediate n) ∷ i ∷ instrs.Arithmetic arithmetic.Sub W64 (places.Register Rsp) (operands.Register Rax) ∷ [])
     (call_moved image_base (omega arith) (at + 10) check (at' + 10) check' (omega arith) f (omega arith))
 
-frame_same : (o : Option Frame) (size at check at' check' : ℕ) → size ≡ size_of o → IsFrameNear o → at' ≡ image_base + at → check' ≡ image_base + check → at + 10 < 2 ^ 48 → frame_code size at' check' (is_leaf o) ≡ texts.frame_code at check o
+pub frame_same : (o : Option Frame) (size at check at' check' : ℕ) → size ≡ size_of o → IsFrameNear o → at' ≡ image_base + at → check' ≡ image_base + check → at + 10 < 2 ^ 48 → frame_code size at' check' (is_leaf o) ≡ texts.frame_code at check o
 frame_same None size at check at' check' s near e f lt = refl
 frame_same (Some g) size at check at' check' s near e f lt =
     ap (λ (n : ℕ). making n at' check' (leb n 4096)) s
@@ -105,7 +105,7 @@ module _ (program : LinearProgram) (c : IsCompiled program) where
   arguments_by_funclet k None b e h = absurd (none_some h)
   arguments_by_funclet k (Some fl) b e h = funclet_same k fl e
 
-  arguments_same : (name : BodyName) (b : LinearBody) → body_of program name ≡ Some b → arguments_code program (plan_of program) name ≡ argument_code (routine_of program name).routine.layout (routine_of program name).routine.entry
+  pub arguments_same : (name : BodyName) (b : LinearBody) → body_of program name ≡ Some b → arguments_code program (plan_of program) name ≡ argument_code (routine_of program name).routine.layout (routine_of program name).routine.entry
   arguments_same (FunctionBody f) b h = arguments_by_function f (slice_get program.functions f) b refl h
   arguments_same (FuncletBody k) b h = arguments_by_funclet k (slice_get program.funclets k) b refl h
 

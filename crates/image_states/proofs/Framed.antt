@@ -52,7 +52,7 @@ returns i h = absurd h
 
 -- ---- frames
 
-framed_of : (o : Option Frame) → is_leaf o ≡ false → (f : Frame) × (o ≡ Some f)
+pub framed_of : (o : Option Frame) → is_leaf o ≡ false → (f : Frame) × (o ≡ Some f)
 framed_of (Some f) e = (f, refl)
 framed_of None e = absurd (false≢true (sym e))
 

@@ -23,6 +23,7 @@ use Rattle.image_states.proofs.Framed.{frames_stand, leaves_stand', allocation}
 use Rattle.image_states.proofs.Funclets.{funclets_begin}
 use Rattle.image_states.proofs.Giving.{gives}
 use Rattle.image_states.proofs.Resuming.{resumptions}
+use Rattle.image_states.proofs.Found.{callers, callers_outside}
 
 module _ (program : LinearProgram) (c : IsCompiled program) (name : BodyName) (b : LinearBody) (is : body_of program name ≡ Some b) where
   abbrev x : Placed
@@ -68,4 +69,6 @@ images_are_programs program c = record {
   leaves = leaves_stand' program c;
   funclets = funclets_begin program c;
   resumptions = λ resumption b saved. resumptions program b saved resumption;
+  callers = λ name b is. callers program c name b is;
+  callers_outside = callers_outside program c;
 }

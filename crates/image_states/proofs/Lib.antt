@@ -4,6 +4,9 @@ pub mod Addresses
 pub mod Slots
 pub mod Entering
 pub mod Framed
+pub mod Popping
+pub mod Callers
+pub mod Found
 pub mod Inserting
 pub mod Funclets
 pub mod Giving

@@ -124,7 +124,7 @@ module _ (t : Functions) (fs : List Funclet) (program : LinearProgram) (p : Plan
   with_record s at r = record { cpu = s.cpu; memory = placed s.memory at r }
 
   -- a funclet begins, with its record and its return address laid
-  pub arrives : (s : State) (at : ℕ) (r : DispatchRecord) (back first frame above k activation : ℕ) (name : BodyName) (is : List StackItem) (items : List Item) (acts : List Activation)
+  unfoldable pub arrives : (s : State) (at : ℕ) (r : DispatchRecord) (back first frame above k activation : ℕ) (name : BodyName) (is : List StackItem) (items : List Item) (acts : List Activation)
       → IsSane s → IsData s.memory → HasRoom s.memory at r above → above ≤ frame → frame < 2 ^ 64 → back < 2 ^ 64 → first < 2 ^ 64 → IsFunclet t fs program p name k
       → Reaches t fs program p s.memory name frame activation acts → ((others : List ℕ) → On t fs program p (laid s.memory at r back) (context_below back at others) is items acts)
       → Arrives t fs program p (entered (with_record s at r) at back (p.funclet k) first frame) k activation first items acts

@@ -62,7 +62,8 @@ module _ (t : Functions) (fs : List Funclet) (program : LinearProgram) (p : Plan
 
   -- a filter is asked
   filter_begins : (x : SearchResult) (k : ℕ) (f : Handler) (rest : List Handler) → f.filter ≡ Some k → Asks t fs program p s.memory acts (context_of r.saved) is items x k f rest
-      → FilterBegins t fs program p s at (turn_of x) (f ∷ rest) exception resumption acts c
+      → FilterBegins t fs program p s at r (turn_of x) (f ∷ rest) exception resumption is acts c
+  unfolding arrives
   filter_begins x k f rest e a =
       let above = rsp (context_of r.saved) in
       let hand : DispatchRecord = in_hand r a.frame a.next a.to in
@@ -96,6 +97,10 @@ module _ (t : Functions) (fs : List Funclet) (program : LinearProgram) (p : Plan
               before = a.before;
               near = h.near;
             }));
+        named = a.named new.cpu;
+        hand = hand;
+        same_saved = refl;
+        list = refl;
         pointers = pointers_above hand room a.frame k a.funclet.small frame_small;
         untouched = laid_record_leaves_others s.memory at hand filter_return above h.on.data_alone room (in_stack t fs program p s.memory (context_of r.saved) is items acts h.on.stands.stack h.on.stands.linked) (omega arith);
       }
@@ -116,7 +121,7 @@ module _ (t : Functions) (fs : List Funclet) (program : LinearProgram) (p : Plan
 
   abbrev Turned : SearchResult → List Handler → Type 0
   Turned x hs =
-      FilterBegins t fs program p s at (turn_of x) hs exception resumption acts c
+      FilterBegins t fs program p s at r (turn_of x) hs exception resumption is acts c
       ⊎ (TakesOver t fs program p s at r (turn_of x) hs exception resumption (context_of r.saved) is c
       ⊎ NobodyTakesOver t fs program p (turn_of x) hs exception resumption c)
 

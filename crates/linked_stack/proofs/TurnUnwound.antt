@@ -36,7 +36,7 @@ use Rattle.linked_stack.proofs.UnwindUnwound.{unwinding_is_the_lists}
 use Rattle.linked_stack.specs.States.{IsSane}
 use Rattle.linked_stack.specs.Unwinds.{landing_value, landing_events, Unwound, BlockBegins, LandsThere}
 use Rattle.linked_stack.specs.TurnLaws.{IsUnwinding, UnwindTurns}
-use Rattle.linked_stack.proofs.Entered.{with_record, fits_in_hand, few_items, entered_first, arrives}
+use Rattle.linked_stack.proofs.Entered.{with_record, fits_in_hand, few_items, entered_first, entered_frame, arrives}
 use Rattle.linked_stack.proofs.Begun.{none_small}
 
 module _ (t : Functions) (fs : List Funclet) (program : LinearProgram) (p : Plan) (s : State) (at : ℕ) (r : DispatchRecord) (is : List StackItem) (w : Unwound) (h : IsUnwinding t fs program p s at r is w) where
@@ -50,8 +50,9 @@ module _ (t : Functions) (fs : List Funclet) (program : LinearProgram) (p : Plan
   seen next = linear.unwind program next w.target w.items w.left w.shown (store_of w.source w.acts)
 
   -- a `__finally` block is run
-  block_begins : (x : UnwindResult) → RunsBlock t fs program p s.memory course x seen → BlockBegins t fs program p s (turn_of x) w
-  block_begins x a =
+  block_begins : (x : UnwindResult) → unwind steps t s.memory r.target_frame r.target (walk_in r) ≡ x → RunsBlock t fs program p s.memory course x seen → BlockBegins t fs program p s r (turn_of x) w
+  unfolding arrives
+  block_begins x e a =
       let above = rsp r.walk in
       let hand : DispatchRecord = in_hand r (rsp a.to) a.row a.to in
       let hand_fits : Fits hand = fits_in_hand r (rsp a.to) a.row a.to h.room.fits a.kept in
@@ -88,6 +89,16 @@ module _ (t : Functions) (fs : List Funclet) (program : LinearProgram) (p : Plan
               space = subst (λ n. HasSpace at (below_end + record_room) n) (sym a.counted) h.space;
             }));
         untouched = laid_record_leaves_others s.memory at hand finally_return above h.on.data_alone room (in_stack t fs program p s.memory r.walk is w.items w.acts h.on.stands.stack h.on.stands.linked) (omega arith);
+        named = a.named new.cpu ∙ ap (λ v. events.Finally (a.block + 1) (not (low W32 v == 0)) ∷ []) first;
+        to = a.to;
+        row = a.row;
+        inner = a.is;
+        hand = hand;
+        answer = e ∙ a.answer;
+        stack = a.stack;
+        list = refl;
+        same_walk = refl;
+        frame = entered_frame (with_record t fs program p s at hand) at finally_return (p.funclet a.block) 1 (rsp a.to) (record { rip_small = h.sane.rip_small; count = h.sane.count; small = h.sane.small }) a.funclet.small (omega arith) frame_small;
       }
     where
       purpose_kept : (o : Option ℕ) → HasPurpose t fs program p o r → HasPurpose t fs program p o (in_hand r (rsp a.to) a.row a.to)
@@ -132,8 +143,8 @@ module _ (t : Functions) (fs : List Funclet) (program : LinearProgram) (p : Plan
   appended None es e = e
   appended (Some code) es e = ap (λ (xs : List Event). events.Except (record { 0 = code }) ∷ xs) e
 
-  lands_there : (x : UnwindResult) → Lands t fs program p s.memory course x seen → LandsThere t fs program p s r (turn_of x) w
-  lands_there x a =
+  lands_there : (x : UnwindResult) → unwind steps t s.memory r.target_frame r.target (walk_in r) ≡ x → Lands t fs program p s.memory course x seen → LandsThere t fs program p s r (turn_of x) w
+  lands_there x e a =
       let u : State = at_landing s a.to (landing_value w.target.code) r.target in
       record {
         held = a.held;
@@ -144,6 +155,8 @@ module _ (t : Functions) (fs : List Funclet) (program : LinearProgram) (p : Plan
         framed = a.framed;
         is = a.is;
         outer = a.acts;
+        answer = e ∙ a.answer;
+        quiet = a.quiet;
         turns =
             ap turn_of a.answer
             ∙ ap (arrived t fs) (by_code a.to w.target.code h.purpose)
@@ -156,15 +169,15 @@ module _ (t : Functions) (fs : List Funclet) (program : LinearProgram) (p : Plan
         sane = landed_sane a.to (landing_value w.target.code) a.wide (value_small w.target.code h.purpose);
       }
 
-  by_answer : (x : UnwindResult) → UnwoundAs t fs program p s.memory course x seen → BlockBegins t fs program p s (turn_of x) w ⊎ LandsThere t fs program p s r (turn_of x) w
-  by_answer x (inl a) = inl (block_begins x a)
-  by_answer x (inr a) = inr (lands_there x a)
+  by_answer : (x : UnwindResult) → unwind steps t s.memory r.target_frame r.target (walk_in r) ≡ x → UnwoundAs t fs program p s.memory course x seen → BlockBegins t fs program p s r (turn_of x) w ⊎ LandsThere t fs program p s r (turn_of x) w
+  by_answer x e (inl a) = inl (block_begins x e a)
+  by_answer x e (inr a) = inr (lands_there x e a)
 
-  pub unwound : BlockBegins t fs program p s (arrived t fs (unwinds_on t s at r)) w ⊎ LandsThere t fs program p s r (arrived t fs (unwinds_on t s at r)) w
+  pub unwound : BlockBegins t fs program p s r (arrived t fs (unwinds_on t s at r)) w ⊎ LandsThere t fs program p s r (arrived t fs (unwinds_on t s at r)) w
   unwound =
       let small = h.room.small in
       let few = few_items t s.memory r.walk is h.on.stands.stack small in
-      by_answer (unwind steps t s.memory r.target_frame r.target (walk_in r))
+      by_answer (unwind steps t s.memory r.target_frame r.target (walk_in r)) refl
       (unwinding_is_the_lists t fs program p s.memory r.walk is w.items w.acts r.row w.left w.target r.target_frame r.target w.source w.shown steps
       (record { gives = h.gives; stack = h.on.stands.stack; linked = h.on.stands.linked; wide = wide_walk r h.room.fits }) h.at_row h.aimed (omega arith))
 

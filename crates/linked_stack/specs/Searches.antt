@@ -5,11 +5,11 @@ use Rattle.seh_num.specs.declared.end.RunEnd.TheVariants as ends
 use Rattle.x64_instr.specs.declared.register.Reg.TheVariants.{Rcx, Rsp}
 use Rattle.x64_machine.specs.declared.context.Context.{Context}
 use Rattle.x64_machine.specs.Effect.{State, register}
-use Rattle.virtual_unwind.specs.CallerOf.{Functions}
+use Rattle.virtual_unwind.specs.CallerOf.{Functions, distance}
 use Rattle.seh_records.specs.declared.dispatch.DispatchRecord.{DispatchRecord}
 use Rattle.host_model.specs.declared.funclet.Funclet.{Funclet}
 use Rattle.host_model.specs.Turns.{Turn, Continues, Ends}
-use Rattle.host_model.specs.Funclets.{arrived}
+use Rattle.host_model.specs.Funclets.{arrivals, arrived}
 use Rattle.host_model.specs.Dispatch.{accepted}
 use Rattle.c_model.specs.declared.ended.Ended.TheVariants.{Unhandled}
 use Rattle.c_model.specs.State.{Exception}
@@ -17,15 +17,15 @@ use Rattle.linear_code.specs.Program.{LinearProgram}
 use Rattle.linear_machine.specs.Frames.{Handler, Resumption, Waits, Searches, Configuration, Finished, Next, deeper}
 use Rattle.linear_machine.specs.Searching as linear
 use Rattle.linear_machine.specs.Searching.{begin_filter, accept}
-use Rattle.linked_stack.specs.Stack.{StackItem}
+use Rattle.linked_stack.specs.Stack.{StackItem, Searching}
 use Rattle.linked_stack.specs.ImagePlan.{Plan}
 use Rattle.linked_stack.specs.Linked.{Activation, Aimed}
 use Rattle.linked_stack.specs.Records.{IsUntouched}
 use Rattle.linked_stack.specs.States.{Arrives}
 
 module _ (t : Functions) (fs : List Funclet) (program : LinearProgram) (p : Plan) where
-  -- the filter of the first handler begins, unless linear code is too deep; its EXCEPTION_POINTERS stand in the record above its return address
-  pub record FilterBegins (s : State) (at : ℕ) (turn : Turn) (found : List Handler) (exception : Exception) (resumption : Resumption) (acts : List Activation) (c : Configuration) : Type 0 where
+  -- the filter of the first handler begins, unless linear code is too deep; its EXCEPTION_POINTERS stand in the record above its return address, with the state that was saved
+  pub record FilterBegins (s : State) (at : ℕ) (r : DispatchRecord) (turn : Turn) (found : List Handler) (exception : Exception) (resumption : Resumption) (is : List StackItem) (acts : List Activation) (c : Configuration) : Type 0 where
     pub filter : ℕ
     pub handler : Handler
     pub asked : handler.filter ≡ Some filter
@@ -34,6 +34,10 @@ module _ (t : Functions) (fs : List Funclet) (program : LinearProgram) (p : Plan
     pub turns : turn ≡ Continues state (events.Filter (filter + 1) ∷ [])
     pub goes : (next : Next) → linear.search program next found exception resumption c ≡ deeper 2 c.frame.held c.store c.events (next (begin_filter filter handler rest exception resumption c))
     pub arrives : Arrives t fs program p state filter handler.activation ((at + 80) % 2 ^ 64) (Searches exception resumption handler rest ∷ Waits c.frame ∷ c.below) acts
+    pub named : arrivals state.cpu (distance t.base state.cpu.rip) 1 fs ≡ events.Filter (filter + 1) ∷ []
+    pub hand : DispatchRecord
+    pub same_saved : hand.saved ≡ r.saved
+    pub list : arrives.is ≡ Searching hand ∷ is
     pub pointers : register state.cpu Rcx ≡ register state.cpu Rsp + 88
     pub untouched : IsUntouched s.memory state.memory
 

@@ -38,7 +38,7 @@ SearchTurns =
     (t : Functions) (fs : List Funclet) (program : LinearProgram) (p : Plan) (s : State) (at : ℕ) (r : DispatchRecord) (is : List StackItem) (acts : List Activation)
     (exception : Exception) (resumption : Resumption) (found : List Handler) (c : Configuration)
     → IsSearching t fs program p s at r is acts exception found c → p.resumes resumption c.frame r.saved ≡ true
-    → FilterBegins t fs program p s at (arrived t fs (searches_on t s at r)) found exception resumption acts c
+    → FilterBegins t fs program p s at r (arrived t fs (searches_on t s at r)) found exception resumption is acts c
     ⊎ (TakesOver t fs program p s at r (arrived t fs (searches_on t s at r)) found exception resumption (context_of r.saved) is c
     ⊎ NobodyTakesOver t fs program p (arrived t fs (searches_on t s at r)) found exception resumption c)
 
@@ -58,4 +58,4 @@ abbrev pub UnwindTurns : Type 0
 UnwindTurns =
     (t : Functions) (fs : List Funclet) (program : LinearProgram) (p : Plan) (s : State) (at : ℕ) (r : DispatchRecord) (is : List StackItem) (w : Unwound)
     → IsUnwinding t fs program p s at r is w
-    → BlockBegins t fs program p s (arrived t fs (unwinds_on t s at r)) w ⊎ LandsThere t fs program p s r (arrived t fs (unwinds_on t s at r)) w
+    → BlockBegins t fs program p s r (arrived t fs (unwinds_on t s at r)) w ⊎ LandsThere t fs program p s r (arrived t fs (unwinds_on t s at r)) w

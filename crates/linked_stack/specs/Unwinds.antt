@@ -4,19 +4,25 @@ use Rattle.seh_num.specs.declared.event.Event.{Event}
 use Rattle.seh_num.specs.declared.event.Event.TheVariants as events
 use Rattle.flat_memory.specs.Memory.{Memory}
 use Rattle.x64_machine.specs.declared.context.Context.{Context}
-use Rattle.x64_machine.specs.Effect.{State}
+use Rattle.x64_machine.specs.declared.cpu.Cpu.{Cpu}
+use Rattle.x64_instr.specs.declared.register.Reg.TheVariants.{Rdx}
+use Rattle.x64_machine.specs.Effect.{State, register}
 use Rattle.virtual_unwind.specs.Contexts.{rsp}
-use Rattle.virtual_unwind.specs.CallerOf.{Functions}
+use Rattle.virtual_unwind.specs.CallerOf.{Functions, distance}
 use Rattle.seh_records.specs.declared.dispatch.DispatchRecord.{DispatchRecord}
+use Rattle.seh_walk.specs.Walk.{walk_in, steps}
+use Rattle.seh_unwind.specs.declared.unwind_result.UnwindResult.TheVariants as results
+use Rattle.seh_unwind.specs.Unwind.{unwind}
 use Rattle.host_model.specs.declared.funclet.Funclet.{Funclet}
 use Rattle.host_model.specs.Turns.{Turn, Continues}
+use Rattle.host_model.specs.Funclets.{arrivals}
 use Rattle.host_model.specs.Dispatch.{at_landing}
 use Rattle.linear_code.specs.declared.program.Region.{Region}
 use Rattle.linear_code.specs.Program.{LinearProgram}
 use Rattle.linear_machine.specs.Frames.{Frame, Target, Item, Waits, Unwinds, Next}
 use Rattle.linear_machine.specs.Unwinding as linear
 use Rattle.linear_machine.specs.Unwinding.{arrive, run_finally}
-use Rattle.linked_stack.specs.Stack.{StackFrame, StackItem, Framed}
+use Rattle.linked_stack.specs.Stack.{StackFrame, StackItem, Framed, Unwinding, IsStack}
 use Rattle.linked_stack.specs.ImagePlan.{Plan}
 use Rattle.linked_stack.specs.Linked.{Activation}
 use Rattle.linked_stack.specs.Records.{On, IsUntouched}
@@ -42,8 +48,8 @@ pub record Unwound : Type 0 where
   pub shown : List Event
 
 module _ (t : Functions) (fs : List Funclet) (program : LinearProgram) (p : Plan) where
-  -- a `__finally` block of a body begins, unless linear code is too deep; each activation that was left is held by the target
-  pub record BlockBegins (s : State) (turn : Turn) (w : Unwound) : Type 0 where
+  -- a `__finally` block of a body begins, unless linear code is too deep; each activation that was left is held by the target; the record in the stack has come to that body's frame, from which the list stands
+  pub record BlockBegins (s : State) (r : DispatchRecord) (turn : Turn) (w : Unwound) : Type 0 where
     pub block : ℕ
     pub held : ℕ
     pub more : w.target.held ≤ held
@@ -59,6 +65,16 @@ module _ (t : Functions) (fs : List Funclet) (program : LinearProgram) (p : Plan
         ≡ run_finally program block true held (Unwinds rest (record w.target { held = held }) ∷ Waits body ∷ below) next (on_top body below w.source outer w.shown)
     pub arrives : Arrives t fs program p state block body.activation 1 (Unwinds rest (record w.target { held = held }) ∷ Waits body ∷ below) outer
     pub untouched : IsUntouched s.memory state.memory
+    pub named : arrivals state.cpu (distance t.base state.cpu.rip) 1 fs ≡ events.Finally (block + 1) true ∷ []
+    pub to : Context
+    pub row : ℕ
+    pub inner : List StackItem
+    pub hand : DispatchRecord
+    pub answer : unwind steps t s.memory r.target_frame r.target (walk_in r) ≡ results.Finally (p.funclet block) (rsp to) row to
+    pub stack : IsStack t s.memory to inner
+    pub list : arrives.is ≡ Unwinding hand ∷ inner
+    pub same_walk : hand.walk ≡ to
+    pub frame : register state.cpu Rdx ≡ rsp to
 
   -- it lands in a body of the list, in that one's frame
   pub record LandsThere (s : State) (r : DispatchRecord) (turn : Turn) (w : Unwound) : Type 0 where
@@ -70,6 +86,8 @@ module _ (t : Functions) (fs : List Funclet) (program : LinearProgram) (p : Plan
     pub framed : StackFrame
     pub is : List StackItem
     pub outer : List Activation
+    pub answer : unwind steps t s.memory r.target_frame r.target (walk_in r) ≡ results.Land to
+    pub quiet : (cpu : Cpu) → arrivals cpu (distance t.base r.target) 1 fs ≡ []
     pub turns : turn ≡ Continues (at_landing s to (landing_value w.target.code) r.target) (landing_events w.target.code)
     pub goes :
         (next : Next) → linear.unwind program next w.target w.items w.left w.shown (store_of w.source w.acts)

@@ -6,6 +6,7 @@ use Rattle.seh_num.specs.declared.event.Event.{Event}
 use Rattle.seh_num.specs.declared.event.Event.TheVariants as events
 use Rattle.seh_num.specs.Widths.{signed}
 use Rattle.x64_instr.specs.declared.register.Reg.TheVariants.{Rsp}
+use Rattle.x64_machine.specs.declared.context.Context.{Context}
 use Rattle.x64_machine.specs.Contexts.{context_of}
 use Rattle.x64_machine.specs.Effect.{State, register}
 use Rattle.virtual_unwind.specs.Contexts.{rsp}
@@ -39,7 +40,11 @@ use Rattle.linked_stack.specs.Returns.{filter_turn, with_answer, answered, linea
 use Rattle.linked_stack.proofs.Begun.{answers_go_on, finally_returns_unwind}
 use Rattle.linked_stack.proofs.Returned.{filter_returns}
 use Rattle.whole_runs.specs.Ends.{HasRule}
+use Rattle.whole_runs.specs.Shadow.{WalkGives}
+use Rattle.whole_runs.proofs.Shadows.{none_below}
 use Rattle.body_states.specs.Sites.{Sites}
+use Rattle.body_states.specs.Callers.{callers}
+use Rattle.body_states.proofs.StackWalks.{on_stack, stack_rises}
 use Rattle.body_states.specs.Programs.{IsMachineMemory, IsProgramImage}
 use Rattle.body_states.specs.Bodies.{held_below, turns_left}
 use Rattle.turn_steps.specs.FuncletEntries.{FlagsFit}
@@ -67,8 +72,11 @@ module _ (t : Functions) (fs : List Funclet) (program : LinearProgram) (p : Plan
     abbrev at : ℕ
     at = rsp (context_of s.cpu)
 
+    abbrev pub shadow : List Context
+    shadow = callers (context_of r.saved) is
+
     abbrev Answers : Type 0
-    Answers = Shows t fs program p q (arrived t fs (filter_turn t s)) (event ∷ []) seen c.events (turns_left c + 3)
+    Answers = Shows t fs program p q (arrived t fs (filter_turn t s)) (event ∷ []) seen c.events (turns_left c + 3) shadow
 
     go_on : AnswersAs t fs program p s r is acts exception asked rest c'
     go_on = answers_go_on t fs program p s r is acts exception resumption asked rest c' (record { gives = answers.gives; sane = answers.sane; on = answers.on })
@@ -76,23 +84,23 @@ module _ (t : Functions) (fs : List Funclet) (program : LinearProgram) (p : Plan
     resumes : p.resumes resumption c.frame r.saved ≡ true
     resumes = answers.on.stands.linked.0.resumes
 
-    shows : (x : Turn) → filter_turn t s ≡ with_answer s x → Outcome t fs program p q (arrived t fs x) seen (c.events ++ event ∷ []) (turns_left c + 3) → Answers
+    shows : (x : Turn) → filter_turn t s ≡ with_answer s x → Outcome t fs program p q (arrived t fs x) seen (c.events ++ event ∷ []) (turns_left c + 3) shadow → Answers
     shows x e outcome = record { further = arrived t fs x; turns = ap (arrived t fs) e ∙ arrived_with t fs event x ∙ with_one event (arrived t fs x); outcome = outcome }
 
     asks_next : AsksTheNext t program s r exception resumption asked rest c → HasRule (seen (exec program zero)) → Answers
     asks_next a rule =
         let x = searches_on t s at r in
         shows x a.turns
-        (outcome_more t fs program p q (arrived t fs x) seen (c.events ++ event ∷ []) (turns_left c) (turns_left c + 3) (omega arith)
-        (outcome_same t fs program p q (arrived t fs x) (arrived t fs x) (λ next. search program next rest exception resumption c') seen (c.events ++ event ∷ []) (turns_left c) refl a.goes
+        (outcome_more t fs program p q (arrived t fs x) seen (c.events ++ event ∷ []) (turns_left c) (turns_left c + 3) shadow (omega arith)
+        (outcome_same t fs program p q (arrived t fs x) (arrived t fs x) (λ next. search program next rest exception resumption c') seen (c.events ++ event ∷ []) (turns_left c) shadow refl a.goes
         (searched t fs program p q image fits s at r is acts exception rest c' go_on.next memory store resumption resumes (subst HasRule (a.goes (exec program zero)) rule))))
 
     asked_takes_over : AskedTakesOver t fs program p s r is exception resumption asked rest c → HasRule (seen (exec program zero)) → Answers
     asked_takes_over a rule =
         let x = accepted t s at r r.frame a.address in
         shows x a.turns
-        (outcome_more t fs program p q (arrived t fs x) seen (c.events ++ event ∷ []) (turns_left c) (turns_left c + 3) (omega arith)
-        (outcome_same t fs program p q (arrived t fs x) (arrived t fs x) (λ next. accept program asked exception next c') seen (c.events ++ event ∷ []) (turns_left c) refl a.goes
+        (outcome_more t fs program p q (arrived t fs x) seen (c.events ++ event ∷ []) (turns_left c) (turns_left c + 3) shadow (omega arith)
+        (outcome_same t fs program p q (arrived t fs x) (arrived t fs x) (λ next. accept program asked exception next c') seen (c.events ++ event ∷ []) (turns_left c) shadow refl a.goes
         (taken_over t fs program p q image fits s at r is acts exception rest c' go_on.next memory store asked r.frame a.address a.frame_small a.address_small a.aimed (subst HasRule (a.goes (exec program zero)) rule))))
 
     is_continued : IsContinued t fs program p s r is acts exception resumption asked rest c → Answers
@@ -107,6 +115,8 @@ module _ (t : Functions) (fs : List Funclet) (program : LinearProgram) (p : Plan
           few = resumed_few resumption;
           acts = a.goes;
           shown = shown_same resumption;
+          quiet = continued_quietly a;
+          walk = (let stack = a.on.stands.stack in subst (WalkGives t (restored s r)) (sym (none_below (rsp (context_of r.saved)) shadow (stack_rises t s.memory (context_of r.saved) is stack))) (on_stack t s.memory (context_of r.saved) 0 is stack));
           leads = λ known. l.1 known free;
         }))
       where
@@ -123,7 +133,7 @@ module _ (t : Functions) (fs : List Funclet) (program : LinearProgram) (p : Plan
 
     -- the exception in its place shows its own event too
     raised_anew : IsRaisedAnew t program s r exception resumption asked rest c → HasRule (seen (exec program zero))
-        → Shows t fs program p q (arrived t fs (filter_turn t s)) (event ∷ raise_event noncontinuable ∷ []) seen c.events (turns_left c + 3)
+        → Shows t fs program p q (arrived t fs (filter_turn t s)) (event ∷ raise_event noncontinuable ∷ []) seen c.events (turns_left c + 3) shadow
     raised_anew a rule =
         let e = raise_event noncontinuable in
         let c2 : Configuration = record { frame = c.frame; below = c.below; store = c.store; events = (c.events ++ event ∷ []) ++ e ∷ [] } in
@@ -140,16 +150,16 @@ module _ (t : Functions) (fs : List Funclet) (program : LinearProgram) (p : Plan
         record {
           further = y;
           turns = ap (arrived t fs) (a.turns ∙ ap (with_answer s) g.raises) ∙ arrived_with t fs event (with_event e x) ∙ ap (with_event event) (arrived_with t fs e x) ∙ with_two event e y;
-          outcome = subst (λ (es : List Event). Outcome t fs program p q y seen es (turns_left c + 3)) assoc
-              (outcome_more t fs program p q y seen ((c.events ++ event ∷ []) ++ e ∷ []) (turns_left c) (turns_left c + 3) (omega arith)
-              (outcome_same t fs program p q y y (λ next. search program next (handlers program (Waits c.frame ∷ c.below) None) noncontinuable resumption c2) seen ((c.events ++ event ∷ []) ++ e ∷ []) (turns_left c) refl a.goes
+          outcome = subst (λ (es : List Event). Outcome t fs program p q y seen es (turns_left c + 3) shadow) assoc
+              (outcome_more t fs program p q y seen ((c.events ++ event ∷ []) ++ e ∷ []) (turns_left c) (turns_left c + 3) shadow (omega arith)
+              (outcome_same t fs program p q y y (λ next. search program next (handlers program (Waits c.frame ∷ c.below) None) noncontinuable resumption c2) seen ((c.events ++ event ∷ []) ++ e ∷ []) (turns_left c) shadow refl a.goes
               (searched t fs program p q image fits (placed_in s at anew) at anew is acts noncontinuable (handlers program (Waits c.frame ∷ c.below) None) c2 g.anew memory' store resumption resumes (subst HasRule (a.goes (exec program zero)) rule))));
         }
 
     -- whatever it answers
     pub record AnswerShows : Type 0 where
       pub before : List Event
-      pub shown : Shows t fs program p q (arrived t fs (filter_turn t s)) before seen c.events (turns_left c + 3)
+      pub shown : Shows t fs program p q (arrived t fs (filter_turn t s)) before seen c.events (turns_left c + 3) shadow
 
     pub filter_answered : HasRule (seen (exec program zero)) → AnswerShows
     filter_answered rule = elim (filter_returns t fs program p s r is acts exception resumption asked rest c answers) [
@@ -169,7 +179,7 @@ module _ (t : Functions) (fs : List Funclet) (program : LinearProgram) (p : Plan
       → IsSane s → On t fs program p s.memory (context_of s.cpu) (Unwinding r ∷ is) (Unwinds rest target ∷ Waits f ∷ below) acts
       → IsMachineMemory t fs program p q s.memory c.store.memory → c.store.activations ≡ locals_of acts → c.below ≡ Unwinds rest target ∷ Waits f ∷ below → AreClear c.below
       → HasRule (end_finally program (exec program zero) c.below c.events c.store)
-      → Shows t fs program p q (arrived t fs (finally_returned t s (register s.cpu Rsp) (fetched s.memory (register s.cpu Rsp)))) [] (λ next. end_finally program next c.below c.events c.store) c.events (turns_left c)
+      → Shows t fs program p q (arrived t fs (finally_returned t s (register s.cpu Rsp) (fetched s.memory (register s.cpu Rsp)))) [] (λ next. end_finally program next c.below c.events c.store) c.events (turns_left c) (callers r.walk is)
   finally_ended s r is acts rest target f below c sane on memory store under clear rule =
       let at = register s.cpu Rsp in
       let w : Unwound = record { target = target; items = Waits f ∷ below; left = Some rest; acts = acts; source = c.store.memory; shown = c.events } in
@@ -180,10 +190,10 @@ module _ (t : Functions) (fs : List Funclet) (program : LinearProgram) (p : Plan
       let same_store : c.store ≡ store_of c.store.memory acts = ap (λ (xs : List (List ℕ)). let z : Store = record { memory = c.store.memory; activations = xs } in z) store in
       let same = λ (next : Next). ap (λ (items : List Item). end_finally program next items c.events c.store) under ∙ ap (λ (z : Store). unwind program next target (Waits f ∷ below) (Some rest) c.events z) same_store in
       let few : 3 * held_below (Waits f ∷ below) ≤ turns_left c = (let z = ap held_below under in omega arith) in
-      let done = outcome_same t fs program p q x y (λ next. unwind program next w.target w.items w.left w.shown (store_of w.source w.acts)) (λ next. end_finally program next c.below c.events c.store) c.events (turns_left c) turns same
+      let done = outcome_same t fs program p q x y (λ next. unwind program next w.target w.items w.left w.shown (store_of w.source w.acts)) (λ next. end_finally program next c.below c.events c.store) c.events (turns_left c) (callers r.walk is) turns same
       (unwound t fs program p q image fits w (turns_left c) few (λ e. subst AreClear under clear) s at r is u memory (subst HasRule (same (exec program zero)) rule)) in
       record {
         further = y;
         turns = with_none y;
-        outcome = subst (λ (es : List Event). Outcome t fs program p q y (λ next. end_finally program next c.below c.events c.store) es (turns_left c)) (sym (append-nil c.events)) done;
+        outcome = subst (λ (es : List Event). Outcome t fs program p q y (λ next. end_finally program next c.below c.events c.store) es (turns_left c) (callers r.walk is)) (sym (append-nil c.events)) done;
       }

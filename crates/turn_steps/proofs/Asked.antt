@@ -32,6 +32,7 @@ use Rattle.linked_stack.specs.Steps.{placed_in, from_body, AsksHost, IsException
 use Rattle.linked_stack.proofs.Begun.{raise_searches, local_unwind_unwinds}
 use Rattle.whole_runs.specs.Ends.{HasRule}
 use Rattle.body_states.specs.Sites.{Sites}
+use Rattle.body_states.specs.Callers.{callers}
 use Rattle.body_states.specs.Programs.{IsMachineMemory, IsProgramImage}
 use Rattle.body_states.specs.Bodies.{turns_left}
 use Rattle.turn_steps.specs.FuncletEntries.{FlagsFit}
@@ -54,7 +55,7 @@ module _ (t : Functions) (fs : List Funclet) (program : LinearProgram) (p : Plan
     -- a raise shows its event, and searches
     pub raised_as : (code : Code) (flags : ℕ) (access : Option (Bool × ℕ)) (exception : Exception) (resumption : Resumption)
         → IsException code flags access exception → p.resumes resumption c.frame saved ≡ true → HasRule (raise program (exec program zero) exception resumption c)
-        → Shows t fs program p q (arrived t fs (raised t s code flags access saved)) (raise_event exception ∷ []) (λ next. raise program next exception resumption c) c.events (turns_left c)
+        → Shows t fs program p q (arrived t fs (raised t s code flags access saved)) (raise_event exception ∷ []) (λ next. raise program next exception resumption c) c.events (turns_left c) (callers (context_of saved) is)
     raised_as code flags access exception resumption is_exception resumes rule =
         let e = raise_event exception in
         let c' = having_shown e c in
@@ -74,7 +75,7 @@ module _ (t : Functions) (fs : List Funclet) (program : LinearProgram) (p : Plan
     -- a local unwind
     pub unwound_to : (frame address label : ℕ) → frame < 2 ^ 64 → address < 2 ^ 64 → Aimed t fs program p (length c.below) label frame address (context_of saved) is (Waits c.frame ∷ c.below)
         → HasRule (local_unwind program (exec program zero) label c) → AreClear (Waits c.frame ∷ c.below)
-        → Shows t fs program p q (arrived t fs (unwound_locally t s frame address saved)) [] (λ next. local_unwind program next label c) c.events (turns_left c)
+        → Shows t fs program p q (arrived t fs (unwound_locally t s frame address saved)) [] (λ next. local_unwind program next label c) c.events (turns_left c) (callers (context_of saved) is)
     unwound_to frame address label frame_small address_small aimed rule clear =
         let r = to_target saved frame address in
         let at = place_of saved in
@@ -88,11 +89,11 @@ module _ (t : Functions) (fs : List Funclet) (program : LinearProgram) (p : Plan
         let same_store : c.store ≡ store_of c.store.memory acts = ap (λ (xs : List (List ℕ)). let x : Store = record { memory = c.store.memory; activations = xs } in x) store in
         let same = λ (next : Next). ap (λ (x : Store). unwind program next target (Waits c.frame ∷ c.below) None c.events x) same_store in
         let done = outcome_same t fs program p q (arrived t fs (unwinds_on t (placed_in s at r) at r)) (arrived t fs (unwound_locally t s frame address saved))
-        (λ next. unwind program next w.target w.items w.left w.shown (store_of w.source w.acts)) (λ next. local_unwind program next label c) c.events (turns_left c)
+        (λ next. unwind program next w.target w.items w.left w.shown (store_of w.source w.acts)) (λ next. local_unwind program next label c) c.events (turns_left c) (callers (context_of saved) is)
         (ap (arrived t fs) a.turns) same
         (unwound t fs program p q image fits w (turns_left c) (omega arith) (λ e. clear) (placed_in s at r) at r is u memory' (subst HasRule (same (exec program zero)) rule)) in
         record {
           further = arrived t fs (unwound_locally t s frame address saved);
           turns = with_none (arrived t fs (unwound_locally t s frame address saved));
-          outcome = subst (λ (es : List Event). Outcome t fs program p q (arrived t fs (unwound_locally t s frame address saved)) (λ next. local_unwind program next label c) es (turns_left c)) (sym (append-nil c.events)) done;
+          outcome = subst (λ (es : List Event). Outcome t fs program p q (arrived t fs (unwound_locally t s frame address saved)) (λ next. local_unwind program next label c) es (turns_left c) (callers (context_of saved) is)) (sym (append-nil c.events)) done;
         }

@@ -1,5 +1,5 @@
 -- A built-in function is called: the service is reached, and what it saves of the body stands on top of the list.
-use Rattle.std.proofs.Common.{◌≡◌, ℕ, ◌+◌, ◌%◌, ◌^◌, ◌<◌, ◌≤◌, Some, List, [], ◌∷◌, length, Ok, refl, sym, ap, subst, ◌∙◌, arith, length-set, set}
+use Rattle.std.proofs.Common.{◌≡◌, ℕ, ◌+◌, ◌-◌, ◌%◌, ◌^◌, ◌<◌, ◌≤◌, Some, List, [], ◌∷◌, length, Ok, refl, sym, ap, subst, ◌∙◌, arith, length-set, set}
 use Rattle.std.specs.Prelude.{◌==◌, false, slice_get, take}
 use Rattle.seh_num.specs.declared.width.Width.TheVariants.{W64}
 use Rattle.flat_memory.specs.Memory.{loaded}
@@ -52,6 +52,7 @@ use Rattle.body_steps.proofs.Viewed.{IsCounted, sp_low, frame_top, room_here, ho
 use Rattle.turn_steps.proofs.Begun.{same_itself}
 use Rattle.turn_steps.proofs.Kept.{offset_most}
 use Rattle.turn_steps.proofs.BuiltIns.{with_arguments_of, ServiceReached, service_reached}
+use Rattle.turn_steps.proofs.BuiltInKeeping.{built_in_keeps}
 use Rattle.turn_steps.proofs.Hosts.{Asks, asks_host}
 use Rattle.turn_steps.proofs.Memories.{memory_untouched}
 use Rattle.turn_steps.proofs.Pushed as pushing
@@ -200,7 +201,7 @@ module _ (t : Functions) (fs : List Funclet) (program : LinearProgram) (p : Plan
     reaches = subst (λ x. Reaches 7 x state) (sym same) run.comes
 
     pub comes : Comes t fs 7 s [] state
-    comes = reaches_quietly t fs program p q image 7 s state reaches b.memory.code (host_quiet t fs program p q image s.memory service state.cpu b.memory.code (service_low f).1)
+    comes = reaches_quietly t fs program p q image 7 s state reaches (built_in_keeps t fs program p q image made.room s c b counted f first here state reaches refl near) b.memory.code (host_quiet t fs program p q image s.memory service state.cpu b.memory.code (service_low f).1)
 
     pub live : IsLive state
     live = service_live f
@@ -231,6 +232,9 @@ module _ (t : Functions) (fs : List Funclet) (program : LinearProgram) (p : Plan
 
     pub returns : loaded state.memory (register state.cpu Rsp) W64 ≡ Ok back
     returns = pushing.returns_there given sp back low_enough high_enough b.memory.data_alone b.memory.stack service run.flags back_small many
+
+    pub sp_there : register state.cpu Rsp ≡ sp - 8
+    sp_there = pushing.sp_there given sp back low_enough high_enough b.memory.data_alone b.memory.stack service run.flags back_small many
 
     pub sp_saved : register saved Rsp ≡ sp
     sp_saved = pushing.sp_saved given sp back low_enough high_enough b.memory.data_alone b.memory.stack service run.flags back_small many

@@ -1,5 +1,5 @@
 -- A body calls its `__finally` block: the machine comes to the block's first byte, above the body that waits.
-use Rattle.std.proofs.Common.{◌≡◌, ℕ, ◌+◌, ◌-◌, ◌^◌, ◌<◌, ◌≤◌, false, Option, Some, None, Ok, List, [], ◌∷◌, length, refl, sym, ap, subst, ◌∙◌, arith}
+use Rattle.std.proofs.Common.{◌≡◌, ℕ, ◌+◌, ◌-◌, ◌^◌, ◌<◌, ◌≤◌, true, false, Option, Some, None, Ok, List, [], ◌∷◌, length, refl, sym, ap, subst, ◌∙◌, arith, inl}
 use Rattle.std.specs.Prelude.{slice_get, drop}
 use Rattle.std.proofs.lemmas.List.{length-drop, get_or-set_same}
 use Rattle.seh_num.specs.declared.event.Event.TheVariants as events
@@ -36,6 +36,7 @@ use Rattle.linked_stack.proofs.ListKeeping.{reaches_above, kept_by_stores_below}
 use Rattle.linked_stack.specs.Records.{On}
 use Rattle.linked_stack.proofs.SearchSearched.{body_reaches}
 use Rattle.linked_stack.specs.States.{IsSane}
+use Rattle.whole_runs.specs.Shadow.{AllKeep}
 use Rattle.whole_runs.specs.Comes.{Comes}
 use Rattle.ir_typed.specs.Apart.{AreApart}
 use Rattle.ir_typed.specs.Bodies.{IsFinally, parent_of, IsFuncletOf}
@@ -46,11 +47,15 @@ use Rattle.body_states.specs.Programs.{IsMachineMemory, IsResumed, is_finally, I
 use Rattle.body_states.proofs.Inside.{first_in_code}
 use Rattle.body_states.proofs.Moved.{on_moved}
 use Rattle.body_states.proofs.QuietTurns.{reaches_comes}
+use Rattle.body_states.proofs.Effects.{others_of}
+use Rattle.body_states.proofs.Beneath.{reaches_steps}
+use Rattle.body_states.proofs.CallKeeping.{calls_keep}
 use Rattle.body_states.proofs.Waiting.{OnTop, body_on_top}
 use Rattle.body_steps.proofs.Words.{may_read_written, word_of}
 use Rattle.body_steps.proofs.Reaching.{reaches_keeps, stays_sane}
 use Rattle.body_steps.proofs.Viewed.{IsCounted, sp_low, frame_top}
 use Rattle.body_steps.proofs.Running.{v, same_state, template_here, sp_is}
+use Rattle.turn_steps.proofs.Grounds.{top_of, begins_beneath}
 use Rattle.turn_steps.proofs.Ended.{offset_most, after_call}
 use Rattle.turn_steps.proofs.Standing.{ArrivesBelow}
 use Rattle.turn_steps.proofs.Apart.{apart_same}
@@ -157,8 +162,37 @@ module _ (t : Functions) (fs : List Funclet) (program : LinearProgram) (p : Plan
     shown : arrivals called.cpu (distance t.base called.cpu.rip) 1 fs ≡ events.Finally (k + 1) false ∷ []
     shown = image.funclets.named k block.funclet block.there called.cpu ∙ ap (λ z. by_kind called.cpu (k + 1) (is_finally t fs program p q z) ∷ []) kind
 
+    -- each turn keeps the shadow
+    abbrev next : ℕ
+    next = p.address name c.frame.next + sizes finally_arguments + 5
+
+    back_next : back ≡ next
+    back_next = ap (λ r. r + sizes finally_arguments + 5) b.rip
+
+    next_resumed : IsResumed t fs program p q name code (c.frame.next + 1) next
+    next_resumed = record {
+      instruction = instructions.Separator;
+      there = separator;
+      goes_on = λ r. absurd r;
+      done = [];
+      item = instrs.NoOperation;
+      left = [];
+      parts = refl;
+      here = sym back_next ∙ back_is ∙ (let z : p.address name (c.frame.next + 1) ≡ p.address name (c.frame.next + 1) + 0 = omega arith in z);
+    }
+
+    keeps_shadow : AllKeep t fs 3 s
+    keeps_shadow =
+        calls_keep t fs program p q image name code b.body.slots.body c.frame.next (instructions.CallFinally k) at (λ h. h) finally_arguments [] next (p.funclet k) refl refl (subst (λ a. IsNear a (p.funclet k)) back_next back_near) (c.frame.next + 1) next_resumed
+        (λ m. (image.callers (FuncletBody k) block.funclet.body target_there).entries m (λ e. absurd (let z : true ≡ false = sym e ∙ block_framed in cc)))
+        s called (top_of t fs program p q image s c b counted) b.body.back (others_of s.cpu.registers) b.body.is b.rip (begins_beneath t fs program p q image s c b counted) refl (let l = low in omega arith) b.memory.code
+        ((refl, inl refl), ((refl, inl refl), tt)) (reaches_steps 3 s called reaches)
+      where
+        block_framed : p.leaf (FuncletBody k) ≡ false
+        block_framed = (image.laid_out (FuncletBody k) block.funclet.body target_there).framed
+
     pub comes : Comes t fs 3 s (events.Finally (k + 1) false ∷ []) called
-    comes = reaches_comes t fs program p q image 2 s called (events.Finally (k + 1) false ∷ []) reaches b.memory.code shown
+    comes = reaches_comes t fs program p q image 2 s called (events.Finally (k + 1) false ∷ []) reaches keeps_shadow b.memory.code shown
 
     pub memory : IsMachineMemory t fs program p q called.memory c.store.memory
     memory =

@@ -1,7 +1,8 @@
 -- A `__finally` block begins: it keeps the base and, in a local of its activation, its flag, and its first instruction follows.
-use Rattle.std.proofs.Common.{◌≡◌, ℕ, zero, suc, ◌+◌, ◌*◌, ◌<◌, ◌≤◌, Bool, true, false, Option, Some, None, List, [], ◌∷◌, length, refl, sym, ap, subst, ◌∙◌, arith}
+use Rattle.std.proofs.Common.{◌≡◌, ℕ, zero, suc, ◌+◌, ◌*◌, ◌<◌, ◌≤◌, Bool, true, false, Option, Some, None, List, [], ◌∷◌, ◌++◌, length, refl, sym, ap, subst, ◌∙◌, arith, inl, inr, append_assoc}
 use Rattle.std.specs.Prelude.{slice_get, slice_index, slice_set}
-use Rattle.std.proofs.lemmas.Option.{slice_get_within}
+use Rattle.std.proofs.lemmas.Option.{slice_get_within, slice_get_cases}
+use Rattle.std.proofs.lemmas.List.{append-nil}
 use Rattle.host_layout.specs.declared.range.TheConstants.{STACK_START, STACK_END}
 use Rattle.seh_num.specs.declared.width.Width.TheVariants.{W32}
 use Rattle.seh_num.specs.Widths.{low}
@@ -24,9 +25,14 @@ use Rattle.linear_machine.specs.Unwinding.{flag_in, flag_of}
 use Rattle.template_code.specs.declared.layout.Layout.{Layout}
 use Rattle.template_code.specs.Bytes.{sizes}
 use Rattle.template_code.specs.Operations.{move}
-use Rattle.template_code.specs.Slots.{keep, keep_local, local_at}
+use Rattle.template_code.specs.Slots.{fetched, put_back, keep, keep_local, local_at}
+use Rattle.template_code.proofs.Sizes.{sizes_append}
 use Rattle.x64_templates.specs.Straight.{machine}
-use Rattle.x64_templates.specs.Runs.{HasCode, Enters, Frame, ReachesBody}
+use Rattle.x64_templates.specs.Runs.{Steps, HasCode, Enters, Frame, ReachesBody}
+use Rattle.x64_templates.proofs.Computes.{code_split}
+use Rattle.x64_templates.proofs.Encoded.{near}
+use Rattle.linked_stack.specs.Stack.{StackItem}
+use Rattle.x64_encode.specs.Chosen.{is_encodable}
 use Rattle.x64_templates.proofs.PlacedCode.{enters_then}
 use Rattle.x64_templates.proofs.FuncletEntries.{flag_run}
 use Rattle.x64_templates.proofs.FilterEntries.{Within}
@@ -35,19 +41,28 @@ use Rattle.ir_typed.specs.Activations.{owners_of}
 use Rattle.linked_stack.specs.ImagePlan.{Plan, by_parent}
 use Rattle.linked_stack.specs.Linked.{Activation, locals_of, IsActivation, largest_frame, HasSpace, below_end, record_room, HasPointers, FuncletIsAbove}
 use Rattle.linked_stack.specs.States.{IsSane}
+use Rattle.whole_runs.specs.Shadow.{is_call, KeepsShadow, AllKeep}
+use Rattle.whole_runs.proofs.Shadows.{straight, keep_first}
 use Rattle.whole_runs.proofs.Matches.{LeadsTo}
-use Rattle.body_states.specs.Sites.{Sites, parent_base, keep_argument}
-use Rattle.body_states.specs.Programs.{IsMachineMemory, IsProgramImage}
+use Rattle.body_states.specs.Sites.{Sites, begin_of, making_size, parent_base, keep_argument, arguments_code}
+use Rattle.body_states.specs.Programs.{HasProgram, IsMachineMemory, IsProgramImage}
 use Rattle.body_states.specs.Bodies.{Begins}
-use Rattle.body_states.proofs.QuietTurns.{enters_quietly}
+use Rattle.body_states.specs.Callers.{FindsReturn}
+use Rattle.body_states.proofs.Effects.{others_of}
+use Rattle.body_states.proofs.QuietTurns.{program_kept, enters_quietly}
+use Rattle.body_states.proofs.Beneath.{Ran as MidRan, read_here, StepsTo, reaches_steps, enters_steps, keeps_split, Beneath, beneath_by, callers_above, Finds, ran}
+use Rattle.body_states.proofs.Crossing.{gives_here}
+use Rattle.body_states.proofs.Finding.{label_found, argument_found}
+use Rattle.body_states.proofs.FrameMaking.{frame_there}
+use Rattle.body_states.proofs.EntryKeeping.{EntryRan}
 use Rattle.body_steps.specs.Views.{frame_at, state_of}
 use Rattle.body_steps.specs.Stores.{with_values, OwnerHasFrame}
 use Rattle.body_steps.proofs.Activations.{locals_count}
 use Rattle.body_steps.proofs.Activated.{activated}
 use Rattle.body_steps.proofs.Reaching.{reaches_keeps, enters_keeps, stays_sane}
 use Rattle.body_steps.proofs.Views.{SlotsPlaced}
-use Rattle.body_steps.proofs.Viewed.{IsCounted, placed, count, room_here, holds_here, slots_here, locals_here}
-use Rattle.body_steps.proofs.Next.{Leaves, Ran, begins_next}
+use Rattle.body_steps.proofs.Viewed.{IsCounted, frame_top, placed, count, room_here, holds_here, slots_here, locals_here}
+use Rattle.body_steps.proofs.Next.{Leaves, Ran, returns, new_on, begins_next}
 use Rattle.body_steps.proofs.Written.{set_length, local_after}
 use Rattle.body_steps.specs.Known.{IsKnown}
 use Rattle.turn_steps.specs.FuncletEntries.{entry_turns, FlagsFit}
@@ -55,6 +70,8 @@ use Rattle.turn_steps.proofs.Making.{LeadsBy}
 use Rattle.turn_steps.proofs.Standing.{ArrivesBelow, IsLaid, funclet_laid, HasFrame, first_frame, beginning, begins}
 use Rattle.turn_steps.proofs.Known.{HasLocals, activation_at, as_many, no_leaf, parent_locals, leads_by, locals_counted, owner_framed}
 use Rattle.turn_steps.proofs.Entering.{HasEntered, entered, first_small, quiet_there}
+use Rattle.turn_steps.proofs.Grounds.{top_of, begins_beneath}
+use Rattle.turn_steps.proofs.FuncletKeeping.{base_code, arguments_are, base_is_plain, funclet_ran}
 use Rattle.turn_steps.proofs.FuncletFilters.{has_first, parent_is}
 
 same_number : (a b : ℕ) → Some a ≡ Some b → a ≡ b
@@ -253,8 +270,8 @@ module _ (t : Functions) (fs : List Funclet) (program : LinearProgram) (p : Plan
           temporaries = λ i v z. cc;
         }
 
-    ran : Ran t fs program p q image s1 c1 b1 counted u d values []
-    ran =
+    ran_here : Ran t fs program p q image s1 c1 b1 counted u d values []
+    ran_here =
         let z = reaches_keeps (length last) (machine e.after e.rip e.flags) u r.comes in
         record {
           changed = record { changes = record { protection = r.changes.protection; byte = r.changes.byte; bytes = r.changes.bytes }; keeps = record { protection = z.protection; fixed = z.fixed; count = z.count; small = z.small } };
@@ -289,17 +306,149 @@ module _ (t : Functions) (fs : List Funclet) (program : LinearProgram) (p : Plan
           store = record { memory = store.memory; activations = xs };
           events = events;
         } in Begins t fs program p q u o) store_is
-        (begins_next t fs program p q image s1 c1 b1 counted u d values [] ran 0 None events rip_here some sane_here (λ x z. absurd (nothing_landed x z))
+        (begins_next t fs program p q image s1 c1 b1 counted u d values [] ran_here 0 None events rip_here some sane_here (λ x z. absurd (nothing_landed x z))
         (λ z. let w : true ≡ false = sym z ∙ l.plan.framed in absurd cc) (λ j z. framed_owner))
 
     last_few : length last ≤ 3
     last_few = subst (λ o. length (move W32 Rax Rcx ∷ keep_local o (local_at y flag)) ≤ 3) (sym l.plan.layout.base) (omega arith)
+
+    -- ---- each turn keeps the shadow
+
+    -- where the base is kept
+    abbrev y1 : State
+    y1 = machine e.after e.rip e.flags
+
+    low_enough : STACK_START ≤ register s.cpu Rsp
+    low_enough = let lo = e.low in let z = e.sp_is in omega arith
+
+    high_enough : a.at ≤ STACK_END
+    high_enough = let hi = e.top in let z = e.sp_is in let n = a.stack in omega arith
+
+    abbrev base : List Instr
+    base = base_code t fs program p q image s k activation (of_test abnormal) items acts l a store.memory memory some low_enough high_enough (register s.cpu Rdx) a.reaches.base leads
+
+    abbrev arguments : List Instr
+    arguments = arguments_code program p (FuncletBody k)
+
+    parts : arguments ≡ base ++ keep_argument y f.kind
+    parts = arguments_are t fs program p q image s k activation (of_test abnormal) items acts l a store.memory memory some low_enough high_enough (register s.cpu Rdx) a.reaches.base leads
+
+    kept_base : EntryRan t fs program p q image (FuncletBody k) f.body (ap funclet_body l.there) some (register s.cpu Rsp) (register s.cpu Rsp + 8) a.back (others_of s.cpu.registers) a.is e.turns s y1 base
+    kept_base =
+        funclet_ran t fs program p q image s k activation (of_test abnormal) items acts l a store.memory memory some low_enough high_enough (register s.cpu Rdx) a.reaches.base leads e.turns y1 base (keep_argument y f.kind) parts
+        (let n = e.exact in omega arith) (enters_steps e.turns s y1 e.comes)
+        (base_is_plain t fs program p q image s k activation (of_test abnormal) items acts l a store.memory memory some low_enough high_enough (register s.cpu Rdx) a.reaches.base leads)
+
+    -- the flag is in RAX, and the base in RCX
+    abbrev slot : ℕ
+    slot = l.plan.layout.slot
+
+    abbrev mid : List Instr
+    mid = move W32 Rax Rcx ∷ fetched Rcx Rsp slot ∷ []
+
+    abbrev storing : Instr
+    storing = put_back Rcx (local_at y flag)
+
+    last_is : last ≡ mid ++ (storing ∷ [])
+    last_is = ap (λ o. move W32 Rax Rcx ∷ keep_local o (local_at y flag)) l.plan.layout.base
+
+    all_parts : arguments ≡ (base ++ mid) ++ (storing ∷ [])
+    all_parts = parts ∙ ap (λ z. base ++ keep_argument y z) kind_is ∙ ap (λ (xs : List Instr). base ++ xs) last_is ∙ sym (append_assoc base mid (storing ∷ []))
+
+    abbrev top1 : ℕ
+    top1 = top_of t fs program p q image s1 c1 b1 counted
+
+    abbrev list1 : List StackItem
+    list1 = b1.body.is
+
+    abbrev others1 : List ℕ
+    others1 = others_of s1.cpu.registers
+
+    beneath_1 : Beneath t y1 top1 (top1 + 8) b1.body.back others1 list1
+    beneath_1 =
+        let g = begins_beneath t fs program p q image s1 c1 b1 counted in
+        record { others_are = g.others_are; count = g.count; returns = g.returns; list = g.list; owned = g.owned; past = g.past; high = g.high; limit = g.limit; no_code = g.no_code }
+
+    run_3 : StepsTo 3 y1 u
+    run_3 = subst (λ n. StepsTo n y1 u) (ap (λ (xs : List Instr). length xs) last_is) (reaches_steps (length last) y1 u r.comes)
+
+    abbrev x : State
+    x = run_3.2.0
+
+    abbrev begin : ℕ
+    begin = begin_of p q (FuncletBody k) + making_size p q (FuncletBody k)
+
+    codes : (m : Memory) → HasProgram t fs program p q m → HasCode m begin (base ++ mid) × HasCode m (begin + sizes (base ++ mid)) (storing ∷ [])
+    codes m h = code_split m begin (base ++ mid) (storing ∷ []) (subst (HasCode m begin) all_parts (frame_there t fs program p q image (FuncletBody k) f.body (ap funclet_body l.there) some m h).1)
+
+    finds : Finds t fs program p q top1 (top1 + 8) b1.body.back others1 list1 y1.cpu.rip mid y.frame
+    finds done left split m h =
+        let z : begin + sizes (base ++ done) ≡ y1.cpu.rip + sizes done = omega (arith, kept_base.rip, sizes_append base done) in
+        subst (λ n. FindsReturn t m n y.frame) z
+        (argument_found t fs program p q image (FuncletBody k) f.body (ap funclet_body l.there) m h some (base ++ done) (left ++ (storing ∷ []))
+        (all_parts ∙ ap (λ (xs : List Instr). (base ++ xs) ++ (storing ∷ [])) split ∙ assoc base done left (storing ∷ [])))
+      where
+        assoc : (a b c d : List Instr) → (a ++ (b ++ c)) ++ d ≡ (a ++ b) ++ (c ++ d)
+        assoc a b c d = ap (λ (xs : List Instr). xs ++ d) (sym (append_assoc a b c)) ∙ append_assoc (a ++ b) c d
+
+    middle : MidRan t fs program p q top1 (top1 + 8) b1.body.back others1 list1 y1 x mid
+    middle =
+        let place : begin + sizes base ≡ y1.cpu.rip = sym kept_base.rip in
+        let code = (code_split y1.memory (begin + sizes base) mid [] (subst (HasCode y1.memory (begin + sizes base)) (sym (append-nil mid)) (code_split y1.memory begin base mid (codes y1.memory kept_base.has).0).1)).0 in
+        let small = l.plan.layout.small in
+        let kept = l.plan.layout.kept in
+        let at = l.plan.layout.temporaries in
+        ran t fs program p q top1 (top1 + 8) b1.body.back others1 list1 mid y1 x y.frame 8 (run_3.0, run_3.1, (x, run_3.2.1, refl))
+        ((refl, inl refl), ((near slot (omega arith), inl refl), tt)) (subst (λ n. HasCode y1.memory n mid) place code) kept_base.has beneath_1 refl refl finds
+
+    -- the store leads to another memory, in which the same list stands
+    others_there : others_of u.cpu.registers ≡ others1
+    others_there = ap (λ (xs : List ℕ). others_of (0 ∷ 0 ∷ 0 ∷ xs)) r.rest
+
+    beneath_u : Beneath t u top1 (top1 + 8) b1.body.back others1 list1
+    beneath_u =
+        let h = frame_top t fs program p q image s1 c1 b1 counted in
+        let on = new_on t fs program p q image s1 c1 b1 counted u d values [] ran_here (λ z. let w : true ≡ false = sym z ∙ l.plan.framed in absurd cc) (λ j z. framed_owner) (others_of u.cpu.registers) refl in
+        subst (λ o. Beneath t u top1 (top1 + 8) b1.body.back o list1) others_there
+        (beneath_by t u top1 b1.body.back list1 sane_here.count (returns t fs program p q image s1 c1 b1 counted u d values [] ran_here) on.stands.stack (omega arith) on.data_alone.no_code)
+
+    last_step : Steps x u
+    last_step = subst (Steps x) run_3.2.2.2 run_3.2.2.1
+
+    storing_keeps : KeepsShadow t fs x u
+    storing_keeps =
+        let here' : begin + sizes (base ++ mid) ≡ x.cpu.rip = omega (arith, middle.rip, kept_base.rip, sizes_append base mid) in
+        let code = subst (λ n. HasCode x.memory n (storing ∷ [])) here' (codes x.memory middle.has).1 in
+        let z = room_here t fs program p q image s1 c1 b1 counted in
+        let near_local = z.locals in
+        let fitting = flag_fits in
+        let enc : is_encodable storing ≡ true = near (local_at y flag) (omega arith) in
+        let found_x = subst (λ n. FindsReturn t x.memory n y.frame) (sym middle.rip) (finds mid [] (sym (append-nil mid)) x.memory middle.has) in
+        let has_u = program_kept t fs program p q x.memory u.memory (record { protection = last_step.protection; fixed = last_step.fixed }) middle.has in
+        let found_u = subst (λ n. FindsReturn t u.memory n y.frame) (sym rip_here) (first_found u.memory has_u) in
+        let at_x = middle.stack in
+        let up : register u.cpu Rsp + y.frame ≡ top1 = ap (λ (xs : List ℕ). slice_index xs 1 + y.frame) r.rest in
+        straight t fs x u (callers_above t top1 b1.body.back others1 list1) last_step.steps (ap is_call (read_here x u storing [] enc code))
+        (gives_here t fs top1 (top1 + 8) b1.body.back others1 list1 x y.frame middle.beneath found_x (ap (λ n. n + y.frame) at_x))
+        (gives_here t fs top1 (top1 + 8) b1.body.back others1 list1 u y.frame beneath_u found_u up)
+        (let h : register u.cpu Rsp + 8 ≤ top1 + 8 = omega arith in h)
+      where
+        first_found : (m : Memory) → HasProgram t fs program p q m → FindsReturn t m (p.address (FuncletBody k) 0) y.frame
+        first_found m h = elim (slice_get_cases f.body.code 0).1 [
+          | inl i ↦ label_found t fs program p q image (FuncletBody k) f.body (ap funclet_body l.there) m h 0 i.0 i.2
+          | inr i ↦ let le = i.0 in absurd (let lt = some in omega arith)
+        ]
+
+    keeps_shadow : AllKeep t fs (e.turns + length last) s
+    keeps_shadow =
+        let three = keeps_split t fs 2 1 y1 x (run_3.0, run_3.1, (x, run_3.2.1, refl)) middle.keeps (keep_first t fs 0 x u last_step.steps storing_keeps tt) in
+        keeps_split t fs e.turns (length last) s y1 (enters_steps e.turns s y1 e.comes) kept_base.keeps (subst (λ n. AllKeep t fs n y1) (sym (ap (λ (xs : List Instr). length xs) last_is)) three)
 
     pub block_leads : LeadsTo t fs entry_turns (Begins t fs program p q) s (block_begins k flag activation held abnormal items store events)
     block_leads = record {
       turns = e.turns + length last;
       few = (let z = e.few in let w = last_few in omega arith);
       state = u;
-      comes = enters_quietly t fs program p q image (e.turns + length last) s u run memory.code (quiet_there t fs program p q image k l u rip_here some);
+      comes = enters_quietly t fs program p q image (e.turns + length last) s u run keeps_shadow memory.code (quiet_there t fs program p q image k l u rip_here some);
       stands = begins_here;
     }

@@ -1,19 +1,21 @@
 -- A call of a function: the callee's first instruction begins, with its arguments in its first locals and what the stack held in the others.
-use Rattle.std.proofs.Common.{◌≡◌, ◌≢◌, ℕ, zero, suc, ◌+◌, ◌-◌, ◌*◌, ◌^◌, ◌<◌, ◌≤◌, Bool, true, false, Some, None, Ok, List, [], ◌∷◌, ◌++◌, length, refl, sym, ap, subst, ◌∙◌, arith, inl, inr}
+use Rattle.std.proofs.Common.{◌≡◌, ◌≢◌, ℕ, zero, suc, ◌+◌, ◌-◌, ◌*◌, ◌^◌, ◌<◌, ◌≤◌, Bool, true, false, Some, None, Ok, List, [], ◌∷◌, ◌++◌, length, refl, sym, ap, subst, ◌∙◌, arith, inl, inr, length-append, append_assoc}
 use Rattle.std.specs.Prelude.{nat_lt, slice_get, drop, if◌then◌else◌}
 use Rattle.std.proofs.lemmas.Bool.{cases_lt, lt-ltb, eq-eqb}
 use Rattle.std.proofs.lemmas.Option.{slice_get_within}
-use Rattle.std.proofs.lemmas.List.{length-drop, length-take}
+use Rattle.std.proofs.lemmas.List.{append-nil, length-drop, length-take}
 use Rattle.host_layout.specs.declared.range.TheConstants.{STACK_START, STACK_END}
-use Rattle.flat_memory.specs.Memory.{may_write, number_at}
+use Rattle.flat_memory.specs.Memory.{Memory, may_write, number_at}
 use Rattle.flat_memory.specs.declared.protection.Protection.{Protection}
 use Rattle.flat_memory.specs.Protections.{is_writable}
 use Rattle.x64_instr.specs.declared.register.Reg.TheVariants.{Rsp}
+use Rattle.x64_instr.specs.declared.instruction.Instr.{Instr}
 use Rattle.x64_machine.specs.Effect.{State, register}
 use Rattle.virtual_unwind.specs.CallerOf.{Functions, distance}
 use Rattle.virtual_unwind.specs.Undone.{word}
 use Rattle.host_model.specs.declared.funclet.Funclet.{Funclet}
 use Rattle.host_model.specs.Funclets.{arrivals}
+use Rattle.linear_code.specs.declared.slot.Slot.TheVariants.{Temporary}
 use Rattle.linear_code.specs.declared.instruction.Instruction.TheVariants as instructions
 use Rattle.linear_code.specs.Program.{LinearProgram, LinearBody, LinearFunction}
 use Rattle.linear_machine.specs.Frames.{FunctionBody, body_of, Waits, Configuration, Next, with_some, deeper, last_temporaries}
@@ -21,20 +23,30 @@ use Rattle.linear_machine.specs.Run.{instruction_in}
 use Rattle.linear_machine.specs.Instructions.{begin_function, waiting, act}
 use Rattle.template_code.specs.declared.layout.Layout.{Layout}
 use Rattle.template_code.specs.Bytes.{sizes}
-use Rattle.template_code.specs.Calls.{return_at, passing_code}
+use Rattle.template_code.specs.Slots.{put_back, keep, temporary_at}
+use Rattle.template_code.specs.Jumps.{IsNear, call}
+use Rattle.template_code.specs.Calls.{return_at, arguments_code, passing_code, passing_call_code, parameters_code}
+use Rattle.template_code.proofs.Sizes.{sizes_append, call_size}
 use Rattle.x64_templates.proofs.PlacedCode.{same_number}
 use Rattle.x64_templates.proofs.Entries.{pushed_back}
 use Rattle.linked_stack.specs.WalkLaws.{context_below}
 use Rattle.linked_stack.specs.ImagePlan.{Plan}
 use Rattle.linked_stack.specs.Linked.{home_end, HoldsWords, return_of, ReturnsTo}
 use Rattle.linked_stack.specs.Records.{IsData, On}
+use Rattle.whole_runs.specs.Shadow.{AllKeep}
 use Rattle.whole_runs.specs.Comes.{Comes}
 use Rattle.whole_runs.proofs.Turns.{comes_then}
 use Rattle.ir_typed.specs.Room.{HaveRoom}
 use Rattle.ir_typed.specs.Small.{AreSmall}
-use Rattle.body_states.specs.Sites.{Sites}
+use Rattle.body_states.specs.Sites as sites
+use Rattle.body_states.specs.Sites.{Sites, function_arguments}
+use Rattle.body_states.specs.Callers.{FindsReturn}
+use Rattle.body_states.proofs.Effects.{others_of}
+use Rattle.body_states.proofs.Beneath.{StepsTo, reaches_steps, enters_steps, AllPlain}
+use Rattle.body_states.proofs.EntryKeeping.{plain_both, arguments_plain, passing_plain, parameters_plain, entry_ran}
+use Rattle.body_states.proofs.CallKeeping.{calls_keep, CalleeBegins, callee_begins as callee_entered}
 use Rattle.body_states.specs.Layouts.{IsLayoutIf}
-use Rattle.body_states.specs.Programs.{IsMachineMemory, IsProgramImage}
+use Rattle.body_states.specs.Programs.{IsMachineMemory, IsResumed, IsProgramImage}
 use Rattle.body_states.specs.Bodies.{turns_left, slots_end, Begins}
 use Rattle.body_states.proofs.QuietTurns.{reaches_quietly, enters_quietly, program_reaches}
 use Rattle.body_steps.specs.Stores.{KeepsStackBut}
@@ -42,9 +54,10 @@ use Rattle.body_steps.proofs.Activations.{locals_count}
 use Rattle.body_steps.proofs.Programs.{KeepsImage, program_stays}
 use Rattle.body_steps.proofs.Reaching.{Keeps, keeps_then, enters_keeps, stays_sane}
 use Rattle.body_steps.proofs.Views.{stack_is_reserved}
-use Rattle.body_steps.proofs.Viewed.{IsCounted, slots_here}
+use Rattle.body_steps.proofs.Viewed.{IsCounted, room_here, slots_here}
 use Rattle.body_steps.proofs.Words.{may_read_written, word_of}
 use Rattle.turn_steps.specs.Calls.{begun}
+use Rattle.turn_steps.proofs.Grounds.{top_of, begins_beneath}
 use Rattle.turn_steps.proofs.Begun.{function_begins}
 use Rattle.turn_steps.proofs.Awaiting as awaiting
 use Rattle.turn_steps.proofs.CallCalling as calling
@@ -131,12 +144,119 @@ module _ (t : Functions) (fs : List Funclet) (program : LinearProgram) (p : Plan
     quiet_after : arrivals after.cpu (distance t.base after.cpu.rip) 1 fs ≡ []
     quiet_after = image.funclets.none after.cpu.rip rip_small (λ k lt e. (image.addresses (FunctionBody f) o there).not_first 0 k some lt (sym inside.rip ∙ e)) after.cpu
 
+    -- each of them keeps the shadow: those up to the call
+    abbrev y : Layout
+    y = p.layout c.frame.body
+
+    abbrev place : ℕ
+    place = p.address c.frame.body c.frame.next
+
+    abbrev passing : List Instr
+    passing = passing_code y first 4 (count - 4)
+
+    abbrev next : ℕ
+    next = return_at y first (place + sizes passing)
+
+    abbrev call_it : Instr
+    call_it = call next (q.function f)
+
+    abbrev before : List Instr
+    before = passing ++ arguments_code y first
+
+    abbrev rest : List Instr
+    rest = keep y (Temporary first)
+
+    abbrev whole : List Instr
+    whole = passing_call_code y first count place (q.function f)
+
+    parts : whole ≡ before ++ (call_it ∷ rest)
+    parts = ap (λ (xs : List Instr). passing ++ xs) (append_assoc (arguments_code y first) (call_it ∷ []) rest) ∙ sym (append_assoc passing (arguments_code y first) (call_it ∷ rest))
+
+    next_is : place + sizes before + 5 ≡ next
+    next_is = omega (arith, sizes_append passing (arguments_code y first))
+
+    resumed : IsResumed t fs program p q c.frame.body b.body.slots.code c.frame.next next
+    resumed = record {
+      instruction = instructions.Call f first count;
+      there = at;
+      goes_on = λ h. h;
+      done = before ++ (call_it ∷ []);
+      item = put_back Rsp (temporary_at y first);
+      left = [];
+      parts = parts ∙ sym (append_assoc before (call_it ∷ []) rest);
+      here = let n = next_is in let k = call_size next (q.function f) in omega (arith, sizes_append before (call_it ∷ []));
+    }
+
+    near_next : IsNear next (q.function f)
+    near_next = subst (λ r. IsNear (return_at y first (r + sizes passing)) (q.function f)) b.rip (entering.near t fs program p q image roomy s c b counted f first count at few few_passed framed fn callee parameters fits)
+
+    plain : AllPlain y.frame 8 before
+    plain =
+        let room = (room_here t fs program p q image s c b counted).temporaries in
+        let z = calling.bottom t fs program p q image roomy s c b counted f first count at few few_passed framed in
+        let z0 = z.temporaries in
+        let z1 = z.size in
+        let z2 = z.small in
+        let slots = calling.has_room t fs program p q image roomy s c b counted f first count at few few_passed framed in
+        let s0 = slots.0 in
+        let s1 = slots.1 in
+        plain_both y.frame 8 passing (arguments_code y first) (passing_plain y.frame 8 y first 4 (count - 4) (omega arith) (omega arith) (omega arith)) (arguments_plain y.frame 8 y first (omega arith))
+
+    abbrev callee_found : (m : Memory) → FindsReturn t m (q.function f) 0
+    callee_found m = (image.callers (FunctionBody f) o there).entries m (λ e. some)
+
+    count_call : called_in ≡ length before + 1
+    count_call = omega (arith, length-append passing (arguments_code y first))
+
+    steps_there : StepsTo (length before + 1) s at_callee
+    steps_there = subst (λ n. StepsTo n s at_callee) count_call (reaches_steps called_in s at_callee (entering.calls t fs program p q image roomy s c b counted f first count at few few_passed framed fn callee parameters fits))
+
+    call_keeps : AllKeep t fs called_in s
+    call_keeps =
+        subst (λ n. AllKeep t fs n s) (sym count_call)
+        (calls_keep t fs program p q image c.frame.body b.body.slots.code b.body.slots.body c.frame.next (instructions.Call f first count) at (λ h. h) before rest next (q.function f) parts next_is near_next c.frame.next resumed callee_found
+        s at_callee (top_of t fs program p q image s c b counted) b.body.back (others_of s.cpu.registers) b.body.is b.rip (begins_beneath t fs program p q image s c b counted) refl (let l = low in omega arith) b.memory.code plain steps_there)
+
+    -- and those of the callee's entry, which may store its arguments in the caller's home space
+    callee_there : CalleeBegins t fs program p q image c.frame.body b.body.slots.code b.body.slots.body c.frame.next (instructions.Call f first count) at (λ h. h) before rest next (q.function f) parts next_is near_next c.frame.next resumed callee_found
+        s at_callee (top_of t fs program p q image s c b counted) b.body.back (others_of s.cpu.registers) b.body.is b.rip (begins_beneath t fs program p q image s c b counted) refl (let l = low in omega arith) b.memory.code plain steps_there (caller + 32)
+    callee_there =
+        let z = calling.bottom t fs program p q image roomy s c b counted f first count at few few_passed framed in
+        let z0 = z.temporaries in
+        let z1 = z.size in
+        callee_entered t fs program p q image c.frame.body b.body.slots.code b.body.slots.body c.frame.next (instructions.Call f first count) at (λ h. h) before rest next (q.function f) parts next_is near_next c.frame.next resumed callee_found
+        s at_callee (top_of t fs program p q image s c b counted) b.body.back (others_of s.cpu.registers) b.body.is b.rip (begins_beneath t fs program p q image s c b counted) refl (let l = low in omega arith) b.memory.code plain steps_there (caller + 32)
+        (omega arith) (omega arith)
+
+    arguments_are : sites.arguments_code program p (FunctionBody f) ≡ parameters_code layout 0 count
+    arguments_are = ap (λ x. function_arguments layout x) callee ∙ ap (λ n. parameters_code layout 0 n) parameters
+
+    arguments_stored : (leaf : Bool) → IsLayoutIf program p layout o leaf → AllPlain layout.frame 40 (parameters_code layout 0 count) × (layout.frame ≤ 8184)
+    arguments_stored true l =
+        let e = l.frame in
+        let a = l.locals in
+        let n = l.few in
+        (parameters_plain layout.frame 40 layout 0 count (omega arith) (omega arith) (λ j lt. inr (omega arith, omega arith)), omega arith)
+    arguments_stored false l =
+        let a = l.locals in
+        let z = l.small in
+        (parameters_plain layout.frame 40 layout 0 count (omega arith) (omega arith) (λ j lt. inl (omega arith)), l.small)
+
+    entry_keeps : AllKeep t fs inside.turns at_callee
+    entry_keeps =
+        let k = callee_there in
+        let stored = arguments_stored (p.leaf (FunctionBody f)) (image.laid_out (FunctionBody f) o there) in
+        let lo = low in
+        (entry_ran t fs program p q image (FunctionBody f) o there some (caller - 8) (caller + 32) next (others_of s.cpu.registers) (k.item ∷ b.body.is) inside.turns at_callee after (sites.arguments_code program p (FunctionBody f)) [] 40
+        (sym (append-nil (sites.arguments_code program p (FunctionBody f)))) inside.exact (enters_steps inside.turns at_callee after inside.comes) k.rip k.stack k.beneath_it k.program_there stored.1 (omega arith) (omega arith)
+        (subst (λ (xs : List Instr). AllPlain layout.frame 40 xs) (sym arguments_are) stored.0)).keeps
+
     pub comes : Comes t fs turns s [] after
     unfolding turns
     comes =
         comes_then t fs called_in inside.turns s at_callee after [] []
-        (reaches_quietly t fs program p q image called_in s at_callee (entering.calls t fs program p q image roomy s c b counted f first count at few few_passed framed fn callee parameters fits) b.memory.code quiet_called)
-        (enters_quietly t fs program p q image inside.turns at_callee after inside.comes (program_reaches t fs program p q called_in s at_callee (entering.calls t fs program p q image roomy s c b counted f first count at few few_passed framed fn callee parameters fits) b.memory.code) quiet_after)
+        (reaches_quietly t fs program p q image called_in s at_callee (entering.calls t fs program p q image roomy s c b counted f first count at few few_passed framed fn callee parameters fits) call_keeps b.memory.code quiet_called)
+        (enters_quietly t fs program p q image inside.turns at_callee after inside.comes entry_keeps (program_reaches t fs program p q called_in s at_callee (entering.calls t fs program p q image roomy s c b counted f first count at few few_passed framed fn callee parameters fits) b.memory.code) quiet_after)
 
     pub some_turns : 1 ≤ turns
     unfolding turns

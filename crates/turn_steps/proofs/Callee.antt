@@ -30,9 +30,10 @@ use Rattle.x64_templates.proofs.Entries.{pushed_agrees, pushed_bytes}
 use Rattle.x64_templates.proofs.Entering.{fresh_holds, parameters_run}
 use Rattle.linked_stack.specs.ImagePlan.{Plan}
 use Rattle.ir_typed.specs.Room.{HaveRoom}
-use Rattle.body_states.specs.Sites.{Sites}
+use Rattle.body_states.specs.Sites.{Sites, arguments_code}
 use Rattle.body_states.specs.Programs.{IsProgramImage}
 use Rattle.body_states.specs.Bodies.{Begins}
+use Rattle.body_states.proofs.FrameMaking.{making_steps}
 use Rattle.body_steps.specs.Views.{counts_of}
 use Rattle.body_steps.proofs.Views.{stack_is_reserved}
 use Rattle.body_steps.proofs.Words.{may_read_written}
@@ -189,6 +190,7 @@ module _ (t : Functions) (fs : List Funclet) (program : LinearProgram) (p : Plan
       pub place : sp + layout.frame + 8 ≡ caller
       pub state : State
       pub turns : ℕ
+      pub exact : turns ≡ making_steps (p.leaf (FunctionBody f)) layout.frame + length (arguments_code program p (FunctionBody f))
       pub soon : turns ≤ 8 + (count + (count - 4))
       pub comes : Enters turns at_callee state
       pub rip : state.cpu.rip ≡ p.address (FunctionBody f) 0
@@ -208,9 +210,10 @@ module _ (t : Functions) (fs : List Funclet) (program : LinearProgram) (p : Plan
 
     -- ---- once the frame is made, the parameters
 
-    module _ (sp to : ℕ) (made : Made called target to flags (caller - 8) sp arguments) (y : Layout) (own : IsOwn program.globals y o sp) (whole : IsFunction (own_frame program.globals y o sp)) (same_locals : y.locals ≡ layout.locals) (short : y.frame ≤ 8184)
+    module _ (sp to n : ℕ) (made : Made called target to flags (caller - 8) sp arguments n) (y : Layout) (own : IsOwn program.globals y o sp) (whole : IsFunction (own_frame program.globals y o sp)) (same_locals : y.locals ≡ layout.locals) (short : y.frame ≤ 8184)
         (up : (i : ℕ) → 4 ≤ i → i < count → sp + y.frame + 8 ≡ caller) (place : sp + layout.frame + 8 ≡ caller) (code : HasCode s.memory to (parameters_code y 0 count)) (ends : to + sizes (parameters_code y 0 count) ≡ p.address (FunctionBody f) 0)
-        (outside : (a : ℕ) → Outside a → InTemporaries y (counts_of o) sp a ⊎ InLocals y (counts_of o) sp a → ⊥) where
+        (outside : (a : ℕ) → Outside a → InTemporaries y (counts_of o) sp a ⊎ InLocals y (counts_of o) sp a → ⊥)
+        (counted_turns : n + length (parameters_code y 0 count) ≡ making_steps (p.leaf (FunctionBody f)) layout.frame + length (arguments_code program p (FunctionBody f))) where
       abbrev k : State
       k = machine made.after to made.flags
 
@@ -274,6 +277,7 @@ module _ (t : Functions) (fs : List Funclet) (program : LinearProgram) (p : Plan
             place = place;
             state = machine run.after (to + sizes (parameters_code y 0 count)) run.flags;
             turns = made.turns + length (parameters_code y 0 count);
+            exact = ap (λ k. k + length (parameters_code y 0 count)) made.exact ∙ counted_turns;
             soon = omega arith;
             comes = enters_then made.turns (length (parameters_code y 0 count)) at_callee k (machine run.after (to + sizes (parameters_code y 0 count)) run.flags) made.comes run.comes;
             rip = ends;

@@ -4,7 +4,7 @@ use Rattle.std.specs.Prelude.{slice_index, slice_set}
 use Rattle.std.proofs.lemmas.List.{append-nil}
 use Rattle.std.proofs.lemmas.Option.{slice_get_within}
 use Rattle.flat_memory.specs.Memory.{Memory}
-use Rattle.x64_instr.specs.declared.register.Reg.TheVariants.{Rsp}
+use Rattle.x64_instr.specs.declared.register.Reg.TheVariants.{Rax, Rcx, Rsp}
 use Rattle.x64_instr.specs.declared.instruction.Instr.{Instr}
 use Rattle.x64_machine.specs.Effect.{State, register}
 use Rattle.virtual_unwind.specs.CallerOf.{Functions}
@@ -30,6 +30,7 @@ use Rattle.x64_templates.specs.Straight.{machine}
 use Rattle.x64_templates.specs.Runs.{ReachesBody, Finished, Frame}
 use Rattle.linked_stack.specs.ImagePlan.{Plan}
 use Rattle.linked_stack.specs.Linked.{locals_of}
+use Rattle.whole_runs.specs.Shadow.{AllKeep}
 use Rattle.whole_runs.specs.Comes.{Comes}
 use Rattle.whole_runs.specs.Ends.{HasRule}
 use Rattle.whole_runs.specs.Matched.{Moves}
@@ -45,6 +46,8 @@ use Rattle.body_steps.proofs.Activated.{activated}
 use Rattle.body_steps.proofs.Viewed.{IsCounted, is_machine, placed}
 use Rattle.body_steps.proofs.Reaching.{Keeps, reaches_keeps, stays_sane}
 use Rattle.body_steps.proofs.Next.{Leaves, further, Ran, begins_next}
+use Rattle.body_steps.proofs.Shadowed.{kept_by_rest, stands_here, stands_after, ends_at, RunsKeep}
+use Rattle.body_steps.proofs.Whole.{finish_keeps}
 use Rattle.body_steps.proofs.Running.{Surroundings, dropped, has_slots, next_address, quiet_at}
 use Rattle.body_steps.proofs.Written.{locals_after, temporaries_after, FitsAfter, one_more}
 use Rattle.body_steps.proofs.Plain.{at_other, label_small}
@@ -113,7 +116,7 @@ module _ (t : Functions) (fs : List Funclet) (program : LinearProgram) (p : Plan
   module _ (n label rip : ℕ) (d : BodyState) (values ts : List ℕ) (landed : Option ℕ)
       (r : ReachesBody here n s rip (seen_by_templates s).rest d)
       (at : rip ≡ p.address c.frame.body label) (lt : label < length body.code) (small : rip < 2 ^ 64)
-      (leaves : Leaves body d values ts) (nothing : landed ≡ None) where
+      (leaves : Leaves body d values ts) (nothing : landed ≡ None) (keep : RunsKeep t fs program p q image old c begins counted n s) where
     abbrev u : State
     u = machine r.after rip r.flags
 
@@ -131,8 +134,13 @@ module _ (t : Functions) (fs : List Funclet) (program : LinearProgram) (p : Plan
       leaves = leaves;
     }
 
+    -- each turn keeps the shadow
+    keeps_shadow : AllKeep t fs n s
+    keeps_shadow =
+        keep u r.comes (ends_at t fs program p q image old c begins counted u label at lt (kept_by_rest r.after.rest s.cpu.registers r.rest) (stands_after t fs program p q image old c begins counted u d values ts ran around.caller around.owner))
+
     quietly : Comes t fs n s [] u
-    quietly = reaches_quietly t fs program p q image n s u r.comes w.memory.code (quiet_at t fs program p q image made.room old c begins counted label rip at lt small u refl)
+    quietly = reaches_quietly t fs program p q image n s u r.comes keeps_shadow w.memory.code (quiet_at t fs program p q image made.room old c begins counted label rip at lt small u refl)
 
     goes_on : Begins t fs program p q u (further t fs program p q image c begins.body.acts label values ts landed d.memory c.events)
     goes_on =
@@ -205,6 +213,13 @@ module _ (t : Functions) (fs : List Funclet) (program : LinearProgram) (p : Plan
           whole_size y to o first second,
         )
 
+    rest_keeps : RunsKeep t fs program p q image old c begins counted (length finish) s
+    rest_keeps =
+        finish_keeps t fs program p q image made.room old c begins counted around to o first second (midst.at_here t fs program p q image made s c w known) s (seen_by_templates s) (is_machine s w.sane.count)
+        (record { rip = w.again.here; registers = refl; stands = stands_here t fs program p q image old c begins counted }) refl refl (record { protection = refl; fixed = λ a f. refl; count = refl; small = λ h. h })
+        (register s.cpu Rax) (register s.cpu Rcx) value m (midst.first_small t fs program p q image made s c w known) (midst.second_small t fs program p q image made s c w known)
+        (midst.operands_wait t fs program p q image made s c w known) (midst.same_outcome t fs program p q image made s c w known (Gives value m) gives)
+
     pub completed : Moves t fs program 16 turns_left (Begins t fs program p q) s c i
     completed =
         let ops = operands_code y o first second in
@@ -217,6 +232,6 @@ module _ (t : Functions) (fs : List Funclet) (program : LinearProgram) (p : Plan
         (locals_after (linear.locals_of c.store c.frame.activation) to value) (temporaries_after c.frame.temporaries to value) c.frame.landed
         run at within (omega arith)
         (leaves_stored t fs program p q image made.room old c begins counted around to value m (held_here t fs program p q image made old c begins known) fits there.0)
-        (midst.free t fs program p q image made s c w known) acts
+        (midst.free t fs program p q image made s c w known) rest_keeps acts
         (some_length finish (some_finish y o to))
         (omega (arith, length-append ops finish))

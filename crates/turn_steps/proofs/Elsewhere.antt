@@ -23,7 +23,7 @@ use Rattle.body_steps.proofs.Viewed.{IsCounted, sp_low, frame_top}
 use Rattle.body_steps.proofs.Around.{some_is}
 
 -- the stack from further up
-higher_stack : (m m' : Memory) (low high : ℕ) → low ≤ high → KeepsStack m m' low → KeepsStack m m' high
+pub higher_stack : (m m' : Memory) (low high : ℕ) → low ≤ high → KeepsStack m m' low → KeepsStack m m' high
 higher_stack m m' low high le k = record { bytes = λ x from to. k.bytes x (omega arith) to; protection = k.protection; code = k.code; no_more_code = k.no_more_code }
 
 module _ (t : Functions) (fs : List Funclet) (program : LinearProgram) (p : Plan) (q : Sites) (image : IsProgramImage t fs program p q) (s : State) (c : Configuration) (b : Begins t fs program p q s c) (counted : IsCounted t fs program p q image c) (framed : p.leaf c.frame.body ≡ false)

@@ -84,7 +84,7 @@ module _ (t : Functions) (fs : List Funclet) (program : LinearProgram) (p : Plan
     -- in the host's page no funclet begins
     quiet : back < 0x100000000 → Comes t fs n s [] after
     quiet low =
-        reaches_quietly t fs program p q image n s after (leaving.reaches t fs program p q image roomy s c b counted from at) b.memory.code
+        reaches_quietly t fs program p q image n s after (leaving.reaches t fs program p q image roomy s c b counted from at) (leaving.keeps t fs program p q image roomy s c b counted from at) b.memory.code
         (host_quiet t fs program p q image s.memory back after.cpu b.memory.code low)
 
     few : n ≤ 6

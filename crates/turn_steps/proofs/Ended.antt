@@ -181,7 +181,7 @@ module _ (t : Functions) (fs : List Funclet) (program : LinearProgram) (p : Plan
           few = omega (arith, few, credit);
           state = after;
           events = [];
-          comes = reaches_quietly t fs program p q image n s after reaches b.memory.code quiet;
+          comes = reaches_quietly t fs program p q image n s after reaches (leaving.keeps t fs program p q image roomy s c b counted from at) b.memory.code quiet;
           acts = acts_as;
           shown = sym (append-nil c.events);
           stands = begins;

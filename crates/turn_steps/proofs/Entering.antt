@@ -95,6 +95,7 @@ module _ (t : Functions) (fs : List Funclet) (program : LinearProgram) (p : Plan
     pub low : STACK_START ≤ sp
     pub top : sp + (p.layout (FuncletBody k)).frame + 8 ≤ STACK_END
     pub turns : ℕ
+    pub exact : turns ≡ length (front k l)
     pub few : turns ≤ 3
     pub after : MachineView
     pub rip : ℕ
@@ -150,7 +151,7 @@ module _ (t : Functions) (fs : List Funclet) (program : LinearProgram) (p : Plan
           writable = λ b c d. memory.stack b (omega arith) (omega arith);
         }
 
-    abbrev pub run : Made v sp frame (l.plan.layout.slot) a.reaches.base s.cpu.rip (s.cpu.rip + sizes (front k l)) s.cpu.flags
+    abbrev pub run : Made (parent_base p l.funclet.parent) v sp frame (l.plan.layout.slot) a.reaches.base s.cpu.rip (s.cpu.rip + sizes (front k l)) s.cpu.flags
     run = made (parent_base p l.funclet.parent) v sp frame (l.plan.layout.slot) a.reaches.base s.cpu.rip s.cpu.flags room base_small leads (subst (λ r. HasCode s.memory r (front k l)) (sym a.rip) (entry_codes k l s.memory memory.code).0)
 
     pub rest_code : HasCode run.after.memory (s.cpu.rip + sizes (front k l)) (last k l)
@@ -166,6 +167,7 @@ module _ (t : Functions) (fs : List Funclet) (program : LinearProgram) (p : Plan
       low = (let e = low in let f = sp_is in let g = l.plan.layout.small in omega arith);
       top = (let e = top in let f = a.stack in let g = sp_is in omega arith);
       turns = run.turns;
+      exact = run.exact;
       few = run.few;
       after = run.after;
       rip = s.cpu.rip + sizes (front k l);

@@ -1,6 +1,6 @@
 -- A function is entered after its call, whatever its frame is.
-use Rattle.std.proofs.Common.{◌≡◌, ℕ, ◌+◌, ◌-◌, ◌<◌, ◌≤◌, Bool, true, false, Some, List, ◌++◌, refl, sym, ap, subst, ◌∙◌, arith, inl, inr}
-use Rattle.std.specs.Prelude.{slice_get, nat_le}
+use Rattle.std.proofs.Common.{◌≡◌, ℕ, ◌+◌, ◌-◌, ◌<◌, ◌≤◌, Bool, true, false, Some, List, ◌++◌, length, refl, sym, ap, subst, ◌∙◌, arith, inl, inr}
+use Rattle.std.specs.Prelude.{slice_get, nat_le, if◌then◌else◌}
 use Rattle.std.proofs.lemmas.Bool.{cases_lt, le-leb}
 use Rattle.host_layout.specs.declared.range.TheConstants.{STACK_START, STACK_END}
 use Rattle.x64_instr.specs.declared.register.Reg.TheVariants.{Rsp}
@@ -23,10 +23,11 @@ use Rattle.x64_templates.proofs.PlacedCode.{bytes_kept}
 use Rattle.x64_templates.proofs.Computes.{code_split}
 use Rattle.linked_stack.specs.ImagePlan.{Plan}
 use Rattle.ir_typed.specs.Room.{HaveRoom}
-use Rattle.body_states.specs.Sites.{Sites, links_of, making, frame_code, function_arguments, entry_code}
+use Rattle.body_states.specs.Sites.{Sites, links_of, making, frame_code, function_arguments, arguments_code, entry_code}
 use Rattle.body_states.specs.Layouts.{IsFunctionLayout, IsLeafLayout, IsLayoutIf}
 use Rattle.body_states.specs.Programs.{IsProgramImage}
 use Rattle.body_states.specs.Bodies.{Begins}
+use Rattle.body_states.proofs.FrameMaking.{making_steps}
 use Rattle.body_steps.proofs.Words.{may_read_written}
 use Rattle.body_steps.proofs.Viewed.{IsCounted}
 use Rattle.turn_steps.proofs.CallCalling as calling
@@ -78,6 +79,12 @@ module _ (t : Functions) (fs : List Funclet) (program : LinearProgram) (p : Plan
         let z = ap sizes (entry_is leaf e) in
         omega (arith, a, z, sizes_append (making_frame leaf) (parameters_code layout 0 count))
 
+    -- how many turns the frame and the arguments take
+    turns_are : (n : ℕ) (leaf : Bool) → p.leaf (FunctionBody f) ≡ leaf → making_steps leaf layout.frame ≡ n → n + length (parameters_code layout 0 count) ≡ making_steps (p.leaf (FunctionBody f)) layout.frame + length (arguments_code program p (FunctionBody f))
+    turns_are n leaf e same =
+        let arguments : arguments_code program p (FunctionBody f) ≡ parameters_code layout 0 count = ap (λ x. function_arguments layout x) callee ∙ ap (λ k. parameters_code layout 0 k) parameters in
+        λ i. (sym same ∙ ap (λ l. making_steps l layout.frame) (sym e)) i + length (sym arguments i)
+
     -- code at the callee's first byte
     called_code : (to : ℕ) (code : List Instr) → HasCode s.memory to code → HasCode (entering.called t fs program p q image roomy s c b counted f first count at few few_passed framed fn callee parameters fits).memory to code
     called_code to code h =
@@ -110,7 +117,7 @@ module _ (t : Functions) (fs : List Funclet) (program : LinearProgram) (p : Plan
         let none : target + sizes (making_frame true) ≡ target = omega arith in
         let same = home_parameters layout 0 count small in
         let made = no_frame (entering.called t fs program p q image roomy s c b counted f first count at few few_passed framed fn callee parameters fits) target (entering.flags t fs program p q image roomy s c b counted f first count at few few_passed framed fn callee parameters fits) (caller - 8) (entering.arguments t fs program p q image roomy s c b counted f first count at few few_passed framed fn callee parameters fits) (calling.called_sp t fs program p q image roomy s c b counted f first count at few few_passed framed) (calling.called_count t fs program p q image roomy s c b counted f first count at few few_passed framed) (calling.in_registers t fs program p q image roomy s c b counted f first count at few few_passed framed) in
-        entering.entered t fs program p q image roomy s c b counted f first count at few few_passed framed fn callee parameters fits (caller - 8) target made (with_home layout)
+        entering.entered t fs program p q image roomy s c b counted f first count at few few_passed framed fn callee parameters fits (caller - 8) target 0 made (with_home layout)
         (record {
           none = l.none;
           low = omega arith;
@@ -127,6 +134,7 @@ module _ (t : Functions) (fs : List Funclet) (program : LinearProgram) (p : Plan
           | inl w ↦ (let g = w.0 in let h = w.1 in elim out [ inl o1 ↦ absurd (omega arith) | inr (inl o1) ↦ absurd (omega arith) | inr (inr (inl o1)) ↦ (let o2 = o1.0 in let o3 = o1.1 in absurd (omega arith)) | inr (inr (inr o1)) ↦ absurd (omega arith) ])
           | inr w ↦ (let g = w.0 in let h = w.1 in elim out [ inl o1 ↦ absurd (omega arith) | inr (inl o1) ↦ absurd (omega arith) | inr (inr (inl o1)) ↦ (let o2 = o1.0 in let o3 = o1.1 in absurd (omega arith)) | inr (inr (inr o1)) ↦ absurd (omega arith) ])
         ])
+        (ap (λ code. 0 + length code) same ∙ turns_are 0 true leaf refl)
 
     -- ---- a function with a frame
 
@@ -137,14 +145,14 @@ module _ (t : Functions) (fs : List Funclet) (program : LinearProgram) (p : Plan
       abbrev sp : ℕ
       sp = caller - 8 - frame
 
-      framed_entered : (making : List Instr) → making_frame false ≡ making → Made (entering.called t fs program p q image roomy s c b counted f first count at few few_passed framed fn callee parameters fits) target (target + sizes making) (entering.flags t fs program p q image roomy s c b counted f first count at few few_passed framed fn callee parameters fits) (caller - 8) sp (entering.arguments t fs program p q image roomy s c b counted f first count at few few_passed framed fn callee parameters fits) → Goal
-      framed_entered making e made =
+      framed_entered : (making : List Instr) (n : ℕ) → making_frame false ≡ making → making_steps false frame ≡ n → Made (entering.called t fs program p q image roomy s c b counted f first count at few few_passed framed fn callee parameters fits) target (target + sizes making) (entering.flags t fs program p q image roomy s c b counted f first count at few few_passed framed fn callee parameters fits) (caller - 8) sp (entering.arguments t fs program p q image roomy s c b counted f first count at few few_passed framed fn callee parameters fits) n → Goal
+      framed_entered making n e same made =
           let x = low in
           let z = top in
           let a = l.temporaries in
           let m = l.locals in
           let k = l.small in
-          entering.entered t fs program p q image roomy s c b counted f first count at few few_passed framed fn callee parameters fits sp (target + sizes making) made layout
+          entering.entered t fs program p q image roomy s c b counted f first count at few few_passed framed fn callee parameters fits sp (target + sizes making) n made layout
           (record {
             none = l.none;
             low = omega arith;
@@ -161,6 +169,7 @@ module _ (t : Functions) (fs : List Funclet) (program : LinearProgram) (p : Plan
             | inl w ↦ (let g = w.0 in let h = w.1 in elim out [ inl o1 ↦ absurd (omega arith) | inr (inl o1) ↦ absurd (omega arith) | inr (inr (inl o1)) ↦ (let o2 = o1.0 in let o3 = o1.1 in absurd (omega arith)) | inr (inr (inr o1)) ↦ absurd (omega arith) ])
             | inr w ↦ (let g = w.0 in let h = w.1 in elim out [ inl o1 ↦ absurd (omega arith) | inr (inl o1) ↦ absurd (omega arith) | inr (inr (inl o1)) ↦ (let o2 = o1.0 in let o3 = o1.1 in absurd (omega arith)) | inr (inr (inr o1)) ↦ absurd (omega arith) ])
           ])
+          (turns_are n false leaf same)
 
       small_entered : nat_le frame 4096 ≡ true → Goal
       small_entered e =
@@ -168,7 +177,7 @@ module _ (t : Functions) (fs : List Funclet) (program : LinearProgram) (p : Plan
           let z = top in
           let k = l.small in
           let is : making_frame false ≡ enter_code frame = ap (making frame target q.check_stack) e in
-          framed_entered (enter_code frame) is
+          framed_entered (enter_code frame) 1 is (ap (λ x. if x then 1 else 8) e)
           (small_frame (entering.called t fs program p q image roomy s c b counted f first count at few few_passed framed fn callee parameters fits) target (entering.flags t fs program p q image roomy s c b counted f first count at few few_passed framed fn callee parameters fits) (caller - 8) (entering.arguments t fs program p q image roomy s c b counted f first count at few few_passed framed fn callee parameters fits) (calling.called_sp t fs program p q image roomy s c b counted f first count at few few_passed framed) (calling.called_count t fs program p q image roomy s c b counted f first count at few few_passed framed) (calling.in_registers t fs program p q image roomy s c b counted f first count at few few_passed framed) frame (omega arith) (omega arith) (omega arith)
           (called_code target (enter_code frame) (subst (HasCode s.memory target) is (codes false leaf).0)))
 
@@ -185,7 +194,7 @@ module _ (t : Functions) (fs : List Funclet) (program : LinearProgram) (p : Plan
           let c1 = image.check_stack.low in
           let c2 = image.check_stack.high in
           let reads = λ (i : ℕ) (lo : STACK_START ≤ i) (hi : i < STACK_END). may_read_written (entering.called t fs program p q image roomy s c b counted f first count at few few_passed framed fn callee parameters fits).memory i (entering.may_stack t fs program p q image roomy s c b counted f first count at few few_passed framed fn callee parameters fits i lo hi) in
-          framed_entered (enter_large frame target q.check_stack) is
+          framed_entered (enter_large frame target q.check_stack) 8 is (ap (λ x. if x then 1 else 8) e)
           (large_frame (entering.called t fs program p q image roomy s c b counted f first count at few few_passed framed fn callee parameters fits) target (entering.flags t fs program p q image roomy s c b counted f first count at few few_passed framed fn callee parameters fits) (caller - 8) (entering.arguments t fs program p q image roomy s c b counted f first count at few few_passed framed fn callee parameters fits) (calling.called_sp t fs program p q image roomy s c b counted f first count at few few_passed framed) (calling.called_count t fs program p q image roomy s c b counted f first count at few few_passed framed) (calling.in_registers t fs program p q image roomy s c b counted f first count at few few_passed framed) frame q.check_stack (omega arith) below_top
           (record { enough = omega arith; more = omega arith; high = omega arith; first = reads (caller - 8 - 4096) (omega arith) (omega arith); last = reads (caller - 8 - frame) (omega arith) (omega arith) })
           ((omega arith, omega arith, omega arith, omega arith)) (omega arith) (called_code q.check_stack check_stack b.memory.code.check_stack)

@@ -39,6 +39,8 @@ use Rattle.whole_runs.specs.Comes.{IsLive}
 use Rattle.whole_runs.specs.Ends.{HasRule}
 use Rattle.whole_runs.specs.Matched.{IsMatched}
 use Rattle.whole_runs.proofs.Turns.{comes_nowhere}
+use Rattle.body_states.specs.Callers.{callers}
+use Rattle.body_states.proofs.StackWalks.{on_stack}
 use Rattle.body_states.specs.Sites.{Sites}
 use Rattle.body_states.specs.Programs.{IsResumed, IsProgramImage}
 use Rattle.body_states.specs.Bodies.{turns_left}
@@ -49,7 +51,7 @@ use Rattle.turn_steps.specs.FuncletEntries.{FlagsFit}
 use Rattle.turn_steps.specs.Outcomes.{WorksOn, Stands, Shows}
 use Rattle.turn_steps.proofs.Asked.{raised_as}
 use Rattle.turn_steps.proofs.Hosts.{Asks, asks_host}
-use Rattle.turn_steps.proofs.Served.{fault_turns, matched_when_shown}
+use Rattle.turn_steps.proofs.Served.{fault_turns, raised_keeps, matched_when_shown}
 use Rattle.turn_steps.specs.Operations.{ComesTo}
 use Rattle.turn_steps.proofs.Meant.{acts_as}
 use Rattle.turn_steps.proofs.Places.{some_finish, is_some}
@@ -149,7 +151,7 @@ module _ (t : Functions) (fs : List Funclet) (program : LinearProgram) (p : Plan
 
     shows : HasRule (act program i (exec program zero) c)
         → Shows t fs program p q (arrived t fs (raised t s code 0 access s.cpu)) (raise_event (exception_of code access) ∷ [])
-        (λ next. raise program next (exception_of code access) SameOperation c) c.events (turns_left c)
+        (λ next. raise program next (exception_of code access) SameOperation c) c.events (turns_left c) (callers (context_of s.cpu) asks.is)
     shows rule =
         raised_as t fs program p q image fits s s.cpu asks.is w.body.acts c asks.asks w.memory w.body.store code 0 access (exception_of code access) SameOperation
         (is_exception code access small) ((image.resumptions SameOperation c.frame s.cpu).says w.again) (subst HasRule (acts (exec program zero)) rule)
@@ -157,4 +159,5 @@ module _ (t : Functions) (fs : List Funclet) (program : LinearProgram) (p : Plan
     pub raised_at_once : HasRule (act program i (exec program zero) c) → KnownNext program c i → IsMatched t fs program 7 turns_left (Stands t fs program p q) s c i
     raised_at_once rule next =
         matched_when_shown t fs program p q 7 0 (turns_left c) s s c i (arrived t fs (raised t s code 0 access s.cpu)) (raise_event (exception_of code access) ∷ [])
-        (λ next. raise program next (exception_of code access) SameOperation c) (comes_nowhere t fs s) live (fault_turns t fs s code access faults) (shows rule) acts (omega arith) next
+        (λ next. raise program next (exception_of code access) SameOperation c) (callers (context_of s.cpu) asks.is) (comes_nowhere t fs s) live (fault_turns t fs s code access faults)
+        (raised_keeps t fs program p q s code access (callers (context_of s.cpu) asks.is) faults (on_stack t s.memory (context_of s.cpu) 0 asks.is asks.asks.on.stands.stack)) (shows rule) acts (omega arith) next

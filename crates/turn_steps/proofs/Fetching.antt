@@ -28,6 +28,7 @@ use Rattle.x64_templates.specs.Runs.{Reaches}
 use Rattle.x64_templates.proofs.Computes.{code_split, Begun, operands_run}
 use Rattle.linked_stack.specs.ImagePlan.{Plan, InCode}
 use Rattle.linked_stack.specs.States.{IsSane}
+use Rattle.whole_runs.specs.Shadow.{AllKeep}
 use Rattle.whole_runs.specs.Comes.{Comes}
 use Rattle.whole_runs.proofs.Matches.{LeadsTo}
 use Rattle.ir_typed.specs.Ready as ready
@@ -38,6 +39,8 @@ use Rattle.body_states.proofs.QuietTurns.{reaches_quietly}
 use Rattle.body_steps.specs.Known.{IsWellMade, IsKnown}
 use Rattle.body_steps.specs.Views.{counts_of}
 use Rattle.body_steps.proofs.Viewed.{IsCounted, room_here, holds_here}
+use Rattle.body_steps.proofs.Shadowed.{kept_by_rest, stands_here}
+use Rattle.body_steps.proofs.Whole.{operands_keep}
 use Rattle.body_steps.proofs.Running.{code, frame, slots, v, dropped, same_state, template_here, has_slots, next_address, sp_is, Surroundings}
 use Rattle.body_steps.proofs.Reaching.{reaches_keeps, stays_sane}
 use Rattle.body_steps.proofs.Plain.{is_read}
@@ -147,9 +150,15 @@ module _ (t : Functions) (fs : List Funclet) (program : LinearProgram) (p : Plan
   works : WorksOn t fs program p q u c
   works = record { again = again; sane = sane; memory = b.memory; body = in_body_at t fs program p q s c u.cpu b.body sp inside small }
 
+  -- each turn keeps the shadow
+  keeps_shadow : AllKeep t fs n s
+  keeps_shadow =
+      operands_keep t fs program p q image made.room s c b counted around to o (Temporary first) (Temporary second) at_here u comes
+      (record { rip = at_end; registers = kept_by_rest begun.stopped.rest s.cpu.registers begun.rest; stands = stands_here t fs program p q image s c b counted })
+
   quietly : Comes t fs n s [] u
   quietly =
-      reaches_quietly t fs program p q image n s u comes b.memory.code
+      reaches_quietly t fs program p q image n s u comes keeps_shadow b.memory.code
       (subst (λ a. arrivals u.cpu (distance t.base a) 1 fs ≡ []) (sym at_end)
       (quiet_in_midst t fs program p q image made.room s.memory c.frame.body b.body.slots.code c.frame.next to o (Temporary first) (Temporary second) b.memory.code b.body.slots.body at_here u.cpu))
 

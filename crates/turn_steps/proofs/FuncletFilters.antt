@@ -1,8 +1,9 @@
 -- A filter begins: it keeps the base and the address of its EXCEPTION_POINTERS, and its first instruction follows.
-use Rattle.std.proofs.Common.{◌≡◌, ℕ, ◌+◌, ◌%◌, ◌^◌, ◌<◌, ◌≤◌, false, Option, Some, None, Ok, List, [], ◌∷◌, length, refl, sym, ap, subst, ◌∙◌, arith, inl}
+use Rattle.std.proofs.Common.{◌≡◌, ℕ, ◌+◌, ◌%◌, ◌^◌, ◌<◌, ◌≤◌, false, Option, Some, None, Ok, List, [], ◌∷◌, ◌++◌, length, refl, sym, ap, subst, ◌∙◌, arith, inl, length-append}
+use Rattle.std.proofs.lemmas.List.{append-nil}
 use Rattle.std.specs.Prelude.{nat_lt, slice_get}
 use Rattle.std.proofs.lemmas.Option.{slice_get_within}
-use Rattle.host_layout.specs.declared.range.TheConstants.{STACK_START}
+use Rattle.host_layout.specs.declared.range.TheConstants.{STACK_START, STACK_END}
 use Rattle.flat_memory.specs.Memory.{number_at}
 use Rattle.flat_memory.proofs.Stores.{stored_is_loaded}
 use Rattle.x64_instr.specs.declared.register.Reg.TheVariants.{Rcx, Rdx, Rsp}
@@ -34,11 +35,15 @@ use Rattle.linked_stack.specs.ImagePlan.{Plan, by_parent, parent_body}
 use Rattle.linked_stack.specs.Linked.{Activation, locals_of, IsActivation, HasSpace, below_end, KeepsPointers}
 use Rattle.linked_stack.specs.WalkLaws.{context_below}
 use Rattle.linked_stack.specs.States.{IsSane, Arrives}
+use Rattle.whole_runs.specs.Shadow.{AllKeep}
 use Rattle.whole_runs.proofs.Matches.{LeadsTo}
 use Rattle.body_states.specs.Sites.{Sites, parent_base, keep_argument}
 use Rattle.body_states.specs.Programs.{IsMachineMemory, IsProgramImage}
 use Rattle.body_states.specs.Bodies.{Begins}
 use Rattle.body_states.proofs.QuietTurns.{enters_quietly}
+use Rattle.body_states.proofs.Beneath.{enters_steps}
+use Rattle.body_states.proofs.EntryKeeping.{plain_both, kept_plain}
+use Rattle.turn_steps.proofs.FuncletKeeping.{base_code, arguments_are, base_is_plain, funclet_ran}
 use Rattle.body_steps.proofs.Activations.{locals_count}
 use Rattle.body_steps.proofs.Reaching.{enters_keeps, stays_sane}
 use Rattle.body_steps.specs.Known.{IsKnown}
@@ -215,12 +220,30 @@ module _ (t : Functions) (fs : List Funclet) (program : LinearProgram) (p : Plan
         (kind_is, (asked, refl))
         (subst (λ r. KeepsPointers t fs program p u.memory y r y.frame) (sym stack_here) (record { room = fits; kept = pointers_here }))
 
+    -- all of it keeps the shadow
+    keeps_shadow : AllKeep t fs (e.turns + 1) s
+    keeps_shadow =
+        let lo = e.low in
+        let hi = e.top in
+        let z = e.sp_is in
+        let n = w.stack in
+        let small = l.plan.layout.small in
+        let low' : STACK_START ≤ register s.cpu Rsp = omega arith in
+        let high' : w.at ≤ STACK_END = omega arith in
+        let base = base_code t fs program p q image s k handler.activation argument items acts l w c.store.memory memory some low' high' (register s.cpu Rdx) a.reaches.base leads in
+        let whole = arguments_are t fs program p q image s k handler.activation argument items acts l w c.store.memory memory some low' high' (register s.cpu Rdx) a.reaches.base leads in
+        let plain = base_is_plain t fs program p q image s k handler.activation argument items acts l w c.store.memory memory some low' high' (register s.cpu Rdx) a.reaches.base leads in
+        let count : e.turns + 1 ≡ 1 + length (base ++ last) = omega (arith, e.exact, length-append base last) in
+        let parts = whole ∙ ap (λ x. base ++ keep_argument y x) kind_is ∙ sym (append-nil (base ++ last)) in
+        (funclet_ran t fs program p q image s k handler.activation argument items acts l w c.store.memory memory some low' high' (register s.cpu Rdx) a.reaches.base leads (e.turns + 1) u (base ++ last) [] parts count (enters_steps (e.turns + 1) s u run)
+        (plain_both y.frame 8 base last plain (kept_plain y.frame 8 Rcx y.pointers (let g = fits in omega arith) (inl fits), tt))).keeps
+
     pub filter_leads : LeadsTo t fs entry_turns (Begins t fs program p q) s (begin_filter k handler rest exception resumption c)
     filter_leads = record {
       turns = e.turns + 1;
       few = (let z = e.few in omega arith);
       state = u;
-      comes = enters_quietly t fs program p q image (e.turns + 1) s u run memory.code (quiet_there t fs program p q image k l u rip_here some);
+      comes = enters_quietly t fs program p q image (e.turns + 1) s u run keeps_shadow memory.code (quiet_there t fs program p q image k l u rip_here some);
       stands = begins_here;
     }
 

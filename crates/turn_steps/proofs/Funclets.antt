@@ -18,7 +18,7 @@ use Rattle.linear_code.specs.Program.{LinearProgram}
 use Rattle.linear_machine.specs.Frames.{Frame, Handler, Target, Resumption, Item, Waits, Searches, Unwinds, Configuration, Next}
 use Rattle.linear_machine.specs.Instructions.{act, end_finally}
 use Rattle.linear_machine.specs.Run.{exec}
-use Rattle.linked_stack.specs.Stack.{StackItem, Unwinding}
+use Rattle.linked_stack.specs.Stack.{StackItem, Searching, Unwinding}
 use Rattle.linked_stack.specs.ImagePlan.{Plan}
 use Rattle.linked_stack.specs.Linked.{Activation, locals_of}
 use Rattle.linked_stack.specs.Records.{On}
@@ -29,6 +29,8 @@ use Rattle.whole_runs.specs.Comes.{IsLive, Comes}
 use Rattle.whole_runs.specs.Ends.{HasRule}
 use Rattle.whole_runs.specs.Matched.{IsMatched}
 use Rattle.body_states.specs.Sites.{Sites}
+use Rattle.body_states.specs.Callers.{callers}
+use Rattle.body_states.proofs.StackWalks.{on_stack}
 use Rattle.body_states.specs.Programs.{IsMachineMemory, IsProgramImage}
 use Rattle.body_states.specs.Bodies.{held_below, turns_left}
 use Rattle.body_steps.specs.Known.{KnownNext}
@@ -37,7 +39,7 @@ use Rattle.turn_steps.specs.Outcomes.{AreClear, Stands}
 use Rattle.turn_steps.specs.TurnEntries.{Continuations}
 use Rattle.turn_steps.specs.TurnLaws.{waiting_below}
 use Rattle.turn_steps.proofs.Answered.{filter_answered, finally_ended}
-use Rattle.turn_steps.proofs.Served.{filter_turns, finally_turns, matched_when_shown}
+use Rattle.turn_steps.proofs.Served.{filter_turns, finally_turns, filter_return_keeps, finally_return_keeps, matched_when_shown}
 
 module _ (t : Functions) (fs : List Funclet) (program : LinearProgram) (p : Plan) (q : Sites) (image : IsProgramImage t fs program p q) (fits : FlagsFit program) where
   -- in at most 6 turns the machine comes to the host's return address of filters
@@ -54,7 +56,8 @@ module _ (t : Functions) (fs : List Funclet) (program : LinearProgram) (p : Plan
       let live : IsLive u = ap (λ a. a == 0) at in
       let a = filter_answered t fs program p q image fits continues u r is acts exception resumption asked rest d answers memory store (subst AreClear under clear).0 (subst HasRule (goes (exec program zero)) rule) in
       let less : turns_left d ≤ turns_left c = (let z = ap held_below under in omega arith) in
-      matched_when_shown t fs program p q 16 k (turns_left d + 3) s u c i (arrived t fs (filter_turn t u)) a.before (λ next. linear_answer program u exception resumption asked rest d next) quiet live (filter_turns t fs u at) a.shown goes (omega arith) known
+      matched_when_shown t fs program p q 16 k (turns_left d + 3) s u c i (arrived t fs (filter_turn t u)) a.before (λ next. linear_answer program u exception resumption asked rest d next) (callers (context_of r.saved) is) quiet live (filter_turns t fs u at)
+      (filter_return_keeps t fs program p q u (callers (context_of r.saved) is) at (on_stack t u.memory (context_of u.cpu) 0 (Searching r ∷ is) answers.on.stands.stack)) a.shown goes (omega arith) known
 
   -- and to that of `__finally` blocks
   pub finally_step : (k : ℕ) (s u : State) (c : Configuration) (i : Instruction) (r : DispatchRecord) (is : List StackItem) (acts : List Activation) (rest : List Region) (target : Target) (f : Frame) (below : List Item)
@@ -67,4 +70,5 @@ module _ (t : Functions) (fs : List Funclet) (program : LinearProgram) (p : Plan
   finally_step k s u c i r is acts rest target f below quiet few at under clear sane on memory store goes rule known =
       let live : IsLive u = ap (λ a. a == 0) at in
       let a = finally_ended t fs program p q image fits u r is acts rest target f below c sane on memory store under clear (subst HasRule (goes (exec program zero)) rule) in
-      matched_when_shown t fs program p q 16 k (turns_left c) s u c i (arrived t fs (finally_returned t u (register u.cpu Rsp) (fetched u.memory (register u.cpu Rsp)))) [] (λ next. end_finally program next c.below c.events c.store) quiet live (finally_turns t fs u at) a goes (omega arith) known
+      matched_when_shown t fs program p q 16 k (turns_left c) s u c i (arrived t fs (finally_returned t u (register u.cpu Rsp) (fetched u.memory (register u.cpu Rsp)))) [] (λ next. end_finally program next c.below c.events c.store) (callers r.walk is) quiet live (finally_turns t fs u at)
+      (finally_return_keeps t fs program p q u (callers r.walk is) at (on_stack t u.memory (context_of u.cpu) 0 (Unwinding r ∷ is) on.stands.stack)) a goes (omega arith) known

@@ -34,6 +34,7 @@ use Rattle.body_states.specs.Bodies.{turns_left, Begins}
 use Rattle.body_steps.proofs.Viewed.{IsCounted, room_here, holds_here}
 use Rattle.body_steps.proofs.Running.{code, frame, slots, v, sp_is, has_slots, template_here, next_address, Surroundings}
 use Rattle.body_steps.proofs.Written.{locals_after, temporaries_after, FitsAfter, one_more}
+use Rattle.body_steps.proofs.Whole.{information_keeps}
 use Rattle.body_steps.proofs.Plain.{GoesInside, from_here, label_small, moves_to}
 use Rattle.body_steps.proofs.Computing.{stored, writes, leaves_stored}
 use Rattle.turn_steps.specs.Static.{IsFilterBody}
@@ -87,4 +88,4 @@ module _ (t : Functions) (fs : List Funclet) (program : LinearProgram) (p : Plan
       (locals_after (linear.locals_of c.store c.frame.activation) to value) (temporaries_after c.frame.temporaries to value) c.frame.landed
       (from_here t fs program p q image roomy s c b counted around (length (information_code y to field)) (s.cpu.rip + sizes (information_code y to field)) (record { slots = with_slot now.slots to value; memory = c.store.memory })
       (subst (λ x. ReachesBody (frame t fs program p q image roomy s c b counted) (length (information_code y to field)) (machine (v t fs program p q image roomy s c b counted) s.cpu.rip s.cpu.flags) (s.cpu.rip + sizes (information_code y to field)) (v t fs program p q image roomy s c b counted).rest (record { slots = with_slot now.slots to x; memory = c.store.memory })) reads.fits run))
-      (omega arith) lt (omega arith) (leaves_stored t fs program p q image roomy s c b counted around to value c.store.memory held fits there) free acts (omega arith) (omega arith)
+      (omega arith) lt (omega arith) (leaves_stored t fs program p q image roomy s c b counted around to value c.store.memory held fits there) free (information_keeps t fs program p q image roomy s c b counted to field e is (omega arith)) acts (omega arith) (omega arith)

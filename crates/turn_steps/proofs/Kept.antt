@@ -26,20 +26,23 @@ use Rattle.template_code.proofs.Sizes.{sizes_append, template_sizes}
 use Rattle.x64_templates.specs.Straight.{machine}
 use Rattle.x64_templates.specs.Runs.{HasCode, Reaches, ReachesBody}
 use Rattle.x64_templates.proofs.Computes.{code_split}
+use Rattle.x64_templates.specs.Quiet.{IsReturn}
 use Rattle.x64_templates.proofs.Returns.{call_ends}
+use Rattle.x64_templates.proofs.Flows.{keep_flow}
 use Rattle.linked_stack.specs.Stack.{StackItem}
 use Rattle.linked_stack.specs.ImagePlan.{Plan}
 use Rattle.linked_stack.specs.Linked.{Activation, locals_of}
 use Rattle.linked_stack.specs.Records.{On}
 use Rattle.linked_stack.specs.Unwinding.{on_top}
 use Rattle.linked_stack.specs.States.{IsSane}
+use Rattle.whole_runs.specs.Shadow.{AllKeep}
 use Rattle.ir_typed.specs.Room.{HaveRoom}
 use Rattle.body_states.specs.Sites.{Sites, links_of}
 use Rattle.body_states.specs.Programs.{IsMachineMemory, IsProgramImage}
 use Rattle.body_states.specs.Bodies.{Begins}
 use Rattle.body_states.proofs.Inside.{first_in_code}
 use Rattle.body_states.proofs.Resumed.{again, waits_in_body}
-use Rattle.body_steps.specs.Views.{seen_by_templates}
+use Rattle.body_steps.specs.Views.{seen_by_templates, counts_of}
 use Rattle.body_steps.specs.Stores.{OwnerHasFrame, with_values}
 use Rattle.body_steps.proofs.Activations.{locals_count}
 use Rattle.body_steps.proofs.Activated.{same_activations}
@@ -47,6 +50,7 @@ use Rattle.body_steps.proofs.Homes.{CallerHasFrame}
 use Rattle.body_steps.proofs.Reaching.{Keeps, reaches_keeps, stays_sane}
 use Rattle.body_steps.proofs.Viewed.{IsCounted, is_machine, placed, count, room_here, holds_here, slots_here, locals_here}
 use Rattle.body_steps.proofs.Next.{Leaves, Ran, begins_next}
+use Rattle.body_steps.proofs.Shadowed.{kept_by_rest, stands_here, stands_after, ends_at, RunsKeep, one_piece}
 use Rattle.body_steps.proofs.Running.{code, y, v, frame, slots, template_here, next_address, sp_is, quiet_at, dropped, Surroundings}
 
 -- an instruction of a body begins within it
@@ -99,7 +103,7 @@ module _ (t : Functions) (fs : List Funclet) (program : LinearProgram) (p : Plan
   -- where what the body called has returned RSP is the body's, the list stands from there on, and RIP is at the code that keeps the result
   module _ (u : State) (w : Frame) (items : List Item) (acts : List Activation) (source : Memory) (es : List Event) (above : Context) (is : List StackItem)
       (on : On t fs program p u.memory above is (Waits w ∷ items) acts) (sp : register u.cpu Rsp ≡ rsp above) (sane : IsSane u) (memory : IsMachineMemory t fs program p q u.memory source)
-      (o : LinearBody) (there : body_of program w.body ≡ Some o) (i : Instruction) (first : ℕ) (done : List Instr) (calls : slice_get o.code w.next ≡ Some i)
+      (o : LinearBody) (there : body_of program w.body ≡ Some o) (i : Instruction) (first : ℕ) (done : List Instr) (calls : slice_get o.code w.next ≡ Some i) (goes : IsReturn i → ⊥)
       (parts : template (links_of p q w.body) (p.layout w.body) (p.address w.body w.next) i ≡ done ++ keep (p.layout w.body) (Temporary first))
       (fits : first < o.temporaries) (within : w.next + 1 < length o.code) (held : length w.temporaries ≡ first) (free : w.landed ≡ None) (back : u.cpu.rip ≡ p.address w.body w.next + sizes done) where
     -- the same state, but that the instruction of the call begins
@@ -218,8 +222,16 @@ module _ (t : Functions) (fs : List Funclet) (program : LinearProgram) (p : Plan
           let k = locals_count waits.body.acts in
           same_activations waits.body.acts w.activation values_here (omega arith) (placed t fs program p q image earlier caller waits counted).number ∙ sym waits.body.store
 
-      -- in one turn the next instruction begins
-      pub resumes : (z : State) × Reaches 1 u z × (arrivals z.cpu (distance t.base z.cpu.rip) 1 fs ≡ []) × (Begins t fs program p q z (answered w items source acts es result))
+      -- the code that keeps the result keeps the shadow
+      keeps_shadow : RunsKeep t fs program p q image earlier caller waits counted 1 u
+      keeps_shadow =
+          let room = room_here t fs program p q image earlier caller waits counted in
+          one_piece t fs program p q image earlier caller waits counted i calls_here goes done (keep layout (Temporary first)) u parts
+          (keep_flow layout (counts_of body) (register u.cpu Rsp) (placed t fs program p q image earlier caller waits counted).base room (Temporary first) room_slots)
+          (record { rip = back; registers = refl; stands = stands_here t fs program p q image earlier caller waits counted })
+
+      -- in one turn, which keeps the shadow, the next instruction begins
+      pub resumes : (z : State) × Reaches 1 u z × (arrivals z.cpu (distance t.base z.cpu.rip) 1 fs ≡ []) × (Begins t fs program p q z (answered w items source acts es result)) × AllKeep t fs 1 u
       resumes =
           let r = subst (λ x. ReachesBody (frame t fs program p q image roomy earlier caller waits counted) 1 x (u.cpu.rip + sizes (keep layout (Temporary first))) (seen_by_templates u).rest (record { slots = with_slot (slots t fs program p q image roomy earlier caller waits counted).slots (Temporary first) result; memory = source })) (sym same_state) kept in
           let rip = u.cpu.rip + sizes (keep layout (Temporary first)) in
@@ -232,9 +244,12 @@ module _ (t : Functions) (fs : List Funclet) (program : LinearProgram) (p : Plan
           let ran : Ran t fs program p q image earlier caller waits counted z d values_here ts = record { changed = record { changes = r.changes; keeps = keeps }; holds = r.holds; stack = stack; leaves = leaves } in
           let inside : w.next + 1 < length body.code = subst (λ (b : LinearBody). w.next + 1 < length b.code) is_body within in
           let small : rip < 2 ^ 64 = let n = next_small in omega (arith, next_place) in
-          let begins = begins_next t fs program p q image earlier caller waits counted z d values_here ts ran (w.next + 1) w.landed es next_place inside (stays_sane earlier z keeps small waits.sane) (λ code e. absurd (nothing w.landed code free e)) around.caller around.owner in (
+          let begins = begins_next t fs program p q image earlier caller waits counted z d values_here ts ran (w.next + 1) w.landed es next_place inside (stays_sane earlier z keeps small waits.sane) (λ code e. absurd (nothing w.landed code free e)) around.caller around.owner in
+          let ends = ends_at t fs program p q image earlier caller waits counted z (w.next + 1) next_place inside (kept_by_rest r.after.rest u.cpu.registers r.rest)
+          (stands_after t fs program p q image earlier caller waits counted z d values_here ts ran around.caller around.owner) in (
             z,
             r.comes,
             quiet_at t fs program p q image roomy earlier caller waits counted (w.next + 1) rip next_place inside small z refl,
             subst (λ (xs : List (List ℕ)). let c : Configuration = record { frame = again w (w.next + 1) ts w.landed; below = items; store = record { memory = source; activations = xs }; events = es } in Begins t fs program p q z c) same_locals begins,
+            keeps_shadow z r.comes ends,
           )

@@ -20,14 +20,17 @@ use Rattle.linked_stack.specs.Linked.{Activation}
 use Rattle.linked_stack.specs.Records.{On}
 use Rattle.linked_stack.specs.Unwinding.{store_of, on_top}
 use Rattle.linked_stack.specs.States.{IsSane}
+use Rattle.linked_stack.specs.TurnLaws.{IsUnwinding}
 use Rattle.linked_stack.specs.Unwinds.{landing_value, landing_events, Unwound, LandsThere}
 use Rattle.whole_runs.proofs.Matches.{LeadsTo}
 use Rattle.body_states.specs.Sites.{Sites}
+use Rattle.body_states.specs.Callers.{callers}
 use Rattle.body_states.specs.Programs.{IsMachineMemory, IsProgramImage}
 use Rattle.body_states.specs.Bodies.{Begins, turns_left}
 use Rattle.body_states.proofs.Resumed.{waits_in_body, no_front, all_front}
 use Rattle.body_states.proofs.Inside.{first_in_code}
 use Rattle.turn_steps.specs.FuncletEntries.{entry_turns}
+use Rattle.turn_steps.proofs.DispatchWalks.{landing_walk}
 use Rattle.turn_steps.specs.Outcomes.{Stands, GoesOn}
 
 same_code : (a b : ℕ) → Some a ≡ Some b → a ≡ b
@@ -73,10 +76,10 @@ module _ (t : Functions) (fs : List Funclet) (program : LinearProgram) (p : Plan
         landed = λ x e. let z : code ≡ x = same_code code x e in is_code ∙ z;
       }
 
-  pub lands_as : (s : State) (r : DispatchRecord) (turn : Turn) (w : Unwound) (left : ℕ) → (l : LandsThere t fs program p s r turn w) → IsMachineMemory t fs program p q s.memory w.source
+  pub lands_as : (s : State) (at : ℕ) (r : DispatchRecord) (is : List StackItem) (turn : Turn) (w : Unwound) (left : ℕ) → IsUnwinding t fs program p s at r is w → (l : LandsThere t fs program p s r turn w) → IsMachineMemory t fs program p q s.memory w.source
       → turns_left (arrival l.body l.below w.target.label w.target.code w.source l.outer w.shown) ≤ left → (w.target.code ≡ None → l.body.landed ≡ None)
-      → GoesOn t fs program p q turn (λ next. linear.unwind program next w.target w.items w.left w.shown (store_of w.source w.acts)) w.shown left
-  lands_as s r turn w left l memory few clear = record {
+      → GoesOn t fs program p q turn (λ next. linear.unwind program next w.target w.items w.left w.shown (store_of w.source w.acts)) w.shown left (callers r.walk is)
+  lands_as s at r is turn w left u l memory few clear = record {
     state = at_landing s l.to (landing_value w.target.code) r.target;
     events = landing_events w.target.code;
     turns = l.turns;
@@ -84,6 +87,8 @@ module _ (t : Functions) (fs : List Funclet) (program : LinearProgram) (p : Plan
     few = few;
     acts = λ next. l.goes next ∙ arrives_there l.body l.below (record w.target { held = l.held }) w.target.code w.source l.outer w.shown next;
     shown = refl;
+    quiet = l.quiet (at_landing s l.to (landing_value w.target.code) r.target).cpu;
+    walk = landing_walk t fs program p q image s at r is turn w u l (landing_value w.target.code) memory;
     leads = λ known. at_once (lands_in_body s l.to l.framed l.is l.body l.below l.outer (landing_value w.target.code) r.target w.target.label w.target.code w.source w.shown l.on l.at_address l.lands l.sane memory refl clear);
   }
     where

@@ -1,5 +1,5 @@
 -- A body returns: RAX has the number of its slot, and RIP and RSP are those of its return address.
-use Rattle.std.proofs.Common.{◌≡◌, ℕ, zero, suc, ◌+◌, ◌≤◌, Option, Some, None, List, length, sym, subst, ◌∙◌, arith, length-append}
+use Rattle.std.proofs.Common.{◌≡◌, ℕ, zero, suc, ◌+◌, ◌≤◌, true, Option, Some, None, List, length, refl, sym, subst, ◌∙◌, arith, length-append}
 use Rattle.std.specs.Prelude.{slice_get}
 use Rattle.std.proofs.lemmas.List.{length-drop}
 use Rattle.x64_instr.specs.declared.register.Reg.TheVariants.{Rax, Rsp}
@@ -20,12 +20,18 @@ use Rattle.x64_templates.specs.CallStates.{HasBack, with_sp, moved}
 use Rattle.x64_templates.specs.Returned.{Returned}
 use Rattle.x64_templates.specs.Runs.{Reaches}
 use Rattle.x64_templates.proofs.Entries.{number_small}
+use Rattle.x64_templates.proofs.Encoded.{fetch_fine}
 use Rattle.x64_templates.proofs.Returns.{sp_moved, return_run}
 use Rattle.ir_typed.specs.Room.{HaveRoom}
 use Rattle.linked_stack.specs.ImagePlan.{Plan}
 use Rattle.linked_stack.specs.States.{IsSane}
 use Rattle.body_states.specs.Sites.{Sites}
+use Rattle.whole_runs.specs.Shadow.{AllKeep}
 use Rattle.body_states.specs.Bodies.{Begins}
+use Rattle.body_states.proofs.Effects.{others_of}
+use Rattle.body_states.proofs.Beneath.{reaches_steps}
+use Rattle.body_states.proofs.ReturnKeeping.{fetch_plain, returns_keep}
+use Rattle.turn_steps.proofs.Grounds.{top_of, begins_beneath}
 use Rattle.body_states.specs.Programs.{IsProgramImage}
 use Rattle.body_steps.specs.Views.{counts_of}
 use Rattle.body_steps.proofs.Words.{may_read_written, word_is}
@@ -125,3 +131,13 @@ module _ (t : Functions) (fs : List Funclet) (program : LinearProgram) (p : Plan
 
     pub sane_after : IsSane after
     sane_after = stays_sane s after (reaches_keeps n s after reaches) has_back.small b.sane
+
+    -- each of its turns keeps the shadow
+    pub keeps : AllKeep t fs n s
+    keeps =
+        let top = frame_top t fs program p q image s c b counted in
+        let low = sp_low t fs program p q image s c b counted in
+        let f = frame t fs program p q image roomy s c b counted in
+        returns_keep t fs program p q image c.frame.body b.body.slots.code b.body.slots.body c.frame.next from at s after (top_of t fs program p q image s c b counted) b.body.back (others_of s.cpu.registers) b.body.is b.rip
+        (begins_beneath t fs program p q image s c b counted) refl b.memory.code (omega arith)
+        (fetch_plain layout.frame 8 layout from (fetch_fine f.layout f.counts f.sp f.base true from (room_here t fs program p q image s c b counted) is_there)) (reaches_steps n s after reaches)

@@ -1,5 +1,6 @@
 pub mod Kept
 pub mod Resuming
+pub mod Grounds
 pub mod Returning
 pub mod Outgoing
 pub mod Outward
@@ -17,6 +18,7 @@ pub mod Standing
 pub mod Known
 pub mod Spaces
 pub mod Entering
+pub mod FuncletKeeping
 pub mod FuncletFilters
 pub mod Blocks
 pub mod Unwound
@@ -26,6 +28,7 @@ pub mod FuncletSteps
 pub mod Memories
 pub mod Counted
 pub mod Outcomes
+pub mod DispatchWalks
 pub mod Unlanded
 pub mod Landed
 pub mod TurnUnwinding
@@ -36,6 +39,7 @@ pub mod Served
 pub mod Funclets
 pub mod Hosts
 pub mod BuiltIns
+pub mod BuiltInKeeping
 pub mod Pushed
 pub mod TurnQuiet
 pub mod Apart
@@ -45,6 +49,7 @@ pub mod Fields
 pub mod ServiceFilters
 pub mod Informing
 pub mod Elsewhere
+pub mod ServiceShadow
 pub mod Arena
 pub mod Reached
 pub mod ServiceReturned

@@ -70,8 +70,9 @@ parents_base v sp b base frame parent at is keeps lt c =
 abbrev pub first_code : ℕ → Option ℕ → ℕ → List Instr
 first_code frame o b = enter_code frame ++ keep_base o b
 
-pub record Made (v : MachineView) (sp frame b base rip to : ℕ) (f : Flags) : Type 0 where
+pub record Made (o : Option ℕ) (v : MachineView) (sp frame b base rip to : ℕ) (f : Flags) : Type 0 where
   pub turns : ℕ
+  pub exact : turns ≡ length (first_code frame o b)
   pub few : turns ≤ 3
   pub after : MachineView
   pub flags : Flags
@@ -91,7 +92,7 @@ pub record HasRoom (v : MachineView) (sp frame b : ℕ) : Type 0 where
   pub inside : b + 8 ≤ frame
   pub writable : (a : ℕ) → sp ≤ a → a < sp + frame → may_write v.memory a ≡ true
 
-pub made : (o : Option ℕ) (v : MachineView) (sp frame b base rip : ℕ) (f : Flags) → HasRoom v sp frame b → base < 2 ^ 64 → LeadsBy v.memory o v.rdx base → HasCode v.memory rip (first_code frame o b) → Made v sp frame b base rip (rip + sizes (first_code frame o b)) f
+pub made : (o : Option ℕ) (v : MachineView) (sp frame b base rip : ℕ) (f : Flags) → HasRoom v sp frame b → base < 2 ^ 64 → LeadsBy v.memory o v.rdx base → HasCode v.memory rip (first_code frame o b) → Made o v sp frame b base rip (rip + sizes (first_code frame o b)) f
 made None v sp frame b base rip f r lt leads code =
     let high = r.high in
     let small = r.small in
@@ -102,6 +103,7 @@ made None v sp frame b base rip f r lt leads code =
     let w = within_cell u sp (sp + frame) (sp + b) base (omega arith) (omega arith) (omega arith) in
     record {
       turns = 2;
+      exact = refl;
       few = omega arith;
       after = kept_at u (sp + b) base;
       flags = e.flags;
@@ -132,6 +134,7 @@ made (Some parent) v sp frame b base rip f r lt leads code =
     let k = within_cell (put true w base) sp (sp + frame) (sp + b) base (omega arith) (omega arith) (omega arith) in
     record {
       turns = 3;
+      exact = refl;
       few = omega arith;
       after = u;
       flags = z.left;

@@ -4,6 +4,7 @@ use Rattle.std.specs.Prelude.{nat_lt}
 use Rattle.std.proofs.lemmas.List.{append-nil}
 use Rattle.seh_num.specs.declared.event.Event.{Event}
 use Rattle.seh_num.specs.declared.end.RunEnd.TheVariants as ends
+use Rattle.x64_machine.specs.declared.context.Context.{Context}
 use Rattle.x64_machine.specs.Effect.{State}
 use Rattle.virtual_unwind.specs.CallerOf.{Functions}
 use Rattle.host_model.specs.declared.funclet.Funclet.{Funclet}
@@ -16,6 +17,7 @@ use Rattle.linear_code.specs.Program.{LinearProgram}
 use Rattle.linear_machine.specs.Frames.{Configuration, Seen, Finished, Next, pick}
 use Rattle.linear_machine.specs.Instructions.{act}
 use Rattle.linked_stack.specs.ImagePlan.{Plan}
+use Rattle.whole_runs.specs.Shadow.{KeepsShadow}
 use Rattle.whole_runs.specs.Comes.{IsLive, Comes}
 use Rattle.whole_runs.specs.Matched.{IsMatched}
 use Rattle.whole_runs.proofs.Turns.{comes_one}
@@ -24,7 +26,7 @@ use Rattle.body_states.specs.Sites.{Sites}
 use Rattle.body_states.specs.Bodies.{turns_left, Begins}
 use Rattle.body_steps.specs.Known.{KnownNext}
 use Rattle.turn_steps.specs.FuncletEntries.{entry_turns}
-use Rattle.turn_steps.specs.Outcomes.{with_events, Stands, GoesOn, EntersFunclet, EndsRun, Outcome}
+use Rattle.turn_steps.specs.Outcomes.{with_events, Stands, GoesOn, EntersFunclet, EndsRun, Outcome, KeepsWith}
 
 -- an event that is shown first
 pub arrived_with : (t : Functions) (fs : List Funclet) (e : Event) (x : Turn) → arrived t fs (with_event e x) ≡ with_event e (arrived t fs x)
@@ -48,8 +50,8 @@ module _ (t : Functions) (fs : List Funclet) (program : LinearProgram) (p : Plan
   pub begins_there : (s : State) (c : Configuration) → LeadsTo t fs entry_turns (Begins t fs program p q) s c → LeadsTo t fs entry_turns (Stands t fs program p q) s c
   begins_there s c l = record { turns = l.turns; few = l.few; state = l.state; comes = l.comes; stands = inl l.stands }
 
-  pub outcome_same : (x y : Turn) (seen other : Next → Seen) (es : List Event) (left : ℕ) → y ≡ x → ((next : Next) → other next ≡ seen next) → Outcome t fs program p q x seen es left → Outcome t fs program p q y other es left
-  outcome_same x y seen other es left e same (inl g) = inl (record {
+  pub outcome_same : (x y : Turn) (seen other : Next → Seen) (es : List Event) (left : ℕ) (shadow : List Context) → y ≡ x → ((next : Next) → other next ≡ seen next) → Outcome t fs program p q x seen es left shadow → Outcome t fs program p q y other es left shadow
+  outcome_same x y seen other es left shadow e same (inl g) = inl (record {
     state = g.state;
     events = g.events;
     turns = e ∙ g.turns;
@@ -57,9 +59,11 @@ module _ (t : Functions) (fs : List Funclet) (program : LinearProgram) (p : Plan
     few = g.few;
     acts = λ next. same next ∙ g.acts next;
     shown = g.shown;
+    quiet = g.quiet;
+    walk = g.walk;
     leads = g.leads;
   })
-  outcome_same x y seen other es left e same (inr (inl g)) = inr (inl (record {
+  outcome_same x y seen other es left shadow e same (inr (inl g)) = inr (inl (record {
     state = g.state;
     event = g.event;
     turns = e ∙ g.turns;
@@ -70,16 +74,18 @@ module _ (t : Functions) (fs : List Funclet) (program : LinearProgram) (p : Plan
     few = g.few;
     acts = λ next. same next ∙ g.acts next;
     shown = g.shown;
+    arrives = g.arrives;
+    walk = g.walk;
     leads = g.leads;
   }))
-  outcome_same x y seen other es left e same (inr (inr g)) = inr (inr (record { code = g.code; turns = e ∙ g.turns; acts = λ next. same next ∙ g.acts next }))
+  outcome_same x y seen other es left shadow e same (inr (inr g)) = inr (inr (record { code = g.code; turns = e ∙ g.turns; acts = λ next. same next ∙ g.acts next }))
 
   -- with more turns left
-  pub outcome_more : (x : Turn) (seen : Next → Seen) (es : List Event) (left more : ℕ) → left ≤ more → Outcome t fs program p q x seen es left → Outcome t fs program p q x seen es more
-  outcome_more x seen es left more le (inl g) =
+  pub outcome_more : (x : Turn) (seen : Next → Seen) (es : List Event) (left more : ℕ) (shadow : List Context) → left ≤ more → Outcome t fs program p q x seen es left shadow → Outcome t fs program p q x seen es more shadow
+  outcome_more x seen es left more shadow le (inl g) =
       let few = g.few in
-      inl (record { state = g.state; events = g.events; turns = g.turns; configuration = g.configuration; few = omega arith; acts = g.acts; shown = g.shown; leads = g.leads })
-  outcome_more x seen es left more le (inr (inl g)) = inr (inl (record {
+      inl (record { state = g.state; events = g.events; turns = g.turns; configuration = g.configuration; few = omega arith; acts = g.acts; shown = g.shown; quiet = g.quiet; walk = g.walk; leads = g.leads })
+  outcome_more x seen es left more shadow le (inr (inl g)) = inr (inl (record {
     state = g.state;
     event = g.event;
     turns = g.turns;
@@ -90,24 +96,26 @@ module _ (t : Functions) (fs : List Funclet) (program : LinearProgram) (p : Plan
     few = λ shallow. let few = g.few shallow in omega arith;
     acts = g.acts;
     shown = g.shown;
+    arrives = g.arrives;
+    walk = g.walk;
     leads = g.leads;
   }))
-  outcome_more x seen es left more le (inr (inr g)) = inr (inr g)
+  outcome_more x seen es left more shadow le (inr (inr g)) = inr (inr g)
 
   -- quiet turns, and one turn of the host, which shows some events before those of its outcome
   module _ (pace k left : ℕ) (s u : State) (c : Configuration) (i : Instruction) (before : List Event) (x : Turn)
       (quiet : Comes t fs k s [] u) (live : IsLive u) (turns : turn t fs u ≡ with_events before x) (enough : k + 1 + entry_turns + left ≤ pace + turns_left c)
-      (known : KnownNext program c i) where
+      (known : KnownNext program c i) (shadow : List Context) (keeps : KeepsWith t fs program p q u shadow) where
     abbrev Matched : Type 0
     Matched = IsMatched t fs program pace turns_left (Stands t fs program p q) s c i
 
     abbrev step : Next → Seen
     step next = act program i next c
 
-    reaches : (state : State) (events : List Event) → x ≡ Continues state events → Comes t fs (k + 1) s (before ++ events) state
-    reaches state events e = quietly_before t fs k 1 s u state (before ++ events) quiet (comes_one t fs u state (before ++ events) live (turns ∙ ap (with_events before) e))
+    reaches : (state : State) (events : List Event) → x ≡ Continues state events → KeepsShadow t fs u state → Comes t fs (k + 1) s (before ++ events) state
+    reaches state events e kept = quietly_before t fs k 1 s u state (before ++ events) quiet (comes_one t fs u state (before ++ events) live (turns ∙ ap (with_events before) e) kept)
 
-    matched_on : GoesOn t fs program p q x step (c.events ++ before) left → Matched
+    matched_on : GoesOn t fs program p q x step (c.events ++ before) left shadow → Matched
     matched_on g =
         let few = g.few in
         let l = g.leads (known g.configuration g.acts) in
@@ -119,13 +127,13 @@ module _ (t : Functions) (fs : List Funclet) (program : LinearProgram) (p : Plan
           few = omega arith;
           state = l.state;
           events = before ++ g.events;
-          comes = quietly_after t fs (k + 1) l.turns s g.state l.state (before ++ g.events) (reaches g.state g.events g.turns) l.comes;
+          comes = quietly_after t fs (k + 1) l.turns s g.state l.state (before ++ g.events) (reaches g.state g.events g.turns (keeps g.state [] g.quiet g.walk)) l.comes;
           acts = g.acts;
           shown = g.shown ∙ append_assoc c.events before g.events;
           stands = l.stands;
         })
 
-    matched_in : EntersFunclet t fs program p q x step (c.events ++ before) left → Matched
+    matched_in : EntersFunclet t fs program p q x step (c.events ++ before) left shadow → Matched
     unfolding pick
     matched_in g = by (nat_lt 1000 (length g.store.activations + g.held + g.more)) refl
       where
@@ -135,7 +143,7 @@ module _ (t : Functions) (fs : List Funclet) (program : LinearProgram) (p : Plan
           few = omega arith;
           state = g.state;
           made = before ++ g.event ∷ [];
-          comes = reaches g.state (g.event ∷ []) g.turns;
+          comes = reaches g.state (g.event ∷ []) g.turns (keeps g.state (g.event ∷ []) g.arrives g.walk);
           events = before;
           front = (g.event ∷ [], refl);
           end = Deep 1001;
@@ -154,7 +162,7 @@ module _ (t : Functions) (fs : List Funclet) (program : LinearProgram) (p : Plan
               few = omega arith;
               state = l.state;
               events = before ++ g.event ∷ [];
-              comes = quietly_after t fs (k + 1) l.turns s g.state l.state (before ++ g.event ∷ []) (reaches g.state (g.event ∷ []) g.turns) l.comes;
+              comes = quietly_after t fs (k + 1) l.turns s g.state l.state (before ++ g.event ∷ []) (reaches g.state (g.event ∷ []) g.turns (keeps g.state (g.event ∷ []) g.arrives g.walk)) l.comes;
               acts = moves;
               shown = g.shown ∙ append_assoc c.events before (g.event ∷ []);
               stands = l.stands;
@@ -174,7 +182,7 @@ module _ (t : Functions) (fs : List Funclet) (program : LinearProgram) (p : Plan
       acts = g.acts;
     })))
 
-    pub matched_by_turn : Outcome t fs program p q x step (c.events ++ before) left → Matched
+    pub matched_by_turn : Outcome t fs program p q x step (c.events ++ before) left shadow → Matched
     matched_by_turn (inl g) = matched_on g
     matched_by_turn (inr (inl g)) = matched_in g
     matched_by_turn (inr (inr g)) = matched_out g

@@ -22,9 +22,10 @@ pub enters_of : (n : ℕ) (s u : State) → Reaches n s u → Enters n s u
 enters_of zero s u r = r
 enters_of (suc n) s u r = (r.0, r.1.steps, r.2)
 
--- after it RSP is the frame's, arguments are where they were, and memory has changed at most right below the return address
-pub record Made (v : MachineView) (target to : ℕ) (f : Flags) (top sp : ℕ) (arguments : ℕ → ℕ) : Type 0 where
+-- after so many turns RSP is the frame's, arguments are where they were, and memory has changed at most right below the return address
+pub record Made (v : MachineView) (target to : ℕ) (f : Flags) (top sp : ℕ) (arguments : ℕ → ℕ) (n : ℕ) : Type 0 where
   pub turns : ℕ
+  pub exact : turns ≡ n
   pub few : turns ≤ 8
   pub after : MachineView
   pub flags : Flags
@@ -43,9 +44,10 @@ other_two : (i : ℕ) → i ≢ 1 → i ≢ 8 → (rest : List ℕ) (x sp : ℕ)
 other_two i a b rest x sp = get_or-set_other (set rest 8 x) 1 i sp 0 a ∙ get_or-set_other rest 8 i x 0 b
 
 module _ (v : MachineView) (target : ℕ) (f : Flags) (top : ℕ) (arguments : ℕ → ℕ) (at : sp_of v ≡ top) (n : length v.rest ≡ 13) (regs : InRegisters v arguments) where
-  pub no_frame : Made v target target f top top arguments
+  pub no_frame : Made v target target f top top arguments 0
   no_frame = record {
     turns = 0;
+    exact = refl;
     few = omega arith;
     after = v;
     flags = f;
@@ -58,11 +60,12 @@ module _ (v : MachineView) (target : ℕ) (f : Flags) (top : ℕ) (arguments : �
     made = inl refl;
   }
 
-  pub small_frame : (frame : ℕ) → frame ≤ top → top < 2 ^ 64 → frame < 2 ^ 31 → HasCode v.memory target (enter_code frame) → Made v target (target + sizes (enter_code frame)) f top (top - frame) arguments
+  pub small_frame : (frame : ℕ) → frame ≤ top → top < 2 ^ 64 → frame < 2 ^ 31 → HasCode v.memory target (enter_code frame) → Made v target (target + sizes (enter_code frame)) f top (top - frame) arguments 1
   small_frame frame le high small code =
       let e = enter_run v top frame target f at le high small code in
       record {
         turns = 1;
+        exact = refl;
         few = omega arith;
         after = moved v (top - frame);
         flags = e.flags;
@@ -81,13 +84,14 @@ module _ (v : MachineView) (target : ℕ) (f : Flags) (top : ℕ) (arguments : �
       }
 
   pub large_frame : (frame check : ℕ) → frame < 2 ^ 31 → HasBelow v.memory top 8 → Touchable v.memory top frame → IsNear (target + 10) check → target + 10 < 2 ^ 48 → HasCode v.memory check check_stack → HasCode v.memory target (enter_large frame target check)
-      → Made v target (target + sizes (enter_large frame target check)) f top (top - frame) arguments
+      → Made v target (target + sizes (enter_large frame target check)) f top (top - frame) arguments 8
   large_frame frame check small below touch near high leaf code =
       let e = enter_large_run v top frame target check f n at below touch small near high leaf code in
       let same : sizes (enter_large frame target 0) ≡ sizes (enter_large frame target check) = let a = call_size (target + 10) 0 in let b = call_size (target + 10) check in omega arith in
       let w : MachineView = record { rax = frame; rcx = v.rcx; rdx = v.rdx; rest = with_sp (set v.rest 8 e.eleventh) (top - frame); memory = (pushed v top (target + 10)).memory } in
       record {
         turns = 8;
+        exact = refl;
         few = omega arith;
         after = w;
         flags = e.flags;

@@ -55,7 +55,7 @@ module _ (v : MachineView) (sp ret : ℕ) (low : STACK_START + 8 ≤ sp) (high :
     abbrev pub there : State
     there = machine (pushed v sp ret) rip flags
 
-    sp_there : register there.cpu Rsp ≡ sp - 8
+    pub sp_there : register there.cpu Rsp ≡ sp - 8
     sp_there = get_or-set_same v.rest 1 (sp - 8) 0 (omega arith)
 
     pub returns_there : loaded there.memory (register there.cpu Rsp) W64 ≡ Ok ret

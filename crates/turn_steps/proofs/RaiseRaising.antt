@@ -8,6 +8,9 @@ use Rattle.seh_num.specs.declared.width.Width.TheVariants.{W32}
 use Rattle.seh_num.specs.declared.event.Code.{Code}
 use Rattle.seh_num.specs.Widths.{low}
 use Rattle.x64_instr.specs.declared.register.Reg.TheVariants.{Rcx, Rdx}
+use Rattle.host_layout.specs.declared.service.Service.TheVariants as services
+use Rattle.host_layout.specs.Services.{address_of}
+use Rattle.x64_machine.specs.Contexts.{context_of}
 use Rattle.x64_machine.specs.Effect.{State, register}
 use Rattle.virtual_unwind.specs.CallerOf.{Functions}
 use Rattle.host_model.specs.declared.funclet.Funclet.{Funclet}
@@ -29,6 +32,7 @@ use Rattle.linked_stack.specs.ImagePlan.{Plan}
 use Rattle.linked_stack.specs.Steps.{IsException}
 use Rattle.whole_runs.specs.Ends.{HasRule}
 use Rattle.whole_runs.specs.Matched.{IsMatched}
+use Rattle.body_states.specs.Callers.{callers}
 use Rattle.body_states.specs.Sites.{Sites}
 use Rattle.body_states.specs.Programs.{IsProgramImage}
 use Rattle.body_states.specs.Bodies.{turns_left, Begins}
@@ -39,7 +43,8 @@ use Rattle.body_steps.proofs.Viewed.{slots_here}
 use Rattle.turn_steps.specs.FuncletEntries.{FlagsFit}
 use Rattle.turn_steps.specs.Outcomes.{Stands}
 use Rattle.turn_steps.proofs.Asked.{raised_as}
-use Rattle.turn_steps.proofs.Served.{raise_turns, matched_when_shown}
+use Rattle.turn_steps.proofs.DispatchWalks.{service_walk}
+use Rattle.turn_steps.proofs.Served.{raise_turns, raise_keeps, matched_when_shown}
 use Rattle.turn_steps.specs.RaiseLaws.{RaisesAreMatched}
 use Rattle.turn_steps.proofs.Asking as asking
 
@@ -120,11 +125,20 @@ module _ (t : Functions) (fs : List Funclet) (program : LinearProgram) (p : Plan
         let shown = raised_as t fs program p q image fits state (asking.saved t fs program p q image made s c b known RaiseException first at) asks.is b.body.acts (waiting c first) asks.asks
         (asking.memory t fs program p q image made s c b known RaiseException first at) b.body.store code (register state.cpu Rdx % 2) None exception AfterCall is_exception resumes (subst HasRule (goes (exec program zero)) rule) in
         let less : turns_left (waiting c first) ≤ turns_left c = (let n = length-take first c.frame.temporaries in omega arith) in
+        let saved = asking.saved t fs program p q image made s c b known RaiseException first at in
+        let shadow = callers (context_of saved) asks.is in
+        let high = asking.high_enough t fs program p q image made s c b known RaiseException first at in
+        let low = asking.low_enough t fs program p q image made s c b known RaiseException first at in
+        let sane = asking.sane t fs program p q image made s c b known RaiseException first at in
+        let there = asking.sp_there t fs program p q image made s c b known RaiseException first at in
+        let walk =
+        service_walk t fs program p q image state (address_of services.RaiseException) back asks.is refl (omega arith) (omega arith) (λ e. absurd (omega arith)) (λ e. absurd (omega arith))
+        (asking.returns t fs program p q image made s c b known RaiseException first at) sane.count (omega arith) asks.asks.on.stands.stack in
         matched_when_shown t fs program p q 16 7 (turns_left (waiting c first)) s state c i
         (arrived t fs (raised t state code (register state.cpu Rdx % 2) None (asking.saved t fs program p q image made s c b known RaiseException first at))) (raise_event exception ∷ [])
-        (λ next. raise program next exception AfterCall (waiting c first))
+        (λ next. raise program next exception AfterCall (waiting c first)) shadow
         (asking.comes t fs program p q image made s c b known RaiseException first at) (asking.live t fs program p q image made s c b known RaiseException first at)
-        (raise_turns t fs state back refl (asking.returns t fs program p q image made s c b known RaiseException first at)) shown goes (omega arith) after
+        (raise_turns t fs state back refl (asking.returns t fs program p q image made s c b known RaiseException first at)) (raise_keeps t fs program p q state walk.0 shadow refl walk.1) shown goes (omega arith) after
 
 pub raises_are_matched : RaisesAreMatched
 raises_are_matched t fs program p q image made fits s c first b known at rule after = raise_step t fs program p q image made fits s c b known first at rule after

@@ -1,5 +1,5 @@
 -- A local unwind: the host is asked with the body's own frame and the label's address, and saves the state after the call.
-use Rattle.std.proofs.Common.{◌≡◌, ℕ, zero, ◌+◌, ◌%◌, ◌^◌, ◌<◌, ◌≤◌, Bool, true, false, List, [], ◌∷◌, length, Option, Some, None, Ok, refl, sym, ap, subst, ◌∙◌, arith, inl, length-set}
+use Rattle.std.proofs.Common.{◌≡◌, ℕ, zero, ◌+◌, ◌-◌, ◌%◌, ◌^◌, ◌<◌, ◌≤◌, Bool, true, false, List, [], ◌∷◌, length, Option, Some, None, Ok, refl, sym, ap, subst, ◌∙◌, arith, inl, length-set}
 use Rattle.std.specs.Prelude.{slice_get}
 use Rattle.std.proofs.lemmas.List.{length-drop}
 use Rattle.std.proofs.lemmas.Option.{slice_get_within}
@@ -9,6 +9,7 @@ use Rattle.host_layout.specs.declared.service.Service.TheVariants as services
 use Rattle.host_layout.specs.Services.{address_of}
 use Rattle.flat_memory.specs.Memory.{Memory, loaded}
 use Rattle.x64_instr.specs.declared.register.Reg.TheVariants.{Rcx, Rsp}
+use Rattle.x64_instr.specs.declared.instruction.Instr.{Instr}
 use Rattle.x64_instr.specs.declared.instruction.Instr.TheVariants as instrs
 use Rattle.x64_encode.specs.Chosen.{modrm}
 use Rattle.x64_machine.specs.declared.context.Context.{Context}
@@ -30,8 +31,8 @@ use Rattle.template_code.specs.declared.layout.Layout.{Layout}
 use Rattle.template_code.specs.Bytes.{size, sizes}
 use Rattle.template_code.specs.Operations.{move}
 use Rattle.template_code.specs.Jumps.{IsNear}
-use Rattle.template_code.specs.Calls.{local_unwind_code}
-use Rattle.template_code.proofs.Sizes.{address_size, call_size, template_sizes}
+use Rattle.template_code.specs.Calls.{address_to, local_unwind_code}
+use Rattle.template_code.proofs.Sizes.{address_size, call_size, short, template_sizes}
 use Rattle.x64_templates.specs.Straight.{MachineView, machine}
 use Rattle.x64_templates.specs.CallStates.{pushed}
 use Rattle.x64_templates.specs.Runs.{Reaches, HasCode}
@@ -44,14 +45,19 @@ use Rattle.linked_stack.specs.Linked.{Activation, SameRegions, AimedHere, Aimed,
 use Rattle.linked_stack.specs.ListLaws.{KeepsAbove}
 use Rattle.linked_stack.specs.States.{IsSane}
 use Rattle.linked_stack.proofs.Entered.{set_small}
+use Rattle.whole_runs.specs.Shadow.{AllKeep}
 use Rattle.whole_runs.specs.Comes.{Comes}
 use Rattle.whole_runs.specs.Ends.{HasRule}
 use Rattle.whole_runs.specs.Matched.{IsMatched}
 use Rattle.ir_typed.specs.Waiting.{LandsWell}
+use Rattle.body_states.specs.Callers.{callers}
 use Rattle.body_states.specs.Sites.{Sites, links_of}
 use Rattle.body_states.specs.Programs.{IsResumed, IsMachineMemory, IsProgramImage}
 use Rattle.body_states.specs.Bodies.{turns_left, InBody, Begins}
 use Rattle.body_states.proofs.QuietTurns.{reaches_quietly}
+use Rattle.body_states.proofs.Effects.{others_of}
+use Rattle.body_states.proofs.Beneath.{StepsTo, reaches_steps, steps_split, keeps_split, AllPlain}
+use Rattle.body_states.proofs.CallKeeping.{calls_keep, CalleeBegins, callee_begins, thunk_keeps}
 use Rattle.body_states.proofs.Resumed.{all_front}
 use Rattle.body_steps.specs.Known.{IsWellMade, IsKnown, KnownNext}
 use Rattle.body_steps.specs.Laws.{pace}
@@ -59,6 +65,7 @@ use Rattle.body_steps.proofs.Around.{some_is, counted_here, code_at}
 use Rattle.body_steps.proofs.Reaching.{reaches_keeps, stays_sane}
 use Rattle.body_steps.proofs.Running.{v, same_state, template_here, next_address, sp_is}
 use Rattle.body_steps.proofs.Viewed.{IsCounted, sp_low, frame_top}
+use Rattle.turn_steps.proofs.Grounds.{top_of, begins_beneath}
 use Rattle.turn_steps.proofs.Kept.{offset_most}
 use Rattle.turn_steps.specs.FuncletEntries.{FlagsFit}
 use Rattle.turn_steps.specs.Outcomes.{AreClear, Stands}
@@ -68,7 +75,8 @@ use Rattle.turn_steps.proofs.Hosts.{Asks, asks_host}
 use Rattle.turn_steps.proofs.Memories.{memory_untouched}
 use Rattle.turn_steps.proofs.Pushed as pushing
 use Rattle.turn_steps.proofs.TurnQuiet.{host_quiet}
-use Rattle.turn_steps.proofs.Served.{local_unwind_turns, matched_when_shown}
+use Rattle.turn_steps.proofs.DispatchWalks.{service_walk}
+use Rattle.turn_steps.proofs.Served.{local_unwind_turns, local_unwind_keeps, matched_when_shown}
 use Rattle.turn_steps.specs.Places.{AreFollowed, StayInside}
 use Rattle.turn_steps.specs.RaiseLaws.{LocalUnwindsAreMatched}
 use Rattle.turn_steps.proofs.Clear.{clear_below}
@@ -258,8 +266,36 @@ module _ (t : Functions) (fs : List Funclet) (program : LinearProgram) (p : Plan
         subst (λ x. Reaches 4 x state) (sym same)
         (reaches_then 3 1 (machine view place s.cpu.flags) (machine (pushed given sp back) q.local_unwind s.cpu.flags) state three last)
 
+    -- each turn keeps the shadow
+    abbrev before : List Instr
+    before = move W64 Rcx Rsp ∷ address_to (place + 10) target ∷ []
+
+    plain : AllPlain y.frame 8 before
+    plain = ((refl, inl refl), ((short (place + 10) target near_target, inl refl), tt))
+
+    before_size : place + sizes before + 5 ≡ back
+    before_size = let a = move_size in let k = address_size (place + 10) target in omega arith
+
+    halves : (u : State) × StepsTo 3 s u × StepsTo 1 u state
+    halves = steps_split 3 1 s state (reaches_steps 4 s state reaches)
+
+    called : CalleeBegins t fs program p q image c.frame.body body b.body.slots.body c.frame.next i here (λ h. h) before [] back q.local_unwind refl before_size near_thunk (c.frame.next + 1) resumed (λ m. image.callers_outside.local_unwind m)
+        s halves.0 (top_of t fs program p q image s c b counted) b.body.back (others_of s.cpu.registers) b.body.is b.rip (begins_beneath t fs program p q image s c b counted) refl (let l = low in omega arith) b.memory.code plain halves.1 sp
+    called =
+        callee_begins t fs program p q image c.frame.body body b.body.slots.body c.frame.next i here (λ h. h) before [] back q.local_unwind refl before_size near_thunk (c.frame.next + 1) resumed (λ m. image.callers_outside.local_unwind m)
+        s halves.0 (top_of t fs program p q image s c b counted) b.body.back (others_of s.cpu.registers) b.body.is b.rip (begins_beneath t fs program p q image s c b counted) refl (let l = low in omega arith) b.memory.code plain halves.1 sp
+        (omega arith) (omega arith)
+
+    keeps_shadow : AllKeep t fs 4 s
+    keeps_shadow =
+        keeps_split t fs 3 1 s halves.0 halves.1
+        (calls_keep t fs program p q image c.frame.body body b.body.slots.body c.frame.next i here (λ h. h) before [] back q.local_unwind refl before_size near_thunk (c.frame.next + 1) resumed (λ m. image.callers_outside.local_unwind m)
+        s halves.0 (top_of t fs program p q image s c b counted) b.body.back (others_of s.cpu.registers) b.body.is b.rip (begins_beneath t fs program p q image s c b counted) refl (let l = low in omega arith) b.memory.code plain halves.1)
+        (thunk_keeps t fs program p q image halves.0 state (sp - 8) sp back (others_of s.cpu.registers) _ called.beneath_it called.stack q.local_unwind service called.rip called.program_there.local_unwind.thunk halves.2 refl
+        (λ m. image.callers_outside.local_unwind m) (λ m. image.callers_outside.services m service (omega arith) (omega arith) (λ e. absurd (omega arith)) (λ e. absurd (omega arith))))
+
     comes : Comes t fs 4 s [] state
-    comes = reaches_quietly t fs program p q image 4 s state reaches b.memory.code (host_quiet t fs program p q image s.memory service state.cpu b.memory.code (omega arith))
+    comes = reaches_quietly t fs program p q image 4 s state reaches keeps_shadow b.memory.code (host_quiet t fs program p q image s.memory service state.cpu b.memory.code (omega arith))
 
     sane : IsSane state
     sane = stays_sane s state (reaches_keeps 4 s state reaches) (omega arith) b.sane
@@ -319,10 +355,14 @@ module _ (t : Functions) (fs : List Funclet) (program : LinearProgram) (p : Plan
         let n = label_near label in
         let n1 = n.1 in
         let h = high_enough in
+        let l = low_enough in
+        let there = pushing.sp_there given sp back low_enough high_enough b.memory.data_alone b.memory.stack service s.cpu.flags back_small many in
+        let walk =
+        service_walk t fs program p q image state service back asks.is refl (omega arith) (omega arith) (λ e. absurd (omega arith)) (λ e. absurd (omega arith)) returns sane.count (omega arith) asks.asks.on.stands.stack in
         let shown = unwound_to t fs program p q image fits state saved asks.is b.body.acts c asks.asks memory b.body.store sp target label (omega arith) (omega arith) aimed rule clear in
         matched_when_shown t fs program p q 16 4 (turns_left c) s state c i
-        (arrived t fs (unwound_locally t state sp target saved)) [] (λ next. local_unwind program next label c)
-        comes refl (local_unwind_turns t fs state back refl returns) shown (λ next. refl) (omega arith) after
+        (arrived t fs (unwound_locally t state sp target saved)) [] (λ next. local_unwind program next label c) (callers (context_of saved) asks.is)
+        comes refl (local_unwind_turns t fs state back refl returns) (local_unwind_keeps t fs program p q state walk.0 (callers (context_of saved) asks.is) refl walk.1) shown (λ next. refl) (omega arith) after
 
 pub local_unwinds_are_matched : LocalUnwindsAreMatched
 local_unwinds_are_matched t fs program p q image made follows stays fits s c label b known at rule after =

@@ -42,6 +42,7 @@ use Rattle.body_states.proofs.QuietTurns.{reaches_quietly}
 use Rattle.body_steps.proofs.Viewed.{IsCounted, room_here, holds_here, sp_low, frame_top}
 use Rattle.body_steps.proofs.Running.{frame, slots, v, sp_is, same_state, has_slots, template_here, next_address}
 use Rattle.turn_steps.proofs.BuiltIns.{ServiceReached, with_arguments_of, service_reached}
+use Rattle.turn_steps.proofs.BuiltInKeeping.{built_in_keeps}
 use Rattle.turn_steps.proofs.TurnQuiet.{host_quiet}
 use Rattle.turn_steps.proofs.Pushed.{below, returns_there}
 
@@ -152,7 +153,7 @@ module _ (t : Functions) (fs : List Funclet) (program : LinearProgram) (p : Plan
     reaches = subst (λ x. Reaches 7 x (machine (pushed given sp back) service reached.flags)) (sym (same_state t fs program p q image roomy s c b counted)) reached.comes
 
     pub comes_there : Comes t fs 7 s [] at_service
-    comes_there = reaches_quietly t fs program p q image 7 s at_service reaches b.memory.code (host_quiet t fs program p q image s.memory service at_service.cpu b.memory.code (service_low f).1)
+    comes_there = reaches_quietly t fs program p q image 7 s at_service reaches (built_in_keeps t fs program p q image roomy s c b counted f first at at_service reaches refl (subst (λ r. IsNear (return_at layout first (r + 5)) (q.thunk f)) b.rip near)) b.memory.code (host_quiet t fs program p q image s.memory service at_service.cpu b.memory.code (service_low f).1)
 
     pub live_there : IsLive at_service
     live_there = let l = (service_low f).0 in ne_eqb service 0 (λ e. absurd (omega arith))

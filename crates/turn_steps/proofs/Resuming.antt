@@ -30,6 +30,7 @@ use Rattle.linked_stack.specs.Linked.{Activation}
 use Rattle.linked_stack.specs.Records.{On}
 use Rattle.linked_stack.specs.Unwinding.{on_top}
 use Rattle.linked_stack.specs.States.{IsSane}
+use Rattle.whole_runs.specs.Shadow.{AllKeep}
 use Rattle.ir_typed.specs.Room.{HaveRoom}
 use Rattle.body_states.specs.Sites.{Sites}
 use Rattle.body_states.specs.Programs.{IsMachineMemory, IsProgramImage}
@@ -72,9 +73,9 @@ module _ (t : Functions) (fs : List Funclet) (program : LinearProgram) (p : Plan
         let five = call_size (return_at layout first at) (q.function f) in
         omega (arith, back, sizes_append passing beginning, sizes_append (arguments_code layout first) (call (return_at layout first at) (q.function f) ∷ []))
 
-    -- in one turn the next instruction begins
+    -- in one turn, which keeps the shadow, the next instruction begins
     pub resumes : IsCounted t fs program p q image (on_top w items source acts es) → IsSurrounded t fs program p q image roomy w.body w.activation items (length acts)
-        → (z : State) × Reaches 1 u z × (arrivals z.cpu (distance t.base z.cpu.rip) 1 fs ≡ []) × (Begins t fs program p q z (answered t fs program p q image roomy w items source acts es (register u.cpu Rax)))
+        → (z : State) × Reaches 1 u z × (arrivals z.cpu (distance t.base z.cpu.rip) 1 fs ≡ []) × (Begins t fs program p q z (answered t fs program p q image roomy w items source acts es (register u.cpu Rax))) × AllKeep t fs 1 u
     resumes counted surrounded =
-        kept.resumes t fs program p q image roomy u w items acts source es above is on sp sane memory o there (instructions.Call f first arguments) first (passing ++ beginning) calls
+        kept.resumes t fs program p q image roomy u w items acts source es above is on sp sane memory o there (instructions.Call f first arguments) first (passing ++ beginning) calls (λ h. h)
         (sym (append_assoc passing beginning (keep layout (Temporary first)))) fits within held free back_is counted surrounded

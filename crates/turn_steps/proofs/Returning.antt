@@ -39,11 +39,13 @@ use Rattle.linked_stack.specs.Records.{On}
 use Rattle.linked_stack.specs.Unwinding.{store_of, on_top}
 use Rattle.linked_stack.proofs.UnwindUnwound.{left_activations}
 use Rattle.linked_stack.specs.States.{IsSane}
+use Rattle.whole_runs.specs.Shadow.{AllKeep}
 use Rattle.whole_runs.specs.Matched.{Moves, Exits}
 use Rattle.ir_typed.specs.Room.{HaveRoom}
 use Rattle.body_states.specs.Sites.{Sites}
 use Rattle.body_states.specs.Bodies.{held_below, turns_left, slots_end, Begins}
 use Rattle.body_states.specs.Programs.{IsProgramImage}
+use Rattle.body_states.proofs.StackWalks.{keep_then}
 use Rattle.body_states.proofs.QuietTurns.{reaches_quietly}
 use Rattle.body_steps.specs.Views.{counts_of}
 use Rattle.body_steps.proofs.Words.{may_read_written, word_is}
@@ -52,6 +54,7 @@ use Rattle.body_steps.proofs.Viewed.{IsCounted, sp_low, frame_top, room_here, ho
 use Rattle.body_steps.proofs.Running.{y, v, frame, slots, same_state, template_here, has_slots, sp_is, index_of}
 use Rattle.turn_steps.proofs.Kept.{IsSurrounded, answered}
 use Rattle.turn_steps.proofs.Resuming.{returns_at, resumes}
+use Rattle.turn_steps.proofs.Leaving as leaving
 
 -- ---- how long a return takes
 
@@ -149,6 +152,10 @@ module _ (t : Functions) (fs : List Funclet) (program : LinearProgram) (p : Plan
     sane_after : IsSane after
     sane_after = stays_sane s after (reaches_keeps n s after reaches) has_back.small b.sane
 
+    -- each turn keeps the shadow
+    keeps : AllKeep t fs n s
+    keeps = leaving.keeps t fs program p q image roomy s c b counted from at
+
     -- linear code leaves the function's locals
     left : left_store c.frame.body c.frame.activation c.store ≡ store_of c.store.memory (activations_below c.frame.body b.body.acts)
     left =
@@ -183,7 +190,7 @@ module _ (t : Functions) (fs : List Funclet) (program : LinearProgram) (p : Plan
           few = omega arith;
           state = after;
           events = [];
-          comes = reaches_quietly t fs program p q image n s after reaches b.memory.code
+          comes = reaches_quietly t fs program p q image n s after reaches keeps b.memory.code
               (subst (λ r. arrivals after.cpu (distance t.base r) 1 fs ≡ []) (sym over) (image.funclets.none 0 (omega arith) first_is_high after.cpu));
           over = over;
           value = signed W32 x;
@@ -244,7 +251,7 @@ module _ (t : Functions) (fs : List Funclet) (program : LinearProgram) (p : Plan
             few = omega (arith, few, more, credit);
             state = z.0;
             events = [];
-            comes = reaches_quietly t fs program p q image (n + 1) s z.0 (reaches_then n 1 s after z.0 reaches z.1) b.memory.code z.2;
+            comes = reaches_quietly t fs program p q image (n + 1) s z.0 (reaches_then n 1 s after z.0 reaches z.1) (keep_then t fs n 1 s after reaches keeps z.4) b.memory.code z.2;
             acts = goes;
             shown = sym (append-nil c.events);
             stands = z.3;

@@ -1,5 +1,5 @@
 -- The host's turns at its services, and steps of linear code that one of them matches.
-use Rattle.std.proofs.Common.{◌≡◌, ℕ, ◌+◌, ◌%◌, ◌≤◌, Bool, cond, List, [], ◌++◌, Option, None, Ok, Err, refl, ap, ◌∙◌}
+use Rattle.std.proofs.Common.{◌≡◌, ℕ, ◌+◌, ◌%◌, ◌≤◌, Bool, cond, List, [], ◌∷◌, ◌++◌, Option, None, Ok, Err, refl, ap, ◌∙◌}
 use Rattle.std.specs.Prelude.{Result}
 use Rattle.seh_num.specs.declared.width.Width.TheVariants.{W32, W64}
 use Rattle.seh_num.specs.declared.event.Code.{Code}
@@ -11,14 +11,15 @@ use Rattle.flat_memory.specs.declared.access.RefusedAccess.{RefusedAccess}
 use Rattle.flat_memory.specs.Memory.{executable, loaded}
 use Rattle.x64_instr.specs.declared.register.Reg.TheVariants.{Rcx, Rdx, Rsp}
 use Rattle.x64_instr.specs.Spelling.{leading}
+use Rattle.x64_machine.specs.declared.context.Context.{Context}
 use Rattle.x64_machine.specs.declared.outcome.Stop.TheVariants as stops
 use Rattle.x64_machine.specs.Effect.{State, Answer, register, hosted, execute, step}
-use Rattle.virtual_unwind.specs.CallerOf.{Functions}
+use Rattle.virtual_unwind.specs.CallerOf.{Functions, distance}
 use Rattle.seh_records.specs.Record.{fetched}
 use Rattle.seh_walk.specs.Walk.{filter_return, finally_return}
 use Rattle.host_model.specs.declared.funclet.Funclet.{Funclet}
 use Rattle.host_model.specs.Turns.{Turn}
-use Rattle.host_model.specs.Funclets.{arrived}
+use Rattle.host_model.specs.Funclets.{arrivals, arrived}
 use Rattle.host_model.specs.Dispatch.{raised, unwound_locally, finally_returned}
 use Rattle.host_model.specs.HostStep.{back, returned, turned, turn}
 use Rattle.linear_code.specs.declared.instruction.Instruction.{Instruction}
@@ -27,13 +28,15 @@ use Rattle.linear_machine.specs.Frames.{Configuration, Seen, Next}
 use Rattle.linear_machine.specs.Instructions.{act}
 use Rattle.linked_stack.specs.ImagePlan.{Plan}
 use Rattle.linked_stack.specs.Returns.{filter_turn}
+use Rattle.whole_runs.specs.Shadow.{drop_below, started, served, WalkGives, KeepsShadow}
 use Rattle.whole_runs.specs.Comes.{IsLive, Comes}
+use Rattle.whole_runs.proofs.Shadows.{host_keeps, fault_keeps}
 use Rattle.whole_runs.specs.Matched.{IsMatched}
 use Rattle.body_states.specs.Sites.{Sites}
 use Rattle.body_states.specs.Bodies.{turns_left}
 use Rattle.body_steps.specs.Known.{KnownNext}
 use Rattle.turn_steps.specs.FuncletEntries.{entry_turns}
-use Rattle.turn_steps.specs.Outcomes.{Stands, Shows}
+use Rattle.turn_steps.specs.Outcomes.{Stands, Shows, KeepsWith}
 use Rattle.turn_steps.proofs.Outcomes.{outcome_same, matched_by_turn}
 
 module _ (t : Functions) (fs : List Funclet) where
@@ -67,14 +70,39 @@ module _ (t : Functions) (fs : List Funclet) where
   unfolding turn
   fault_turns s code access e = ap (λ (x : Answer State). arrived t fs (turned t s x)) e
 
+  -- a turn there keeps the shadow, and so does a fault
+  keeps_at : (s : State) (a : ℕ) (cs : List Context) → step s ≡ Err (stops.Host a) → WalkGives t s cs
+      → (u : State) (es : List Event) → arrivals u.cpu (distance t.base u.cpu.rip) 1 fs ≡ es → WalkGives t u (drop_below (register u.cpu Rsp) (started u es (served (service_at a) cs))) → KeepsShadow t fs s u
+  keeps_at s a cs e before u es arrives after = host_keeps t fs s u a es cs (drop_below (register u.cpu Rsp) (started u es (served (service_at a) cs))) e arrives before after refl
+
+  service_step : (s : State) (a : ℕ) → s.cpu.rip ≡ a → step s ≡ cond (in_host_page a) (Err (hosted a (service_at a))) (execute s (leading (executable s.memory 15 s.cpu.rip)))
+  unfolding step
+  service_step s a e = ap (λ b. cond (in_host_page b) (Err (hosted b (service_at b))) (execute s (leading (executable s.memory 15 s.cpu.rip)))) e
+
   -- ---- steps of linear code
 
   module _ (program : LinearProgram) (p : Plan) (q : Sites) where
+    pub filter_return_keeps : (s : State) (cs : List Context) → s.cpu.rip ≡ filter_return → WalkGives t s cs → KeepsWith t fs program p q s cs
+    filter_return_keeps s cs e before = keeps_at s filter_return cs (service_step s filter_return e) before
+
+    pub finally_return_keeps : (s : State) (cs : List Context) → s.cpu.rip ≡ finally_return → WalkGives t s cs → KeepsWith t fs program p q s cs
+    finally_return_keeps s cs e before = keeps_at s finally_return cs (service_step s finally_return e) before
+
+    -- the call of a service that dispatches is over
+    pub raise_keeps : (s : State) (c : Context) (cs : List Context) → s.cpu.rip ≡ address_of services.RaiseException → WalkGives t s (c ∷ cs) → KeepsWith t fs program p q s cs
+    raise_keeps s c cs e before = keeps_at s (address_of services.RaiseException) (c ∷ cs) (service_step s (address_of services.RaiseException) e) before
+
+    pub local_unwind_keeps : (s : State) (c : Context) (cs : List Context) → s.cpu.rip ≡ address_of services.LocalUnwind → WalkGives t s (c ∷ cs) → KeepsWith t fs program p q s cs
+    local_unwind_keeps s c cs e before = keeps_at s (address_of services.LocalUnwind) (c ∷ cs) (service_step s (address_of services.LocalUnwind) e) before
+
+    pub raised_keeps : (s : State) (code : Code) (access : Option (Bool × ℕ)) (cs : List Context) → step s ≡ Err (stops.Fault code access) → WalkGives t s cs → KeepsWith t fs program p q s cs
+    raised_keeps s code access cs e before = λ u es arrives after. fault_keeps t fs s u code access es cs (drop_below (register u.cpu Rsp) (started u es cs)) e arrives before after refl
+
     -- quiet turns lead to a turn of the host, which shows what the step shows
-    pub matched_when_shown : (pace k left : ℕ) (s u : State) (c : Configuration) (i : Instruction) (x : Turn) (before : List Event) (seen : Next → Seen)
-        → Comes t fs k s [] u → IsLive u → turn t fs u ≡ x → Shows t fs program p q x before seen c.events left → ((next : Next) → act program i next c ≡ seen next) → k + 1 + entry_turns + left ≤ pace + turns_left c
+    pub matched_when_shown : (pace k left : ℕ) (s u : State) (c : Configuration) (i : Instruction) (x : Turn) (before : List Event) (seen : Next → Seen) (shadow : List Context)
+        → Comes t fs k s [] u → IsLive u → turn t fs u ≡ x → KeepsWith t fs program p q u shadow → Shows t fs program p q x before seen c.events left shadow → ((next : Next) → act program i next c ≡ seen next) → k + 1 + entry_turns + left ≤ pace + turns_left c
         → KnownNext program c i
         → IsMatched t fs program pace turns_left (Stands t fs program p q) s c i
-    matched_when_shown pace k left s u c i x before seen quiet live e shows acts enough known =
-        matched_by_turn t fs program p q pace k left s u c i before shows.further quiet live (e ∙ shows.turns) enough known
-        (outcome_same t fs program p q shows.further shows.further seen (λ next. act program i next c) (c.events ++ before) left refl acts shows.outcome)
+    matched_when_shown pace k left s u c i x before seen shadow quiet live e keeps shows acts enough known =
+        matched_by_turn t fs program p q pace k left s u c i before shows.further quiet live (e ∙ shows.turns) enough known shadow keeps
+        (outcome_same t fs program p q shows.further shows.further seen (λ next. act program i next c) (c.events ++ before) left shadow refl acts shows.outcome)

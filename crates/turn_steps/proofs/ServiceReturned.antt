@@ -1,12 +1,14 @@
 -- A service returns: its result goes to the temporary of the first argument, and the next instruction begins.
-use Rattle.std.proofs.Common.{◌≡◌, ℕ, zero, suc, ◌+◌, ◌-◌, ◌%◌, ◌^◌, ◌<◌, ◌≤◌, false, List, [], ◌∷◌, ◌++◌, length, take, set, Option, Some, None, refl, sym, ap, subst, ◌∙◌, arith}
-use Rattle.std.specs.Prelude.{slice_get, slice_index}
+use Rattle.std.proofs.Common.{◌≡◌, ℕ, zero, suc, ◌+◌, ◌-◌, ◌%◌, ◌^◌, ◌<◌, ◌≤◌, false, List, [], ◌∷◌, ◌++◌, length, take, drop, get_or, set, Option, Some, None, refl, sym, ap, subst, ◌∙◌, arith, inl, inr}
+use Rattle.std.specs.Prelude.{◌⊎◌, slice_get, slice_index}
 use Rattle.std.proofs.lemmas.List.{append-nil, length-set}
 use Rattle.std.proofs.lemmas.Option.{slice_get_within}
 use Rattle.seh_num.specs.declared.event.Event.{Event}
 use Rattle.flat_memory.specs.Memory.{Memory}
 use Rattle.x64_instr.specs.declared.register.Reg.TheVariants.{Rsp}
 use Rattle.x64_instr.specs.declared.instruction.Instr.{Instr}
+use Rattle.x64_machine.specs.declared.context.Context.{Context}
+use Rattle.x64_machine.specs.Contexts.{kept_of}
 use Rattle.x64_machine.specs.Effect.{State, register}
 use Rattle.virtual_unwind.specs.CallerOf.{Functions, distance}
 use Rattle.host_model.specs.declared.funclet.Funclet.{Funclet}
@@ -23,40 +25,62 @@ use Rattle.linear_machine.specs.Frames.{Configuration, Next}
 use Rattle.linear_machine.specs.Instructions.{act}
 use Rattle.template_code.specs.Bytes.{sizes}
 use Rattle.template_code.specs.Slots.{keep}
+use Rattle.template_code.specs.Jumps.{call}
+use Rattle.template_code.specs.Calls.{arguments_code, return_at, begin_call, clear_result}
+use Rattle.template_code.proofs.Sizes.{sizes_append, call_size}
 use Rattle.x64_templates.specs.Straight.{AreSmall, MachineView, machine}
 use Rattle.x64_templates.specs.CallStates.{sp_of}
 use Rattle.x64_templates.specs.Runs.{ReachesBody}
+use Rattle.x64_templates.proofs.Keeping.{index_other}
 use Rattle.x64_templates.proofs.Returns.{call_ends}
+use Rattle.x64_templates.proofs.Flows.{keep_flow}
 use Rattle.linked_stack.specs.ImagePlan.{Plan}
 use Rattle.linked_stack.specs.Linked.{locals_of}
 use Rattle.linked_stack.specs.ListLaws.{KeepsAbove, KeepsStack}
+use Rattle.whole_runs.specs.Shadow.{WalkGives, KeepsShadow, AllKeep}
 use Rattle.whole_runs.specs.Comes.{Comes}
 use Rattle.whole_runs.specs.Matched.{Moves}
 use Rattle.whole_runs.proofs.Turns.{comes_then}
 use Rattle.ir_typed.specs.Room.{HaveRoom}
 use Rattle.body_states.specs.Sites.{Sites}
-use Rattle.body_states.specs.Programs.{IsMachineMemory, IsProgramImage}
+use Rattle.body_states.specs.Programs.{HasProgram, IsMachineMemory, IsProgramImage}
 use Rattle.body_states.specs.Bodies.{turns_left, Begins}
-use Rattle.body_states.proofs.QuietTurns.{quiet_here, reaches_quietly}
+use Rattle.body_states.proofs.QuietTurns.{quiet_here, reaches_quietly, program_reaches}
+use Rattle.body_steps.specs.Views.{counts_of}
 use Rattle.body_steps.specs.Stores.{with_values, OwnerHasFrame}
 use Rattle.body_steps.proofs.Activations.{locals_count}
 use Rattle.body_steps.proofs.Activated.{same_activations}
 use Rattle.body_steps.proofs.Viewed.{IsCounted, placed, room_here, holds_here, locals_here}
 use Rattle.body_steps.proofs.Reaching.{Keeps, keeps_then, reaches_keeps, stays_sane}
 use Rattle.body_steps.proofs.Next.{Ran, begins_next}
-use Rattle.body_steps.proofs.Running.{frame, slots, has_slots, quiet_at, Surroundings}
+use Rattle.body_steps.proofs.Shadowed.{kept_by_rest, caller_here, beyond_here, stands_here, stands_after, ends_at, ends_gives, IsPast, one_piece, past_ends}
+use Rattle.body_steps.proofs.Running.{frame, slots, has_slots, quiet_at, dropped, Surroundings}
 use Rattle.body_steps.proofs.Written.{one_more}
 use Rattle.body_steps.proofs.Plain.{label_small}
 use Rattle.body_steps.proofs.Computing.{leaves_stored}
-use Rattle.turn_steps.proofs.Pushed.{keeps_above, sp_saved}
+use Rattle.turn_steps.proofs.Asking.{clear_size}
+use Rattle.turn_steps.proofs.Pushed.{keeps_above, sp_there as returned_sp, sp_saved}
 use Rattle.turn_steps.proofs.Elsewhere.{elsewhere, source_elsewhere, begins_elsewhere, same_activations as same_acts, same_code}
-use Rattle.turn_steps.proofs.Reached.{sp, given, back, at_service, flags_there, low, top, many, next_is, back_small, reaches, comes_there, live_there, code_after}
+use Rattle.turn_steps.proofs.Reached.{sp, given, back, at_service, flags_there, low, top, many, next_is, back_small, reaches, comes_there, live_there, returns, code_after}
+use Rattle.turn_steps.proofs.ServiceShadow.{stands_elsewhere, service_keeps, set_back}
 
 -- numbers of 64 bits, with another of 64 bits among them
 small_set : (xs : List ℕ) (i v : ℕ) → AreSmall xs → v < 2 ^ 64 → AreSmall (set xs i v)
 small_set [] i v h lt = tt
 small_set (x ∷ xs) zero v h lt = (lt, h.1)
 small_set (x ∷ xs) (suc i) v h lt = (h.0, small_set xs i v h.1 lt)
+
+-- of registers by their numbers from 3 on, RSP is set back, and R8 and R9 were arguments
+saved_kept : (xs : List ℕ) (third fourth low sp old : ℕ) → get_or (set (set (set (set xs 5 third) 6 fourth) 1 low) 1 sp) 1 0 ≡ old → old ≡ slice_index xs 1 → kept_of (0 ∷ 0 ∷ 0 ∷ set (set (set (set xs 5 third) 6 fourth) 1 low) 1 sp) ≡ kept_of (0 ∷ 0 ∷ 0 ∷ xs)
+saved_kept xs third fourth low sp old back was =
+    let all = set (set (set (set xs 5 third) 6 fourth) 1 low) 1 sp in
+    let same = λ (k : ℕ) (a : 1 ≡ k → ⊥) (b : 5 ≡ k → ⊥) (c : 6 ≡ k → ⊥).
+    index_other (set (set (set xs 5 third) 6 fourth) 1 low) 1 k sp a ∙ index_other (set (set xs 5 third) 6 fourth) 1 k low a ∙ index_other (set xs 5 third) 6 k fourth c ∙ index_other xs 5 k third b in
+    let rsp = back ∙ was in
+    let at = λ (k : ℕ) (h : (k < 1) ⊎ ((1 < k) × (k < 5)) ⊎ (6 < k)). same k (λ e. absurd (elim h [ inl l ↦ omega arith | inr (inl l) ↦ (let z = l.0 in omega arith) | inr (inr l) ↦ omega arith ]))
+    (λ e. absurd (elim h [ inl l ↦ omega arith | inr (inl l) ↦ (let z = l.1 in omega arith) | inr (inr l) ↦ omega arith ]))
+    (λ e. absurd (elim h [ inl l ↦ omega arith | inr (inl l) ↦ (let z = l.1 in omega arith) | inr (inr l) ↦ omega arith ])) in
+    λ j. rsp j ∷ at 0 (inl (omega arith)) j ∷ at 2 (inr (inl (omega arith, omega arith))) j ∷ at 3 (inr (inl (omega arith, omega arith))) j ∷ at 4 (inr (inl (omega arith, omega arith))) j ∷ at 9 (inr (inr (omega arith))) j ∷ at 10 (inr (inr (omega arith))) j ∷ at 11 (inr (inr (omega arith))) j ∷ at 12 (inr (inr (omega arith))) j ∷ []
 
 nothing : (landed : Option ℕ) (code : ℕ) → landed ≡ None → landed ≡ Some code → ⊥
 nothing landed code e h = let z : ◌≡◌ {A = Option ℕ} None (Some code) = sym e ∙ h in cc
@@ -141,7 +165,7 @@ module _ (t : Functions) (fs : List Funclet) (program : LinearProgram) (p : Plan
       unfolding begins
       is_body = same_code t fs program p q image s c b counted framed m source keeps_all memory
 
-      at_earlier : slice_get body.code c.frame.next ≡ Some (instructions.CallBuiltIn f first)
+      pub at_earlier : slice_get body.code c.frame.next ≡ Some (instructions.CallBuiltIn f first)
       at_earlier = subst (λ (o : LinearBody). slice_get o.code c.frame.next ≡ Some (instructions.CallBuiltIn f first)) is_body at
 
       inside : c.frame.next + 1 < length body.code
@@ -243,14 +267,81 @@ module _ (t : Functions) (fs : List Funclet) (program : LinearProgram) (p : Plan
       pub quiet_back : arrivals u.cpu (distance t.base u.cpu.rip) 1 fs ≡ []
       quiet_back = quiet_here t fs program p q image u run.comes.0 u.cpu run.comes.1 memory.code
 
+      -- RSP and the nonvolatile registers are those of the body before the call
+      kept_back : kept_of u.cpu.registers ≡ kept_of s.cpu.registers
+      kept_back = saved_kept (drop 3 s.cpu.registers) _ _ (called_from - 8) sp_after called_from (sp_is x m) (sym (dropped s.cpu.registers)) ∙ kept_by_rest (drop 3 s.cpu.registers) s.cpu.registers refl
+
+      -- up to where the service returns to
+      abbrev pub call_code : List Instr
+      call_code = clear_result ∷ begin_call (p.layout c.frame.body) first (p.address c.frame.body c.frame.next + 5) (q.thunk f)
+
+      back_is : to ≡ p.address c.frame.body c.frame.next + sizes call_code
+      back_is =
+          let n = clear_size in
+          let place = p.address c.frame.body c.frame.next + 5 in
+          let back = return_at (p.layout c.frame.body) first place in
+          let five = call_size back (q.thunk f) in
+          omega (arith, b.rip, sizes_append (arguments_code (p.layout c.frame.body) first) (call back (q.thunk f) ∷ []))
+
+      pub past_call : IsPast t fs program p q image earlier calling begins counted (instructions.CallBuiltIn f first) at_earlier (λ h. h) call_code u
+      past_call = record { rip = back_is; registers = kept_back; stands = stands_here t fs program p q image earlier calling begins counted }
+
+      -- the code that keeps the result keeps the shadow
+      keeps_shadow : AllKeep t fs 1 u
+      keeps_shadow =
+          let r = room_slots in
+          let i = instructions.CallBuiltIn f first in
+          let room = room_here t fs program p q image earlier calling begins counted in
+          let kept = ap (λ (rest : List ℕ). kept_of (0 ∷ 0 ∷ 0 ∷ rest)) run.rest ∙ kept_back in
+          let ends = ends_at t fs program p q image earlier calling begins counted after (c.frame.next + 1) rip_is inside kept
+          (stands_after t fs program p q image earlier calling begins counted after d values ts ran around_earlier.caller around_earlier.owner) in
+          one_piece t fs program p q image earlier calling begins counted i at_earlier (λ h. h) call_code after_code u refl
+          (keep_flow (p.layout c.frame.body) (counts_of body) (register earlier.cpu Rsp) (placed t fs program p q image earlier calling begins counted).base room (Temporary first) (omega arith))
+          past_call after run.comes ends
+
+      -- and so does the service's own turn
+      program_there : HasProgram t fs program p q memory_there
+      program_there = program_reaches t fs program p q 7 s there (reaches t fs program p q image roomy s c b counted f first at) b.memory.code
+
+      keeps_there : KeepsStack s.memory memory_there called_from
+      keeps_there = record { bytes = λ a l h. above.above a l; protection = λ a l h. refl; code = λ a e. (above.code a e, refl); no_more_code = λ a e. e }
+
+      abbrev caller : Context
+      caller = caller_here t fs program p q image s c b counted
+
+      abbrev callers : List Context
+      callers = beyond_here t fs program p q image s c b counted
+
+      gives_by : (n : Memory) → KeepsStack s.memory n called_from → HasProgram t fs program p q n → WalkGives t (record { cpu = u.cpu; memory = n }) (caller ∷ callers)
+      gives_by n same has =
+          let x : State = record { cpu = u.cpu; memory = n } in
+          ends_gives t fs program p q image s c b counted x
+          (past_ends t fs program p q image s c b counted (instructions.CallBuiltIn f first) at (λ h. h) call_code after_code x refl (omega arith)
+          (record { rip = back_is; registers = kept_back; stands = stands_elsewhere t fs program p q image s c b counted n same has }))
+
+      sp_there : register there.cpu Rsp ≡ called_from - 8
+      sp_there =
+          returned_sp with_given called_from to (let l = low t fs program p q image roomy s c b counted f first at in omega arith) (top t fs program p q image roomy s c b counted f first at) b.memory.data_alone b.memory.stack there.cpu.rip there.cpu.flags
+          (back_small t fs program p q image roomy s c b counted f first at) (many t fs program p q image roomy s c b counted f first at)
+
+      pub keeps_served : KeepsShadow t fs there u
+      keeps_served =
+          let l = low t fs program p q image roomy s c b counted f first at in
+          let h = top t fs program p q image roomy s c b counted f first at in
+          let z = sp_there in
+          let e : register u.cpu Rsp ≡ called_from = sp_is x m in
+          let up : called_from ≡ register there.cpu Rsp + 0 + 8 = omega arith in
+          let same = ap (λ (ks : List ℕ). let k : Context = record { rip = to; kept = ks } in k) (set_back (set with_given.rest 1 (called_from - 8)) sp_after (register there.cpu Rsp + 0 + 8) (e ∙ up)) in
+          service_keeps t fs program p q image f there u to caller callers refl (returns t fs program p q image roomy s c b counted f first at) (omega arith) same (gives_by memory_there keeps_there program_there) (gives_by m keeps_all memory.code) (omega arith) (omega arith) quiet_back
+
       comes_after : Comes t fs 1 u [] after
-      comes_after = reaches_quietly t fs program p q image 1 u after run.comes memory.code (quiet_at t fs program p q image roomy earlier calling begins counted (c.frame.next + 1) rip rip_is inside rip_small after refl)
+      comes_after = reaches_quietly t fs program p q image 1 u after run.comes keeps_shadow memory.code (quiet_at t fs program p q image roomy earlier calling begins counted (c.frame.next + 1) rip rip_is inside rip_small after refl)
 
       -- a service that shows these events
       pub served : (shown : List Event) → turn t fs there ≡ Continues u shown → events ≡ c.events ++ shown → ((next : Next) → act program (instructions.CallBuiltIn f first) next c ≡ next (answered x source events))
           → Moves t fs program 16 turns_left (Begins t fs program p q) s c (instructions.CallBuiltIn f first)
       served shown turns all acts =
-          let one : Comes t fs 1 there shown u = record { live = live_there t fs program p q image roomy s c b counted f first at; state = u; first = shown; others = []; turns = turns; whole = sym (append-nil shown); rest = (refl, refl) } in
+          let one : Comes t fs 1 there shown u = record { live = live_there t fs program p q image roomy s c b counted f first at; state = u; first = shown; others = []; turns = turns; shadow = keeps_served; whole = sym (append-nil shown); rest = (refl, refl) } in
           let more = one_more c.frame.temporaries (Temporary first) x fits in
           record {
             turns = 7 + (1 + 1);

@@ -3,15 +3,19 @@ use Rattle.std.specs.Prelude.{◌≡◌, ◌⊎◌, ℕ, ◌+◌, ◌≤◌, fal
 use Rattle.seh_num.specs.declared.event.Code.{Code}
 use Rattle.seh_num.specs.declared.event.Event.{Event}
 use Rattle.seh_num.specs.declared.end.RunEnd.TheVariants as ends
-use Rattle.x64_machine.specs.Effect.{State}
-use Rattle.virtual_unwind.specs.CallerOf.{Functions}
+use Rattle.x64_instr.specs.declared.register.Reg.TheVariants.{Rsp}
+use Rattle.x64_machine.specs.declared.context.Context.{Context}
+use Rattle.x64_machine.specs.Effect.{State, register}
+use Rattle.virtual_unwind.specs.CallerOf.{Functions, distance}
 use Rattle.host_model.specs.declared.funclet.Funclet.{Funclet}
 use Rattle.host_model.specs.Turns.{Turn, Continues, Ends}
+use Rattle.host_model.specs.Funclets.{arrivals}
 use Rattle.c_model.specs.declared.ended.Ended.TheVariants as source
 use Rattle.linear_code.specs.Program.{LinearProgram}
 use Rattle.linear_machine.specs.Frames.{Item, Waits, Searches, Unwinds, Store, Configuration, Seen, Finished, Next, deeper}
 use Rattle.linked_stack.specs.ImagePlan.{Plan}
 use Rattle.linked_stack.specs.States.{IsSane}
+use Rattle.whole_runs.specs.Shadow.{drop_below, started, WalkGives, KeepsShadow}
 use Rattle.whole_runs.proofs.Matches.{LeadsTo}
 use Rattle.body_states.specs.Sites.{Sites}
 use Rattle.body_states.specs.Programs.{WorksAgain, IsMachineMemory}
@@ -43,8 +47,12 @@ module _ (t : Functions) (fs : List Funclet) (program : LinearProgram) (p : Plan
   abbrev pub Stands : State → Configuration → Type 0
   Stands s c = Begins t fs program p q s c ⊎ WorksOn s c
 
+  -- what the walk gives after it, of the callers before it
+  abbrev pub WalkGoesOn : List Context → State → List Event → Type 0
+  WalkGoesOn shadow u es = WalkGives t u (drop_below (register u.cpu Rsp) (started u es shadow))
+
   -- after these events it comes to a body that goes on, in a configuration with no more than so many turns left
-  pub record GoesOn (turn : Turn) (seen : Next → Seen) (es : List Event) (left : ℕ) : Type 0 where
+  pub record GoesOn (turn : Turn) (seen : Next → Seen) (es : List Event) (left : ℕ) (shadow : List Context) : Type 0 where
     pub state : State
     pub events : List Event
     pub turns : turn ≡ Continues state events
@@ -52,10 +60,12 @@ module _ (t : Functions) (fs : List Funclet) (program : LinearProgram) (p : Plan
     pub few : turns_left configuration ≤ left
     pub acts : (next : Next) → seen next ≡ next configuration
     pub shown : configuration.events ≡ es ++ events
+    pub quiet : arrivals state.cpu (distance t.base state.cpu.rip) 1 fs ≡ []
+    pub walk : WalkGoesOn shadow state []
     pub leads : IsKnown program configuration → LeadsTo t fs entry_turns Stands state configuration
 
   -- or to a funclet, which begins unless the depth would be too great
-  pub record EntersFunclet (turn : Turn) (seen : Next → Seen) (es : List Event) (left : ℕ) : Type 0 where
+  pub record EntersFunclet (turn : Turn) (seen : Next → Seen) (es : List Event) (left : ℕ) (shadow : List Context) : Type 0 where
     pub state : State
     pub event : Event
     pub turns : turn ≡ Continues state (event ∷ [])
@@ -66,6 +76,8 @@ module _ (t : Functions) (fs : List Funclet) (program : LinearProgram) (p : Plan
     pub few : nat_lt 1000 (length store.activations + held + more) ≡ false → turns_left configuration ≤ left
     pub acts : (next : Next) → seen next ≡ deeper more held store es (next configuration)
     pub shown : configuration.events ≡ es ++ event ∷ []
+    pub arrives : arrivals state.cpu (distance t.base state.cpu.rip) 1 fs ≡ event ∷ []
+    pub walk : WalkGoesOn shadow state (event ∷ [])
     pub leads : nat_lt 1000 (length store.activations + held + more) ≡ false → IsKnown program configuration → LeadsTo t fs entry_turns Stands state configuration
 
   -- or nobody handles the exception
@@ -74,11 +86,15 @@ module _ (t : Functions) (fs : List Funclet) (program : LinearProgram) (p : Plan
     pub turns : turn ≡ Ends [] (ends.Unhandled code)
     pub acts : (next : Next) → seen next ≡ Finished (source.Unhandled code) es
 
-  abbrev pub Outcome : Turn → (Next → Seen) → List Event → ℕ → Type 0
-  Outcome turn seen es left = GoesOn turn seen es left ⊎ (EntersFunclet turn seen es left ⊎ EndsRun turn seen es)
+  abbrev pub Outcome : Turn → (Next → Seen) → List Event → ℕ → List Context → Type 0
+  Outcome turn seen es left shadow = GoesOn turn seen es left shadow ⊎ (EntersFunclet turn seen es left shadow ⊎ EndsRun turn seen es)
 
   -- a turn shows some events before those of its outcome
-  pub record Shows (turn : Turn) (before : List Event) (seen : Next → Seen) (es : List Event) (left : ℕ) : Type 0 where
+  pub record Shows (turn : Turn) (before : List Event) (seen : Next → Seen) (es : List Event) (left : ℕ) (shadow : List Context) : Type 0 where
     pub further : Turn
     pub turns : turn ≡ with_events before further
-    pub outcome : Outcome further seen (es ++ before) left
+    pub outcome : Outcome further seen (es ++ before) left shadow
+
+  -- a turn from here keeps the shadow where the walk goes on with these callers
+  abbrev pub KeepsWith : State → List Context → Type 0
+  KeepsWith s shadow = (u : State) (es : List Event) → arrivals u.cpu (distance t.base u.cpu.rip) 1 fs ≡ es → WalkGoesOn shadow u es → KeepsShadow t fs s u

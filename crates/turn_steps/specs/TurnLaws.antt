@@ -30,6 +30,7 @@ use Rattle.whole_runs.specs.Comes.{Comes}
 use Rattle.whole_runs.specs.Ends.{HasRule}
 use Rattle.whole_runs.specs.Matched.{IsMatched}
 use Rattle.body_states.specs.Sites.{Sites}
+use Rattle.body_states.specs.Callers.{callers}
 use Rattle.body_states.specs.Programs.{IsMachineMemory, IsProgramImage}
 use Rattle.body_states.specs.Bodies.{turns_left}
 use Rattle.body_steps.specs.Known.{KnownNext}
@@ -75,7 +76,7 @@ RaisesAreShown =
     → AsksHost t fs program p s saved is (Waits c.frame ∷ c.below) acts → IsMachineMemory t fs program p q s.memory c.store.memory → c.store.activations ≡ locals_of acts
     → (code : Code) (flags : ℕ) (access : Option (Bool × ℕ)) (exception : Exception) (resumption : Resumption)
     → IsException code flags access exception → p.resumes resumption c.frame saved ≡ true → HasRule (raise program (exec program zero) exception resumption c)
-    → Shows t fs program p q (arrived t fs (raised t s code flags access saved)) (raise_event exception ∷ []) (λ next. raise program next exception resumption c) c.events (turns_left c)
+    → Shows t fs program p q (arrived t fs (raised t s code flags access saved)) (raise_event exception ∷ []) (λ next. raise program next exception resumption c) c.events (turns_left c) (callers (context_of saved) is)
 
 -- and a local unwind does what linear code does
 abbrev pub LocalUnwindsAreShown : Type 0
@@ -86,4 +87,4 @@ LocalUnwindsAreShown =
     → AsksHost t fs program p s saved is (Waits c.frame ∷ c.below) acts → IsMachineMemory t fs program p q s.memory c.store.memory → c.store.activations ≡ locals_of acts
     → (frame address label : ℕ) → frame < 2 ^ 64 → address < 2 ^ 64 → Aimed t fs program p (length c.below) label frame address (context_of saved) is (Waits c.frame ∷ c.below)
     → HasRule (local_unwind program (exec program zero) label c) → AreClear (Waits c.frame ∷ c.below)
-    → Shows t fs program p q (arrived t fs (unwound_locally t s frame address saved)) [] (λ next. local_unwind program next label c) c.events (turns_left c)
+    → Shows t fs program p q (arrived t fs (unwound_locally t s frame address saved)) [] (λ next. local_unwind program next label c) c.events (turns_left c) (callers (context_of saved) is)

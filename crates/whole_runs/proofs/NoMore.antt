@@ -54,7 +54,8 @@ ended_as meant x events e same shows ends =
       ends = λ f h. (ends ∙ sym (ap (λ (y : machines.Shown). y.end) same) ∙ h, all);
     }
 
-not_wild : (end : Ended) (events : List Event) → is_calm (Some end) ≡ false → IsCalm (Finished end events) → ⊥
+-- what ends so is not calm
+pub not_wild : (end : Ended) (events : List Event) → is_calm (Some end) ≡ false → IsCalm (Finished end events) → ⊥
 not_wild end events wild calm = let no : false ≡ true = sym wild ∙ calm.calm in absurd cc
 
 module _ (t : Functions) (fs : List Funclet) where

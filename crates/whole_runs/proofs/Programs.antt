@@ -25,7 +25,7 @@ no_more t fs program pace credit m n s c follows calm fewer = runs_show_no_more 
 
 module _ (t : Functions) (fs : List Funclet) (program : LinearProgram) (pace : ℕ) (credit : Configuration → ℕ) (arg : ℤ) (first n : ℕ) (s : State) (b : Begins t fs program pace credit arg first s n) where
   -- the run of linear code
-  from_main : seen program arg n ≡ exec program n (start program arg b.main)
+  pub from_main : seen program arg n ≡ exec program n (start program arg b.main)
   unfolding with_some
   from_main = ap (λ (o : Option LinearFunction). with_some [] o (λ main. exec program n (start program arg main))) b.is_main
 

@@ -15,6 +15,7 @@ use Rattle.host_model.specs.Turns.{Continues, Ends}
 use Rattle.host_model.specs.Funclets.{arrivals, arrived}
 use Rattle.host_model.specs.HostStep.{Ended, over, host, turned, turn, end_of}
 use Rattle.host_model.specs.Machine.{or_turn, continued_by, run}
+use Rattle.whole_runs.specs.Shadow.{KeepsShadow}
 use Rattle.whole_runs.specs.Comes.{IsLive, Comes}
 
 module _ (t : Functions) (fs : List Funclet) where
@@ -23,13 +24,13 @@ module _ (t : Functions) (fs : List Funclet) where
   pub comes_nowhere : (s : State) → Comes t fs 0 s [] s
   comes_nowhere s = (refl, refl)
 
-  pub comes_one : (s u : State) (events : List Event) → IsLive s → turn t fs s ≡ Continues u events → Comes t fs 1 s events u
-  comes_one s u events live e = record { live = live; state = u; first = events; others = []; turns = e; whole = sym (append-nil events); rest = (refl, refl) }
+  pub comes_one : (s u : State) (events : List Event) → IsLive s → turn t fs s ≡ Continues u events → KeepsShadow t fs s u → Comes t fs 1 s events u
+  comes_one s u events live e keeps = record { live = live; state = u; first = events; others = []; turns = e; shadow = keeps; whole = sym (append-nil events); rest = (refl, refl) }
 
   -- an instruction that is run, with the event of the funclet at which RIP arrives, if it does
-  pub comes_by_step : (s u : State) → IsLive s → step s ≡ Ok u → Comes t fs 1 s (arrivals u.cpu (distance t.base u.cpu.rip) 1 fs) u
+  pub comes_by_step : (s u : State) → IsLive s → step s ≡ Ok u → KeepsShadow t fs s u → Comes t fs 1 s (arrivals u.cpu (distance t.base u.cpu.rip) 1 fs) u
   unfolding turn
-  comes_by_step s u live e = comes_one s u (arrivals u.cpu (distance t.base u.cpu.rip) 1 fs) live (ap (λ x. arrived t fs (turned t s x)) e)
+  comes_by_step s u live e keeps = comes_one s u (arrivals u.cpu (distance t.base u.cpu.rip) 1 fs) live (ap (λ x. arrived t fs (turned t s x)) e) keeps
 
   pub comes_then : (k n : ℕ) (s u w : State) (a b : List Event) → Comes t fs k s a u → Comes t fs n u b w → Comes t fs (k + n) s (a ++ b) w
   comes_then zero n s u w a b r q =
@@ -43,6 +44,7 @@ module _ (t : Functions) (fs : List Funclet) where
         first = r.first;
         others = r.others ++ b;
         turns = r.turns;
+        shadow = r.shadow;
         whole = ap (λ (x : List Event). x ++ b) r.whole ∙ append_assoc r.first r.others b;
         rest = comes_then k n r.state u w r.others b r.rest q;
       })

@@ -6,18 +6,20 @@ use Rattle.virtual_unwind.specs.CallerOf.{Functions}
 use Rattle.host_model.specs.declared.funclet.Funclet.{Funclet}
 use Rattle.host_model.specs.Turns.{Continues}
 use Rattle.host_model.specs.HostStep.{turn}
+use Rattle.whole_runs.specs.Shadow.{KeepsShadow}
 
 -- a run has not ended in this state
 abbrev pub IsLive : State → Type 0
 IsLive s = (s.cpu.rip == 0) ≡ false
 
--- a live state makes a turn, which shows the first of these events; the rest comes after it
+-- a live state makes a turn, which shows the first of these events and keeps the shadow; the rest comes after it
 pub record Turns (t : Functions) (fs : List Funclet) (s : State) (events : List Event) (Rest : List Event → State → Type 0) : Type 0 where
   pub live : IsLive s
   pub state : State
   pub first : List Event
   pub others : List Event
   pub turns : turn t fs s ≡ Continues state first
+  pub shadow : KeepsShadow t fs s state
   pub whole : events ≡ first ++ others
   pub rest : Rest others state
 

@@ -1,6 +1,7 @@
 -- What whole runs show.
-use Rattle.std.specs.Prelude.{◌≡◌, ℕ, ◌+◌, ◌*◌, ◌≤◌, List, [], slice_get, ℤ, Some}
+use Rattle.std.specs.Prelude.{◌≡◌, ℕ, ◌+◌, ◌*◌, ◌≤◌, List, [], slice_get, ℤ, Some, None}
 use Rattle.seh_num.specs.declared.end.RunEnd.{RunEnd}
+use Rattle.x64_machine.specs.declared.context.Context.{Context}
 use Rattle.x64_machine.specs.Effect.{State}
 use Rattle.virtual_unwind.specs.CallerOf.{Functions}
 use Rattle.host_model.specs.declared.funclet.Funclet.{Funclet}
@@ -13,6 +14,8 @@ use Rattle.c_model.specs.Laws.{IsPrefixOf}
 use Rattle.linear_code.specs.Program.{LinearProgram, LinearFunction}
 use Rattle.linear_machine.specs.Frames.{Configuration}
 use Rattle.linear_machine.specs.Run.{exec, start, seen, shown, linear_meaning}
+use Rattle.whole_runs.specs.Shadow.{WalkGives}
+use Rattle.whole_runs.specs.Shadowed.{WalkGivesShadow}
 use Rattle.whole_runs.specs.Comes.{Comes}
 use Rattle.whole_runs.specs.Ends.{run_end_of, HasRule, IsCalm}
 use Rattle.whole_runs.specs.Matched.{Follows}
@@ -68,6 +71,15 @@ ProgramsShowNoMore =
     (arg : ℤ) (first m n : ℕ) (s : State)
     → Begins t fs program pace credit arg first s n → IsCalm (seen program arg n) → m ≤ n
     → ShowsNoMore (linear_meaning program arg n) (run t fs m (host s) [])
+
+-- where the walk gives these callers in the first state, it gives the shadow after each number of turns, up to an end; as long as the program's steps are calm
+abbrev pub ProgramsWalkTheShadow : Type 0
+ProgramsWalkTheShadow =
+    (t : Functions) (fs : List Funclet) (program : LinearProgram) (pace : ℕ) (credit : Configuration → ℕ)
+    (arg : ℤ) (first m n : ℕ) (s : State) (cs : List Context)
+    → Begins t fs program pace credit arg first s n → IsCalm (seen program arg n) → m ≤ n
+    → WalkGives t s cs → (run t fs m (host s) []).end ≡ None
+    → WalkGivesShadow t fs m s cs
 
 -- linear code makes at most 16 turns for each step of a program, and 2 more: where the machine makes at most 16 for each of these, and 224 before them, it makes at most 256 for each step of the program, and as many again
 abbrev pub TurnsAreEnough : Type 0

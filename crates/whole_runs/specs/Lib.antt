@@ -1,3 +1,6 @@
+pub mod Walked
+pub mod Shadow
+pub mod Shadowed
 pub mod Comes
 pub mod Ends
 pub mod Matched

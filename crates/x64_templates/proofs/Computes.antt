@@ -190,6 +190,22 @@ finish_run p o to v at f b x y room is lx ly waits sp h code =
     finish_by p o to v at f b (performed p.reserved o x y b.memory) room is sp h code
     (subst (λ c. Implements p.reserved (work o) v (performed p.reserved o c y b.memory)) ex (subst (λ c. Implements p.reserved (work o) v (performed p.reserved o v.rax c b.memory)) ey w))
 
+-- an operation that gives a number has been made: the number is in RAX, and not yet in its slot
+pub record Worked (p : Frame) (o : Operation) (v : MachineView) (at : ℕ) (f : Flags) (x : ℕ) (source : Memory) : Type 0 where
+  pub result : LeavesResult p.reserved (work o) v x source
+  pub left : Flags
+  pub comes : Reaches (length (work o)) (machine v at f) (machine (record { rax = x; rcx = result.yields.rcx; rdx = result.yields.rdx; rest = v.rest; memory = result.after }) (at + sizes (work o)) left)
+
+pub work_run : (p : Frame) (o : Operation) (v : MachineView) (at : ℕ) (f : Flags) (b : BodyState) (x y value : ℕ) (source : Memory) → x < 2 ^ 64 → y < 2 ^ 64 → HasOperands o x y v → Holds p v.memory b → HasCode v.memory at (work o) → performed p.reserved o x y b.memory ≡ Gives value source → Worked p o v at f value source
+work_run p o v at f b x y value source lx ly waits h code gives =
+    let ex = waits.first in
+    let ey = waits.second in
+    let w = works p.reserved o v b.memory (omega arith) (omega arith) waits.ready h.source in
+    let l : LeavesResult p.reserved (work o) v value source =
+    subst (Implements p.reserved (work o) v) gives (subst (λ c. Implements p.reserved (work o) v (performed p.reserved o c y b.memory)) ex (subst (λ c. Implements p.reserved (work o) v (performed p.reserved o v.rax c b.memory)) ey w)) in
+    let r = runs_view (work o) v (record { rax = value; rcx = l.yields.rcx; rdx = l.yields.rdx; rest = v.rest; memory = l.after }) at f (work_fine o) code l.yields.does in
+    record { result = l; left = r.left; comes = r.comes }
+
 -- ---- a whole operation
 
 pub follows_after : (p : Frame) (m n : ℕ) (s t : State) (to : ℕ) (others : List ℕ) (b : BodyState) → Reaches m s t → ◌≡◌ {A = Memory} t.memory s.memory → ReachesBody p n t to others b → ReachesBody p (m + n) s to others b

@@ -67,7 +67,7 @@ field_does (ExceptionInformation k) v e x is lt r =
     subst (λ y. Executes (field_load (ExceptionInformation k) ∷ []) v (put true v y)) q
     (loads_long ((v.rax + 0 + (32 + 8 * k)) % 2 ^ 64) v (e + (32 + 8 * k)) x (field_load (ExceptionInformation k)) (λ rip f. refl) (omega arith) r lt)
 
-field_fine : (field : Field) → IsField field → Fine (field_load field ∷ [])
+pub field_fine : (field : Field) → IsField field → Fine (field_load field ∷ [])
 field_fine ExceptionCode is = (refl, refl, refl, tt)
 field_fine ExceptionFlags is = (refl, refl, refl, tt)
 field_fine NumberParameters is = (refl, refl, refl, tt)

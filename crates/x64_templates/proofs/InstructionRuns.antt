@@ -45,7 +45,6 @@ compute_some y to o first second = let k = keep_some y to in omega (arith, lengt
 compute_done : (p : Frame) (k : Links) (to : Slot) (o : Operation) (first second : Slot) (v : MachineView) (here : ℕ) (f : Flags) (b : BodyState) (outcome : Outcome) → Computed p to o first second v here f b (kept to b.slots outcome) → InstructionDone p k v here f b (instructions.Compute to o first second) (kept to b.slots outcome)
 compute_done p k to o first second v here f b (Gives x m) g =
     record {
-      turns = length (compute_code p.layout to o first second);
       least = compute_some p.layout to o first second;
       most = let l = compute_length p.layout to o first second in omega arith;
       follows = subst (λ n. ReachesBody p (length (compute_code p.layout to o first second)) (machine v here f) (here + n) v.rest (record { slots = with_slot b.slots to x; memory = m })) (template_sizes nowhere p.layout here (instructions.Compute to o first second)) g;
@@ -57,7 +56,6 @@ branch_done : (p : Frame) (k : Links) (slot : Slot) (label : ℕ) (v : MachineVi
 branch_done p k slot label v here f b true g =
     let l = fetch_length p.layout Rax slot in
     record {
-      turns = length (jump_if_zero_code p.layout slot here (k.label label));
       least = omega (arith, length-append (fetch p.layout Rax slot) (compare_zero ∷ jump_equal (here + sizes (test_code p.layout slot) + 6) (k.label label) ∷ []));
       most = omega (arith, length-append (fetch p.layout Rax slot) (compare_zero ∷ jump_equal (here + sizes (test_code p.layout slot) + 6) (k.label label) ∷ []));
       follows = g;
@@ -67,7 +65,6 @@ branch_done p k slot label v here f b false g =
     let e : sizes (test_code p.layout slot) + 6 ≡ template_size p.layout (instructions.JumpIfZero slot label) = sym (jump_if_zero_size p.layout slot here (k.label label)) ∙ template_sizes k p.layout here (instructions.JumpIfZero slot label) in
     let z : here + sizes (test_code p.layout slot) + 6 ≡ here + template_size p.layout (instructions.JumpIfZero slot label) = omega arith in
     record {
-      turns = length (jump_if_zero_code p.layout slot here (k.label label));
       least = omega (arith, length-append (fetch p.layout Rax slot) (compare_zero ∷ jump_equal (here + sizes (test_code p.layout slot) + 6) (k.label label) ∷ []));
       most = omega (arith, length-append (fetch p.layout Rax slot) (compare_zero ∷ jump_equal (here + sizes (test_code p.layout slot) + 6) (k.label label) ∷ []));
       follows = subst (λ a. ReachesBody p (length (jump_if_zero_code p.layout slot here (k.label label))) (machine v here f) a v.rest b) z g;
@@ -86,13 +83,13 @@ jump_template y here label = refl
 pub instruction_run : (p : Frame) (k : Links) (instruction : Instruction) (v : MachineView) (here : ℕ) (f : Flags) (b : BodyState) → Roomy p → HasSlots p.counts instruction → LabelsNear k p.layout here instruction → sp_of v ≡ p.sp → Holds p v.memory b → HasCode v.memory here (template k p.layout here instruction) → InstructionDone p k v here f b instruction (step p.reserved instruction b)
 instruction_run p k (instructions.Compute to o first second) v here f b room has near at h code = compute_done p k to o first second v here f b (performed p.reserved o (b.slots first) (b.slots second) b.memory) (compute_run p to o first second v here f b room has.0 has.1 has.2 at h code)
 instruction_run p k (instructions.Jump label) v here f b room has near at h code =
-    record { turns = 1; least = omega arith; most = omega arith; follows = jump_run p v here (k.label label) f b (subst (λ a. IsNear a (k.label label)) (sym (jump_template p.layout here label)) near) h code }
+    record { least = omega arith; most = omega arith; follows = jump_run p v here (k.label label) f b (subst (λ a. IsNear a (k.label label)) (sym (jump_template p.layout here label)) near) h code }
 instruction_run p k (instructions.JumpIfZero slot label) v here f b room has near at h code =
     let e : sizes (test_code p.layout slot) + 6 ≡ template_size p.layout (instructions.JumpIfZero slot label) = sym (jump_if_zero_size p.layout slot here (k.label label)) ∙ template_sizes k p.layout here (instructions.JumpIfZero slot label) in
     let z : here + template_size p.layout (instructions.JumpIfZero slot label) ≡ here + sizes (test_code p.layout slot) + 6 = omega arith in
     branch_done p k slot label v here f b (eqb (b.slots slot) 0) (jump_if_zero_comes p slot v here (k.label label) f b (eqb (b.slots slot) 0) refl room has at (subst (λ a. IsNear a (k.label label)) z near) h code)
 instruction_run p k instructions.Separator v here f b room has near at h code =
-    record { turns = 1; least = omega arith; most = omega arith; follows = subst (λ n. ReachesBody p 1 (machine v here f) (here + n) v.rest b) (template_sizes k p.layout here instructions.Separator) (separator_run p v here f b h code) }
+    record { least = omega arith; most = omega arith; follows = subst (λ n. ReachesBody p 1 (machine v here f) (here + n) v.rest b) (template_sizes k p.layout here instructions.Separator) (separator_run p v here f b h code) }
 instruction_run p k (instructions.Information to field) v here f b room has near at h code = tt
 instruction_run p k (instructions.Landing to) v here f b room has near at h code = tt
 instruction_run p k (instructions.Call function first count) v here f b room has near at h code = tt
@@ -103,7 +100,7 @@ instruction_run p k (instructions.Return from) v here f b room has near at h cod
 
 -- ---- inside a body
 
-body_most : (y : Layout) (body : List Instruction) (number : ℕ) → offset_of y body number ≤ body_size y body
+pub body_most : (y : Layout) (body : List Instruction) (number : ℕ) → offset_of y body number ≤ body_size y body
 body_most y [] zero = omega arith
 body_most y [] (suc number) = omega arith
 body_most y (instruction ∷ more) zero = omega arith
@@ -113,7 +110,8 @@ body_most y (instruction ∷ more) (suc number) = let r = body_most y more numbe
 inside : (start n a b : ℕ) → start + n < 2 ^ 48 → n < 2 ^ 31 → a ≤ n → b ≤ n → IsNear (start + a) (start + b)
 inside start n a b high small la lb = (omega arith, omega arith, omega arith, omega arith)
 
-labels_near : (k : Links) (y : Layout) (start : ℕ) (body : List Instruction) (number : ℕ) (instruction : Instruction) → IsBody k y start body → start + body_size y body < 2 ^ 48 → body_size y body < 2 ^ 31 → offset_of y body number + template_size y instruction ≤ body_size y body → LabelsNear k y (start + offset_of y body number) instruction
+-- those of an instruction in a body are
+pub labels_near : (k : Links) (y : Layout) (start : ℕ) (body : List Instruction) (number : ℕ) (instruction : Instruction) → IsBody k y start body → start + body_size y body < 2 ^ 48 → body_size y body < 2 ^ 31 → offset_of y body number + template_size y instruction ≤ body_size y body → LabelsNear k y (start + offset_of y body number) instruction
 labels_near k y start body number (instructions.Jump label) is high small le =
     let near = inside start (body_size y body) (offset_of y body number + template_size y (instructions.Jump label)) (offset_of y body label) high small le (body_most y body label) in
     let z : start + (offset_of y body number + template_size y (instructions.Jump label)) ≡ start + offset_of y body number + template_size y (instructions.Jump label) = omega arith in

@@ -1,6 +1,8 @@
+pub mod Keeping
 pub mod Leaves
 pub mod Registers
 pub mod PlacedCode
+pub mod Chains
 pub mod Straight
 pub mod Compares
 pub mod Pures
@@ -21,6 +23,7 @@ pub mod Unwinds
 pub mod Parameters
 pub mod Funclets
 pub mod Information
+pub mod Flows
 pub mod Entering
 pub mod Stretches
 pub mod Retries

@@ -17,7 +17,7 @@ use Rattle.linear_code.specs.BodyState.{BodyState}
 use Rattle.linear_code.specs.Meaning.{Step, Next, JumpsTo, Faults, ReservedAccess, NeedsDispatcher, step, BodyPoint, continued, run}
 use Rattle.x64_templates.specs.Straight.{MachineView, machine}
 use Rattle.template_code.specs.Bytes.{sizes}
-use Rattle.template_code.specs.Template.{Links, template_size, offset_of, code_from}
+use Rattle.template_code.specs.Template.{Links, template, template_size, offset_of, code_from}
 use Rattle.x64_templates.specs.Frames.{InTemporaries, InLocals}
 use Rattle.x64_templates.specs.Runs.{HasCode, Frame, Roomy, Holds, ChangesOwn, ReachesBody}
 use Rattle.x64_templates.specs.InstructionRuns.{RunsTo, InstructionDone, RunsAllTo, IsLinked}
@@ -83,10 +83,10 @@ nothing_made p v at f b h = record {
   };
 }
 
-made_then : (p : Frame) (n : ℕ) (v : MachineView) (at : ℕ) (f : Flags) (mid to : ℕ) (b c : BodyState) → (g : RunsTo p (machine v at f) mid v.rest b) → RunsAllTo p n (machine g.follows.after mid g.follows.flags) to v.rest c → RunsAllTo p (suc n) (machine v at f) to v.rest c
-made_then p n v at f mid to b c g r =
+made_then : (p : Frame) (m n : ℕ) (v : MachineView) (at : ℕ) (f : Flags) (mid to : ℕ) (b c : BodyState) → (g : RunsTo p m (machine v at f) mid v.rest b) → RunsAllTo p n (machine g.follows.after mid g.follows.flags) to v.rest c → RunsAllTo p (suc n) (machine v at f) to v.rest c
+made_then p m n v at f mid to b c g r =
     let l1 = g.least in let m1 = g.most in let l2 = r.least in let m2 = r.most in
-    record { turns = g.turns + r.turns; least = omega arith; most = omega arith; follows = follows_then p g.turns r.turns (machine v at f) mid to v.rest b c g.follows r.follows }
+    record { turns = m + r.turns; least = omega arith; most = omega arith; follows = follows_then p m r.turns (machine v at f) mid to v.rest b c g.follows r.follows }
 
 -- ---- the body
 
@@ -109,8 +109,9 @@ after_line p k start body n number v f b last c instruction (Next d) rec l at h 
     let y = p.layout in
     let here = start + offset_of y body number in
     let next : here + template_size y instruction ≡ start + offset_of y body (number + 1) = step_to (number + 1) (omega arith) in
-    let g : RunsTo p (machine v here f) (start + offset_of y body (number + 1)) v.rest d = subst (λ a. RunsTo p (machine v here f) a v.rest d) next done in
-    go g e
+    let turns = length (template k y here instruction) in
+    let g : RunsTo p turns (machine v here f) (start + offset_of y body (number + 1)) v.rest d = subst (λ a. RunsTo p turns (machine v here f) a v.rest d) next done in
+    go turns g e
   where
     step_to : (j : ℕ) → j ≡ suc number → start + offset_of p.layout body number + template_size p.layout instruction ≡ start + offset_of p.layout body j
     step_to j q =
@@ -119,14 +120,16 @@ after_line p k start body n number v f b last c instruction (Next d) rec l at h 
         let z : offset_of p.layout body j ≡ offset_of p.layout body (suc number) = ap (offset_of p.layout body) q in
         omega arith
 
-    go : (g : RunsTo p (machine v (start + offset_of p.layout body number) f) (start + offset_of p.layout body (number + 1)) v.rest d) → run p.reserved body n (number + 1) d ≡ Some (last, c) → RunsAllTo p (suc n) (machine v (start + offset_of p.layout body number) f) (start + offset_of p.layout body last) v.rest c
-    go g e = made_then p n v (start + offset_of p.layout body number) f (start + offset_of p.layout body (number + 1)) (start + offset_of p.layout body last) d c g
+    go : (m : ℕ) → (g : RunsTo p m (machine v (start + offset_of p.layout body number) f) (start + offset_of p.layout body (number + 1)) v.rest d) → run p.reserved body n (number + 1) d ≡ Some (last, c) → RunsAllTo p (suc n) (machine v (start + offset_of p.layout body number) f) (start + offset_of p.layout body last) v.rest c
+    go m g e = made_then p m n v (start + offset_of p.layout body number) f (start + offset_of p.layout body (number + 1)) (start + offset_of p.layout body last) d c g
         (subst (λ r. RunsAllTo p n (machine g.follows.after (start + offset_of p.layout body (number + 1)) g.follows.flags) (start + offset_of p.layout body last) r c) g.follows.rest
         (rec (number + 1) g.follows.after g.follows.flags d last c (linked_stays p k v.memory g.follows.after.memory start body b g.follows.changes h l) (ap (λ (r : List ℕ). get_or r 1 0) g.follows.rest ∙ at) g.follows.holds e))
-after_line p k start body n number v f b last c instruction (JumpsTo d label) rec l at h lt is done e = go (subst (λ a. RunsTo p (machine v (start + offset_of p.layout body number) f) a v.rest d) (l.labels label) done) e
+after_line p k start body n number v f b last c instruction (JumpsTo d label) rec l at h lt is done e =
+    let turns = length (template k p.layout (start + offset_of p.layout body number) instruction) in
+    go turns (subst (λ a. RunsTo p turns (machine v (start + offset_of p.layout body number) f) a v.rest d) (l.labels label) done) e
   where
-    go : (g : RunsTo p (machine v (start + offset_of p.layout body number) f) (start + offset_of p.layout body label) v.rest d) → run p.reserved body n label d ≡ Some (last, c) → RunsAllTo p (suc n) (machine v (start + offset_of p.layout body number) f) (start + offset_of p.layout body last) v.rest c
-    go g e = made_then p n v (start + offset_of p.layout body number) f (start + offset_of p.layout body label) (start + offset_of p.layout body last) d c g
+    go : (m : ℕ) → (g : RunsTo p m (machine v (start + offset_of p.layout body number) f) (start + offset_of p.layout body label) v.rest d) → run p.reserved body n label d ≡ Some (last, c) → RunsAllTo p (suc n) (machine v (start + offset_of p.layout body number) f) (start + offset_of p.layout body last) v.rest c
+    go m g e = made_then p m n v (start + offset_of p.layout body number) f (start + offset_of p.layout body label) (start + offset_of p.layout body last) d c g
         (subst (λ r. RunsAllTo p n (machine g.follows.after (start + offset_of p.layout body label) g.follows.flags) (start + offset_of p.layout body last) r c) g.follows.rest
         (rec label g.follows.after g.follows.flags d last c (linked_stays p k v.memory g.follows.after.memory start body b g.follows.changes h l) (ap (λ (r : List ℕ). get_or r 1 0) g.follows.rest ∙ at) g.follows.holds e))
 after_line p k start body n number v f b last c instruction (Faults code access) rec l at h lt is done e = absurd cc

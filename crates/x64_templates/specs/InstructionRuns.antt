@@ -10,20 +10,19 @@ use Rattle.linear_code.specs.Meaning.{Step, Next, JumpsTo, Faults, HasSlots}
 use Rattle.x64_templates.specs.Straight.{MachineView, machine}
 use Rattle.template_code.specs.Bytes.{sizes}
 use Rattle.template_code.specs.Slots.{operands_code}
-use Rattle.template_code.specs.Template.{Links, template_size, body_size, code_from, IsBody}
+use Rattle.template_code.specs.Template.{Links, template, template_size, body_size, code_from, IsBody}
 use Rattle.x64_templates.specs.Runs.{HasCode, Frame, ReachesBody, ReachesFault}
 
--- in 1 to 16 turns the run comes to this address, with this body
-pub record RunsTo (p : Frame) (s : State) (to : ℕ) (others : List ℕ) (b : BodyState) : Type 0 where
-  pub turns : ℕ
+-- in so many turns, 1 to 16, the run comes to this address, with this body
+pub record RunsTo (p : Frame) (turns : ℕ) (s : State) (to : ℕ) (others : List ℕ) (b : BodyState) : Type 0 where
   pub least : 1 ≤ turns
   pub most : turns ≤ 16
   pub follows : ReachesBody p turns s to others b
 
--- by what the instruction means: on to the next one, to a label, or to a fault
+-- by what the instruction means: on to the next one, or to a label, in one turn for each machine instruction of its template, or to a fault
 abbrev pub InstructionDone : Frame → Links → MachineView → ℕ → Flags → BodyState → Instruction → Step → Type 0
-InstructionDone p k v here flags b instruction (Next c) = RunsTo p (machine v here flags) (here + template_size p.layout instruction) v.rest c
-InstructionDone p k v here flags b instruction (JumpsTo c label) = RunsTo p (machine v here flags) (k.label label) v.rest c
+InstructionDone p k v here flags b instruction (Next c) = RunsTo p (length (template k p.layout here instruction)) (machine v here flags) (here + template_size p.layout instruction) v.rest c
+InstructionDone p k v here flags b instruction (JumpsTo c label) = RunsTo p (length (template k p.layout here instruction)) (machine v here flags) (k.label label) v.rest c
 InstructionDone p k v here flags b (instructions.Compute to o first second) (Faults code access) = ReachesFault (length (operands_code p.layout o first second)) v here flags (here + sizes (operands_code p.layout o first second)) o (b.slots first) (b.slots second) code access
 InstructionDone p k v here flags b instruction _ = Unit {0}
 

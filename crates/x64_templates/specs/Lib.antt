@@ -4,6 +4,8 @@ pub mod Placed
 pub mod CallStates
 pub mod Implements
 pub mod Runs
+pub mod Keeping
+pub mod Chains
 pub mod InstructionRuns
 pub mod EntryStates
 pub mod Exceptions

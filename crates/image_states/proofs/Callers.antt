@@ -1,0 +1,350 @@
+-- Where a walk finds the callers of a routine of a linked program.
+use Rattle.std.proofs.Common.{◌≡◌, ℕ, zero, suc, ◌+◌, ◌-◌, ◌^◌, ◌<◌, ◌≤◌, List, [], ◌∷◌, ◌++◌, length, Option, Some, None, refl, sym, ap, subst, ◌∙◌, arith, append_assoc}
+use Rattle.std.specs.Prelude.{slice_get}
+use Rattle.std.specs.List.{AllByRecursion}
+use Rattle.std.proofs.lemmas.Bool.{ne_eqb, lt-ltb, le-ltb, lt-leb}
+use Rattle.std.proofs.lemmas.List.{append-nil}
+use Rattle.flat_memory.specs.Memory.{Memory}
+use Rattle.x64_instr.specs.declared.register.Reg.TheVariants.{Rax}
+use Rattle.x64_instr.specs.declared.instruction.Instr.{Instr}
+use Rattle.x64_instr.specs.declared.instruction.Instr.TheVariants as instrs
+use Rattle.x64_encode.specs.Chosen.{chosen}
+use Rattle.x64_machine.specs.declared.context.Context.{Context}
+use Rattle.eh_tables.specs.Tables.{Entry}
+use Rattle.virtual_unwind.specs.CallerOf.{Functions, distance, entry_of, of_entry, by_distance, in_prologue, run_or, past_prologue}
+use Rattle.virtual_unwind.specs.Tail.{tail_at, left}
+use Rattle.virtual_unwind.specs.Undone.{operations}
+use Rattle.seh_walk.specs.Walk.{framed, filter_return, finally_return}
+use Rattle.frame_rules.specs.Bytes.{Stands}
+use Rattle.frame_rules.proofs.Bytes.{never_empty}
+use Rattle.linear_code.specs.declared.slot.Slot.{Slot}
+use Rattle.linear_code.specs.declared.instruction.Instruction.{Instruction}
+use Rattle.linear_code.specs.declared.instruction.Instruction.TheVariants as instructions
+use Rattle.linear_code.specs.Program.{LinearBody, LinearProgram}
+use Rattle.linear_machine.specs.Frames.{BodyName, body_of}
+use Rattle.frame_layout.specs.declared.frame.Frame.{Frame}
+use Rattle.frame_layout.specs.Layout.{taking_size}
+use Rattle.template_code.specs.declared.layout.Layout.{Layout}
+use Rattle.template_code.specs.Bytes.{spelled, size, sizes}
+use Rattle.template_code.specs.Slots.{fetch}
+use Rattle.template_code.specs.Calls.{epilogue, return_code}
+use Rattle.template_code.specs.Template.{code_from}
+use Rattle.template_code.proofs.Sizes.{sizes_append, template_sizes}
+use Rattle.x64_code.specs.Near.{IsInstructionNear}
+use Rattle.program_link.specs.Near.{IsFrameNear}
+use Rattle.program_link.specs.Text.{argument_code, entry_size, check_stack_at, routine_code}
+use Rattle.program_link.specs.Text as texts
+use Rattle.program_link.proofs.Entries.{entry_sizes, routine_small}
+use Rattle.program_tables.specs.Placed.{Placed, body_begin, end_of, site_of, placed}
+use Rattle.program_tables.specs.Entries as tables
+use Rattle.program_tables.proofs.Lookups.{some_same, none_some}
+use Rattle.program_tables.proofs.Prologues.{prologue_sizes, entry_least}
+use Rattle.program_frames.specs.Standing.{image_base, template_at, links}
+use Rattle.program_frames.proofs.Arguments.{arguments_inner}
+use Rattle.program_frames.proofs.CodeStands.{stands_split, code_split, IsTemplate, template_there}
+use Rattle.program_frames.proofs.Inner.{Inner, AllInner, inner_at, fetch_inner}
+use Rattle.program_frames.proofs.Layouts.{size_of, sized}
+use Rattle.program_frames.proofs.Waiting.{no_epilogue, away, found_in, none_in}
+use Rattle.body_states.specs.Sites.{begin_of, making_size, give_back, code_of}
+use Rattle.body_states.specs.Programs.{HasProgram}
+use Rattle.body_states.specs.Callers.{FindsReturn}
+use Rattle.image_states.specs.Plans.{functions_of, funclets_of, routine_of, plan_of, sites_of}
+use Rattle.image_states.specs.Compiled.{IsCompiled}
+use Rattle.image_states.proofs.Addresses.{place, here}
+use Rattle.image_states.proofs.Entering.{frame_same, code_same}
+use Rattle.image_states.proofs.Framed.{stands_of}
+use Rattle.image_states.proofs.Popping.{by_popping, by_return, by_epilogue, by_frame, at_return, at_epilogue}
+
+-- ---- sizes
+
+item_some : (i : Instr) → Inner i → 0 < size i
+unfolding size
+item_some i inner = never_empty i inner.0
+
+epilogue_some : (n : ℕ) → 0 < sizes (epilogue n)
+unfolding size
+epilogue_some zero = omega arith
+epilogue_some (suc n) = omega arith
+
+near_at : (P : Instruction → Type 0) (is : List Instruction) (number : ℕ) (i : Instruction) → AllByRecursion P is → slice_get is number ≡ Some i → P i
+near_at P [] number i all e = absurd (none_some e)
+near_at P (j ∷ is) zero i all e = subst P (some_same e) all.0
+near_at P (j ∷ is) (suc number) i all e = near_at P is number i all.1 e
+
+-- ---- the routine of a body
+
+module _ (program : LinearProgram) (c : IsCompiled program) (name : BodyName) (b : LinearBody) (is : body_of program name ≡ Some b) (m : Memory) where
+  abbrev x : Placed
+  x = routine_of program name
+
+  abbrev y : Layout
+  y = x.routine.layout
+
+  abbrev t : Functions
+  t = functions_of program
+
+  abbrev index : ℕ
+  index = (place program c name b is).index
+
+  at_index : slice_get (placed program) index ≡ Some x
+  at_index = (place program c name b is).at
+
+  small : (rva : ℕ) → rva < end_of x → rva < 2 ^ 31
+  small rva lt = let h = here program c name b is in let room = h.room in let few = routine_small x.routine h.near in omega arith
+
+  -- ---- without a frame
+
+  pub leaf_at : x.routine.frame ≡ None → (rva : ℕ) → x.begin ≤ rva → rva < end_of x → FindsReturn t m (image_base + rva) 0
+  leaf_at none rva low high =
+      let s = small rva high in
+      by_popping t m (image_base + rva) (omega arith) (λ z. absurd (omega arith)) (λ z. absurd (omega arith))
+      (λ k at. ap (of_entry m k (distance image_base k.rip)) (ap (entry_of t) at ∙ none_in program index x rva c.fits c.ranges at_index none low high (omega arith)))
+
+  -- ---- with one
+
+  module _ (f : Frame) (framed : x.routine.frame ≡ Some f) where
+    abbrev e : Entry
+    e = tables.entry_of (site_of program) x f
+
+    size_is : y.frame ≡ f.size
+    size_is = sized program index x at_index ∙ ap size_of framed
+
+    pub near : IsFrameNear (Some f)
+    near = subst IsFrameNear framed (here program c name b is).near.frame
+
+    least : taking_size f.size ≤ entry_size x.routine
+    least = entry_least x.routine f (here program c name b is).near framed near.0
+
+    entry_here : (rva : ℕ) → x.begin ≤ rva → rva < end_of x → (k : Context) → k.rip ≡ image_base + rva → (entry_of t k.rip ≡ Some e) × (distance image_base k.rip ≡ rva)
+    entry_here rva low high k at =
+        let s = small rva high in
+        (ap (entry_of t) at ∙ found_in program index x f rva c.fits c.ranges at_index framed low high (omega arith), ap (distance image_base) at ∙ away rva (omega arith))
+
+    -- before the frame is made
+    pub making_at : (d : ℕ) → d < taking_size f.size → FindsReturn t m (image_base + (x.begin + d)) 0
+    making_at d lt =
+        let l = least in
+        let rva = x.begin + d in
+        let high : rva < end_of x = omega arith in
+        let s = small rva high in
+        by_popping t m (image_base + rva) (omega arith) (λ z. absurd (omega arith)) (λ z. absurd (omega arith))
+        (λ k at.
+        (let h = entry_here rva (omega arith) high k at in
+        let d' = distance image_base k.rip - x.begin in
+        let same = h.1 in
+        let before : d' < taking_size f.size = omega arith in
+        ap (of_entry m k (distance image_base k.rip)) h.0
+        ∙ ap (by_distance m e.info [] k d') (lt-ltb d' (taking_size f.size) before)
+        ∙ ap (λ q. in_prologue m e.info [] (operations (run_or e.info.codes [] q)) k) (lt-leb (taking_size f.size) d' before)))
+
+    -- past it
+    past_at : (rva : ℕ) → x.begin + taking_size f.size ≤ rva → rva < end_of x → (k : Context) → k.rip ≡ image_base + rva
+        → (o : Option (List Instr)) → tail_at 0 m (image_base + rva) ≡ o → of_entry m k (distance image_base k.rip) (entry_of t k.rip) ≡ past_prologue m e.info [] k o
+    past_at rva low high k at o is' =
+        let h = entry_here rva (omega arith) high k at in
+        let d' = distance image_base k.rip - x.begin in
+        let same = h.1 in
+        ap (of_entry m k (distance image_base k.rip)) h.0
+        ∙ ap (by_distance m e.info [] k d') (le-ltb d' (taking_size f.size) (omega arith))
+        ∙ ap (past_prologue m e.info [] k) (ap (tail_at 0 m) at ∙ is')
+
+    -- an instruction of the body
+    inner_at' : (rva : ℕ) (i : Instr) → x.begin + taking_size f.size ≤ rva → rva < end_of x → Inner i → Stands m (image_base + rva) (chosen i) → FindsReturn t m (image_base + rva) f.size
+    inner_at' rva i low high inner stands =
+        let s = small rva high in
+        by_frame t m (image_base + rva) f.size
+        (λ k back at nine room w.
+        (let h = entry_here rva (omega arith) high k at in
+        let same = h.1 in (
+          e,
+          taking_size f.size,
+          record {
+            live = ne_eqb k.rip 0 (λ z. (let q : k.rip ≡ 0 = z in absurd (omega arith)));
+            not_filter = ne_eqb k.rip filter_return (λ z. (let q : k.rip ≡ filter_return = z in absurd (omega arith)));
+            not_finally = ne_eqb k.rip finally_return (λ z. (let q : k.rip ≡ finally_return = z in absurd (omega arith)));
+            found = h.0;
+            past_prologue = le-ltb (distance image_base k.rip - x.begin) (taking_size f.size) (omega arith);
+            not_epilogue = ap (tail_at 0 m) at ∙ no_epilogue (image_base + rva) m i inner stands (omega arith);
+            codes = refl;
+            no_register = refl;
+            no_parents = refl;
+            kept = nine;
+            room = room;
+            returns = w;
+          },
+        )))
+
+    -- the epilogue, and its return
+    epilogue_at : (rva : ℕ) → x.begin + taking_size f.size ≤ rva → rva < end_of x → Stands m (image_base + rva) (chosen (give_back f.size)) → Stands m (image_base + rva + length (chosen (give_back f.size))) (chosen instrs.Return) → FindsReturn t m (image_base + rva) f.size
+    epilogue_at rva low high stands more =
+        let s = small rva high in
+        let most = near.1 in
+        by_epilogue t m (image_base + rva) (omega arith) (λ z. absurd (omega arith)) (λ z. absurd (omega arith)) f.size
+        (λ k at. past_at rva low high k at (Some (give_back f.size ∷ instrs.Return ∷ [])) (at_epilogue m (image_base + rva) f.size (omega arith) stands more (omega arith)))
+
+    return_at' : (rva : ℕ) → x.begin + taking_size f.size ≤ rva → rva < end_of x → Stands m (image_base + rva) (chosen instrs.Return) → FindsReturn t m (image_base + rva) 0
+    return_at' rva low high stands =
+        let s = small rva high in
+        by_return t m (image_base + rva) (omega arith) (λ z. absurd (omega arith)) (λ z. absurd (omega arith))
+        (λ k at. past_at rva low high k at (Some (instrs.Return ∷ [])) (at_return m (image_base + rva) stands (omega arith)))
+
+  -- ---- its code
+
+  code_there : HasProgram t (funclets_of program) program (plan_of program) (sites_of program) m → Stands m (image_base + x.begin) (spelled (routine_code (site_of program) x.begin x.routine))
+  code_there has =
+      let begin = begin_of (plan_of program) (sites_of program) name in
+      let code = stands_of m begin (spelled (code_of program (plan_of program) (sites_of program) name b)) (has.code name b is).stands in
+      subst (λ (n : ℕ). Stands m n (spelled (routine_code (site_of program) x.begin x.routine))) (place program c name b is).begin (subst (λ (q : List Instr). Stands m begin (spelled q)) (code_same program c name b is) code)
+
+  abbrev check : ℕ
+  check = check_stack_at (site_of program).text
+
+  abbrev making : List Instr
+  making = texts.frame_code x.begin check x.routine.frame
+
+  abbrev arguments : List Instr
+  arguments = argument_code y x.routine.entry
+
+  abbrev body : List Instr
+  body = code_from (links program x) y (body_begin x) x.routine.body.code
+
+  pub making_is : making_size (plan_of program) (sites_of program) name ≡ sizes making
+  making_is =
+      let h = here program c name b is in
+      let room = h.room in
+      ap sizes (frame_same x.routine.frame y.frame x.begin check (begin_of (plan_of program) (sites_of program) name) (sites_of program).check_stack (sized program index x at_index) h.near.frame (place program c name b is).begin refl (omega arith))
+
+  entry_is : sizes making + sizes arguments ≡ entry_size x.routine
+  entry_is = omega (arith, sizes_append making arguments, entry_sizes x.begin check x.routine (here program c name b is).near)
+
+  arguments_there : HasProgram t (funclets_of program) program (plan_of program) (sites_of program) m → Stands m (image_base + x.begin + sizes making) (spelled arguments)
+  arguments_there has =
+      let base = image_base + x.begin in
+      (code_split m base making arguments (code_split m base (making ++ arguments) body (code_there has)).0).1
+
+  body_there : HasProgram t (funclets_of program) program (plan_of program) (sites_of program) m → Stands m (image_base + body_begin x) (spelled body)
+  body_there has =
+      let base = image_base + x.begin in
+      let e = entry_is in
+      let at : base + sizes (making ++ arguments) ≡ image_base + body_begin x = omega (arith, sizes_append making arguments) in
+      subst (λ n. Stands m n (spelled body)) at (code_split m base (making ++ arguments) body (code_there has)).1
+
+  -- ---- arguments
+
+  module _ (done left : List Instr) (item : Instr) (parts : arguments ≡ done ++ (item ∷ left)) where
+    item_inner : Inner item
+    item_inner = inner_at done left item (subst AllInner parts (arguments_inner y x.routine.entry (here program c name b is).near.entry))
+
+    abbrev pub argument_at : ℕ
+    argument_at = x.begin + sizes making + sizes done
+
+    argument_high : argument_at < end_of x
+    argument_high = let e = entry_is in let some = item_some item item_inner in omega (arith, ap sizes parts, sizes_append done (item ∷ left))
+
+    argument_stands : HasProgram t (funclets_of program) program (plan_of program) (sites_of program) m → Stands m (image_base + argument_at) (chosen item)
+    argument_stands has =
+        let at = image_base + x.begin + sizes making in
+        let rest = (code_split m at done (item ∷ left) (subst (λ (q : List Instr). Stands m at (spelled q)) parts (arguments_there has))).1 in
+        let e : at + sizes done ≡ image_base + (x.begin + sizes making + sizes done) = omega arith in
+        subst (λ n. Stands m n (chosen item)) e (stands_split m (at + sizes done) (chosen item) (spelled left) rest).0
+
+    pub argument_found : HasProgram t (funclets_of program) program (plan_of program) (sites_of program) m → (o : Option Frame) → x.routine.frame ≡ o → FindsReturn t m (image_base + argument_at) (size_of o)
+    argument_found has None none = leaf_at none argument_at (omega arith) argument_high
+    argument_found has (Some f) framed =
+        let size = ap (λ o. sizes (texts.frame_code x.begin check o)) framed ∙ prologue_sizes f _ (near f framed).0 in
+        inner_at' f framed argument_at item (omega arith) argument_high item_inner (argument_stands has)
+
+  -- ---- returns
+
+  module _ (label : ℕ) (from : Slot) (at : slice_get x.routine.body.code label ≡ Some (instructions.Return from)) where
+    abbrev i : Instruction
+    i = instructions.Return from
+
+    th : IsTemplate (links program x) y (body_begin x) x.routine.body.code label i
+    th = template_there (links program x) y (body_begin x) x.routine.body.code label i at
+
+    abbrev fetching : List Instr
+    fetching = fetch y Rax from
+
+    near_return : IsInstructionNear y i
+    near_return = near_at (IsInstructionNear y) x.routine.body.code label i (here program c name b is).near.code at
+
+    fits : sizes fetching + sizes (epilogue y.frame) + template_at x label ≤ end_of x
+    fits = let h = th.inside in let s = template_sizes (links program x) y (template_at x label) i in omega (arith, sizes_append fetching (epilogue y.frame))
+
+    return_there : HasProgram t (funclets_of program) program (plan_of program) (sites_of program) m → Stands m (image_base + template_at x label) (spelled (fetching ++ (epilogue y.frame ++ th.after)))
+    return_there has =
+        let begin = image_base + body_begin x in
+        let rest = (code_split m begin th.before (return_code y from ++ th.after) (subst (λ (q : List Instr). Stands m begin (spelled q)) th.parts (body_there has))).1 in
+        let h = th.here in
+        let e : begin + sizes th.before ≡ image_base + template_at x label = omega arith in
+        subst (λ (q : List Instr). Stands m (image_base + template_at x label) (spelled q)) (append_assoc fetching (epilogue y.frame) th.after) (subst (λ n. Stands m n (spelled (return_code y from ++ th.after))) e rest)
+
+    -- where the epilogue begins
+    epilogue_there : HasProgram t (funclets_of program) program (plan_of program) (sites_of program) m → Stands m (image_base + (template_at x label + sizes fetching)) (spelled (epilogue y.frame ++ th.after))
+    epilogue_there has =
+        let e : image_base + template_at x label + sizes fetching ≡ image_base + (template_at x label + sizes fetching) = omega arith in
+        subst (λ n. Stands m n (spelled (epilogue y.frame ++ th.after))) e (code_split m (image_base + template_at x label) fetching (epilogue y.frame ++ th.after) (return_there has)).1
+
+    module _ (has : HasProgram t (funclets_of program) program (plan_of program) (sites_of program) m) where
+      low_here : (rva : ℕ) → template_at x label ≤ rva → x.begin ≤ rva
+      low_here rva le = omega arith
+
+      ends_stand : (n k rva : ℕ) → n ≡ suc k → rva ≡ template_at x label + sizes fetching → Stands m (image_base + rva) (spelled (epilogue n ++ th.after)) → Stands m (image_base + rva) (chosen (give_back n)) × Stands m (image_base + rva + length (chosen (give_back n))) (chosen instrs.Return)
+      ends_stand zero k rva e r stands = absurd (omega arith)
+      ends_stand (suc n) k rva e r stands =
+          let first = stands_split m (image_base + rva) (chosen (give_back (suc n))) (spelled (instrs.Return ∷ th.after)) stands in
+          let second = stands_split m (image_base + rva + length (chosen (give_back (suc n)))) (chosen instrs.Return) (spelled th.after) first.1 in
+          (first.0, second.0)
+
+      ends_size : (n k : ℕ) → n ≡ suc k → sizes (epilogue n) ≡ length (chosen (give_back n)) + 1
+      unfolding size
+      ends_size zero k e = absurd (omega arith)
+      ends_size (suc n) k e = refl
+
+      framed_return : (f : Frame) → x.routine.frame ≡ Some f → (done left : List Instr) → fetching ≡ done ++ left → FindsReturn t m (image_base + (template_at x label + sizes done)) f.size
+      framed_return f framed done [] parts =
+          let some = (near f framed).0 in
+          let l = least f framed in
+          let same = size_is f framed in
+          let whole : done ≡ fetching = sym (append-nil done) ∙ sym parts in
+          let k : f.size ≡ suc (f.size - 1) = omega arith in
+          let rva = template_at x label + sizes fetching in
+          let z = ends_stand f.size (f.size - 1) rva k refl (subst (λ n. Stands m (image_base + rva) (spelled (epilogue n ++ th.after))) same (epilogue_there has)) in
+          let size = ends_size f.size (f.size - 1) k in
+          let fit = subst (λ n. sizes fetching + sizes (epilogue n) + template_at x label ≤ end_of x) same fits in
+          subst (λ (q : List Instr). FindsReturn t m (image_base + (template_at x label + sizes q)) f.size) (sym whole)
+          (epilogue_at f framed rva (omega arith) (omega arith) z.0 z.1)
+      framed_return f framed done (item ∷ left) parts =
+          let l = least f framed in
+          let inner = inner_at done left item (subst AllInner parts (fetch_inner y from near_return.0)) in
+          let some = item_some item inner in
+          let rva = template_at x label + sizes done in
+          let split : fetching ++ (epilogue y.frame ++ th.after) ≡ done ++ ((item ∷ left) ++ (epilogue y.frame ++ th.after)) = ap (λ (q : List Instr). q ++ (epilogue y.frame ++ th.after)) parts ∙ append_assoc done (item ∷ left) (epilogue y.frame ++ th.after) in
+          let rest = (code_split m (image_base + template_at x label) done ((item ∷ left) ++ (epilogue y.frame ++ th.after)) (subst (λ (q : List Instr). Stands m (image_base + template_at x label) (spelled q)) split (return_there has))).1 in
+          let e : image_base + template_at x label + sizes done ≡ image_base + rva = omega arith in
+          let f' = fits in
+          inner_at' f framed rva item (omega arith) (omega (arith, ap sizes parts, sizes_append done (item ∷ left))) inner
+          (subst (λ n. Stands m n (chosen item)) e (stands_split m (image_base + template_at x label + sizes done) (chosen item) (spelled (left ++ (epilogue y.frame ++ th.after))) rest).0)
+
+      leaf_return : x.routine.frame ≡ None → (done left : List Instr) → fetching ≡ done ++ left → FindsReturn t m (image_base + (template_at x label + sizes done)) 0
+      leaf_return none done left parts =
+          let f' = fits in
+          let some = epilogue_some y.frame in
+          leaf_at none (template_at x label + sizes done) (omega arith) (omega (arith, ap sizes parts, sizes_append done left))
+
+      pub return_found : (o : Option Frame) → x.routine.frame ≡ o → (done left : List Instr) → fetching ≡ done ++ left → FindsReturn t m (image_base + (template_at x label + sizes done)) (size_of o)
+      return_found None none done left parts = leaf_return none done left parts
+      return_found (Some f) framed done left parts = framed_return f framed done left parts
+
+      pub end_found : (o : Option Frame) → x.routine.frame ≡ o → (k : ℕ) → y.frame ≡ suc k → FindsReturn t m (image_base + (template_at x label + sizes fetching + size (give_back y.frame))) 0
+      unfolding size
+      end_found None none k e = absurd (let z = sized program index x at_index ∙ ap size_of none in omega arith)
+      end_found (Some f) framed k e =
+          let l = least f framed in
+          let rva = template_at x label + sizes fetching in
+          let z = ends_stand y.frame k rva e refl (epilogue_there has) in
+          let size' = ends_size y.frame k e in
+          let fit = fits in
+          let same : image_base + rva + length (chosen (give_back y.frame)) ≡ image_base + (rva + length (chosen (give_back y.frame))) = omega arith in
+          return_at' f framed (rva + length (chosen (give_back y.frame))) (omega arith) (omega arith) (subst (λ n. Stands m n (chosen instrs.Return)) same z.1)
