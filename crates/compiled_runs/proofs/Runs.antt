@@ -17,7 +17,8 @@ use Rattle.ir_linked.proofs.Lowered.{lowered_follows, lowered_shows_no_more}
 use Rattle.whole_runs.specs.Ends.{run_end_of, HasRule}
 use Rattle.whole_runs.specs.Laws.{ShowsAll, ShowsNoMore}
 use Rattle.whole_runs.proofs.Programs.{programs_all, programs_no_more, enough}
-use Rattle.compiled_runs.specs.Laws.{pace, MatchedRunsShowAll, MatchedRunsShowNoMore}
+use Rattle.whole_runs.proofs.Shadowed.{programs_walk_the_shadow}
+use Rattle.compiled_runs.specs.Laws.{pace, MatchedRunsShowAll, MatchedRunsShowNoMore, MatchedRunsWalkTheShadow}
 
 -- what is never stuck has a rule
 has_rule : (x : Seen) → ((es : List Event) → x ≡ Stuck es → ⊥) → HasRule x
@@ -76,3 +77,10 @@ no_more t fs program sound credit arg first m n s begins paces calm =
     let rule = has_rule (seen (lowered program) arg m) rest.2 in
     back (meaning program arg n) (linear_meaning (lowered program) arg m) (run t fs m (host s) []) rest.0 rest.1
     (programs_no_more t fs (lowered program) pace credit arg first m m s begins (record { rule = rule; calm = calm_too (meaning program arg n) (linear_meaning (lowered program) arg m) rest.1 calm }) (omega arith))
+
+pub shadow : MatchedRunsWalkTheShadow
+shadow t fs program sound credit arg first m n s cs begins paces calm walk none =
+    let rest = lowered_shows_no_more program sound arg m n paces in
+    let rule = has_rule (seen (lowered program) arg m) rest.2 in
+    programs_walk_the_shadow t fs (lowered program) pace credit arg first m m s cs begins
+    (record { rule = rule; calm = calm_too (meaning program arg n) (linear_meaning (lowered program) arg m) rest.1 calm }) (omega arith) walk none

@@ -1,5 +1,6 @@
 -- What whole runs of the machine show of a program whose linear code they match, step by step.
-use Rattle.std.specs.Prelude.{◌≡◌, ℕ, ◌+◌, ◌*◌, ◌≤◌, true, List, [], ℤ}
+use Rattle.std.specs.Prelude.{◌≡◌, ℕ, ◌+◌, ◌*◌, ◌≤◌, true, List, [], ℤ, None}
+use Rattle.x64_machine.specs.declared.context.Context.{Context}
 use Rattle.x64_machine.specs.Effect.{State}
 use Rattle.virtual_unwind.specs.CallerOf.{Functions}
 use Rattle.host_model.specs.declared.funclet.Funclet.{Funclet}
@@ -11,6 +12,8 @@ use Rattle.c_model.specs.Meaning.{meaning, Calm}
 use Rattle.linear_machine.specs.Frames.{Configuration}
 use Rattle.seh_ir.specs.Lowered.{lowered}
 use Rattle.ir_linked.specs.Pace.{pace_of}
+use Rattle.whole_runs.specs.Shadow.{WalkGives}
+use Rattle.whole_runs.specs.Shadowed.{WalkGivesShadow}
 use Rattle.whole_runs.specs.Laws.{Begins, ShowsAll, ShowsNoMore}
 
 -- turns of the machine for a step of linear code, and before `main`
@@ -36,3 +39,12 @@ MatchedRunsShowNoMore =
     → Begins t fs (lowered program) pace credit arg first s m → (m + 1) * pace_of program ≤ n
     → Calm program arg n ≡ true
     → ShowsNoMore (meaning program arg n) (run t fs m (host s) [])
+
+-- after m turns, where the run has not ended by then, the walk gives the shadow, if it does in the first state
+abbrev pub MatchedRunsWalkTheShadow : Type 0
+MatchedRunsWalkTheShadow =
+    (t : Functions) (fs : List Funclet) (program : Program) → IsSound program
+    → (credit : Configuration → ℕ) (arg : ℤ) (first m n : ℕ) (s : State) (cs : List Context)
+    → Begins t fs (lowered program) pace credit arg first s m → (m + 1) * pace_of program ≤ n
+    → Calm program arg n ≡ true → WalkGives t s cs → (run t fs m (host s) []).end ≡ None
+    → WalkGivesShadow t fs m s cs

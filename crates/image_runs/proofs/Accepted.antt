@@ -17,7 +17,7 @@ use Rattle.image_runs.specs.Sound.{IsLinkable}
 use Rattle.image_runs.proofs.Realised.{compiled_realise, compiled_show_nothing_more}
 use Rattle.image_runs.specs.AcceptedLaws.{AcceptedReadsNoUnset, AcceptedRealise, AcceptedShowNothingMore}
 
-linkable : (text : List ℕ) (xs : List ExternalDeclaration) → Within text xs → Accepted text xs → FitsProgram (lowered (program_of text xs)) → IsLinkable (program_of text xs)
+pub linkable : (text : List ℕ) (xs : List ExternalDeclaration) → Within text xs → Accepted text xs → FitsProgram (lowered (program_of text xs)) → IsLinkable (program_of text xs)
 linkable text xs within accepted fits = record { sound = accepted_is_sound text xs within accepted; shallow = resolved_is_shallow text xs within; fits = fits }
 
 pub reads_no_unset : AcceptedReadsNoUnset

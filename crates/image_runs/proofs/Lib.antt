@@ -29,3 +29,4 @@ pub mod WalkPassing
 pub mod WalkedPassing
 pub mod Ending
 pub mod Texts
+pub mod Shadows

@@ -28,7 +28,7 @@ short program l bytes w =
     let small = images_are_small (lowered program) l.fits in
     omega arith
 
-octets : (program : Program) (bytes : List ℕ) → IsWritten bytes program → HasBytes (lowered program)
+pub octets : (program : Program) (bytes : List ℕ) → IsWritten bytes program → HasBytes (lowered program)
 octets program bytes w = subst (λ (xs : List ℕ). AllByRecursion (λ b. b < 256) xs) w.written w.octets
 
 pub compiled_realise : CompiledRealise

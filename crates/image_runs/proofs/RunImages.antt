@@ -35,7 +35,7 @@ module _ (program : Program) (l : IsLinkable program) (bytes : List ℕ) (read :
   abbrev linear : LinearProgram
   linear = lowered program
 
-  machine_is : (m : ℕ) → machine bytes arg m ≡ run (functions_of linear) (funclets_of linear) m (host (start (image_of (linked linear)) arg)) []
+  pub machine_is : (m : ℕ) → machine bytes arg m ≡ run (functions_of linear) (funclets_of linear) m (host (start (image_of (linked linear)) arg)) []
   unfolding machine
   machine_is m =
       let c = lowered_is_compiled program l in
@@ -47,13 +47,13 @@ module _ (program : Program) (l : IsLinkable program) (octets : HasBytes (lowere
   abbrev no_function : LinearFunction
   no_function = record { parameters = 0; body = nothing }
 
-  abbrev main_of : LinearFunction
+  abbrev pub main_of : LinearFunction
   main_of = get_or (lowered program).functions (lowered program).main no_function
 
-  main_is : slice_get (lowered program).functions (lowered program).main ≡ Some main_of
+  pub main_is : slice_get (lowered program).functions (lowered program).main ≡ Some main_of
   main_is = slice_get-get_or (lowered program).functions (lowered program).main no_function l.fits.main
 
-  main_begins : MainBegins (functions_of (lowered program)) (funclets_of (lowered program)) (lowered program) (plan_of (lowered program)) (sites_of (lowered program)) arg main_of (start (image_of (linked (lowered program))) arg)
+  pub main_begins : MainBegins (functions_of (lowered program)) (funclets_of (lowered program)) (lowered program) (plan_of (lowered program)) (sites_of (lowered program)) arg main_of (start (image_of (linked (lowered program))) arg)
   main_begins =
       let first = code.start (lowered program) arg main_of in
       mains_begin (lowered program) (lowered_is_compiled program l) octets (lowered_has_image program l).made arg main_of main_is

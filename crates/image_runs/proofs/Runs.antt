@@ -28,7 +28,7 @@ use Rattle.image_runs.proofs.Simulated.{twins_simulate}
 module _ (t : Functions) (fs : List Funclet) (program : Program) (p : Plan) (q : Sites) (sound : IsSound program) (reads : ReadsNoUnset (lowered program))
     (image : IsSoundImage t fs (lowered program) p q) (arg : ℤ) (main : LinearFunction) (s : State)
     (is_main : slice_get (lowered program).functions (lowered program).main ≡ Some main) (b : MainBegins t fs (lowered program) p q arg main s) where
-  begins : (n : ℕ) → Begins t fs (lowered program) pace turns_left arg b.turns s n
+  pub begins : (n : ℕ) → Begins t fs (lowered program) pace turns_left arg b.turns s n
   begins n = record {
     main = main;
     is_main = is_main;

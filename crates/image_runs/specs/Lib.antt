@@ -18,3 +18,4 @@ pub mod WalkLaws
 pub mod Walks
 pub mod WalkedLaws
 pub mod Texts
+pub mod Shadows

@@ -7,5 +7,6 @@ pub mod first_laws;
 pub mod image_laws;
 pub mod main_laws;
 pub mod run_laws;
+pub mod shadow_laws;
 pub mod walk_laws;
 pub mod walked_laws;

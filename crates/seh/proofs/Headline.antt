@@ -10,7 +10,7 @@ use Rattle.c_resolved.specs.Program.{resolve}
 use Rattle.whole_runs.specs.Ends.{run_end_of}
 use Rattle.whole_runs.specs.Laws.{ShowsNoMore}
 use Rattle.seh.specs.Answers.{shown_by}
-use Rattle.seh.specs.Headline.{Headline, NothingMore}
+use Rattle.seh.specs.Headline.{Headline, NothingMore, Walks}
 
 pub headline : Headline
 headline source image compiled options arg n low enough =
@@ -37,3 +37,6 @@ nothing_more source image compiled options arg n low same paces calm =
     let program = (resolve source compiled.whole).program in
     subst (λ (a : ℤ). ShowsNoMore (meaning program (pos arg) n) (machine image a options.turns)) (sym same)
     (compiled.no_more arg options.turns n low paces calm)
+
+pub walks : Walks
+walks source image compiled arg turns n low paces calm none = compiled.walks arg turns n low paces calm none

@@ -1,12 +1,14 @@
 -- What compiling and running come to together.
-use Rattle.std.specs.Prelude.{◌≡◌, ℕ, ◌+◌, ◌*◌, ◌^◌, ◌<◌, ◌≤◌, true, List, pos, Some}
+use Rattle.std.specs.Prelude.{◌≡◌, ℕ, ◌+◌, ◌*◌, ◌^◌, ◌<◌, ◌≤◌, true, List, pos, Some, None}
 use Rattle.seh_num.specs.declared.end.RunEnd.{RunEnd}
 use Rattle.seh_io.specs.Text.{text}
 use Rattle.host_model.specs.Laws.{Covers}
+use Rattle.host_model.specs.Machine.{machine}
 use Rattle.c_model.specs.Meaning.{Shown, meaning, Calm}
 use Rattle.c_resolved.specs.Program.{resolve}
 use Rattle.whole_runs.specs.Ends.{run_end_of}
 use Rattle.whole_runs.specs.Laws.{ShowsNoMore}
+use Rattle.image_runs.specs.Shadows.{WalksTheShadow}
 use Rattle.command_line.specs.declared.command.RunOptions.{RunOptions}
 use Rattle.seh.specs.Answers.{shown_by, end_by, text_by}
 use Rattle.seh.specs.Images.{pace, IsCompiled}
@@ -38,3 +40,12 @@ NothingMore =
     (options : RunOptions) (arg n : ℕ)
     → arg < 2 ^ 63 → options.argument ≡ pos arg → (options.turns + 1) * pace source ≤ n → Calm program (pos arg) n ≡ true
     → ShowsNoMore (meaning program (pos arg) n) (shown_by options image)
+
+-- at every turn of a run that isn't an end, the walk over the stack gives exactly the shadow, entry by entry, and then RIP 0; as far as NothingMore speaks of the run
+abbrev pub Walks : Type 0
+Walks =
+    (source image : List ℕ) (compiled : IsCompiled source image)
+    → let program = (resolve source compiled.whole).program in
+    (arg turns n : ℕ)
+    → arg < 2 ^ 63 → (turns + 1) * pace source ≤ n → Calm program (pos arg) n ≡ true
+    → (machine image (pos arg) turns).end ≡ None → WalksTheShadow image (pos arg) turns

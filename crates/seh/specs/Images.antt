@@ -1,5 +1,5 @@
 -- The image of a text.
-use Rattle.std.specs.Prelude.{◌≡◌, ℕ, ◌+◌, ◌*◌, ◌^◌, ◌<◌, ◌≤◌, true, List, length, pos, Ok}
+use Rattle.std.specs.Prelude.{◌≡◌, ℕ, ◌+◌, ◌*◌, ◌^◌, ◌<◌, ◌≤◌, true, List, length, pos, None, Ok}
 use Rattle.c_checked.specs.Program.{Program}
 use Rattle.c_model.specs.Meaning.{meaning, Calm}
 use Rattle.c_resolved.specs.Program.{resolve}
@@ -14,6 +14,7 @@ use Rattle.program_tables.specs.Entries.{entries}
 use Rattle.seh_ir.specs.Lowered.{lowered}
 use Rattle.pace_bounds.specs.Laws.{pace_in}
 use Rattle.image_runs.specs.Realises.{Realises, IsWritten}
+use Rattle.image_runs.specs.Shadows.{WalksTheShadow}
 use Rattle.seh.specs.declared.refusal.Refusal.{Refusal}
 use Rattle.seh.specs.declared.refusal.Refusal.TheVariants as refusals
 use Rattle.whole_runs.specs.Laws.{ShowsNoMore}
@@ -28,12 +29,18 @@ ShowsNothingMore text image program =
     (arg m n : ℕ) → arg < 2 ^ 63 → (m + 1) * pace text ≤ n → Calm program (pos arg) n ≡ true
     → ShowsNoMore (meaning program (pos arg) n) (machine image (pos arg) m)
 
+-- after m turns of a run, where it has not ended by then, the walk over the stack gives the shadow, as long as (m + 1) * pace steps of the program are calm
+abbrev pub GivesTheShadow : (text image : List ℕ) → Program → Type 0
+GivesTheShadow text image program =
+    (arg m n : ℕ) → arg < 2 ^ 63 → (m + 1) * pace text ≤ n → Calm program (pos arg) n ≡ true
+    → (machine image (pos arg) m).end ≡ None → WalksTheShadow image (pos arg) m
+
 -- the function table of a program's image is read again as its entries, with one scope record for each `__try` of the program
 pub record HasTable (program : Program) : Type 0 where
   pub read : tables (image_of (linked (lowered program))) ≡ Ok (entries (lowered program))
   pub shape : IsShaped program
 
--- the image of an accepted text is the one that its program's linear code is linked to, with its function table; it does what the program means, and nothing more
+-- the image of an accepted text is the one that its program's linear code is linked to, with its function table; it does what the program means, and nothing more, and the walk gives the frames of its runs
 pub record IsCompiled (text image : List ℕ) : Type 0 where
   pub whole : List ExternalDeclaration
   pub accepted : IsAccepted text whole
@@ -41,6 +48,7 @@ pub record IsCompiled (text image : List ℕ) : Type 0 where
   pub table : HasTable (resolve text whole).program
   pub realises : Realises image (resolve text whole).program
   pub no_more : ShowsNothingMore text image (resolve text whole).program
+  pub walks : GivesTheShadow text image (resolve text whole).program
 
 -- ---- refusals
 

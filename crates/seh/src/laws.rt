@@ -1,6 +1,6 @@
 //! What the commands come to together.
 
-ghost use Rattle.seh.specs.Headline.{Headline, NothingMore};
+ghost use Rattle.seh.specs.Headline.{Headline, NothingMore, Walks};
 
 /// The headline: where `compile` answered with an image for a text, each run of `exec` on it with an
 /// argument from 0 to below 2^63 and at least `256 * n + 256` turns shows first what the text's program
@@ -14,4 +14,13 @@ ghost use Rattle.seh.specs.Headline.{Headline, NothingMore};
 pub fn headline()
     ensures shows { Headline }
     ensures nothing_more { NothingMore }
+{}
+
+/// At every turn of a run of the image, up to its end, the walk over the stack gives exactly the shadow, a
+/// list that the machine's model keeps with no look at unwind information: for each routine that has not
+/// returned, innermost first, the return address, the stack pointer after the return and the nonvolatile
+/// registers that its caller had at the call. It ends at RIP 0. This holds as far as the headline's second
+/// sentence does.
+pub fn walks()
+    ensures shadow { Walks }
 {}
