@@ -14,7 +14,7 @@ use Rattle.virtual_unwind.specs.Tail.{FetchedInstr, role_of}
 use Rattle.frame_rules.specs.Codes.{is_saved, is_allowed, are_allowed}
 use Rattle.frame_rules.specs.Frame.{Stack, Framed, Holds}
 use Rattle.frame_rules.specs.Epilogue.{is_pop}
-use Rattle.frame_rules.specs.Body.{written, has, may_write, may_write_all, restored_by, with_restored, Mode, Body, Leaving, only_if, is_ends, leaving, from_body, next, and_then, behind, is_body}
+use Rattle.frame_rules.specs.Body.{written, has, may_write, may_write_all, restored_by, with_restored, Mode, Body, Leaving, only_if, is_ends, leaving, from_body, next, and_then, following, is_body}
 use Rattle.frame_rules.specs.States.{registers, is_other, writes, is_written, InBody}
 use Rattle.frame_rules.proofs.Undoing.{saved_register, framed_saved}
 use Rattle.frame_rules.proofs.Words.{kept_words}
@@ -29,21 +29,21 @@ only m false to e = absurd cc
 pub record Next (f offset : ℕ) (ops : List UnwindOperation) (x : FetchedInstr) (xs : List FetchedInstr) (m : Mode) : Type 0 where
   pub to : Mode
   pub is : next f offset ops x m ≡ Some to
-  pub rest : is_body (behind f offset ops xs to) ≡ true
+  pub rest : is_body (following f offset ops xs to) ≡ true
 
-pub next_mode : (f offset : ℕ) (ops : List UnwindOperation) (x : FetchedInstr) (xs : List FetchedInstr) (m : Mode) → is_body (behind f offset ops (x ∷ xs) m) ≡ true → Next f offset ops x xs m
+pub next_mode : (f offset : ℕ) (ops : List UnwindOperation) (x : FetchedInstr) (xs : List FetchedInstr) (m : Mode) → is_body (following f offset ops (x ∷ xs) m) ≡ true → Next f offset ops x xs m
 next_mode f offset ops x xs m h = go (next f offset ops x m) refl h
   where
-    go : (o : Option Mode) → next f offset ops x m ≡ o → is_body (and_then (behind f offset ops xs) o) ≡ true → Next f offset ops x xs m
+    go : (o : Option Mode) → next f offset ops x m ≡ o → is_body (and_then (following f offset ops xs) o) ≡ true → Next f offset ops x xs m
     go (Some to) e h = record { to = to; is = e; rest = h }
     go None e h = absurd (false≢true h)
 
--- modes behind lists joined
-pub behind-append : (f offset : ℕ) (ops : List UnwindOperation) (xs ys : List FetchedInstr) (m to : Mode) → behind f offset ops xs m ≡ Some to → behind f offset ops (xs ++ ys) m ≡ behind f offset ops ys to
-behind-append f offset ops [] ys m to e = ap (λ (o : Option Mode). and_then (behind f offset ops ys) o) e
-behind-append f offset ops (x ∷ xs) ys m to e = go (λ k h. behind-append f offset ops xs ys k to h) (next f offset ops x m) e
+-- modes after lists joined
+pub following-append : (f offset : ℕ) (ops : List UnwindOperation) (xs ys : List FetchedInstr) (m to : Mode) → following f offset ops xs m ≡ Some to → following f offset ops (xs ++ ys) m ≡ following f offset ops ys to
+following-append f offset ops [] ys m to e = ap (λ (o : Option Mode). and_then (following f offset ops ys) o) e
+following-append f offset ops (x ∷ xs) ys m to e = go (λ k h. following-append f offset ops xs ys k to h) (next f offset ops x m) e
   where
-    go : ((k : Mode) → behind f offset ops xs k ≡ Some to → behind f offset ops (xs ++ ys) k ≡ behind f offset ops ys to) → (o : Option Mode) → and_then (behind f offset ops xs) o ≡ Some to → and_then (behind f offset ops (xs ++ ys)) o ≡ behind f offset ops ys to
+    go : ((k : Mode) → following f offset ops xs k ≡ Some to → following f offset ops (xs ++ ys) k ≡ following f offset ops ys to) → (o : Option Mode) → and_then (following f offset ops xs) o ≡ Some to → and_then (following f offset ops (xs ++ ys)) o ≡ following f offset ops ys to
     go more (Some k) e = more k e
     go more None e = absurd cc
 
@@ -86,7 +86,7 @@ next_unwritten : (f offset : ℕ) (ops : List UnwindOperation) (q : ℕ) (x : Fe
 next_unwritten f offset ops q x (Body rs) to nv s e = body_unwritten f offset ops q rs x (role_of f x.plain x.instr) to nv s e
 next_unwritten f offset ops q x (Leaving rs) to nv s e = leaving_unwritten f q rs x to e
 
-pub unwritten : (f offset : ℕ) (ops : List UnwindOperation) (q : ℕ) (xs : List FetchedInstr) (m : Mode) → is_nonvolatile q ≡ true → is_saved q ops ≡ false → is_body (behind f offset ops xs m) ≡ true → is_written f q xs ≡ false
+pub unwritten : (f offset : ℕ) (ops : List UnwindOperation) (q : ℕ) (xs : List FetchedInstr) (m : Mode) → is_nonvolatile q ≡ true → is_saved q ops ≡ false → is_body (following f offset ops xs m) ≡ true → is_written f q xs ≡ false
 unwritten f offset ops q [] m nv s h = refl
 unwritten f offset ops q (x ∷ xs) m nv s h =
     let n = next_mode f offset ops x xs m h in
@@ -111,7 +111,7 @@ not_frame f q xs a set nv free e = elim (cases_eq f 0) [
   | inr ne ↦ false≢true (sym free ∙ (ap (λ k. is_saved k xs) e ∙ frame_is_saved f xs a (set ne)))
 ]
 
-pub body_holds : (f offset back : ℕ) (e p s : State) (ops : List UnwindOperation) (rest : List FetchedInstr) → are_allowed f ops ≡ true → (f ≢ 0 → sets_frame ops ≡ true) → is_body (behind f offset ops rest (Body [])) ≡ true → Running f offset e back ops p → InBody f ops rest e p s → Holds f offset s.memory (registers e) back (registers s) ops ops
+pub body_holds : (f offset back : ℕ) (e p s : State) (ops : List UnwindOperation) (rest : List FetchedInstr) → are_allowed f ops ≡ true → (f ≢ 0 → sets_frame ops ≡ true) → is_body (following f offset ops rest (Body [])) ≡ true → Running f offset e back ops p → InBody f ops rest e p s → Holds f offset s.memory (registers e) back (registers s) ops ops
 body_holds f offset back e p s ops rest allowed frame body run b = record {
   stack = subst (λ x. Stack s.memory (registers e) back x x ops) (sym b.stack) (kept_words p.memory s.memory (registers e) back (registers p 4) (registers p 4) ops b.words run.holds.stack);
   framed = subst (λ x. Framed f offset (registers s) x ops) (sym b.stack) (framed_saved f offset (registers p) (registers s) (registers p 4) ops allowed (λ y. sym (b.frame (λ z. false≢true (ap is_nonvolatile (sym z) ∙ (saved_register f f ops allowed y).0)))) run.holds.framed);

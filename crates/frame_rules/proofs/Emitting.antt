@@ -14,11 +14,11 @@ use Rattle.virtual_unwind.specs.Tail.{FetchedInstr, role_of, opening, ending, is
 use Rattle.virtual_unwind.specs.CallerOf.{sets_frame}
 use Rattle.frame_rules.specs.Codes.{allocation, pushes, pushed, is_saved, may_save, are_allowed, is_ordered}
 use Rattle.frame_rules.specs.Epilogue.{is_pop, gives_back}
-use Rattle.frame_rules.specs.Body.{written, may_write, may_write_all, saved_at, is_place, if_place, restored_by, with_restored, are_restored, Mode, Body, Leaving, only_if, is_ends, leaving, from_body, next, and_then, behind, is_body}
+use Rattle.frame_rules.specs.Body.{written, may_write, may_write_all, saved_at, is_place, if_place, restored_by, with_restored, are_restored, Mode, Body, Leaving, only_if, is_ends, leaving, from_body, next, and_then, following, is_body}
 use Rattle.frame_rules.specs.States.{is_other}
 use Rattle.frame_rules.specs.Plan.{Saved, Plan, IsPlan, IsSpelling, frame_then, allocation_then, operations_of, stack_place, spelled_by, load_of, loads_then, opening_by, opening_then, pops_then, epilogue, is_inner, are_inner, with_epilogues, all_inner}
 use Rattle.frame_rules.specs.Laws.{PlansAreRight}
-use Rattle.frame_rules.proofs.Bodies.{behind-append}
+use Rattle.frame_rules.proofs.Bodies.{following-append}
 use Rattle.frame_rules.proofs.Planning.{register_number, ordered_plan, framed_plan, codes_plan, are_steps}
 use Rattle.frame_rules.proofs.Planned.{Loadable, AllLoadable, all_loadable, allocation_plan, pushes_plan, loaded, restored_plan, frame_saved, allowed_later, saved_later}
 use Rattle.frame_rules.proofs.Undoing.{saved_register}
@@ -93,15 +93,15 @@ gives_all p h false e =
     and_from (is_of p.frame (bases.Register (register p.frame)) None) (eqb ((p.distance + d) % 2 ^ 64) (allocation (operations_of p))) (is_frame p h e) (eq-eqb ((p.distance + d) % 2 ^ 64) (allocation (operations_of p)) sum)
 
 module _ (spell : Instr → FetchedInstr) (sp : IsSpelling spell) where
-  loads_behind : (f offset : ℕ) (ops : List UnwindOperation) (ss : List Saved) (is : List Instr) (rs : List ℕ) → AllLoadable f ops ss → behind f offset ops (spelled_by spell (loads_then ss is)) (Body rs) ≡ behind f offset ops (spelled_by spell is) (Body (loaded ss rs))
-  loads_behind f offset ops [] is rs h = refl
-  loads_behind f offset ops (s ∷ ss) is rs h =
-      ap (and_then (behind f offset ops (spelled_by spell (loads_then ss is)))) (load_next f offset ops s (spell (load_of s)) rs (sp.instr (load_of s)) h.0) ∙ loads_behind f offset ops ss is (s.register ∷ rs) h.1
+  loads_following : (f offset : ℕ) (ops : List UnwindOperation) (ss : List Saved) (is : List Instr) (rs : List ℕ) → AllLoadable f ops ss → following f offset ops (spelled_by spell (loads_then ss is)) (Body rs) ≡ following f offset ops (spelled_by spell is) (Body (loaded ss rs))
+  loads_following f offset ops [] is rs h = refl
+  loads_following f offset ops (s ∷ ss) is rs h =
+      ap (and_then (following f offset ops (spelled_by spell (loads_then ss is)))) (load_next f offset ops s (spell (load_of s)) rs (sp.instr (load_of s)) h.0) ∙ loads_following f offset ops ss is (s.register ∷ rs) h.1
 
-  pops_behind : (f offset : ℕ) (ops : List UnwindOperation) (rs : List ℕ) → AllKept rs → behind f offset ops (spelled_by spell (pops_then rs (instrs.Return ∷ []))) (Leaving rs) ≡ Some (Body [])
-  pops_behind f offset ops [] h = ap (and_then (λ m. Some m)) (return_next f (spell instrs.Return) (sp.instr instrs.Return) sp.plain)
-  pops_behind f offset ops (r ∷ rs) h =
-      ap (and_then (behind f offset ops (spelled_by spell (pops_then rs (instrs.Return ∷ []))))) (pop_next f r rs (spell (instrs.Pop (register r))) (sp.instr (instrs.Pop (register r))) h.0) ∙ pops_behind f offset ops rs h.1
+  pops_following : (f offset : ℕ) (ops : List UnwindOperation) (rs : List ℕ) → AllKept rs → following f offset ops (spelled_by spell (pops_then rs (instrs.Return ∷ []))) (Leaving rs) ≡ Some (Body [])
+  pops_following f offset ops [] h = ap (and_then (λ m. Some m)) (return_next f (spell instrs.Return) (sp.instr instrs.Return) sp.plain)
+  pops_following f offset ops (r ∷ rs) h =
+      ap (and_then (following f offset ops (spelled_by spell (pops_then rs (instrs.Return ∷ []))))) (pop_next f r rs (spell (instrs.Pop (register r))) (sp.instr (instrs.Pop (register r))) h.0) ∙ pops_following f offset ops rs h.1
 
   -- straight from the body
   from_loaded : (f offset : ℕ) (ops : List UnwindOperation) (x : FetchedInstr) (rs ps : List ℕ) (r : Role) → role_of f x.plain x.instr ≡ r → (r ≡ Restores) ⊎ (r ≡ Ends) → are_restored rs ops ≡ true → allocation ops ≡ 0 → pushes ops ≡ ps → next f offset ops x (Body rs) ≡ leaving f ps x
@@ -112,13 +112,13 @@ module _ (spell : Instr → FetchedInstr) (sp : IsSpelling spell) where
         | inr a ↦ ap (from_body f offset ops rs x) a ∙ ap (only_if (leaving f (pushes ops) x)) both ∙ ap (λ q. leaving f q x) same
       ]
 
-  body_pops : (f offset : ℕ) (ops : List UnwindOperation) (rs ps : List ℕ) → AllKept ps → are_restored rs ops ≡ true → allocation ops ≡ 0 → pushes ops ≡ ps → behind f offset ops (spelled_by spell (pops_then ps (instrs.Return ∷ []))) (Body rs) ≡ Some (Body [])
+  body_pops : (f offset : ℕ) (ops : List UnwindOperation) (rs ps : List ℕ) → AllKept ps → are_restored rs ops ≡ true → allocation ops ≡ 0 → pushes ops ≡ ps → following f offset ops (spelled_by spell (pops_then ps (instrs.Return ∷ []))) (Body rs) ≡ Some (Body [])
   body_pops f offset ops rs [] h done z same =
       let x = spell instrs.Return in
-      ap (and_then (λ m. Some m)) (from_loaded f offset ops x rs [] Ends (ap (role_of f x.plain) (sp.instr instrs.Return) ∙ ap ending sp.plain) (inr refl) done z same) ∙ pops_behind f offset ops [] h
+      ap (and_then (λ m. Some m)) (from_loaded f offset ops x rs [] Ends (ap (role_of f x.plain) (sp.instr instrs.Return) ∙ ap ending sp.plain) (inr refl) done z same) ∙ pops_following f offset ops [] h
   body_pops f offset ops rs (r ∷ ps) h done z same =
       let x = spell (instrs.Pop (register r)) in
-      ap (and_then (behind f offset ops (spelled_by spell (pops_then ps (instrs.Return ∷ []))))) (from_loaded f offset ops x rs (r ∷ ps) Restores (ap (role_of f x.plain) (sp.instr (instrs.Pop (register r)))) (inl refl) done z same) ∙ pops_behind f offset ops (r ∷ ps) h
+      ap (and_then (following f offset ops (spelled_by spell (pops_then ps (instrs.Return ∷ []))))) (from_loaded f offset ops x rs (r ∷ ps) Restores (ap (role_of f x.plain) (sp.instr (instrs.Pop (register r)))) (inl refl) done z same) ∙ pops_following f offset ops (r ∷ ps) h
 
   -- an opening
   opens_next : (p : Plan) → IsPlan p → (rs : List ℕ) → (b : Bool) → eqb p.frame 0 ≡ b → are_restored rs (operations_of p) ≡ true → next p.frame p.distance (operations_of p) (spell (opening_by p b)) (Body rs) ≡ Some (Leaving p.pushes)
@@ -137,12 +137,12 @@ module _ (spell : Instr → FetchedInstr) (sp : IsSpelling spell) where
   kept_pushes : (p : Plan) → IsPlan p → AllKept p.pushes
   kept_pushes p h = pushes_kept p.frame p.pushes (ap (λ rs. are_allowed p.frame (pushed rs)) (sym (pushes_plan p)) ∙ pushes_allowed p.frame (operations_of p) (ordered (operations_of p) (ordered_plan p)) h.allowed)
 
-  pub epilogue_behind : (p : Plan) → IsPlan p → (rs : List ℕ) → behind p.frame p.distance (operations_of p) (spelled_by spell (epilogue p)) (Body rs) ≡ Some (Body [])
-  epilogue_behind p h rs = loads_behind p.frame p.distance (operations_of p) p.saves (opening_then p (eqb p.size 0) (pops_then p.pushes (instrs.Return ∷ []))) rs (all_loadable p h) ∙ go (eqb p.size 0) refl
+  pub epilogue_following : (p : Plan) → IsPlan p → (rs : List ℕ) → following p.frame p.distance (operations_of p) (spelled_by spell (epilogue p)) (Body rs) ≡ Some (Body [])
+  epilogue_following p h rs = loads_following p.frame p.distance (operations_of p) p.saves (opening_then p (eqb p.size 0) (pops_then p.pushes (instrs.Return ∷ []))) rs (all_loadable p h) ∙ go (eqb p.size 0) refl
     where
-      go : (b : Bool) → eqb p.size 0 ≡ b → behind p.frame p.distance (operations_of p) (spelled_by spell (opening_then p b (pops_then p.pushes (instrs.Return ∷ [])))) (Body (loaded p.saves rs)) ≡ Some (Body [])
+      go : (b : Bool) → eqb p.size 0 ≡ b → following p.frame p.distance (operations_of p) (spelled_by spell (opening_then p b (pops_then p.pushes (instrs.Return ∷ [])))) (Body (loaded p.saves rs)) ≡ Some (Body [])
       go true e = body_pops p.frame p.distance (operations_of p) (loaded p.saves rs) p.pushes (kept_pushes p h) (restored_plan p rs) (allocation_plan p ∙ eqb-true p.size 0 e) (pushes_plan p)
-      go false e = ap (and_then (behind p.frame p.distance (operations_of p) (spelled_by spell (pops_then p.pushes (instrs.Return ∷ []))))) (opens_next p h (loaded p.saves rs) (eqb p.frame 0) refl (restored_plan p rs)) ∙ pops_behind p.frame p.distance (operations_of p) p.pushes (kept_pushes p h)
+      go false e = ap (and_then (following p.frame p.distance (operations_of p) (spelled_by spell (pops_then p.pushes (instrs.Return ∷ []))))) (opens_next p h (loaded p.saves rs) (eqb p.frame 0) refl (restored_plan p rs)) ∙ pops_following p.frame p.distance (operations_of p) p.pushes (kept_pushes p h)
 
   -- ---- a function
 
@@ -152,29 +152,29 @@ module _ (spell : Instr → FetchedInstr) (sp : IsSpelling spell) where
   is_the_other Restores e = absurd (false≢true e)
   is_the_other Ends e = absurd (false≢true e)
 
-  pub inner_behind : (p : Plan) (xs : List FetchedInstr) (rs : List ℕ) → are_inner p xs ≡ true → (to : List ℕ) × (behind p.frame p.distance (operations_of p) xs (Body rs) ≡ Some (Body to))
-  inner_behind p [] rs h = (rs, refl)
-  inner_behind p (x ∷ xs) rs h =
+  pub inner_following : (p : Plan) (xs : List FetchedInstr) (rs : List ℕ) → are_inner p xs ≡ true → (to : List ℕ) × (following p.frame p.distance (operations_of p) xs (Body rs) ≡ Some (Body to))
+  inner_following p [] rs h = (rs, refl)
+  inner_following p (x ∷ xs) rs h =
       let q = and_parts (is_inner p x) (are_inner p xs) h in
       let w = and_parts (is_other (role_of p.frame x.plain x.instr)) (may_write_all p.frame (operations_of p) (written x.instr)) q.0 in
       let n = inner_next p.frame p.distance (operations_of p) x rs (is_the_other (role_of p.frame x.plain x.instr) w.0) w.1 in
-      let more = inner_behind p xs (with_restored rs (restored_by p.frame p.distance (operations_of p) x.instr)) q.1 in
-      (more.0, ap (and_then (behind p.frame p.distance (operations_of p) xs)) n ∙ more.1)
+      let more = inner_following p xs (with_restored rs (restored_by p.frame p.distance (operations_of p) x.instr)) q.1 in
+      (more.0, ap (and_then (following p.frame p.distance (operations_of p) xs)) n ∙ more.1)
 
-  parts_behind : (p : Plan) → IsPlan p → (parts : List (List FetchedInstr)) (last : List FetchedInstr) (rs : List ℕ) → all_inner p parts ≡ true → are_inner p last ≡ true → (to : List ℕ) × (behind p.frame p.distance (operations_of p) (with_epilogues spell p parts last) (Body rs) ≡ Some (Body to))
-  parts_behind p h [] last rs a b = inner_behind p last rs b
-  parts_behind p h (xs ∷ parts) last rs a b =
+  parts_following : (p : Plan) → IsPlan p → (parts : List (List FetchedInstr)) (last : List FetchedInstr) (rs : List ℕ) → all_inner p parts ≡ true → are_inner p last ≡ true → (to : List ℕ) × (following p.frame p.distance (operations_of p) (with_epilogues spell p parts last) (Body rs) ≡ Some (Body to))
+  parts_following p h [] last rs a b = inner_following p last rs b
+  parts_following p h (xs ∷ parts) last rs a b =
       let q = and_parts (are_inner p xs) (all_inner p parts) a in
-      let first = inner_behind p xs rs q.0 in
-      let more = parts_behind p h parts last [] q.1 b in
+      let first = inner_following p xs rs q.0 in
+      let more = parts_following p h parts last [] q.1 b in
       let es = spelled_by spell (epilogue p) in
       let rest = with_epilogues spell p parts last in
-      (more.0, behind-append p.frame p.distance (operations_of p) xs (es ++ rest) (Body rs) (Body first.0) first.1 ∙ behind-append p.frame p.distance (operations_of p) es rest (Body first.0) (Body []) (epilogue_behind p h first.0) ∙ more.1)
+      (more.0, following-append p.frame p.distance (operations_of p) xs (es ++ rest) (Body rs) (Body first.0) first.1 ∙ following-append p.frame p.distance (operations_of p) es rest (Body first.0) (Body []) (epilogue_following p h first.0) ∙ more.1)
 
 pub plans_are_right : PlansAreRight
 plans_are_right spell p parts last sp h a b =
     let same = codes_plan spell p in
-    let body = parts_behind spell sp p h parts last [] a b in
+    let body = parts_following spell sp p h parts last [] a b in
     record {
       offset = h.distance;
       codes = refl;
@@ -183,5 +183,5 @@ plans_are_right spell p parts last sp h a b =
       ordered = subst (λ (xs : List UnwindOperation). is_ordered xs ≡ true) (sym same) (ordered_plan p);
       allowed = subst (λ (xs : List UnwindOperation). are_allowed p.frame xs ≡ true) (sym same) h.allowed;
       frame = λ ne. subst (λ (xs : List UnwindOperation). sets_frame xs ≡ true) (sym same) (framed_plan p ne);
-      body = subst (λ (xs : List UnwindOperation). is_body (behind p.frame p.distance xs (with_epilogues spell p parts last) (Body [])) ≡ true) (sym same) (ap is_body body.1);
+      body = subst (λ (xs : List UnwindOperation). is_body (following p.frame p.distance xs (with_epilogues spell p parts last) (Body [])) ≡ true) (sym same) (ap is_body body.1);
     }

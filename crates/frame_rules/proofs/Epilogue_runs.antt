@@ -25,7 +25,7 @@ use Rattle.frame_rules.specs.Codes.{allocation, pushes, pushed, is_saved, may_sa
 use Rattle.frame_rules.specs.Frame.{Stack}
 use Rattle.frame_rules.specs.Epilogue.{is_pop, gives_back}
 use Rattle.frame_rules.specs.Prologue.{is_call}
-use Rattle.frame_rules.specs.Body.{written, has, may_write_all, restored_by, with_restored, are_restored, Mode, Body, Leaving, is_ends, leaving, from_body, next, and_then, behind}
+use Rattle.frame_rules.specs.Body.{written, has, may_write_all, restored_by, with_restored, are_restored, Mode, Body, Leaving, is_ends, leaving, from_body, next, and_then, following}
 use Rattle.frame_rules.specs.States.{registers, Turn, Runs, is_some, is_leaving, leaves, all_leave}
 use Rattle.frame_rules.proofs.Undoing.{stack_depth, others_after}
 use Rattle.frame_rules.proofs.Order.{framed_above, stack_opened, pushes_allowed}
@@ -222,13 +222,13 @@ leave_step f offset back old ops s u x (Leaving rs) to known e l h turn = elim (
 
 -- ---- a run
 
-pub leave_run : (f offset back : ℕ) (old : ℕ → ℕ) (ops : List UnwindOperation) (xs : List FetchedInstr) (s t : State) (m to : Mode) → Known f offset old ops → behind f offset ops xs m ≡ Some to → all_leave f offset ops xs ≡ true → Has f offset old back ops s m → Runs s xs t → Has f offset old back ops t to
+pub leave_run : (f offset back : ℕ) (old : ℕ → ℕ) (ops : List UnwindOperation) (xs : List FetchedInstr) (s t : State) (m to : Mode) → Known f offset old ops → following f offset ops xs m ≡ Some to → all_leave f offset ops xs ≡ true → Has f offset old back ops s m → Runs s xs t → Has f offset old back ops t to
 leave_run f offset back old ops [] s t m to known e l h runs = subst (λ (x : State). Has f offset old back ops x to) runs (subst (Has f offset old back ops s) (some_same e) h)
 leave_run f offset back old ops (x ∷ xs) s t m to known e l h runs = go (λ k e'. leave_run f offset back old ops xs runs.0 t k to known e' parts.1) (next f offset ops x m) refl e
   where
     parts : (leaves f offset ops x ≡ true) × (all_leave f offset ops xs ≡ true)
     parts = and_parts (leaves f offset ops x) (all_leave f offset ops xs) l
 
-    go : ((k : Mode) → behind f offset ops xs k ≡ Some to → Has f offset old back ops runs.0 k → Runs runs.0 xs t → Has f offset old back ops t to) → (o : Option Mode) → next f offset ops x m ≡ o → and_then (behind f offset ops xs) o ≡ Some to → Has f offset old back ops t to
+    go : ((k : Mode) → following f offset ops xs k ≡ Some to → Has f offset old back ops runs.0 k → Runs runs.0 xs t → Has f offset old back ops t to) → (o : Option Mode) → next f offset ops x m ≡ o → and_then (following f offset ops xs) o ≡ Some to → Has f offset old back ops t to
     go more (Some k) n e = more k e (leave_step f offset back old ops s runs.0 x m k known n parts.0 h runs.1) runs.2
     go more None n e = absurd cc

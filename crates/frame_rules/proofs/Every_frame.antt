@@ -14,7 +14,7 @@ use Rattle.frame_rules.specs.Codes.{depth, pushes, pushed}
 use Rattle.frame_rules.specs.Frame.{Others, Holds, left_to}
 use Rattle.frame_rules.specs.Epilogue.{pops, is_epilogue}
 use Rattle.frame_rules.specs.Prologue.{bytes, items, codes_onto}
-use Rattle.frame_rules.specs.Body.{Mode, Body, Leaving, behind, is_body}
+use Rattle.frame_rules.specs.Body.{Mode, Body, Leaving, following, is_body}
 use Rattle.frame_rules.specs.States.{registers, Runs, IsEntry, return_address, HasItems}
 use Rattle.frame_rules.specs.Rules.{Function, ops, IsRight, InPrologue, IsBody, IsLeaving, Finds}
 use Rattle.frame_rules.specs.Laws.{FramesAreRight}
@@ -23,7 +23,7 @@ use Rattle.frame_rules.proofs.Order.{ordered}
 use Rattle.frame_rules.proofs.Steps.{Running}
 use Rattle.frame_rules.proofs.Prologues.{Good, AtMost, run_done}
 use Rattle.frame_rules.proofs.Entering.{entering}
-use Rattle.frame_rules.proofs.Bodies.{behind-append, body_holds}
+use Rattle.frame_rules.proofs.Bodies.{following-append, body_holds}
 use Rattle.frame_rules.proofs.Tails.{trails, opens_here, no_tail}
 use Rattle.frame_rules.proofs.Leaving.{InLoads, InPops, Known}
 use Rattle.frame_rules.proofs.Epilogue_runs.{Has, leave_run, pushed_or_loaded}
@@ -70,9 +70,9 @@ module _ (f : Function) (e : State) (right : IsRight f) (entry : IsEntry (depth 
       subst (λ b. Finds (by_distance s.memory f.info [] (context_of s.cpu) d b) (left_to old back) (registers s 4)) (sym lt)
       (subst (λ k. Finds (by_distance s.memory f.info [] (context_of s.cpu) k true) (left_to old back) (registers s 4)) (sym here) found)
 
-  -- the state behind it
-  pub behind_running : (p : State) → Runs e (items f.steps) p → Running fr off e back (ops f) p
-  behind_running p runs =
+  -- the state after it
+  pub following_running : (p : State) → Runs e (items f.steps) p → Running fr off e back (ops f) p
+  following_running p runs =
       let all = run_to (items f.steps) [] p (sym (append-nil (items f.steps))) runs in
       let z : 0 + bytes (items f.steps) ≡ bytes (items f.steps) = omega arith in
       let most = subst (λ d. AtMost d (codes_onto [] f.steps)) z (at_end fr off 0 [] f.steps right.steps tt) in
@@ -108,7 +108,7 @@ module _ (f : Function) (e : State) (right : IsRight f) (entry : IsEntry (depth 
       let r = rest_from s begin to h.done (h.item ∷ h.left) stands h.parts in
       let at : begin + (f.info.prologue_size + bytes h.done) ≡ s.cpu.rip = omega arith in
       let r' = subst (λ a. HasItems s.memory a (h.item ∷ h.left) to) at r in
-      past s d None (omega arith) (no_tail_at s to h.item h.left r' h.other) (whole s (body_holds fr off back e h.behind s (ops f) f.rest right.allowed right.frame right.body (behind_running h.behind h.runs) h.in_body))
+      past s d None (omega arith) (no_tail_at s to h.item h.left r' h.other) (whole s (body_holds fr off back e h.following s (ops f) f.rest right.allowed right.frame right.body (following_running h.following h.runs) h.in_body))
 
   -- ---- the epilogue
 
@@ -124,7 +124,7 @@ module _ (f : Function) (e : State) (right : IsRight f) (entry : IsEntry (depth 
       let high = entry.high in
       finds _ None (left s.memory is (context_of s.cpu)) old back (registers s 4) (epilogue_restores f.info s.memory (context_of s.cpu) (registers s 4) old back (ops f) is refl (omega arith) right.ordered right.allowed right.frame h.holds.stack (framed_context fr off (registers s 4) s (ops f) right.allowed h.holds.framed) (others_context old s (pushed (pushes (ops f))) o) p) (omega arith)
 
-  by_mode : (s : State) (d to : ℕ) (m : Mode) (ys : List FetchedInstr) → ys ≢ [] → f.info.prologue_size ≤ d → to < 2 ^ 63 → HasItems s.memory s.cpu.rip ys to → is_body (behind fr off (ops f) ys m) ≡ true → Has fr off old back (ops f) s m → Finds (in_entry s.memory f.info [] (context_of s.cpu) d) (left_to old back) (registers s 4)
+  by_mode : (s : State) (d to : ℕ) (m : Mode) (ys : List FetchedInstr) → ys ≢ [] → f.info.prologue_size ≤ d → to < 2 ^ 63 → HasItems s.memory s.cpu.rip ys to → is_body (following fr off (ops f) ys m) ≡ true → Has fr off old back (ops f) s m → Finds (in_entry s.memory f.info [] (context_of s.cpu) d) (left_to old back) (registers s 4)
   unfolding tail_at
   by_mode s d to m [] ne le lt stands b h = absurd (ne refl)
   by_mode s d to (Leaving rs) (y ∷ ys) ne le lt stands b h =
@@ -143,14 +143,14 @@ module _ (f : Function) (e : State) (right : IsRight f) (entry : IsEntry (depth 
   -- the frame on the way through an epilogue
   pub leaving_has : (s : State) (d : ℕ) → (h : IsLeaving f e s d) → Has fr off old back (ops f) s h.to
   leaving_has s d h =
-      let holds = body_holds fr off back e h.behind h.from (ops f) f.rest right.allowed right.frame right.body (behind_running h.behind h.runs) h.in_body in
+      let holds = body_holds fr off back e h.following h.from (ops f) f.rest right.allowed right.frame right.body (following_running h.following h.runs) h.in_body in
       let loads : InLoads fr off old back (ops f) [] h.from = record { length = h.in_body.length; holds = holds; restored = λ r z. absurd (false≢true z) } in
       leave_run fr off back old (ops f) h.run h.from s (Body []) h.to known h.mode_here h.leave loads h.runs_on
 
   -- the modes that follow
-  pub leaving_modes : (s : State) (d : ℕ) → (h : IsLeaving f e s d) → is_body (behind fr off (ops f) h.left h.to) ≡ true
+  pub leaving_modes : (s : State) (d : ℕ) → (h : IsLeaving f e s d) → is_body (following fr off (ops f) h.left h.to) ≡ true
   leaving_modes s d h =
-      let modes = ap (λ (xs : List FetchedInstr). behind fr off (ops f) xs (Body [])) h.parts ∙ behind-append fr off (ops f) h.done (h.run ++ h.left) (Body []) (Body []) h.mode ∙ behind-append fr off (ops f) h.run h.left (Body []) h.to h.mode_here in
+      let modes = ap (λ (xs : List FetchedInstr). following fr off (ops f) xs (Body [])) h.parts ∙ following-append fr off (ops f) h.done (h.run ++ h.left) (Body []) (Body []) h.mode ∙ following-append fr off (ops f) h.run h.left (Body []) h.to h.mode_here in
       ap is_body (sym modes) ∙ right.body
 
   is_leaving : (s : State) (begin d to : ℕ) → HasItems s.memory begin (items f.steps ++ f.rest) to → to < 2 ^ 63 → s.cpu.rip ≡ begin + d → IsLeaving f e s d → Finds (in_entry s.memory f.info [] (context_of s.cpu) d) (left_to old back) (registers s 4)

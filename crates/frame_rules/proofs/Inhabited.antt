@@ -25,7 +25,7 @@ use Rattle.frame_rules.specs.Rules.{ops}
 use Rattle.frame_rules.specs.Laws.{BodyBegins, BodyGoesOn}
 use Rattle.frame_rules.proofs.Prologues.{turn_plain, turn_call, size_plain, subtracts_plain, does_plain}
 use Rattle.frame_rules.proofs.Writing.{writes_no_other}
-use Rattle.frame_rules.proofs.Every_frame.{behind_running}
+use Rattle.frame_rules.proofs.Every_frame.{following_running}
 
 -- ---- words that may be read
 
@@ -129,7 +129,7 @@ still_steps f offset at (k ∷ ss) e s t h st runs =
 
 pub body_begins : BodyBegins
 body_begins f e p right entry runs =
-    let run = behind_running f e right entry p runs in
+    let run = following_running f e right entry p runs in
     let still = still_steps f.info.frame_register f.info.frame_offset 0 f.steps e e p right.steps (λ r nv four fr. refl) runs in
     record {
       length = run.length;

@@ -1,4 +1,4 @@
--- The epilogues of plans lead out of the body, and back into it behind them.
+-- The epilogues of plans lead out of the body, and back into it after them.
 use Rattle.std.proofs.Common.{◌≡◌, ◌≢◌, ℕ, ◌+◌, Bool, true, false, not, ◌&&◌, ◌||◌, cond, eqb, List, [], ◌∷◌, Some, refl, sym, ap, ◌∙◌, arith, inl, inr}
 use Rattle.std.proofs.lemmas.Bool.{cases_eq, false≢true, and_parts, and_from, or_left, or_right, or_cases, eq-eqb, ne_eqb, eqb-true, eqb-false, not-true, not_from_false}
 use Rattle.eh_tables.specs.declared.code.UnwindOperation.{UnwindOperation}

@@ -9,7 +9,7 @@ use Rattle.virtual_unwind.specs.declared.tail.Role.TheVariants.{Restores, Ends}
 use Rattle.virtual_unwind.specs.Tail.{FetchedInstr, role_of, ending}
 use Rattle.frame_rules.specs.Codes.{allocation, pushes}
 use Rattle.frame_rules.specs.Epilogue.{is_pop}
-use Rattle.frame_rules.specs.Body.{Mode, Body, Leaving, are_restored, leaving, from_body, next, behind, is_body}
+use Rattle.frame_rules.specs.Body.{Mode, Body, Leaving, are_restored, leaving, from_body, next, following, is_body}
 use Rattle.frame_rules.specs.States.{registers, return_address}
 use Rattle.frame_rules.specs.Rules.{ops}
 use Rattle.frame_rules.specs.Laws.{Returned, EpiloguesReturn, LeavesReturn}
@@ -71,7 +71,7 @@ pub epilogues_return : EpiloguesReturn
 epilogues_return f e s t d a x xs right entry h left instr plain ef =
     let fr = f.info.frame_register in
     let off = f.info.frame_offset in
-    let b = subst (λ (ys : List FetchedInstr). is_body (behind fr off (ops f) ys h.to) ≡ true) left (leaving_modes f e right entry s d h) in
+    let b = subst (λ (ys : List FetchedInstr). is_body (following fr off (ops f) ys h.to) ≡ true) left (leaving_modes f e right entry s d h) in
     let n = next_mode fr off (ops f) x xs h.to b in
     let role : role_of fr x.plain x.instr ≡ Ends = ap (role_of fr x.plain) instr ∙ ap ending plain in
     returned fr e s t a entry.high (none_left fr off (registers e) (return_address e) (ops f) s h.to n.to x (known f e right entry) role n.is (leaving_has f e right entry s d h)) ef

@@ -117,4 +117,4 @@ prologues_run f e right entry one lt =
     let n = depth (ops f) in
     let good : Good fr n (ops f) = record { ordered = ordered (ops f) right.ordered; allowed = right.allowed; deep = omega arith } in
     let r = ends fr off (return_address e) n e entry right.offset 0 [] f.steps e right.steps one (subst (λ (cs : List UnwindCode). Good fr n (operations cs)) right.codes good) (first_running fr off n e entry) lt in
-    record { behind = r.to; runs = r.runs; rip = r.rip }
+    record { following = r.to; runs = r.runs; rip = r.rip }

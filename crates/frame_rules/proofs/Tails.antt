@@ -16,7 +16,7 @@ use Rattle.virtual_unwind.specs.declared.tail.Role.TheVariants.{Opens, Restores,
 use Rattle.virtual_unwind.specs.Tail.{FetchedInstr, fetched_at, role_of, opening, is_of, prepend_instr, by_role, from_item, tail}
 use Rattle.frame_rules.specs.Codes.{pushes, allocation}
 use Rattle.frame_rules.specs.Epilogue.{is_pop, is_end, pops, gives_back, is_epilogue}
-use Rattle.frame_rules.specs.Body.{Mode, Body, Leaving, only_if, is_ends, are_restored, leaving, from_body, and_then, behind, is_body}
+use Rattle.frame_rules.specs.Body.{Mode, Body, Leaving, only_if, is_ends, are_restored, leaving, from_body, and_then, following, is_body}
 use Rattle.frame_rules.specs.States.{HasItems}
 use Rattle.frame_rules.proofs.Bodies.{only, Next, next_mode, pop_role}
 
@@ -67,7 +67,7 @@ trails_end f offset ops m n at first x to lt here e =
       pops = role_end f x.plain x.instr is;
     }
 
-pub trails : (f offset : ℕ) (ops : List UnwindOperation) (m : Memory) (rs : List ℕ) (n at to : ℕ) (first : Bool) (ys : List FetchedInstr) → to < 2 ^ 63 → to < at + n → HasItems m at ys to → is_body (behind f offset ops ys (Leaving rs)) ≡ true → Trails f m n at first rs
+pub trails : (f offset : ℕ) (ops : List UnwindOperation) (m : Memory) (rs : List ℕ) (n at to : ℕ) (first : Bool) (ys : List FetchedInstr) → to < 2 ^ 63 → to < at + n → HasItems m at ys to → is_body (following f offset ops ys (Leaving rs)) ≡ true → Trails f m n at first rs
 trails f offset ops m rs n at to first [] lt fuel h b = absurd (false≢true b)
 trails f offset ops m [] n at to first (x ∷ ys) lt fuel h b =
     let rise = items_rise m at (x ∷ ys) to h in
@@ -78,7 +78,7 @@ trails f offset ops m (r ∷ rs) n at to first (x ∷ ys) lt fuel h b =
     let pos = h.1 in
     let k = next_mode f offset ops x ys (Leaving (r ∷ rs)) b in
     let o = only (Some (Leaving rs)) (is_pop r x.instr) k.to k.is in
-    let rest = subst (λ (md : Mode). is_body (behind f offset ops ys md) ≡ true) (sym (some_same o.1)) k.rest in
+    let rest = subst (λ (md : Mode). is_body (following f offset ops ys md) ≡ true) (sym (some_same o.1)) k.rest in
     let more = trails f offset ops m rs (n - 1) (at + x.size) to false ys lt (omega arith) h.2 rest in
     let wraps : (at + x.size) % 2 ^ 64 ≡ at + x.size = omega arith in
     record {
@@ -107,7 +107,7 @@ pub record Opened (f offset : ℕ) (ops : List UnwindOperation) (m : Memory) (n 
   pub restored : are_restored rs ops ≡ true
   pub stands : Stands f offset ops m n at
 
-pub opens_here : (f offset : ℕ) (ops : List UnwindOperation) (m : Memory) (n at to : ℕ) (x : FetchedInstr) (ys : List FetchedInstr) (rs : List ℕ) → to < 2 ^ 63 → to < at + n → HasItems m at (x ∷ ys) to → is_body (behind f offset ops (x ∷ ys) (Body rs)) ≡ true → role_of f x.plain x.instr ≢ Other → Opened f offset ops m n at rs
+pub opens_here : (f offset : ℕ) (ops : List UnwindOperation) (m : Memory) (n at to : ℕ) (x : FetchedInstr) (ys : List FetchedInstr) (rs : List ℕ) → to < 2 ^ 63 → to < at + n → HasItems m at (x ∷ ys) to → is_body (following f offset ops (x ∷ ys) (Body rs)) ≡ true → role_of f x.plain x.instr ≢ Other → Opened f offset ops m n at rs
 opens_here f offset ops m n at to x ys rs lt fuel h b other = go (role_of f x.plain x.instr) refl
   where
     k : Next f offset ops x ys (Body rs)
@@ -123,14 +123,14 @@ opens_here f offset ops m n at to x ys rs lt fuel h b other = go (role_of f x.pl
     popping e =
         let o = only (leaving f (pushes ops) x) (are_restored rs ops && eqb (allocation ops) 0) k.to e in
         let p = and_parts (are_restored rs ops) (eqb (allocation ops) 0) o.0 in
-        let t = trails f offset ops m (pushes ops) n at to true (x ∷ ys) lt fuel h (ap (λ (a : Option Mode). is_body (and_then (behind f offset ops ys) a)) o.1 ∙ k.rest) in
+        let t = trails f offset ops m (pushes ops) n at to true (x ∷ ys) lt fuel h (ap (λ (a : Option Mode). is_body (and_then (following f offset ops ys) a)) o.1 ∙ k.rest) in
         record { restored = p.0; stands = record { instrs = t.instrs; is = t.is; epilogue = from_pops f offset ops t.instrs (eqb-true (allocation ops) 0 p.1) t.pops } }
 
     go : (r : Role) → role_of f x.plain x.instr ≡ r → Opened f offset ops m n at rs
     go Opens e =
         let o = only (Some (Leaving (pushes ops))) (are_restored rs ops && gives_back f offset (allocation ops) x.instr) k.to (sym (ap (from_body f offset ops rs x) e) ∙ k.is) in
         let p = and_parts (are_restored rs ops) (gives_back f offset (allocation ops) x.instr) o.0 in
-        let t = trails f offset ops m (pushes ops) (n - 1) (at + x.size) to false ys lt (let q = h.1 in omega arith) h.2 (subst (λ (md : Mode). is_body (behind f offset ops ys md) ≡ true) (sym (some_same o.1)) k.rest) in
+        let t = trails f offset ops m (pushes ops) (n - 1) (at + x.size) to false ys lt (let q = h.1 in omega arith) h.2 (subst (λ (md : Mode). is_body (following f offset ops ys md) ≡ true) (sym (some_same o.1)) k.rest) in
         record {
           restored = p.0;
           stands = record {

@@ -178,8 +178,8 @@ restores i m old back base (MachineFrame x ∷ ops) u n lt ol a s f o = absurd s
 
 -- ---- a context, by its registers
 
-behind_front : (xs : List ℕ) (v k : ℕ) → k ≢ 0 → get_or (set xs 0 v) k 0 ≡ get_or xs k 0
-behind_front xs v k ne = get_or-set_other xs 0 k v 0 ne
+following_front : (xs : List ℕ) (v k : ℕ) → k ≢ 0 → get_or (set xs 0 v) k 0 ≡ get_or xs k 0
+following_front xs v k ne = get_or-set_other xs 0 k v 0 ne
 
 front : (xs : List ℕ) (v : ℕ) → length xs ≡ 9 → get_or (set xs 0 v) 0 0 ≡ v
 front xs v n = get_or-set_same xs 0 v 0 (omega arith)
@@ -198,14 +198,14 @@ left_with old back c n h lt = ap (λ (xs : List ℕ). let x : Context = record {
 
     each : (k : ℕ) → k < length (set c.kept 0 v) → get_or (set c.kept 0 v) k 0 ≡ get_or (left_to old back).kept k 0
     each zero k = front c.kept v n ∙ risen
-    each (suc zero) k = behind_front c.kept v 1 (λ e. absurd (omega arith)) ∙ h 3 refl
-    each (suc (suc zero)) k = behind_front c.kept v 2 (λ e. absurd (omega arith)) ∙ h 5 refl
-    each (suc (suc (suc zero))) k = behind_front c.kept v 3 (λ e. absurd (omega arith)) ∙ h 6 refl
-    each (suc (suc (suc (suc zero)))) k = behind_front c.kept v 4 (λ e. absurd (omega arith)) ∙ h 7 refl
-    each (suc (suc (suc (suc (suc zero))))) k = behind_front c.kept v 5 (λ e. absurd (omega arith)) ∙ h 12 refl
-    each (suc (suc (suc (suc (suc (suc zero)))))) k = behind_front c.kept v 6 (λ e. absurd (omega arith)) ∙ h 13 refl
-    each (suc (suc (suc (suc (suc (suc (suc zero))))))) k = behind_front c.kept v 7 (λ e. absurd (omega arith)) ∙ h 14 refl
-    each (suc (suc (suc (suc (suc (suc (suc (suc zero)))))))) k = behind_front c.kept v 8 (λ e. absurd (omega arith)) ∙ h 15 refl
+    each (suc zero) k = following_front c.kept v 1 (λ e. absurd (omega arith)) ∙ h 3 refl
+    each (suc (suc zero)) k = following_front c.kept v 2 (λ e. absurd (omega arith)) ∙ h 5 refl
+    each (suc (suc (suc zero))) k = following_front c.kept v 3 (λ e. absurd (omega arith)) ∙ h 6 refl
+    each (suc (suc (suc (suc zero)))) k = following_front c.kept v 4 (λ e. absurd (omega arith)) ∙ h 7 refl
+    each (suc (suc (suc (suc (suc zero))))) k = following_front c.kept v 5 (λ e. absurd (omega arith)) ∙ h 12 refl
+    each (suc (suc (suc (suc (suc (suc zero)))))) k = following_front c.kept v 6 (λ e. absurd (omega arith)) ∙ h 13 refl
+    each (suc (suc (suc (suc (suc (suc (suc zero))))))) k = following_front c.kept v 7 (λ e. absurd (omega arith)) ∙ h 14 refl
+    each (suc (suc (suc (suc (suc (suc (suc (suc zero)))))))) k = following_front c.kept v 8 (λ e. absurd (omega arith)) ∙ h 15 refl
     each (suc (suc (suc (suc (suc (suc (suc (suc (suc k))))))))) lt = absurd (let l = long in omega arith)
 
 -- the return address popped

@@ -22,7 +22,7 @@ use Rattle.frame_rules.specs.States.{registers}
 use Rattle.frame_rules.specs.Laws.{WritesNoOther}
 use Rattle.frame_rules.proofs.Steps.{ok_same, set_other}
 
--- ---- an answer behind another one
+-- ---- an answer after another one
 
 pub record Bound {A B : Type 0} (a : Answer A) (f : A → Answer B) (y : B) : Type 0 where
   pub value : A

@@ -105,7 +105,7 @@ are_restored rs (x ∷ xs) = is_restored rs x && are_restored rs xs
 
 -- ---- modes
 
--- in the body, behind the loads of these registers; or in an epilogue, with these registers still to be popped
+-- in the body, after the loads of these registers; or in an epilogue, with these registers still to be popped
 pub data Mode : Type 0 where
   Body : List ℕ → Mode
   Leaving : List ℕ → Mode
@@ -137,9 +137,9 @@ abbrev pub and_then : (Mode → Option Mode) → Option Mode → Option Mode
 and_then f None = None
 and_then f (Some m) = f m
 
-abbrev pub behind : ℕ → ℕ → List UnwindOperation → List FetchedInstr → Mode → Option Mode
-behind f offset ops [] m = Some m
-behind f offset ops (x ∷ xs) m = and_then (behind f offset ops xs) (next f offset ops x m)
+abbrev pub following : ℕ → ℕ → List UnwindOperation → List FetchedInstr → Mode → Option Mode
+following f offset ops [] m = Some m
+following f offset ops (x ∷ xs) m = and_then (following f offset ops xs) (next f offset ops x m)
 
 -- a function doesn't end inside an epilogue
 abbrev pub is_body : Option Mode → Bool

@@ -39,7 +39,7 @@ ItemsStand =
 abbrev pub prologue_code : Plan → List Instr
 prologue_code p = flat_map (instructions_of p) (turned [] (operations_of p))
 
--- parts of a body, an epilogue behind each
+-- parts of a body, an epilogue after each
 abbrev pub rest_code : Plan → List (List Instr) → List Instr → List Instr
 rest_code p [] last = last
 rest_code p (is ∷ parts) last = is ++ (epilogue p ++ rest_code p parts last)

@@ -21,7 +21,7 @@ use Rattle.frame_rules.specs.States.{registers, Runs, KeepsWords, InBody, IsEntr
 use Rattle.frame_rules.specs.Rules.{Function, ops, IsRight, IsLeaving, Stands, Finds, IsFound, HasForm}
 use Rattle.frame_rules.specs.Plan.{Plan, IsPlan, IsSpelling, operations_of, frame_size, are_inner, all_inner, function_of}
 use Rattle.frame_rules.specs.Validated.{keeps_rules}
-use Rattle.frame_rules.specs.Body.{written, is_a_call, has, may_write_all, Body, behind, is_body}
+use Rattle.frame_rules.specs.Body.{written, is_a_call, has, may_write_all, Body, following, is_body}
 use Rattle.frame_rules.specs.Frame.{Stack, Framed, Others, left_to}
 
 -- undoing codes gives the caller
@@ -70,7 +70,7 @@ abbrev pub LeavesAreFound : Type 0
 LeavesAreFound =
     (t : Tables) (rest : List FetchedInstr) (e s : State)
     → holding (distance t.image.base s.cpu.rip) (entries_of t) ≡ None
-    → is_body (behind 0 0 [] rest (Body [])) ≡ true → IsEntry 0 e → InBody 0 [] rest e e s
+    → is_body (following 0 0 [] rest (Body [])) ≡ true → IsEntry 0 e → InBody 0 [] rest e e s
     → IsFound (caller_of t s.memory (context_of s.cpu)) (left_to (registers e) (return_address e))
 
 -- ---- the rules as a test
@@ -116,7 +116,7 @@ EpiloguesReturn =
 abbrev pub LeavesReturn : Type 0
 LeavesReturn =
     (rest : List FetchedInstr) (e s t : State) (a : ℕ)
-    → is_body (behind 0 0 [] rest (Body [])) ≡ true → IsEntry 0 e → InBody 0 [] rest e e s
+    → is_body (following 0 0 [] rest (Body [])) ≡ true → IsEntry 0 e → InBody 0 [] rest e e s
     → effect (with_rip s a) instrs.Return ≡ Ok t
     → Returned e s t
 
@@ -129,9 +129,9 @@ FrameHasItsSize = (p : Plan) → depth (operations_of p) + 8 ≡ frame_size p
 -- ---- a prologue can be run
 
 pub record Enters (f : Function) (e : State) : Type 0 where
-  pub behind : State
-  pub runs : Runs e (items f.steps) behind
-  pub rip : behind.cpu.rip ≡ e.cpu.rip + bytes (items f.steps)
+  pub following : State
+  pub runs : Runs e (items f.steps) following
+  pub rip : following.cpu.rip ≡ e.cpu.rip + bytes (items f.steps)
 
 -- where it has no call: from each state with room for its frame
 abbrev pub ProloguesRun : Type 0
@@ -139,7 +139,7 @@ ProloguesRun = (f : Function) (e : State) → IsRight f → IsEntry (depth (ops 
 
 -- ---- the states of the body
 
--- the state behind the prologue is one
+-- the state after the prologue is one
 abbrev pub BodyBegins : Type 0
 BodyBegins =
     (f : Function) (e p : State) → IsRight f → IsEntry (depth (ops f)) e → Runs e (items f.steps) p

@@ -142,7 +142,7 @@ abbrev pub are_inner : Plan → List FetchedInstr → Bool
 are_inner p [] = true
 are_inner p (x ∷ xs) = is_inner p x && are_inner p xs
 
--- parts of a body, an epilogue behind each; behind the last there may be more of the body
+-- parts of a body, an epilogue after each; after the last there may be more of the body
 abbrev pub with_epilogues : (Instr → FetchedInstr) → Plan → List (List FetchedInstr) → List FetchedInstr → List FetchedInstr
 with_epilogues spell p [] last = last
 with_epilogues spell p (xs ∷ xss) last = xs ++ (spelled_by spell (epilogue p) ++ with_epilogues spell p xss last)

@@ -11,10 +11,10 @@ use Rattle.virtual_unwind.specs.Tail.{FetchedInstr, role_of}
 use Rattle.virtual_unwind.specs.CallerOf.{CallerFrame, sets_frame}
 use Rattle.frame_rules.specs.Codes.{are_allowed, is_ordered}
 use Rattle.frame_rules.specs.Prologue.{bytes, Step, items, codes_onto, AreSteps}
-use Rattle.frame_rules.specs.Body.{Mode, Body, behind, is_body}
+use Rattle.frame_rules.specs.Body.{Mode, Body, following, is_body}
 use Rattle.frame_rules.specs.States.{Runs, InBody, all_leave}
 
--- a function: its unwind info, the steps of its prologue, and the instructions behind it
+-- a function: its unwind info, the steps of its prologue, and the instructions after it
 pub record Function : Type 0 where
   pub info : Info
   pub steps : List Step
@@ -34,11 +34,11 @@ pub record IsRight (f : Function) : Type 0 where
   pub ordered : is_ordered (ops f) ≡ true
   pub allowed : are_allowed f.info.frame_register (ops f) ≡ true
   pub frame : f.info.frame_register ≢ 0 → sets_frame (ops f) ≡ true
-  pub body : is_body (behind f.info.frame_register f.info.frame_offset (ops f) f.rest (Body [])) ≡ true
+  pub body : is_body (following f.info.frame_register f.info.frame_offset (ops f) f.rest (Body [])) ≡ true
 
 -- the mode at a place
-abbrev pub mode_behind : Function → List FetchedInstr → Mode → Mode → Type 0
-mode_behind f xs from to = behind f.info.frame_register f.info.frame_offset (ops f) xs from ≡ Some to
+abbrev pub mode_following : Function → List FetchedInstr → Mode → Mode → Type 0
+mode_following f xs from to = following f.info.frame_register f.info.frame_offset (ops f) xs from ≡ Some to
 
 -- ---- the states, e at the first byte, so far from it
 
@@ -53,33 +53,33 @@ pub record InPrologue (f : Function) (e s : State) (distance : ℕ) : Type 0 whe
 
 -- in the body, at an instruction that belongs to no epilogue
 pub record IsBody (f : Function) (e s : State) (distance : ℕ) : Type 0 where
-  pub behind : State  -- the prologue
-  pub runs : Runs e (items f.steps) behind
+  pub following : State  -- the prologue
+  pub runs : Runs e (items f.steps) following
   pub done : List FetchedInstr
   pub item : FetchedInstr
   pub left : List FetchedInstr
   pub loaded : List ℕ
   pub parts : f.rest ≡ done ++ (item ∷ left)
-  pub mode : mode_behind f done (Body []) (Body loaded)
+  pub mode : mode_following f done (Body []) (Body loaded)
   pub other : role_of f.info.frame_register item.plain item.instr ≡ Other
   pub here : distance ≡ f.info.prologue_size + bytes done
-  pub in_body : InBody f.info.frame_register (ops f) f.rest e behind s
+  pub in_body : InBody f.info.frame_register (ops f) f.rest e following s
 
 -- reached from a state of the body by the loads of saved registers and the epilogue's instructions before it
 pub record IsLeaving (f : Function) (e s : State) (distance : ℕ) : Type 0 where
-  pub behind : State  -- the prologue
-  pub runs : Runs e (items f.steps) behind
+  pub following : State  -- the prologue
+  pub runs : Runs e (items f.steps) following
   pub from : State
   pub done : List FetchedInstr
   pub run : List FetchedInstr
   pub left : List FetchedInstr
   pub to : Mode
   pub parts : f.rest ≡ done ++ (run ++ left)
-  pub mode : mode_behind f done (Body []) (Body [])
-  pub mode_here : mode_behind f run (Body []) to
+  pub mode : mode_following f done (Body []) (Body [])
+  pub mode_here : mode_following f run (Body []) to
   pub leave : all_leave f.info.frame_register f.info.frame_offset (ops f) run ≡ true
   pub here : distance ≡ f.info.prologue_size + (bytes done + bytes run)
-  pub in_body : InBody f.info.frame_register (ops f) f.rest e behind from
+  pub in_body : InBody f.info.frame_register (ops f) f.rest e following from
   pub runs_on : Runs from run s
   pub goes_on : left ≢ []
 
@@ -100,7 +100,7 @@ pub record IsFound (a : Answer CallerFrame) (c : Context) : Type 0 where
   pub is : a ≡ Ok found
   pub context : found.context ≡ c
 
--- a function of these instructions in its prologue and behind it
+-- a function of these instructions in its prologue and after it
 pub record HasForm (i : Info) (xs ys : List FetchedInstr) : Type 0 where
   pub steps : List Step
   pub spelled : items steps ≡ xs

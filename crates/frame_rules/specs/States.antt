@@ -78,7 +78,7 @@ abbrev pub is_written : ℕ → ℕ → List FetchedInstr → Bool
 is_written f r [] = false
 is_written f r (x ∷ xs) = writes f r x || is_written f r xs
 
--- p: the state behind the prologue
+-- p: the state after the prologue
 pub record InBody (f : ℕ) (ops : List UnwindOperation) (rest : List FetchedInstr) (e p s : State) : Type 0 where
   pub length : length s.cpu.registers ≡ 16
   pub stack : registers s 4 ≡ registers p 4

@@ -1,4 +1,4 @@
--- The rules as a test on what is decoded: an unwind info, the instructions of its prologue, and those behind it up to the entry's end. Decode is that these instructions stand there, and Chain that the info has no parent.
+-- The rules as a test on what is decoded: an unwind info, the instructions of its prologue, and those after it up to the entry's end. Decode is that these instructions stand there, and Chain that the info has no parent.
 use Rattle.std.specs.Prelude.{ℕ, ◌+◌, ◌^◌, Bool, true, false, not, ◌==◌, ◌&&◌, ◌||◌, nat_lt, List, [], ◌∷◌, Option, Some, None}
 use Rattle.eh_tables.specs.declared.code.UnwindCode.{UnwindCode}
 use Rattle.eh_tables.specs.Infos.{Info}
@@ -7,7 +7,7 @@ use Rattle.virtual_unwind.specs.Tail.{FetchedInstr}
 use Rattle.virtual_unwind.specs.CallerOf.{has_frame, sets_frame}
 use Rattle.frame_rules.specs.Codes.{are_allowed, is_ordered}
 use Rattle.frame_rules.specs.Prologue.{bytes, is_step, are_sized, Step}
-use Rattle.frame_rules.specs.Body.{Body, behind, is_body}
+use Rattle.frame_rules.specs.Body.{Body, following, is_body}
 
 -- in the order of execution
 abbrev pub turned : List UnwindCode → List UnwindCode → List UnwindCode
@@ -60,7 +60,7 @@ has_prologue i xs = is_ordered (operations i.codes) && ((i.prologue_size == byte
 
 -- StackWrite, Unsaved and Epilogue
 abbrev pub has_body : Info → List FetchedInstr → Bool
-has_body i xs = is_body (behind i.frame_register i.frame_offset (operations i.codes) xs (Body []))
+has_body i xs = is_body (following i.frame_register i.frame_offset (operations i.codes) xs (Body []))
 
 abbrev pub keeps_rules : Info → List FetchedInstr → List FetchedInstr → Bool
 keeps_rules i xs ys = nat_lt i.frame_offset (2 ^ 16) && (has_codes i && (has_prologue i xs && has_body i ys))

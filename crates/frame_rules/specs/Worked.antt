@@ -5,7 +5,7 @@ use Rattle.eh_tables.specs.declared.code.UnwindOperation.TheVariants.{Push, Allo
 use Rattle.eh_tables.specs.declared.code.UnwindCode.{UnwindCode}
 use Rattle.eh_tables.specs.Infos.{Info}
 use Rattle.virtual_unwind.specs.Tail.{FetchedInstr, item_of}
-use Rattle.frame_rules.specs.Body.{Body, behind, is_body}
+use Rattle.frame_rules.specs.Body.{Body, following, is_body}
 use Rattle.frame_rules.specs.Validated.{keeps_rules}
 
 -- ---- the instructions that bytes spell one after another, up to the first that is none
@@ -30,7 +30,7 @@ abbrev pub keeps : Info → List ℕ → List ℕ → Bool
 keeps i prologue rest = keeps_rules i (instructions prologue) (instructions rest)
 
 abbrev pub is_leaf : List ℕ → Bool
-is_leaf bytes = is_body (behind 0 0 [] (instructions bytes) (Body []))
+is_leaf bytes = is_body (following 0 0 [] (instructions bytes) (Body []))
 
 -- ---- push rbx, sub rsp,32
 

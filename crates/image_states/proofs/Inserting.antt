@@ -44,7 +44,7 @@ module _ (begin : ℕ → ℕ) (kind : ℕ → Bool) where
     in_front a b [] all = refl
     in_front a b (x ∷ xs) all = ap (if_below a b x xs (inserted a b xs)) (lt-ltb a x.address all.0)
 
-    -- behind one with a lower address
+    -- after one with a lower address
     after : (k from : ℕ) (xs : List Funclet) → begin from < begin k → inserted (begin k) (kind k) (item from ∷ xs) ≡ item from ∷ inserted (begin k) (kind k) xs
     after k from xs lt =
         ap (if_below (begin k) (kind k) (item from) xs (inserted (begin k) (kind k) xs)) (le-ltb (begin k) (begin from) (omega arith))

@@ -95,7 +95,7 @@ pub slots_past : (base : ℕ) (byte : ℕ → ℕ) (a : ℕ) (is : List Import) 
 slots_past base byte a [] le = refl
 slots_past base byte a (i ∷ is) le = slots_past base (with_address byte (base + i.slot) (service_named i.name)) a is le ∙ address_past byte (base + i.slot) a (service_named i.name) le
 
--- ---- zeros behind a list
+-- ---- zeros after a list
 
 pub get_zeros : (xs : List ℕ) (n i : ℕ) → get_or (xs ++ replicate n 0) i 0 ≡ get_or xs i 0
 get_zeros [] zero i = refl

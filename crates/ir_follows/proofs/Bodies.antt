@@ -44,7 +44,7 @@ abbrev pub Lands : List Region → ℕ → Type 0
 Lands [] label = Unit {0}
 Lands (r ∷ rs) label = (holds label r ≡ true) ⊎ (IsExcept r.kind r.end × Lands rs label)
 
--- the way leads behind this place
+-- the way leads after this place
 abbrev pub JumpFits : List Region → ℕ → jumps.Way → Type 0
 JumpFits rs hi Nowhere = Unit {0}
 JumpFits rs hi (Jumps label) = (hi ≤ label) × Lands rs label

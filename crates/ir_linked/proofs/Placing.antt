@@ -145,7 +145,7 @@ module _ (program : Program) (linear : LinearProgram) (pace most own : ℕ) wher
   pub bare : (b : BodyName) (rs regions : List Region) (q : ℕ) → held q regions ≡ [] → regions_at linear b q ≡ held q regions ++ rs → regions_at linear b q ≡ rs
   bare b rs regions q e c = c ∙ ap (λ x. x ++ rs) e
 
-  -- inside the region of a `__try`, which stands behind those of its body
+  -- inside the region of a `__try`, which stands after those of its body
   inside_own : (b : BodyName) (rs : List Region) (own : Region) (body rest : List Region) (q : ℕ) → held q rest ≡ own ∷ [] → regions_at linear b q ≡ held q (body ++ rest) ++ rs → regions_at linear b q ≡ held q body ++ (own ∷ rs)
   inside_own b rs own body rest q e c =
       c ∙ ap (λ x. x ++ rs) (held_append body rest q ∙ ap (λ x. held q body ++ x) e) ∙ append_assoc (held q body) (own ∷ []) rs
@@ -254,7 +254,7 @@ module _ (program : Program) (linear : LinearProgram) (pace most own : ℕ) wher
           let h5 = back lb.code (again + 1) (again + 1 + discarded_size next) steps repeat (omega arith) h4.1 in
           let r = statement_regions s start in
           let before = λ (q : ℕ) (lo : at ≤ q) (hi : q < start). bare b rs r q (outside s start q (inl hi)) (c q lo (omega arith)) in
-          let behind = λ (q : ℕ) (lo : again ≤ q) (hi : q < end). bare b rs r q (outside s start q (inr lo)) (c q (omega arith) (omega arith)) in (
+          let following = λ (q : ℕ) (lo : again ≤ q) (hi : q < end). bare b rs r q (outside s start q (inr lo)) (c q (omega arith) (omega arith)) in (
             all_declared_placed b lb there i.scope a.knows names ds rs at (both_left _ _ (both_left _ _ (both_left _ _ (both_left _ _ ok)))) (front lb.code at declares _ h) (λ q lo hi. before q lo (omega arith)),
             optional_fits i.scope a.knows first' (both_right _ _ (both_left _ _ (both_left _ _ (both_left _ _ ok)))),
             code_stands b lb there rs begin begins (front lb.code begin begins _ h1) (λ q lo hi. before q (omega arith) (omega arith)),
@@ -263,9 +263,9 @@ module _ (program : Program) (linear : LinearProgram) (pace most own : ℕ) wher
               optional_fits i.scope a.knows next (both_right _ _ (both_left _ _ ok)),
               code_stands b lb there rs iteration tests (front lb.code iteration tests _ h2) (λ q lo hi. before q (omega arith) (omega arith)),
               place s b lb there (record i { loop = true }) inner (loop_alike i scope end again a) owner rs start j (both_right _ _ ok) (omega arith) (front lb.code start body _ h3) (λ q lo hi. c q (omega arith) (omega arith)) f n,
-              code_stands b lb there rs again (Separator ∷ []) (h4.0, tt) (λ q lo hi. behind q lo (omega arith)),
-              code_stands b lb there rs (again + 1) steps (front lb.code (again + 1) steps repeat h4.1) (λ q lo hi. behind q (omega arith) (omega arith)),
-              code_stands b lb there rs (again + 1 + discarded_size next) repeat h5 (λ q lo hi. behind q (omega arith) (omega arith)),
+              code_stands b lb there rs again (Separator ∷ []) (h4.0, tt) (λ q lo hi. following q lo (omega arith)),
+              code_stands b lb there rs (again + 1) steps (front lb.code (again + 1) steps repeat h4.1) (λ q lo hi. following q (omega arith) (omega arith)),
+              code_stands b lb there rs (again + 1 + discarded_size next) repeat h5 (λ q lo hi. following q (omega arith) (omega arith)),
             ),
           )
       place (DoWhile s t) b lb there i scope a owner rs at j ok light h c f n =
@@ -282,12 +282,12 @@ module _ (program : Program) (linear : LinearProgram) (pace most own : ℕ) wher
           let h1 = back lb.code at again body (Separator ∷ (code ++ repeated end at)) (omega arith) h in
           let h2 = back lb.code (again + 1) (again + 1 + expression_size t) code (repeated end at) (omega arith) h1.1 in
           let r = statement_regions s at in
-          let behind = λ (q : ℕ) (lo : again ≤ q) (hi : q < end). bare b rs r q (outside s at q (inr lo)) (c q (omega arith) (omega arith)) in (
+          let following = λ (q : ℕ) (lo : again ≤ q) (hi : q < end). bare b rs r q (outside s at q (inr lo)) (c q (omega arith) (omega arith)) in (
             expression_fits program own false i.scope a.knows t (both_left _ _ (both_left _ _ ok)),
             place s b lb there (record i { loop = true }) inner (loop_alike i scope end again a) owner rs at j (both_right _ _ ok) (omega arith) (front lb.code at body _ h) (λ q lo hi. c q lo (omega arith)) f n,
-            code_stands b lb there rs again (Separator ∷ []) (h1.0, tt) (λ q lo hi. behind q lo (omega arith)),
-            code_stands b lb there rs (again + 1) (code ++ test ∷ []) (with_next lb.code (again + 1) code test (Jump at ∷ []) h1.1) (λ q lo hi. behind q (omega arith) (omega arith)),
-            code_stands b lb there rs (again + 1 + expression_size t + 1) (Jump at ∷ []) h2.1 (λ q lo hi. behind q (omega arith) (omega arith)),
+            code_stands b lb there rs again (Separator ∷ []) (h1.0, tt) (λ q lo hi. following q lo (omega arith)),
+            code_stands b lb there rs (again + 1) (code ++ test ∷ []) (with_next lb.code (again + 1) code test (Jump at ∷ []) h1.1) (λ q lo hi. following q (omega arith) (omega arith)),
+            code_stands b lb there rs (again + 1 + expression_size t + 1) (Jump at ∷ []) h2.1 (λ q lo hi. following q (omega arith) (omega arith)),
           )
       place (Return e) b lb there i scope a owner rs at j ok light h c f n =
           let code = returned_code scope.names e at in

@@ -30,10 +30,10 @@ get_next (x ∷ front) y ys = get_next front y ys
 length_push : {X : Type 0} (front : List X) (y : X) → length (front ++ y ∷ []) ≡ length front + 1
 length_push front y = length-append front (y ∷ [])
 
-behind : {X : Type 0} (xs front ys : List X) → xs ≡ front ++ ys → StandsAt xs (length front) ys
-behind xs front [] e = tt
-behind xs front (y ∷ ys) e =
-    (ap (λ l. slice_get l (length front)) e ∙ get_next front y ys, subst (λ k. StandsAt xs k ys) (length_push front y) (behind xs (front ++ y ∷ []) ys (e ∙ sym (append_assoc front (y ∷ []) ys))))
+following : {X : Type 0} (xs front ys : List X) → xs ≡ front ++ ys → StandsAt xs (length front) ys
+following xs front [] e = tt
+following xs front (y ∷ ys) e =
+    (ap (λ l. slice_get l (length front)) e ∙ get_next front y ys, subst (λ k. StandsAt xs k ys) (length_push front y) (following xs (front ++ y ∷ []) ys (e ∙ sym (append_assoc front (y ∷ []) ys))))
 
 pub stands_itself : {X : Type 0} (xs : List X) → StandsAt xs 0 xs
-stands_itself xs = behind xs [] xs refl
+stands_itself xs = following xs [] xs refl

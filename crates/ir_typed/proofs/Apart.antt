@@ -184,12 +184,12 @@ module _ (around : ℕ → List Region) where
         let ln = discarded_length names next (again + 1) in
         let r = statement_regions s start in
         let before = λ (q : ℕ) (lo : at ≤ q) (hi : q < start). bare rs r q (outside s start q (inl hi)) (c q lo (omega arith)) in
-        let behind = λ (q : ℕ) (lo : again ≤ q) (hi : q < end). bare rs r q (outside s start q (inr lo)) (c q (omega arith) (omega arith)) in
+        let following = λ (q : ℕ) (lo : again ≤ q) (hi : q < end). bare rs r q (outside s start q (inr lo)) (c q (omega arith) (omega arith)) in
         joined at begin declares _ (omega arith) (all_declared_apart rs names ds at (λ q lo hi. before q lo (omega arith)))
         (joined begin iteration begins _ (omega arith) (discarded_apart rs names first begin (λ q lo hi. before q (omega arith) (omega arith)))
         (joined iteration start tests _ (omega arith) (condition_apart rs names t end iteration (λ q lo hi. before q (omega arith) (omega arith)))
         (joined start again body _ (omega arith) (statement_apart s inner rs start (λ q lo hi. c q (omega arith) (omega arith)))
-        ((λ x. no_call x), joined (again + 1) (again + 1 + discarded_size next) steps _ (omega arith) (discarded_apart rs names next (again + 1) (λ q lo hi. behind q (omega arith) (omega arith))) ((λ x. no_call x), tt)))))
+        ((λ x. no_call x), joined (again + 1) (again + 1 + discarded_size next) steps _ (omega arith) (discarded_apart rs names next (again + 1) (λ q lo hi. following q (omega arith) (omega arith))) ((λ x. no_call x), tt)))))
     statement_apart (DoWhile s t) scope rs at c =
         let again = at + statement_size s in
         let end = again + 1 + expression_size t + 2 in
@@ -197,9 +197,9 @@ module _ (around : ℕ → List Region) where
         let body = statement_code inner s at in
         let ls = statement_length inner s at in
         let r = statement_regions s at in
-        let behind = λ (q : ℕ) (lo : again ≤ q) (hi : q < end). bare rs r q (outside s at q (inr lo)) (c q (omega arith) (omega arith)) in
+        let following = λ (q : ℕ) (lo : again ≤ q) (hi : q < end). bare rs r q (outside s at q (inr lo)) (c q (omega arith) (omega arith)) in
         joined at again body _ (omega arith) (statement_apart s inner rs at (λ q lo hi. c q lo (omega arith)))
-        ((λ x. no_call x), used rs scope.names t (again + 1) (repeated end at) (λ q lo hi. behind q (omega arith) (omega arith)) ((λ x. no_call x), ((λ x. no_call x), tt)))
+        ((λ x. no_call x), used rs scope.names t (again + 1) (repeated end at) (λ q lo hi. following q (omega arith) (omega arith)) ((λ x. no_call x), ((λ x. no_call x), tt)))
     statement_apart (Return e) scope rs at c =
         let l = returned_length scope.names e at in
         joined at (at + returned_size e) (returned_code scope.names e at) (return_code scope.exit) (omega arith) (inside_all rs at (returned_code scope.names e at) (λ q lo hi. c q lo (omega arith)))

@@ -165,20 +165,20 @@ module _ (linear : LinearProgram) where
       (and_from (nat_eq target.depth (length c.below)) (holds target.label r || leads_to r.kind target.label) (eq-eqb target.depth (length c.below) d) e)
 
   -- a region that isn't the end is left
-  left_behind : (next : Next) (target : Target) (out : Store → Seen) (r : Region) (regions : List Region) (c : Configuration) → BlockAt r.kind r.end → r.begin ≤ r.end → Outward target r (length c.below)
+  left_following : (next : Next) (target : Target) (out : Store → Seen) (r : Region) (regions : List Region) (c : Configuration) → BlockAt r.kind r.end → r.begin ≤ r.end → Outward target r (length c.below)
       → unwind_body linear next target out (r ∷ regions) c ≡ leave_region linear next target r.kind regions (unwind_body linear next target out regions c) c
   unfolding pick
-  left_behind next target out r regions c block le o =
+  left_following next target out r regions c block le o =
       ap (λ b. pick b (arrive target target.code next c) (leave_region linear next target r.kind regions (unwind_body linear next target out regions c) c)) (further target r (length c.below) block le o)
 
   pub skips : (next : Next) (target : Target) (out : Store → Seen) (r : Region) (label : ℕ) (regions : List Region) (c : Configuration) → IsExcept r.kind label → BlockAt r.kind r.end → r.begin ≤ r.end → Outward target r (length c.below)
       → unwind_body linear next target out (r ∷ regions) c ≡ unwind_body linear next target out regions c
   skips next target out r label regions c e block le o =
-      left_behind next target out r regions c block le o ∙ except_left linear next target r.kind label regions (unwind_body linear next target out regions c) c e
+      left_following next target out r regions c block le o ∙ except_left linear next target r.kind label regions (unwind_body linear next target out regions c) c e
 
   pub starts : (next : Next) (target : Target) (out : Store → Seen) (begin end k : ℕ) (regions : List Region) (c : Configuration) → begin ≤ end → Outward target (record { begin = begin; end = end; kind = kinds.Finally k }) (length c.below)
       → unwind_body linear next target out (record { begin = begin; end = end; kind = kinds.Finally k } ∷ regions) c ≡ run_finally linear k true target.held (Unwinds regions target ∷ Waits c.frame ∷ c.below) next c
-  starts next target out begin end k regions c le o = left_behind next target out (record { begin = begin; end = end; kind = kinds.Finally k }) regions c tt le o
+  starts next target out begin end k regions c le o = left_following next target out (record { begin = begin; end = end; kind = kinds.Finally k }) regions c tt le o
 
   pub leaves : (next : Next) (target : Target) (out : Store → Seen) (c : Configuration) → target.depth < length c.below → unwind_body linear next target out [] c ≡ out (left_store c.frame.body c.frame.activation c.store)
   unfolding pick

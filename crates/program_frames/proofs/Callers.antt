@@ -12,7 +12,7 @@ use Rattle.virtual_unwind.specs.Tail.{FetchedInstr, fetched_at}
 use Rattle.virtual_unwind.specs.CallerOf.{Functions, caller_in, caller_of, functions_of, distance}
 use Rattle.frame_rules.specs.Frame.{left_to}
 use Rattle.frame_rules.specs.Prologue.{bytes, items}
-use Rattle.frame_rules.specs.Body.{Body, behind, is_body}
+use Rattle.frame_rules.specs.Body.{Body, following, is_body}
 use Rattle.frame_rules.specs.Rules.{Function, IsRight, ops, InPrologue, IsBody, IsLeaving, IsFound}
 use Rattle.frame_rules.specs.Rules as rules
 use Rattle.frame_rules.specs.States.{registers, return_address, IsEntry, InBody, HasItems}
@@ -49,10 +49,10 @@ has_bytes : (m : Memory) (at : ℕ) (xs : List FetchedInstr) (to : ℕ) → HasI
 has_bytes m at [] to h = let e : at ≡ to = h in omega arith
 has_bytes m at (x ∷ xs) to h = let r = has_bytes m (at + x.size) xs to h.2 in omega arith
 
-behind_items : (m : Memory) (at : ℕ) (a b : List FetchedInstr) (to : ℕ) → HasItems m at (a ++ b) to → HasItems m (at + bytes a) b to
-behind_items m at [] b to h = let e : at ≡ at + 0 = omega arith in subst (λ n. HasItems m n b to) e h
-behind_items m at (x ∷ a) b to h =
-    let r = behind_items m (at + x.size) a b to h.2 in
+following_items : (m : Memory) (at : ℕ) (a b : List FetchedInstr) (to : ℕ) → HasItems m at (a ++ b) to → HasItems m (at + bytes a) b to
+following_items m at [] b to h = let e : at ≡ at + 0 = omega arith in subst (λ n. HasItems m n b to) e h
+following_items m at (x ∷ a) b to h =
+    let r = following_items m (at + x.size) a b to h.2 in
     let e : at + x.size + bytes a ≡ at + (x.size + bytes a) = omega arith in
     subst (λ n. HasItems m n b to) e r
 
@@ -64,28 +64,28 @@ before_end m at (x ∷ xs) to h ne = let r = has_bytes m (at + x.size) xs to h.2
 inside : (g : Function) (e s : State) (d at to : ℕ) (m : Memory) → IsRight g → HasItems m at (items g.steps ++ g.rest) to → rules.Stands g e s d → at + d < to
 inside g e s d at to m ok has st = elim st [
   | inl h ↦
-      let behind' = behind_items m at (items g.steps) g.rest to has in
-      let all = has_bytes m (at + bytes (items g.steps)) g.rest to behind' in
+      let following' = following_items m at (items g.steps) g.rest to has in
+      let all = has_bytes m (at + bytes (items g.steps)) g.rest to following' in
       let before = h.before in
       let here = h.here in
       let size = ok.prologue_size in
       omega arith
   | inr h ↦ elim h [
     | inl b ↦
-        let behind' = behind_items m at (items g.steps) g.rest to has in
+        let following' = following_items m at (items g.steps) g.rest to has in
         let size = ok.prologue_size in
         let here = b.here in
         let at' = at + bytes (items g.steps) in
-        let more = behind_items m at' b.done (b.item ∷ b.left) to (subst (λ xs. HasItems m at' xs to) b.parts behind') in
+        let more = following_items m at' b.done (b.item ∷ b.left) to (subst (λ xs. HasItems m at' xs to) b.parts following') in
         let lt = before_end m (at' + bytes b.done) (b.item ∷ b.left) to more (λ z. some_items z) in
         omega arith
     | inr l ↦
-        let behind' = behind_items m at (items g.steps) g.rest to has in
+        let following' = following_items m at (items g.steps) g.rest to has in
         let size = ok.prologue_size in
         let here = l.here in
         let at' = at + bytes (items g.steps) in
-        let more = behind_items m at' l.done (l.run ++ l.left) to (subst (λ xs. HasItems m at' xs to) l.parts behind') in
-        let last = behind_items m (at' + bytes l.done) l.run l.left to more in
+        let more = following_items m at' l.done (l.run ++ l.left) to (subst (λ xs. HasItems m at' xs to) l.parts following') in
+        let last = following_items m (at' + bytes l.done) l.run l.left to more in
         let lt = before_end m (at' + bytes l.done + bytes l.run) l.left to last l.goes_on in
         omega arith
   ]
@@ -125,7 +125,7 @@ frames_are_found p index x f e s d framed regions entry text rip st =
 -- ---- without an entry
 
 unheld : (p : LinearProgram) (fits : FitsProgram p) → HasRegions p → (e s : State) (rest : List FetchedInstr) (rva : ℕ) → rva < 2 ^ 32 → s.cpu.rip ≡ image_base + rva → holding rva (entries p) ≡ None
-    → is_body (behind 0 0 [] rest (Body [])) ≡ true → IsEntry 0 e → InBody 0 [] rest e e s → FindsCaller p e s
+    → is_body (following 0 0 [] rest (Body [])) ≡ true → IsEntry 0 e → InBody 0 [] rest e e s → FindsCaller p e s
 unheld p fits regions e s rest rva small rip none ok entry body =
     let here : distance image_base s.cpu.rip ≡ rva = ap (distance image_base) rip ∙ away rva small in
     same_walk p fits regions e s (leaves_are_found (table p fits) rest e s (ap (λ n. holding n (entries_of (table p fits))) here ∙ held p fits regions rva None none) ok entry body)
@@ -140,11 +140,11 @@ leaves_are_found' p index x e s fits regions at none h =
     let leads = fine.leads [] in
     unheld p fits regions e s (leaf p x) h.rva (omega arith) h.here (leaves_are_held_by_none p index x h.rva fits at none h.low h.high) (ap is_body leads.1) h.entry h.body
 
-thunk_ok : (p : LinearProgram) (service : Service) → is_body (behind 0 0 [] (thunk_of p service) (Body [])) ≡ true
+thunk_ok : (p : LinearProgram) (service : Service) → is_body (following 0 0 [] (thunk_of p service) (Body [])) ≡ true
 unfolding modrm
 thunk_ok p service = refl
 
-probe_ok : is_body (behind 0 0 [] probe (Body [])) ≡ true
+probe_ok : is_body (following 0 0 [] probe (Body [])) ≡ true
 unfolding modrm
 probe_ok = refl
 

@@ -41,7 +41,7 @@ pub inner_both : (a b : List Instr) → AllInner a → AllInner b → AllInner (
 inner_both [] b p q = q
 inner_both (i ∷ a) b p q = (p.0, inner_both a b p.1 q)
 
--- the one behind others
+-- the one after others
 pub inner_at : (a b : List Instr) (i : Instr) → AllInner (a ++ (i ∷ b)) → Inner i
 inner_at [] b i all = all.0
 inner_at (j ∷ a) b i all = inner_at a b i all.1

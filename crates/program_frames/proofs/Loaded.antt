@@ -53,7 +53,7 @@ module _ (p : LinearProgram) (fits : FitsProgram p) where
   here : (k : ℕ) → at + k ≡ image_base + text_at (sizes_of program) + k
   here k = omega arith
 
-  -- ---- the slots are behind it
+  -- ---- the slots are after it
 
   beside_all : (a : ℕ) → a < image_base + r → AllByRecursion (λ (i : Import). IsBeside a (image_base + i.slot)) (imported (r + 88) services)
   beside_all a lt =

@@ -1,4 +1,4 @@
--- The instructions behind a prologue lead from the body to the body.
+-- The instructions after a prologue lead from the body to the body.
 use Rattle.std.proofs.Common.{◌≡◌, ℕ, zero, suc, ◌+◌, ◌^◌, ◌<◌, Bool, true, ◌&&◌, List, [], ◌∷◌, ◌++◌, Some, refl, sym, ap, ◌∙◌, arith}
 use Rattle.std.specs.List.{AllByRecursion}
 use Rattle.std.proofs.lemmas.Bool.{and_parts, and_from, ne_eqb}
@@ -7,14 +7,14 @@ use Rattle.x64_instr.specs.declared.instruction.Instr.{Instr}
 use Rattle.x64_instr.specs.declared.instruction.Instr.TheVariants as instrs
 use Rattle.x64_encode.specs.Chosen.{is_encodable}
 use Rattle.virtual_unwind.specs.Tail.{FetchedInstr, role_of}
-use Rattle.frame_rules.specs.Body.{Body, behind, written, may_write_all}
+use Rattle.frame_rules.specs.Body.{Body, following, written, may_write_all}
 use Rattle.frame_rules.specs.States.{is_other}
 use Rattle.frame_rules.specs.Plan.{Plan, IsPlan, spelled_by, all_encodable, operations_of, is_inner, are_inner}
 use Rattle.frame_rules.specs.Plan as rules
 use Rattle.frame_rules.specs.Bytes.{spell}
-use Rattle.frame_rules.proofs.Bodies.{behind-append}
+use Rattle.frame_rules.proofs.Bodies.{following-append}
 use Rattle.frame_rules.proofs.Bytes.{spells_all, plans_are_encodable}
-use Rattle.frame_rules.proofs.Emitting.{inner_behind, epilogue_behind}
+use Rattle.frame_rules.proofs.Emitting.{inner_following, epilogue_following}
 use Rattle.linear_code.specs.declared.slot.Slot.{Slot}
 use Rattle.linear_code.specs.declared.instruction.Instruction.{Instruction}
 use Rattle.linear_code.specs.declared.instruction.Instruction.TheVariants as instructions
@@ -72,19 +72,19 @@ module _ (n probe : ℕ) (is_plan : IsPlan (with_size n probe)) where
 
   -- from the body to the body
   abbrev pub Leads : List Instr → Type 0
-  Leads is = (rs : List ℕ) → (to : List ℕ) × (behind 0 0 (operations_of p) (spelled_by spell is) (Body rs) ≡ Some (Body to))
+  Leads is = (rs : List ℕ) → (to : List ℕ) × (following 0 0 (operations_of p) (spelled_by spell is) (Body rs) ≡ Some (Body to))
 
   pub leads_both : (a b : List Instr) → Leads a → Leads b → Leads (a ++ b)
   leads_both a b h k rs =
       let x = h rs in
       let y = k x.0 in
-      (y.0, ap (λ (xs : List FetchedInstr). behind 0 0 (operations_of p) xs (Body rs)) (spelled_both a b) ∙ behind-append 0 0 (operations_of p) (spelled_by spell a) (spelled_by spell b) (Body rs) (Body x.0) x.1 ∙ y.1)
+      (y.0, ap (λ (xs : List FetchedInstr). following 0 0 (operations_of p) xs (Body rs)) (spelled_both a b) ∙ following-append 0 0 (operations_of p) (spelled_by spell a) (spelled_by spell b) (Body rs) (Body x.0) x.1 ∙ y.1)
 
   pub inner_leads : (is : List Instr) → AllInner is → Leads is
-  inner_leads is h rs = inner_behind spell spells_all p (spelled_by spell is) rs (all_inner p is refl h)
+  inner_leads is h rs = inner_following spell spells_all p (spelled_by spell is) rs (all_inner p is refl h)
 
   epilogue_leads : (k : ℕ) → k ≡ n → Leads (epilogue k)
-  epilogue_leads k e rs = ([], ap (λ (is : List Instr). behind 0 0 (operations_of p) (spelled_by spell is) (Body rs)) (ap epilogue e ∙ same_epilogue n probe) ∙ epilogue_behind spell spells_all p is_plan rs)
+  epilogue_leads k e rs = ([], ap (λ (is : List Instr). following 0 0 (operations_of p) (spelled_by spell is) (Body rs)) (ap epilogue e ∙ same_epilogue n probe) ∙ epilogue_following spell spells_all p is_plan rs)
 
   epilogue_encodable : (k : ℕ) → k ≡ n → all_encodable (epilogue k) ≡ true
   epilogue_encodable k e = ap all_encodable (ap epilogue e ∙ same_epilogue n probe) ∙ (plans_are_encodable p is_plan).1

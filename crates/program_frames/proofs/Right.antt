@@ -12,7 +12,7 @@ use Rattle.eh_tables.specs.declared.unwind_info.Trailer.TheVariants.{Nothing}
 use Rattle.virtual_unwind.specs.Tail.{FetchedInstr}
 use Rattle.frame_rules.specs.Codes.{are_allowed}
 use Rattle.frame_rules.specs.Prologue.{bytes, items}
-use Rattle.frame_rules.specs.Body.{Body, behind, is_body}
+use Rattle.frame_rules.specs.Body.{Body, following, is_body}
 use Rattle.frame_rules.specs.Plan.{Plan, IsPlan, spelled_by, all_encodable, allocation_then, operations_of, instructions_of, steps_of}
 use Rattle.frame_rules.specs.Plan as rules
 use Rattle.frame_rules.specs.States.{HasItems}
@@ -64,7 +64,7 @@ spelled_steps : (p : Plan) (at : ℕ) (xs : List UnwindOperation) → spelled_by
 spelled_steps p at [] = refl
 spelled_steps p at (x ∷ xs) = spelled_both (instructions_of p x) (flat_map (instructions_of p) xs) ∙ ap (λ (ys : List FetchedInstr). spelled_by spell (instructions_of p x) ++ ys) (spelled_steps p (at + bytes (spelled_by spell (instructions_of p x))) xs)
 
--- ---- what comes behind the prologue
+-- ---- what comes after the prologue
 
 pub rest_fine : (p : LinearProgram) (index : ℕ) (x : Placed) (n probe : ℕ) (is_plan : IsPlan (with_size n probe)) → size_of x.routine.frame ≡ n
     → FitsProgram p → slice_get (placed p) index ≡ Some x → IsThere (site_of p) (linked p).text (text_begin p.globals) x → IsFine n probe is_plan (rest_of p x)
@@ -108,7 +108,7 @@ module _ (p : LinearProgram) (index : ℕ) (x : Placed) (f : Frame) (framed : Is
         ordered = refl;
         allowed = refl;
         frame = λ ne. absurd (ne refl);
-        body = ap (λ (os : List UnwindOperation). is_body (behind 0 0 os (spelled_by spell (rest_of p x)) (Body []))) (sym (one_code f q.probe sizes.0)) ∙ ap is_body leads.1;
+        body = ap (λ (os : List UnwindOperation). is_body (following 0 0 os (spelled_by spell (rest_of p x)) (Body []))) (sym (one_code f q.probe sizes.0)) ∙ ap is_body leads.1;
       }
 
   -- its code, in two parts

@@ -153,7 +153,7 @@ module _ (p : LinearProgram) (far : AreFar (site_of p).funclets) where
 
 -- ---- where routines begin
 
--- one behind another
+-- one after another
 pub bounds_rise : (at : ℕ) (rs : List RoutineView) (i j d : ℕ) (e : RoutineView) → i < j → j ≤ length rs → get_or (bounds at rs) i d + routine_size (get_or rs i e) ≤ get_or (bounds at rs) j d
 bounds_rise at [] i j d e lt le = absurd (omega arith)
 bounds_rise at (r ∷ rs) i zero d e lt le = absurd (omega arith)

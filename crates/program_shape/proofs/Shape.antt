@@ -72,7 +72,7 @@ module _ (p : LinearProgram) (fits : FitsProgram p) where
       let c = functions_count p.main 0 p.functions in
       omega (arith, length-append (functions_from p.main 0 p.functions) (map (funclet p) p.funclets), length-map p.funclets (funclet p))
 
-  -- a funclet is the routine of its number behind the functions
+  -- a funclet is the routine of its number after the functions
   pub funclet_is : (k : ℕ) → k < length p.funclets → get_or rs (n + k) no_routine ≡ funclet p (get_or p.funclets k no_funclet)
   funclet_is k lt =
       let c = functions_count p.main 0 p.functions in

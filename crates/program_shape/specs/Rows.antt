@@ -31,7 +31,7 @@ abbrev pub handlers : List ScopeRecord → List ℕ
 handlers [] = []
 handlers (row ∷ rows) = if is_always_row row then handlers rows else row.handler_address ∷ handlers rows
 
--- entries one behind another, none of them empty
+-- entries one after another, none of them empty
 abbrev pub AreInOrder : ℕ → List Entry → Type 0
 AreInOrder last [] = Unit {0}
 AreInOrder last (e ∷ es) = (last ≤ e.range.begin) × (e.range.begin < e.range.end) × AreInOrder e.range.end es

@@ -57,7 +57,7 @@ module _ (s : SiteView) (rva : ℕ) where
       ap (λ (q : Option Frame). holding rva (entry_if s x q ++ es)) e
       ∙ ap (entry_or (holding rva es) (entry_of s x f)) (and_from (leb x.begin rva) (ltb rva (end_of x)) (le-leb x.begin rva le) (lt-ltb rva (end_of x) lt))
 
-  -- a routine of an index begins at the first one's begin, or behind it
+  -- a routine of an index begins at the first one's begin, or after it
   least : (info at : ℕ) (rs : List RoutineView) (index : ℕ) (x : Placed) → slice_get (placed_from s info at rs) index ≡ Some x → at ≤ x.begin
   least info at [] index x e = absurd (none_some e)
   least info at (r ∷ rs) zero x e = let b = ap (λ (y : Placed). y.begin) (some_same e) in omega arith

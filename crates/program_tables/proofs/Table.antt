@@ -151,7 +151,7 @@ bytes_of : (s : SiteView) (at : ℕ) (r : RoutineView) (f : Frame) → r.frame �
 unfolding info_bytes
 bytes_of s at r f e = ap (info_if s (own_addresses at r).labels (own_addresses at r).end r) e
 
--- what comes behind the first two thunks
+-- what comes after the first two thunks
 abbrev rest_of_front : ℕ → ℕ → List Instr
 rest_of_front text rdata =
     service_thunk text rdata LocalUnwind

@@ -13,7 +13,7 @@ pub record Placed : Type 0 where
   pub begin : ℕ
   pub info : ℕ
 
--- where its body begins, behind its prologue and what takes its arguments, and where it ends
+-- where its body begins, after its prologue and what takes its arguments, and where it ends
 abbrev pub body_begin : Placed → ℕ
 body_begin x = x.begin + entry_size x.routine
 

@@ -7,7 +7,7 @@ pub const SIGNATURE: usize = 64;
 
 pub const OPTIONAL: usize = SIGNATURE + 24;
 
-/// The table of sections behind an optional header without directories.
+/// The table of sections after an optional header without directories.
 pub const TABLE: usize = OPTIONAL + 112;
 
 /// The code of an image that computes 2 + 3 * 4, shows it and returns 7.

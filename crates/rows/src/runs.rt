@@ -141,7 +141,7 @@ fn refuses_no_image(rt: HostRuntime) -> Result<(), Fail> {
 fn refuses_by_each_check(rt: HostRuntime) -> Result<(), Fail> {
     let cases: [(usize, &[u8], &str); 18] = [
         (1, b"z", "image NotPe 0\n"),
-        // The headers end a byte behind the file.
+        // The headers end a byte after the file.
         (0x3C, &[10, 1], "image Truncated 266\n"),
         (SIGNATURE + 3, &[1], "image NotPe 64\n"),
         (SIGNATURE + 4, &[0x4C, 1], "image Machine 332\n"),

@@ -46,7 +46,7 @@ fn entry(out: &mut Vec<u8>, begin: u8, info: u8) -> Result<(), AllocError> {
     out.extend_from_slice(&[info, 0x30, 0, 0])
 }
 
-/// An image of three unwind infos, each of eight bytes, and behind them the first entries of three,
+/// An image of three unwind infos, each of eight bytes, and after them the first entries of three,
 /// each with its own.
 pub fn tables(alloc: Global, infos: &[u8], count: u8) -> Result<Vec<u8>, AllocError> {
     let mut out = headers(alloc, count)?;

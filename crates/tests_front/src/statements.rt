@@ -248,7 +248,7 @@ fn statements(rt: HostRuntime) -> Result<(), Fail> {
 
 /// Refusals after expressions.
 #[test]
-fn refusals_behind_expressions(rt: HostRuntime) -> Result<(), Fail> {
+fn refusals_following_expressions(rt: HostRuntime) -> Result<(), Fail> {
     for (text, room, locals, funclets, refusal) in [
         (b"a }".as_slice(), 1, 0, 0, ParseErr::TooDeep { at: 0 }),
         (b"a }".as_slice(), 2, 0, 0, ParseErr::Unexpected { at: 2 }),

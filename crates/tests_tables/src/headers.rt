@@ -250,7 +250,7 @@ fn finds_what_is_stored(rt: HostRuntime) -> Result<(), Fail> {
         ("part", 0, &[], (0x2001, 4), Some(4)),
         ("last", 0, &[], (0x2005, 1), Some(1)),
         ("one past", 0, &[], (0x2005, 2), None),
-        ("behind", 0, &[], (0x2006, 1), None),
+        ("following", 0, &[], (0x2006, 1), None),
         ("before", 0, &[], (0x1FFF, 1), None),
         ("nothing stored", 0, &[], (0x1000, 1), None),
         ("below all", 0, &[], (0xFFF, 1), None),

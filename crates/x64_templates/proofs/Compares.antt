@@ -176,25 +176,25 @@ one_or_zero : (a : ℕ) (b r : Bool) → b ≡ r → low W32 (low W8 (low W8 (a 
 one_or_zero a b true e = ap (λ (t : Bool). low W32 (low W8 (low W8 (a - a % 2 ^ 8 + cond t 1 0 % 2 ^ 8)))) e ∙ set_byte a 1 (omega arith)
 one_or_zero a b false e = ap (λ (t : Bool). low W32 (low W8 (low W8 (a - a % 2 ^ 8 + cond t 1 0 % 2 ^ 8)))) e ∙ set_byte a 0 (omega arith)
 
--- RIP behind instructions
-abbrev behind : List Instr → ℕ → ℕ
-behind [] rip = rip
-behind (i ∷ is) rip = behind is (rip + size i)
+-- RIP after instructions
+abbrev following : List Instr → ℕ → ℕ
+following [] rip = rip
+following (i ∷ is) rip = following is (rip + size i)
 
-behind_is : (is : List Instr) (rip : ℕ) → behind is rip ≡ rip + sizes is
-behind_is [] rip = omega arith
-behind_is (i ∷ is) rip = behind_is is (rip + size i) ∙ (let z : rip + size i + sizes is ≡ rip + (size i + sizes is) = omega arith in z)
+following_is : (is : List Instr) (rip : ℕ) → following is rip ≡ rip + sizes is
+following_is [] rip = omega arith
+following_is (i ∷ is) rip = following_is is (rip + size i) ∙ (let z : rip + size i + sizes is ≡ rip + (size i + sizes is) = omega arith in z)
 
 abbrev after : MachineView → ℕ → MachineView
 after v x = record { rax = x; rcx = v.rcx; rdx = v.rdx; rest = v.rest; memory = v.memory }
 
 forth : (w : Width) (c : Condition) (r : Bool) (v : MachineView) → holds (flags_after w v.rax v.rcx) c ≡ r → Yields (compared w Rax Rcx c) v (cond r 1 0) v.memory
 unfolding effects
-forth w c r v e = record { rcx = v.rcx; rdx = v.rdx; does = λ rip f. (flags_after w v.rax v.rcx, ap (λ (x : ℕ). Ok (machine (after v x) (behind (compared w Rax Rcx c) rip) (flags_after w v.rax v.rcx))) (one_or_zero v.rax (holds (flags_after w v.rax v.rcx) c) r e) ∙ ap (λ (a : ℕ). Ok (machine (after v (cond r 1 0)) a (flags_after w v.rax v.rcx))) (behind_is (compared w Rax Rcx c) rip)) }
+forth w c r v e = record { rcx = v.rcx; rdx = v.rdx; does = λ rip f. (flags_after w v.rax v.rcx, ap (λ (x : ℕ). Ok (machine (after v x) (following (compared w Rax Rcx c) rip) (flags_after w v.rax v.rcx))) (one_or_zero v.rax (holds (flags_after w v.rax v.rcx) c) r e) ∙ ap (λ (a : ℕ). Ok (machine (after v (cond r 1 0)) a (flags_after w v.rax v.rcx))) (following_is (compared w Rax Rcx c) rip)) }
 
 back : (w : Width) (c : Condition) (r : Bool) (v : MachineView) → holds (flags_after w v.rcx v.rax) c ≡ r → Yields (compared w Rcx Rax c) v (cond r 1 0) v.memory
 unfolding effects
-back w c r v e = record { rcx = v.rcx; rdx = v.rdx; does = λ rip f. (flags_after w v.rcx v.rax, ap (λ (x : ℕ). Ok (machine (after v x) (behind (compared w Rcx Rax c) rip) (flags_after w v.rcx v.rax))) (one_or_zero v.rax (holds (flags_after w v.rcx v.rax) c) r e) ∙ ap (λ (a : ℕ). Ok (machine (after v (cond r 1 0)) a (flags_after w v.rcx v.rax))) (behind_is (compared w Rcx Rax c) rip)) }
+back w c r v e = record { rcx = v.rcx; rdx = v.rdx; does = λ rip f. (flags_after w v.rcx v.rax, ap (λ (x : ℕ). Ok (machine (after v x) (following (compared w Rcx Rax c) rip) (flags_after w v.rcx v.rax))) (one_or_zero v.rax (holds (flags_after w v.rcx v.rax) c) r e) ∙ ap (λ (a : ℕ). Ok (machine (after v (cond r 1 0)) a (flags_after w v.rcx v.rax))) (following_is (compared w Rcx Rax c) rip)) }
 
 pub compares : (r : Relation) (s : Signedness) (z : Size) (v : MachineView) → Yields (compare r s (width z)) v (cond (are_related r s (width z) v.rax v.rcx) 1 0) v.memory
 compares relations.Equal s z v = forth (width z) conditions.Equal (are_equal (width z) v.rax v.rcx) v (equal_holds (width z) v.rax v.rcx)

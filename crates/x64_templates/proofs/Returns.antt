@@ -68,7 +68,7 @@ module _ (y : Layout) (n : Counts) (reserved : ℕ → Bool) (sp base : ℕ) (ro
     source = agrees;
   }
 
--- ---- behind a call: RAX goes to its slot
+-- ---- after a call: RAX goes to its slot
 
 pub call_ends : (p : Frame) (to : Slot) (v : MachineView) (at : ℕ) (f : Flags) (b : BodyState) → Roomy p → IsThere p to → v.rax < 2 ^ 64 → sp_of v ≡ p.sp → Holds p v.memory b → HasCode v.memory at (keep p.layout to) → ReachesBody p (length (keep p.layout to)) (machine v at f) (at + sizes (keep p.layout to)) v.rest (record { slots = with_slot b.slots to v.rax; memory = b.memory })
 call_ends p to v at f b room is small sp h code =
