@@ -1,17 +1,14 @@
 -- Code that runs below its routine's return address, and what a walk gives there.
-use Rattle.std.proofs.Common.{◌≡◌, ℕ, zero, suc, ◌+◌, ◌-◌, ◌%◌, ◌^◌, ◌<◌, ◌≤◌, Bool, true, false, List, [], ◌∷◌, ◌++◌, length, Option, Some, None, Ok, refl, sym, ap, subst, ◌∙◌, arith, inl, inr}
-use Rattle.std.specs.Prelude.{◌⊎◌, slice_index, slice_set}
+use Rattle.std.proofs.Common.{◌≡◌, ℕ, zero, suc, ◌+◌, ◌%◌, ◌^◌, ◌<◌, ◌≤◌, Bool, true, false, List, [], ◌∷◌, ◌++◌, length, Option, Some, None, Ok, refl, sym, ap, subst, ◌∙◌, arith, inl, inr}
+use Rattle.std.specs.Prelude.{◌⊎◌, slice_index}
 use Rattle.std.proofs.lemmas.Bool.{le-leb, le-ltb, cases_lt}
 use Rattle.host_layout.specs.Services.{in_host_page}
 use Rattle.flat_memory.specs.declared.protection.Protection.{Protection}
 use Rattle.flat_memory.specs.Protections.{is_readable, is_writable}
 use Rattle.flat_memory.specs.Memory.{Memory, executable, may_read, may_write, first_refused, number_at, with_bytes, access}
 use Rattle.x64_instr.specs.declared.register.Reg.{Reg}
-use Rattle.x64_instr.specs.declared.register.Reg.TheVariants.{Rax, Rsp}
-use Rattle.x64_instr.specs.declared.operand.RegisterOrMemory.TheVariants as places
-use Rattle.x64_instr.specs.declared.operand.Operand.TheVariants as operands
+use Rattle.x64_instr.specs.declared.register.Reg.TheVariants.{Rsp}
 use Rattle.x64_instr.specs.declared.instruction.Instr.{Instr}
-use Rattle.x64_instr.specs.declared.instruction.Instr.TheVariants as instrs
 use Rattle.x64_instr.specs.Spelling.{leading}
 use Rattle.x64_encode.specs.Chosen.{chosen, is_encodable}
 use Rattle.x64_encode.proofs.Lengths.{longest}
@@ -25,7 +22,6 @@ use Rattle.host_model.specs.declared.funclet.Funclet.{Funclet}
 use Rattle.linear_code.specs.Program.{LinearProgram}
 use Rattle.template_code.specs.Bytes.{spelled, size, sizes}
 use Rattle.template_code.specs.Calls.{keep_register}
-use Rattle.x64_templates.specs.Placed.{IsPlaced}
 use Rattle.x64_templates.specs.Runs.{Steps, Reaches, Enters, HasCode}
 use Rattle.x64_templates.proofs.PlacedCode.{same_number, bytes_kept, bytes_split, spells, reads}
 use Rattle.linked_stack.specs.Stack.{StackItem, IsStack, Owned, Agree}
@@ -33,12 +29,12 @@ use Rattle.linked_stack.specs.WalkLaws.{context_below}
 use Rattle.linked_stack.specs.PlainWalks.{state}
 use Rattle.linked_stack.proofs.WalkKeeping.{kept_by_other_stores, nothing_below_is_owned}
 use Rattle.linked_stack.specs.ImagePlan.{Plan}
-use Rattle.whole_runs.specs.Shadow.{is_call, calls, caller_at, GivesCallers, WalkGives, KeepsShadow, AllKeep}
-use Rattle.whole_runs.proofs.Shadows.{past_frame, HeadAbove, straight, call_keeps, return_keeps, keep_first}
+use Rattle.whole_runs.specs.Shadow.{is_call, calls, GivesCallers, WalkGives, AllKeep}
+use Rattle.whole_runs.proofs.Shadows.{past_frame, straight, keep_first}
 use Rattle.body_states.specs.Sites.{Sites}
 use Rattle.body_states.specs.Programs.{HasProgram}
 use Rattle.body_states.specs.Callers.{caller_above, HasCaller, FindsReturn}
-use Rattle.body_states.proofs.StackWalks.{callers, on_stack, stack_rises}
+use Rattle.body_states.proofs.StackWalks.{callers, on_stack}
 use Rattle.body_states.proofs.Effects.{others_of, is_idle, idle_leaves, idle_goes_on, store_leaves}
 use Rattle.body_states.proofs.QuietTurns.{program_kept}
 

@@ -1,6 +1,5 @@
 -- Calls, returns, and the making of frames keep the shadow.
-use Rattle.std.proofs.Common.{◌≡◌, ℕ, ◌+◌, ◌-◌, ◌%◌, ◌^◌, ◌<◌, ◌≤◌, true, false, List, [], ◌∷◌, ◌++◌, length, Some, Ok, refl, sym, ap, subst, ◌∙◌, arith, inl, inr}
-use Rattle.std.specs.Prelude.{◌⊎◌, slice_set}
+use Rattle.std.proofs.Common.{◌≡◌, ℕ, ◌+◌, ◌^◌, ◌<◌, ◌≤◌, true, false, List, ◌∷◌, length, Ok, refl, sym, ap, subst, ◌∙◌, arith, inl, inr}
 use Rattle.flat_memory.specs.Memory.{Memory, executable, number_at}
 use Rattle.x64_instr.specs.declared.register.Reg.TheVariants.{Rax, Rsp}
 use Rattle.x64_instr.specs.declared.instruction.Instr.{Instr}
@@ -10,7 +9,6 @@ use Rattle.x64_encode.specs.Chosen.{is_encodable}
 use Rattle.x64_machine.specs.declared.context.Context.{Context}
 use Rattle.x64_machine.specs.Contexts.{context_of}
 use Rattle.x64_machine.specs.Effect.{State, register, with_rip, effect}
-use Rattle.virtual_unwind.specs.Contexts.{rsp}
 use Rattle.virtual_unwind.specs.CallerOf.{Functions}
 use Rattle.virtual_unwind.specs.Undone.{word}
 use Rattle.host_model.specs.declared.funclet.Funclet.{Funclet}
@@ -26,7 +24,7 @@ use Rattle.whole_runs.proofs.Shadows.{past_frame, HeadAbove, straight, call_keep
 use Rattle.body_states.specs.Callers.{caller_above, HasCaller, FindsReturn}
 use Rattle.body_states.proofs.StackWalks.{callers, on_stack, stack_rises}
 use Rattle.body_states.proofs.Effects.{others_of, is_probing, probing_is_idle, idle_leaves, idle_goes_on, rax_stays, Sets, Calls, calls, Returns, returns, word_loads}
-use Rattle.body_states.proofs.Beneath.{read_here, effect_here, word_number, Beneath, Stays, beneath_stays, callers_above}
+use Rattle.body_states.proofs.Beneath.{read_here, effect_here, word_number, Beneath, beneath_stays, callers_above}
 
 module _ (t : Functions) (fs : List Funclet) where
   -- ---- what a walk gives from an address and a stack pointer

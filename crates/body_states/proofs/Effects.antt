@@ -1,5 +1,5 @@
 -- What single machine instructions of calls, entries and returns leave as it was.
-use Rattle.std.proofs.Common.{◌≡◌, ◌≢◌, ℕ, ◌+◌, ◌-◌, ◌*◌, ◌%◌, ◌^◌, ◌<◌, ◌≤◌, Bool, true, false, List, [], ◌∷◌, length, get_or, Option, Some, None, Result, Ok, Err, refl, sym, ap, subst, ◌∙◌, arith, inl, inr, get_or-set_same, get_or-set_other, length-set}
+use Rattle.std.proofs.Common.{◌≡◌, ◌≢◌, ℕ, ◌+◌, ◌-◌, ◌%◌, ◌^◌, ◌<◌, ◌≤◌, Bool, true, false, List, [], ◌∷◌, length, Option, Some, None, Result, Ok, Err, refl, sym, ap, subst, ◌∙◌, arith, inl, inr, get_or-set_same, get_or-set_other, length-set}
 use Rattle.std.specs.Prelude.{◌⊎◌, slice_index, slice_set}
 use Rattle.seh_num.specs.declared.width.Width.{Width}
 use Rattle.seh_num.specs.declared.width.Width.TheVariants.{W32, W64}
@@ -23,8 +23,9 @@ use Rattle.x64_instr.specs.declared.instruction.Instr.{Instr}
 use Rattle.x64_instr.specs.declared.instruction.Instr.TheVariants as instrs
 use Rattle.x64_instr.specs.Registers.{number}
 use Rattle.x64_machine.specs.Words.{added, subtracted}
+use Rattle.x64_templates.specs.Keeping.{is_volatile}
 use Rattle.virtual_unwind.specs.Undone.{word, readable}
-use Rattle.x64_machine.specs.Effect.{State, Answer, ◌>>=◌, granted, register, with_register, with_flags, with_rip, load, store, read, operand, write, may_change, computed, change, compare, is_trap, target_of, effect}
+use Rattle.x64_machine.specs.Effect.{State, Answer, ◌>>=◌, granted, register, with_register, with_flags, with_rip, load, store, read, operand, write, may_change, computed, change, is_trap, target_of, effect}
 use Rattle.whole_runs.specs.Shadow.{calls as is_a_call}
 
 -- ---- registers
@@ -33,33 +34,22 @@ use Rattle.whole_runs.specs.Shadow.{calls as is_a_call}
 abbrev pub others_of : List ℕ → List ℕ
 others_of r = slice_index r 3 ∷ slice_index r 5 ∷ slice_index r 6 ∷ slice_index r 7 ∷ slice_index r 12 ∷ slice_index r 13 ∷ slice_index r 14 ∷ slice_index r 15 ∷ []
 
--- the others
-abbrev pub is_scratch : Reg → Bool
-is_scratch regs.Rax = true
-is_scratch regs.Rcx = true
-is_scratch regs.Rdx = true
-is_scratch regs.R8 = true
-is_scratch regs.R9 = true
-is_scratch regs.R10 = true
-is_scratch regs.R11 = true
-is_scratch r = false
-
-abbrev pub is_scratch_place : RegisterOrMemory → Bool
-is_scratch_place (places.Register r) = is_scratch r
-is_scratch_place (places.Memory a) = false
+abbrev pub is_volatile_place : RegisterOrMemory → Bool
+is_volatile_place (places.Register r) = is_volatile r
+is_volatile_place (places.Memory a) = false
 
 abbrev IsBeside : ℕ → Type 0
 IsBeside k = (k < 3) ⊎ ((8 ≤ k) × (k < 12))
 
-scratch_number : (r : Reg) → is_scratch r ≡ true → IsBeside (number r)
-scratch_number regs.Rax e = inl (omega arith)
-scratch_number regs.Rcx e = inl (omega arith)
-scratch_number regs.Rdx e = inl (omega arith)
-scratch_number regs.R8 e = inr (omega arith, omega arith)
-scratch_number regs.R9 e = inr (omega arith, omega arith)
-scratch_number regs.R10 e = inr (omega arith, omega arith)
-scratch_number regs.R11 e = inr (omega arith, omega arith)
-scratch_number r e = absurd cc
+volatile_number : (r : Reg) → is_volatile r ≡ true → IsBeside (number r)
+volatile_number regs.Rax e = inl (omega arith)
+volatile_number regs.Rcx e = inl (omega arith)
+volatile_number regs.Rdx e = inl (omega arith)
+volatile_number regs.R8 e = inr (omega arith, omega arith)
+volatile_number regs.R9 e = inr (omega arith, omega arith)
+volatile_number regs.R10 e = inr (omega arith, omega arith)
+volatile_number regs.R11 e = inr (omega arith, omega arith)
+volatile_number r e = absurd cc
 
 others_by : (r : List ℕ) (k v : ℕ) → (let j : ℕ = 3 in j ≢ k) → (let j : ℕ = 5 in j ≢ k) → (let j : ℕ = 6 in j ≢ k) → (let j : ℕ = 7 in j ≢ k)
     → (let j : ℕ = 12 in j ≢ k) → (let j : ℕ = 13 in j ≢ k) → (let j : ℕ = 14 in j ≢ k) → (let j : ℕ = 15 in j ≢ k) → others_of (slice_set r k v) ≡ others_of r
@@ -96,7 +86,7 @@ bound (Err x) f y e = absurd cc
 the_same : {A : Type 0} → {x y : A} → ◌≡◌ {A = Answer A} (Ok x) (Ok y) → x ≡ y
 the_same e = cc
 
--- ---- instructions that write no memory, and no register but scratch ones
+-- ---- instructions that write no memory, and no register but volatile ones
 
 pub record Leaves (s t : State) : Type 0 where
   pub memory : t.memory ≡ s.memory
@@ -104,20 +94,20 @@ pub record Leaves (s t : State) : Type 0 where
   pub stack : register t.cpu Rsp ≡ register s.cpu Rsp
   pub others : others_of t.cpu.registers ≡ others_of s.cpu.registers
 
-set_leaves : (s t : State) (w : Width) (k : Reg) (v : ℕ) → is_scratch k ≡ true → ◌≡◌ {A = Answer State} (Ok (record s { cpu = with_register w s.cpu k v })) (Ok t) → Leaves s t
+set_leaves : (s t : State) (w : Width) (k : Reg) (v : ℕ) → is_volatile k ≡ true → ◌≡◌ {A = Answer State} (Ok (record s { cpu = with_register w s.cpu k v })) (Ok t) → Leaves s t
 set_leaves s t w k v q e =
-    let b = scratch_number k q in
+    let b = volatile_number k q in
     subst (Leaves s) (the_same e) (record { memory = refl; rip = refl; stack = rsp_set s.cpu.registers (number k) _ b; others = others_set s.cpu.registers (number k) _ b })
 
-write_leaves : (s t : State) (w : Width) (to : RegisterOrMemory) (v : ℕ) → is_scratch_place to ≡ true → write s w to v ≡ Ok t → Leaves s t
+write_leaves : (s t : State) (w : Width) (to : RegisterOrMemory) (v : ℕ) → is_volatile_place to ≡ true → write s w to v ≡ Ok t → Leaves s t
 write_leaves s t w (places.Register k) v q e = set_leaves s t w k v q e
 write_leaves s t w (places.Memory a) v q e = absurd cc
 
 abbrev pub is_idle : Instr → Bool
-is_idle (instrs.Move w to from) = is_scratch_place to
-is_idle (instrs.LoadAddress w to m) = is_scratch to
+is_idle (instrs.Move w to from) = is_volatile_place to
+is_idle (instrs.LoadAddress w to m) = is_volatile to
 is_idle (instrs.Test w first second) = true
-is_idle (instrs.Arithmetic operations.Sub w to from) = is_scratch_place to
+is_idle (instrs.Arithmetic operations.Sub w to from) = is_volatile_place to
 is_idle i = false
 
 pub idle_leaves : (s t : State) (i : Instr) → is_idle i ≡ true → effect s i ≡ Ok t → Leaves s t

@@ -1,5 +1,5 @@
 -- Where an image's code is, a walk finds the return address of its routine.
-use Rattle.std.proofs.Common.{◌≡◌, ℕ, ◌+◌, ◌<◌, ◌≤◌, Bool, true, false, Option, Some, None, List, [], ◌∷◌, ◌++◌, length, get_or, refl, sym, ap, subst, ◌∙◌, arith, inl, inr}
+use Rattle.std.proofs.Common.{◌≡◌, ℕ, ◌+◌, ◌<◌, ◌≤◌, Bool, true, false, Some, List, [], ◌∷◌, ◌++◌, length, get_or, refl, sym, ap, subst, ◌∙◌, arith, inl, inr}
 use Rattle.std.specs.Prelude.{slice_get, slice_set}
 use Rattle.std.proofs.lemmas.Option.{slice_get_cases, slice_get_within, get_or_from_slice_get}
 use Rattle.std.proofs.lemmas.List.{append-nil}
@@ -24,7 +24,6 @@ use Rattle.x64_templates.specs.Runs.{HasCode}
 use Rattle.x64_templates.proofs.Computes.{code_split}
 use Rattle.x64_templates.proofs.Linked.{template_placed}
 use Rattle.linked_stack.specs.Stack.{after_leaf}
-use Rattle.linked_stack.specs.PlainWalks.{state}
 use Rattle.linked_stack.proofs.Visiting.{frame_is_visited, leaf_is_visited}
 use Rattle.linked_stack.specs.ImagePlan.{Plan}
 use Rattle.body_states.specs.Sites.{Sites, links_of, begin_of, making_size, frame_code, arguments_code, entry_code}

@@ -10,7 +10,7 @@ use Rattle.x64_instr.specs.declared.operand.Operand.TheVariants as operands
 use Rattle.x64_instr.specs.declared.instruction.Operation.TheVariants as arithmetic
 use Rattle.x64_instr.specs.declared.instruction.Instr.{Instr}
 use Rattle.x64_instr.specs.declared.instruction.Instr.TheVariants as instrs
-use Rattle.x64_encode.specs.Chosen.{is_encodable, modrm, opcode_register}
+use Rattle.x64_encode.specs.Chosen.{is_encodable, opcode_register}
 use Rattle.x64_machine.specs.Effect.{State, register, with_rip}
 use Rattle.virtual_unwind.specs.CallerOf.{Functions}
 use Rattle.virtual_unwind.specs.Undone.{word}
@@ -23,7 +23,7 @@ use Rattle.template_code.specs.Calls.{enter_code}
 use Rattle.template_code.specs.Operations.{above}
 use Rattle.template_code.specs.Probing.{first_touch, check_stack, enter_large}
 use Rattle.template_code.specs.Template.{code_from}
-use Rattle.template_code.proofs.Sizes.{call_size, short}
+use Rattle.template_code.proofs.Sizes.{call_size}
 use Rattle.x64_templates.specs.Runs.{Steps, HasCode}
 use Rattle.x64_templates.proofs.Computes.{code_split}
 use Rattle.x64_templates.proofs.Encoded.{near}
@@ -31,7 +31,7 @@ use Rattle.linked_stack.specs.Stack.{StackItem}
 use Rattle.linked_stack.specs.ImagePlan.{Plan}
 use Rattle.whole_runs.specs.Shadow.{is_call, KeepsShadow, AllKeep}
 use Rattle.whole_runs.proofs.Shadows.{keep_first}
-use Rattle.body_states.specs.Sites.{Sites, links_of, begin_of, making, making_size, frame_code, arguments_code, entry_code, code_of}
+use Rattle.body_states.specs.Sites.{Sites, links_of, begin_of, making, making_size, frame_code, arguments_code, entry_code}
 use Rattle.body_states.specs.Programs.{HasProgram, IsProgramImage}
 use Rattle.body_states.specs.Callers.{FindsReturn}
 use Rattle.body_states.proofs.Waiting.{leaf_layout}

@@ -1,7 +1,6 @@
 -- A piece of a body's template keeps the shadow.
 use Rattle.std.proofs.Common.{◌≡◌, ℕ, ◌+◌, ◌^◌, ◌<◌, Some, List, ◌∷◌, ◌++◌, length, get_or, refl, sym, ap, subst, ◌∙◌, arith, append_assoc}
 use Rattle.std.specs.Prelude.{slice_get}
-use Rattle.std.proofs.lemmas.Option.{slice_get_within, get_or_from_slice_get}
 use Rattle.flat_memory.specs.Memory.{Memory}
 use Rattle.x64_instr.specs.declared.register.Reg.TheVariants.{Rsp}
 use Rattle.x64_instr.specs.declared.instruction.Instr.{Instr}
@@ -11,23 +10,21 @@ use Rattle.x64_machine.specs.Effect.{State, register}
 use Rattle.virtual_unwind.specs.CallerOf.{Functions}
 use Rattle.host_model.specs.declared.funclet.Funclet.{Funclet}
 use Rattle.linear_code.specs.declared.instruction.Instruction.{Instruction}
-use Rattle.linear_code.specs.declared.instruction.Instruction.TheVariants as instructions
 use Rattle.linear_code.specs.Program.{LinearProgram, LinearBody}
 use Rattle.linear_machine.specs.Frames.{BodyName, body_of}
 use Rattle.template_code.specs.Bytes.{sizes}
-use Rattle.template_code.specs.Template.{template, code_from, offset_of}
+use Rattle.template_code.specs.Template.{template}
 use Rattle.template_code.proofs.Sizes.{sizes_append}
 use Rattle.x64_templates.specs.Runs.{Reaches, HasCode}
 use Rattle.x64_templates.specs.Quiet.{IsReturn}
 use Rattle.x64_templates.proofs.Computes.{code_split}
-use Rattle.x64_templates.proofs.Linked.{template_placed}
 use Rattle.x64_templates.proofs.Flows.{IsFlow}
 use Rattle.linked_stack.specs.ImagePlan.{Plan}
 use Rattle.whole_runs.specs.Shadow.{AllKeep}
-use Rattle.body_states.specs.Sites.{Sites, begin_of, links_of, entry_code}
+use Rattle.body_states.specs.Sites.{Sites, links_of}
 use Rattle.body_states.specs.Callers.{FindsReturn}
 use Rattle.body_states.specs.Programs.{HasProgram, IsProgramImage}
-use Rattle.body_states.proofs.Found.{resumed_finds}
+use Rattle.body_states.proofs.Finding.{within_found, template_there}
 use Rattle.body_states.proofs.Flowing.{StandsBelow, from_state, flow_keeps}
 
 module _ (t : Functions) (fs : List Funclet) (program : LinearProgram) (p : Plan) (q : Sites) (image : IsProgramImage t fs program p q) (name : BodyName) (b : LinearBody) (label : ℕ) (i : Instruction)
@@ -35,37 +32,18 @@ module _ (t : Functions) (fs : List Funclet) (program : LinearProgram) (p : Plan
   abbrev code_of : List Instr
   code_of = template (links_of p q name) (p.layout name) (p.address name label) i
 
-  -- the template of an instruction stands at its address
-  pub template_there : (m : Memory) → HasProgram t fs program p q m → HasCode m (p.address name label) code_of
-  template_there m has =
-      let a = image.addresses name b there in
-      let y = p.layout name in
-      let links = links_of p q name in
-      let same : get_or b.code label instructions.Separator ≡ i = get_or_from_slice_get b.code label i instructions.Separator at in
-      let h = code_split m (begin_of p q name) (entry_code program p q name) (code_from links y (p.address name 0) b.code) (has.code name b there) in
-      let all = subst (λ x. HasCode m x (code_from links y (p.address name 0) b.code)) (sym a.first) h.1 in
-      subst (λ x. HasCode m x (template links y x i)) (sym (a.labels label))
-      (subst (λ j. HasCode m (p.address name 0 + offset_of y b.code label) (template links y (p.address name 0 + offset_of y b.code label) j)) same
-      (template_placed links y m (p.address name 0) b.code label instructions.Separator all (slice_get_within b.code label i at)))
-
   module _ (goes : IsReturn i → ⊥) (before code after : List Instr) (parts : code_of ≡ before ++ (code ++ after)) where
     -- a walk finds the return address at each of its instructions
     pub piece_finds : (m : Memory) (a : ℕ) (done left : List Instr) (item : Instr) → a ≡ p.address name label + sizes before → HasProgram t fs program p q m → code ≡ done ++ (item ∷ left) → FindsReturn t m (a + sizes done) (p.layout name).frame
-    piece_finds m a done left item e has split = resumed_finds t fs program p q image m name b label there has (a + sizes done) (record {
-      instruction = i;
-      there = at;
-      goes_on = goes;
-      done = before ++ done;
-      item = item;
-      left = left ++ after;
-      parts = parts ∙ ap (λ (xs : List Instr). before ++ (xs ++ after)) split ∙ ap (λ (xs : List Instr). before ++ xs) (append_assoc done (item ∷ left) after) ∙ sym (append_assoc before done ((item ∷ left) ++ after));
-      here = omega (arith, sizes_append before done);
-    })
+    piece_finds m a done left item e has split =
+        let all = parts ∙ ap (λ (xs : List Instr). before ++ (xs ++ after)) split ∙ ap (λ (xs : List Instr). before ++ xs) (append_assoc done (item ∷ left) after) ∙ sym (append_assoc before done ((item ∷ left) ++ after)) in
+        let here : p.address name label + sizes (before ++ done) ≡ a + sizes done = omega (arith, sizes_append before done) in
+        subst (λ x. FindsReturn t m x (p.layout name).frame) here (within_found t fs program p q image name b there m has label i at goes (before ++ done) (left ++ after) item all)
 
     -- and its code stands there
     pub piece_there : (m : Memory) → HasProgram t fs program p q m → HasCode m (p.address name label + sizes before) code
     piece_there m has =
-        let all = subst (HasCode m (p.address name label)) parts (template_there m has) in
+        let all = subst (HasCode m (p.address name label)) parts (template_there t fs program p q image name b there m has label i at) in
         (code_split m (p.address name label + sizes before) code after (code_split m (p.address name label) before (code ++ after) all).1).0
 
     -- a run over the piece, with the frame as it was and what lies above it in both memories, and to where a walk finds the return address too

@@ -1,5 +1,5 @@
 -- A body returns: its result is fetched, its frame is given back, and the return is made; the shadow is kept.
-use Rattle.std.proofs.Common.{◌≡◌, ℕ, zero, suc, ◌+◌, ◌-◌, ◌^◌, ◌<◌, ◌≤◌, Option, Some, None, List, [], ◌∷◌, ◌++◌, length, refl, sym, ap, subst, ◌∙◌, arith, inl, length-append}
+use Rattle.std.proofs.Common.{◌≡◌, ℕ, zero, suc, ◌+◌, ◌^◌, ◌<◌, Option, Some, None, List, [], ◌∷◌, length, refl, sym, ap, subst, ◌∙◌, arith, inl, length-append}
 use Rattle.std.specs.Prelude.{slice_get}
 use Rattle.std.proofs.lemmas.List.{append-nil}
 use Rattle.flat_memory.specs.Memory.{Memory}
@@ -18,7 +18,7 @@ use Rattle.template_code.specs.declared.layout.Layout.{Layout}
 use Rattle.template_code.specs.Bytes.{size, sizes}
 use Rattle.template_code.specs.Slots.{fetch, fetch_local, local_at}
 use Rattle.template_code.specs.Calls.{epilogue, return_code}
-use Rattle.x64_templates.specs.Runs.{Steps, HasCode}
+use Rattle.x64_templates.specs.Runs.{HasCode}
 use Rattle.x64_templates.proofs.Computes.{code_split}
 use Rattle.x64_templates.proofs.Encoded.{Fine, near}
 use Rattle.linked_stack.specs.Stack.{StackItem}

@@ -11,7 +11,7 @@ use Rattle.x64_instr.specs.declared.instruction.Instr.TheVariants as instrs
 use Rattle.x64_encode.specs.Chosen.{chosen}
 use Rattle.x64_machine.specs.declared.context.Context.{Context}
 use Rattle.eh_tables.specs.Tables.{Entry}
-use Rattle.virtual_unwind.specs.CallerOf.{Functions, distance, entry_of, of_entry, found, by_distance, in_prologue, run_or, past_prologue}
+use Rattle.virtual_unwind.specs.CallerOf.{Functions, distance, entry_of, of_entry, by_distance, in_prologue, run_or, past_prologue}
 use Rattle.virtual_unwind.specs.Tail.{tail_at, left}
 use Rattle.virtual_unwind.specs.Undone.{operations}
 use Rattle.seh_walk.specs.Walk.{framed, filter_return, finally_return}
@@ -28,13 +28,11 @@ use Rattle.template_code.specs.declared.layout.Layout.{Layout}
 use Rattle.template_code.specs.Bytes.{spelled, size, sizes}
 use Rattle.template_code.specs.Slots.{fetch}
 use Rattle.template_code.specs.Calls.{epilogue, return_code}
-use Rattle.template_code.specs.Probing.{check_stack}
 use Rattle.template_code.specs.Template.{code_from}
 use Rattle.template_code.proofs.Sizes.{sizes_append, template_sizes}
 use Rattle.x64_code.specs.Near.{IsInstructionNear}
 use Rattle.program_link.specs.Near.{IsFrameNear}
 use Rattle.program_link.specs.Text.{argument_code, entry_size, check_stack_at, routine_code}
-use Rattle.program_link.specs.Linked.{first}
 use Rattle.program_link.specs.Text as texts
 use Rattle.program_link.proofs.Entries.{entry_sizes, routine_small}
 use Rattle.program_tables.specs.Placed.{Placed, body_begin, end_of, site_of, placed}

@@ -40,7 +40,7 @@ use Rattle.body_states.specs.Programs.{FindsCallers, FindsCallersOutside}
 use Rattle.body_states.specs.Callers.{FindsReturn}
 use Rattle.image_states.specs.Plans.{functions_of, funclets_of, is_leaf, routine_of, address_of, plan_of, sites_of}
 use Rattle.image_states.specs.Compiled.{IsCompiled}
-use Rattle.image_states.proofs.Addresses.{place, here, label_rises, label_inside}
+use Rattle.image_states.proofs.Addresses.{place, label_rises, label_inside}
 use Rattle.image_states.proofs.Entering.{arguments_same}
 use Rattle.image_states.proofs.Framed.{framed_of}
 use Rattle.image_states.proofs.Popping.{by_popping}

@@ -1,5 +1,5 @@
 -- Steps of a walk by what the function table says at RIP.
-use Rattle.std.proofs.Common.{◌≡◌, ◌≢◌, ℕ, suc, ◌+◌, ◌-◌, ◌%◌, ◌^◌, ◌<◌, Bool, true, false, List, [], ◌∷◌, length, Some, None, Ok, refl, sym, ap, subst, ◌∙◌, arith}
+use Rattle.std.proofs.Common.{◌≡◌, ◌≢◌, ℕ, suc, ◌+◌, ◌%◌, ◌^◌, ◌<◌, Bool, true, false, List, [], ◌∷◌, length, Some, None, Ok, refl, sym, ap, subst, ◌∙◌, arith}
 use Rattle.std.specs.Prelude.{slice_index, slice_set}
 use Rattle.std.proofs.lemmas.Bool.{ne_eqb, lt-ltb, and_from}
 use Rattle.std.proofs.lemmas.List.{append-nil}
@@ -22,7 +22,6 @@ use Rattle.frame_rules.specs.Bytes.{spell, Stands}
 use Rattle.frame_rules.proofs.Bytes.{items_stand}
 use Rattle.frame_rules.proofs.Tails.{tail-more}
 use Rattle.template_code.specs.Bytes.{size}
-use Rattle.template_code.specs.Calls.{epilogue}
 use Rattle.program_link.specs.Linked.{first}
 use Rattle.program_frames.proofs.Inner.{signed}
 use Rattle.body_states.specs.Sites.{give_back}

@@ -1,7 +1,6 @@
 -- Each turn of a call of a built-in function, up to its service, keeps the shadow.
-use Rattle.std.proofs.Common.{◌≡◌, ℕ, ◌+◌, ◌-◌, ◌^◌, ◌<◌, ◌≤◌, Some, List, [], ◌∷◌, ◌++◌, length, refl, sym, ap, subst, ◌∙◌, arith, inl, append_assoc}
+use Rattle.std.proofs.Common.{◌≡◌, ℕ, ◌+◌, ◌-◌, Some, List, [], ◌∷◌, ◌++◌, refl, arith, inl}
 use Rattle.std.specs.Prelude.{slice_get}
-use Rattle.host_layout.specs.declared.range.TheConstants.{IMAGE_BASE, IMAGE_RANGE_END, STACK_START}
 use Rattle.host_layout.specs.Services.{address_of}
 use Rattle.flat_memory.specs.Memory.{Memory}
 use Rattle.x64_instr.specs.declared.register.Reg.TheVariants.{Rsp}
@@ -35,7 +34,7 @@ use Rattle.body_states.proofs.Beneath.{StepsTo, reaches_steps, steps_split, keep
 use Rattle.body_states.proofs.EntryKeeping.{arguments_plain}
 use Rattle.body_states.proofs.CallKeeping.{calls_keep, CalleeBegins, callee_begins, thunk_keeps}
 use Rattle.body_steps.proofs.Viewed.{IsCounted, sp_low, room_here}
-use Rattle.body_steps.proofs.Running.{frame, has_slots}
+use Rattle.body_steps.proofs.Running.{has_slots}
 use Rattle.turn_steps.proofs.Grounds.{top_of, begins_beneath}
 
 clear_size : size clear_result ≡ 5

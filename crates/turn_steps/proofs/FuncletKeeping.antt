@@ -1,20 +1,19 @@
 -- A funclet's frame is made and its arguments are stored, and the shadow is kept.
-use Rattle.std.proofs.Common.{◌≡◌, ℕ, ◌+◌, ◌^◌, ◌<◌, ◌≤◌, false, Option, Some, None, List, [], ◌∷◌, ◌++◌, length, refl, sym, ap, subst, ◌∙◌, arith, inl}
-use Rattle.std.specs.Prelude.{nat_le, if◌then◌else◌}
+use Rattle.std.proofs.Common.{◌≡◌, ℕ, ◌+◌, ◌^◌, ◌<◌, ◌≤◌, Option, Some, None, List, ◌++◌, length, refl, sym, ap, ◌∙◌, arith}
+use Rattle.std.specs.Prelude.{if◌then◌else◌}
 use Rattle.std.proofs.lemmas.Bool.{le-leb}
 use Rattle.host_layout.specs.declared.range.TheConstants.{STACK_START, STACK_END}
 use Rattle.flat_memory.specs.Memory.{Memory}
-use Rattle.x64_instr.specs.declared.register.Reg.TheVariants.{Rdx, Rsp}
+use Rattle.x64_instr.specs.declared.register.Reg.TheVariants.{Rsp}
 use Rattle.x64_instr.specs.declared.instruction.Instr.{Instr}
 use Rattle.x64_machine.specs.Effect.{State, register}
 use Rattle.virtual_unwind.specs.CallerOf.{Functions}
 use Rattle.host_model.specs.declared.funclet.Funclet.{Funclet}
 use Rattle.linear_code.specs.Program.{LinearProgram}
 use Rattle.linear_machine.specs.Frames.{FuncletBody, funclet_body, Item}
-use Rattle.template_code.specs.Bytes.{sizes}
 use Rattle.linked_stack.specs.ImagePlan.{Plan}
 use Rattle.linked_stack.specs.Linked.{Activation}
-use Rattle.body_states.specs.Sites.{Sites, parent_base, keep_base, keep_argument, base_in, funclet_arguments, arguments_code}
+use Rattle.body_states.specs.Sites.{Sites, parent_base, keep_base, keep_argument, funclet_arguments, arguments_code}
 use Rattle.body_states.specs.Programs.{IsMachineMemory, IsProgramImage}
 use Rattle.body_states.proofs.Effects.{others_of}
 use Rattle.body_states.proofs.Beneath.{StepsTo, AllPlain}

@@ -1,7 +1,6 @@
 -- Where a body begins an instruction, and where a funclet is called, the list stands above the return address.
-use Rattle.std.proofs.Common.{◌≡◌, ℕ, ◌+◌, ◌<◌, ◌≤◌, List, length, refl, sym, ap, subst, ◌∙◌, arith}
-use Rattle.host_layout.specs.declared.range.TheConstants.{STACK_START, STACK_END}
-use Rattle.flat_memory.specs.Memory.{Memory}
+use Rattle.std.proofs.Common.{ℕ, ◌+◌, ◌≤◌, List, refl, sym, subst, arith}
+use Rattle.host_layout.specs.declared.range.TheConstants.{STACK_END}
 use Rattle.x64_instr.specs.declared.register.Reg.TheVariants.{Rsp}
 use Rattle.x64_machine.specs.Effect.{State, register}
 use Rattle.virtual_unwind.specs.CallerOf.{Functions}
@@ -13,7 +12,7 @@ use Rattle.linked_stack.specs.WalkLaws.{context_below}
 use Rattle.linked_stack.specs.ImagePlan.{Plan}
 use Rattle.linked_stack.specs.Linked.{Activation}
 use Rattle.body_states.specs.Sites.{Sites}
-use Rattle.body_states.specs.Programs.{IsMachineMemory, IsProgramImage}
+use Rattle.body_states.specs.Programs.{IsProgramImage}
 use Rattle.body_states.specs.Bodies.{Begins}
 use Rattle.body_states.proofs.Effects.{others_of}
 use Rattle.body_states.proofs.Beneath.{Beneath, beneath_by}

@@ -1,5 +1,5 @@
 -- A body returns: RAX has the number of its slot, and RIP and RSP are those of its return address.
-use Rattle.std.proofs.Common.{◌≡◌, ℕ, zero, suc, ◌+◌, ◌^◌, ◌<◌, ◌≤◌, true, Option, Some, None, List, length, refl, sym, subst, ◌∙◌, arith, length-append}
+use Rattle.std.proofs.Common.{◌≡◌, ℕ, zero, suc, ◌+◌, ◌≤◌, true, Option, Some, None, List, length, refl, sym, subst, ◌∙◌, arith, length-append}
 use Rattle.std.specs.Prelude.{slice_get}
 use Rattle.std.proofs.lemmas.List.{length-drop}
 use Rattle.x64_instr.specs.declared.register.Reg.TheVariants.{Rax, Rsp}

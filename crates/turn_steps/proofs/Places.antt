@@ -47,6 +47,7 @@ use Rattle.linked_stack.specs.ImagePlan.{Plan}
 use Rattle.body_states.specs.Sites.{Sites, links_of, begin_of, making, frame_code, arguments_code, entry_code}
 use Rattle.body_states.specs.Layouts.{IsFunctionLayout, IsLeafLayout, IsFuncletLayout, IsLayoutIf, IsLaidOut, IsFuncletPlan}
 use Rattle.body_states.specs.Programs.{HasProgram, IsProgramImage}
+use Rattle.body_states.proofs.Finding.{template_there}
 use Rattle.body_states.proofs.Inside.{template_some}
 use Rattle.body_steps.specs.Views.{counts_of}
 use Rattle.body_steps.proofs.Running.{each, get_or_is}
@@ -155,16 +156,7 @@ module _ (t : Functions) (fs : List Funclet) (program : LinearProgram) (p : Plan
   -- the template of an instruction stands at its address
   pub template_stands : (m : Memory) (name : BodyName) (b : LinearBody) (label : ℕ) (i : Instruction) → HasProgram t fs program p q m → body_of program name ≡ Some b → slice_get b.code label ≡ Some i
       → HasCode m (p.address name label) (template (links_of p q name) (p.layout name) (p.address name label) i)
-  template_stands m name b label i has there is =
-      let y = p.layout name in
-      let k = links_of p q name in
-      let a = image.addresses name b there in
-      let h = code_split m (begin_of p q name) (entry_code program p q name) (code_from k y (p.address name 0) b.code) (has.code name b there) in
-      let body = subst (λ x. HasCode m x (code_from k y (p.address name 0) b.code)) (sym a.first) h.1 in
-      let g = get_or_is b.code label i instructions.Separator is in
-      subst (λ x. HasCode m x (template k y x i)) (sym (a.labels label))
-      (subst (λ j. HasCode m (p.address name 0 + offset_of y b.code label) (template k y (p.address name 0 + offset_of y b.code label) j)) g.0
-      (template_placed k y m (p.address name 0) b.code label instructions.Separator body g.1))
+  template_stands m name b label i has there is = template_there t fs program p q image name b there m has label i is
 
   -- an operation's instructions from the one on that may fault
   pub finish_stands : (m : Memory) (name : BodyName) (b : LinearBody) (label : ℕ) (to : Slot) (o : Operation) (first second : Slot)

@@ -42,6 +42,7 @@ use Rattle.body_states.specs.Layouts.{IsLayoutIf, IsLaidOut}
 use Rattle.body_states.specs.Sites.{Sites, links_of, begin_of, entry_code}
 use Rattle.body_states.specs.Programs.{HasProgram, ReturnsThere, IsMachineMemory, IsProgramImage}
 use Rattle.body_states.specs.Bodies.{Begins}
+use Rattle.body_states.proofs.Finding.{template_there}
 use Rattle.body_states.proofs.QuietTurns.{reaches_quietly}
 use Rattle.body_steps.specs.Known.{IsWellMade, IsKnown}
 use Rattle.body_steps.specs.Views.{counts_of}
@@ -70,20 +71,6 @@ temporaries_near program p (FunctionBody f) b h = by (p.leaf (FunctionBody f)) h
 temporaries_near program p (FuncletBody k) b h = let a = h.layout.temporaries in let z = h.layout.small in omega arith
 
 module _ (t : Functions) (fs : List Funclet) (program : LinearProgram) (p : Plan) (q : Sites) (image : IsProgramImage t fs program p q) where
-  -- the template of an instruction stands at its address
-  template_at : (m : Memory) (name : BodyName) (o : LinearBody) (label : ℕ) (i : Instruction) → HasProgram t fs program p q m → body_of program name ≡ Some o → slice_get o.code label ≡ Some i
-      → HasCode m (p.address name label) (template (links_of p q name) (p.layout name) (p.address name label) i)
-  template_at m name o label i has there e =
-      let a = image.addresses name o there in
-      let y = p.layout name in
-      let links = links_of p q name in
-      let g = get_or_is o.code label i instructions.Separator e in
-      let h = code_split m (begin_of p q name) (entry_code program p q name) (code_from links y (p.address name 0) o.code) (has.code name o there) in
-      let all = subst (λ x. HasCode m x (code_from links y (p.address name 0) o.code)) (sym a.first) h.1 in
-      subst (λ x. HasCode m x (template links y x i)) (sym (a.labels label))
-      (subst (λ j. HasCode m (p.address name 0 + offset_of y o.code label) (template links y (p.address name 0 + offset_of y o.code label) j)) g.0
-      (template_placed links y m (p.address name 0) o.code label instructions.Separator all g.1))
-
   module _ (made : IsWellMade program p) (s : State) (saved : Cpu) (is : List StackItem) (acts : List Activation) (c : Configuration)
       (on : On t fs program p s.memory (context_of saved) is (Waits c.frame ∷ c.below) acts) (sane : IsSane (record { cpu = saved; memory = s.memory })) (says : p.resumes AfterCall c.frame saved ≡ true)
       (memory : IsMachineMemory t fs program p q s.memory c.store.memory) (store : c.store.activations ≡ locals_of acts) where
@@ -127,7 +114,7 @@ module _ (t : Functions) (fs : List Funclet) (program : LinearProgram) (p : Plan
     -- the code that keeps the result
     keeps : HasCode s.memory saved.rip (put_back Rsp (temporary_at y first) ∷ [])
     keeps =
-        let h = code_split s.memory place done (keep y (Temporary first)) (template_at s.memory name code.0 c.frame.next i memory.code code.1 here) in
+        let h = code_split s.memory place done (keep y (Temporary first)) (template_there t fs program p q image name code.0 code.1 s.memory memory.code c.frame.next i here) in
         subst (λ x. HasCode s.memory x (keep y (Temporary first))) (sym back_is) h.1
 
     pub quiet_there : arrivals saved (distance t.base saved.rip) 1 fs ≡ []
