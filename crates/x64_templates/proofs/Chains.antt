@@ -12,7 +12,7 @@ use Rattle.x64_machine.specs.Contexts.{kept_of}
 use Rattle.x64_machine.specs.Effect.{State, Answer, with_rip, is_trap, effect, step}
 use Rattle.template_code.specs.Bytes.{size, sizes, spelled}
 use Rattle.x64_templates.specs.Runs.{Runs, Reaches, HasCode}
-use Rattle.x64_templates.specs.Keeping.{keeps_registers, stores_nothing, KeepsRegisters, StoresNothing, Flows, StoresOnce}
+use Rattle.x64_templates.specs.Keeping.{keeps_registers, stores_nothing, StoresNothing, Flows, StoresOnce}
 use Rattle.x64_templates.specs.Chains.{AllTurns, IsMidst, IsTurnOf}
 use Rattle.x64_templates.proofs.PlacedCode.{Encodable, bytes_split, bytes_kept, spells, reads}
 use Rattle.x64_templates.proofs.Keeping.{keeps, ends}
@@ -71,20 +71,6 @@ stepped i rest s u spelling keep code e =
 
 next_code : (i : Instr) (rest : List Instr) (s u : State) → Runs s u → u.cpu.rip ≡ s.cpu.rip + size i → HasCode s.memory s.cpu.rip (i ∷ rest) → HasCode u.memory u.cpu.rip rest
 next_code i rest s u r e code = subst (λ a. HasCode u.memory a rest) (sym e) (rest_stands s u i rest r code)
-
--- where a run over code that keeps registers has come
-pub record Came (is : List Instr) (s w : State) : Type 0 where
-  pub rip : w.cpu.rip ≡ s.cpu.rip + sizes is
-  pub registers : kept_of w.cpu.registers ≡ kept_of s.cpu.registers
-
-pub came : (is : List Instr) (s w : State) → Encodable is → KeepsRegisters is → HasCode s.memory s.cpu.rip is → Reaches (length is) s w → Came is s w
-came [] s w spelling keep code r = subst (Came [] s) r (record { rip = omega arith; registers = refl })
-came (i ∷ is) s w spelling keep code r =
-    let x = stepped i is s r.0 spelling.0 keep.0 code r.1.steps.steps in
-    let a = x.rip in
-    let rest = came is r.0 w spelling.1 keep.1 (next_code i is s r.0 r.1 a code) r.2 in
-    let b = rest.rip in
-    record { rip = omega arith; registers = rest.registers ∙ x.registers }
 
 -- nothing is stored up to the end
 memory_stays : (is : List Instr) (u w : State) → Encodable is → StoresNothing is → HasCode u.memory u.cpu.rip is → Reaches (length is) u w → u.memory ≡ w.memory

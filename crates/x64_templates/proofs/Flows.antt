@@ -169,14 +169,6 @@ module _ (y : Layout) (n : Counts) (sp base : ℕ) (room : HasRoom y n sp base) 
   pub operands_flow : (o : Operation) (first second : Slot) → IsSlot n first → IsSlot n second → IsFlow (operands_code y o first second)
   operands_flow o first second f s = nothing_flows (operands_code y o first second) (operands_fine y n sp base o first second room f s) (operands_nothing y o first second)
 
-  -- up to where the result is kept
-  pub made_flow : (o : Operation) (first second : Slot) → IsSlot n first → IsSlot n second → IsFlow (operands_code y o first second ++ work o)
-  made_flow o first second f s = record {
-    spelling = encodable_of (operands_code y o first second ++ work o) (fine_both (operands_code y o first second) (work o) (operands_fine y n sp base o first second room f s) (work_fine o));
-    flow = flows (operands_code y o first second ++ work o) (keeps_both (operands_code y o first second) (work o) (nothing_keeps (operands_code y o first second) (operands_nothing y o first second)) (work_keeps o));
-    once = once_after (operands_code y o first second) (work o) (operands_nothing y o first second) (work_once o);
-  }
-
   pub information_flow : (to : Slot) (field : Field) → IsSlot n to → IsField field → y.pointers < 2 ^ 31 → IsFlow (information_code y to field)
   information_flow to field is isf small =
       let loads = fetched Rax Rsp y.pointers ∷ fetched Rax Rax 0 ∷ field_load field ∷ [] in

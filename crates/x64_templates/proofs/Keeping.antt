@@ -200,7 +200,7 @@ flows_to [] j b p q = q
 flows_to (i ∷ []) j b p q = (p.0, q)
 flows_to (i ∷ k ∷ a) j b p q = (p.0, flows_to (k ∷ a) j b p.1 q)
 
--- what stores nothing may come before what stores once, and after it
+-- what stores nothing may come before what stores once
 pub once_after : (a b : List Instr) → StoresNothing a → StoresOnce b → StoresOnce (a ++ b)
 once_after [] b p q = q
 once_after (i ∷ a) b p q = inl (p.1, once_after a b p.2 q)
@@ -208,8 +208,3 @@ once_after (i ∷ a) b p q = inl (p.1, once_after a b p.2 q)
 pub nothing_once : (a : List Instr) → StoresNothing a → StoresOnce a
 nothing_once [] p = tt
 nothing_once (i ∷ a) p = inr p.2
-
-pub once_before : (a b : List Instr) → StoresOnce a → StoresNothing b → StoresOnce (a ++ b)
-once_before [] b p q = nothing_once b q
-once_before (i ∷ a) b (inl p) q = inl (p.0, once_before a b p.1 q)
-once_before (i ∷ a) b (inr p) q = inr (nothing_both a b p q)
