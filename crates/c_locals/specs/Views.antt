@@ -1,14 +1,17 @@
--- Where a statement stands, wherever that lies in memory.
-use Rattle.std.specs.Prelude.{true, false, ◌++◌}
-use Rattle.c_expressions.specs.Views.{scopes_of}
+-- Where a statement is, wherever that lies in memory.
+use Rattle.std.specs.Prelude.{ℕ, List, Option, true, false, ◌++◌, option_map}
+use Rattle.std.specs.Borrow.{Bor}
+use Rattle.c_expressions.specs.declared.scopes.Entity.{Entity}
+use Rattle.c_expressions.specs.Views.{block_of, scopes_of}
 use Rattle.c_locals.specs.declared.environment.Environment.{Environment as Environment'}
 use Rattle.c_locals.specs.declared.environment.Reach.{Reach as Reach'}
 use Rattle.c_locals.specs.declared.environment.Reach.TheVariants as reaches
 use Rattle.c_locals.specs.declared.environment.Walk.{Walk}
 use Rattle.c_resolved.specs.Expressions.{Names, ResolvedExpression, resolve_expression}
 use Rattle.c_resolved.specs.Scopes.{Scope, spelled, meaning_in, built_ins}
-use Rattle.c_resolved.specs.Statements.{Reach, Nowhere, Beyond, Near, past_finally, Environment, Numbering, names_at, filter_names}
-use Rattle.c_syntax.specs.Expression.{Expression}
+use Rattle.c_resolved.specs.Statements.{Reach, Nowhere, Beyond, Near, past_finally, Environment, Numbering, Value, Optional, optional, names_at, filter_names}
+use Rattle.c_syntax.specs.declared.expression.Expr.{Expr}
+use Rattle.c_syntax.specs.Expression.{Expression, expression}
 
 abbrev pub reach : Reach' → Reach
 reach reaches.Nowhere = Nowhere
@@ -66,3 +69,15 @@ resolved_at a block e = resolve_expression (names_at a block) e
 
 abbrev pub filter_resolved_at : Environment → Scope → Expression → ResolvedExpression
 filter_resolved_at a block e = resolve_expression (filter_names a block) e
+
+-- ---- expressions of the text, in a block with these entries
+
+abbrev pub resolved_in : Environment' → List (Bor (List ℕ) × Entity) → Expr → ResolvedExpression
+resolved_in a entries e = resolved_at (environment a) (block_of entries) (expression e)
+
+abbrev pub filter_resolved_in : Environment' → List (Bor (List ℕ) × Entity) → Expr → ResolvedExpression
+filter_resolved_in a entries e = filter_resolved_at (environment a) (block_of entries) (expression e)
+
+-- by a rule on its value, where there is an expression
+abbrev pub optional_in : (Expression → ResolvedExpression → Value) → Environment' → List (Bor (List ℕ) × Entity) → Option Expr → Optional
+optional_in rule a entries e = optional (λ x. rule x (resolved_at (environment a) (block_of entries) x)) (option_map expression e)

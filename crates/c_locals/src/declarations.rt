@@ -8,7 +8,7 @@ ghost use Rattle.c_resolved.specs.Scopes.{spelled};
 ghost use Rattle.c_resolved.specs.Statements as definitions;
 ghost use Rattle.c_resolved.specs.Statements.{is_taken, unless_holds};
 ghost use Rattle.c_resolved.specs.Types.{is_scalar};
-ghost use Rattle.c_expressions.specs.Kept.{least_of, kept};
+ghost use Rattle.c_expressions.specs.Kept.{AddsFaults};
 ghost use Rattle.c_expressions.specs.Views.{block_of};
 ghost use Rattle.c_locals.specs.Resolved.{Resolves, Begins, declares};
 ghost use Rattle.c_locals.specs.Views.{environment, numbering};
@@ -44,7 +44,10 @@ fn check_local<'t>(
     name: Identifier,
     of: CType,
 )
-    ensures { least_of worst.new ≡ kept (least_of worst.old) (unless_holds (not (is_taken (block_of block.now.entries) (spelled text.now name))) name.start Duplicate ++ unless_holds (is_scalar of) name.start TypeClash) }
+    ensures { AddsFaults worst.old worst.new
+        (unless_holds (not (is_taken (block_of block.now.entries) (spelled text.now name)))
+        name.start Duplicate
+        ++ unless_holds (is_scalar of) name.start TypeClash) }
 {
     let taken = is_taken(spelled(text, name), block);
     unless_holds(worst, !taken, name.start, Fault::Duplicate);
@@ -66,7 +69,9 @@ fn declare<'t>(
     block: &mut IndexMap<&'t [u8], Entity<'t>>,
     walk: &mut Walk,
 ) -> Result<Declared, AllocError>
-    ensures { IfOk result (λ d. Resolves block.new.entries walk.old walk.new (declares d ∷ []) (definitions.declare (environment env.now) base (trees.local local.now) (block_of block.old.entries) (numbering walk.old))) }
+    ensures { IfOk result (λ d. Resolves block.new.entries walk.old walk.new (declares d ∷ [])
+        (definitions.declare (environment env.now) base (trees.local local.now)
+        (block_of block.old.entries) (numbering walk.old))) }
 {
     let of = CType {
         base,
@@ -96,7 +101,9 @@ fn declare_each<'t>(
     block: &mut IndexMap<&'t [u8], Entity<'t>>,
     walk: &mut Walk,
 ) -> Result<Vec<Declared>, AllocError>
-    ensures { IfOk result (λ v. Resolves block.new.entries walk.old walk.new (map declares v.items) (definitions.declare_all (environment env.now) base (map trees.local locals.now) (block_of block.old.entries) (numbering walk.old))) }
+    ensures { IfOk result (λ v. Resolves block.new.entries walk.old walk.new (map declares v.items)
+        (definitions.declare_all (environment env.now) base (map trees.local locals.now)
+        (block_of block.old.entries) (numbering walk.old))) }
 {
     let mut made = Vec::new(alloc);
     for local in locals {
@@ -121,7 +128,9 @@ pub fn declare_all<'t>(
     block: &mut IndexMap<&'t [u8], Entity<'t>>,
     walk: &mut Walk,
 ) -> Result<Vec<Stmt>, AllocError>
-    ensures { IfOk result (λ v. Resolves block.new.entries walk.old walk.new (map statement v.items) (definitions.declare_all (environment env.now) base (map trees.local locals.now) (block_of block.old.entries) (numbering walk.old))) }
+    ensures { IfOk result (λ v. Resolves block.new.entries walk.old walk.new (map statement v.items)
+        (definitions.declare_all (environment env.now) base (map trees.local locals.now)
+        (block_of block.old.entries) (numbering walk.old))) }
 {
     let made = declare_each(alloc, env, base, locals, block, walk)?;
     as_statements(alloc, made)
@@ -136,7 +145,9 @@ pub fn for_initialiser<'t>(
     walk: &mut Walk,
 ) -> Result<Beginning, AllocError>
     requires { block.old.entries ≡ [] }
-    ensures { IfOk result (λ b. Begins block.new.entries walk.old walk.new b (definitions.resolve_for_initialiser (environment env.now) (trees.first initialiser.now) (numbering walk.old))) }
+    ensures { IfOk result (λ b. Begins block.new.entries walk.old walk.new b
+        (definitions.resolve_for_initialiser (environment env.now) (trees.first initialiser.now)
+        (numbering walk.old))) }
 {
     match initialiser {
         ForInitialiser::Declaration(declaration) => {

@@ -1,11 +1,12 @@
-//! Where a statement stands, and what a walk over a function carries along.
+//! Where a statement is, and what a walk over a function carries along.
 
 ghost use Rattle.std.specs.Prelude.{◌≡◌, ◌+◌, IfOk, OnOk};
 ghost use Rattle.c_resolved.specs.Statements as definitions;
 ghost use Rattle.c_resolved.specs.Statements.{with_number};
-ghost use Rattle.c_expressions.specs.Kept.{least_of, kept};
+ghost use Rattle.c_expressions.specs.Kept.{AddsFaults};
 ghost use Rattle.c_expressions.specs.Views.{names_of, scopes_of};
-ghost use Rattle.c_locals.specs.Views.{reach, environment, numbering, within, in_loop, in_body, in_handler, in_last, names_within, filter_names_within};
+ghost use Rattle.c_locals.specs.Views.{reach, environment, numbering, within, in_loop, in_body};
+ghost use Rattle.c_locals.specs.Views.{in_handler, in_last, names_within, filter_names_within};
 
 use c_expressions::context::Context;
 use c_expressions::least::Least;
@@ -24,7 +25,7 @@ pub enum Reach {
     Near,
 }
 
-/// Where a statement stands: the text, the names of the blocks around its own and of the file, and the
+/// Where a statement is: the text, the names of the blocks around its own and of the file, and the
 /// function's result; what `break` and `continue`, `__leave` and `return` find; whether
 /// GetExceptionCode and AbnormalTermination mean something.
 #[derive(Clone, Copy)]
@@ -52,7 +53,8 @@ impl Walk {
     /// The number of a filter or a `__finally` block, each once.
     pub fn next_number(&mut self) -> Result<u32, AllocError>
         ensures number { IfOk result (λ n. n ≡ self.old.number) }
-        ensures counts { OnOk result (numbering self.new ≡ with_number (numbering self.old) (self.old.number + 1)) }
+        ensures counts { OnOk result (numbering self.new ≡ with_number (numbering self.old)
+            (self.old.number + 1)) }
         ensures faults { self.new.worst ≡ self.old.worst }
     {
         let number = self.number;
@@ -79,7 +81,7 @@ fn past_finally(found: Reach) -> Reach
 
 /// A jump: a fault where it finds nothing, and another where it leaves a `__finally` block.
 pub fn jump(worst: &mut Least, found: Reach, fault: Fault, at: u64)
-    ensures { least_of worst.new ≡ kept (least_of worst.old) (definitions.jump (reach found) fault at) }
+    ensures { AddsFaults worst.old worst.new (definitions.jump (reach found) fault at) }
 {
     match found {
         Reach::Nowhere => worst.add(at, fault),

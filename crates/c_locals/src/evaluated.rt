@@ -1,16 +1,15 @@
 //! The values of a statement's expressions.
 
-ghost use Rattle.std.specs.Prelude.{◌≡◌, ◌++◌, IfOk, OnOk, Some, option_map};
+ghost use Rattle.std.specs.Prelude.{◌++◌, IfOk, OnOk, Some, option_map};
 ghost use Rattle.c_resolved.specs.declared.fault.Fault.TheVariants.{TypeClash};
 ghost use Rattle.c_resolved.specs.Expressions.{fault_at};
 ghost use Rattle.c_resolved.specs.Statements as definitions;
-ghost use Rattle.c_resolved.specs.Statements.{optional};
-ghost use Rattle.c_expressions.specs.Kept.{least_of, kept};
+ghost use Rattle.c_expressions.specs.Kept.{AddsFaults};
 ghost use Rattle.c_expressions.specs.Views.{block_of};
 ghost use Rattle.c_locals.specs.Values.{Evaluates, MayEvaluate};
-ghost use Rattle.c_locals.specs.Views.{environment, resolved_at};
+ghost use Rattle.c_locals.specs.Views.{environment, resolved_in, optional_in};
 ghost use Rattle.c_syntax.specs.Expression.{expression, start};
-ghost use Rattle.c_types.specs.Views.{typed_node};
+ghost use Rattle.c_types.specs.Views.{FindsTyped};
 
 use crate::environment::{Environment, context};
 use c_checked::expression::Expr as Checked;
@@ -33,8 +32,10 @@ fn resolved_at<'t>(
     worst: &mut Least,
     e: &Expr,
 ) -> Result<Option<TypedNode>, AllocError>
-    ensures found { IfOk result (λ r. option_map typed_node r ≡ (resolved_at (environment env.now) (block_of block.now.entries) (expression e.now)).found) }
-    ensures faults { OnOk result (least_of worst.new ≡ kept (least_of worst.old) (resolved_at (environment env.now) (block_of block.now.entries) (expression e.now)).faults) }
+    ensures found { IfOk result (λ r. FindsTyped r
+        (resolved_in env.now block.now.entries e.now).found) }
+    ensures faults { OnOk result (AddsFaults worst.old worst.new
+        (resolved_in env.now block.now.entries e.now).faults) }
 {
     let scopes = Scopes::Inside(block, env.outer);
     resolve(alloc, &context(env, &scopes), worst, e)
@@ -48,7 +49,8 @@ pub fn any<'t>(
     worst: &mut Least,
     e: &Expr,
 ) -> Result<Checked, AllocError>
-    ensures { IfOk result (λ r. Evaluates worst.old worst.new r (definitions.any (resolved_at (environment env.now) (block_of block.now.entries) (expression e.now)))) }
+    ensures { IfOk result (λ r. Evaluates worst.old worst.new r
+        (definitions.any (resolved_in env.now block.now.entries e.now))) }
 {
     let found = resolved_at(alloc, env, block, worst, e)?;
     Ok(values::any(worst, found))
@@ -63,7 +65,8 @@ pub fn condition<'t>(
     at: u64,
     e: &Expr,
 ) -> Result<Checked, AllocError>
-    ensures { IfOk result (λ r. Evaluates worst.old worst.new r (definitions.condition at (resolved_at (environment env.now) (block_of block.now.entries) (expression e.now)))) }
+    ensures { IfOk result (λ r. Evaluates worst.old worst.new r
+        (definitions.condition at (resolved_in env.now block.now.entries e.now))) }
 {
     let found = resolved_at(alloc, env, block, worst, e)?;
     Ok(values::condition(worst, at, found))
@@ -78,7 +81,9 @@ pub fn to_type<'t>(
     t: CType,
     e: &Expr,
 ) -> Result<Checked, AllocError>
-    ensures { IfOk result (λ r. Evaluates worst.old worst.new r (definitions.to_type t (start (expression e.now)) (resolved_at (environment env.now) (block_of block.now.entries) (expression e.now)))) }
+    ensures { IfOk result (λ r. Evaluates worst.old worst.new r
+        (definitions.to_type t (start (expression e.now))
+        (resolved_in env.now block.now.entries e.now))) }
 {
     let found = resolved_at(alloc, env, block, worst, e)?;
     Ok(values::to_type(worst, t, e.start(), found))
@@ -92,7 +97,8 @@ pub fn any_or_none<'t>(
     worst: &mut Least,
     e: &Option<Expr>,
 ) -> Result<Option<Checked>, AllocError>
-    ensures { IfOk result (λ r. MayEvaluate worst.old worst.new r (optional (λ x. definitions.any (resolved_at (environment env.now) (block_of block.now.entries) x)) (option_map expression e.now))) }
+    ensures { IfOk result (λ r. MayEvaluate worst.old worst.new r
+        (optional_in (λ x. definitions.any) env.now block.now.entries e.now)) }
 {
     match e {
         None => Ok(None),
@@ -109,7 +115,8 @@ pub fn condition_or_none<'t>(
     at: u64,
     e: &Option<Expr>,
 ) -> Result<Option<Checked>, AllocError>
-    ensures { IfOk result (λ r. MayEvaluate worst.old worst.new r (optional (λ x. definitions.condition at (resolved_at (environment env.now) (block_of block.now.entries) x)) (option_map expression e.now))) }
+    ensures { IfOk result (λ r. MayEvaluate worst.old worst.new r
+        (optional_in (λ x. definitions.condition at) env.now block.now.entries e.now)) }
 {
     match e {
         None => Ok(None),
@@ -126,7 +133,8 @@ pub fn to_type_or_none<'t>(
     t: CType,
     e: &Option<Expr>,
 ) -> Result<Option<Checked>, AllocError>
-    ensures { IfOk result (λ r. MayEvaluate worst.old worst.new r (optional (λ x. definitions.to_type t (start x) (resolved_at (environment env.now) (block_of block.now.entries) x)) (option_map expression e.now))) }
+    ensures { IfOk result (λ r. MayEvaluate worst.old worst.new r
+        (optional_in (λ x. definitions.to_type t (start x)) env.now block.now.entries e.now)) }
 {
     match e {
         None => Ok(None),
@@ -143,7 +151,9 @@ pub fn returned<'t>(
     at: u64,
     e: &Option<Expr>,
 ) -> Result<Option<Checked>, AllocError>
-    ensures { IfOk result (λ r. MayEvaluate worst.old worst.new r (definitions.returned (environment env.now) (block_of block.now.entries) at (option_map expression e.now))) }
+    ensures { IfOk result (λ r. MayEvaluate worst.old worst.new r
+        (definitions.returned (environment env.now) (block_of block.now.entries) at
+        (option_map expression e.now))) }
 {
     match e {
         None => {
@@ -163,7 +173,9 @@ fn returned_value<'t>(
     at: u64,
     e: &Expr,
 ) -> Result<Option<Checked>, AllocError>
-    ensures { IfOk result (λ r. MayEvaluate worst.old worst.new r (definitions.returned (environment env.now) (block_of block.now.entries) at (Some (expression e.now)))) }
+    ensures { IfOk result (λ r. MayEvaluate worst.old worst.new r
+        (definitions.returned (environment env.now) (block_of block.now.entries) at
+        (Some (expression e.now)))) }
 {
     if is_void(env.returns) {
         refused_value(alloc, env, block, worst, at, e)?;
@@ -181,7 +193,8 @@ fn refused_value<'t>(
     at: u64,
     e: &Expr,
 ) -> Result<(), AllocError>
-    ensures { OnOk result (least_of worst.new ≡ kept (least_of worst.old) ((resolved_at (environment env.now) (block_of block.now.entries) (expression e.now)).faults ++ fault_at at TypeClash)) }
+    ensures { OnOk result (AddsFaults worst.old worst.new
+        ((resolved_in env.now block.now.entries e.now).faults ++ fault_at at TypeClash)) }
 {
     resolved_at(alloc, env, block, worst, e)?;
     worst.add(at, Fault::TypeClash);

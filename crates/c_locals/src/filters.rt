@@ -5,12 +5,12 @@ ghost use Rattle.c_checked.specs.Expression.{expression as checked};
 ghost use Rattle.c_checked.specs.Statement.{filter};
 ghost use Rattle.c_resolved.specs.Statements as definitions;
 ghost use Rattle.c_resolved.specs.Statements.{with_number};
-ghost use Rattle.c_expressions.specs.Kept.{least_of, kept};
+ghost use Rattle.c_expressions.specs.Kept.{AddsFaults};
 ghost use Rattle.c_expressions.specs.Views.{block_of, entity};
 ghost use Rattle.c_locals.specs.Values.{Evaluates, Answers, filter_with, number_after};
-ghost use Rattle.c_locals.specs.Views.{environment, numbering, filter_resolved_at};
+ghost use Rattle.c_locals.specs.Views.{environment, numbering, filter_resolved_in};
 ghost use Rattle.c_syntax.specs.Expression.{expression, start};
-ghost use Rattle.c_types.specs.Views.{typed_node};
+ghost use Rattle.c_types.specs.Views.{FindsTyped};
 
 use crate::environment::{Environment, Walk, context, filter_context};
 use c_checked::expression::Expr as Checked;
@@ -51,7 +51,8 @@ fn names_accepting<'t>(
     block: &IndexMap<&'t [u8], Entity<'t>>,
     name: Identifier,
 ) -> bool
-    ensures { result ≡ definitions.is_accepting (definitions.entity_at (environment env.now) (block_of block.now.entries) name) }
+    ensures { result ≡ definitions.is_accepting
+        (definitions.entity_at (environment env.now) (block_of block.now.entries) name) }
 {
     let scopes = Scopes::Inside(block, env.outer);
     is_accepting(named(&context(env, &scopes), name))
@@ -63,7 +64,8 @@ pub fn always<'t>(
     block: &IndexMap<&'t [u8], Entity<'t>>,
     e: &Expr,
 ) -> bool
-    ensures { result ≡ definitions.always (environment env.now) (block_of block.now.entries) (expression e.now) }
+    ensures { result ≡ definitions.always (environment env.now) (block_of block.now.entries)
+        (expression e.now) }
 {
     match e {
         Expr::Literal { literal, .. } => is_one(*literal),
@@ -81,8 +83,10 @@ fn resolved_at<'t>(
     worst: &mut Least,
     e: &Expr,
 ) -> Result<Option<TypedNode>, AllocError>
-    ensures found { IfOk result (λ r. option_map typed_node r ≡ (filter_resolved_at (environment env.now) (block_of block.now.entries) (expression e.now)).found) }
-    ensures faults { OnOk result (least_of worst.new ≡ kept (least_of worst.old) (filter_resolved_at (environment env.now) (block_of block.now.entries) (expression e.now)).faults) }
+    ensures found { IfOk result (λ r. FindsTyped r
+        (filter_resolved_in env.now block.now.entries e.now).found) }
+    ensures faults { OnOk result (AddsFaults worst.old worst.new
+        (filter_resolved_in env.now block.now.entries e.now).faults) }
 {
     let scopes = Scopes::Inside(block, env.outer);
     resolve(alloc, &filter_context(env, &scopes), worst, e)
@@ -96,7 +100,9 @@ fn answer<'t>(
     worst: &mut Least,
     e: &Expr,
 ) -> Result<Checked, AllocError>
-    ensures { IfOk result (λ r. Evaluates worst.old worst.new r (definitions.to_answer (start (expression e.now)) (filter_resolved_at (environment env.now) (block_of block.now.entries) (expression e.now)))) }
+    ensures { IfOk result (λ r. Evaluates worst.old worst.new r
+        (definitions.to_answer (start (expression e.now))
+        (filter_resolved_in env.now block.now.entries e.now))) }
 {
     let found = resolved_at(alloc, env, block, worst, e)?;
     Ok(to_answer(worst, e.start(), found))
@@ -110,7 +116,9 @@ pub fn filter_value<'t>(
     worst: &mut Least,
     e: &Expr,
 ) -> Result<Option<Checked>, AllocError>
-    ensures { IfOk result (λ r. Answers worst.old worst.new r (definitions.resolve_filter (environment env.now) (block_of block.now.entries) (expression e.now))) }
+    ensures { IfOk result (λ r. Answers worst.old worst.new r
+        (definitions.resolve_filter (environment env.now) (block_of block.now.entries)
+        (expression e.now))) }
 {
     if always(env, block, e) {
         return Ok(None);
@@ -120,8 +128,10 @@ pub fn filter_value<'t>(
 
 /// The filter of an `__except` by its answer, which has the next number.
 pub fn numbered(walk: &mut Walk, answer: Option<Checked>) -> Result<Filter, AllocError>
-    ensures filter { IfOk result (λ f. filter f ≡ filter_with walk.old.number (option_map checked answer)) }
-    ensures counts { OnOk result (numbering walk.new ≡ with_number (numbering walk.old) (number_after walk.old.number (option_map checked answer))) }
+    ensures filter { IfOk result (λ f. filter f ≡ filter_with walk.old.number
+        (option_map checked answer)) }
+    ensures counts { OnOk result (numbering walk.new ≡ with_number (numbering walk.old)
+        (number_after walk.old.number (option_map checked answer))) }
     ensures faults { walk.new.worst ≡ walk.old.worst }
 {
     match answer {
