@@ -1,7 +1,7 @@
 //! The operations of checked programs on numbers, and on the memory that a program begins with.
 //!
-//! `pure` has the results without faults, `performing` division, loads and stores, with their faults, and
-//! `memory` the memory of a program's globals.
+//! `pure` has the results without faults, `performing` division, loads and stores, with their
+//! faults, and `memory` the memory of a program's globals.
 #![tactic(auto)]
 
 pub mod memory;

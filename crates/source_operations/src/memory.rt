@@ -40,7 +40,8 @@ fn regions(data_end: u64) -> [Region; 2]
     [arena, data]
 }
 
-/// The memory that a program with these globals begins with. Only the system's memory can be wanting.
+/// The memory that a program with these globals begins with. Only the system's memory can be
+/// wanting.
 pub fn first_memory(alloc: Global, globals: &[u8]) -> Result<PageMap, AllocError>
     requires { length globals.now ≤ 1048576 }
     ensures { IfOk result (λ s. memory_of s ≡ model.first_memory globals.now) }

@@ -107,7 +107,8 @@ fn violation(write: bool, refused: RefusedAccess) -> Performed
 
 /// A load of bytes that aren't reserved.
 fn load_number<S: AddressSpace>(space: &S, width: Width, at: u64) -> Performed
-    ensures { outcome_of result (S.memory space.now) ≡ outcomes.loaded width at (S.memory space.now) }
+    ensures { outcome_of result (S.memory space.now) ≡
+        outcomes.loaded width at (S.memory space.now) }
 {
     match space.load(at, width) {
         Ok(number) => Performed::Gives(number),
@@ -134,7 +135,8 @@ fn store<S: AddressSpace>(
     at: u64,
     number: u64,
 ) -> Performed
-    ensures outcome { outcome_of result (S.memory space.new) ≡ spec.store (reserved_below data_end) width at number (S.memory space.old) }
+    ensures outcome { outcome_of result (S.memory space.new) ≡
+        spec.store (reserved_below data_end) width at number (S.memory space.old) }
     ensures kept { is_given result ≡ false → S.memory space.new ≡ S.memory space.old }
 {
     if let Some(address) = first_reserved(data_end, at, width.bytes()) {
@@ -146,8 +148,8 @@ fn store<S: AddressSpace>(
     }
 }
 
-/// An operation on two operands, in a memory whose globals' pages end at an address. Where it gives no
-/// number, nothing is changed.
+/// An operation on two operands, in a memory whose globals' pages end at an address. Where it gives
+/// no number, nothing is changed.
 pub fn perform<S: AddressSpace>(
     space: &mut S,
     data_end: u64,
@@ -155,7 +157,8 @@ pub fn perform<S: AddressSpace>(
     first: u64,
     second: u64,
 ) -> Performed
-    ensures outcome { outcome_of result (S.memory space.new) ≡ spec.performed (reserved_below data_end) operation first second (S.memory space.old) }
+    ensures outcome { outcome_of result (S.memory space.new) ≡
+        spec.performed (reserved_below data_end) operation first second (S.memory space.old) }
     ensures kept { is_given result ≡ false → S.memory space.new ≡ S.memory space.old }
 {
     match operation {

@@ -25,7 +25,7 @@ pub fn then<'p>(next: Next<'p>) -> Plan<'p>
     Plan { pushed: None, next }
 }
 
-/// Something is done next, and then a frame goes on.
+/// Something is done next, and then a frame continues.
 pub fn push<'p>(frame: Frame<'p>, next: Next<'p>) -> Plan<'p>
     ensures { plan_of result ≡ frames.Push (views.frame_of frame.entry) (views.next_of next.entry) }
 {
@@ -56,15 +56,16 @@ pub fn evaluates<'p>(expr: &'p Expr, place: Place) -> Next<'p>
     start(Task::Eval(expr), place)
 }
 
-/// An operand is evaluated, and then a frame goes on.
+/// An operand is evaluated, and then a frame continues.
 pub fn operand<'p>(frame: OperandFrame<'p>, expr: &'p Expr, place: Place) -> Plan<'p>
     ensures { plan_of result
-        ≡ plans.operand (views.operand_frame_of frame.entry) (tree.expression expr.now) (place_of place) }
+        ≡ plans.operand (views.operand_frame_of frame.entry) (tree.expression expr.now)
+        (place_of place) }
 {
     push(Frame::Operand(frame), evaluates(expr, place))
 }
 
-/// A place is located, and then a frame goes on.
+/// A place is located, and then a frame continues.
 fn located<'p>(frame: AssignmentFrame<'p>, target: &'p Lvalue, place: Place) -> Plan<'p>
     ensures { plan_of result
         ≡ plans.assignment (views.assignment_frame_of frame.entry)
@@ -108,7 +109,8 @@ fn call_plan<'p>(alloc: Global, callee: Callee, arguments: &'p Vec<Expr>, place:
 
 /// For a place that is read.
 fn read_plan<'p>(target: &'p Lvalue, place: Place) -> Plan<'p>
-    ensures { plan_of result ≡ plans.node_plan (tree.Read (tree.lvalue target.now)) (place_of place) }
+    ensures { plan_of result ≡
+        plans.node_plan (tree.Read (tree.lvalue target.now)) (place_of place) }
 {
     push(
         Frame::Assignment(AssignmentFrame::Reads(target, place)),

@@ -149,8 +149,8 @@ pub enum Frame<'p> {
     Body(BodyFrame<'p>),
     /// The end of a call: how many activations there were before it.
     EndsCall(usize),
-    /// The end of a `__try` with an `__except`, whose handler is the machine's last: what was held where
-    /// it was entered, and its block.
+    /// The end of a `__try` with an `__except`, whose handler is the machine's last: what was held
+    /// where it was entered, and its block.
     Lands(u64, &'p Vec<Stmt>, Place),
     /// The end of a `__try` with a `__finally`.
     Finishes(u32, &'p Vec<Stmt>, Place),

@@ -1,8 +1,8 @@
 //! What an evaluation does next, where the program's text and a value alone decide it.
 //!
 //! `task` has what counts a step, and `frame` what waits for a result and what is done next.
-//! `expressions` and `statements` choose what is done for a part of a program, and `results` what is
-//! done with a result that is there.
+//! `expressions` and `statements` choose what is done for a part of a program, and `results` what
+//! is done with a result that is there.
 #![tactic(auto)]
 
 pub mod expressions;

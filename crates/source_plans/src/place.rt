@@ -12,8 +12,8 @@ pub struct Exception {
     pub access: Option<(bool, u64)>,
 }
 
-/// The activation in which a part of a program runs, the exception that GetExceptionCode is about there,
-/// and what AbnormalTermination answers there.
+/// The activation in which a part of a program runs, the exception that GetExceptionCode is about
+/// there, and what AbnormalTermination answers there.
 #[derive(Clone, Copy, Debug, PartialEq, Eq)]
 pub struct Place {
     /// The activation's index, the outermost being 0.

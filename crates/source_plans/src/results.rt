@@ -108,7 +108,7 @@ fn assignment<'p>(frame: AssignmentFrame<'p>, next: Next<'p>) -> Plan<'p>
     push(Frame::Assignment(frame), next)
 }
 
-/// The address of an operator's target is there: what stands there is read.
+/// The address of an operator's target is there: what is there is read.
 fn read_compound<'p>(of: Compound<'p>, address: u64, place: Place) -> Plan<'p>
     ensures { plan_of result ≡ plans.assignment_plan (frames.ReadsCompound
         (views.compound_of of.entry) (place_of place)) address }
@@ -148,7 +148,7 @@ fn operate_compound<'p>(
     )
 }
 
-/// The address of what is incremented is there: what stands there is read.
+/// The address of what is incremented is there: what is there is read.
 fn read_stepped<'p>(of: Stepped<'p>, address: u64, place: Place) -> Plan<'p>
     ensures { plan_of result ≡ plans.assignment_plan (frames.ReadsStepped
         (views.stepped_of of.entry) (place_of place)) address }
@@ -171,7 +171,7 @@ fn operate_stepped<'p>(of: Stepped<'p>, address: u64, old: u64, place: Place) ->
     )
 }
 
-/// The new value of what is incremented goes to its place.
+/// The new value of what is incremented is written to its place.
 fn assign_stepped<'p>(of: Stepped<'p>, address: u64, old: u64, value: u64, place: Place) -> Plan<'p>
     ensures { plan_of result ≡ plans.assignment_plan (frames.AssignsStepped
         (views.stepped_of of.entry) address old (place_of place)) value }
@@ -270,7 +270,8 @@ fn for_test<'p>(value: u64, of: ForLoop<'p>, place: Place) -> Plan<'p>
 /// An iteration of `for` or `while` begins, or its condition has this value.
 fn for_step<'p>(part: ForPart, value: u64, of: ForLoop<'p>, place: Place) -> Plan<'p>
     ensures { plan_of result
-        ≡ plans.in_statement_plan (views.for_frame_of part (views.for_loop_of of.entry) (place_of place)) value }
+        ≡ plans.in_statement_plan
+        (views.for_frame_of part (views.for_loop_of of.entry) (place_of place)) value }
 {
     match part {
         ForPart::Begins => then(iterate(of, place)),

@@ -36,7 +36,7 @@ fn runs<'p>(stmt: &'p Box<Stmt>, place: Place) -> Next<'p>
     start(Task::RunBoxed(stmt), place)
 }
 
-/// An expression is evaluated, and then a frame goes on.
+/// An expression is evaluated, and then a frame continues.
 pub fn tested<'p>(frame: StatementFrame<'p>, expr: &'p Expr, place: Place) -> Plan<'p>
     ensures { plan_of result ≡ frames.Push (frames.InStatement
         (views.statement_frame_of frame.entry)) (plans.evaluates (tree.expression expr.now)
@@ -45,7 +45,7 @@ pub fn tested<'p>(frame: StatementFrame<'p>, expr: &'p Expr, place: Place) -> Pl
     push(Frame::Statement(frame), evaluates(expr, place))
 }
 
-/// An expression's value goes to a frame, and without an expression the rest is done at once.
+/// An expression's value is given to a frame, and without an expression the rest is done at once.
 fn evaluated<'p>(
     frame: StatementFrame<'p>,
     expr: &'p Option<Expr>,

@@ -1,6 +1,7 @@
 //! The locals of the live activations.
 
-ghost use Rattle.std.specs.Prelude.{◌≡◌, ◌++◌, [], ◌∷◌, length, take, replicate, slice_set, slice_index, OnOk, IfOk};
+ghost use Rattle.std.specs.Prelude.{◌≡◌, ◌++◌, [], ◌∷◌, length, take, replicate, slice_set};
+ghost use Rattle.std.specs.Prelude.{slice_index, OnOk, IfOk};
 ghost use Rattle.source_steps.specs.Locals.{frame_in, with_local};
 
 use std::alloc::{AllocError, Global};

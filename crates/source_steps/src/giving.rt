@@ -43,8 +43,8 @@ fn finally<'p>(number: u32, last: &'p Vec<Stmt>, abnormal: bool, place: Place) -
 }
 
 impl<'p> Machine<'p> {
-    /// An activation that a target leaves is held. A run holds at most 1,000, so that there is room for one
-    /// more; a count that has none fails as want of memory does.
+    /// An activation that a target leaves is held. A run holds at most 1,000, so that there is room
+    /// for one more; a count that has none fails as want of memory does.
     fn hold_activation(&mut self) -> Result<(), AllocError>
         ensures { OnOk result (self.new ≡ record self.old { held = self.old.held + 1 }) }
     {
@@ -123,7 +123,7 @@ impl<'p> Machine<'p> {
         }
     }
 
-    /// A result goes to an operand's frame.
+    /// A result is given to an operand's frame.
     fn resume_operand(
         &mut self,
         frame: OperandFrame<'p>,
@@ -141,7 +141,7 @@ impl<'p> Machine<'p> {
         }
     }
 
-    /// A result goes to a frame of an assignment.
+    /// A result is given to a frame of an assignment.
     fn resume_assignment(
         &mut self,
         frame: AssignmentFrame<'p>,
@@ -156,7 +156,7 @@ impl<'p> Machine<'p> {
         }
     }
 
-    /// A result goes to a frame of a statement.
+    /// A result is given to a frame of a statement.
     fn resume_statement(
         &mut self,
         frame: StatementFrame<'p>,
@@ -171,7 +171,7 @@ impl<'p> Machine<'p> {
         }
     }
 
-    /// A result goes to a frame that waits for a normal end.
+    /// A result is given to a frame that waits for a normal end.
     fn resume_sequel(
         &mut self,
         frame: SequelFrame<'p>,
@@ -186,7 +186,7 @@ impl<'p> Machine<'p> {
         }
     }
 
-    /// A result goes to the end of a loop's body.
+    /// A result is given to the end of a loop's body.
     fn resume_body(&mut self, frame: BodyFrame<'p>, how: Outcome) -> Result<Next<'p>, AllocError>
         ensures { IfOk result (Moved self.old self.new (λ m. model.resumed m (frames.Body
             (views.body_frame_of frame.entry)) (views.result_of how))) }
@@ -199,7 +199,7 @@ impl<'p> Machine<'p> {
         }
     }
 
-    /// A result goes to the end of a `__try` with an `__except`, whose handler is gone.
+    /// A result is given to the end of a `__try` with an `__except`, whose handler is gone.
     fn resume_landing(
         &mut self,
         held: u64,
@@ -218,7 +218,7 @@ impl<'p> Machine<'p> {
         }
     }
 
-    /// A result goes to a frame that isn't a landing.
+    /// A result is given to a frame that isn't a landing.
     fn resume(&mut self, frame: Frame<'p>, how: Outcome) -> Result<Step<'p>, AllocError>
         ensures { IfOk result (Showed self.old self.new (λ m. resumed_from m
             (views.frame_of frame.entry) (views.result_of how))) }
@@ -240,7 +240,7 @@ impl<'p> Machine<'p> {
         }
     }
 
-    /// A result goes to the newest frame; without one the run is over.
+    /// A result is given to the newest frame; without one the run is over.
     pub fn give(&mut self, how: Outcome) -> Result<Step<'p>, AllocError>
         ensures { IfOk result (Showed self.old self.new (λ m. model.given m
             (views.result_of how) m.stack)) }

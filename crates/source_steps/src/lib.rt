@@ -1,8 +1,8 @@
 //! The machine that runs an accepted program, and its steps.
 //!
-//! `machine` has memory, activations, handlers and the stack of what waits, so that no depth of a program
-//! needs the stack of the processor. `stepping` does one step, with the event that it shows; `calls`,
-//! `places`, `raises` and `giving` do the parts of steps that change the machine.
+//! `machine` has memory, activations, handlers and the stack of what waits, so that no depth of a
+//! program needs the stack of the processor. `stepping` does one step, with the event that it
+//! shows; `calls`, `places`, `raises` and `giving` do the parts of steps that change the machine.
 #![tactic(auto)]
 
 pub mod activations;

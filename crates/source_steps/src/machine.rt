@@ -28,10 +28,11 @@ pub struct Machine<'p> {
     pub steps_left: u64,
     pub memory: PageMap,
     pub activations: Activations,
-    /// What is held of the depth beside the live activations: 2 for each filter and `__finally` block that
-    /// runs, or that a target has left, and 1 for each activation that one has left, until it lands.
+    /// What is held of the depth beside the live activations: 2 for each filter and `__finally`
+    /// block that runs, or that a target has left, and 1 for each activation that one has left,
+    /// until it lands.
     pub held: u64,
-    /// The handlers around the place where the machine goes on, outermost first.
+    /// The handlers around the place where the machine continues, outermost first.
     pub handlers: Vec<Handler<'p>>,
     /// What waits, the newest last.
     pub stack: Vec<Frame<'p>>,

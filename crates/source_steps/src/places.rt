@@ -79,7 +79,7 @@ impl<'p> Machine<'p> {
         self.activations.set_local(place.activation, local, value);
     }
 
-    /// A value goes to a place that was located.
+    /// A value is written to a place that was located.
     pub fn put(&mut self, target: &'p Lvalue, address: u64, value: u64, place: Place) -> Next<'p>
         ensures { Moved self.old self.new (λ m. model.put m (tree.lvalue target.now) address value
             (place_of place)) result }
@@ -130,8 +130,8 @@ impl<'p> Machine<'p> {
         }
     }
 
-    /// An operation is made in memory whose globals' pages end at an address, and where it faults the
-    /// fault is raised.
+    /// An operation is made in memory whose globals' pages end at an address, and where it faults
+    /// the fault is raised.
     pub fn operate(
         &mut self,
         data_end: u64,
