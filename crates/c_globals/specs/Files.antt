@@ -10,3 +10,7 @@ pub record IsFile (f : File') (d : File) : Type 0 where
   pub bytes : f.bytes.items ≡ d.bytes
   pub functions : f.functions ≡ d.functions
   pub faults : least_of f.worst ≡ kept None d.faults
+
+-- after it the file is what the rule makes of the file before, whatever that is
+abbrev pub Declares : File' → File' → (File → File) → Type 0
+Declares before after rule = (d : File) → IsFile before d → IsFile after (rule d)

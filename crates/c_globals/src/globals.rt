@@ -1,14 +1,15 @@
 //! Globals: their names, their bytes, and the rules of their declarations (C11, 6.7.9).
 
-ghost use Rattle.std.specs.Prelude.{◌≡◌, ◌+◌, ◌*◌, ◌^◌, ◌<◌, ◌++◌, length, IfOk, OnOk, drop, not, replicate, map, option_map};
+ghost use Rattle.std.specs.Prelude.{◌≡◌, ◌+◌, ◌*◌, ◌^◌, ◌<◌, ◌++◌, length, IfOk, OnOk, drop, not};
+ghost use Rattle.std.specs.Prelude.{replicate, map, option_map};
 ghost use Rattle.c_resolved.specs.declared.fault.Fault.TheVariants.{Duplicate};
 ghost use Rattle.c_resolved.specs.Program as definitions;
 ghost use Rattle.c_resolved.specs.Scopes.{spelled};
 ghost use Rattle.c_resolved.specs.Statements.{is_taken, with_name, unless_holds};
 ghost use Rattle.c_resolved.specs.Types.{bytes_in};
 ghost use Rattle.c_syntax.specs.Program as trees;
-ghost use Rattle.c_globals.specs.Files.{IsFile};
-ghost use Rattle.c_expressions.specs.Kept.{least_of, kept};
+ghost use Rattle.c_globals.specs.Files.{Declares};
+ghost use Rattle.c_expressions.specs.Kept.{AddsFaults};
 ghost use Rattle.c_expressions.specs.Views.{block_of, entity};
 
 use c_expressions::least::Least;
@@ -26,8 +27,8 @@ use std::alloc::{AllocError, Global};
 /// The address of the first byte of the globals.
 const FIRST_DATA: u64 = 0x1_4000_1000;
 
-/// The names of the file, the bytes of the globals so far, how many functions there are so far, and the
-/// least fault.
+/// The names of the file, the bytes of the globals so far, how many functions there are so far, and
+/// the least fault.
 #[derive(Drop)]
 pub struct File<'a> {
     pub names: IndexMap<&'a [u8], Entity<'a>>,
@@ -60,7 +61,8 @@ fn constant_value(constant: Constant) -> u64
 
 /// The lowest bytes of a number, the lowest first.
 fn put_number(bytes: &mut Vec<u8>, count: u64, value: u64) -> Result<(), AllocError>
-    ensures { OnOk result (bytes.new.items ≡ bytes.old.items ++ definitions.bytes_of_number count value) }
+    ensures { OnOk result (bytes.new.items ≡
+        bytes.old.items ++ definitions.bytes_of_number count value) }
 {
     if count == 0 {
         return Ok(());
@@ -99,7 +101,8 @@ fn put_list(
     size: u64,
     list: &[Constant],
 ) -> Result<(), AllocError>
-    ensures { OnOk result (bytes.new.items ≡ bytes.old.items ++ definitions.filled count (definitions.bytes_of_all size list.now)) }
+    ensures { OnOk result (bytes.new.items ≡
+        bytes.old.items ++ definitions.filled count (definitions.bytes_of_all size list.now)) }
 {
     let mut own = Vec::new(alloc);
     for constant in list {
@@ -130,8 +133,12 @@ fn put_initial_value(
     length: Option<Length>,
     initialiser: &Option<Initialiser>,
 ) -> Result<(), AllocError>
-    ensures bytes { OnOk result (bytes.new.items ≡ bytes.old.items ++ (definitions.initial_value t length (option_map trees.initialiser initialiser.now)).bytes) }
-    ensures faults { OnOk result (least_of worst.new ≡ kept (least_of worst.old) (definitions.initial_value t length (option_map trees.initialiser initialiser.now)).faults) }
+    ensures bytes { OnOk result (bytes.new.items ≡ bytes.old.items ++
+        (definitions.initial_value t length
+        (option_map trees.initialiser initialiser.now)).bytes) }
+    ensures faults { OnOk result (AddsFaults worst.old worst.new
+        (definitions.initial_value t length
+        (option_map trees.initialiser initialiser.now)).faults) }
 {
     match (length, initialiser) {
         (None, None) => put_zeros(bytes, bytes_in(t)),
@@ -162,7 +169,7 @@ fn put_initial_value(
 
 /// The first constant too many.
 fn too_many(worst: &mut Least, length: u64, constants: &[Constant])
-    ensures { least_of worst.new ≡ kept (least_of worst.old) (definitions.too_many (drop length constants.now)) }
+    ensures { AddsFaults worst.old worst.new (definitions.too_many (drop length constants.now)) }
 {
     if length < constants.len() as u64 {
         worst.add(constants[length as usize].at, Fault::BadInitialiser);
@@ -185,10 +192,14 @@ pub fn name<'a>(
     name: Identifier,
     meaning: Entity<'a>,
 ) -> Result<(), AllocError>
-    ensures names { OnOk result (block_of file.new.names.entries ≡ with_name (block_of file.old.names.entries) (spelled text.now name) (entity meaning.entry)) }
+    ensures names { OnOk result (block_of file.new.names.entries ≡
+        with_name (block_of file.old.names.entries) (spelled text.now name)
+        (entity meaning.entry)) }
     ensures bytes { OnOk result (file.new.bytes ≡ file.old.bytes) }
     ensures functions { OnOk result (file.new.functions ≡ file.old.functions) }
-    ensures faults { OnOk result (least_of file.new.worst ≡ kept (least_of file.old.worst) (unless_holds (not (is_taken (block_of file.old.names.entries) (spelled text.now name))) name.start Duplicate)) }
+    ensures faults { OnOk result (AddsFaults file.old.worst file.new.worst
+        (unless_holds (not (is_taken (block_of file.old.names.entries) (spelled text.now name)))
+        name.start Duplicate)) }
 {
     let bytes = spelled(text, name);
     unless_holds(
@@ -219,7 +230,7 @@ fn meaning_of<'a>(of: CType, address: u64, length: Option<Length>) -> Entity<'a>
 
 /// An array has an element or more.
 fn check_length(worst: &mut Least, length: Option<Length>)
-    ensures { least_of worst.new ≡ kept (least_of worst.old) (definitions.length_faults length) }
+    ensures { AddsFaults worst.old worst.new (definitions.length_faults length) }
 {
     if let Some(length) = length {
         unless_holds(worst, 0 < length.value, length.at, Fault::TypeClash);
@@ -234,7 +245,8 @@ fn global<'a>(
     base: Base,
     g: &Declarator,
 ) -> Result<(), AllocError>
-    ensures { OnOk result ((d : definitions.File) → IsFile file.old d → IsFile file.new (definitions.with_global text.now base (trees.global g.now) d)) }
+    ensures { OnOk result (Declares file.old file.new
+        (definitions.with_global text.now base (trees.global g.now))) }
 {
     let of = CType {
         base,
@@ -268,7 +280,8 @@ pub fn globals<'a>(
     base: Base,
     list: &[Declarator],
 ) -> Result<(), AllocError>
-    ensures { OnOk result ((d : definitions.File) → IsFile file.old d → IsFile file.new (definitions.with_globals text.now base (map trees.global list.now) d)) }
+    ensures { OnOk result (Declares file.old file.new
+        (definitions.with_globals text.now base (map trees.global list.now))) }
 {
     for g in list {
         global(alloc, text, file, base, g)?;

@@ -1,7 +1,7 @@
 //! The file's names and the bytes of its globals (C11, 6.7.9 and 6.9).
 //!
-//! `globals::globals` declares the globals of a declaration, with their bytes and the rules of their
-//! initialisers, as the definition `with_globals` of `c_resolved` says.
+//! `globals::globals` declares the globals of a declaration, with their bytes and the rules of
+//! their initialisers, as the definition `with_globals` of `c_resolved` says.
 #![tactic(auto)]
 
 pub mod globals;
