@@ -1,4 +1,4 @@
--- What a refusal of the checker tells.
+-- What a refusal of the checker says.
 use Rattle.std.specs.Prelude.{◌≡◌, ℕ, List, Some}
 use Rattle.c_check.specs.declared.check.CheckErr.{CheckErr}
 use Rattle.c_check.specs.declared.check.CheckErr.TheVariants.{Broken, Memory}

@@ -2,7 +2,7 @@
 
 ghost use Rattle.std.specs.Prelude.{◌≡◌, map, option_map};
 ghost use Rattle.c_check.specs.Entry.{is_main, main_in};
-ghost use Rattle.c_expressions.specs.Kept.{least_of, kept};
+ghost use Rattle.c_expressions.specs.Kept.{AddsFaults};
 ghost use Rattle.c_expressions.specs.Views.{block_of, entity};
 ghost use Rattle.c_resolved.specs.Program as definitions;
 ghost use Rattle.c_resolved.specs.Scopes.{meaning_in};
@@ -53,7 +53,8 @@ fn is_main(returns: CType, list: &[Parameter]) -> bool
 
 /// What the file declares `main` as.
 fn meaning_of_main<'a>(names: &IndexMap<&'a [u8], Entity<'a>>) -> Option<Entity<'a>>
-    ensures { option_map entity result ≡ meaning_in (block_of names.now.entries) definitions.main_name }
+    ensures { option_map entity result ≡
+        meaning_in (block_of names.now.entries) definitions.main_name }
 {
     declared(b"main", &Scopes::File(names))
 }
@@ -67,8 +68,8 @@ pub fn main_of(
 ) -> u64
     ensures number { let program = map syntax.external_declaration xs.now in
         result ≡ (main_in program (block_of names.now.entries)).number }
-    ensures faults { let main = main_in (map syntax.external_declaration xs.now) (block_of names.now.entries) in
-        least_of worst.new ≡ kept (least_of worst.old) main.faults }
+    ensures faults { let program = map syntax.external_declaration xs.now in
+        AddsFaults worst.old worst.new (main_in program (block_of names.now.entries)).faults }
 {
     match meaning_of_main(names) {
         Some(

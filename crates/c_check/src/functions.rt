@@ -3,7 +3,7 @@
 ghost use Rattle.std.specs.Prelude.{◌≡◌, ◌∷◌, [], drop, IfOk, OnOk, map};
 ghost use Rattle.c_check.specs.Functions.{AddsFunctions};
 ghost use Rattle.c_checked.specs.Program.{function};
-ghost use Rattle.c_expressions.specs.Kept.{least_of, kept};
+ghost use Rattle.c_expressions.specs.Kept.{AddsFaults};
 ghost use Rattle.c_expressions.specs.Views.{block_of};
 ghost use Rattle.c_resolved.specs.Program as definitions;
 ghost use Rattle.c_syntax.specs.Program as syntax;
@@ -125,7 +125,7 @@ pub fn functions<'t>(
         IfOk result (λ p. map function p.done.items ≡ f.done) }
     ensures faults { let program = map syntax.external_declaration xs.now in
         let f = definitions.functions_of text.now (block_of file.now.entries) program 1 in
-        IfOk result (λ p. least_of p.worst ≡ kept (least_of worst) f.faults) }
+        IfOk result (λ p. AddsFaults worst p.worst f.faults) }
 {
     let mut progress = Progress {
         done: Vec::new(alloc),

@@ -2,7 +2,7 @@
 //! "try-except statement" and "try-finally statement"), and the checked program that an accepted
 //! one is.
 //!
-//! `check::check` is what others call. A program goes through it in three parts: `declarations` has
+//! `check::check` is what others call. It checks a program in three parts: `declarations` has
 //! the names of the file and the bytes of its globals, `entry` the function that a run begins with,
 //! and `functions` each function with its parameters (`parameters`) and its body. Every function
 //! and global is visible in the whole text, so the names of the file are all known before the first

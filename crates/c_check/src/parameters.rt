@@ -3,7 +3,7 @@
 
 ghost use Rattle.std.specs.Prelude.{◌≡◌, ◌∷◌, ◌++◌, [], IfOk, OnOk, map};
 ghost use Rattle.c_check.specs.Parameters.{faults_of_parameter, sizes_of};
-ghost use Rattle.c_expressions.specs.Kept.{least_of, kept};
+ghost use Rattle.c_expressions.specs.Kept.{AddsFaults};
 ghost use Rattle.c_expressions.specs.Views.{block_of};
 ghost use Rattle.c_resolved.specs.Expressions.{LocalVariable};
 ghost use Rattle.c_resolved.specs.Program as definitions;
@@ -43,7 +43,7 @@ fn parameter<'t>(
         let with_it = with_name names (spelled text.now p.name) (LocalVariable number p.«of») in
         OnOk result (block_of block.new.entries ≡ with_it) }
     ensures faults { let faults = faults_of_parameter text.now p (block_of block.old.entries) in
-        OnOk result (least_of worst.new ≡ kept (least_of worst.old) faults) }
+        OnOk result (AddsFaults worst.old worst.new faults) }
 {
     let name = spelled(text, p.name);
     unless_holds(
@@ -66,7 +66,7 @@ pub fn block_of<'t>(
     ensures block { let names = definitions.with_parameters text.now list.now [] 0 in
         IfOk result (λ block. block_of block.entries ≡ names) }
     ensures faults { let faults = definitions.parameter_faults text.now list.now [] in
-        OnOk result (least_of worst.new ≡ kept (least_of worst.old) faults) }
+        OnOk result (AddsFaults worst.old worst.new faults) }
 {
     let mut block = IndexMap::new(alloc);
     for (i, p) in list.iter().enumerate() {

@@ -1,14 +1,24 @@
 -- What a walk made of a statement, and what it carries on.
-use Rattle.std.specs.Prelude.{◌≡◌, List, [], ◌∷◌, ◌++◌, map}
+use Rattle.std.specs.Borrow.{Bor}
+use Rattle.std.specs.Prelude.{◌≡◌, ℕ, List, [], ◌∷◌, ◌++◌, map}
 use Rattle.c_checked.specs.declared.expression.Expr.{Expr}
 use Rattle.c_checked.specs.declared.statement.Stmt.{Stmt}
 use Rattle.c_checked.specs.Expression.{expression}
 use Rattle.c_checked.specs.Statement.{statement}
+use Rattle.c_expressions.specs.declared.scopes.Entity.{Entity}
 use Rattle.c_expressions.specs.Kept.{least_of, kept}
+use Rattle.c_expressions.specs.Views.{block_of}
+use Rattle.c_locals.specs.declared.environment.Environment.{Environment}
 use Rattle.c_locals.specs.declared.environment.Walk.{Walk}
-use Rattle.c_locals.specs.Views.{numbering}
+use Rattle.c_locals.specs.Views.{environment, numbering}
 use Rattle.c_resolved.specs.Scopes.{Scope}
-use Rattle.c_resolved.specs.Statements.{Value, ResolvedStatements, only}
+use Rattle.c_resolved.specs.Statements.{Value, ResolvedStatements, only, resolve_statement}
+use Rattle.c_syntax.specs.declared.statement.Stmt.{Stmt as Read}
+use Rattle.c_syntax.specs.Statement as trees
+
+-- a statement of the text, in a block with these entries
+abbrev pub resolved : Read → Environment → List (Bor (List ℕ) × Entity) → Walk → ResolvedStatements
+resolved s env entries walk = resolve_statement (trees.statement s) (environment env) (block_of entries) (numbering walk)
 
 -- one statement, in a block whose names stay the same
 pub record MakesOne (b : Scope) (before after : Walk) (made : Stmt) (r : ResolvedStatements) : Type 0 where

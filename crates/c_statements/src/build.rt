@@ -44,7 +44,8 @@ pub fn if_else_of(
     then: Stmt,
     otherwise: Stmt,
 ) -> Result<Stmt, AllocError>
-    ensures { IfOk result (λ s. statement s ≡ checked.IfElse (expression condition) (statement then) (statement otherwise)) }
+    ensures { IfOk result (λ s. statement s ≡ checked.IfElse (expression condition) (statement then)
+        (statement otherwise)) }
 {
     let then = Box::new(alloc, then)?;
     let otherwise = Box::new(alloc, otherwise)?;
@@ -63,7 +64,9 @@ pub fn for_of(
     next: Option<Expr>,
     body: Stmt,
 ) -> Result<Stmt, AllocError>
-    ensures { IfOk result (λ s. statement s ≡ checked.For (map declared beginning.declared.items) (option_map expression beginning.first) (option_map expression condition) (option_map expression next) (statement body)) }
+    ensures { IfOk result (λ s. statement s ≡ checked.For (map declared beginning.declared.items)
+        (option_map expression beginning.first) (option_map expression condition)
+        (option_map expression next) (statement body)) }
 {
     let body = Box::new(alloc, body)?;
     Ok(Stmt::For {
@@ -77,7 +80,8 @@ pub fn for_of(
 
 /// A `while`: a `for` with a condition alone.
 pub fn while_of(alloc: Global, condition: Expr, body: Stmt) -> Result<Stmt, AllocError>
-    ensures { IfOk result (λ s. statement s ≡ checked.For [] None (Some (expression condition)) None (statement body)) }
+    ensures { IfOk result (λ s. statement s ≡ checked.For [] None (Some (expression condition)) None
+        (statement body)) }
 {
     let body = Box::new(alloc, body)?;
     Ok(Stmt::For {
@@ -91,7 +95,8 @@ pub fn while_of(alloc: Global, condition: Expr, body: Stmt) -> Result<Stmt, Allo
 
 /// A `do`.
 pub fn do_of(alloc: Global, body: Stmt, condition: Expr) -> Result<Stmt, AllocError>
-    ensures { IfOk result (λ s. statement s ≡ checked.DoWhile (statement body) (expression condition)) }
+    ensures { IfOk result (λ s. statement s ≡ checked.DoWhile (statement body)
+        (expression condition)) }
 {
     let body = Box::new(alloc, body)?;
     Ok(Stmt::Do { body, condition })
@@ -127,7 +132,8 @@ pub fn leave_of() -> Stmt
 
 /// A `__try` with a filter.
 pub fn except_of(body: Vec<Stmt>, filter: Filter, handler: Vec<Stmt>) -> Stmt
-    ensures { statement result ≡ checked.TryExcept (statements (map statement body.items)) (checked.filter filter) (statements (map statement handler.items)) }
+    ensures { statement result ≡ checked.TryExcept (statements (map statement body.items))
+        (checked.filter filter) (statements (map statement handler.items)) }
 {
     Stmt::TryExcept {
         body,
@@ -138,12 +144,13 @@ pub fn except_of(body: Vec<Stmt>, filter: Filter, handler: Vec<Stmt>) -> Stmt
 
 /// A `__try` with a `__finally` block.
 pub fn finally_of(body: Vec<Stmt>, number: u32, last: Vec<Stmt>) -> Stmt
-    ensures { statement result ≡ checked.TryFinally (statements (map statement body.items)) number (statements (map statement last.items)) }
+    ensures { statement result ≡ checked.TryFinally (statements (map statement body.items)) number
+        (statements (map statement last.items)) }
 {
     Stmt::TryFinally { body, number, last }
 }
 
-/// The statement that stands where one has to: the first, or none that does anything.
+/// The statement where there has to be one: the first, or none that does anything.
 pub fn only(made: Vec<Stmt>) -> Stmt
     ensures { statement result ≡ definitions.only (map statement made.items) }
 {

@@ -1,9 +1,10 @@
 //! Statements resolved (C11, 6.8; Microsoft C reference, "try-except statement", "try-finally
 //! statement").
 //!
-//! `statements` goes over the statements of a block, and is the one module that goes into a statement
-//! within another. `simple` has the statements that hold no other, and `build` puts checked statements
-//! together. What is made equals the definition in `c_resolved`, and the least fault is kept.
+//! `statements` walks the statements of a block, and is the one module that enters a statement
+//! within another. `simple` has the statements that hold no other, and `build` puts checked
+//! statements together. What is made equals the definition in `c_resolved`, and the least fault is
+//! kept.
 #![tactic(auto)]
 
 pub mod build;

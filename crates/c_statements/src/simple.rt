@@ -27,7 +27,9 @@ pub fn evaluated<'t>(
     walk: &mut Walk,
     e: &Option<Expr>,
 ) -> Result<Stmt, AllocError>
-    ensures { IfOk result (λ s. MakesOne (block_of block.now.entries) walk.old walk.new s (resolve_statement (trees.Evaluate (option_map expression e.now)) (environment env.now) (block_of block.now.entries) (numbering walk.old))) }
+    ensures { IfOk result (λ s. MakesOne (block_of block.now.entries) walk.old walk.new s
+        (resolve_statement (trees.Evaluate (option_map expression e.now)) (environment env.now)
+        (block_of block.now.entries) (numbering walk.old))) }
 {
     let value = any_or_none(alloc, env, block, &mut walk.worst, e)?;
     Ok(evaluate_of(value))
@@ -42,7 +44,9 @@ pub fn return_from<'t>(
     at: u64,
     e: &Option<Expr>,
 ) -> Result<Stmt, AllocError>
-    ensures { IfOk result (λ s. MakesOne (block_of block.now.entries) walk.old walk.new s (resolve_statement (trees.Return at (option_map expression e.now)) (environment env.now) (block_of block.now.entries) (numbering walk.old))) }
+    ensures { IfOk result (λ s. MakesOne (block_of block.now.entries) walk.old walk.new s
+        (resolve_statement (trees.Return at (option_map expression e.now)) (environment env.now)
+        (block_of block.now.entries) (numbering walk.old))) }
 {
     jump(&mut walk.worst, env.function, Fault::JumpOutOfFinally, at);
     let value = returned(alloc, env, block, &mut walk.worst, at, e)?;
@@ -51,7 +55,8 @@ pub fn return_from<'t>(
 
 /// A `break` (C11, 6.8.6.3).
 pub fn break_from(env: &Environment<'_, '_>, walk: &mut Walk, at: u64) -> Stmt
-    ensures { (block : Scope) → MakesOne block walk.old walk.new result (resolve_statement (trees.Break at) (environment env.now) block (numbering walk.old)) }
+    ensures { (block : Scope) → MakesOne block walk.old walk.new result
+        (resolve_statement (trees.Break at) (environment env.now) block (numbering walk.old)) }
 {
     jump(&mut walk.worst, env.loops, Fault::JumpOutsideLoop, at);
     break_of()
@@ -59,7 +64,8 @@ pub fn break_from(env: &Environment<'_, '_>, walk: &mut Walk, at: u64) -> Stmt
 
 /// A `continue` (C11, 6.8.6.2).
 pub fn continue_from(env: &Environment<'_, '_>, walk: &mut Walk, at: u64) -> Stmt
-    ensures { (block : Scope) → MakesOne block walk.old walk.new result (resolve_statement (trees.Continue at) (environment env.now) block (numbering walk.old)) }
+    ensures { (block : Scope) → MakesOne block walk.old walk.new result
+        (resolve_statement (trees.Continue at) (environment env.now) block (numbering walk.old)) }
 {
     jump(&mut walk.worst, env.loops, Fault::JumpOutsideLoop, at);
     continue_of()
@@ -67,7 +73,8 @@ pub fn continue_from(env: &Environment<'_, '_>, walk: &mut Walk, at: u64) -> Stm
 
 /// A `__leave` (Microsoft C reference, "try-finally statement").
 pub fn leave_from(env: &Environment<'_, '_>, walk: &mut Walk, at: u64) -> Stmt
-    ensures { (block : Scope) → MakesOne block walk.old walk.new result (resolve_statement (trees.Leave at) (environment env.now) block (numbering walk.old)) }
+    ensures { (block : Scope) → MakesOne block walk.old walk.new result
+        (resolve_statement (trees.Leave at) (environment env.now) block (numbering walk.old)) }
 {
     jump(&mut walk.worst, env.body, Fault::LeaveOutsideTry, at);
     leave_of()

@@ -1,6 +1,6 @@
 //! Statements, and what is in blocks.
 
-ghost use Rattle.std.specs.Prelude.{[], IfOk, map, option_map};
+ghost use Rattle.std.specs.Prelude.{◌≡◌, [], IfOk, map, option_map, true};
 ghost use Rattle.c_checked.specs.Statement as checked;
 ghost use Rattle.c_expressions.specs.Views.{block_of};
 ghost use Rattle.c_locals.specs.Resolved.{Resolves};
@@ -8,7 +8,8 @@ ghost use Rattle.c_locals.specs.Views.{environment, numbering, resolved_at};
 ghost use Rattle.c_resolved.specs.Program.{around};
 ghost use Rattle.c_resolved.specs.Statements as definitions;
 ghost use Rattle.c_resolved.specs.Statements.{resolve_statement, resolve_statements};
-ghost use Rattle.c_statements.specs.Made.{MakesPart, MakesBlock, MakesOne, MakesGoverned};
+ghost use Rattle.c_statements.specs.Kinds.{has_parts, is_loop_or_try, is_try};
+ghost use Rattle.c_statements.specs.Made.{MakesPart, MakesBlock, MakesOne, MakesGoverned, resolved};
 ghost use Rattle.c_syntax.specs.Expression.{expression};
 ghost use Rattle.c_syntax.specs.Statement as trees;
 ghost use Rattle.c_syntax.specs.Statement.{statement, statements};
@@ -39,7 +40,8 @@ fn part(
     walk: &mut Walk,
     s: &Stmt,
 ) -> Result<Checked, AllocError>
-    ensures { IfOk result (λ m. MakesPart walk.old walk.new m (resolve_statement (statement s.now) (environment env.now) [] (numbering walk.old))) }
+    ensures { IfOk result (λ m. MakesPart walk.old walk.new m
+        (resolve_statement (statement s.now) (environment env.now) [] (numbering walk.old))) }
 {
     let mut block = IndexMap::new(alloc);
     let made = statement(alloc, env, &mut block, walk, s)?;
@@ -54,13 +56,15 @@ fn items(
     walk: &mut Walk,
     list: &[Stmt],
 ) -> Result<Vec<Checked>, AllocError>
-    ensures { IfOk result (λ v. MakesBlock walk.old walk.new v.items (resolve_statements (statements (map statement list.now)) (environment env.now) [] (numbering walk.old))) }
+    ensures { IfOk result (λ v. MakesBlock walk.old walk.new v.items
+        (resolve_statements (statements (map statement list.now)) (environment env.now) []
+        (numbering walk.old))) }
 {
     let mut block = IndexMap::new(alloc);
     statements(alloc, env, &mut block, walk, list)
 }
 
-/// A condition in a block, and the statement that it governs, which stands further inside.
+/// A condition in a block, and the statement that it governs, which is further inside.
 #[cycle(nested)]
 fn governed<'t>(
     alloc: Global,
@@ -72,7 +76,10 @@ fn governed<'t>(
     at: u64,
     e: &Expr,
 ) -> Result<(CheckedExpr, Checked), AllocError>
-    ensures { IfOk result (λ x. MakesGoverned walk.old walk.new x.0 x.1 (definitions.condition at (resolved_at (environment env.now) (block_of block.now.entries) (expression e.now))) (resolve_statement (statement s.now) (environment inner.now) [] (numbering walk.old))) }
+    ensures { IfOk result (λ x. MakesGoverned walk.old walk.new x.0 x.1
+        (definitions.condition at (resolved_at (environment env.now) (block_of block.now.entries)
+        (expression e.now))) (resolve_statement (statement s.now) (environment inner.now) []
+        (numbering walk.old))) }
 {
     let value = condition(alloc, env, block, &mut walk.worst, at, e)?;
     let made = part(alloc, inner, walk, s)?;
@@ -92,7 +99,10 @@ fn for_loop<'t>(
     condition: &Option<Expr>,
     next: &Option<Expr>,
 ) -> Result<Checked, AllocError>
-    ensures { IfOk result (λ m. MakesOne (block_of block.now.entries) walk.old walk.new m (resolve_statement (trees.For at (trees.first first.now) (option_map expression condition.now) (option_map expression next.now) (statement body.now)) (environment env.now) (block_of block.now.entries) (numbering walk.old))) }
+    ensures { IfOk result (λ m. MakesOne (block_of block.now.entries) walk.old walk.new m
+        (resolve_statement (trees.For at (trees.first first.now)
+        (option_map expression condition.now) (option_map expression next.now) (statement body.now))
+        (environment env.now) (block_of block.now.entries) (numbering walk.old))) }
 {
     let scopes = Scopes::Inside(block, env.outer);
     let here = within(env, &scopes);
@@ -105,70 +115,22 @@ fn for_loop<'t>(
     for_of(alloc, beginning, value, after, made)
 }
 
-/// A statement or a declaration of a block.
+/// A `__try` of a block.
 #[cycle(nested)]
-fn statement<'t>(
+fn guarded<'t>(
     alloc: Global,
     env: &Environment<'t, '_>,
     block: &mut IndexMap<&'t [u8], Entity<'t>>,
     walk: &mut Walk,
     s: &Stmt,
 ) -> Result<Vec<Checked>, AllocError>
-    ensures { IfOk result (λ v. Resolves block.new.entries walk.old walk.new (map checked.statement v.items) (resolve_statement (statement s.now) (environment env.now) (block_of block.old.entries) (numbering walk.old))) }
+    requires { is_try (statement s.now) ≡ true }
+    ensures { IfOk result (λ v. Resolves block.new.entries walk.old walk.new
+        (map checked.statement v.items) (resolved s.now env.now block.old.entries walk.old)) }
 {
     let scopes = Scopes::Inside(block, env.outer);
     let here = within(env, &scopes);
     match s {
-        Stmt::Declaration(d) => declare_all(alloc, env, d.base, &d.locals, block, walk),
-        Stmt::Block(list) => one(alloc, block_of(items(alloc, &here, walk, list)?)),
-        Stmt::Expression(e) => one(alloc, evaluated(alloc, env, block, walk, e)?),
-        Stmt::If {
-            at,
-            condition,
-            then,
-            otherwise,
-        } => {
-            let (value, then) = governed(alloc, env, block, &here, walk, then, *at, condition)?;
-            match otherwise {
-                None => one(alloc, if_of(alloc, value, then)?),
-                Some(otherwise) => {
-                    let otherwise = part(alloc, &here, walk, otherwise)?;
-                    one(alloc, if_else_of(alloc, value, then, otherwise)?)
-                }
-            }
-        }
-        Stmt::While {
-            at,
-            condition,
-            body,
-        } => {
-            let inner = in_loop(&here);
-            let (value, body) = governed(alloc, env, block, &inner, walk, body, *at, condition)?;
-            one(alloc, while_of(alloc, value, body)?)
-        }
-        Stmt::Do {
-            body,
-            at,
-            condition,
-        } => {
-            let inner = in_loop(&here);
-            let (value, body) = governed(alloc, env, block, &inner, walk, body, *at, condition)?;
-            one(alloc, do_of(alloc, body, value)?)
-        }
-        Stmt::For {
-            at,
-            first,
-            condition,
-            next,
-            body,
-        } => {
-            let made = for_loop(alloc, env, block, walk, body, *at, first, condition, next)?;
-            one(alloc, made)
-        }
-        Stmt::Return { at, value } => one(alloc, return_from(alloc, env, block, walk, *at, value)?),
-        Stmt::Break { at } => one(alloc, break_from(env, walk, *at)),
-        Stmt::Continue { at } => one(alloc, continue_from(env, walk, *at)),
-        Stmt::Leave { at } => one(alloc, leave_from(env, walk, *at)),
         Stmt::TryExcept {
             body,
             filter,
@@ -187,6 +149,116 @@ fn statement<'t>(
             let last = items(alloc, &in_last(&here), walk, last)?;
             one(alloc, finally_of(body, number, last))
         }
+        _ => unreachable!(),
+    }
+}
+
+/// A `while`, a `do` or a `__try` of a block.
+#[cycle(nested)]
+fn loop_or_try<'t>(
+    alloc: Global,
+    env: &Environment<'t, '_>,
+    block: &mut IndexMap<&'t [u8], Entity<'t>>,
+    walk: &mut Walk,
+    s: &Stmt,
+) -> Result<Vec<Checked>, AllocError>
+    requires { is_loop_or_try (statement s.now) ≡ true }
+    ensures { IfOk result (λ v. Resolves block.new.entries walk.old walk.new
+        (map checked.statement v.items) (resolved s.now env.now block.old.entries walk.old)) }
+{
+    let scopes = Scopes::Inside(block, env.outer);
+    let here = within(env, &scopes);
+    match s {
+        Stmt::While {
+            at,
+            condition,
+            body,
+        } => {
+            let inner = in_loop(&here);
+            let (value, body) = governed(alloc, env, block, &inner, walk, body, *at, condition)?;
+            one(alloc, while_of(alloc, value, body)?)
+        }
+        Stmt::Do {
+            body,
+            at,
+            condition,
+        } => {
+            let inner = in_loop(&here);
+            let (value, body) = governed(alloc, env, block, &inner, walk, body, *at, condition)?;
+            one(alloc, do_of(alloc, body, value)?)
+        }
+        _ => guarded(alloc, env, block, walk, s),
+    }
+}
+
+/// An `if`, a `while`, a `do` or a `__try` of a block.
+#[cycle(nested)]
+fn with_parts<'t>(
+    alloc: Global,
+    env: &Environment<'t, '_>,
+    block: &mut IndexMap<&'t [u8], Entity<'t>>,
+    walk: &mut Walk,
+    s: &Stmt,
+) -> Result<Vec<Checked>, AllocError>
+    requires { has_parts (statement s.now) ≡ true }
+    ensures { IfOk result (λ v. Resolves block.new.entries walk.old walk.new
+        (map checked.statement v.items) (resolved s.now env.now block.old.entries walk.old)) }
+{
+    let scopes = Scopes::Inside(block, env.outer);
+    let here = within(env, &scopes);
+    match s {
+        Stmt::If {
+            at,
+            condition,
+            then,
+            otherwise,
+        } => {
+            let (value, then) = governed(alloc, env, block, &here, walk, then, *at, condition)?;
+            match otherwise {
+                None => one(alloc, if_of(alloc, value, then)?),
+                Some(otherwise) => {
+                    let otherwise = part(alloc, &here, walk, otherwise)?;
+                    one(alloc, if_else_of(alloc, value, then, otherwise)?)
+                }
+            }
+        }
+        _ => loop_or_try(alloc, env, block, walk, s),
+    }
+}
+
+/// A statement or a declaration of a block.
+#[cycle(nested)]
+fn statement<'t>(
+    alloc: Global,
+    env: &Environment<'t, '_>,
+    block: &mut IndexMap<&'t [u8], Entity<'t>>,
+    walk: &mut Walk,
+    s: &Stmt,
+) -> Result<Vec<Checked>, AllocError>
+    ensures { IfOk result (λ v. Resolves block.new.entries walk.old walk.new
+        (map checked.statement v.items) (resolved s.now env.now block.old.entries walk.old)) }
+{
+    let scopes = Scopes::Inside(block, env.outer);
+    let here = within(env, &scopes);
+    match s {
+        Stmt::Declaration(d) => declare_all(alloc, env, d.base, &d.locals, block, walk),
+        Stmt::Block(list) => one(alloc, block_of(items(alloc, &here, walk, list)?)),
+        Stmt::Expression(e) => one(alloc, evaluated(alloc, env, block, walk, e)?),
+        Stmt::For {
+            at,
+            first,
+            condition,
+            next,
+            body,
+        } => {
+            let made = for_loop(alloc, env, block, walk, body, *at, first, condition, next)?;
+            one(alloc, made)
+        }
+        Stmt::Return { at, value } => one(alloc, return_from(alloc, env, block, walk, *at, value)?),
+        Stmt::Break { at } => one(alloc, break_from(env, walk, *at)),
+        Stmt::Continue { at } => one(alloc, continue_from(env, walk, *at)),
+        Stmt::Leave { at } => one(alloc, leave_from(env, walk, *at)),
+        _ => with_parts(alloc, env, block, walk, s),
     }
 }
 
@@ -199,7 +271,10 @@ fn statements<'t>(
     walk: &mut Walk,
     list: &[Stmt],
 ) -> Result<Vec<Checked>, AllocError>
-    ensures { IfOk result (λ v. Resolves block.new.entries walk.old walk.new (map checked.statement v.items) (resolve_statements (statements (map statement list.now)) (environment env.now) (block_of block.old.entries) (numbering walk.old))) }
+    ensures { IfOk result (λ v. Resolves block.new.entries walk.old walk.new
+        (map checked.statement v.items)
+        (resolve_statements (statements (map statement list.now)) (environment env.now)
+        (block_of block.old.entries) (numbering walk.old))) }
 {
     let mut made = Vec::new(alloc);
     for s in list {
@@ -219,7 +294,11 @@ pub fn body<'t>(
     walk: &mut Walk,
     list: &[Stmt],
 ) -> Result<Vec<Checked>, AllocError>
-    ensures { IfOk result (λ v. Resolves block.new.entries walk.old walk.new (map checked.statement v.items) (resolve_statements (statements (map statement list.now)) (around text.now (block_of file.now.entries) returns) (block_of block.old.entries) (numbering walk.old))) }
+    ensures { IfOk result (λ v. Resolves block.new.entries walk.old walk.new
+        (map checked.statement v.items)
+        (resolve_statements (statements (map statement list.now))
+        (around text.now (block_of file.now.entries) returns)
+        (block_of block.old.entries) (numbering walk.old))) }
 {
     let outer = Scopes::File(file);
     let env = Environment {

@@ -3,7 +3,8 @@
 ghost use Rattle.std.specs.Prelude.{◌≡◌, IfOk, IfErr, map};
 ghost use Rattle.c_checked.specs.Whole.{program};
 ghost use Rattle.c_syntax.specs.Program.{external_declaration};
-ghost use Rattle.c_text.specs.Texts.{IsWithin, IsCheckedAs, IsRefused, lexical, syntactic, semantic};
+ghost use Rattle.c_text.specs.Texts.{IsWithin, IsCheckedAs, IsRefused, lexical, syntactic};
+ghost use Rattle.c_text.specs.Texts.{semantic};
 
 use c_check::check::{CheckErr, check};
 use c_checked::checked::Checked;
@@ -20,8 +21,8 @@ pub enum TextErr {
     Lex(LexErr),
     /// Its tokens are no program of C within the limits.
     Parse(ParseErr),
-    /// Its program breaks this rule of names, types and jumps, the least of those that it breaks, at so
-    /// many bytes from the text's begin.
+    /// Its program breaks this rule of names, types and jumps, the least of those that it breaks,
+    /// at so many bytes from the text's begin.
     Check { at: u64, fault: Fault },
     /// No memory was left.
     Memory,
@@ -69,7 +70,8 @@ fn semantic(error: CheckErr) -> TextErr
 
 /// The program within the limits that a text is.
 fn read(alloc: Global, text: &[u8]) -> Result<Program, TextErr>
-    ensures found { IfOk result (λ p. IsWithin text.now (map external_declaration p.external_declarations.items)) }
+    ensures found { IfOk result (λ p. IsWithin text.now
+        (map external_declaration p.external_declarations.items)) }
     ensures refused { IfErr result (λ e. IsRefused text.now e) }
 {
     let tokens = match lex(alloc, text) {
@@ -82,12 +84,13 @@ fn read(alloc: Global, text: &[u8]) -> Result<Program, TextErr>
     }
 }
 
-/// The program of a text, where the text is made of tokens (C11, 6.4), its tokens are a program of C
-/// within the limits (C11, 6.5 to 6.9) and the program breaks no rule of names, types and jumps. A text
-/// that isn't accepted is refused by the first of these three that fails: at its first fault of tokens,
-/// at its first fault of grammar, or at the least rule that its program breaks.
+/// The program of a text, where the text is made of tokens (C11, 6.4), its tokens are a program of
+/// C within the limits (C11, 6.5 to 6.9) and the program breaks no rule of names, types and jumps.
+/// A text that isn't accepted is refused by the first of these three that fails: at its first fault
+/// of tokens, at its first fault of grammar, or at the least rule that its program breaks.
 pub fn accept(alloc: Global, text: &[u8]) -> Result<Accepted, TextErr>
-    ensures found { IfOk result (λ a. IsCheckedAs text.now (map external_declaration a.program.external_declarations.items) (program a.checked)) }
+    ensures found { IfOk result (λ a. IsCheckedAs text.now
+        (map external_declaration a.program.external_declarations.items) (program a.checked)) }
     ensures refused { IfErr result (λ e. IsRefused text.now e) }
 {
     let program = match read(alloc, text) {

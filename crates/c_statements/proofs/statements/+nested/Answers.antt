@@ -36,8 +36,8 @@ for_loop-returns t c =
     for_over (block_of c.args.block.now.entries) es w w1 w2 w3 c.part.new.walk c.in_ok-beginning.beginning c.in_ok-value.value c.in_ok-after.after c.in_ok-made.made made (environment c.args.env.now) (environment c.within-here.result) (environment c.in_loop.result) c.args.at (trees.first c.args.first.now) (option_map expression c.args.condition.now)
     (option_map expression c.args.next.now) (statement c.args.body.now) c.within-here.ensures (c.in_loop.ensures ∙ ap in_loop c.within.ensures) c.in_ok-beginning.ensures c.in_ok-value.ensures c.in_ok-after.ensures refl c.in_ok-made.ensures p) c.for_of.ensures
 
-pub statement-returns-in_ok-if_else_of-in-Some : goal.statement-returns-in_ok-if_else_of-in-Some
-statement-returns-in_ok-if_else_of-in-Some t c =
+pub with_parts-returns-in_ok-if_else_of-in-Some : goal.with_parts-returns-in_ok-if_else_of-in-Some
+with_parts-returns-in_ok-if_else_of-in-Some t c =
     let x = c.in-If in
     let y = c.in-Some in
     let w = c.args.walk.now in
@@ -50,7 +50,7 @@ statement-returns-in_ok-if_else_of-in-Some t c =
     let o = c.in_ok-otherwise-in-Some in
     let made = c.in_ok-if_else_of-in-Some.field-0 in
     let v = definitions.condition x.at (resolved_at a (block_of es) (expression x.condition)) in
-    let m = governed_in w w1 k.value k.then v (statement c.deref-in-If.result.now) (statement x.then.value) here (inside a (block_of es)) (numbering w) (ap statement c.deref-in-If.ensures) c.within-here.ensures k.ensures in
+    let m = governed_in w w1 k.value k.then v (statement c.deref.result.now) (statement x.then.value) here (inside a (block_of es)) (numbering w) (ap statement c.deref.ensures) c.within-here.ensures k.ensures in
     let n = part_in w1 w2 o.otherwise (statement c.deref-in-Some.result.now) (statement y.otherwise.value) here (inside a (block_of es)) (numbering w1) (ap statement c.deref-in-Some.ensures) c.within-here.ensures o.ensures in
     IfOk-weaker c.one-in-Some.result _ _
     (λ list q.
@@ -81,14 +81,14 @@ statement-returns-in-Leave t c =
     one_is es c.args.walk.now c.leave_from.new.walk c.leave_from.result (map checked.statement list.items) (statement c.args.s.now) (trees.Leave c.in-Leave.at) (environment c.args.env.now) (ap statement c.in-Leave.is ∙ read.leave_is c.in-Leave.at)
     (c.leave_from.ensures (block_of es)) q) c.one-in-Leave.ensures
 
-pub statement-returns-in_ok-handler-in-TryExcept : goal.statement-returns-in_ok-handler-in-TryExcept
-statement-returns-in_ok-handler-in-TryExcept t c =
+pub guarded-returns-in_ok-handler-in-TryExcept : goal.guarded-returns-in_ok-handler-in-TryExcept
+guarded-returns-in_ok-handler-in-TryExcept t c =
     let x = c.in-TryExcept in
     let w = c.args.walk.now in
     let w1 : Walk = record { sizes = w.sizes; number = w.number; worst = c.filter_value.new.worst } in
-    let w2 = c.items-in-TryExcept.new.walk in
+    let w2 = c.items.new.walk in
     let w3 = c.numbered.new.walk in
-    let w4 = c.items-in-TryExcept-2.new.walk in
+    let w4 = c.items-in-TryExcept.new.walk in
     let es = c.args.block.now.entries in
     let a = environment c.args.env.now in
     let here = inside a (block_of es) in
@@ -96,18 +96,18 @@ statement-returns-in_ok-handler-in-TryExcept t c =
     let vs = c.in_ok-body-in-TryExcept in
     let ks = c.in_ok-handler-in-TryExcept in
     let q = c.in_ok-asked-in-TryExcept in
-    let m = block_in w1 w2 vs.body.items c.deref-in-TryExcept.result.now x.body.items (environment c.in_body.result) (in_body here) (numbering w1) c.deref-in-TryExcept.ensures.value (c.in_body.ensures ∙ ap in_body c.within-here.ensures) vs.ensures in
-    let k = block_in w3 w4 ks.handler.items c.deref-in-TryExcept-2.result.now x.handler.items (environment c.in_handler.result) (in_handler here) (numbering w3) c.deref-in-TryExcept-2.ensures.value (c.in_handler.ensures ∙ ap in_handler c.within-here.ensures) ks.ensures in
+    let m = block_in w1 w2 vs.body.items c.deref.result.now x.body.items (environment c.in_body.result) (in_body here) (numbering w1) c.deref.ensures.value (c.in_body.ensures ∙ ap in_body c.within-here.ensures) vs.ensures in
+    let k = block_in w3 w4 ks.handler.items c.deref-in-TryExcept.result.now x.handler.items (environment c.in_handler.result) (in_handler here) (numbering w3) c.deref-in-TryExcept.ensures.value (c.in_handler.ensures ∙ ap in_handler c.within-here.ensures) ks.ensures in
     let body = statements (map statement x.body.items) in
     let handler = statements (map statement x.handler.items) in
-    IfOk-weaker c.one-in-TryExcept.result _ _
+    IfOk-weaker c.one.result _ _
     (λ list h.
     one_is es w w4 c.except_of.result (map checked.statement list.items) (statement c.args.s.now) (trees.TryExcept body x.at (expression x.filter) handler) a (ap statement x.is ∙ read.try_except_is x.body x.at x.filter x.handler)
     (except_is (block_of es) w w1 w2 w3 w4 q.asked f.filter vs.body.items ks.handler.items c.except_of.result a body x.at (expression x.filter) handler refl q.ensures m f.ensures.filter f.ensures.counts f.ensures.faults k c.except_of.ensures) h)
-    c.one-in-TryExcept.ensures
+    c.one.ensures
 
-pub statement-returns-in_ok-last-in-TryFinally : goal.statement-returns-in_ok-last-in-TryFinally
-statement-returns-in_ok-last-in-TryFinally t c =
+pub guarded-returns-in_ok-last-in-TryFinally : goal.guarded-returns-in_ok-last-in-TryFinally
+guarded-returns-in_ok-last-in-TryFinally t c =
     let x = c.in-TryFinally in
     let w = c.args.walk.now in
     let w1 = c.items-in-TryFinally.new.walk in
