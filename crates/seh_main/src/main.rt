@@ -1,4 +1,7 @@
 //! The program over the process's own streams.
+//!
+//! Nothing is proved here beyond the traits of `seh_io`: what a stream of the process holds is no
+//! clause's. Begin with `streams`, the adapters.
 #![tactic(auto)]
 
 mod streams;

@@ -1,4 +1,6 @@
 //! Texts with their trees: what each is resolved to, and what that means.
+//!
+//! Proved by computation. Begin with `specs/Texts.antt`.
 #![tactic(auto)]
 
 ghost use Rattle.worked_programs.specs.AllRows.{AllRows};
