@@ -46,6 +46,25 @@ fn each_call_of_a_meaning(rt: HostRuntime) -> Result<(), Fail> {
     fails(&rt, rt.alloc(), "meaning")
 }
 
+/// A run without an end stops at the first line that its sink doesn't take.
+#[test]
+fn endless_run(rt: HostRuntime) -> Result<(), Fail> {
+    let alloc = rt.alloc();
+    let text = b"int main(void){ while (1) put(1); return 0; }";
+    for command in ["run", "meaning"] {
+        let mut words = Vec::new(alloc);
+        words.push(String::from_str(alloc, command)?)?;
+        let mut source = SliceSource::new(text);
+        let mut out = failing_at(alloc, 5)?;
+        let mut err = failing_at(alloc, 0)?;
+        let status = top(alloc, &words, &mut source, &mut out, &mut err);
+        assert_eq!(rt; status, Status::WriteFault, "{command}");
+        assert_eq!(rt; out.bytes.as_slice(), b"1\n1\n".as_slice(), "{command}");
+        assert_eq!(rt; err.bytes.as_slice(), b"write fault\n".as_slice(), "{command}");
+    }
+    Ok(())
+}
+
 /// Each call of `err` fails in turn, while the line of a refused text is written.
 #[test]
 fn each_call_of_a_refusal(rt: HostRuntime) -> Result<(), Fail> {
