@@ -5,9 +5,12 @@
 //! Microsoft compiler lays them out (C reference, "Storage of basic types"). No call takes memory.
 #![tactic(auto)]
 
+pub mod code;
 pub mod division;
 pub mod end;
 pub mod event;
 pub mod extension;
+pub mod limit;
+pub mod size;
 pub mod steps;
 pub mod width;
