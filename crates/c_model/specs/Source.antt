@@ -14,7 +14,7 @@ first_data = IMAGE_BASE + PAGE
 
 -- the end of the pages of the globals, of which there is one at least
 abbrev pub data_end : List ℕ → ℕ
-data_end globals = first_data + 4096 * ((length globals - 1) / 4096 + 1)
+data_end globals = first_data + PAGE * ((length globals - 1) / PAGE + 1)
 
 abbrev pub is_data : List ℕ → ℕ → Bool
 is_data globals a = is_between first_data (data_end globals) a

@@ -23,7 +23,7 @@ pub trait Paged {
 
     /// Puts the low bytes of a number into one page.
     fn put(&mut self, at: u64, width: Width, value: u64)
-        requires within { at % 4096 + bytes_of width ≤ 4096 }
+        requires within { at % PAGE + bytes_of width ≤ PAGE }
         requires may { may_write (memory self.old) at ≡ true }
         ensures { memory self.new ≡ with_bytes (memory self.old)
             (with_number (memory self.old).byte (bytes_of width) at value) };
