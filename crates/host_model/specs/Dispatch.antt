@@ -6,6 +6,7 @@ use Rattle.seh_num.specs.declared.event.Event.TheVariants as events
 use Rattle.seh_num.specs.declared.end.Reason.TheVariants as reasons
 use Rattle.seh_num.specs.declared.end.RunEnd.TheVariants as ends
 use Rattle.seh_num.specs.Widths.{half, low, signed}
+use Rattle.seh_num.specs.declared.code.TheConstants.{NONCONTINUABLE_EXCEPTION}
 use Rattle.flat_memory.specs.Memory.{after_store}
 use Rattle.x64_instr.specs.declared.register.Reg.TheVariants.{Rax, Rcx, Rdx, Rsp}
 use Rattle.x64_instr.specs.Registers.{number}
@@ -165,9 +166,9 @@ unwound_locally t s frame target saved = after_placing s (place_of saved) (to_ta
 
 -- ---- answers of filters
 
--- C0000025, EXCEPTION_NONCONTINUABLE_EXCEPTION, takes the place of an exception that can't be continued
+-- NONCONTINUABLE_EXCEPTION takes the place of an exception that can't be continued
 abbrev pub noncontinuable : Code
-noncontinuable = record { 0 = 0xC0000025 }
+noncontinuable = NONCONTINUABLE_EXCEPTION
 
 abbrev pub again : DispatchRecord → DispatchRecord
 again r = begun (record r { code = noncontinuable; flags = 1; count = 0; parameters = replicate 15 0; target_frame = 0; target = 0 })
