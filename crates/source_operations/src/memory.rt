@@ -5,8 +5,7 @@ ghost use Rattle.c_model.specs.Source as model;
 ghost use Rattle.x64_memory.specs.PageMaps.{memory_of};
 ghost use Rattle.source_operations.specs.Regions as specs;
 
-use crate::reserved::FIRST_DATA;
-use host_layout::range::{ARENA_END, ARENA_START, PAGE};
+use host_layout::range::{ARENA_END, ARENA_START, FIRST_DATA, PAGE};
 use std::alloc::{AllocError, Global};
 use x64_memory::page_map::PageMap;
 use x64_memory::region::Region;
