@@ -16,6 +16,7 @@ use Rattle.eh_tables.specs.Tables.{tables}
 use Rattle.x64_machine.specs.declared.cpu.Cpu.{Cpu}
 use Rattle.host_layout.specs.declared.service.Service.{Service}
 use Rattle.host_layout.specs.Services.{address_of}
+use Rattle.host_layout.specs.declared.limit.TheConstants.{MOST_IMAGE, BASE_ALIGNMENT, LEAST_BASE, ADDRESSES_END}
 use Rattle.x64_machine.specs.Effect.{State}
 use Rattle.host_model.specs.declared.refusal.LoadErr.{LoadErr}
 use Rattle.host_model.specs.declared.refusal.LoadErr.TheVariants as refusals
@@ -115,7 +116,7 @@ table_refusal image = of_tables (tables image)
 
 -- the base is aligned and above 4 GiB, the image at most 256 MiB and its end at most 2^47
 abbrev pub has_place : Image → Bool
-has_place image = (image.base % 65536 == 0) && nat_le 0x100000000 image.base && nat_le image.size 0x10000000 && nat_le (image.base + image.size) (2 ^ 47)
+has_place image = (image.base % BASE_ALIGNMENT == 0) && nat_le LEAST_BASE image.base && nat_le image.size MOST_IMAGE && nat_le (image.base + image.size) ADDRESSES_END
 
 abbrev pub place_refusal : Image → Option LoadErr
 place_refusal image = unless (has_place image) (refusals.Place image.base)
