@@ -17,6 +17,7 @@ use Rattle.x64_machine.specs.declared.cpu.Cpu.{Cpu}
 use Rattle.host_layout.specs.declared.service.Service.{Service}
 use Rattle.host_layout.specs.Services.{address_of}
 use Rattle.host_layout.specs.declared.limit.TheConstants.{MOST_IMAGE, BASE_ALIGNMENT, LEAST_BASE, ADDRESSES_END}
+use Rattle.host_layout.specs.declared.range.TheConstants.{FIRST_STACK}
 use Rattle.x64_machine.specs.Effect.{State}
 use Rattle.host_model.specs.declared.refusal.LoadErr.{LoadErr}
 use Rattle.host_model.specs.declared.refusal.LoadErr.TheVariants as refusals
@@ -86,7 +87,7 @@ mapped image = record { protection = mode_at image; byte = with_slots image.base
 -- RIP is the entry point, RCX the argument; RSP points to a return address of 0 near the stack's top
 abbrev pub first_cpu : ℕ → ℤ → Cpu
 first_cpu entry arg = record {
-  registers = 0 ∷ wrapped W64 arg ∷ 0 ∷ 0 ∷ 0x707FFFD8 ∷ replicate 11 0;
+  registers = 0 ∷ wrapped W64 arg ∷ 0 ∷ 0 ∷ FIRST_STACK ∷ replicate 11 0;
   rip = entry;
   flags = record { carry = false; zero = false; sign = false; overflow = false };
 }
