@@ -1,6 +1,7 @@
 -- What an instruction of 32-bit displacements reaches.
 use Rattle.std.specs.Prelude.{ℕ, ◌+◌, ◌*◌, ◌^◌, ◌<◌, ◌≤◌, List, Option, Some, None}
 use Rattle.std.specs.List.{AllByRecursion}
+use Rattle.seh_num.specs.declared.limit.TheConstants.{MOST_PARAMETERS}
 use Rattle.c_operations.specs.declared.field.Field.{Field}
 use Rattle.c_operations.specs.declared.field.Field.TheVariants.{ExceptionInformation}
 use Rattle.linear_code.specs.declared.slot.Slot.{Slot}
@@ -29,7 +30,7 @@ IsSlotNear y (Local i) = (local_at y i < 2 ^ 30) × IsBaseNear y.base
 
 -- at most eight arguments, and at least the four temporaries from the first on
 pub record AreArgumentsNear (y : Layout) (first count : ℕ) : Type 0 where
-  pub few : count ≤ 8
+  pub few : count ≤ MOST_PARAMETERS
   pub temporaries : temporary_at y (first + 8) < 2 ^ 30
 
 abbrev pub IsFrameNear : Layout → Type 0
