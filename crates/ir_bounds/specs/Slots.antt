@@ -2,6 +2,7 @@
 use Rattle.std.specs.Prelude.{ℕ, ◌<◌, ◌≤◌, List, length, Option, Some, None}
 use Rattle.std.specs.List.{AllByRecursion}
 use Rattle.seh_num.specs.declared.limit.TheConstants.{MOST_PARAMETERS, MOST_GLOBALS}
+use Rattle.seh_num.specs.declared.size.TheConstants.{EXCEPTION_MAXIMUM_PARAMETERS}
 use Rattle.c_operations.specs.declared.field.Field.{Field}
 use Rattle.c_operations.specs.declared.field.Field.TheVariants.{ExceptionInformation}
 use Rattle.linear_code.specs.declared.slot.Slot.{Slot}
@@ -17,9 +18,9 @@ abbrev pub IsAmong : ℕ → Slot → Type 0
 IsAmong n (Local i) = i < n
 IsAmong n (Temporary i) = Unit {0}
 
--- a parameter of an exception is one of 15 (Windows headers, `winnt.h`)
+-- a parameter of an exception is one of those that it may have
 abbrev pub IsField : Field → Type 0
-IsField (ExceptionInformation k) = k < 15
+IsField (ExceptionInformation k) = k < EXCEPTION_MAXIMUM_PARAMETERS
 IsField f = Unit {0}
 
 -- the locals of an instruction are among so many, its field is one, and it passes at most as many arguments as a function takes

@@ -16,6 +16,7 @@ use seh_num::code::NONCONTINUABLE_EXCEPTION;
 use seh_num::end::{Reason, RunEnd};
 use seh_num::event::Event;
 use seh_num::extension::sign_extend;
+use seh_num::size::EXCEPTION_MAXIMUM_PARAMETERS;
 use seh_num::width::Width;
 use seh_records::dispatch::Kind;
 use seh_records::{DispatchRecord, fetch, rewrite};
@@ -41,7 +42,7 @@ fn again(dispatch: &DispatchRecord) -> DispatchRecord
     new.code = NONCONTINUABLE_EXCEPTION;
     new.flags = 1;
     new.count = 0;
-    new.parameters = [0; 15];
+    new.parameters = [0; EXCEPTION_MAXIMUM_PARAMETERS];
     new.target_frame = 0;
     new.target = 0;
     begun(&new)

@@ -2,6 +2,7 @@
 use Rattle.std.specs.Prelude.{ℕ, ◌+◌, ◌*◌, ◌^◌, ◌<◌, ◌≤◌, List, Option, Some, None}
 use Rattle.std.specs.List.{AllByRecursion}
 use Rattle.seh_num.specs.declared.limit.TheConstants.{MOST_PARAMETERS}
+use Rattle.seh_num.specs.declared.size.TheConstants.{EXCEPTION_MAXIMUM_PARAMETERS}
 use Rattle.c_operations.specs.declared.field.Field.{Field}
 use Rattle.c_operations.specs.declared.field.Field.TheVariants.{ExceptionInformation}
 use Rattle.linear_code.specs.declared.slot.Slot.{Slot}
@@ -47,7 +48,7 @@ ArePointersNear y = y.pointers < 2 ^ 30
 -- ---- instructions
 
 abbrev pub IsFieldNear : Field → Type 0
-IsFieldNear (ExceptionInformation k) = k < 15
+IsFieldNear (ExceptionInformation k) = k < EXCEPTION_MAXIMUM_PARAMETERS
 IsFieldNear f = Unit {0}
 
 abbrev pub IsInstructionNear : Layout → Instruction → Type 0
