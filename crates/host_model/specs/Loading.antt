@@ -98,9 +98,9 @@ start image arg = record { cpu = first_cpu (image.base + image.entry) arg; memor
 -- ---- what isn't loaded
 
 -- a reason, where a test fails
-abbrev pub unless : Bool → LoadErr → Option LoadErr
-unless true e = None
-unless false e = Some e
+abbrev pub reason_unless : Bool → LoadErr → Option LoadErr
+reason_unless true e = None
+reason_unless false e = Some e
 
 abbrev pub first_of : List (Option LoadErr) → Option LoadErr
 first_of [] = None
@@ -120,7 +120,7 @@ abbrev pub has_place : Image → Bool
 has_place image = (image.base % BASE_ALIGNMENT == 0) && nat_le LEAST_BASE image.base && nat_le image.size MOST_IMAGE && nat_le (image.base + image.size) ADDRESSES_END
 
 abbrev pub place_refusal : Image → Option LoadErr
-place_refusal image = unless (has_place image) (refusals.Place image.base)
+place_refusal image = reason_unless (has_place image) (refusals.Place image.base)
 
 -- the first import that names none of the services
 abbrev pub is_none : {A : Type 0} → Option A → Bool
@@ -141,7 +141,7 @@ abbrev pub has_entry : Image → Bool
 has_entry image = is_code (section_of 0 image.entry image.sections)
 
 abbrev pub entry_refusal : Image → Option LoadErr
-entry_refusal image = unless (has_entry image) (refusals.Entry image.entry)
+entry_refusal image = reason_unless (has_entry image) (refusals.Entry image.entry)
 
 -- after the function table's
 abbrev pub later_refusal : Image → Option LoadErr
