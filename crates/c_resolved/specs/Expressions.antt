@@ -1,7 +1,8 @@
 -- Expressions: the type and the node of each, or the rules that it breaks (C11, 6.5; Microsoft C reference, "try-except statement"). An expression that holds a fault has no type, and no rule on types fails for it.
-use Rattle.std.specs.Prelude.{ℕ, Bool, true, false, nat_eq, nat_le, if◌then◌else◌, List, [], ◌∷◌, ◌++◌, length, map, Option, Some, None}
+use Rattle.std.specs.Prelude.{ℕ, Bool, true, false, nat_eq, nat_le, if◌then◌else◌, List, [], ◌∷◌, ◌++◌, length, map, Option, Some, None, ◌-◌}
 use Rattle.seh_num.specs.declared.width.Width.TheVariants.{W32}
 use Rattle.seh_num.specs.Widths.{low, wrapped}
+use Rattle.seh_num.specs.declared.size.TheConstants.{EXCEPTION_MAXIMUM_PARAMETERS}
 use Rattle.c_lex.specs.declared.token.IntegerType.{IntegerType}
 use Rattle.c_lex.specs.declared.token.IntegerType.TheVariants as integers
 use Rattle.c_operations.specs.declared.field.Field.TheVariants as fields
@@ -166,7 +167,7 @@ field record_fields.Code = good (typed unsigned (nodes.Information fields.Except
 field record_fields.Flags = good (typed unsigned (nodes.Information fields.ExceptionFlags))
 field record_fields.Count = good (typed unsigned (nodes.Information fields.NumberParameters))
 field (record_fields.Information k at) =
-    given_that (nat_le k 14) at TypeClash [] (good (typed (plain UnsignedLongLong) (nodes.Information (fields.ExceptionInformation k))))
+    given_that (nat_le k (EXCEPTION_MAXIMUM_PARAMETERS - 1)) at TypeClash [] (good (typed (plain UnsignedLongLong) (nodes.Information (fields.ExceptionInformation k))))
 
 -- ---- calls
 
