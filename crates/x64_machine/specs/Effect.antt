@@ -6,6 +6,7 @@ use Rattle.seh_num.specs.declared.division.DivFault.{DivFault}
 use Rattle.seh_num.specs.declared.division.DivFault.TheVariants as faults
 use Rattle.seh_num.specs.Widths.{limit, half, low, signed, wrapped}
 use Rattle.seh_num.specs.declared.code.TheConstants.{ACCESS_VIOLATION, INTEGER_DIVIDE_BY_ZERO, INTEGER_OVERFLOW}
+use Rattle.seh_num.specs.declared.size.TheConstants.{LONGEST_INSTRUCTION}
 use Rattle.flat_memory.specs.declared.access.RefusedAccess.{RefusedAccess}
 use Rattle.flat_memory.specs.declared.access.RefusedAccess.TheVariants as accesses
 use Rattle.flat_memory.specs.Memory.{Memory, executable, loaded, stored, after_store}
@@ -319,7 +320,7 @@ hosted a (Some services.CSpecificHandler) = stops.Illegal a
 hosted a (Some service) = stops.Host a
 
 unfoldable pub step : State → Answer State
-step s = if in_host_page s.cpu.rip then Err (hosted s.cpu.rip (service_at s.cpu.rip)) else execute s (leading (executable s.memory 15 s.cpu.rip))
+step s = if in_host_page s.cpu.rip then Err (hosted s.cpu.rip (service_at s.cpu.rip)) else execute s (leading (executable s.memory LONGEST_INSTRUCTION s.cpu.rip))
 
 -- ---- what the code answers
 

@@ -13,6 +13,7 @@ use crate::stretch::{self, Stretch};
 use flat_memory::access::RefusedAccess;
 use flat_memory::protection::{Protection, Rights, UNMAPPED};
 use host_layout::range::{ARENA_END, ARENA_START, PAGE};
+use seh_num::size::LONGEST_INSTRUCTION;
 use seh_num::width::Width;
 use std::alloc::{AllocError, Global};
 
@@ -197,7 +198,7 @@ impl AddressSpace for PageMap {
         paged::store(self, at, width, value)
     }
 
-    fn fetch(&self, at: u64, into: &mut [u8; 15]) -> usize {
+    fn fetch(&self, at: u64, into: &mut [u8; LONGEST_INSTRUCTION]) -> usize {
         paged::fetch(self, at, into)
     }
 
