@@ -1,5 +1,6 @@
 -- Where the slots of each body stand (Microsoft x64 ABI, "Stack allocation").
 use Rattle.std.specs.Prelude.{◌≡◌, ℕ, ◌+◌, ◌*◌, ◌<◌, ◌≤◌, true, false, Bool, slice_get, Option, Some, None}
+use Rattle.host_layout.specs.declared.range.TheConstants.{PAGE}
 use Rattle.linear_code.specs.Program.{LinearProgram, LinearBody, LinearFunclet}
 use Rattle.linear_machine.specs.Frames.{BodyName, FunctionBody, FuncletBody, body_of}
 use Rattle.template_code.specs.declared.layout.Layout.{Layout}
@@ -30,7 +31,7 @@ pub record IsFuncletLayout (y function : Layout) (b : LinearBody) : Type 0 where
   pub kept : slot + 16 ≤ y.temporaries
   pub temporaries : y.temporaries + 8 * b.temporaries ≤ y.frame
   pub locals : y.locals ≡ function.locals
-  pub small : y.frame ≤ 4096
+  pub small : y.frame ≤ PAGE
 
 module _ (program : LinearProgram) (p : Plan) where
   abbrev pub IsLayoutIf : Layout → LinearBody → Bool → Type 0

@@ -1,6 +1,6 @@
 -- What an image has of a linear program: its code in memory, and what is known of its addresses.
 use Rattle.std.specs.Prelude.{◌≡◌, ◌≢◌, ℕ, suc, ◌+◌, ◌^◌, ◌<◌, ◌≤◌, Bool, true, false, List, [], ◌∷◌, ◌++◌, length, drop, slice_get, Option, Some, Ok}
-use Rattle.host_layout.specs.declared.range.TheConstants.{IMAGE_BASE, IMAGE_RANGE_END, STACK_START, STACK_END}
+use Rattle.host_layout.specs.declared.range.TheConstants.{IMAGE_BASE, IMAGE_RANGE_END, STACK_START, STACK_END, PAGE}
 use Rattle.host_layout.specs.Ranges.{in_arena}
 use Rattle.host_layout.specs.declared.service.Service.{Service}
 use Rattle.host_layout.specs.declared.service.Service.TheVariants as services
@@ -193,7 +193,7 @@ module _ (t : Functions) (fs : List Funclet) (program : LinearProgram) (p : Plan
   -- until a frame is made the return address is at RSP, in it above the frame, and at RSP again once the frame is given back
   pub record FindsCallers (name : BodyName) (b : LinearBody) : Type 0 where
     pub entries : (m : Memory) → (p.leaf name ≡ true → 0 < length b.code) → FindsReturn t m (begin_of p q name) 0
-    pub probes : (m : Memory) → p.leaf name ≡ false → 4096 < (p.layout name).frame → FindsReturn t m (begin_of p q name + 5) 0 × FindsReturn t m (begin_of p q name + 10) 0
+    pub probes : (m : Memory) → p.leaf name ≡ false → PAGE < (p.layout name).frame → FindsReturn t m (begin_of p q name + 5) 0 × FindsReturn t m (begin_of p q name + 10) 0
     pub arguments :
         (m : Memory) (done left : List Instr) (item : Instr)
         → HasProgram m → arguments_code program p name ≡ done ++ (item ∷ left)

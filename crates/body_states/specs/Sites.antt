@@ -1,6 +1,7 @@
 -- Where the code of a program's parts begins, and what comes before a body.
 use Rattle.std.specs.Prelude.{ℕ, Bool, true, false, nat_le, if◌then◌else◌, List, [], ◌∷◌, ◌++◌, slice_get, Option, Some, None}
 use Rattle.seh_num.specs.declared.width.Width.TheVariants.{W32, W64}
+use Rattle.host_layout.specs.declared.range.TheConstants.{PAGE}
 use Rattle.x64_instr.specs.declared.register.Reg.TheVariants.{Rax, Rcx, Rsp}
 use Rattle.x64_instr.specs.declared.operand.RegisterOrMemory.TheVariants as places
 use Rattle.x64_instr.specs.declared.operand.Operand.TheVariants as operands
@@ -48,7 +49,7 @@ making size at check false = enter_large size at check
 
 abbrev pub frame_code : ℕ → ℕ → ℕ → Bool → List Instr
 frame_code size at check true = []
-frame_code size at check false = making size at check (nat_le size 4096)
+frame_code size at check false = making size at check (nat_le size PAGE)
 
 -- how many bytes that takes
 abbrev pub making_size : Plan → Sites → BodyName → ℕ

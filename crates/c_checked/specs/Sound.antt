@@ -2,6 +2,7 @@
 use Rattle.std.specs.Prelude.{◌≡◌, ℕ, ◌+◌, ◌^◌, Bool, true, false, ◌&&◌, ◌||◌, nat_lt, nat_le, nat_eq, if◌then◌else◌, List, [], ◌∷◌, ◌++◌, length, slice_get, Option, Some, None}
 use Rattle.seh_num.specs.declared.width.Width.{Width}
 use Rattle.seh_num.specs.declared.width.Width.TheVariants.{W8, W16, W32, W64}
+use Rattle.seh_num.specs.declared.limit.TheConstants.{MOST_LOCALS, MOST_PARAMETERS, MOST_FUNCTIONS, MOST_GLOBALS, MOST_FUNCLETS}
 use Rattle.c_operations.specs.declared.field.Field.{Field}
 use Rattle.c_operations.specs.declared.field.Field.TheVariants as fields
 use Rattle.c_operations.specs.declared.operation.Operation.{Operation}
@@ -346,7 +347,7 @@ function_sound functions f =
       body = false;
       function = true;
     }) f.body
-    && nat_le (length f.parameters) 8 && nat_le (length f.locals) 256
+    && nat_le (length f.parameters) MOST_PARAMETERS && nat_le (length f.locals) MOST_LOCALS
 
 abbrev pub functions_sound : List Function → List Function → Bool
 functions_sound functions [] = true
@@ -360,7 +361,7 @@ main_sound (Some f) = (are_sizes [] (some_sizes f.parameters) || are_sizes (Long
 abbrev pub is_sound : Program → Bool
 is_sound p =
     functions_sound p.functions p.functions && main_sound (slice_get p.functions p.main) && count_up 1 (all_funclets p.functions)
-    && nat_le (length p.functions) 4096 && nat_le (length (all_funclets p.functions)) 16384 && nat_le (length p.globals) 1048576
+    && nat_le (length p.functions) MOST_FUNCTIONS && nat_le (length (all_funclets p.functions)) MOST_FUNCLETS && nat_le (length p.globals) MOST_GLOBALS
 
 abbrev pub IsSound : Program → Type 0
 IsSound p = is_sound p ≡ true

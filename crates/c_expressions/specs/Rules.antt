@@ -2,7 +2,7 @@
 use Rattle.std.specs.Prelude.{◌≡◌, ℕ, Bool, true, false, List, Option, Some, None, option_map}
 use Rattle.c_expressions.specs.declared.least.Least.{Least}
 use Rattle.c_expressions.specs.Kept.{least_of, kept}
-use Rattle.c_resolved.specs.Expressions.{Entity, UserFunction, BuiltInFunction, FaultAt, Names, ResolvedExpression, only_where, unless, rule_1, rule_2, rule_3, is_lvalue, operand_is_lvalue}
+use Rattle.c_resolved.specs.Expressions.{Entity, UserFunction, BuiltInFunction, FaultAt, Names, ResolvedExpression, only_where, given_that, rule_1, rule_2, rule_3, is_lvalue, operand_is_lvalue}
 use Rattle.c_resolved.specs.Operators.{TypedNode, assigned, compound_assigned, incremented, unary_of}
 use Rattle.c_syntax.specs.declared.operator.Arithmetic.{Arithmetic}
 use Rattle.c_syntax.specs.declared.operator.Increment.{Increment}
@@ -50,13 +50,13 @@ assigning_at (Some o) at value = at
 -- ---- operators whose operand has to be an lvalue, after operands with these faults
 
 abbrev pub stepping : Names → ℕ → Fixity → Increment → Expression → List FaultAt → Option TypedNode → ResolvedExpression
-stepping s at m o e fs a = unless (is_lvalue s e) (start e) NotLvalue fs (rule_1 at (incremented m o) fs a)
+stepping s at m o e fs a = given_that (is_lvalue s e) (start e) NotLvalue fs (rule_1 at (incremented m o) fs a)
 
 abbrev pub preceding : Names → ℕ → UnaryOperator → Expression → List FaultAt → Option TypedNode → ResolvedExpression
-preceding s at o e fs a = unless (operand_is_lvalue o s e) (start e) NotLvalue fs (rule_1 at (unary_of o) fs a)
+preceding s at o e fs a = given_that (operand_is_lvalue o s e) (start e) NotLvalue fs (rule_1 at (unary_of o) fs a)
 
 abbrev pub assigning_to : Names → Expression → ℕ → Option Arithmetic → List FaultAt → Option TypedNode → Option TypedNode → ResolvedExpression
-assigning_to s target at o fs a b = unless (is_lvalue s target) (start target) NotLvalue fs (assigning o at fs a b)
+assigning_to s target at o fs a b = given_that (is_lvalue s target) (start target) NotLvalue fs (assigning o at fs a b)
 
 -- a call that is right in itself, but has a meaning in some places alone, after arguments with these faults
 abbrev pub allowed_call : Bool → ℕ → Fault → List FaultAt → Option TypedNode → ResolvedExpression

@@ -4,6 +4,7 @@ use Rattle.seh_num.specs.declared.width.Width.TheVariants.{W32}
 use Rattle.seh_num.specs.declared.event.Event.{Event}
 use Rattle.seh_num.specs.declared.event.Event.TheVariants as events
 use Rattle.seh_num.specs.Widths.{low, signed}
+use Rattle.seh_num.specs.declared.code.TheConstants.{NONCONTINUABLE_EXCEPTION}
 use Rattle.c_checked.specs.Expression.{Expression}
 use Rattle.c_checked.specs.Statement.{Filter, Always, Funclet, Statements}
 use Rattle.c_model.specs.declared.ended.Ended.TheVariants.{Unhandled}
@@ -13,7 +14,7 @@ use Rattle.c_model.specs.Expressions.{all}
 
 -- what is raised where a noncontinuable exception is continued
 abbrev pub noncontinuable : Exception
-noncontinuable = record { code = 0xC0000025; flag = true; access = None }
+noncontinuable = record { code = NONCONTINUABLE_EXCEPTION.0; flag = true; access = None }
 
 abbrev pub raise_event : Exception → Event
 raise_event exc = events.Raise (record { 0 = exc.code }) exc.flag exc.access

@@ -4,6 +4,7 @@ use Rattle.seh_num.specs.declared.event.Event.{Event}
 use Rattle.flat_memory.specs.Memory.{Memory}
 use Rattle.c_model.specs.declared.ended.Ended.{Ended}
 use Rattle.c_model.specs.declared.ended.Ended.TheVariants.{Deep}
+use Rattle.c_model.specs.declared.depth.TheConstants.{DEEPEST, TOO_DEEP}
 
 -- an exception: its code, whether it is noncontinuable, and for a refused access whether it was a write, and the address
 pub record Exception : Type 0 where
@@ -68,9 +69,9 @@ unfoldable pub choose : Bool → (State → Outcome) → (State → Outcome) →
 choose true a b st = a st
 choose false a b st = b st
 
--- goes on unless the depth would rise above 1,000
+-- goes on unless the depth would rise above the greatest
 unfoldable pub deeper : ℕ → State → (State → Outcome) → Outcome
-deeper n st go = choose (nat_lt 1000 (depth st + n)) (λ st. Gives (End (Some (Deep 1001))) st) go st
+deeper n st go = choose (nat_lt DEEPEST (depth st + n)) (λ st. Gives (End (Some (Deep TOO_DEEP))) st) go st
 
 -- goes on with a value; any other result stays
 unfoldable pub with_value : Outcome → (ℕ → State → Outcome) → Outcome

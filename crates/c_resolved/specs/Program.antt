@@ -2,6 +2,7 @@
 use Rattle.std.specs.Prelude.{ℕ, zero, suc, ◌+◌, ◌-◌, ◌*◌, ◌/◌, ◌%◌, ◌^◌, Bool, true, false, not, ◌&&◌, nat_lt, if◌then◌else◌, List, [], ◌∷◌, ◌++◌, length, map, take, drop, replicate, Option, Some, None}
 use Rattle.seh_num.specs.declared.width.Width.TheVariants.{W64}
 use Rattle.seh_num.specs.Widths.{wrapped}
+use Rattle.host_layout.specs.declared.range.TheConstants.{FIRST_DATA}
 use Rattle.c_operations.specs.declared.operation.Size.{Size}
 use Rattle.c_checked.specs.Statement as checked
 use Rattle.c_checked.specs.Program as checked_program
@@ -27,7 +28,7 @@ use Rattle.c_resolved.specs.Statements.{Nowhere, Near, Environment, unless_holds
 
 -- the address of the first byte of the globals
 abbrev pub first_data : ℕ
-first_data = 0x140001000
+first_data = FIRST_DATA
 
 abbrev pub literal_value : Literal → ℕ
 literal_value (literals.Integer n of) = n

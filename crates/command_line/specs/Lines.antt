@@ -9,6 +9,7 @@ use Rattle.clap.specs.declared.builder.action.ArgAction.TheVariants.{Set, SetTru
 use Rattle.command_line.specs.declared.command.Command.{Command}
 use Rattle.command_line.specs.declared.command.Command.TheVariants.{Compile, Exec, Run, Meaning, Show}
 use Rattle.command_line.specs.declared.command.RunOptions.{RunOptions}
+use Rattle.command_line.specs.declared.reading.TheConstants.{DEFAULT_TURNS}
 
 -- ---- the commands as `clap` reads them: `compile`, `show`, and `exec`, `run` and `meaning` with `--turns N`, `--arg N` and `--trace`, each at most once and in any order
 
@@ -54,7 +55,7 @@ IsNumber other None n = n ≡ other
 IsNumber other (Some text) n = (text ≡ decimal n) × (n < 2 ^ 63)
 
 pub record HasOptions (options : RunOptions) (rows : List Row) : Type 0 where
-  pub turns : IsNumber 10000000 (first_of (codes "turns") rows) options.turns
+  pub turns : IsNumber DEFAULT_TURNS (first_of (codes "turns") rows) options.turns
   pub argument : (n : ℕ) × IsNumber 0 (first_of (codes "arg") rows) n × (options.argument ≡ pos n)
   pub trace : options.trace ≡ option_map_or (λ t. bytes_eq t (codes "true")) (first_of (codes "trace") rows) false
 

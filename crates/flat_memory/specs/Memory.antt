@@ -3,6 +3,7 @@ use Rattle.std.specs.Prelude.{ℕ, zero, suc, ◌+◌, ◌-◌, ◌*◌, ◌/◌
 use Rattle.seh_num.specs.declared.width.Width.{Width}
 use Rattle.seh_num.specs.Widths.{bytes_of}
 use Rattle.host_layout.specs.Ranges.{in_guard, in_arena}
+use Rattle.host_layout.specs.declared.range.TheConstants.{PAGE}
 use Rattle.flat_memory.specs.declared.protection.Protection.{Protection}
 use Rattle.flat_memory.specs.declared.protection.Rights.{Rights}
 use Rattle.flat_memory.specs.declared.access.RefusedAccess.{RefusedAccess}
@@ -88,7 +89,7 @@ rights_asked at number = if in_arena at then rights_numbered number else None
 
 abbrev pub with_rights : Memory → ℕ → Option Rights → Memory
 with_rights m at None = m
-with_rights m at (Some r) = record { protection = λ a. if a / 4096 == at / 4096 then record (m.protection a) { rights = r } else m.protection a; byte = m.byte }
+with_rights m at (Some r) = record { protection = λ a. if a / PAGE == at / PAGE then record (m.protection a) { rights = r } else m.protection a; byte = m.byte }
 
 abbrev pub protected : Memory → ℕ → ℤ → Memory
 protected m at number = with_rights m at (rights_asked at number)

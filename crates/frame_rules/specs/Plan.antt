@@ -1,6 +1,7 @@
 -- The prologue, the epilogue and the unwind info of a planned frame.
 use Rattle.std.specs.Prelude.{◌≡◌, ℕ, ◌+◌, ◌-◌, ◌*◌, ◌%◌, ◌^◌, ◌<◌, Bool, true, false, not, ◌==◌, ◌&&◌, nat_le, List, [], ◌∷◌, ◌++◌, length, None}
 use Rattle.seh_num.specs.declared.width.Width.TheVariants.{W32, W64}
+use Rattle.host_layout.specs.declared.range.TheConstants.{PAGE}
 use Rattle.x64_instr.specs.declared.register.Reg.TheVariants.{Rax, Rsp}
 use Rattle.x64_instr.specs.declared.operand.MemRef.{MemRef}
 use Rattle.x64_instr.specs.declared.operand.Base.TheVariants as bases
@@ -76,7 +77,7 @@ allocating probe n false = instrs.Move W32 (places.Register Rax) (operands.Immed
 
 abbrev pub instructions_of : Plan → UnwindOperation → List Instr
 instructions_of p (Push r) = instrs.Push (register r) ∷ []
-instructions_of p (Allocate n) = allocating p.probe n (nat_le n 4096)
+instructions_of p (Allocate n) = allocating p.probe n (nat_le n PAGE)
 instructions_of p SetFrame = instrs.LoadAddress W64 (register p.frame) (stack_place p.distance) ∷ []
 instructions_of p (Save r n) = instrs.Move W64 (places.Memory (stack_place n)) (operands.Register (register r)) ∷ []
 instructions_of p x = []

@@ -1,11 +1,13 @@
 -- The dispatcher: what is done between two funclets. All suspended work stands in records in the machine's stack.
-use Rattle.std.specs.Prelude.{ℕ, zero, suc, ◌+◌, ◌%◌, ◌^◌, Bool, true, false, ◌==◌, nat_le, List, [], ◌∷◌, replicate, Option, Some, None, slice_index, slice_set}
+use Rattle.std.specs.Prelude.{ℕ, zero, suc, ◌+◌, ◌%◌, ◌^◌, Bool, true, false, ◌==◌, nat_le, List, [], ◌∷◌, replicate, Option, Some, None, slice_index, slice_set, ◌-◌}
 use Rattle.seh_num.specs.declared.width.Width.TheVariants.{W32, W64}
 use Rattle.seh_num.specs.declared.event.Code.{Code}
 use Rattle.seh_num.specs.declared.event.Event.TheVariants as events
 use Rattle.seh_num.specs.declared.end.Reason.TheVariants as reasons
 use Rattle.seh_num.specs.declared.end.RunEnd.TheVariants as ends
 use Rattle.seh_num.specs.Widths.{half, low, signed}
+use Rattle.seh_num.specs.declared.code.TheConstants.{NONCONTINUABLE_EXCEPTION}
+use Rattle.seh_num.specs.declared.size.TheConstants.{EXCEPTION_MAXIMUM_PARAMETERS}
 use Rattle.flat_memory.specs.Memory.{after_store}
 use Rattle.x64_instr.specs.declared.register.Reg.TheVariants.{Rax, Rcx, Rdx, Rsp}
 use Rattle.x64_instr.specs.Registers.{number}
@@ -21,6 +23,7 @@ use Rattle.seh_records.specs.declared.dispatch.Kind.{Kind}
 use Rattle.seh_records.specs.declared.dispatch.Kind.TheVariants.{Search, ExceptionUnwind, LocalUnwind}
 use Rattle.seh_records.specs.declared.dispatch.DispatchRecord.{DispatchRecord}
 use Rattle.seh_records.specs.Record.{placed, misplaced, return_address_at, place_below}
+use Rattle.seh_records.specs.declared.layout.TheConstants.{POINTERS_AT}
 use Rattle.seh_walk.specs.Walk.{stop_cause, filter_return, finally_return, is_search, walk_in, steps}
 use Rattle.seh_search.specs.declared.search_result.SearchResult.{SearchResult}
 use Rattle.seh_search.specs.declared.search_result.SearchResult.TheVariants as searches
@@ -107,7 +110,7 @@ abbrev pub accepted : Functions → State → ℕ → DispatchRecord → ℕ →
 accepted t s at r frame target = after_placing s at (accepting r frame target) (λ u. unwinds_on t u at (accepting r frame target))
 
 abbrev pub after_search : Functions → State → ℕ → DispatchRecord → SearchResult → Turn
-after_search t s at r (searches.Filter handler frame row walk) = after_placing s at (in_hand r frame row walk) (λ u. Continues (entered u at filter_return handler ((at + 80) % 2 ^ 64) frame) [])
+after_search t s at r (searches.Filter handler frame row walk) = after_placing s at (in_hand r frame row walk) (λ u. Continues (entered u at filter_return handler ((at + POINTERS_AT) % 2 ^ 64) frame) [])
 after_search t s at r (searches.Accept frame target) = accepted t s at r frame target
 after_search t s at r searches.Nobody = Ends [] (ends.Unhandled r.code)
 after_search t s at r (searches.Stop y) = stopped y
@@ -123,8 +126,8 @@ write_number true = 1
 write_number false = 0
 
 abbrev pub parameters : Option (Bool × ℕ) → List ℕ
-parameters None = replicate 15 0
-parameters (Some x) = write_number x.0 ∷ x.1 ∷ replicate 13 0
+parameters None = replicate EXCEPTION_MAXIMUM_PARAMETERS 0
+parameters (Some x) = write_number x.0 ∷ x.1 ∷ replicate (EXCEPTION_MAXIMUM_PARAMETERS - 2) 0
 
 abbrev pub count : Option (Bool × ℕ) → ℕ
 count None = 0
@@ -165,12 +168,12 @@ unwound_locally t s frame target saved = after_placing s (place_of saved) (to_ta
 
 -- ---- answers of filters
 
--- C0000025, EXCEPTION_NONCONTINUABLE_EXCEPTION, takes the place of an exception that can't be continued
+-- NONCONTINUABLE_EXCEPTION takes the place of an exception that can't be continued
 abbrev pub noncontinuable : Code
-noncontinuable = record { 0 = 0xC0000025 }
+noncontinuable = NONCONTINUABLE_EXCEPTION
 
 abbrev pub again : DispatchRecord → DispatchRecord
-again r = begun (record r { code = noncontinuable; flags = 1; count = 0; parameters = replicate 15 0; target_frame = 0; target = 0 })
+again r = begun (record r { code = noncontinuable; flags = 1; count = 0; parameters = replicate EXCEPTION_MAXIMUM_PARAMETERS 0; target_frame = 0; target = 0 })
 
 abbrev pub searched_again : Functions → State → ℕ → DispatchRecord → Turn
 searched_again t s at r = after_placing s at (again r) (λ u. searches_on t u at (again r))

@@ -1,18 +1,15 @@
 -- Images with handlers, made by hand: what each shows was given by another implementation of the machine as well, but for the last.
 use Rattle.std.specs.Prelude.{◌≡◌, ℕ, ◌+◌, ◌*◌, Bool, true, false, List, [], ◌∷◌, ◌++◌, length, codes, pos, negsuc, Some, None}
-use Rattle.byteorder.specs.Endian.{little_bytes}
 use Rattle.seh_num.specs.declared.event.Code.{Code}
 use Rattle.seh_num.specs.declared.event.Event.{Event}
 use Rattle.seh_num.specs.declared.event.Event.TheVariants as events
 use Rattle.seh_num.specs.declared.end.RunEnd.{RunEnd}
 use Rattle.seh_num.specs.declared.end.RunEnd.TheVariants as ends
-use Rattle.host_model.specs.Worked.{u16, u32, zeros, dos_header}
+use Rattle.pe_image.specs.Numbers.{u16, u32, u64, zeros}
+use Rattle.host_model.specs.Worked.{dos_header}
 use Rattle.host_model.specs.Machine.{Shown, machine}
 
 -- ---- headers
-
-abbrev pub u64 : ℕ → List ℕ
-u64 n = little_bytes 8 n
 
 -- x64, five sections, an optional header of 144 bytes
 abbrev pub file_header : List ℕ

@@ -56,3 +56,11 @@ pub record Stays (f : Functions) (fs : List Funclet) (n : ℕ) (e : RunEnd) : Ty
 
 abbrev pub EndsStay : Type 0
 EndsStay = (f : Functions) (fs : List Funclet) (n : ℕ) (e : RunEnd) → Stays f fs n e
+
+-- turns made later go on from the host that earlier ones leave
+pub record GoesOn (f : Functions) (fs : List Funclet) (n m : ℕ) (h : Host) : Type 0 where
+  pub host : after_turns f fs (n + m) h ≡ after_turns f fs m (after_turns f fs n h)
+  pub shown : shown_in_turns f fs (n + m) h ≡ shown_in_turns f fs n h ++ shown_in_turns f fs m (after_turns f fs n h)
+
+abbrev pub LaterTurnsGoOn : Type 0
+LaterTurnsGoOn = (f : Functions) (fs : List Funclet) (n m : ℕ) (h : Host) → GoesOn f fs n m h

@@ -1,6 +1,7 @@
 -- An image that does what a program means.
 use Rattle.std.specs.Prelude.{◌≡◌, ℕ, ◌+◌, ◌*◌, ◌^◌, ◌<◌, ◌≤◌, true, List, length, pos, None}
 use Rattle.std.specs.List.{AllByRecursion}
+use Rattle.host_layout.specs.declared.limit.TheConstants.{MOST_IMAGE}
 use Rattle.pe_image.specs.Image.{Image}
 use Rattle.pe_image.specs.Reading.{IsImage}
 use Rattle.pe_write.specs.Program.{parts_of, image_of}
@@ -22,7 +23,7 @@ use Rattle.image_runs.specs.Sound.{IsLinkable}
 pub record Realises (bytes : List ℕ) (program : Program) : Type 0 where
   pub image : Image
   pub is : IsImage bytes image
-  pub fits : length bytes ≤ 268435456
+  pub fits : length bytes ≤ MOST_IMAGE
   pub loads : load_refusal image ≡ None
   pub shows :
       (arg n : ℕ) → arg < 2 ^ 63

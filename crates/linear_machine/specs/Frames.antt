@@ -9,6 +9,7 @@ use Rattle.linear_code.specs.Program.{LinearProgram, LinearBody, LinearFunction,
 use Rattle.c_model.specs.declared.ended.Ended.{Ended}
 use Rattle.c_model.specs.declared.ended.Ended.TheVariants.{Deep}
 use Rattle.c_model.specs.State.{Exception}
+use Rattle.c_model.specs.declared.depth.TheConstants.{DEEPEST, TOO_DEEP}
 
 -- ---- bodies
 
@@ -95,9 +96,9 @@ unfoldable pub with_some : {A : Type 0} → List Event → Option A → (A → S
 with_some es None go = Stuck es
 with_some es (Some x) go = go x
 
--- goes on unless the depth would rise above 1,000: 1 for each live activation, and what is held
+-- goes on unless the depth would rise above the greatest: 1 for each live activation, and what is held
 abbrev pub deeper : ℕ → ℕ → Store → List Event → Seen → Seen
-deeper n held store es seen = pick (nat_lt 1000 (length store.activations + held + n)) (Finished (Deep 1001) es) seen
+deeper n held store es seen = pick (nat_lt DEEPEST (length store.activations + held + n)) (Finished (Deep TOO_DEEP) es) seen
 
 -- ---- slots
 

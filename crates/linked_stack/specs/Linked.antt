@@ -22,6 +22,7 @@ use Rattle.template_code.specs.Calls.{return_at, passing_code, finally_arguments
 use Rattle.linear_code.specs.declared.instruction.Instruction.{Instruction}
 use Rattle.linear_code.specs.declared.instruction.Instruction.TheVariants as instructions
 use Rattle.c_model.specs.State.{Exception}
+use Rattle.c_model.specs.declared.depth.TheConstants.{DEEPEST}
 use Rattle.linear_code.specs.declared.program.Region.{Region}
 use Rattle.linear_code.specs.declared.program.FuncletKind.TheVariants as funclets
 use Rattle.linear_code.specs.Program.{LinearProgram, LinearBody, LinearFunclet}
@@ -69,13 +70,10 @@ activations_below (FuncletBody k) acts = acts
 abbrev pub largest_frame : ℕ
 largest_frame = 8192
 
-abbrev pub greatest_depth : ℕ
-greatest_depth = 1000
-
 -- a stack pointer, but for some bytes, is no further from the stack's end than frames of this depth take, and the depth is within its limit
 pub record HasSpace (sp beside depth : ℕ) : Type 0 where
   pub space : STACK_END ≤ sp + beside + largest_frame * depth
-  pub shallow : depth ≤ greatest_depth
+  pub shallow : depth ≤ DEEPEST
 
 -- the first return address is 40 bytes below the stack's end; a record takes at most 1,600 bytes
 abbrev pub below_end : ℕ

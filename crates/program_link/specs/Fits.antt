@@ -1,6 +1,7 @@
 -- Programs that can be linked: the limits that keep every frame within 8,192 bytes and the image within 256 MiB (own).
 use Rattle.std.specs.Prelude.{ℕ, ◌+◌, ◌-◌, ◌*◌, ◌^◌, ◌<◌, ◌≤◌, List, [], ◌∷◌, length}
 use Rattle.std.specs.List.{AllByRecursion}
+use Rattle.seh_num.specs.declared.limit.TheConstants.{MOST_PARAMETERS}
 use Rattle.linear_code.specs.declared.slot.Slot.{Slot}
 use Rattle.linear_code.specs.declared.slot.Slot.TheVariants.{Local, Temporary}
 use Rattle.linear_code.specs.declared.instruction.Instruction.{Instruction}
@@ -23,7 +24,7 @@ FitsInstruction b (instructions.Compute to o first second) = FitsSlot b to × Fi
 FitsInstruction b (instructions.Information to field) = FitsSlot b to × IsFieldNear field
 FitsInstruction b (instructions.Landing to) = FitsSlot b to
 FitsInstruction b (instructions.JumpIfZero slot label) = FitsSlot b slot
-FitsInstruction b (instructions.Call function first count) = (first < b.temporaries) × (count ≤ 8)
+FitsInstruction b (instructions.Call function first count) = (first < b.temporaries) × (count ≤ MOST_PARAMETERS)
 FitsInstruction b (instructions.CallBuiltIn function first) = first < b.temporaries
 FitsInstruction b (instructions.Return from) = FitsSlot b from
 FitsInstruction b other = Unit {0}
@@ -36,7 +37,7 @@ pub record FitsBody (b : LinearBody) : Type 0 where
   pub regions : length b.regions ≤ 2 ^ 24
 
 pub record FitsFunction (f : LinearFunction) : Type 0 where
-  pub parameters : f.parameters ≤ 8
+  pub parameters : f.parameters ≤ MOST_PARAMETERS
   pub body : FitsBody f.body
 
 abbrev pub FitsKind : LinearBody → FuncletKind → Type 0

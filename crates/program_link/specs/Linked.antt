@@ -1,5 +1,6 @@
 -- The image of a program: its globals, its routines, and their tables.
 use Rattle.std.specs.Prelude.{ℕ, ◌+◌, ◌-◌, List, [], ◌∷◌, length, get_or, max, take, drop}
+use Rattle.host_layout.specs.declared.range.TheConstants.{DATA_AT}
 use Rattle.eh_tables.specs.Written.{table_bytes}
 use Rattle.pe_write.specs.declared.sizes.Sizes.{Sizes}
 use Rattle.pe_write.specs.Program.{Program, rdata_at, xdata_at}
@@ -20,7 +21,7 @@ data_size globals = pages_of (length globals)
 
 -- the text begins after the page of the headers and the data
 abbrev pub text_begin : List ℕ → ℕ
-text_begin globals = 0x1000 + data_size globals
+text_begin globals = DATA_AT + data_size globals
 
 abbrev pub first : List ℕ → ℕ
 first globals = first_routine_at (text_begin globals)

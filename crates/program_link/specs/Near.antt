@@ -1,6 +1,7 @@
 -- Routines whose slots and frames 32-bit displacements reach.
 use Rattle.std.specs.Prelude.{ℕ, ◌+◌, ◌^◌, ◌<◌, ◌≤◌, List, length, get_or, Option, Some, None}
 use Rattle.std.specs.List.{AllByRecursion}
+use Rattle.seh_num.specs.declared.limit.TheConstants.{MOST_PARAMETERS}
 use Rattle.linear_code.specs.declared.slot.Slot.TheVariants.{Local}
 use Rattle.frame_layout.specs.declared.frame.Frame.{Frame}
 use Rattle.template_code.specs.declared.layout.Layout.{Layout}
@@ -17,7 +18,7 @@ IsFrameNear None = Unit {0}
 IsFrameNear (Some f) = (0 < f.size) × (f.size ≤ 8184)
 
 abbrev pub IsEntryNear : Layout → Entry → Type 0
-IsEntryNear y (entries.Function count) = (count ≤ 8) × AreParametersNear y count
+IsEntryNear y (entries.Function count) = (count ≤ MOST_PARAMETERS) × AreParametersNear y count
 IsEntryNear y (entries.Filter parent) = IsKeptNear parent (base_of y y.base) × ArePointersNear y
 IsEntryNear y (entries.Finally parent flag) = IsKeptNear parent (base_of y y.base) × IsSlotNear y (Local flag)
 

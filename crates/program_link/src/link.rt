@@ -15,21 +15,19 @@ use crate::place::{FRONT_SIZE, bounds_of};
 use crate::routine::{Routine, routines};
 use crate::tables::{Tables, tables_of};
 use crate::text::{Site, text_of};
+use host_layout::range::{self, PAGE};
 use linear_code::program::IrProgram;
 use pe_write::{Image, Sizes, write};
 use std::alloc::{AllocError, Global};
 
-/// The bytes of a page.
-const PAGE: u64 = 4096;
-
-/// Where `.data` begins, after the page of the headers.
-const DATA_AT: u32 = 0x1000;
+/// Where `.data` begins.
+const DATA_AT: u32 = range::DATA_AT as u32;
 
 /// The whole pages of `.data`, at least one.
 fn data_pages(size: u64) -> u32
     requires { size ≤ 2 ^ 20 }
     ensures value { result ≡ spec.pages_of size }
-    ensures small { result ≤ 2 ^ 20 + 4096 }
+    ensures small { result ≤ 2 ^ 20 + PAGE }
 {
     (size.max(1).div_ceil(PAGE) * PAGE) as u32
 }

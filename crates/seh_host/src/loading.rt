@@ -12,6 +12,7 @@ use crate::binding::{bind_all, first_unknown};
 use crate::host::Host;
 use crate::mapping::{has_entry, has_place, regions};
 use eh_tables::Tables;
+use host_layout::range::FIRST_STACK;
 use image_funclets::gathering::funclets_in;
 use pe_image::ImageView;
 use seh_num::extension::wrap;
@@ -26,7 +27,7 @@ fn first_cpu(entry: u64, arg: i64) -> Cpu
 {
     let mut registers = [0; 16];
     registers[1] = wrap(Width::W64, i128::from(arg));
-    registers[4] = 0x707F_FFD8;
+    registers[4] = FIRST_STACK;
     Cpu {
         registers,
         rip: entry,

@@ -9,6 +9,7 @@ use Rattle.seh_num.specs.declared.end.Reason.{Reason}
 use Rattle.seh_num.specs.declared.end.Reason.TheVariants.{Illegal, BadRecord, Unreadable, Backward, LostFrame}
 use Rattle.seh_num.specs.declared.end.RunEnd.{RunEnd}
 use Rattle.seh_num.specs.declared.end.RunEnd.TheVariants.{Exit, Unhandled, StackLimit, OutOfTurns, Stopped}
+use Rattle.seh_num.specs.declared.code.TheConstants.{ACCESS_VIOLATION}
 
 -- the last digits of a number in base 16, so many, in upper case
 unfoldable pub hexadecimal : ℕ → ℕ → List ℕ
@@ -26,10 +27,6 @@ abbrev pub flag_text : Bool → List ℕ
 flag_text true = codes "1"
 flag_text false = codes "0"
 
--- the code of an access violation
-abbrev pub access_violation : ℕ
-access_violation = 0xC000_0005
-
 abbrev pub access_text : Option (Bool × ℕ) → List ℕ
 access_text None = []
 access_text (Some (write, address)) = (if write then codes " write " else codes " read ") ++ address_text address
@@ -38,7 +35,7 @@ access_text (Some (write, address)) = (if write then codes " write " else codes 
 abbrev pub raise_text : Code → Bool → Option (Bool × ℕ) → List ℕ
 raise_text code flag access =
     codes "raise " ++ code_text code ++ codes " " ++ flag_text flag
-    ++ (if code.0 == access_violation then access_text access else [])
+    ++ (if code.0 == ACCESS_VIOLATION.0 then access_text access else [])
 
 abbrev pub event_text : Event → List ℕ
 event_text (Put v) = signed_decimal v

@@ -8,9 +8,12 @@
 //! `specs/Division.antt`).
 #![tactic(auto)]
 
+pub mod code;
 pub mod division;
 pub mod end;
 pub mod event;
 pub mod extension;
+pub mod limit;
+pub mod size;
 pub mod steps;
 pub mod width;

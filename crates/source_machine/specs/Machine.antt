@@ -21,6 +21,7 @@ use Rattle.c_model.specs.Tasks as tasks
 use Rattle.c_model.specs.Tasks.{Handler, Task}
 use Rattle.c_model.specs.Expressions.{of_test, no_exception, raised, is_some}
 use Rattle.c_model.specs.Raises.{raise_event}
+use Rattle.c_model.specs.declared.depth.TheConstants.{DEEPEST, TOO_DEEP}
 use Rattle.source_machine.specs.Frames as frames
 use Rattle.source_machine.specs.Frames.{Place, Callee, ForLoop, OperandFrame, AssignmentFrame, StatementFrame, SequelFrame, BodyFrame, Frame, Operand, Assignment, InStatement, Sequel, Body, EndsCall, Lands, Finishes, Next, Over, Give, Start, Begin, Plan, Then, Push}
 use Rattle.source_machine.specs.Plans.{node_plan, expression_plan, find_plan, pass_plan, operand_plan, assignment_plan, load_plan, store_plan, proceed_plan, declare_plan, evaluates, evaluated, for_body, statement_plan, in_statement_plan, sequel_plan, body_plan}
@@ -47,11 +48,11 @@ abbrev pub over : Machine → Result → Machine
 over m how = record m { next = Over how }
 
 abbrev pub unless_deep : Bool → Machine → Machine → Machine
-unless_deep true m other = over m (End (Some (Deep 1001)))
+unless_deep true m other = over m (End (Some (Deep TOO_DEEP)))
 unless_deep false m other = other
 
 abbrev pub is_deep : State → ℕ → Bool
-is_deep st n = nat_lt 1000 (depth st + n)
+is_deep st n = nat_lt DEEPEST (depth st + n)
 
 -- ---- tasks
 

@@ -1,6 +1,7 @@
 -- The configuration that linear code is in, and the one that a machine shows that doesn't clear the locals of a function that begins.
 use Rattle.std.specs.Prelude.{◌≡◌, ℕ, ◌+◌, ◌-◌, nat_lt, false, List, [], ◌∷◌, length, slice_get, ℤ, Some}
 use Rattle.std.specs.List.{AllByRecursion}
+use Rattle.c_model.specs.declared.depth.TheConstants.{DEEPEST}
 use Rattle.linear_code.specs.declared.instruction.Instruction.{Instruction}
 use Rattle.linear_code.specs.declared.instruction.Instruction.TheVariants as instructions
 use Rattle.linear_code.specs.Program.{LinearProgram, LinearFunction}
@@ -41,7 +42,7 @@ TwinsGoOn = (program : LinearProgram) → ReadsNoUnset program → (c d : Config
 abbrev pub TwinsCall : Type 0
 TwinsCall = (program : LinearProgram) (c d : Configuration) (f first count : ℕ) (function : LinearFunction) (arguments values : List ℕ) → AreTwins program c d
     → instruction_at program d ≡ Some (instructions.Call f first count) → last_temporaries d.frame.temporaries first count ≡ Some arguments → slice_get program.functions f ≡ Some function
-    → nat_lt 1000 (length d.store.activations + d.frame.held + 1) ≡ false → length values ≡ function.body.locals - function.parameters → AreSmall values
+    → nat_lt DEEPEST (length d.store.activations + d.frame.held + 1) ≡ false → length values ≡ function.body.locals - function.parameters → AreSmall values
     → GoesAsTwin program (instructions.Call f first count) c (called_with c d f first function arguments values)
 
 abbrev pub TwinsStart : Type 0

@@ -2,6 +2,7 @@
 use Rattle.std.specs.Prelude.{◌≡◌, ℕ, zero, suc, ◌+◌, ◌≤◌, Bool, true, false, nat_lt, List, [], ◌∷◌, map, drop, option_map, Option, Some, None, Result, Ok, Err, slice_set}
 use Rattle.seh_num.specs.declared.event.Event.{Event}
 use Rattle.seh_num.specs.declared.event.Event.TheVariants as events
+use Rattle.seh_num.specs.declared.size.TheConstants.{LONGEST_INSTRUCTION}
 use Rattle.host_layout.specs.declared.service.Service.{Service}
 use Rattle.host_layout.specs.declared.service.Service.TheVariants as services
 use Rattle.host_layout.specs.Services.{service_at}
@@ -63,7 +64,7 @@ served o cs = cs
 
 -- by what is at RIP: an instruction, a service of the host or one of its return addresses, an instruction that faults
 abbrev pub by_step : State → State → List Event → List Context → Answer State → List Context
-by_step s u es cs (Ok v) = entered u cs (is_call (leading (executable s.memory 15 s.cpu.rip)))
+by_step s u es cs (Ok v) = entered u cs (is_call (leading (executable s.memory LONGEST_INSTRUCTION s.cpu.rip)))
 by_step s u es cs (Err (stops.Host a)) = started u es (served (service_at a) cs)
 by_step s u es cs (Err e) = started u es cs
 

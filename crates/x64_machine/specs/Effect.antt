@@ -5,6 +5,8 @@ use Rattle.seh_num.specs.declared.width.Width.TheVariants.{W8, W64}
 use Rattle.seh_num.specs.declared.division.DivFault.{DivFault}
 use Rattle.seh_num.specs.declared.division.DivFault.TheVariants as faults
 use Rattle.seh_num.specs.Widths.{limit, half, low, signed, wrapped}
+use Rattle.seh_num.specs.declared.code.TheConstants.{ACCESS_VIOLATION, INTEGER_DIVIDE_BY_ZERO, INTEGER_OVERFLOW}
+use Rattle.seh_num.specs.declared.size.TheConstants.{LONGEST_INSTRUCTION}
 use Rattle.flat_memory.specs.declared.access.RefusedAccess.{RefusedAccess}
 use Rattle.flat_memory.specs.declared.access.RefusedAccess.TheVariants as accesses
 use Rattle.flat_memory.specs.Memory.{Memory, executable, loaded, stored, after_store}
@@ -83,7 +85,7 @@ with_rip s a = record s { cpu = record s.cpu { rip = a } }
 
 -- a refused access is an access violation, but of the guard
 abbrev pub refusal : RefusedAccess → Stop
-refusal (accesses.Fault a write) = stops.Fault (record { 0 = 0xC0000005 }) (Some (write, a))
+refusal (accesses.Fault a write) = stops.Fault ACCESS_VIOLATION (Some (write, a))
 refusal (accesses.Guard a) = stops.Guard a
 
 abbrev pub granted : {A : Type 0} → Result A RefusedAccess → Answer A
@@ -203,10 +205,10 @@ multiply_by s w to from v = do
   let p = multiplied w a (low w v) s.cpu.flags in
       Ok (with_flags (record s { cpu = with_register w s.cpu to p.0 }) p.1)
 
--- no quotient: by 0 (STATUS_INTEGER_DIVIDE_BY_ZERO), or one that doesn't fit (STATUS_INTEGER_OVERFLOW)
+-- no quotient: by 0, or one that doesn't fit
 abbrev pub division_stop : DivFault → Stop
-division_stop faults.Zero = stops.Fault (record { 0 = 0xC0000094 }) None
-division_stop faults.Overflow = stops.Fault (record { 0 = 0xC0000095 }) None
+division_stop faults.Zero = stops.Fault INTEGER_DIVIDE_BY_ZERO None
+division_stop faults.Overflow = stops.Fault INTEGER_OVERFLOW None
 
 abbrev pub with_quotient : State → Width → Result (ℕ × ℕ) DivFault → Answer State
 with_quotient s w (Ok x) = Ok (record s { cpu = with_register w (with_register w s.cpu Rax x.0) Rdx x.1 })
@@ -318,7 +320,7 @@ hosted a (Some services.CSpecificHandler) = stops.Illegal a
 hosted a (Some service) = stops.Host a
 
 unfoldable pub step : State → Answer State
-step s = if in_host_page s.cpu.rip then Err (hosted s.cpu.rip (service_at s.cpu.rip)) else execute s (leading (executable s.memory 15 s.cpu.rip))
+step s = if in_host_page s.cpu.rip then Err (hosted s.cpu.rip (service_at s.cpu.rip)) else execute s (leading (executable s.memory LONGEST_INSTRUCTION s.cpu.rip))
 
 -- ---- what the code answers
 

@@ -8,6 +8,7 @@ use crate::effect::effect;
 use crate::outcome::{StepOutcome, Stop};
 use host_layout::range::{HOST_PAGE_END, HOST_PAGE_START};
 use host_layout::service::Service;
+use seh_num::size::LONGEST_INSTRUCTION;
 use x64_instr::decoding::decode;
 use x64_instr::instruction::Instr;
 use x64_memory::space::AddressSpace;
@@ -78,7 +79,7 @@ pub fn step<S: AddressSpace>(cpu: &mut Cpu, space: &mut S) -> StepOutcome
     if HOST_PAGE_START <= cpu.rip && cpu.rip < HOST_PAGE_END {
         return refused(hosted(cpu.rip));
     }
-    let mut bytes = [0; 15];
+    let mut bytes = [0; LONGEST_INSTRUCTION];
     let count = space.fetch(cpu.rip, &mut bytes);
     let Some((instr, len)) = decode(&bytes[..count]) else {
         return StepOutcome::Illegal { rip: cpu.rip };

@@ -1,6 +1,6 @@
 -- Memory as it is mapped by regions.
 use Rattle.std.specs.Prelude.{◌≡◌, ℕ, ◌+◌, ◌%◌, ◌≤◌, ◌<◌, Bool, true, false, ◌&&◌, ◌||◌, nat_le, nat_lt, if◌then◌else◌, List, [], ◌∷◌, length, slice_index, ◌-◌}
-use Rattle.host_layout.specs.declared.range.TheConstants.{ARENA_START, ARENA_END}
+use Rattle.host_layout.specs.declared.range.TheConstants.{ARENA_START, ARENA_END, PAGE}
 use Rattle.flat_memory.specs.declared.protection.Protection.{Protection}
 use Rattle.flat_memory.specs.declared.protection.TheConstants.{UNMAPPED}
 use Rattle.flat_memory.specs.declared.protection.Rights.{Rights}
@@ -41,8 +41,8 @@ in_regions (r ∷ rs) a = covers r a || in_regions rs a
 
 -- a region of whole pages, writable only where it is readable
 pub record IsWhole (r : Region) : Type 0 where
-  pub start : r.start % 4096 ≡ 0
-  pub end : r.end % 4096 ≡ 0
+  pub start : r.start % PAGE ≡ 0
+  pub end : r.end % PAGE ≡ 0
   pub order : r.start ≤ r.end
   pub readable : r.write ≡ true → r.read ≡ true
 

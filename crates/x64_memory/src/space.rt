@@ -3,6 +3,7 @@ ghost use Rattle.seh_num.specs.Widths.{limit};
 ghost use Rattle.flat_memory.specs.Memory.{Memory, executable, loaded, stored, after_store, rights_asked, protected};
 
 use flat_memory::access::RefusedAccess;
+use seh_num::size::LONGEST_INSTRUCTION;
 use seh_num::width::Width;
 
 /// A machine's memory. What it means is a map from addresses to a protection and a byte; every method is
@@ -26,9 +27,9 @@ pub trait AddressSpace {
 
     /// The executable bytes from an address on, as many as there are of fifteen, which is the length
     /// of the longest instruction (Intel manual, volume 2, "Instruction Format").
-    fn fetch(&self, at: u64, into: &mut [u8; 15]) -> usize
-        ensures count { result ≤ 15 }
-        ensures bytes { take result into.new ≡ executable (memory self.now) 15 at };
+    fn fetch(&self, at: u64, into: &mut [u8; LONGEST_INSTRUCTION]) -> usize
+        ensures count { result ≤ LONGEST_INSTRUCTION }
+        ensures bytes { take result into.new ≡ executable (memory self.now) LONGEST_INSTRUCTION at };
 
     /// Sets what may be done with the page of the arena that holds an address, by the number of the
     /// rights: none (0), reading (1), reading and writing (2). False, and nothing changed, exactly

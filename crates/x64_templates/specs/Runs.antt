@@ -1,6 +1,7 @@
 -- What a run comes to where the code of an operation is placed.
 use Rattle.std.specs.Prelude.{◌≡◌, ◌≢◌, ℕ, zero, suc, ◌+◌, ◌^◌, ◌<◌, Bool, false, List, Option, Some, Ok, Err, length}
 use Rattle.seh_num.specs.declared.event.Code.{Code}
+use Rattle.seh_num.specs.declared.size.TheConstants.{LONGEST_INSTRUCTION}
 use Rattle.flat_memory.specs.Memory.{Memory, may_write, executable}
 use Rattle.x64_instr.specs.declared.instruction.Instr.{Instr}
 use Rattle.x64_instr.specs.Spelling.{leading}
@@ -37,7 +38,7 @@ pub record Runs (s u : State) : Type 0 where
   pub steps : Steps s u
   pub instruction : Instr
   pub bytes : ℕ
-  pub read : leading (executable s.memory 15 s.cpu.rip) ≡ Some (instruction, bytes)
+  pub read : leading (executable s.memory LONGEST_INSTRUCTION s.cpu.rip) ≡ Some (instruction, bytes)
   pub inside : takes_frame instruction ≡ false
 
 -- so many such instructions lead from a state to another
