@@ -118,7 +118,8 @@ tighter_than : {R : Phrase} {text : List ℕ} {ts rest : List Token} (l : ℕ) (
     → rank e < l → Moves R text ts rest → Moves (λ t. TighterThan l e (R t)) text ts rest
 tighter_than l e f m = map m (λ t us vs g. record { fits = f; spells = g })
 
-enclosed : {R : Phrase} {text : List ℕ} {ts a b rest : List Token} (left right : Punctuator) (at : ℕ)
+enclosed : {R : Phrase} {text : List ℕ} {ts a b rest : List Token} (left right : Punctuator)
+    (at : ℕ)
     → IsPunctuator left at ts a → Moves R text a b → HasPunctuator right b rest
     → Moves (λ t. IsEnclosed left right at (R t)) text ts rest
 enclosed {text = text} {ts = ts} {a = a} {b = b} {rest = rest} left right at opening m closing =
@@ -347,7 +348,9 @@ accepts (Constant at (literals.CharacterConstant value)) text text' ts rest h a 
 accepts (Variable n) text text' ts rest h a = ap (λ z. bytes_eq z (codes "EXCEPTION_EXECUTE_HANDLER")) (sym (subst (λ z. Alike text text' z) h a).0)
 accepts (Information at f) text text' ts rest h a = refl
 accepts (Call n es) text text' ts rest h a = refl
-accepts (Parentheses at e) text text' ts rest h a = accepts e text text' h.after_opening h.after_inner h.inner (subst (λ z. Alike text text' z) h.opening.1 a).1
+accepts (Parentheses at e) text text' ts rest h a =
+    accepts e text text' h.after_opening h.after_inner h.inner
+    (subst (λ z. Alike text text' z) h.opening.1 a).1
 accepts (Index e at i) text text' ts rest h a = refl
 accepts (Postfix e op at) text text' ts rest h a = refl
 accepts (Prefix at op e) text text' ts rest h a = refl

@@ -53,7 +53,8 @@ pub cast_of_element : CastOfElement
 cast_of_element =
     operand (omega arith)
     (applied _
-    (enclosed (1, refl) (_, inl (_, (1, (4, refl)), refl), (_, (4, (5, refl)), refl)) (5, (6, refl)))
+    (enclosed (1, refl) (_, inl (_, (1, (4, refl)), refl), (_, (4, (5, refl)), refl))
+    (5, (6, refl)))
     (operand (omega arith)
     (continued _ (operand (omega arith) refl) (enclosed (8, refl) refl (9, (10, refl))))))
 

@@ -16,7 +16,7 @@ use Rattle.c_syntax.specs.declared.operator.Increment.TheVariants as increments
 use Rattle.c_syntax.specs.Expression.{Expression, Constant, Variable, Information, Call, Parentheses, Index, Postfix, Prefix, Unary, Cast, Binary, Conditional, Assign, Comma, height}
 use Rattle.c_syntax.specs.Expressions.{rank, IsContinued, SpellsExpression, Derives}
 use Rattle.c_syntax.specs.Follow.{punctuator_follows, kind_follows, follows, Stops}
-use Rattle.c_syntax.specs.Operators.{primary, postfix, unary, cast, conditional, assignment, comma, level, level_of_arithmetic, level_of_comparison, binary_punctuator, punctuator_of_arithmetic, punctuator_of_comparison, increment_punctuator, assignment_punctuator}
+use Rattle.c_syntax.specs.Operators.{primary, postfix, unary, cast, logical_or, conditional, assignment, comma, level, level_of_arithmetic, level_of_comparison, binary_punctuator, punctuator_of_arithmetic, punctuator_of_comparison, increment_punctuator, assignment_punctuator}
 use Rattle.c_syntax.specs.Steps.{Step, At, After, With, Choose, Set, And, apply, bound, Tail, Run, IsHead, Closes}
 use Rattle.c_syntax.specs.Tokens.{IsPunctuator}
 
@@ -28,7 +28,8 @@ pub record Spine (text : List ℕ) (e : Expression) (ts end : List Token) : Type
   pub spells : SpellsExpression text head ts after
   pub run : Run text head steps after e end
 
-one_step : (text : List ℕ) (e f : Expression) (s : Step) (ts mid end : List Token) → f ≡ e → ts ≡ mid
+one_step : (text : List ℕ) (e f : Expression) (s : Step) (ts mid end : List Token) → f ≡ e
+    → ts ≡ mid
     → rank e ≤ bound s → Tail text s mid end → Run text f (s ∷ []) ts (apply e s) end
 one_step text e f s ts mid end p q h t =
     let once : Run text e (s ∷ []) mid (apply e s) end =
@@ -90,7 +91,9 @@ spine text (Comma e at f) ts end h =
 
 -- ---- levels
 
-arithmetic_levels : (op : Arithmetic) → (4 ≤ level_of_arithmetic op) × (level_of_arithmetic op ≤ 13) × (punctuator_follows (punctuator_of_arithmetic op) ≡ level_of_arithmetic op)
+arithmetic_levels : (op : Arithmetic)
+    → (cast < level_of_arithmetic op) × (level_of_arithmetic op ≤ logical_or) ×
+    (punctuator_follows (punctuator_of_arithmetic op) ≡ level_of_arithmetic op)
 arithmetic_levels arithmetic.Multiply = (omega arith, omega arith, refl)
 arithmetic_levels arithmetic.Divide = (omega arith, omega arith, refl)
 arithmetic_levels arithmetic.Remainder = (omega arith, omega arith, refl)
@@ -102,7 +105,9 @@ arithmetic_levels arithmetic.And = (omega arith, omega arith, refl)
 arithmetic_levels arithmetic.ExclusiveOr = (omega arith, omega arith, refl)
 arithmetic_levels arithmetic.Or = (omega arith, omega arith, refl)
 
-comparison_levels : (op : Comparison) → (4 ≤ level_of_comparison op) × (level_of_comparison op ≤ 13) × (punctuator_follows (punctuator_of_comparison op) ≡ level_of_comparison op)
+comparison_levels : (op : Comparison)
+    → (cast < level_of_comparison op) × (level_of_comparison op ≤ logical_or) ×
+    (punctuator_follows (punctuator_of_comparison op) ≡ level_of_comparison op)
 comparison_levels comparisons.Less = (omega arith, omega arith, refl)
 comparison_levels comparisons.Greater = (omega arith, omega arith, refl)
 comparison_levels comparisons.LessEqual = (omega arith, omega arith, refl)
@@ -110,7 +115,9 @@ comparison_levels comparisons.GreaterEqual = (omega arith, omega arith, refl)
 comparison_levels comparisons.Equal = (omega arith, omega arith, refl)
 comparison_levels comparisons.NotEqual = (omega arith, omega arith, refl)
 
-pub levels : (op : BinaryOperator) → (4 ≤ level op) × (level op ≤ 13) × (punctuator_follows (binary_punctuator op) ≡ level op)
+pub levels : (op : BinaryOperator)
+    → (cast < level op) × (level op ≤ logical_or) ×
+    (punctuator_follows (binary_punctuator op) ≡ level op)
 levels (binary.Arithmetic op) = arithmetic_levels op
 levels (binary.Comparison op) = comparison_levels op
 levels binary.LogicalAnd = (omega arith, omega arith, refl)
@@ -139,15 +146,24 @@ pub follows_punctuator : (s : Punctuator) (at : ℕ) (ts rest : List Token) (l :
 follows_punctuator s at ts rest l h p = ap follows h.1 ∙ p
 
 pub step_follows : (text : List ℕ) (e : Expression) (s : Step) (ts rest : List Token) → Tail text s ts rest → follows ts ≡ rank (apply e s)
-step_follows text e (At at i) ts rest h = follows_punctuator punctuators.OpenBracket at ts h.after_opening postfix h.opening refl
-step_follows text e (After op at) ts rest h = follows_punctuator (increment_punctuator op) at ts rest postfix h (increment_follows op)
-step_follows text e (With at op f) ts rest h = follows_punctuator (binary_punctuator op) at ts h.after_operator (level op) h.operator (levels op).2
-step_follows text e (Choose at f g) ts rest h = follows_punctuator punctuators.Question at ts h.operator.after_opening conditional h.operator.opening refl
-step_follows text e (Set at op f) ts rest h = follows_punctuator (assignment_punctuator op) at ts h.after_operator assignment h.operator (assignment_follows op)
-step_follows text e (And at f) ts rest h = follows_punctuator punctuators.Comma at ts h.after_operator comma h.operator refl
+step_follows text e (At at i) ts rest h =
+    follows_punctuator punctuators.OpenBracket at ts h.after_opening postfix h.opening refl
+step_follows text e (After op at) ts rest h =
+    follows_punctuator (increment_punctuator op) at ts rest postfix h (increment_follows op)
+step_follows text e (With at op f) ts rest h =
+    follows_punctuator (binary_punctuator op) at ts h.after_operator (level op) h.operator
+    (levels op).2
+step_follows text e (Choose at f g) ts rest h =
+    follows_punctuator punctuators.Question at ts h.operator.after_opening conditional
+    h.operator.opening refl
+step_follows text e (Set at op f) ts rest h =
+    follows_punctuator (assignment_punctuator op) at ts h.after_operator assignment h.operator
+    (assignment_follows op)
+step_follows text e (And at f) ts rest h =
+    follows_punctuator punctuators.Comma at ts h.after_operator comma h.operator refl
 
--- no punctuator is after an operand at the levels 2 and 3
-punctuator_gap : (s : Punctuator) → 2 < punctuator_follows s → 4 ≤ punctuator_follows s
+-- no punctuator is after an operand at the levels of unary operators and casts
+punctuator_gap : (s : Punctuator) → unary < punctuator_follows s → cast < punctuator_follows s
 punctuator_gap punctuators.OpenParenthesis h = omega arith
 punctuator_gap punctuators.CloseParenthesis h = omega arith
 punctuator_gap punctuators.OpenBracket h = omega arith
@@ -193,7 +209,7 @@ punctuator_gap punctuators.Tilde h = omega arith
 punctuator_gap punctuators.PlusPlus h = omega arith
 punctuator_gap punctuators.MinusMinus h = omega arith
 
-kind_gap : (k : Kind) → 2 < kind_follows k → 4 ≤ kind_follows k
+kind_gap : (k : Kind) → unary < kind_follows k → cast < kind_follows k
 kind_gap kinds.Identifier h = omega arith
 kind_gap (kinds.Keyword k) h = omega arith
 kind_gap (kinds.Reserved r) h = omega arith
@@ -201,7 +217,7 @@ kind_gap (kinds.Integer value type) h = omega arith
 kind_gap (kinds.CharacterConstant value) h = omega arith
 kind_gap (kinds.Punctuator s) h = punctuator_gap s h
 
-gap : (ts : List Token) → 2 < follows ts → 4 ≤ follows ts
+gap : (ts : List Token) → unary < follows ts → cast < follows ts
 gap [] h = omega arith
 gap (t ∷ ts) h = kind_gap t.kind h
 
@@ -240,11 +256,11 @@ closes (Comma a at b) ts h = h
 
 -- what follows an expression of a level b ends its last operand too
 pub record Wide (b f : ℕ) : Type 0 where
-  positive : 0 < f
+  positive : primary < f
   low : b ≤ f
-  two : 2 ≤ b → 4 ≤ f
-  fourteen : 14 ≤ b → 15 ≤ f
-  fifteen : 15 ≤ b → 16 ≤ f
+  from_unary : unary ≤ b → cast < f
+  from_conditional : conditional ≤ b → conditional < f
+  from_assignment : assignment ≤ b → assignment < f
 
 pub reaches : (e : Expression) (b f : ℕ) → rank e ≤ b → Wide b f → reach e < f
 reaches (Constant at literal) b f h w = w.positive
@@ -254,24 +270,69 @@ reaches (Call name es) b f h w = w.positive
 reaches (Parentheses at e) b f h w = w.positive
 reaches (Index a at i) b f h w = w.positive
 reaches (Postfix e op at) b f h w = w.positive
-reaches (Prefix at op e) b f h w = let x = w.two (omega arith) in omega arith
-reaches (Unary at op e) b f h w = let x = w.two (omega arith) in omega arith
-reaches (Cast at to e) b f h w = let x = w.two (omega arith) in omega arith
+reaches (Prefix at op e) b f h w = let x = w.from_unary (omega arith) in omega arith
+reaches (Unary at op e) b f h w = let x = w.from_unary (omega arith) in omega arith
+reaches (Cast at to e) b f h w = let x = w.from_unary (omega arith) in omega arith
 reaches (Binary a at op c) b f h w = let x = w.low in let y = (levels op).0 in omega arith
-reaches (Conditional c at a d) b f h w = let x = w.fourteen (omega arith) in omega arith
-reaches (Assign a at op c) b f h w = let x = w.fifteen (omega arith) in omega arith
-reaches (Comma a at c) b f h w = let x = w.fifteen (omega arith) in omega arith
+reaches (Conditional c at a d) b f h w = let x = w.from_conditional (omega arith) in omega arith
+reaches (Assign a at op c) b f h w = let x = w.from_assignment (omega arith) in omega arith
+reaches (Comma a at c) b f h w = let x = w.from_assignment (omega arith) in omega arith
 
 pub wide_step : (s : Step) (e : Expression) → Wide (bound s) (rank (apply e s))
-wide_step (At at i) e = record { positive = omega arith; low = omega arith; two = λ h. absurd (omega arith); fourteen = λ h. absurd (omega arith); fifteen = λ h. absurd (omega arith) }
-wide_step (After op at) e = record { positive = omega arith; low = omega arith; two = λ h. absurd (omega arith); fourteen = λ h. absurd (omega arith); fifteen = λ h. absurd (omega arith) }
-wide_step (With at op f) e = let x = (levels op).0 in let y = (levels op).1 in record { positive = omega arith; low = omega arith; two = λ h. omega arith; fourteen = λ h. absurd (omega arith); fifteen = λ h. absurd (omega arith) }
-wide_step (Choose at f g) e = record { positive = omega arith; low = omega arith; two = λ h. omega arith; fourteen = λ h. absurd (omega arith); fifteen = λ h. absurd (omega arith) }
-wide_step (Set at op f) e = record { positive = omega arith; low = omega arith; two = λ h. omega arith; fourteen = λ h. absurd (omega arith); fifteen = λ h. absurd (omega arith) }
-wide_step (And at f) e = record { positive = omega arith; low = omega arith; two = λ h. omega arith; fourteen = λ h. omega arith; fifteen = λ h. omega arith }
+wide_step (At at i) e = record {
+  positive = omega arith;
+  low = omega arith;
+  from_unary = λ h. absurd (omega arith);
+  from_conditional = λ h. absurd (omega arith);
+  from_assignment = λ h. absurd (omega arith);
+}
+wide_step (After op at) e = record {
+  positive = omega arith;
+  low = omega arith;
+  from_unary = λ h. absurd (omega arith);
+  from_conditional = λ h. absurd (omega arith);
+  from_assignment = λ h. absurd (omega arith);
+}
+wide_step (With at op f) e =
+    let x = (levels op).0 in
+    let y = (levels op).1 in
+    record {
+      positive = omega arith;
+      low = omega arith;
+      from_unary = λ h. omega arith;
+      from_conditional = λ h. absurd (omega arith);
+      from_assignment = λ h. absurd (omega arith);
+    }
+wide_step (Choose at f g) e = record {
+  positive = omega arith;
+  low = omega arith;
+  from_unary = λ h. omega arith;
+  from_conditional = λ h. absurd (omega arith);
+  from_assignment = λ h. absurd (omega arith);
+}
+wide_step (Set at op f) e = record {
+  positive = omega arith;
+  low = omega arith;
+  from_unary = λ h. omega arith;
+  from_conditional = λ h. absurd (omega arith);
+  from_assignment = λ h. absurd (omega arith);
+}
+wide_step (And at f) e = record {
+  positive = omega arith;
+  low = omega arith;
+  from_unary = λ h. omega arith;
+  from_conditional = λ h. omega arith;
+  from_assignment = λ h. omega arith;
+}
 
 wide_end : (l : ℕ) (ts : List Token) → Stops l ts → Wide l (follows ts)
-wide_end l ts s = record { positive = omega arith; low = omega arith; two = λ h. gap ts (omega arith); fourteen = λ h. omega arith; fifteen = λ h. omega arith }
+wide_end l ts s = record {
+  positive = omega arith;
+  low = omega arith;
+  from_unary = λ h. gap ts (omega arith);
+  from_conditional = λ h. omega arith;
+  from_assignment = λ h. omega arith;
+}
 
 pub bound_low : (s : Step) (e : Expression) → bound s ≤ rank (apply e s)
 bound_low s e = (wide_step s e).low
@@ -284,11 +345,17 @@ run_reach text left [] ts e end l r h s =
     let x : reach left < follows end = reaches left l (follows end) (omega arith) (wide_end l end s) in omega arith
 run_reach text left (x ∷ steps) ts e end l r h s =
     let q : follows ts ≡ rank (apply left x) = step_follows text left x ts r.after_step r.step in
-    let y : reach left < rank (apply left x) = reaches left (bound x) (rank (apply left x)) r.fits (wide_step x left) in omega arith
+    let y : reach left < rank (apply left x) =
+        reaches left (bound x) (rank (apply left x)) r.fits (wide_step x left) in
+    omega arith
 
 pub run_rank : (text : List ℕ) (left : Expression) (steps : List Step) (ts : List Token) (e : Expression) (end : List Token) → Run text left steps ts e end → rank left ≤ rank e
 run_rank text left [] ts e end r = let p : rank left ≡ rank e = ap rank r.0 in omega arith
-run_rank text left (x ∷ steps) ts e end r = let a = run_rank text (apply left x) steps r.after_step e end r.others in let b = bound_low x left in let c = r.fits in omega arith
+run_rank text left (x ∷ steps) ts e end r =
+    let a = run_rank text (apply left x) steps r.after_step e end r.others in
+    let b = bound_low x left in
+    let c = r.fits in
+    omega arith
 
 step_height : (s : Step) (e : Expression) → height e ≤ height (apply e s)
 step_height (At at i) e = omega arith
@@ -300,4 +367,7 @@ step_height (And at f) e = omega arith
 
 pub run_height : (text : List ℕ) (left : Expression) (steps : List Step) (ts : List Token) (e : Expression) (end : List Token) → Run text left steps ts e end → height left ≤ height e
 run_height text left [] ts e end r = let p : height left ≡ height e = ap height r.0 in omega arith
-run_height text left (x ∷ steps) ts e end r = let a = run_height text (apply left x) steps r.after_step e end r.others in let b = step_height x left in omega arith
+run_height text left (x ∷ steps) ts e end r =
+    let a = run_height text (apply left x) steps r.after_step e end r.others in
+    let b = step_height x left in
+    omega arith

@@ -13,13 +13,16 @@ by_kind : (k : Kind) (at : ℕ) (ts rest : List Token) → IsKind k at ts rest �
 by_kind k at ts rest h =
     record { first = token k at h.0; more = rest; split = h.1; starts = refl }
 
-by_name : (name : Identifier) (ts rest : List Token) → IsIdentifier name ts rest → StartsAt name.start ts
+by_name : (name : Identifier) (ts rest : List Token) → IsIdentifier name ts rest
+    → StartsAt name.start ts
 by_name name ts rest h = by_kind kinds.Identifier name.start ts rest (name.end, h)
 
-starts : (text : List ℕ) (e : Expression) (ts rest : List Token) → SpellsExpression text e ts rest → StartsAt (start e) ts
+starts : (text : List ℕ) (e : Expression) (ts rest : List Token) → SpellsExpression text e ts rest
+    → StartsAt (start e) ts
 starts text (Constant at literal) ts rest h = by_kind _ at ts rest h
 starts text (Variable name) ts rest h = by_name name ts rest h
-starts text (Information at field) ts rest h = by_kind _ at ts h.introduction.after_keyword h.introduction.keyword
+starts text (Information at field) ts rest h =
+    by_kind _ at ts h.introduction.after_keyword h.introduction.keyword
 starts text (Call name es) ts rest h = by_name name ts h.after_name h.called
 starts text (Parentheses at e) ts rest h = by_kind _ at ts h.after_opening h.opening
 starts text (Index a at i) ts rest h = starts text a ts h.after_operand h.operand.spells

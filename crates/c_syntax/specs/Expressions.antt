@@ -58,7 +58,8 @@ pub record OfLevel (l : ℕ) (e : Expression) (Spelled : Phrase) (ts rest : List
   pub spells : Spelled ts rest
 
 -- an expression that is tighter than a level
-pub record TighterThan (l : ℕ) (e : Expression) (Spelled : Phrase) (ts rest : List Token) : Type 0 where
+pub record TighterThan (l : ℕ) (e : Expression) (Spelled : Phrase) (ts rest : List Token)
+    : Type 0 where
   pub fits : rank e < l
   pub spells : Spelled ts rest
 
@@ -154,7 +155,8 @@ abbrev mutual
   SpellsExpression text (Information at field) = IsInformation text at field
   SpellsExpression text (Call name es) = IsCall name (SpellsArguments text es)
   SpellsExpression text (Parentheses at e) =
-      IsEnclosed punctuators.OpenParenthesis punctuators.CloseParenthesis at (SpellsExpression text e)
+      IsEnclosed punctuators.OpenParenthesis punctuators.CloseParenthesis at
+      (SpellsExpression text e)
   SpellsExpression text (Index e at i) =
       IsContinued (OfLevel postfix e (SpellsExpression text e))
       (IsEnclosed punctuators.OpenBracket punctuators.CloseBracket at (SpellsExpression text i))
@@ -196,7 +198,8 @@ abbrev mutual
   pub SpellsMoreArguments : List ℕ → Arguments → Phrase
   SpellsMoreArguments text Done = HasPunctuator punctuators.CloseParenthesis
   SpellsMoreArguments text (Next e es) =
-      AreMoreArguments (OfLevel assignment e (SpellsExpression text e)) (SpellsMoreArguments text es)
+      AreMoreArguments (OfLevel assignment e (SpellsExpression text e))
+      (SpellsMoreArguments text es)
 
 -- The tokens before the rest are an expression of a level.
 abbrev pub Derives : List ℕ → ℕ → Expression → Phrase
