@@ -1,15 +1,12 @@
 -- There is one tree at most for an expression that stops.
-use Rattle.std.proofs.Common.{◌≡◌, ◌≤◌, ◌<◌, ◌-◌, ℕ, zero, suc, List, [], ◌∷◌, Option, codes, slice_range, length, refl, sym, ap, ◌∙◌, subst, arith}
+use Rattle.std.proofs.Common.{◌≡◌, ◌≤◌, ℕ, zero, suc, List, codes, slice_range, length, refl, sym, ap, ◌∙◌, subst, arith}
 use Rattle.c_lex.specs.declared.keyword.Keyword.TheVariants as keywords
 use Rattle.c_lex.specs.declared.punctuator.Punctuator.{Punctuator}
 use Rattle.c_lex.specs.declared.punctuator.Punctuator.TheVariants as punctuators
 use Rattle.c_lex.specs.declared.token.Kind.TheVariants as kinds
 use Rattle.c_lex.specs.declared.token.Token.{Token}
-use Rattle.c_syntax.specs.declared.operator.Arithmetic.{Arithmetic}
-use Rattle.c_syntax.specs.declared.operator.BinaryOperator.{BinaryOperator}
 use Rattle.c_syntax.specs.declared.operator.UnaryOperator.{UnaryOperator}
 use Rattle.c_syntax.specs.declared.operator.Increment.{Increment}
-use Rattle.c_syntax.specs.declared.operator.Increment.TheVariants as increments
 use Rattle.c_syntax.specs.declared.expression.CType.{CType}
 use Rattle.c_syntax.specs.declared.expression.Field.{Field}
 use Rattle.c_syntax.specs.declared.expression.Field.TheVariants as fields
@@ -17,13 +14,13 @@ use Rattle.c_syntax.specs.declared.expression.Literal.{Literal}
 use Rattle.c_syntax.specs.declared.expression.Literal.TheVariants as literals
 use Rattle.c_syntax.specs.declared.expression.Identifier.{Identifier}
 use Rattle.c_syntax.specs.Expression.{Expression, Constant, Variable, Information, Call, Parentheses, Index, Postfix, Prefix, Unary, Cast, Binary, Conditional, Assign, Comma, Arguments, Done, Next, height, heights}
-use Rattle.c_syntax.specs.Expressions.{rank, literal_kind, TighterThan, IsInteger, IsField, SpellsExpression, SpellsArguments, SpellsMoreArguments, Derives}
-use Rattle.c_syntax.specs.Follow.{punctuator_follows, follows, Stops, OneExpression}
-use Rattle.c_syntax.specs.Operators.{primary, unary, cast, conditional, assignment, comma, level, binary_punctuator, unary_punctuator, increment_punctuator, assignment_punctuator}
+use Rattle.c_syntax.specs.Expressions.{literal_kind, IsInteger, IsField, SpellsExpression, SpellsArguments, SpellsMoreArguments, Derives}
+use Rattle.c_syntax.specs.Follow.{follows, Stops, OneExpression}
+use Rattle.c_syntax.specs.Operators.{primary, unary, cast, assignment, comma, unary_punctuator, increment_punctuator}
 use Rattle.c_syntax.specs.Tokens.{HasPunctuator, HasWord}
-use Rattle.c_syntax.specs.Steps.{Step, At, After, With, Choose, Set, And, apply, Tail, Run, IsHead, Closes}
-use Rattle.c_syntax.proofs.Spine.{spine, levels, follows_punctuator, step_follows, closes, run_reach, run_rank, run_height}
-use Rattle.c_syntax.proofs.Fronts.{kind_same, punctuator_same, has_same, name_same, same_binary, same_unary, same_increment, same_assignment, punctuator_class, kind_class, front, increment_class, unary_class, base_front, type_once, close_type, close_star}
+use Rattle.c_syntax.specs.Steps.{Run, IsHead, Closes}
+use Rattle.c_syntax.proofs.Spine.{spine, follows_punctuator, closes, run_reach, run_height}
+use Rattle.c_syntax.proofs.Fronts.{kind_same, punctuator_same, has_same, name_same, same_unary, same_increment, punctuator_class, kind_class, front, increment_class, unary_class, base_front, type_once, close_type, close_star}
 pub use Rattle.c_syntax.proofs.OneStep.{Below, rank_low, has_stops, same_tail}
 use Rattle.c_syntax.proofs.OneStep.{part, whole, same_run}
 
@@ -106,19 +103,19 @@ more_once : (text : List ℕ) (n : ℕ) (es fs : Arguments) (ts us rest end : Li
 more_once text n Done Done ts us rest end u p low h g = (refl, has_same punctuators.CloseParenthesis ts us rest end p h g)
 more_once text n Done (Next f fs) ts us rest end u p low h g =
     let e : punctuators.CloseParenthesis ≡ punctuators.Comma = other_punctuator
-        punctuators.CloseParenthesis punctuators.Comma ts us rest g.after_comma p h g.comma in
+    punctuators.CloseParenthesis punctuators.Comma ts us rest g.after_comma p h g.comma in
     absurd cc
 more_once text n (Next e es) Done ts us rest end u p low h g =
     let e : punctuators.Comma ≡ punctuators.CloseParenthesis = other_punctuator punctuators.Comma
-        punctuators.CloseParenthesis ts us h.after_comma end p h.comma g in
+    punctuators.CloseParenthesis ts us h.after_comma end p h.comma g in
     absurd cc
 more_once text n (Next e es) (Next f fs) ts us rest end u p low h g =
     let a = has_same punctuators.Comma ts us h.after_comma g.after_comma p h.comma g.comma in
     let b = part text n assignment e f h.after_comma g.after_comma h.after_next g.after_next u a
-        (omega arith) h.next g.next (more_stops text es h.after_next rest h.others)
-        (more_stops text fs g.after_next end g.others) in
+    (omega arith) h.next g.next (more_stops text es h.after_next rest h.others)
+    (more_stops text fs g.after_next end g.others) in
     let c = more_once text n es fs h.after_next g.after_next rest end u b.1 (omega arith) h.others
-        g.others in
+    g.others in
     (ap (λ (x : Expression). Next x es) b.0 ∙ ap (λ (x : Arguments). Next f x) c.0, c.1)
 
 arguments_once : (text : List ℕ) (n : ℕ) (es fs : Arguments) (ts us rest end : List Token) → Below text n → ts ≡ us → heights es ≤ n → SpellsArguments text es ts rest → SpellsArguments text fs us end → (es ≡ fs) × (rest ≡ end)
@@ -133,10 +130,10 @@ arguments_once text n (Next e es) Done ts us rest end u p low h g =
     let c = ap front p in absurd (omega arith)
 arguments_once text n (Next e es) (Next f fs) ts us rest end u p low h g =
     let b = part text n assignment e f ts us h.after_first g.after_first u p (omega arith) h.first
-        g.first (more_stops text es h.after_first rest h.others)
-        (more_stops text fs g.after_first end g.others) in
+    g.first (more_stops text es h.after_first rest h.others)
+    (more_stops text fs g.after_first end g.others) in
     let c = more_once text n es fs h.after_first g.after_first rest end u b.1 (omega arith) h.others
-        g.others in
+    g.others in
     (ap (λ (x : Expression). Next x es) b.0 ∙ ap (λ (x : Arguments). Next f x) c.0, c.1)
 
 -- ---- fields and literals
@@ -165,8 +162,8 @@ field_once text fields.Code fields.Flags ts us rest end p h g = let e : codes "E
 field_once text fields.Code fields.Count ts us rest end p h g = let e : codes "ExceptionCode" ≡ codes "NumberParameters" = (word_same text (codes "ExceptionCode") (codes "NumberParameters") ts us rest end p h g).0 in let q = ap length e in absurd (omega arith)
 field_once text fields.Code (fields.Information number to) ts us rest end p h g =
     let e : codes "ExceptionCode" ≡ codes "ExceptionInformation" =
-        (word_same text (codes "ExceptionCode") (codes "ExceptionInformation") ts us rest
-        g.after_word p h g.word).0 in
+    (word_same text (codes "ExceptionCode") (codes "ExceptionInformation") ts us rest
+    g.after_word p h g.word).0 in
     let q = ap length e in
     absurd (omega arith)
 field_once text fields.Flags fields.Code ts us rest end p h g = let e : codes "ExceptionFlags" ≡ codes "ExceptionCode" = (word_same text (codes "ExceptionFlags") (codes "ExceptionCode") ts us rest end p h g).0 in let q = ap length e in absurd (omega arith)
@@ -174,8 +171,8 @@ field_once text fields.Flags fields.Flags ts us rest end p h g = (refl, (word_sa
 field_once text fields.Flags fields.Count ts us rest end p h g = let e : codes "ExceptionFlags" ≡ codes "NumberParameters" = (word_same text (codes "ExceptionFlags") (codes "NumberParameters") ts us rest end p h g).0 in let q = ap length e in absurd (omega arith)
 field_once text fields.Flags (fields.Information number to) ts us rest end p h g =
     let e : codes "ExceptionFlags" ≡ codes "ExceptionInformation" =
-        (word_same text (codes "ExceptionFlags") (codes "ExceptionInformation") ts us rest
-        g.after_word p h g.word).0 in
+    (word_same text (codes "ExceptionFlags") (codes "ExceptionInformation") ts us rest
+    g.after_word p h g.word).0 in
     let q = ap length e in
     absurd (omega arith)
 field_once text fields.Count fields.Code ts us rest end p h g = let e : codes "NumberParameters" ≡ codes "ExceptionCode" = (word_same text (codes "NumberParameters") (codes "ExceptionCode") ts us rest end p h g).0 in let q = ap length e in absurd (omega arith)
@@ -183,37 +180,38 @@ field_once text fields.Count fields.Flags ts us rest end p h g = let e : codes "
 field_once text fields.Count fields.Count ts us rest end p h g = (refl, (word_same text (codes "NumberParameters") (codes "NumberParameters") ts us rest end p h g).1)
 field_once text fields.Count (fields.Information number to) ts us rest end p h g =
     let e : codes "NumberParameters" ≡ codes "ExceptionInformation" =
-        (word_same text (codes "NumberParameters") (codes "ExceptionInformation") ts us rest
-        g.after_word p h g.word).0 in
+    (word_same text (codes "NumberParameters") (codes "ExceptionInformation") ts us rest
+    g.after_word p h g.word).0 in
     let q = ap length e in
     absurd (omega arith)
 field_once text (fields.Information index at) fields.Code ts us rest end p h g =
     let e : codes "ExceptionInformation" ≡ codes "ExceptionCode" =
-        (word_same text (codes "ExceptionInformation") (codes "ExceptionCode") ts us h.after_word
-        end p h.word g).0 in
+    (word_same text (codes "ExceptionInformation") (codes "ExceptionCode") ts us h.after_word
+    end p h.word g).0 in
     let q = ap length e in
     absurd (omega arith)
 field_once text (fields.Information index at) fields.Flags ts us rest end p h g =
     let e : codes "ExceptionInformation" ≡ codes "ExceptionFlags" =
-        (word_same text (codes "ExceptionInformation") (codes "ExceptionFlags") ts us h.after_word
-        end p h.word g).0 in
+    (word_same text (codes "ExceptionInformation") (codes "ExceptionFlags") ts us h.after_word
+    end p h.word g).0 in
     let q = ap length e in
     absurd (omega arith)
 field_once text (fields.Information index at) fields.Count ts us rest end p h g =
     let e : codes "ExceptionInformation" ≡ codes "NumberParameters" =
-        (word_same text (codes "ExceptionInformation") (codes "NumberParameters") ts us h.after_word
-        end p h.word g).0 in
+    (word_same text (codes "ExceptionInformation") (codes "NumberParameters") ts us h.after_word
+    end p h.word g).0 in
     let q = ap length e in
     absurd (omega arith)
 field_once text (fields.Information index at) (fields.Information number to) ts us rest end p h g =
     let a = word_same text (codes "ExceptionInformation") (codes "ExceptionInformation") ts us
-        h.after_word g.after_word p h.word g.word in
+    h.after_word g.after_word p h.word g.word in
     let b = has_same punctuators.OpenBracket h.after_word g.after_word h.after_opening
-        g.after_opening a.1 h.opening g.opening in
+    g.after_opening a.1 h.opening g.opening in
     let c = integer_same index number at to h.after_opening g.after_opening h.after_index
-        g.after_index b h.index g.index in
-    (ap (λ (x : ℕ). fields.Information x at) c.0 ∙ ap (λ (x : ℕ). fields.Information number x) c.1,
-    has_same punctuators.CloseBracket h.after_index g.after_index rest end c.2 h.closing g.closing)
+    g.after_index b h.index g.index in (
+      ap (λ (x : ℕ). fields.Information x at) c.0 ∙ ap (λ (x : ℕ). fields.Information number x) c.1,
+      has_same punctuators.CloseBracket h.after_index g.after_index rest end c.2 h.closing g.closing,
+    )
 
 -- ---- first operands
 
@@ -242,7 +240,7 @@ same_head text n (Variable name) (Information at' field') ts rest end u low k m 
 same_head text n (Variable name) (Call name' es') ts rest end u low k m r z h g =
     let a = name_same name name' ts ts rest g.after_name refl h g.called in
     let b = follows_punctuator punctuators.OpenParenthesis g.opening.0 g.after_name g.after_opening
-        primary g.opening.1 refl in
+    primary g.opening.1 refl in
     let c = ap follows a.1 in
     absurd (omega arith)
 same_head text n (Variable name) (Parentheses at' e') ts rest end u low k m r z h g = let a = head_front text (Variable name) ts rest k h in let b = head_front text (Parentheses at' e') ts end m g in absurd (omega arith)
@@ -259,25 +257,25 @@ same_head text n (Information at field) (Constant at' literal') ts rest end u lo
 same_head text n (Information at field) (Variable name') ts rest end u low k m r z h g = let a = head_front text (Information at field) ts rest k h in let b = head_front text (Variable name') ts end m g in absurd (omega arith)
 same_head text n (Information at field) (Information at' field') ts rest end u low k m r z h g =
     let k = kind_same (kinds.Keyword keywords.GetExceptionInformation)
-        (kinds.Keyword keywords.GetExceptionInformation) at at' ts ts h.introduction.after_keyword
-        g.introduction.after_keyword refl h.introduction.keyword g.introduction.keyword in
+    (kinds.Keyword keywords.GetExceptionInformation) at at' ts ts h.introduction.after_keyword
+    g.introduction.after_keyword refl h.introduction.keyword g.introduction.keyword in
     let b = has_same punctuators.OpenParenthesis h.introduction.after_keyword
-        g.introduction.after_keyword h.introduction.after_opening g.introduction.after_opening k.2
-        h.introduction.opening g.introduction.opening in
+    g.introduction.after_keyword h.introduction.after_opening g.introduction.after_opening k.2
+    h.introduction.opening g.introduction.opening in
     let c = has_same punctuators.CloseParenthesis h.introduction.after_opening
-        g.introduction.after_opening h.introduction.after_closing g.introduction.after_closing b
-        h.introduction.closing g.introduction.closing in
+    g.introduction.after_opening h.introduction.after_closing g.introduction.after_closing b
+    h.introduction.closing g.introduction.closing in
     let d = has_same punctuators.Arrow h.introduction.after_closing g.introduction.after_closing
-        h.introduction.after_arrow g.introduction.after_arrow c h.introduction.arrow
-        g.introduction.arrow in
+    h.introduction.after_arrow g.introduction.after_arrow c h.introduction.arrow
+    g.introduction.arrow in
     let w = word_same text (codes "ExceptionRecord") (codes "ExceptionRecord")
-        h.introduction.after_arrow g.introduction.after_arrow h.introduction.after_record
-        g.introduction.after_record d h.introduction.of_record g.introduction.of_record in
+    h.introduction.after_arrow g.introduction.after_arrow h.introduction.after_record
+    g.introduction.after_record d h.introduction.of_record g.introduction.of_record in
     let v = has_same punctuators.Arrow h.introduction.after_record g.introduction.after_record
-        h.after_introduction g.after_introduction w.1 h.introduction.last_arrow
-        g.introduction.last_arrow in
+    h.after_introduction g.after_introduction w.1 h.introduction.last_arrow
+    g.introduction.last_arrow in
     let q = field_once text field field' h.after_introduction g.after_introduction rest end v
-        h.field g.field in
+    h.field g.field in
     (ap (λ (x : ℕ). Information x field) k.1 ∙ ap (λ (x : Field). Information at' x) q.0, q.1)
 same_head text n (Information at field) (Call name' es') ts rest end u low k m r z h g = let a = head_front text (Information at field) ts rest k h in let b = head_front text (Call name' es') ts end m g in absurd (omega arith)
 same_head text n (Information at field) (Parentheses at' e') ts rest end u low k m r z h g = let a = head_front text (Information at field) ts rest k h in let b = head_front text (Parentheses at' e') ts end m g in absurd (omega arith)
@@ -294,16 +292,16 @@ same_head text n (Call name es) (Constant at' literal') ts rest end u low k m r 
 same_head text n (Call name es) (Variable name') ts rest end u low k m r z h g =
     let a = name_same name name' ts ts h.after_name end refl h.called g in
     let b = follows_punctuator punctuators.OpenParenthesis h.opening.0 h.after_name h.after_opening
-        primary h.opening.1 refl in
+    primary h.opening.1 refl in
     let c = ap follows a.1 in
     absurd (omega arith)
 same_head text n (Call name es) (Information at' field') ts rest end u low k m r z h g = let a = head_front text (Call name es) ts rest k h in let b = head_front text (Information at' field') ts end m g in absurd (omega arith)
 same_head text n (Call name es) (Call name' es') ts rest end u low k m r z h g =
     let a = name_same name name' ts ts h.after_name g.after_name refl h.called g.called in
     let b = has_same punctuators.OpenParenthesis h.after_name g.after_name h.after_opening
-        g.after_opening a.1 h.opening g.opening in
+    g.after_opening a.1 h.opening g.opening in
     let c = arguments_once text n es es' h.after_opening g.after_opening rest end u b low
-        h.arguments g.arguments in
+    h.arguments g.arguments in
     (ap (λ (x : Identifier). Call x es) a.0 ∙ ap (λ (x : Arguments). Call name' x) c.0, c.1)
 same_head text n (Call name es) (Parentheses at' e') ts rest end u low k m r z h g = let a = head_front text (Call name es) ts rest k h in let b = head_front text (Parentheses at' e') ts end m g in absurd (omega arith)
 same_head text n (Call name es) (Prefix at' op' e') ts rest end u low k m r z h g = let a = head_front text (Call name es) ts rest k h in let b = head_front text (Prefix at' op' e') ts end m g in absurd (omega arith)
@@ -321,19 +319,20 @@ same_head text n (Parentheses at e) (Information at' field') ts rest end u low k
 same_head text n (Parentheses at e) (Call name' es') ts rest end u low k m r z h g = let a = head_front text (Parentheses at e) ts rest k h in let b = head_front text (Call name' es') ts end m g in absurd (omega arith)
 same_head text n (Parentheses at e) (Parentheses at' e') ts rest end u low k m r z h g =
     let a = punctuator_same punctuators.OpenParenthesis punctuators.OpenParenthesis at at' ts ts
-        h.after_opening g.after_opening refl h.opening g.opening in
+    h.after_opening g.after_opening refl h.opening g.opening in
     let b = whole text n e e' h.after_opening g.after_opening h.after_inner g.after_inner u a.2
-        (omega arith) h.inner g.inner
-        (has_stops punctuators.CloseParenthesis h.after_inner rest comma h.closing (omega arith))
-        (has_stops punctuators.CloseParenthesis g.after_inner end comma g.closing (omega arith)) in
-    (ap (λ (x : ℕ). Parentheses x e) a.1 ∙ ap (λ (x : Expression). Parentheses at' x) b.0,
-    has_same punctuators.CloseParenthesis h.after_inner g.after_inner rest end b.1 h.closing
-    g.closing)
+    (omega arith) h.inner g.inner
+    (has_stops punctuators.CloseParenthesis h.after_inner rest comma h.closing (omega arith))
+    (has_stops punctuators.CloseParenthesis g.after_inner end comma g.closing (omega arith)) in (
+      ap (λ (x : ℕ). Parentheses x e) a.1 ∙ ap (λ (x : Expression). Parentheses at' x) b.0,
+      has_same punctuators.CloseParenthesis h.after_inner g.after_inner rest end b.1 h.closing
+          g.closing,
+    )
 same_head text n (Parentheses at e) (Prefix at' op' e') ts rest end u low k m r z h g = let a = head_front text (Parentheses at e) ts rest k h in let b = head_front text (Prefix at' op' e') ts end m g in absurd (omega arith)
 same_head text n (Parentheses at e) (Unary at' op' e') ts rest end u low k m r z h g = let a = head_front text (Parentheses at e) ts rest k h in let b = head_front text (Unary at' op' e') ts end m g in absurd (omega arith)
 same_head text n (Parentheses at e) (Cast at' to' e') ts rest end u low k m r z h g =
     let a = punctuator_same punctuators.OpenParenthesis punctuators.OpenParenthesis at at' ts ts
-        h.after_opening g.operator.after_opening refl h.opening g.operator.opening in
+    h.after_opening g.operator.after_opening refl h.opening g.operator.opening in
     let b = expression_front text e h.after_opening h.after_inner h.inner in
     let c = base_front to'.base g.operator.after_opening g.operator.inner.0 g.operator.inner.1 in
     let d = ap front a.2 in
@@ -351,9 +350,9 @@ same_head text n (Prefix at op e) (Call name' es') ts rest end u low k m r z h g
 same_head text n (Prefix at op e) (Parentheses at' e') ts rest end u low k m r z h g = let a = head_front text (Prefix at op e) ts rest k h in let b = head_front text (Parentheses at' e') ts end m g in absurd (omega arith)
 same_head text n (Prefix at op e) (Prefix at' op' e') ts rest end u low k m r z h g =
     let a = punctuator_same (increment_punctuator op) (increment_punctuator op') at at' ts ts
-        h.after_operator g.after_operator refl h.operator g.operator in
+    h.after_operator g.after_operator refl h.operator g.operator in
     let b = part text n unary e e' h.after_operator g.after_operator rest end u a.2 (omega arith)
-        h.operand g.operand r z in
+    h.operand g.operand r z in
     (ap (λ (x : ℕ). Prefix x op e) a.1 ∙ ap (λ (x : Increment). Prefix at' x e) (same_increment op op' a.0) ∙ ap (λ (x : Expression). Prefix at' op' x) b.0, b.1)
 same_head text n (Prefix at op e) (Unary at' op' e') ts rest end u low k m r z h g = let a = head_front text (Prefix at op e) ts rest k h in let b = head_front text (Unary at' op' e') ts end m g in absurd (omega arith)
 same_head text n (Prefix at op e) (Cast at' to' e') ts rest end u low k m r z h g = let a = head_front text (Prefix at op e) ts rest k h in let b = head_front text (Cast at' to' e') ts end m g in absurd (omega arith)
@@ -371,9 +370,9 @@ same_head text n (Unary at op e) (Parentheses at' e') ts rest end u low k m r z 
 same_head text n (Unary at op e) (Prefix at' op' e') ts rest end u low k m r z h g = let a = head_front text (Unary at op e) ts rest k h in let b = head_front text (Prefix at' op' e') ts end m g in absurd (omega arith)
 same_head text n (Unary at op e) (Unary at' op' e') ts rest end u low k m r z h g =
     let a = punctuator_same (unary_punctuator op) (unary_punctuator op') at at' ts ts
-        h.after_operator g.after_operator refl h.operator g.operator in
+    h.after_operator g.after_operator refl h.operator g.operator in
     let b = part text n cast e e' h.after_operator g.after_operator rest end u a.2 (omega arith)
-        h.operand g.operand r z in
+    h.operand g.operand r z in
     (ap (λ (x : ℕ). Unary x op e) a.1 ∙ ap (λ (x : UnaryOperator). Unary at' x e) (same_unary op op' a.0) ∙ ap (λ (x : Expression). Unary at' op' x) b.0, b.1)
 same_head text n (Unary at op e) (Cast at' to' e') ts rest end u low k m r z h g = let a = head_front text (Unary at op e) ts rest k h in let b = head_front text (Cast at' to' e') ts end m g in absurd (omega arith)
 same_head text n (Unary at op e) (Index v vt w) ts rest end u low k m r z h g = absurd m
@@ -388,7 +387,7 @@ same_head text n (Cast at to e) (Information at' field') ts rest end u low k m r
 same_head text n (Cast at to e) (Call name' es') ts rest end u low k m r z h g = let a = head_front text (Cast at to e) ts rest k h in let b = head_front text (Call name' es') ts end m g in absurd (omega arith)
 same_head text n (Cast at to e) (Parentheses at' e') ts rest end u low k m r z h g =
     let a = punctuator_same punctuators.OpenParenthesis punctuators.OpenParenthesis at at' ts ts
-        h.operator.after_opening g.after_opening refl h.operator.opening g.opening in
+    h.operator.after_opening g.after_opening refl h.operator.opening g.opening in
     let b = expression_front text e' g.after_opening g.after_inner g.inner in
     let c = base_front to.base h.operator.after_opening h.operator.inner.0 h.operator.inner.1 in
     let d = ap front a.2 in
@@ -397,19 +396,19 @@ same_head text n (Cast at to e) (Prefix at' op' e') ts rest end u low k m r z h 
 same_head text n (Cast at to e) (Unary at' op' e') ts rest end u low k m r z h g = let a = head_front text (Cast at to e) ts rest k h in let b = head_front text (Unary at' op' e') ts end m g in absurd (omega arith)
 same_head text n (Cast at to e) (Cast at' to' e') ts rest end u low k m r z h g =
     let a = punctuator_same punctuators.OpenParenthesis punctuators.OpenParenthesis at at' ts ts
-        h.operator.after_opening g.operator.after_opening refl h.operator.opening
-        g.operator.opening in
+    h.operator.after_opening g.operator.after_opening refl h.operator.opening
+    g.operator.opening in
     let t = type_once to to' h.operator.after_opening g.operator.after_opening
-        h.operator.after_inner g.operator.after_inner a.2
-        (close_type h.operator.after_inner h.after_operator h.operator.closing)
-        (close_type g.operator.after_inner g.after_operator g.operator.closing)
-        (close_star h.operator.after_inner h.after_operator h.operator.closing)
-        (close_star g.operator.after_inner g.after_operator g.operator.closing) h.operator.inner
-        g.operator.inner in
+    h.operator.after_inner g.operator.after_inner a.2
+    (close_type h.operator.after_inner h.after_operator h.operator.closing)
+    (close_type g.operator.after_inner g.after_operator g.operator.closing)
+    (close_star h.operator.after_inner h.after_operator h.operator.closing)
+    (close_star g.operator.after_inner g.after_operator g.operator.closing) h.operator.inner
+    g.operator.inner in
     let c = has_same punctuators.CloseParenthesis h.operator.after_inner g.operator.after_inner
-        h.after_operator g.after_operator t.1 h.operator.closing g.operator.closing in
+    h.after_operator g.after_operator t.1 h.operator.closing g.operator.closing in
     let b = part text n cast e e' h.after_operator g.after_operator rest end u c (omega arith)
-        h.operand g.operand r z in
+    h.operand g.operand r z in
     (ap (λ (x : ℕ). Cast x to e) a.1 ∙ ap (λ (x : CType). Cast at' x e) t.0 ∙ ap (λ (x : Expression). Cast at' to' x) b.0, b.1)
 same_head text n (Cast at to e) (Index v vt w) ts rest end u low k m r z h g = absurd m
 same_head text n (Cast at to e) (Postfix v op2 vt) ts rest end u low k m r z h g = absurd m

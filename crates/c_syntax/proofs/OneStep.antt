@@ -1,29 +1,20 @@
 -- A step and what follows it are found by where it begins, and so are the steps after an operand.
-use Rattle.std.proofs.Common.{◌≡◌, ◌≤◌, ◌<◌, ◌-◌, ℕ, zero, suc, List, [], ◌∷◌, Option, codes, slice_range, length, refl, sym, ap, ◌∙◌, subst, arith}
-use Rattle.c_lex.specs.declared.keyword.Keyword.TheVariants as keywords
+use Rattle.std.proofs.Common.{◌≡◌, ◌≤◌, ◌<◌, ◌-◌, ℕ, List, [], ◌∷◌, Option, refl, sym, ap, ◌∙◌, subst, arith}
 use Rattle.c_lex.specs.declared.punctuator.Punctuator.{Punctuator}
 use Rattle.c_lex.specs.declared.punctuator.Punctuator.TheVariants as punctuators
-use Rattle.c_lex.specs.declared.token.Kind.TheVariants as kinds
 use Rattle.c_lex.specs.declared.token.Token.{Token}
 use Rattle.c_syntax.specs.declared.operator.Arithmetic.{Arithmetic}
 use Rattle.c_syntax.specs.declared.operator.BinaryOperator.{BinaryOperator}
-use Rattle.c_syntax.specs.declared.operator.UnaryOperator.{UnaryOperator}
 use Rattle.c_syntax.specs.declared.operator.Increment.{Increment}
 use Rattle.c_syntax.specs.declared.operator.Increment.TheVariants as increments
-use Rattle.c_syntax.specs.declared.expression.CType.{CType}
-use Rattle.c_syntax.specs.declared.expression.Field.{Field}
-use Rattle.c_syntax.specs.declared.expression.Field.TheVariants as fields
-use Rattle.c_syntax.specs.declared.expression.Literal.{Literal}
-use Rattle.c_syntax.specs.declared.expression.Literal.TheVariants as literals
-use Rattle.c_syntax.specs.declared.expression.Identifier.{Identifier}
-use Rattle.c_syntax.specs.Expression.{Expression, Constant, Variable, Information, Call, Parentheses, Index, Postfix, Prefix, Unary, Cast, Binary, Conditional, Assign, Comma, Arguments, Done, Next, height, heights}
-use Rattle.c_syntax.specs.Expressions.{rank, literal_kind, TighterThan, IsInteger, IsField, SpellsExpression, SpellsArguments, SpellsMoreArguments, Derives}
-use Rattle.c_syntax.specs.Follow.{punctuator_follows, follows, Stops, OneExpression}
-use Rattle.c_syntax.specs.Operators.{primary, unary, cast, conditional, assignment, comma, level, binary_punctuator, unary_punctuator, increment_punctuator, assignment_punctuator}
-use Rattle.c_syntax.specs.Tokens.{HasPunctuator, HasWord}
-use Rattle.c_syntax.specs.Steps.{Step, At, After, With, Choose, Set, And, apply, Tail, Run, IsHead, Closes}
-use Rattle.c_syntax.proofs.Spine.{spine, levels, follows_punctuator, step_follows, closes, run_reach, run_rank, run_height}
-use Rattle.c_syntax.proofs.Fronts.{kind_same, punctuator_same, has_same, name_same, same_binary, same_unary, same_increment, same_assignment, punctuator_class, kind_class, front, increment_class, unary_class, base_front, type_once, close_type, close_star}
+use Rattle.c_syntax.specs.Expression.{Expression, Constant, Variable, Information, Call, Parentheses, Index, Postfix, Prefix, Unary, Cast, Binary, Conditional, Assign, Comma, height}
+use Rattle.c_syntax.specs.Expressions.{rank, TighterThan, SpellsExpression, Derives}
+use Rattle.c_syntax.specs.Follow.{punctuator_follows, follows, Stops}
+use Rattle.c_syntax.specs.Operators.{conditional, assignment, comma, level, binary_punctuator, increment_punctuator, assignment_punctuator}
+use Rattle.c_syntax.specs.Tokens.{HasPunctuator}
+use Rattle.c_syntax.specs.Steps.{Step, At, After, With, Choose, Set, And, apply, Tail, Run, Closes}
+use Rattle.c_syntax.proofs.Spine.{levels, follows_punctuator, step_follows, closes, run_reach, run_rank, run_height}
+use Rattle.c_syntax.proofs.Fronts.{punctuator_same, has_same, same_binary, same_increment, same_assignment}
 
 -- ---- of lower expressions
 
@@ -80,13 +71,14 @@ bracket_not increments.Decrement e = cc
 pub same_tail : (text : List ℕ) (n : ℕ) (left left' : Expression) (s s' : Step) (ts rest end : List Token) → Below text n → height (apply left s) ≤ n → Closes (apply left s) rest → Closes (apply left s') end → Tail text s ts rest → Tail text s' ts end → (s ≡ s') × (rest ≡ end)
 same_tail text n left left' (At at i) (At to j) ts rest end u low r z h g =
     let a = punctuator_same punctuators.OpenBracket punctuators.OpenBracket at to ts ts
-        h.after_opening g.after_opening refl h.opening g.opening in
+    h.after_opening g.after_opening refl h.opening g.opening in
     let b = whole text n i j h.after_opening g.after_opening h.after_inner g.after_inner u a.2
-        (omega arith) h.inner g.inner
-        (has_stops punctuators.CloseBracket h.after_inner rest comma h.closing (omega arith))
-        (has_stops punctuators.CloseBracket g.after_inner end comma g.closing (omega arith)) in
-    (ap (λ (x : ℕ). At x i) a.1 ∙ ap (λ (x : Expression). At to x) b.0,
-    has_same punctuators.CloseBracket h.after_inner g.after_inner rest end b.1 h.closing g.closing)
+    (omega arith) h.inner g.inner
+    (has_stops punctuators.CloseBracket h.after_inner rest comma h.closing (omega arith))
+    (has_stops punctuators.CloseBracket g.after_inner end comma g.closing (omega arith)) in (
+      ap (λ (x : ℕ). At x i) a.1 ∙ ap (λ (x : Expression). At to x) b.0,
+      has_same punctuators.CloseBracket h.after_inner g.after_inner rest end b.1 h.closing g.closing,
+    )
 same_tail text n left left' (At at i) (After op' to) ts rest end u low r z h g =
     absurd (bracket_not op'
     (punctuator_same (increment_punctuator op') punctuators.OpenBracket to at ts ts end
@@ -110,14 +102,14 @@ same_tail text n left left' (With at op f) (At to j) ts rest end u low r z h g =
 same_tail text n left left' (With at op f) (After op' to) ts rest end u low r z h g = let p = step_follows text left (With at op f) ts rest h in let q = step_follows text left' (After op' to) ts end g in let x = (levels op).0 in let y = (levels op).1 in absurd (omega arith)
 same_tail text n left left' (With at op f) (With to op' f') ts rest end u low r z h g =
     let a = punctuator_same (binary_punctuator op) (binary_punctuator op') at to ts ts
-        h.after_operator g.after_operator refl h.operator g.operator in
+    h.after_operator g.after_operator refl h.operator g.operator in
     let q = same_binary op op' a.0 in
     let v : level op ≡ level op' = ap level q in
     let x = (levels op).0 in
     let b = part text n (level op - 1) f f' h.after_operator g.after_operator rest end u a.2
-        (omega arith) (tighter text (level op) op f h.after_operator rest refl h.operand)
-        (tighter text (level op) op' f' g.after_operator end v g.operand) (omega arith)
-        (omega arith) in
+    (omega arith) (tighter text (level op) op f h.after_operator rest refl h.operand)
+    (tighter text (level op) op' f' g.after_operator end v g.operand) (omega arith)
+    (omega arith) in
     (ap (λ (y : ℕ). With y op f) a.1 ∙ ap (λ (y : BinaryOperator). With to y f) q ∙ ap (λ (y : Expression). With to op' y) b.0, b.1)
 same_tail text n left left' (With at op f) (Choose to f' g'') ts rest end u low r z h g = let p = step_follows text left (With at op f) ts rest h in let q = step_follows text left' (Choose to f' g'') ts end g in let x = (levels op).0 in let y = (levels op).1 in absurd (omega arith)
 same_tail text n left left' (With at op f) (Set to op' f') ts rest end u low r z h g = let p = step_follows text left (With at op f) ts rest h in let q = step_follows text left' (Set to op' f') ts end g in let x = (levels op).0 in let y = (levels op).1 in absurd (omega arith)
@@ -127,18 +119,18 @@ same_tail text n left left' (Choose at f g') (After op' to) ts rest end u low r 
 same_tail text n left left' (Choose at f g') (With to op' f') ts rest end u low r z h g = let p = step_follows text left (Choose at f g') ts rest h in let q = step_follows text left' (With to op' f') ts end g in let x' = (levels op').0 in let y' = (levels op').1 in absurd (omega arith)
 same_tail text n left left' (Choose at f g') (Choose to f' g'') ts rest end u low r z h g =
     let a = punctuator_same punctuators.Question punctuators.Question at to ts ts
-        h.operator.after_opening g.operator.after_opening refl h.operator.opening
-        g.operator.opening in
+    h.operator.after_opening g.operator.after_opening refl h.operator.opening
+    g.operator.opening in
     let b = whole text n f f' h.operator.after_opening g.operator.after_opening
-        h.operator.after_inner g.operator.after_inner u a.2 (omega arith) h.operator.inner
-        g.operator.inner (has_stops punctuators.Colon h.operator.after_inner h.after_operator comma
-        h.operator.closing (omega arith))
-        (has_stops punctuators.Colon g.operator.after_inner g.after_operator comma
-        g.operator.closing (omega arith)) in
+    h.operator.after_inner g.operator.after_inner u a.2 (omega arith) h.operator.inner
+    g.operator.inner (has_stops punctuators.Colon h.operator.after_inner h.after_operator comma
+    h.operator.closing (omega arith))
+    (has_stops punctuators.Colon g.operator.after_inner g.after_operator comma
+    g.operator.closing (omega arith)) in
     let c = has_same punctuators.Colon h.operator.after_inner g.operator.after_inner
-        h.after_operator g.after_operator b.1 h.operator.closing g.operator.closing in
+    h.after_operator g.after_operator b.1 h.operator.closing g.operator.closing in
     let d = part text n conditional g' g'' h.after_operator g.after_operator rest end u c
-        (omega arith) h.operand g.operand r z in
+    (omega arith) h.operand g.operand r z in
     (ap (λ (x : ℕ). Choose x f g') a.1 ∙ ap (λ (x : Expression). Choose to x g') b.0 ∙ ap (λ (x : Expression). Choose to f' x) d.0, d.1)
 same_tail text n left left' (Choose at f g') (Set to op' f') ts rest end u low r z h g = let p = step_follows text left (Choose at f g') ts rest h in let q = step_follows text left' (Set to op' f') ts end g in absurd (omega arith)
 same_tail text n left left' (Choose at f g') (And to f') ts rest end u low r z h g = let p = step_follows text left (Choose at f g') ts rest h in let q = step_follows text left' (And to f') ts end g in absurd (omega arith)
@@ -148,10 +140,10 @@ same_tail text n left left' (Set at op f) (With to op' f') ts rest end u low r z
 same_tail text n left left' (Set at op f) (Choose to f' g'') ts rest end u low r z h g = let p = step_follows text left (Set at op f) ts rest h in let q = step_follows text left' (Choose to f' g'') ts end g in absurd (omega arith)
 same_tail text n left left' (Set at op f) (Set to op' f') ts rest end u low r z h g =
     let a = punctuator_same (assignment_punctuator op) (assignment_punctuator op') at to ts ts
-        h.after_operator g.after_operator refl h.operator g.operator in
+    h.after_operator g.after_operator refl h.operator g.operator in
     let q = same_assignment op op' a.0 in
     let b = part text n assignment f f' h.after_operator g.after_operator rest end u a.2
-        (omega arith) h.operand g.operand r z in
+    (omega arith) h.operand g.operand r z in
     (ap (λ (y : ℕ). Set y op f) a.1 ∙ ap (λ (y : Option Arithmetic). Set to y f) q ∙ ap (λ (y : Expression). Set to op' y) b.0, b.1)
 same_tail text n left left' (Set at op f) (And to f') ts rest end u low r z h g = let p = step_follows text left (Set at op f) ts rest h in let q = step_follows text left' (And to f') ts end g in absurd (omega arith)
 same_tail text n left left' (And at f) (At to j) ts rest end u low r z h g = let p = step_follows text left (And at f) ts rest h in let q = step_follows text left' (At to j) ts end g in absurd (omega arith)
@@ -161,9 +153,9 @@ same_tail text n left left' (And at f) (Choose to f' g'') ts rest end u low r z 
 same_tail text n left left' (And at f) (Set to op' f') ts rest end u low r z h g = let p = step_follows text left (And at f) ts rest h in let q = step_follows text left' (Set to op' f') ts end g in absurd (omega arith)
 same_tail text n left left' (And at f) (And to f') ts rest end u low r z h g =
     let a = punctuator_same punctuators.Comma punctuators.Comma at to ts ts h.after_operator
-        g.after_operator refl h.operator g.operator in
+    g.after_operator refl h.operator g.operator in
     let b = part text n assignment f f' h.after_operator g.after_operator rest end u a.2
-        (omega arith) h.operand g.operand r z in
+    (omega arith) h.operand g.operand r z in
     (ap (λ (y : ℕ). And y f) a.1 ∙ ap (λ (y : Expression). And to y) b.0, b.1)
 
 pub same_run : (text : List ℕ) (n l : ℕ) (left : Expression) (steps steps' : List Step) (ts : List Token) (e f : Expression) (rest end : List Token) → Below text n → height e ≤ n → rank e ≤ l → rank f ≤ l → Stops l rest → Stops l end → Run text left steps ts e rest → Run text left steps' ts f end → (e ≡ f) × (rest ≡ end)
@@ -181,12 +173,12 @@ same_run text n l left (x ∷ steps) [] ts e f rest end u low a b s z h g =
 same_run text n l left (x ∷ steps) (y ∷ steps') ts e f rest end u low a b s z h g =
     let k = run_height text (apply left x) steps h.after_step e rest h.others in
     let p = same_tail text n left left x y ts h.after_step g.after_step u (omega arith)
-        (closes (apply left x) h.after_step
-        (run_reach text (apply left x) steps h.after_step e rest l h.others a s))
-        (closes (apply left y) g.after_step
-        (run_reach text (apply left y) steps' g.after_step f end l g.others b z)) h.step g.step in
+    (closes (apply left x) h.after_step
+    (run_reach text (apply left x) steps h.after_step e rest l h.others a s))
+    (closes (apply left y) g.after_step
+    (run_reach text (apply left y) steps' g.after_step f end l g.others b z)) h.step g.step in
     let v : Run text (apply left x) steps' g.after_step f end = subst
-        (λ (w : Step). Run text (apply left w) steps' g.after_step f end) (sym p.0) g.others in
+    (λ (w : Step). Run text (apply left w) steps' g.after_step f end) (sym p.0) g.others in
     let w : Run text (apply left x) steps' h.after_step f end =
-        subst (λ (w : List Token). Run text (apply left x) steps' w f end) (sym p.1) v in
+    subst (λ (w : List Token). Run text (apply left x) steps' w f end) (sym p.1) v in
     same_run text n l (apply left x) steps steps' h.after_step e f rest end u low a b s z h.others w

@@ -24,7 +24,7 @@ run_ends text p [] ts left rest r s = subst (λ (x : Expression). Closes x ts) (
 run_ends text p (x ∷ steps) ts left rest r s =
     let q : follows ts ≡ rank (apply p x) = step_follows text p x ts r.after_step r.step in
     let y : reach p < rank (apply p x) =
-        reaches p (bound x) (rank (apply p x)) r.fits (wide_step x p) in
+    reaches p (bound x) (rank (apply p x)) r.fits (wide_step x p) in
     closes p ts (omega arith)
 
 at_once : (text : List ℕ) (l : ℕ) (p left : Expression) (y : Step) (steps : List Step) (ts rest : List Token) (e : Expression) (end : List Token) → p ≡ left → ts ≡ rest → rank e ≤ l → Stops l end → Run text p (y ∷ steps) ts e end → Goes text left rest e end
@@ -52,13 +52,13 @@ along text n l p (x ∷ steps) [] ts left rest e end u low a b s c d r g =
 along text n l p (x ∷ steps) (y ∷ steps') ts left rest e end u low a b s c d r g =
     let k = run_height text (apply p y) steps' g.after_step e end g.others in
     let q = same_tail text n p p y x ts g.after_step r.after_step u (omega arith)
-        (closes (apply p y) g.after_step
-        (run_reach text (apply p y) steps' g.after_step e end l g.others b s))
-        (run_ends text (apply p x) steps r.after_step left rest r.others c) g.step r.step in
+    (closes (apply p y) g.after_step
+    (run_reach text (apply p y) steps' g.after_step e end l g.others b s))
+    (run_ends text (apply p x) steps r.after_step left rest r.others c) g.step r.step in
     let v : Run text (apply p x) steps' g.after_step e end =
-        subst (λ (w : Step). Run text (apply p w) steps' g.after_step e end) q.0 g.others in
+    subst (λ (w : Step). Run text (apply p w) steps' g.after_step e end) q.0 g.others in
     let w : Run text (apply p x) steps' r.after_step e end =
-        subst (λ (z : List Token). Run text (apply p x) steps' z e end) q.1 v in
+    subst (λ (z : List Token). Run text (apply p x) steps' z e end) q.1 v in
     along text n l (apply p x) steps steps' r.after_step left rest e end u low a b s c d r.others w
 
 -- A left part was read, and the next token continues: whatever is at the front at all goes through it.

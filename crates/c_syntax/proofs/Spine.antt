@@ -33,7 +33,7 @@ one_step : (text : List ℕ) (e f : Expression) (s : Step) (ts mid end : List To
     → rank e ≤ bound s → Tail text s mid end → Run text f (s ∷ []) ts (apply e s) end
 one_step text e f s ts mid end p q h t =
     let once : Run text e (s ∷ []) mid (apply e s) end =
-        record { after_step = end; fits = h; step = t; others = (refl, refl) } in
+    record { after_step = end; fits = h; step = t; others = (refl, refl) } in
     subst (λ (x : Expression). Run text x (s ∷ []) ts (apply e s) end) (sym p)
     (subst (λ (z : List Token). Run text e (s ∷ []) z (apply e s) end) (sym q) once)
 
@@ -346,7 +346,7 @@ run_reach text left [] ts e end l r h s =
 run_reach text left (x ∷ steps) ts e end l r h s =
     let q : follows ts ≡ rank (apply left x) = step_follows text left x ts r.after_step r.step in
     let y : reach left < rank (apply left x) =
-        reaches left (bound x) (rank (apply left x)) r.fits (wide_step x left) in
+    reaches left (bound x) (rank (apply left x)) r.fits (wide_step x left) in
     omega arith
 
 pub run_rank : (text : List ℕ) (left : Expression) (steps : List Step) (ts : List Token) (e : Expression) (end : List Token) → Run text left steps ts e end → rank left ≤ rank e
