@@ -1,5 +1,6 @@
 pub mod Spine
 pub mod Fronts
+pub mod OneStep
 pub mod Once
 pub mod Starts
 pub mod Rows
