@@ -3,6 +3,7 @@ pub mod Fronts
 pub mod Once
 pub mod Starts
 pub mod Rows
+pub mod Separated
 pub mod Blocks
 pub mod Files
 pub mod Passing
@@ -11,5 +12,6 @@ pub mod Failing
 pub mod Moves
 pub mod FirstFault
 pub mod Firsts
+pub mod MovesPhrases
 pub mod MovesStatements
 pub mod MovesPrograms
