@@ -594,8 +594,8 @@ mutual
       let b = has_same punctuators.OpenParenthesis h.after_keyword g.after_keyword h.after_opening g.after_opening a.1 h.opening g.opening in
       let d = first text f f' h.after_opening g.after_opening h.after_first g.after_first b h.first g.first in
       let e = optional text punctuators.Semicolon c c' h.after_first g.after_first h.condition.0 g.condition.0 h.after_condition g.after_condition d.1 (omega arith) refl h.condition.1 g.condition.1 h.condition.2 g.condition.2 in
-      let i = optional text punctuators.CloseParenthesis n n' h.after_condition g.after_condition h.next.0 g.next.0 h.after_next g.after_next e.1 (omega arith) refl h.next.1 g.next.1 h.next.2 g.next.2 in
-      let j = same_item text s s' h.after_next g.after_next rest end i.1 h.body.item g.body.item x y in
+      let i = optional text punctuators.CloseParenthesis n n' h.after_condition g.after_condition h.next.0 g.next.0 h.after_head g.after_head e.1 (omega arith) refl h.next.1 g.next.1 h.next.2 g.next.2 in
+      let j = same_item text s s' h.after_head g.after_head rest end i.1 h.body.item g.body.item x y in
       (ap (λ (v : ℕ). For v f c n s) a.0 ∙ ap (λ (v : ForInitialiser). For at' v c n s) d.0 ∙ ap (λ (v : Option Expression). For at' f' v n s) e.0 ∙ ap (λ (v : Option Expression). For at' f' c' v s) i.0 ∙ ap (λ (v : Statement). For at' f' c' n' v) j.0, j.1)
   same_item text (For at f c n s) (Return at' e') ts us rest end p h g x y = absurd (apart text (For at f c n s) (Return at' e') ts us rest end p h g (λ e. absurd (omega arith)))
   same_item text (For at f c n s) (Break at') ts us rest end p h g x y = absurd (apart text (For at f c n s) (Break at') ts us rest end p h g (λ e. absurd (omega arith)))

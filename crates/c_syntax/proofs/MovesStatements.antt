@@ -13,7 +13,7 @@ use Rattle.c_syntax.specs.Limits as limits
 use Rattle.c_syntax.specs.Operators.{assignment, comma}
 use Rattle.c_syntax.specs.Phrases.{Phrase}
 use Rattle.c_syntax.specs.Statement.{Local, ForInitialiser, Declaring, Evaluating, Statement, Declare, Block, Evaluate, If, IfElse, While, DoWhile, For, Return, Break, Continue, Leave, TryExcept, TryFinally, Statements, Empty, Then}
-use Rattle.c_syntax.specs.Statements.{IsInitialiser, IsLocal, AreLocals, IsDeclaration, IsOptional, IsUpTo, IsCondition, IsForInitialiser, is_declaration, IsStatement, IsBlock, IsConditional, IsJump, IsBlockItem, AreBlockItems}
+use Rattle.c_syntax.specs.Statements.{IsInitialiser, IsLocal, AreLocals, IsDeclaration, IsOptional, IsUpTo, IsCondition, IsForInitialiser, is_declaration, IsStatement, IsBlock, IsConditional, IsForHead, IsJump, IsBlockItem, AreBlockItems}
 use Rattle.c_syntax.specs.Tokens.{IsKeyword}
 use Rattle.c_syntax.proofs.Moves as moves
 use Rattle.c_syntax.proofs.Moves.{Moves, map, both, nothing, alike_after, has_punctuator, has_keyword, name, base, stars, derives}
@@ -93,6 +93,28 @@ conditional k at c s text ts rest h m =
       body = g.2.2;
     })
 
+pub for_head : (at : ℕ) (f : ForInitialiser) (c n : Option Expression) (text : List ℕ) (ts rest : List Token) → IsForHead at (IsForInitialiser text f) (IsUpTo text punctuators.Semicolon c) (IsUpTo text punctuators.CloseParenthesis n) ts rest → Moves (λ t. IsForHead at (IsForInitialiser t f) (IsUpTo t punctuators.Semicolon c) (IsUpTo t punctuators.CloseParenthesis n)) text ts rest
+for_head at f c n text ts rest h =
+    map
+    (both (keyword keywords.For at text ts h.after_keyword h.keyword)
+    (both (has_punctuator punctuators.OpenParenthesis text h.after_keyword h.after_opening h.opening)
+    (both (first f text h.after_opening h.after_first h.first)
+    (both (up_to punctuators.Semicolon c text h.after_first h.after_condition h.condition)
+    (up_to punctuators.CloseParenthesis n text h.after_condition rest h.next)))))
+    (λ t us vs g.
+    let i = g.2.2 in
+    record {
+      after_keyword = g.0;
+      after_opening = g.2.0;
+      after_first = i.0;
+      after_condition = i.2.0;
+      keyword = g.1;
+      opening = g.2.1;
+      first = i.1;
+      condition = i.2.1;
+      next = i.2.2;
+    })
+
 -- ---- statements
 
 mutual
@@ -147,28 +169,9 @@ mutual
       })
   item (For at f c n s) text ts rest h =
       map
-      (both (keyword keywords.For at text ts h.after_keyword h.keyword)
-      (both (has_punctuator punctuators.OpenParenthesis text h.after_keyword h.after_opening h.opening)
-      (both (first f text h.after_opening h.after_first h.first)
-      (both (up_to punctuators.Semicolon c text h.after_first h.after_condition h.condition)
-      (both (up_to punctuators.CloseParenthesis n text h.after_condition h.after_next h.next)
-      (stated s h.body.no_declaration (item s text h.after_next rest h.body.item)))))))
-      (λ t us vs g.
-      let i = g.2.2 in
-      let j = i.2.2 in
-      record {
-        after_keyword = g.0;
-        after_opening = g.2.0;
-        after_first = i.0;
-        after_condition = i.2.0;
-        after_next = j.0;
-        keyword = g.1;
-        opening = g.2.1;
-        first = i.1;
-        condition = i.2.1;
-        next = j.1;
-        body = j.2;
-      })
+      (both (for_head at f c n text ts h.after_head h.head)
+      (stated s h.body.no_declaration (item s text h.after_head rest h.body.item)))
+      (λ t us vs g. record { after_head = g.0; head = g.1; body = g.2 })
   item (Return at e) text ts rest h =
       map (both (keyword keywords.Return at text ts h.0 h.1) (up_to punctuators.Semicolon e text h.0 rest h.2))
       (λ t us vs g. (g.0, g.1, g.2))
@@ -253,13 +256,8 @@ mutual
       let b = alike_after text' (has_keyword keywords.Do text ts h.after_do h.do_keyword) a in
       numbered s text text' h.after_do h.after_body h.body.item b
   numbered (For at f c n s) text text' ts rest h a =
-      let b = alike_after text' (keyword keywords.For at text ts h.after_keyword h.keyword) a in
-      let d = has_punctuator punctuators.OpenParenthesis text h.after_keyword h.after_opening h.opening in
-      let e = first f text h.after_opening h.after_first h.first in
-      let g = up_to punctuators.Semicolon c text h.after_first h.after_condition h.condition in
-      let i = up_to punctuators.CloseParenthesis n text h.after_condition h.after_next h.next in
-      numbered s text text' h.after_next rest h.body.item
-      (alike_after text' (both (both d e) (both g i)) b)
+      numbered s text text' h.after_head rest h.body.item
+      (alike_after text' (for_head at f c n text ts h.after_head h.head) a)
   numbered (Return at e) text text' ts rest h a = refl
   numbered (Break at) text text' ts rest h a = refl
   numbered (Continue at) text text' ts rest h a = refl

@@ -110,7 +110,7 @@ mutual
       let a = ap length h.do_keyword.1.1 in let b = item text s h.after_do h.after_body h.body.item in let d = ap length h.keyword.1 in let e = condition text c h.after_while h.after_condition h.condition in let f = ap length h.semicolon.1.1 in omega arith
   item text (For at f c n s) ts rest h =
       let a = ap length h.keyword.1 in let b = ap length h.opening.1.1 in let d = first text f h.after_opening h.after_first h.first in let e = optional text c h.after_first h.condition.0 h.condition.1 in let g = ap length h.condition.2.1.1 in
-      let i = optional text n h.after_condition h.next.0 h.next.1 in let j = ap length h.next.2.1.1 in let k = item text s h.after_next rest h.body.item in omega arith
+      let i = optional text n h.after_condition h.next.0 h.next.1 in let j = ap length h.next.2.1.1 in let k = item text s h.after_head rest h.body.item in omega arith
   item text (Return at e) ts rest h = let a = ap length h.1.1 in let b = optional text e h.0 h.2.0 h.2.1 in let c = ap length h.2.2.1.1 in omega arith
   item text (Break at) ts rest h = let a = ap length h.1.1 in let b = ap length h.2.1.1 in omega arith
   item text (Continue at) ts rest h = let a = ap length h.1.1 in let b = ap length h.2.1.1 in omega arith

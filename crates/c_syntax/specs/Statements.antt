@@ -138,19 +138,24 @@ pub record IsDoWhile (at : ℕ) (Body Condition : Phrase) (ts rest : List Token)
   pub condition : Condition after_while after_condition
   pub semicolon : HasPunctuator punctuators.Semicolon after_condition rest
 
-pub record IsFor (at : ℕ) (First Condition Next Body : Phrase)
-    (ts rest : List Token) : Type 0 where
+-- `for`, up to its closing parenthesis
+pub record IsForHead (at : ℕ) (First Condition Next : Phrase) (ts rest : List Token) : Type 0 where
   pub after_keyword : List Token
   pub after_opening : List Token
   pub after_first : List Token
   pub after_condition : List Token
-  pub after_next : List Token
   pub keyword : IsKeyword keywords.For at ts after_keyword
   pub opening : HasPunctuator punctuators.OpenParenthesis after_keyword after_opening
   pub first : First after_opening after_first
   pub condition : Condition after_first after_condition
-  pub next : Next after_condition after_next
-  pub body : Body after_next rest
+  pub next : Next after_condition rest
+
+pub record IsFor (at : ℕ) (First Condition Next Body : Phrase)
+    (ts rest : List Token) : Type 0 where
+  pub after_head : List Token
+  pub head : IsForHead at First Condition Next ts after_head
+  pub open head use *
+  pub body : Body after_head rest
 
 pub record IsTryExcept (at : ℕ) (Body Filter Handler : Phrase)
     (ts rest : List Token) : Type 0 where
