@@ -3,7 +3,8 @@ use Rattle.std.specs.Prelude.{ℕ, List, [], ◌∷◌}
 use Rattle.c_lex.specs.declared.punctuator.Punctuator.{Punctuator}
 use Rattle.c_lex.specs.declared.punctuator.Punctuator.TheVariants as punctuators
 use Rattle.c_lex.specs.declared.token.Token.{Token}
-use Rattle.c_syntax.specs.Phrases.{Phrase, Between, AreMore, AreSeparated}
+use Rattle.c_syntax.specs.Phrases.{Between, AreMore, AreSeparated}
+use Rattle.c_syntax.specs.Tokens.{Phrase}
 use Rattle.c_syntax.proofs.Moves.{Moves, map, both, has_punctuator}
 
 pub between : {Inner : List ℕ → Phrase} (left right : Punctuator) (text : List ℕ) (ts rest : List Token) (h : Between left (Inner text) right ts rest) → Moves Inner text h.after_opening h.after_inner → Moves (λ t. Between left (Inner t) right) text ts rest

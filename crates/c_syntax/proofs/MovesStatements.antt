@@ -11,10 +11,9 @@ use Rattle.c_syntax.specs.Expression.{Expression}
 use Rattle.c_syntax.specs.Faults.{Alike}
 use Rattle.c_syntax.specs.Limits as limits
 use Rattle.c_syntax.specs.Operators.{assignment, comma}
-use Rattle.c_syntax.specs.Phrases.{Phrase}
 use Rattle.c_syntax.specs.Statement.{Local, ForInitialiser, Declaring, Evaluating, Statement, Declare, Block, Evaluate, If, IfElse, While, DoWhile, For, Return, Break, Continue, Leave, TryExcept, TryFinally, Statements, Empty, Then}
 use Rattle.c_syntax.specs.Statements.{IsInitialiser, IsLocal, AreLocals, IsDeclaration, IsOptional, IsUpTo, IsCondition, IsForInitialiser, is_declaration, IsStatement, IsBlock, IsConditional, IsForHead, IsJump, IsBlockItem, AreBlockItems}
-use Rattle.c_syntax.specs.Tokens.{IsKeyword}
+use Rattle.c_syntax.specs.Tokens.{Phrase, IsKeyword}
 use Rattle.c_syntax.proofs.Moves as moves
 use Rattle.c_syntax.proofs.Moves.{Moves, map, both, nothing, alike_after, has_punctuator, has_keyword, name, base, stars, derives}
 use Rattle.c_syntax.proofs.MovesPhrases.{between, separated}

@@ -4,8 +4,8 @@ use Rattle.c_lex.specs.declared.punctuator.Punctuator.{Punctuator}
 use Rattle.c_lex.specs.declared.punctuator.Punctuator.TheVariants as punctuators
 use Rattle.c_lex.specs.declared.token.Token.{Token}
 use Rattle.c_syntax.specs.Follow.{punctuator_follows, Stops}
-use Rattle.c_syntax.specs.Phrases.{Phrase, AreMore, AreSeparated}
-use Rattle.c_syntax.specs.Tokens.{HasPunctuator}
+use Rattle.c_syntax.specs.Phrases.{AreMore, AreSeparated}
+use Rattle.c_syntax.specs.Tokens.{Phrase, HasPunctuator}
 use Rattle.c_syntax.proofs.Fronts.{punctuator_same, has_same}
 use Rattle.c_syntax.proofs.Once.{has_stops}
 

@@ -1,13 +1,13 @@
--- What productions share: a phrase between punctuators, and phrases separated by commas.
+-- What productions share: phrases in turn, between punctuators, and separated by commas.
 use Rattle.std.specs.Prelude.{List, [], ◌∷◌}
 use Rattle.c_lex.specs.declared.punctuator.Punctuator.{Punctuator}
 use Rattle.c_lex.specs.declared.punctuator.Punctuator.TheVariants as punctuators
 use Rattle.c_lex.specs.declared.token.Token.{Token}
-use Rattle.c_syntax.specs.Tokens.{HasPunctuator}
+use Rattle.c_syntax.specs.Tokens.{Phrase, HasPunctuator}
 
--- which tokens are a phrase before which rest
-abbrev pub Phrase : Type 1
-Phrase = List Token → List Token → Type 0
+-- one phrase after another
+abbrev pub InTurn : Phrase → Phrase → Phrase
+InTurn First Second ts rest = (mid : List Token) × First ts mid × Second mid rest
 
 -- a phrase between two punctuators
 pub record Between (left : Punctuator) (Inner : Phrase) (right : Punctuator)
@@ -30,11 +30,10 @@ pub record IsAnother (Element Others : Phrase) (ts rest : List Token) : Type 0 w
 
 -- further elements, and the punctuator that ends them
 abbrev pub AreMore : {A : Type 0} → (A → Phrase) → Punctuator → List A → Phrase
-AreMore Element end [] ts rest = HasPunctuator end ts rest
-AreMore Element end (x ∷ xs) ts rest = IsAnother (Element x) (AreMore Element end xs) ts rest
+AreMore Element end [] = HasPunctuator end
+AreMore Element end (x ∷ xs) = IsAnother (Element x) (AreMore Element end xs)
 
 -- at least one element
 abbrev pub AreSeparated : {A : Type 0} → (A → Phrase) → Punctuator → List A → Phrase
 AreSeparated Element end [] ts rest = ⊥
-AreSeparated Element end (x ∷ xs) ts rest =
-    (mid : List Token) × Element x ts mid × AreMore Element end xs mid rest
+AreSeparated Element end (x ∷ xs) ts rest = InTurn (Element x) (AreMore Element end xs) ts rest

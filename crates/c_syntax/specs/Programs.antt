@@ -11,11 +11,11 @@ use Rattle.c_syntax.specs.declared.expression.CType.{CType}
 use Rattle.c_syntax.specs.declared.expression.Identifier.{Identifier}
 use Rattle.c_syntax.specs.declared.expression.Literal.{Literal}
 use Rattle.c_syntax.specs.Expressions.{literal_kind, IsInteger}
-use Rattle.c_syntax.specs.Phrases.{Phrase, Between, AreMore, AreSeparated}
+use Rattle.c_syntax.specs.Phrases.{InTurn, Between, AreMore, AreSeparated}
 use Rattle.c_syntax.specs.Program.{Initialiser, Single, Several, Global, ExternalDeclaration, Globals, Function}
 use Rattle.c_syntax.specs.Statement.{Statements}
 use Rattle.c_syntax.specs.Statements.{IsBlock, AreBlockItems}
-use Rattle.c_syntax.specs.Tokens.{IsKind, IsPunctuator, IsIdentifier, HasPunctuator, HasKeyword}
+use Rattle.c_syntax.specs.Tokens.{Phrase, IsKind, IsPunctuator, IsIdentifier, HasPunctuator, HasKeyword}
 use Rattle.c_syntax.specs.Types.{IsBase, AreStars, IsType}
 
 -- ---- globals
@@ -28,18 +28,18 @@ pub record IsNegative (at : ℕ) (l : Literal) (ts rest : List Token) : Type 0 w
 
 -- a literal, or `-` and a literal
 abbrev pub IsLiteral : Bool → ℕ → Literal → Phrase
-IsLiteral false at literal ts rest = IsKind (literal_kind literal) at ts rest
-IsLiteral true at literal ts rest = IsNegative at literal ts rest
+IsLiteral false at literal = IsKind (literal_kind literal) at
+IsLiteral true at literal = IsNegative at literal
 
 abbrev pub IsConstant : Constant → Phrase
-IsConstant c ts rest = IsLiteral c.negative c.at c.literal ts rest
+IsConstant c = IsLiteral c.negative c.at c.literal
 
 -- further constants, and the brace
 abbrev pub AreMoreConstants : List Constant → Phrase
-AreMoreConstants cs ts rest = AreMore IsConstant punctuators.CloseBrace cs ts rest
+AreMoreConstants = AreMore IsConstant punctuators.CloseBrace
 
 abbrev pub AreConstants : List Constant → Phrase
-AreConstants cs ts rest = AreSeparated IsConstant punctuators.CloseBrace cs ts rest
+AreConstants = AreSeparated IsConstant punctuators.CloseBrace
 
 pub record IsInitialiserList (at : ℕ) (cs : List Constant) (ts rest : List Token) : Type 0 where
   pub after_assign : List Token
@@ -51,7 +51,7 @@ pub record IsInitialiserList (at : ℕ) (cs : List Constant) (ts rest : List Tok
 abbrev pub IsInitialiser : Option Initialiser → Phrase
 IsInitialiser None ts rest = ts ≡ rest
 IsInitialiser (Some (Single c)) ts rest =
-    (mid : List Token) × HasPunctuator punctuators.Assign ts mid × IsConstant c mid rest
+    InTurn (HasPunctuator punctuators.Assign) (IsConstant c) ts rest
 IsInitialiser (Some (Several at cs)) ts rest = IsInitialiserList at cs ts rest
 
 abbrev pub IsLength : Option Length → Phrase
@@ -70,27 +70,25 @@ pub record IsGlobal (g : Global) (ts rest : List Token) : Type 0 where
 
 -- further globals, and the semicolon
 abbrev pub AreMoreGlobals : List Global → Phrase
-AreMoreGlobals gs ts rest = AreMore IsGlobal punctuators.Semicolon gs ts rest
+AreMoreGlobals = AreMore IsGlobal punctuators.Semicolon
 
 abbrev pub AreGlobals : List Global → Phrase
-AreGlobals gs ts rest = AreSeparated IsGlobal punctuators.Semicolon gs ts rest
+AreGlobals = AreSeparated IsGlobal punctuators.Semicolon
 
 -- ---- functions
 
 abbrev pub IsParameter : Parameter → Phrase
-IsParameter p ts rest =
-    (mid : List Token) × IsType p.«of» ts mid × IsIdentifier p.name mid rest
+IsParameter p = InTurn (IsType p.«of») (IsIdentifier p.name)
 
 -- further parameters, and the parenthesis
 abbrev pub AreMoreParameters : List Parameter → Phrase
-AreMoreParameters ps ts rest = AreMore IsParameter punctuators.CloseParenthesis ps ts rest
+AreMoreParameters = AreMore IsParameter punctuators.CloseParenthesis
 
 -- no parameters are written as nothing or as `void`
 abbrev pub AreParameters : List Parameter → Phrase
 AreParameters [] ts rest =
     HasPunctuator punctuators.CloseParenthesis ts rest
-    ⊎ ((mid : List Token) × HasKeyword keywords.Void ts mid
-      × HasPunctuator punctuators.CloseParenthesis mid rest)
+    ⊎ InTurn (HasKeyword keywords.Void) (HasPunctuator punctuators.CloseParenthesis) ts rest
 AreParameters (p ∷ ps) ts rest =
     AreSeparated IsParameter punctuators.CloseParenthesis (p ∷ ps) ts rest
 
@@ -109,10 +107,8 @@ pub record IsFunction (text : List ℕ) (type : CType) (identifier : Identifier)
 -- ---- programs
 
 abbrev pub IsExternalDeclaration : List ℕ → ExternalDeclaration → Phrase
-IsExternalDeclaration text (Globals base gs) ts rest =
-    (mid : List Token) × IsBase base ts mid × AreGlobals gs mid rest
-IsExternalDeclaration text (Function returns name ps body) ts rest =
-    IsFunction text returns name ps body ts rest
+IsExternalDeclaration text (Globals base gs) = InTurn (IsBase base) (AreGlobals gs)
+IsExternalDeclaration text (Function returns name ps body) = IsFunction text returns name ps body
 
 -- all tokens are the program
 abbrev pub IsProgram : List ℕ → List ExternalDeclaration → List Token → Type 0
@@ -127,4 +123,5 @@ ParsesAs text xs = (ts : List Token) × IsTokens text ts × IsProgram text xs ts
 -- A text is one program at most.
 abbrev pub OneProgram : Type 0
 OneProgram =
-    (text : List ℕ) (xs ys : List ExternalDeclaration) → ParsesAs text xs → ParsesAs text ys → xs ≡ ys
+    (text : List ℕ) (xs ys : List ExternalDeclaration)
+    → ParsesAs text xs → ParsesAs text ys → xs ≡ ys

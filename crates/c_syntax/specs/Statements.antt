@@ -9,9 +9,9 @@ use Rattle.c_syntax.specs.declared.expression.Base.{Base}
 use Rattle.c_syntax.specs.Expression.{Expression}
 use Rattle.c_syntax.specs.Expressions.{Derives}
 use Rattle.c_syntax.specs.Operators.{assignment, comma}
-use Rattle.c_syntax.specs.Phrases.{Phrase, Between, AreMore, AreSeparated}
+use Rattle.c_syntax.specs.Phrases.{InTurn, Between, AreMore, AreSeparated}
 use Rattle.c_syntax.specs.Statement.{Local, ForInitialiser, Declaring, Evaluating, Statement, Declare, Block, Evaluate, If, IfElse, While, DoWhile, For, Return, Break, Continue, Leave, TryExcept, TryFinally, Statements, Empty, Then}
-use Rattle.c_syntax.specs.Tokens.{IsIdentifier, IsKeyword, HasPunctuator, HasKeyword}
+use Rattle.c_syntax.specs.Tokens.{Phrase, IsIdentifier, IsKeyword, HasPunctuator, HasKeyword}
 use Rattle.c_syntax.specs.Types.{IsBase, AreStars}
 
 -- ---- declarations
@@ -19,7 +19,7 @@ use Rattle.c_syntax.specs.Types.{IsBase, AreStars}
 abbrev pub IsInitialiser : List ℕ → Option Expression → Phrase
 IsInitialiser text None ts rest = ts ≡ rest
 IsInitialiser text (Some e) ts rest =
-    (mid : List Token) × HasPunctuator punctuators.Assign ts mid × Derives text assignment e mid rest
+    InTurn (HasPunctuator punctuators.Assign) (Derives text assignment e) ts rest
 
 pub record IsLocal (text : List ℕ) (l : Local) (ts rest : List Token) : Type 0 where
   pub after_stars : List Token
@@ -30,14 +30,13 @@ pub record IsLocal (text : List ℕ) (l : Local) (ts rest : List Token) : Type 0
 
 -- further locals, and the semicolon
 abbrev pub AreMoreLocals : List ℕ → List Local → Phrase
-AreMoreLocals text ls ts rest = AreMore (IsLocal text) punctuators.Semicolon ls ts rest
+AreMoreLocals text = AreMore (IsLocal text) punctuators.Semicolon
 
 abbrev pub AreLocals : List ℕ → List Local → Phrase
-AreLocals text ls ts rest = AreSeparated (IsLocal text) punctuators.Semicolon ls ts rest
+AreLocals text = AreSeparated (IsLocal text) punctuators.Semicolon
 
 abbrev pub IsDeclaration : List ℕ → Base → List Local → Phrase
-IsDeclaration text base ls ts rest =
-    (mid : List Token) × IsBase base ts mid × AreLocals text ls mid rest
+IsDeclaration text base ls = InTurn (IsBase base) (AreLocals text ls)
 
 -- ---- parts of statements
 
@@ -47,16 +46,15 @@ IsOptional text (Some e) ts rest = Derives text comma e ts rest
 
 -- an optional expression, and the punctuator that ends it
 abbrev pub IsUpTo : List ℕ → Punctuator → Option Expression → Phrase
-IsUpTo text end e ts rest =
-    (mid : List Token) × IsOptional text e ts mid × HasPunctuator end mid rest
+IsUpTo text end e = InTurn (IsOptional text e) (HasPunctuator end)
 
 abbrev pub IsCondition : List ℕ → Expression → Phrase
-IsCondition text e ts rest =
-    Between punctuators.OpenParenthesis (Derives text comma e) punctuators.CloseParenthesis ts rest
+IsCondition text e =
+    Between punctuators.OpenParenthesis (Derives text comma e) punctuators.CloseParenthesis
 
 abbrev pub IsForInitialiser : List ℕ → ForInitialiser → Phrase
-IsForInitialiser text (Declaring base ls) ts rest = IsDeclaration text base ls ts rest
-IsForInitialiser text (Evaluating e) ts rest = IsUpTo text punctuators.Semicolon e ts rest
+IsForInitialiser text (Declaring base ls) = IsDeclaration text base ls
+IsForInitialiser text (Evaluating e) = IsUpTo text punctuators.Semicolon e
 
 -- a declaration is in a block alone, and is no statement
 abbrev pub is_declaration : Statement → Bool
@@ -75,7 +73,8 @@ is_declaration (Leave at) = false
 is_declaration (TryExcept b at f h) = false
 is_declaration (TryFinally b at l) = false
 
--- An `else` belongs to the nearest `if` (C11, 6.8.4.1): before it is no statement that ends with an `if` without one.
+-- An `else` belongs to the nearest `if` (C11, 6.8.4.1): before it is no statement that ends with
+-- an `if` without one.
 abbrev pub dangles : Statement → Bool
 dangles (Declare base ls) = false
 dangles (Block ss) = false
@@ -139,7 +138,8 @@ pub record IsDoWhile (at : ℕ) (Body Condition : Phrase) (ts rest : List Token)
   pub semicolon : HasPunctuator punctuators.Semicolon after_condition rest
 
 -- `for`, up to its closing parenthesis
-pub record IsForHead (at : ℕ) (First Condition Next : Phrase) (ts rest : List Token) : Type 0 where
+pub record IsForHead (at : ℕ) (First Condition Next : Phrase)
+    (ts rest : List Token) : Type 0 where
   pub after_keyword : List Token
   pub after_opening : List Token
   pub after_first : List Token
@@ -180,43 +180,40 @@ pub record IsTryFinally (at : ℕ) (Body Last : Phrase) (ts rest : List Token) :
 
 -- a keyword, and the semicolon
 abbrev pub IsJump : Keyword → ℕ → Phrase
-IsJump k at ts rest =
-    (mid : List Token) × IsKeyword k at ts mid × HasPunctuator punctuators.Semicolon mid rest
+IsJump k at = InTurn (IsKeyword k at) (HasPunctuator punctuators.Semicolon)
 
 -- ---- statements
 
 -- The tokens before the rest are the statement, or the declaration.
 abbrev mutual
   pub IsBlockItem : List ℕ → Statement → Phrase
-  IsBlockItem text (Declare base ls) ts rest = IsDeclaration text base ls ts rest
-  IsBlockItem text (Block ss) ts rest = IsBlock (AreBlockItems text ss) ts rest
-  IsBlockItem text (Evaluate e) ts rest = IsUpTo text punctuators.Semicolon e ts rest
-  IsBlockItem text (If at c s) ts rest =
-      IsConditional keywords.If at (IsCondition text c) (IsStatement s (IsBlockItem text s)) ts rest
-  IsBlockItem text (IfElse at c s t) ts rest =
+  IsBlockItem text (Declare base ls) = IsDeclaration text base ls
+  IsBlockItem text (Block ss) = IsBlock (AreBlockItems text ss)
+  IsBlockItem text (Evaluate e) = IsUpTo text punctuators.Semicolon e
+  IsBlockItem text (If at c s) =
+      IsConditional keywords.If at (IsCondition text c) (IsStatement s (IsBlockItem text s))
+  IsBlockItem text (IfElse at c s t) =
       IsIfElse at s (IsCondition text c) (IsStatement s (IsBlockItem text s))
-      (IsStatement t (IsBlockItem text t)) ts rest
-  IsBlockItem text (While at c s) ts rest =
-      IsConditional keywords.While at (IsCondition text c) (IsStatement s (IsBlockItem text s)) ts rest
-  IsBlockItem text (DoWhile s at c) ts rest =
-      IsDoWhile at (IsStatement s (IsBlockItem text s)) (IsCondition text c) ts rest
-  IsBlockItem text (For at f c n s) ts rest =
+      (IsStatement t (IsBlockItem text t))
+  IsBlockItem text (While at c s) =
+      IsConditional keywords.While at (IsCondition text c) (IsStatement s (IsBlockItem text s))
+  IsBlockItem text (DoWhile s at c) =
+      IsDoWhile at (IsStatement s (IsBlockItem text s)) (IsCondition text c)
+  IsBlockItem text (For at f c n s) =
       IsFor at (IsForInitialiser text f) (IsUpTo text punctuators.Semicolon c)
-      (IsUpTo text punctuators.CloseParenthesis n) (IsStatement s (IsBlockItem text s)) ts rest
-  IsBlockItem text (Return at e) ts rest =
-      (mid : List Token) × IsKeyword keywords.Return at ts mid
-      × IsUpTo text punctuators.Semicolon e mid rest
-  IsBlockItem text (Break at) ts rest = IsJump keywords.Break at ts rest
-  IsBlockItem text (Continue at) ts rest = IsJump keywords.Continue at ts rest
-  IsBlockItem text (Leave at) ts rest = IsJump keywords.Leave at ts rest
-  IsBlockItem text (TryExcept body at f handler) ts rest =
+      (IsUpTo text punctuators.CloseParenthesis n) (IsStatement s (IsBlockItem text s))
+  IsBlockItem text (Return at e) =
+      InTurn (IsKeyword keywords.Return at) (IsUpTo text punctuators.Semicolon e)
+  IsBlockItem text (Break at) = IsJump keywords.Break at
+  IsBlockItem text (Continue at) = IsJump keywords.Continue at
+  IsBlockItem text (Leave at) = IsJump keywords.Leave at
+  IsBlockItem text (TryExcept body at f handler) =
       IsTryExcept at (IsBlock (AreBlockItems text body)) (IsCondition text f)
-      (IsBlock (AreBlockItems text handler)) ts rest
-  IsBlockItem text (TryFinally body at last) ts rest =
-      IsTryFinally at (IsBlock (AreBlockItems text body)) (IsBlock (AreBlockItems text last)) ts rest
+      (IsBlock (AreBlockItems text handler))
+  IsBlockItem text (TryFinally body at last) =
+      IsTryFinally at (IsBlock (AreBlockItems text body)) (IsBlock (AreBlockItems text last))
 
   -- the items of a block, and the brace that ends it
   pub AreBlockItems : List ℕ → Statements → Phrase
-  AreBlockItems text Empty ts rest = HasPunctuator punctuators.CloseBrace ts rest
-  AreBlockItems text (Then s ss) ts rest =
-      (mid : List Token) × IsBlockItem text s ts mid × AreBlockItems text ss mid rest
+  AreBlockItems text Empty = HasPunctuator punctuators.CloseBrace
+  AreBlockItems text (Then s ss) = InTurn (IsBlockItem text s) (AreBlockItems text ss)
