@@ -59,8 +59,10 @@ in_brace text funclets ts b found is few =
       before = m.front;
       split = m.split;
       no = λ n text' other a s x ps body end h w k.
-          let q = parameters found ps (m.front ++ other) (m.front ++ other) other h.after_parameters refl (again other) h.parameters in
-          x h.body.after_brace (subst (λ (z : List Token). HasPunctuator punctuators.OpenBrace z h.body.after_brace) (sym q.1) h.body.brace);
+          let q = parameters found ps (m.front ++ other)
+          (m.front ++ other) other h.after_parameters refl (again other) h.parameters in
+          x h.body.after_brace (subst (λ (z : List Token). HasPunctuator punctuators.OpenBrace z
+          h.body.after_brace) (sym q.1) h.body.brace);
       has = λ n text' inner a s h. record {
         more = punctuator punctuators.CloseBrace ∷ [];
         has = record {
@@ -92,9 +94,18 @@ in_body text left ts b c found l is few o =
       before = m.front ++ t ∷ [];
       split = m.split ∙ ap (λ (x : List Token). m.front ++ x) o.1.1 ∙ sym (append_append m.front (t ∷ []) c);
       no = λ n text' other a s x. following (λ z. NoTail left.funclets n text' z) m.front (t ∷ []) other (λ ps body end h w k.
-          let q = parameters found ps (m.front ++ t ∷ other) (m.front ++ t ∷ other) (t ∷ other) h.after_parameters refl (again (t ∷ other)) h.parameters in
-          let r = has_same punctuators.OpenBrace (t ∷ other) h.after_parameters other h.body.after_brace q.1 (o.0, (o.1.0, refl)) h.body.brace in
-          x body end (subst (λ (z : List Token). AreBlockItems text' body z end) (sym r) h.body.items) (record { statements = w.statements; expressions = w.expressions; locals = λ two. let a = w.locals two in omega arith; funclets = k }));
+          let q = parameters found ps (m.front ++ t ∷ other) (m.front ++ t ∷ other)
+          (t ∷ other) h.after_parameters refl (again (t ∷ other)) h.parameters in
+          let r = has_same punctuators.OpenBrace
+          (t ∷ other) h.after_parameters other h.body.after_brace q.1
+          (o.0, (o.1.0, refl)) h.body.brace in
+          x body end (subst (λ (z : List Token). AreBlockItems text' body z end)
+          (sym r) h.body.items) (record {
+            statements = w.statements;
+            expressions = w.expressions;
+            locals = λ two. let a = w.locals two in omega arith;
+            funclets = k;
+          }));
       has = λ n text' inner a s h.
           let v = h.within in record {
             more = [];
@@ -104,7 +115,8 @@ in_body text left ts b c found l is few o =
               is = λ other.
                   following (λ z. IsTail text' found h.trees z other) ((m.front ++ t ∷ []) ++ inner) [] other
                   (following (λ z. IsTail text' found h.trees z other) (m.front ++ t ∷ []) inner other
-                  (following (λ z. IsTail text' found h.trees z other) m.front (t ∷ []) (inner ++ other) (record {
+                  (following (λ z. IsTail text' found h.trees z other) m.front (t ∷ [])
+                  (inner ++ other) (record {
                     after_parameters = t ∷ (inner ++ other);
                     parameters = again (t ∷ (inner ++ other));
                     body = record {

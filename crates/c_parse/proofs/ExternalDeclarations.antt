@@ -61,9 +61,14 @@ no_name text b k ts d a is far s z none =
     missing NoHead HasHead text ts (far.front ++ ms.front) a (far.split ∙ ap (λ (x : List Token). far.front ++ x) ms.split ∙ sym (append_append far.front ms.front a))
     (λ text' other f. following (λ x. NoHead 0 text' x) far.front ms.front other (λ c n m g end h.
     let t = declarators_type n m g h.after_stars end h.stars h.name in
-    let q = far.only (ms.front ++ other) (subst (λ (x : List Token). SameFirst x (ms.front ++ other)) (sym ms.split) (first_after ms.front a other f)) c g h.base (λ x y w. t (base_front x g y w)) in
-    let r = stars_once k n (ms.front ++ other) g other h.after_stars q.1 (firsts.no_punctuator punctuators.Star a other f z) (name_star m h.after_stars end h.name) (again other) h.stars in
-    firsts.no_name a other f none m end (subst (λ (x : List Token). IsIdentifier m x end) (sym r.1) h.name)))
+    let q = far.only (ms.front ++ other)
+    (subst (λ (x : List Token). SameFirst x (ms.front ++ other)) (sym ms.split)
+    (first_after ms.front a other f)) c g h.base (λ x y w. t (base_front x g y w)) in
+    let r = stars_once k n (ms.front ++ other) g other h.after_stars q.1
+    (firsts.no_punctuator punctuators.Star a other f z) (name_star m h.after_stars end h.name)
+    (again other) h.stars in
+    firsts.no_name a other f none m end
+    (subst (λ (x : List Token). IsIdentifier m x end) (sym r.1) h.name)))
     (λ text'. record {
       more = name ∷ [];
       has = record {
@@ -76,7 +81,9 @@ no_name text b k ts d a is far s z none =
             (following (λ x. (g : List Token) × IsHead b k named x g other) far.front ms.front rest
             (ms.front ++ rest, record {
               after_stars = rest;
-              base = subst (λ (x : List Token). IsBase b (x ++ (ms.front ++ rest)) (ms.front ++ rest)) e (mb.again text (ms.front ++ rest) (alike_same text ts));
+              base =
+                  subst (λ (x : List Token). IsBase b (x ++ (ms.front ++ rest)) (ms.front ++ rest))
+                  e (mb.again text (ms.front ++ rest) (alike_same text ts));
               stars = again rest;
               name = refl;
             }));
@@ -100,14 +107,18 @@ headed text b n called ts d rest h =
       front = mb.front;
       split = mb.split;
       declared = ms.front ++ t ∷ [];
-      split_declared = ms.split ∙ ap (λ (x : List Token). ms.front ++ x) h.name ∙ sym (append_append ms.front (t ∷ []) rest);
+      split_declared =
+          ms.split ∙ ap (λ (x : List Token). ms.front ++ x) h.name
+          ∙ sym (append_append ms.front (t ∷ []) rest);
       again = λ other. mb.again text other (alike_same text ts);
       declares = λ other. following (λ x. (a : List Token) × AreStars n x a × IsIdentifier called a other) ms.front (t ∷ []) other (t ∷ other, ms.again text (t ∷ other) (alike_same text d), refl);
     }
 
 -- with these tokens after it
 is_head : (b : Base) (n : ℕ) (called : Identifier) (ts d rest : List Token) (m : Headed b n called ts d rest) (other : List Token) → IsHead b n called (m.front ++ (m.declared ++ other)) (m.declared ++ other) other
-is_head b n called ts d rest m other = let q = m.declares other in record { after_stars = q.0; base = m.again (m.declared ++ other); stars = q.1; name = q.2 }
+is_head b n called ts d rest m other =
+    let q = m.declares other in
+    record { after_stars = q.0; base = m.again (m.declared ++ other); stars = q.1; name = q.2 }
 
 whole_split : (b : Base) (n : ℕ) (called : Identifier) (ts d rest : List Token) (m : Headed b n called ts d rest) → ts ≡ (m.front ++ m.declared) ++ rest
 whole_split b n called ts d rest m = m.split ∙ ap (λ (x : List Token). m.front ++ x) m.split_declared ∙ sym (append_append m.front m.declared rest)
@@ -123,7 +134,8 @@ array_after counts n text inner w h =
       is = λ other.
           let q = h.is (array ++ other) in
           let rest = punctuator punctuators.Semicolon ∷ other in
-          following (λ x. IsExternalDeclaration text (Globals h.base (g ∷ [])) x other) inner array other
+          following (λ x. IsExternalDeclaration text (Globals h.base (g ∷ [])) x other) inner array
+          other
           (q.0, q.1.base, (rest, record {
             after_stars = q.1.after_stars;
             after_name = array ++ other;
@@ -160,13 +172,19 @@ typed b n = record { base = b; pointers = n }
 
 -- no globals stand where a parenthesis is after the head
 not_globals : (text : List ℕ) (b base : Base) (n : ℕ) (called : Identifier) (gs : List Global) (ts d rest inner end : List Token) → IsHead base n called ts d rest → HasPunctuator punctuators.OpenParenthesis rest inner → IsExternalDeclaration text (Globals b gs) ts end → ⊥
-not_globals text b base n called gs ts d rest inner end h o g = apart b gs (typed base n) called ts ts h.after_stars rest inner end refl g (d, h.base, h.stars) h.name o
+not_globals text b base n called gs ts d rest inner end h o g =
+    apart b gs (typed base n) called ts ts h.after_stars rest inner end refl g
+    (d, h.base, h.stars) h.name o
 
 -- a function has one head
 head_once : (base other : Base) (n m : ℕ) (called again : Identifier) (ts d e rest end : List Token) → IsHead base n called ts d rest → IsHead other m again ts e end → rest ≡ end
 head_once base other n m called again ts d e rest end h g =
-    let b = base_once base other ts ts d e refl (declarators_type n called d h.after_stars rest h.stars h.name) (declarators_type m again e g.after_stars end g.stars g.name) h.base g.base in
-    let s = stars_once n m d e h.after_stars g.after_stars b.1 (name_star called h.after_stars rest h.name) (name_star again g.after_stars end g.name) h.stars g.stars in
+    let b = base_once base other ts ts d e refl
+    (declarators_type n called d h.after_stars rest h.stars h.name)
+    (declarators_type m again e g.after_stars end g.stars g.name) h.base g.base in
+    let s = stars_once n m d e h.after_stars g.after_stars b.1
+    (name_star called h.after_stars rest h.name)
+    (name_star again g.after_stars end g.name) h.stars g.stars in
     (name_same called again h.after_stars g.after_stars rest end s.1 h.name g.name).1
 
 pub function : (text : List ℕ) (base : Base) (n : ℕ) (called : Identifier) (ps : List Parameter) (body : Statements) (ts d rest inner end : List Token) → IsHead base n called ts d rest → HasPunctuator punctuators.OpenParenthesis rest inner → IsTail text ps body inner end → IsExternalDeclaration text (Function (typed base n) called ps body) ts end
@@ -215,8 +233,11 @@ functions_full text counts base n called ts d rest inner w h o z =
               (following (λ x. IsExternalDeclaration text' (Function (typed base n) called [] Empty) x other) m.front m.declared u
               (function text' base n called [] Empty (m.front ++ (m.declared ++ u)) (m.declared ++ u) u (nothing ++ other) other (is_head base n called ts d rest m u) (o.0, (o.1.0, refl))
               (record {
-                after_parameters = punctuator punctuators.OpenBrace ∷ punctuator punctuators.CloseBrace ∷ other;
-                parameters = inl (has_it punctuators.CloseParenthesis (punctuator punctuators.OpenBrace ∷ punctuator punctuators.CloseBrace ∷ other));
+                after_parameters =
+                    punctuator punctuators.OpenBrace ∷ punctuator punctuators.CloseBrace ∷ other;
+                parameters =
+                    inl (has_it punctuators.CloseParenthesis
+                    (punctuator punctuators.OpenBrace ∷ punctuator punctuators.CloseBrace ∷ other));
                 body = record {
                   after_brace = punctuator punctuators.CloseBrace ∷ other;
                   brace = has_it punctuators.OpenBrace (punctuator punctuators.CloseBrace ∷ other);
@@ -231,13 +252,20 @@ functions_full text counts base n called ts d rest inner w h o z =
 no_tail : (counts : Counts) (k : ℕ) (text : List ℕ) (base : Base) (n : ℕ) (called : Identifier) (ts d rest inner : List Token) → IsHead base n called ts d rest → HasPunctuator punctuators.OpenParenthesis rest inner → NoTail counts.funclets k text inner → NoExternalDeclaration counts k text ts
 no_tail counts k text base n called ts d rest inner h o none (Globals b gs) end g w = not_globals text b base n called gs ts d rest inner end h o g
 no_tail counts k text base n called ts d rest inner h o none (Function t again ps body) end g w =
-    let r = head_once base t.base n t.pointers called again ts d g.returns.0 rest g.after_name h (record { after_stars = g.after_type; base = g.returns.1; stars = g.returns.2; name = g.name }) in
-    let i = has_same punctuators.OpenParenthesis rest g.after_name inner g.after_parenthesis r o g.parenthesis in
+    let r = head_once base t.base n t.pointers called again ts d g.returns.0 rest g.after_name h (record {
+      after_stars = g.after_type;
+      base = g.returns.1;
+      stars = g.returns.2;
+      name = g.name;
+    }) in
+    let i = has_same punctuators.OpenParenthesis rest g.after_name inner g.after_parenthesis r o
+    g.parenthesis in
     let b = length-append (funclets_of_all text body) [] in
     none ps body end
     (record {
       after_parameters = g.after_parameters;
-      parameters = subst (λ (x : List Token). AreParameters ps x g.after_parameters) (sym i) g.parameters;
+      parameters =
+          subst (λ (x : List Token). AreParameters ps x g.after_parameters) (sym i) g.parameters;
       body = g.body;
     }) w.each.0 (λ six. let a = w.funclets six in omega arith)
 
@@ -278,11 +306,19 @@ function_taken text counts after type called ps body f b low w n =
 
 no_globals : (counts : Counts) (k : ℕ) (text : List ℕ) (base : Base) (n : ℕ) (called : Identifier) (ts d rest : List Token) → IsHead base n called ts d rest → Lacks punctuators.OpenParenthesis rest → NoGlobals base counts.bytes k text d → NoExternalDeclaration counts k text ts
 no_globals counts k text base n called ts d rest h l none (Globals b gs) end g w =
-    let q = base_once base b ts ts d g.0 refl (declarators_type n called d h.after_stars rest h.stars h.name) (globals_type gs g.0 end g.2) h.base g.1 in
+    let q = base_once base b ts ts d g.0 refl
+    (declarators_type n called d h.after_stars rest h.stars h.name)
+    (globals_type gs g.0 end g.2) h.base g.1 in
     none gs end (subst (λ (x : List Token). AreGlobals gs x end) (sym q.1) g.2) (λ five. subst (λ (x : Base). end_of_globals x gs counts.bytes ≤ 1048576) (sym q.0) (w.bytes five))
 no_globals counts k text base n called ts d rest h l none (Function t again ps body) end g w =
-    let r = head_once base t.base n t.pointers called again ts d g.returns.0 rest g.after_name h (record { after_stars = g.after_type; base = g.returns.1; stars = g.returns.2; name = g.name }) in
-    l g.after_parenthesis (subst (λ (x : List Token). HasPunctuator punctuators.OpenParenthesis x g.after_parenthesis) (sym r) g.parenthesis)
+    let r = head_once base t.base n t.pointers called again ts d g.returns.0 rest g.after_name h (record {
+      after_stars = g.after_type;
+      base = g.returns.1;
+      stars = g.returns.2;
+      name = g.name;
+    }) in
+    l g.after_parenthesis (subst (λ (x : List Token). HasPunctuator punctuators.OpenParenthesis x
+    g.after_parenthesis) (sym r) g.parenthesis)
 
 -- of two ways to cut a list one goes further
 abbrev Cuts : List Token → List Token → List Token → List Token → Type 0
@@ -358,7 +394,11 @@ globals_taken text counts after base gs f b low n = record { each = tt; function
 
 more_globals : (gs : List Global) (ts end : List Token) → AreMoreGlobals gs ts end → length end < length ts
 more_globals [] ts end h = let a = ap length h.1.1 in omega arith
-more_globals (g ∷ gs) ts end h = let a = ap length h.comma.1.1 in let b = global_shorter g h.after_comma h.after_element h.element in let c = more_globals gs h.after_element end h.others in omega arith
+more_globals (g ∷ gs) ts end h =
+    let a = ap length h.comma.1.1 in
+    let b = global_shorter g h.after_comma h.after_element h.element in
+    let c = more_globals gs h.after_element end h.others in
+    omega arith
 
 globals : (gs : List Global) (ts end : List Token) → AreGlobals gs ts end → length end < length ts
 globals [] ts end h = absurd h
@@ -367,7 +407,12 @@ globals (g ∷ gs) ts end h = let b = global_shorter g ts h.0 h.1 in let c = mor
 more_parameters : (ps : List Parameter) (ts end : List Token) → AreMoreParameters ps ts end → length end ≤ length ts
 more_parameters [] ts end h = let a = ap length h.1.1 in omega arith
 more_parameters (p ∷ ps) ts end h =
-    let a = ap length h.comma.1.1 in let b = base p.«of».base h.after_comma h.element.1.0 h.element.1.1 in let c = stars p.«of».pointers h.element.1.0 h.element.0 h.element.1.2 in let d = ap length h.element.2 in let e = more_parameters ps h.after_element end h.others in omega arith
+    let a = ap length h.comma.1.1 in
+    let b = base p.«of».base h.after_comma h.element.1.0 h.element.1.1 in
+    let c = stars p.«of».pointers h.element.1.0 h.element.0 h.element.1.2 in
+    let d = ap length h.element.2 in
+    let e = more_parameters ps h.after_element end h.others in
+    omega arith
 
 parameters : (ps : List Parameter) (ts end : List Token) → AreParameters ps ts end → length end ≤ length ts
 parameters [] ts end (inl h) = let a = ap length h.1.1 in omega arith
@@ -378,5 +423,11 @@ parameters (p ∷ ps) ts end h =
 pub shorter : (text : List ℕ) (x : ExternalDeclaration) (ts end : List Token) → IsExternalDeclaration text x ts end → length end < length ts
 shorter text (Globals b gs) ts end h = let a = base b ts h.0 h.1 in let c = globals gs h.0 end h.2 in omega arith
 shorter text (Function t name ps body) ts end h =
-    let a = base t.base ts h.returns.0 h.returns.1 in let b = stars t.pointers h.returns.0 h.after_type h.returns.2 in let c = ap length h.name in let d = ap length h.parenthesis.1.1 in
-    let e = parameters ps h.after_parenthesis h.after_parameters h.parameters in let f = ap length h.body.brace.1.1 in let g = items text body h.body.after_brace end h.body.items in omega arith
+    let a = base t.base ts h.returns.0 h.returns.1 in
+    let b = stars t.pointers h.returns.0 h.after_type h.returns.2 in
+    let c = ap length h.name in
+    let d = ap length h.parenthesis.1.1 in
+    let e = parameters ps h.after_parenthesis h.after_parameters h.parameters in
+    let f = ap length h.body.brace.1.1 in
+    let g = items text body h.body.after_brace end h.body.items in
+    omega arith

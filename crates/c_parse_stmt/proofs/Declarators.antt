@@ -109,14 +109,27 @@ in_local text room n named ts d b s m =
       split = w.split;
       no = λ k text' other a same none l end h st low over.
           let g = w.again text' other a in
-          let p = stars_once n l.pointers (w.front ++ other) (w.front ++ other) g.0 h.after_stars refl (name_star named g.0 other g.2) (name_star l.name h.after_stars h.after_name h.name) g.1 h.stars in
+          let p = stars_once n l.pointers (w.front ++ other)
+          (w.front ++ other) g.0 h.after_stars refl (name_star named g.0 other g.2)
+          (name_star l.name h.after_stars h.after_name h.name) g.1 h.stars in
           let q = name_same named l.name g.0 h.after_stars other h.after_name p.1 g.2 h.name in
-          none l.initialiser end (subst (λ (x : List Token). IsInitialiser text' l.initialiser x end) (sym q.1) h.initialiser) st low over;
+          none l.initialiser end (subst (λ (x : List Token). IsInitialiser text' l.initialiser x
+          end) (sym q.1) h.initialiser) st low over;
       has = λ k text' inner a speaks x. record {
         more = [];
         has = record {
           tree = record { pointers = n; name = named; initialiser = x.tree };
-          is = λ other. let g = w.again text' (inner ++ other) a in subst (λ (z : List Token). IsLocal text' (record { pointers = n; name = named; initialiser = x.tree }) z other) (sym (flat w.front inner [] other)) (record { after_stars = g.0; after_name = inner ++ other; stars = g.1; name = g.2; initialiser = x.is other });
+          is = λ other.
+              let g = w.again text' (inner ++ other) a in
+              subst (λ (z : List Token). IsLocal text'
+              (record { pointers = n; name = named; initialiser = x.tree }) z other)
+              (sym (flat w.front inner [] other)) (record {
+                after_stars = g.0;
+                after_name = inner ++ other;
+                stars = g.1;
+                name = g.2;
+                initialiser = x.is other;
+              });
           low = x.low;
           over = x.over;
         };
@@ -136,13 +149,25 @@ no_name text room n ts d s z none =
     let w = stars n text ts d s in
     missing (NoLocal room) (HasLocal room) text ts w.front d w.split
     (λ text' other a same l end h st low over.
-    let p = stars_once n l.pointers (w.front ++ other) (w.front ++ other) other h.after_stars refl (lacks_first punctuators.Star d other same z) (name_star l.name h.after_stars h.after_name h.name) (w.again text' other a) h.stars in
-    first_keeps NoIdentifier named_elsewhere d other same none l.name h.after_name (subst (λ (x : List Token). IsIdentifier l.name x h.after_name) (sym p.1) h.name))
+    let p = stars_once n l.pointers (w.front ++ other) (w.front ++ other) other h.after_stars refl
+    (lacks_first punctuators.Star d other same z)
+    (name_star l.name h.after_stars h.after_name h.name) (w.again text' other a) h.stars in
+    first_keeps NoIdentifier named_elsewhere d other same none l.name h.after_name
+    (subst (λ (x : List Token). IsIdentifier l.name x h.after_name) (sym p.1) h.name))
     (λ text' a k. record {
       more = begins.name ∷ [];
       has = record {
         tree = record { pointers = n; name = a_name; initialiser = None };
-        is = λ other. subst (λ (z : List Token). IsLocal text' (record { pointers = n; name = a_name; initialiser = None }) z other) (sym (append_assoc w.front (begins.name ∷ []) other)) (record { after_stars = begins.name ∷ other; after_name = other; stars = w.again text' (begins.name ∷ other) a; name = refl; initialiser = refl });
+        is =
+            λ other. subst (λ (z : List Token). IsLocal text'
+            (record { pointers = n; name = a_name; initialiser = None }) z other)
+            (sym (append_assoc w.front (begins.name ∷ []) other)) (record {
+              after_stars = begins.name ∷ other;
+              after_name = other;
+              stars = w.again text' (begins.name ∷ other) a;
+              name = refl;
+              initialiser = refl;
+            });
         low = λ k. omega arith;
         over = λ k. omega arith;
       };

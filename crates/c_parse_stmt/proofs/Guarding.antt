@@ -316,7 +316,9 @@ filter_fails room at whole left body text ts rest j o g k =
             tree = TryExcept body at has.tree Empty;
             is = λ other.
                 let x = both_fixed (Filtering body at has.tree) Braces text' (front ++ inner) braces (both_fixed (Excepting body at) (Condition has.tree) text' front inner r has.is) (is_braces text') other in
-                filtered body at has.tree Empty text' (((front ++ inner) ++ braces) ++ other) x.mid x.second.after_brace x.first other x.second.brace x.second.items;
+                filtered body at has.tree Empty text'
+                (((front ++ inner) ++ braces) ++ other) x.mid x.second.after_brace x.first other
+                x.second.brace x.second.items;
             statement = refl;
             within = record {
               statements = λ i. let a = w.statements i in omega arith;
@@ -397,7 +399,8 @@ finally_open room at whole left next body text ts rest j g k fu lo =
 
 clause_moves : (c : Clause) (text : List ℕ) (ts rest : List Token) → IsClause text c ts rest → Moves (λ t. IsClause t c) text ts rest
 clause_moves (clauses.Except at f) text ts rest h =
-    moves_so (Both (Both (Key keywords.Except at) (Condition (expression f))) (Sig punctuators.OpenBrace)) (λ t. IsClause t (clauses.Except at f)) text ts rest
+    moves_so (Both (Both (Key keywords.Except at) (Condition (expression f)))
+    (Sig punctuators.OpenBrace)) (λ t. IsClause t (clauses.Except at f)) text ts rest
     (λ t us end x. record {
       after_keyword = x.first.mid;
       after_filter = x.mid;
@@ -405,8 +408,10 @@ clause_moves (clauses.Except at f) text ts rest h =
       filter = x.first.second;
       brace = x.second;
     })
-    (both_moves (Both (Key keywords.Except at) (Condition (expression f))) (Sig punctuators.OpenBrace) text ts h.after_filter rest
-    (both_moves (Key keywords.Except at) (Condition (expression f)) text ts h.after_keyword h.after_filter
+    (both_moves (Both (Key keywords.Except at) (Condition (expression f)))
+    (Sig punctuators.OpenBrace) text ts h.after_filter rest
+    (both_moves (Key keywords.Except at)
+    (Condition (expression f)) text ts h.after_keyword h.after_filter
     (key_moves keywords.Except at text ts h.after_keyword h.keyword)
     (condition (expression f) text h.after_keyword h.after_filter h.filter))
     (has_punctuator punctuators.OpenBrace text h.after_filter rest h.brace))
@@ -425,17 +430,26 @@ last_block room whole left next body (clauses.Except at f) text ts rest j g c =
     wraps (Clausing body (clauses.Except at f)) (NoBlockItems room next) (HasBlockItems room next) (NoStatement room whole) (HasStatement room whole) text ts j (clausing_moves room whole left body (clauses.Except at f) text ts rest j g c.is)
     (λ n text' all other h e r none.
     let x = r.first in
-    no_handler n text' room x.first.1.0 at whole left next body (expression f) x.first.0 r.mid r.second.after_keyword r.second.after_filter (braced body text' all r.mid x) (taken_moved room whole left body text text' ts rest h g) r.second.keyword r.second.filter
-    (filter_moved room at whole left next body (expression f) text text' ts rest c.is.after_keyword c.is.after_filter h g c.is.keyword c.is.filter c.funclets) c.locals (no_braced n text' room next r.second.after_filter other r.second.brace none) all x.first.1.1)
+    no_handler n text' room x.first.1.0 at whole left next body
+    (expression f) x.first.0 r.mid r.second.after_keyword r.second.after_filter
+    (braced body text' all r.mid x)
+    (taken_moved room whole left body text text' ts rest h g) r.second.keyword r.second.filter
+    (filter_moved room at whole left next body
+    (expression f) text text' ts rest c.is.after_keyword c.is.after_filter h g c.is.keyword
+    c.is.filter c.funclets) c.locals
+    (no_braced n text' room next r.second.after_filter other r.second.brace none) all x.first.1.1)
     (λ n text' front inner h r has. able_now (HasStatement room whole) n text' (front ++ inner) (
     let t = taken_moved room whole left body text text' ts rest h g in
-    let q = filter_moved room at whole left next body (expression f) text text' ts rest c.is.after_keyword c.is.after_filter h g c.is.keyword c.is.filter c.funclets in
+    let q = filter_moved room at whole left next body
+    (expression f) text text' ts rest c.is.after_keyword c.is.after_filter h g c.is.keyword
+    c.is.filter c.funclets in
     let l = c.locals in let s = c.statements in let y = c.low in
     record {
       tree = TryExcept body at (expression f) has.trees;
       is = λ other.
           let x = both_fixed (Clausing body (clauses.Except at f)) (Items has.trees) text' front inner r has.are other in let z = x.first.second in
-          excepted body has.trees at (expression f) text' ((front ++ inner) ++ other) other (record {
+          excepted body has.trees at (expression f) text' ((front ++ inner) ++ other) other
+          (record {
             mid = x.first.mid;
             first = x.first.first;
             second = record {
@@ -482,12 +496,21 @@ last_block room whole left next body (clauses.Finally at) text ts rest j g c =
 
 pub guarded_found : (room : ℕ) (whole left next after : Left) (body last : Statements) (c : Clause) (text : List ℕ) (ts rest j end : List Token) → Guards text room whole left body ts rest → Continues text room left next c rest j → AreBlockItems text last j end → AllTaken text room next after last → Reads text room whole after (with_clause body c last) ts end
 guarded_found room whole left next after body last (clauses.Except at f) text ts rest j end g c are t =
-    except_found text room g.is.1.0 at whole left next after body last (expression f) g.is.0 rest c.is.after_keyword c.is.after_filter end c.statements
-    (record { after_brace = g.mid; brace = g.is.2; items = g.are }) g.taken c.is.keyword c.is.filter c.low c.funclets c.locals
+    except_found text room g.is.1.0 at whole left next after body last
+    (expression f) g.is.0 rest c.is.after_keyword c.is.after_filter end c.statements
+    (record {
+      after_brace = g.mid;
+      brace = g.is.2;
+      items = g.are;
+    }) g.taken c.is.keyword c.is.filter c.low c.funclets c.locals
     (record { after_brace = j; brace = c.is.brace; items = are }) t ts g.is.1.1
 guarded_found room whole left next after body last (clauses.Finally at) text ts rest j end g c are t =
     finally_found text room g.is.1.0 at whole left next after body last g.is.0 rest c.is.0 end
-    (record { after_brace = g.mid; brace = g.is.2; items = g.are }) g.taken c.is.1 c.funclets c.locals
+    (record {
+      after_brace = g.mid;
+      brace = g.is.2;
+      items = g.are;
+    }) g.taken c.is.1 c.funclets c.locals
     (record { after_brace = j; brace = c.is.2; items = are }) t ts g.is.1.1
 
 abbrev pub guards : (text : List ℕ) (room : ℕ) (left after : Left) (body : Statements) (ts mid rest : List Token) → 1 ≤ room + left.funclets → IsTry ts mid → AreBlockItems text body mid rest → AllTaken text room left after body → Guards text room left after body ts rest

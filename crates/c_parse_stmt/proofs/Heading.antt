@@ -69,9 +69,12 @@ in_parentheses = punctuator punctuators.OpenParenthesis ∷ token (kinds.Integer
 
 pub is_unit : (text : List ℕ) → Fixed (Condition unit) text in_parentheses
 is_unit text other = record {
-  after_opening = token (kinds.Integer 1 types.Int) 0 0 ∷ punctuator punctuators.CloseParenthesis ∷ other;
+  after_opening =
+      token (kinds.Integer 1 types.Int) 0 0 ∷ punctuator punctuators.CloseParenthesis ∷ other;
   after_inner = punctuator punctuators.CloseParenthesis ∷ other;
-  opening = a_punctuator punctuators.OpenParenthesis (token (kinds.Integer 1 types.Int) 0 0 ∷ punctuator punctuators.CloseParenthesis ∷ other);
+  opening =
+      a_punctuator punctuators.OpenParenthesis
+      (token (kinds.Integer 1 types.Int) 0 0 ∷ punctuator punctuators.CloseParenthesis ∷ other);
   inner = record { fits = omega arith; spells = (0, refl) };
   closing = a_punctuator punctuators.CloseParenthesis other;
 }
@@ -241,7 +244,9 @@ try_too_many room at left text ts a z y k =
           try_keyword = (at, (end, refl));
           body = record {
             after_brace = punctuator punctuators.CloseBrace ∷ finally ++ other;
-            brace = a_punctuator punctuators.OpenBrace (punctuator punctuators.CloseBrace ∷ finally ++ other);
+            brace =
+                a_punctuator punctuators.OpenBrace
+                (punctuator punctuators.CloseBrace ∷ finally ++ other);
             items = a_punctuator punctuators.CloseBrace (finally ++ other);
           };
           keyword = a_word keywords.Finally (braces ++ other);
@@ -277,7 +282,8 @@ while_condition room at left text ts a o k =
       has = record {
         tree = While at has.tree (Evaluate None);
         is = λ other.
-            let x = both_fixed (Condition has.tree) Empties text' inner semicolon has.is (is_empty text') other in
+            let x = both_fixed (Condition has.tree) Empties text' inner semicolon has.is
+            (is_empty text') other in
             record {
               after_keyword = (inner ++ semicolon) ++ other;
               after_condition = x.mid;
@@ -298,7 +304,8 @@ if_condition room at left text ts a o k =
       has = record {
         tree = If at has.tree (Evaluate None);
         is = λ other.
-            let x = both_fixed (Condition has.tree) Empties text' inner semicolon has.is (is_empty text') other in
+            let x = both_fixed (Condition has.tree) Empties text' inner semicolon has.is
+            (is_empty text') other in
             record {
               after_keyword = (inner ++ semicolon) ++ other;
               after_condition = x.mid;

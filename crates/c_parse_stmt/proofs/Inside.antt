@@ -51,7 +51,8 @@ head_moves (heads.While at c) text ts rest h =
     (both_moves (Key keywords.While at) (Condition (expression c)) text ts h.0 rest (key_moves keywords.While at text ts h.0 h.1) (condition (expression c) text h.0 rest h.2))
 head_moves heads.Do text ts rest h = has_keyword keywords.Do text ts rest h
 head_moves (heads.For at f c n) text ts rest h =
-    statements.for_head at (first f) (option_map expression c) (option_map expression n) text ts rest h
+    statements.for_head at (first f) (option_map expression c)
+    (option_map expression n) text ts rest h
 
 -- ---- the same counts
 
@@ -99,7 +100,15 @@ no_inner (heads.While at c) n text room less whole left all other m h w l f none
 no_inner heads.Do n text room less whole left all other m h w l f none =
     no_do_body n text room less h.0 whole other m (none_from n text less left whole other (same_left left whole (omega arith) f) none) all h.1
 no_inner (heads.For at g c e) n text room less whole left all other m h w l f none =
-    no_for_body n text room less at whole left (first g) (option_map expression c) (option_map expression e) h.after_keyword h.after_opening h.after_first h.after_condition other m (record { opens = h.opening; is = h.first; low = omega arith; locals = l; funclets = f }) h.condition h.next none all h.keyword
+    no_for_body n text room less at whole left (first g) (option_map expression c)
+    (option_map expression e) h.after_keyword h.after_opening h.after_first h.after_condition other
+    m (record {
+      opens = h.opening;
+      is = h.first;
+      low = omega arith;
+      locals = l;
+      funclets = f;
+    }) h.condition h.next none all h.keyword
 
 has_inner : (h : Head) (n : ℕ) (text : List ℕ) (room less : ℕ) (whole left : Left) (front inner : List Token) → less + 1 ≡ room → expressions_over h ≤ 64 → left.locals + locals h ≡ whole.locals → left.funclets ≡ whole.funclets → Fixed (Headed h) text front → HasStatement less left n text inner → Able (HasStatement room whole) n text (front ++ inner)
 has_inner (heads.If at c) n text room less whole left front inner m w l f r has = able_now (HasStatement room whole) n text (front ++ inner) (record {
@@ -119,7 +128,8 @@ has_inner (heads.If at c) n text room less whole left front inner m w l f r has 
 has_inner (heads.While at c) n text room less whole left front inner m w l f r has = able_now (HasStatement room whole) n text (front ++ inner) (record {
   tree = While at (expression c) has.tree;
   is = λ other.
-      let x = both_fixed (Headed (heads.While at c)) (Item has.tree) text front inner r has.is other in
+      let x = both_fixed (Headed (heads.While at c))
+      (Item has.tree) text front inner r has.is other in
       record {
         after_keyword = x.first.0;
         after_condition = x.mid;
@@ -155,7 +165,9 @@ has_inner (heads.For at g c e) n text room less whole left front inner m w l f r
   tree = For at (first g) (option_map expression c) (option_map expression e) has.tree;
   is = λ other.
       let x = both_fixed (Headed (heads.For at g c e)) (Item has.tree) text front inner r has.is other in let y = x.first in
-      for_item text at (first g) (option_map expression c) (option_map expression e) has.tree ((front ++ inner) ++ other) y.after_keyword y.after_opening y.after_first y.after_condition x.mid other y.keyword y.opening y.first y.condition y.next has.statement x.second;
+      for_item text at (first g) (option_map expression c) (option_map expression e) has.tree
+      ((front ++ inner) ++ other) y.after_keyword y.after_opening y.after_first y.after_condition
+      x.mid other y.keyword y.opening y.first y.condition y.next has.statement x.second;
   statement = refl;
   within = record { statements = λ i. let a = has.within.statements i in omega arith; expressions = λ i. let a = has.within.expressions i in omega arith; locals = λ i. let a = has.within.locals i in omega arith; funclets = λ i. let a = has.within.funclets i in omega arith };
 })
@@ -251,7 +263,15 @@ while_ends at room whole left c s text ts rest g =
 pub for_ends : (at room : ℕ) (whole left : Left) (f : ForInitialiser) (c n : Option Expr) (s : Statement) (text : List ℕ) (ts rest : List Token) → Holds text room whole left (heads.For at f c n) s ts rest → Reads text room whole left (For at (first f) (option_map expression c) (option_map expression n) s) ts rest
 for_ends at room whole left f c n s text ts rest g =
     let i = g.head.is in let low = g.head.low in
-    for_found text room g.less at whole g.between left (first f) (option_map expression c) (option_map expression n) s i.after_keyword i.after_opening i.after_first i.after_condition g.mid rest g.more (record { opens = i.opening; is = i.first; low = omega arith; locals = g.head.locals; funclets = g.head.funclets }) i.condition (omega arith) i.next (omega arith) g.inner ts i.keyword
+    for_found text room g.less at whole g.between left (first f) (option_map expression c)
+    (option_map expression n) s i.after_keyword i.after_opening i.after_first i.after_condition
+    g.mid rest g.more (record {
+      opens = i.opening;
+      is = i.first;
+      low = omega arith;
+      locals = g.head.locals;
+      funclets = g.head.funclets;
+    }) i.condition (omega arith) i.next (omega arith) g.inner ts i.keyword
 
 -- ---- `do`
 

@@ -40,7 +40,9 @@ stated_by_keyword text keywords.Break at end h l = record { more = punctuator pu
 stated_by_keyword text keywords.Char at end h l = absurd (omega arith)
 stated_by_keyword text keywords.Continue at end h l = record { more = punctuator punctuators.Semicolon ∷ []; tree = Continue at; is = λ other. (_, (end, refl), (0, (0, refl))); statement = refl }
 stated_by_keyword text keywords.Do at end h l = record {
-  more = punctuator punctuators.Semicolon ∷ keyword keywords.While ∷ conditional (punctuator punctuators.Semicolon ∷ []);
+  more =
+      punctuator punctuators.Semicolon ∷ keyword keywords.While
+      ∷ conditional (punctuator punctuators.Semicolon ∷ []);
   tree = DoWhile (Evaluate None) 0 variable;
   is = λ other. record {
     after_do = _;
@@ -58,7 +60,8 @@ stated_by_keyword text keywords.Do at end h l = record {
 stated_by_keyword text keywords.Else at end h l = absurd (omega arith)
 stated_by_keyword text keywords.For at end h l = record {
   more =
-      punctuator punctuators.OpenParenthesis ∷ punctuator punctuators.Semicolon ∷ punctuator punctuators.Semicolon
+      punctuator punctuators.OpenParenthesis ∷ punctuator punctuators.Semicolon
+      ∷ punctuator punctuators.Semicolon
       ∷ punctuator punctuators.CloseParenthesis ∷ punctuator punctuators.Semicolon ∷ [];
   tree = For at (Evaluating None) None None (Evaluate None);
   is = λ other. record {
@@ -116,7 +119,8 @@ stated_by_keyword text keywords.While at end h l = record {
 }
 stated_by_keyword text keywords.Try at end h l = record {
   more =
-      punctuator punctuators.OpenBrace ∷ punctuator punctuators.CloseBrace ∷ keyword keywords.Finally
+      punctuator punctuators.OpenBrace ∷ punctuator punctuators.CloseBrace
+      ∷ keyword keywords.Finally
       ∷ punctuator punctuators.OpenBrace ∷ punctuator punctuators.CloseBrace ∷ [];
   tree = TryFinally Empty 0 Empty;
   is = λ other. record {

@@ -118,7 +118,8 @@ after_if text at (If at' c s) ts a end k h =
       body = s;
       after_condition = h.after_condition;
       same = ap (λ (x : ℕ). If x c s) (sym p.0);
-      is_condition = subst (λ (x : List Token). IsCondition text c x h.after_condition) (sym p.1) h.condition;
+      is_condition =
+          subst (λ (x : List Token). IsCondition text c x h.after_condition) (sym p.1) h.condition;
       is_body = h.body;
     })
 after_if text at (IfElse at' c s t) ts a end k h =
@@ -131,7 +132,8 @@ after_if text at (IfElse at' c s t) ts a end k h =
       after_body = h.after_body;
       after_else = h.after_else;
       same = ap (λ (x : ℕ). IfElse x c s t) (sym p.0);
-      is_condition = subst (λ (x : List Token). IsCondition text c x h.after_condition) (sym p.1) h.condition;
+      is_condition =
+          subst (λ (x : List Token). IsCondition text c x h.after_condition) (sym p.1) h.condition;
       complete = h.complete;
       is_body = h.body;
       else_keyword = h.else_keyword;
@@ -160,7 +162,8 @@ after_while text at (While at' c s) ts a end k h =
       body = s;
       after_condition = h.after_condition;
       same = ap (λ (x : ℕ). While x c s) (sym p.0);
-      is_condition = subst (λ (x : List Token). IsCondition text c x h.after_condition) (sym p.1) h.condition;
+      is_condition =
+          subst (λ (x : List Token). IsCondition text c x h.after_condition) (sym p.1) h.condition;
       is_body = h.body;
     }
 after_while text at (DoWhile s at' c) ts a end k h = absurd (let p : begins ts ≡ 4 = ap begins k.1 in let q = item_begins text (DoWhile s at' c) ts end h in omega arith)
@@ -189,7 +192,9 @@ after_do text at (DoWhile s at' c) ts a end k h =
       after_while = h.after_while;
       after_condition = h.after_condition;
       same = refl;
-      is_body = subst (λ (x : List Token). IsStatement s (IsBlockItem text s) x h.after_body) (sym p) h.body;
+      is_body =
+          subst (λ (x : List Token). IsStatement s (IsBlockItem text s) x h.after_body)
+          (sym p) h.body;
       keyword = h.keyword;
       is_condition = h.condition;
       semicolon = h.semicolon;
@@ -222,7 +227,9 @@ after_for text at (For at' f c n s) ts a end k h =
       after_condition = h.after_condition;
       after_head = h.after_head;
       same = ap (λ (x : ℕ). For x f c n s) (sym p.0);
-      opening = subst (λ (x : List Token). HasPunctuator punctuators.OpenParenthesis x h.after_opening) (sym p.1) h.opening;
+      opening =
+          subst (λ (x : List Token). HasPunctuator punctuators.OpenParenthesis x h.after_opening)
+          (sym p.1) h.opening;
       is_first = h.first;
       is_condition = h.condition;
       is_next = h.next;
@@ -246,7 +253,8 @@ after_return text at (DoWhile s at' c) ts a end k h = absurd (let p : begins ts 
 after_return text at (For at' f c n s) ts a end k h = absurd (let p : begins ts ≡ 7 = ap begins k.1 in let q = item_begins text (For at' f c n s) ts end h in omega arith)
 after_return text at (Return at' e) ts a end k h =
     let p = place keywords.Return at at' ts ts a h.0 refl k h.1 in
-    (e, ap (λ (x : ℕ). Return x e) (sym p.0), subst (λ (x : List Token). IsUpTo text punctuators.Semicolon e x end) (sym p.1) h.2)
+    (e, ap (λ (x : ℕ). Return x e) (sym p.0),
+    subst (λ (x : List Token). IsUpTo text punctuators.Semicolon e x end) (sym p.1) h.2)
 after_return text at (Break at') ts a end k h = absurd (let p : begins ts ≡ 7 = ap begins k.1 in let q = item_begins text (Break at') ts end h in omega arith)
 after_return text at (Continue at') ts a end k h = absurd (let p : begins ts ≡ 7 = ap begins k.1 in let q = item_begins text (Continue at') ts end h in omega arith)
 after_return text at (Leave at') ts a end k h = absurd (let p : begins ts ≡ 7 = ap begins k.1 in let q = item_begins text (Leave at') ts end h in omega arith)
@@ -349,7 +357,9 @@ AfterBrace text z ts end = (ss : Statements) × (z ≡ Block ss) × AreBlockItem
 
 pub after_brace : (text : List ℕ) (z : Statement) (ts a end : List Token) → HasPunctuator punctuators.OpenBrace ts a → IsBlockItem text z ts end → AfterBrace text z a end
 after_brace text (Declare b ls) ts a end k h = absurd (let p : begins ts ≡ 2 = ap begins k.1.1 in let q = item_begins text (Declare b ls) ts end h in omega arith)
-after_brace text (Block ss) ts a end k h = let p = has_same punctuators.OpenBrace ts ts h.after_brace a refl h.brace k in (ss, refl, subst (λ (x : List Token). AreBlockItems text ss x end) p h.items)
+after_brace text (Block ss) ts a end k h =
+    let p = has_same punctuators.OpenBrace ts ts h.after_brace a refl h.brace k in
+    (ss, refl, subst (λ (x : List Token). AreBlockItems text ss x end) p h.items)
 after_brace text (Evaluate e) ts a end k h = absurd (let p : begins ts ≡ 2 = ap begins k.1.1 in let q = item_begins text (Evaluate e) ts end h in omega arith)
 after_brace text (If at' c s) ts a end k h = absurd (let p : begins ts ≡ 2 = ap begins k.1.1 in let q = item_begins text (If at' c s) ts end h in omega arith)
 after_brace text (IfElse at' c s t) ts a end k h = absurd (let p : begins ts ≡ 2 = ap begins k.1.1 in let q = item_begins text (IfElse at' c s t) ts end h in omega arith)
