@@ -269,10 +269,14 @@ none_after m closed n a text before middle other l o e c bound high f end h low 
     let v = a ∷ (middle ++ other) in
     let p : (before ++ a ∷ middle) ++ other ≡ before ++ v = append_assoc before (a ∷ middle) other in
     let x = opening_again (suc m) before v o in
-    let q = has_same punctuators.OpenParenthesis ((before ++ a ∷ middle) ++ other) (before ++ v) h.0 x.0 p h.2 x.1 in
+    let q = has_same punctuators.OpenParenthesis ((before ++ a ∷ middle) ++ other)
+    (before ++ v) h.after_opening x.0 p h.opening x.1 in
     let y = opening_split (m - closed) closed m x.0 v (omega arith) x.2 in
     let z = nested closed text e.tree y.0 v (middle ++ other) other y.2 (e.spells (middle ++ other)) (closing_again closed middle other c) in
-    let w = least (m - closed) n text x.0 y.0 y.1 (bound y.0 z) (λ k. opening_untyped closed y.0 v y.2 (λ i. let j = e.class in absurd (omega arith))) f h.1 end (subst (λ (u : List Token). SpellsExpression text f u h.1) q h.3.spells) h.4 in
+    let w = least (m - closed) n text x.0 y.0 y.1 (bound y.0 z)
+    (λ k. opening_untyped closed y.0 v y.2 (λ i. let j = e.class in absurd (omega arith))) f
+    h.after_inner end (subst (λ (u : List Token). SpellsExpression text f u h.after_inner) q
+    h.inner.spells) h.closing in
     let r = low (omega arith) in
     absurd (omega arith)
 

@@ -121,8 +121,11 @@ has_condition n text ts e h low =
 pub none_inside : (m n : ℕ) (text : List ℕ) (before other : List Token) → AreOpening (suc m) before [] → ((e : Expression) (rest r : List Token) → SpellsExpression text e other rest → HasPunctuator punctuators.CloseParenthesis rest r → n ≤ height e) → (1 ≤ m → front other ≡ 7 → ⊥) → 64 < m + n → NoCondition 1 text (before ++ other)
 none_inside m n text before other o f bare l e end h low =
     let x = opening_again (suc m) before other o in
-    let p = has_same punctuators.OpenParenthesis (before ++ other) (before ++ other) h.0 x.0 refl h.2 x.1 in
-    let q = least m n text x.0 other x.2 f bare e h.1 end (subst (λ (z : List Token). SpellsExpression text e z h.1) p h.3.spells) h.4 in
+    let p = has_same punctuators.OpenParenthesis (before ++ other)
+    (before ++ other) h.after_opening x.0 refl h.opening x.1 in
+    let q = least m n text x.0 other x.2 f bare e h.after_inner end
+    (subst (λ (z : List Token). SpellsExpression text e z h.after_inner) p h.inner.spells)
+    h.closing in
     let r = low (omega arith) in
     absurd (omega arith)
 

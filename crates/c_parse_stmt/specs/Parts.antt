@@ -9,12 +9,8 @@ use Rattle.c_syntax.specs.Expression.{Expression, height}
 use Rattle.c_syntax.specs.Follow.{Stops}
 use Rattle.c_syntax.specs.Limits.{Nesting, Number, IsInForce, height_of, one_over, height_of_locals, one_over_locals, height_of_for_initialiser, locals_of_for_initialiser}
 use Rattle.c_syntax.specs.Statement.{Local, ForInitialiser}
-use Rattle.c_syntax.specs.Statements.{IsInitialiser, IsLocal, AreMoreLocals, AreLocals, IsDeclaration, IsOptional, IsCondition, IsForInitialiser}
+use Rattle.c_syntax.specs.Statements.{IsInitialiser, IsLocal, AreMoreLocals, AreLocals, IsDeclaration, IsUpTo, IsCondition, IsForInitialiser}
 use Rattle.c_syntax.specs.Tokens.{HasPunctuator}
-
--- an expression or nothing, and the punctuator after it
-abbrev pub IsUpTo : List ℕ → Punctuator → Option Expression → List Token → List Token → Type 0
-IsUpTo text punctuator e ts rest = (a : List Token) × IsOptional text e ts a × HasPunctuator punctuator a rest
 
 -- ---- a punctuator
 

@@ -4,6 +4,7 @@ pub mod OneStep
 pub mod Once
 pub mod Starts
 pub mod Rows
+pub mod Separated
 pub mod Blocks
 pub mod Files
 pub mod Passing
@@ -12,5 +13,6 @@ pub mod Failing
 pub mod Moves
 pub mod FirstFault
 pub mod Firsts
+pub mod MovesPhrases
 pub mod MovesStatements
 pub mod MovesPrograms

@@ -97,14 +97,39 @@ two_arguments =
     })
 
 pub nearest_if : NearestIf
-nearest_if = (
-  _,
-  _,
-  (2, refl),
-  (_, _, (2, (3, refl)), record { fits = omega arith; spells = refl }, (4, (5, refl))),
-  refl,
-  (_, _, _, _, (7, refl), (_, _, (7, (8, refl)), record { fits = omega arith; spells = refl }, (9, (10, refl))), refl, refl, (_, refl, (10, (11, refl))), (11, (15, refl)), refl, (_, refl, (15, (16, refl)))),
-)
+nearest_if = record {
+  after_keyword = _;
+  after_condition = _;
+  keyword = (2, refl);
+  condition = record {
+    after_opening = _;
+    after_inner = _;
+    opening = (2, (3, refl));
+    inner = record { fits = omega arith; spells = refl };
+    closing = (4, (5, refl));
+  };
+  body = record {
+    no_declaration = refl;
+    item = record {
+      after_if = _;
+      after_condition = _;
+      after_body = _;
+      after_else = _;
+      keyword = (7, refl);
+      condition = record {
+        after_opening = _;
+        after_inner = _;
+        opening = (7, (8, refl));
+        inner = record { fits = omega arith; spells = refl };
+        closing = (9, (10, refl));
+      };
+      complete = refl;
+      body = record { no_declaration = refl; item = (_, refl, (10, (11, refl))) };
+      else_keyword = (11, (15, refl));
+      else_body = record { no_declaration = refl; item = (_, refl, (15, (16, refl))) };
+    };
+  };
+}
 
 pub no_other_if : NoOtherIf
 no_other_if ts rest h = cc
