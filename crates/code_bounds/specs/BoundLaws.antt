@@ -15,14 +15,19 @@ use Rattle.code_bounds.specs.Rooms.{functions_room}
 
 -- no text's code takes more than 220 bytes for each of its nodes
 abbrev pub CodeIsBounded : Type 0
-CodeIsBounded = (text : List ℕ) (xs : List ExternalDeclaration) → functions_room (resolve text xs).program.functions ≤ 220 * nodes_of xs
+CodeIsBounded =
+    (text : List ℕ) (xs : List ExternalDeclaration)
+    → functions_room (resolve text xs).program.functions ≤ 220 * nodes_of xs
 
 -- each accepted text within the limits of at most 2 to the 20 nodes can be linked
 abbrev pub AcceptedFits : Type 0
-AcceptedFits = (text : List ℕ) (xs : List ExternalDeclaration) → Within text xs → Accepted text xs → nodes_of xs ≤ 2 ^ 20 → FitsProgram (lowered (resolve text xs).program)
+AcceptedFits =
+    (text : List ℕ) (xs : List ExternalDeclaration) → Within text xs → Accepted text xs
+    → nodes_of xs ≤ 2 ^ 20 → FitsProgram (lowered (resolve text xs).program)
 
 -- the program of tokens of a text
 abbrev pub TextsFit : Type 0
 TextsFit =
-    (text : List ℕ) (tokens : List Token) (xs : List ExternalDeclaration) → IsTokens text tokens → IsProgram text xs tokens → Within text xs → Accepted text xs
+    (text : List ℕ) (tokens : List Token) (xs : List ExternalDeclaration) → IsTokens text tokens
+    → IsProgram text xs tokens → Within text xs → Accepted text xs
     → length text ≤ MOST_TEXT → FitsProgram (lowered (resolve text xs).program)

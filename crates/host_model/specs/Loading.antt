@@ -1,4 +1,5 @@
--- How an image stands in memory, and the state that a run starts from (PE format, "Section Table", "Import Address Table"; the stack, the arena, the services and their places are the host's own).
+-- How an image stands in memory, and the state that a run starts from (PE format, "Section Table",
+-- "Import Address Table"; the stack, the arena, the services and their places are the host's own).
 use Rattle.std.specs.Prelude.{ℕ, ◌+◌, ◌-◌, ◌*◌, ◌/◌, ◌%◌, ◌^◌, Bool, true, false, ◌&&◌, ◌==◌, nat_lt, nat_le, if◌then◌else◌, List, [], ◌∷◌, replicate, position, ℤ, codes, Option, Some, None, option_map, Ok, Err, slice_index}
 use Rattle.seh_num.specs.declared.width.Width.TheVariants.{W64}
 use Rattle.seh_num.specs.Widths.{wrapped}
@@ -45,7 +46,8 @@ rights_of true false = Read
 rights_of false false = Nothing
 
 abbrev pub section_mode : Section → Protection
-section_mode s = record { rights = rights_of (is_readable s) (is_writable s); execute = is_executable s }
+section_mode s =
+    record { rights = rights_of (is_readable s) (is_writable s); execute = is_executable s }
 
 -- outside the image the stack alone may be accessed; the arena's pages begin with no rights
 abbrev pub stack_mode : Bool → Protection
@@ -71,7 +73,8 @@ with_address byte at (Some s) = with_number byte 8 at (address_of s)
 -- each slot holds the address of what it imports; a later one lies over those before it
 abbrev pub with_slots : ℕ → (ℕ → ℕ) → List Import → ℕ → ℕ
 with_slots base byte [] = byte
-with_slots base byte (i ∷ is) = with_slots base (with_address byte (base + i.slot) (service_named i.name)) is
+with_slots base byte (i ∷ is) =
+    with_slots base (with_address byte (base + i.slot) (service_named i.name)) is
 
 -- ---- the whole
 
@@ -82,9 +85,12 @@ abbrev pub stored_byte : Image → ℕ → ℕ
 stored_byte image a = byte_in image.base (section_of image.base a image.sections) a
 
 unfoldable pub mapped : Image → Memory
-mapped image = record { protection = mode_at image; byte = with_slots image.base (stored_byte image) (imports_of image) }
+mapped image =
+    record { protection = mode_at image;
+        byte = with_slots image.base (stored_byte image) (imports_of image) }
 
--- RIP is the entry point, RCX the argument; RSP points to a return address of 0 near the stack's top
+-- RIP is the entry point, RCX the argument; RSP points to a return address of 0 near the stack's
+-- top
 abbrev pub first_cpu : ℕ → ℤ → Cpu
 first_cpu entry arg = record {
   registers = 0 ∷ wrapped W64 arg ∷ 0 ∷ 0 ∷ FIRST_STACK ∷ replicate 11 0;
@@ -117,7 +123,9 @@ table_refusal image = of_tables (tables image)
 
 -- the base is aligned and above 4 GiB, the image at most 256 MiB and its end at most 2^47
 abbrev pub has_place : Image → Bool
-has_place image = (image.base % BASE_ALIGNMENT == 0) && nat_le LEAST_BASE image.base && nat_le image.size MOST_IMAGE && nat_le (image.base + image.size) ADDRESSES_END
+has_place image =
+    (image.base % BASE_ALIGNMENT == 0) && nat_le LEAST_BASE image.base && nat_le image.size
+        MOST_IMAGE && nat_le (image.base + image.size) ADDRESSES_END
 
 abbrev pub place_refusal : Image → Option LoadErr
 place_refusal image = reason_unless (has_place image) (refusals.Place image.base)
@@ -145,8 +153,11 @@ entry_refusal image = reason_unless (has_entry image) (refusals.Entry image.entr
 
 -- after the function table's
 abbrev pub later_refusal : Image → Option LoadErr
-later_refusal image = first_of (place_refusal image ∷ import_refusal image ∷ entry_refusal image ∷ [])
+later_refusal image =
+    first_of (place_refusal image ∷ import_refusal image ∷ entry_refusal image ∷ [])
 
 -- the first reason that an image isn't loaded, if there is one
 abbrev pub load_refusal : Image → Option LoadErr
-load_refusal image = first_of (table_refusal image ∷ place_refusal image ∷ import_refusal image ∷ entry_refusal image ∷ [])
+load_refusal image =
+    first_of (table_refusal image ∷ place_refusal image ∷ import_refusal image ∷ entry_refusal image
+        ∷ [])

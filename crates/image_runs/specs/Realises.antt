@@ -19,7 +19,10 @@ use Rattle.whole_runs.specs.Laws.{ShowsNoMore}
 use Rattle.program_link.specs.Linked.{linked}
 use Rattle.image_runs.specs.Sound.{IsLinkable}
 
--- the bytes are an image of at most 256 MiB that loads. For every argument and every n, what the program shows within n steps the image shows in at most 256 n + 256 turns: its events are the first events of the run, and where the program ends within n steps the run has ended in the same way with no other event.
+-- the bytes are an image of at most 256 MiB that loads. For every argument and every n, what the
+-- program shows within n steps the image shows in at most 256 n + 256 turns: its events are the
+-- first events of the run, and where the program ends within n steps the run has ended in the same
+-- way with no other event.
 pub record Realises (bytes : List ℕ) (program : Program) : Type 0 where
   pub image : Image
   pub is : IsImage bytes image
@@ -27,9 +30,11 @@ pub record Realises (bytes : List ℕ) (program : Program) : Type 0 where
   pub loads : load_refusal image ≡ None
   pub shows :
       (arg n : ℕ) → arg < 2 ^ 63
-      → Covers (meaning program (pos arg) n).events (run_end_of (meaning program (pos arg) n).end) (machine bytes (pos arg) (256 * n + 256))
+      → Covers (meaning program (pos arg) n).events (run_end_of (meaning program (pos arg) n).end)
+          (machine bytes (pos arg) (256 * n + 256))
 
--- in m turns it shows no more than the program shows within (m + 1) * K steps, where these are calm, and ends only as they end
+-- in m turns it shows no more than the program shows within (m + 1) * K steps, where these are
+-- calm, and ends only as they end
 abbrev pub ShowsNothingMore : List ℕ → Program → Type 0
 ShowsNothingMore bytes program =
     (arg m n : ℕ) → arg < 2 ^ 63 → (m + 1) * pace_of program ≤ n → Calm program (pos arg) n ≡ true
@@ -42,7 +47,11 @@ pub record IsWritten (bytes : List ℕ) (program : Program) : Type 0 where
   pub read : IsImage bytes (image_of (linked (lowered program)))
 
 abbrev pub CompiledRealise : Type 0
-CompiledRealise = (program : Program) → IsLinkable program → ReadsNoUnset (lowered program) → (bytes : List ℕ) → IsWritten bytes program → Realises bytes program
+CompiledRealise =
+    (program : Program) → IsLinkable program → ReadsNoUnset (lowered program) → (bytes : List ℕ)
+    → IsWritten bytes program → Realises bytes program
 
 abbrev pub CompiledShowNothingMore : Type 0
-CompiledShowNothingMore = (program : Program) → IsLinkable program → ReadsNoUnset (lowered program) → (bytes : List ℕ) → IsWritten bytes program → ShowsNothingMore bytes program
+CompiledShowNothingMore =
+    (program : Program) → IsLinkable program → ReadsNoUnset (lowered program) → (bytes : List ℕ)
+    → IsWritten bytes program → ShowsNothingMore bytes program

@@ -23,9 +23,11 @@ abbrev pub IsField : Field → Type 0
 IsField (ExceptionInformation k) = k < EXCEPTION_MAXIMUM_PARAMETERS
 IsField f = Unit {0}
 
--- the locals of an instruction are among so many, its field is one, and it passes at most as many arguments as a function takes
+-- the locals of an instruction are among so many, its field is one, and it passes at most as many
+-- arguments as a function takes
 abbrev pub IsPlain : ℕ → Instruction → Type 0
-IsPlain n (instructions.Compute to o first second) = IsAmong n to × IsAmong n first × IsAmong n second
+IsPlain n (instructions.Compute to o first second) =
+    IsAmong n to × IsAmong n first × IsAmong n second
 IsPlain n (instructions.Information to field) = IsAmong n to × IsField field
 IsPlain n (instructions.Landing to) = IsAmong n to
 IsPlain n (instructions.JumpIfZero slot label) = IsAmong n slot
@@ -33,7 +35,8 @@ IsPlain n (instructions.Call function first count) = count ≤ MOST_PARAMETERS
 IsPlain n (instructions.Return from) = IsAmong n from
 IsPlain n other = Unit {0}
 
--- a body uses at most 1,000 words, and beside the locals, which lie in the frame of a function alone, at most 460
+-- a body uses at most 1,000 words, and beside the locals, which lie in the frame of a function
+-- alone, at most 460
 pub record IsSmallBody (b : LinearBody) : Type 0 where
   pub passed : b.passed ≤ 4
   pub temporaries : b.temporaries ≤ 456

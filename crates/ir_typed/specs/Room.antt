@@ -15,7 +15,8 @@ counts_of b = record { locals = b.locals; temporaries = b.temporaries }
 
 -- at most eight arguments, of which those after the fourth have their places
 abbrev pub PassesWell : ℕ → Instruction → Type 0
-PassesWell passed (instructions.Call f first count) = (count ≤ MOST_PARAMETERS) × (count ≤ 4 + passed)
+PassesWell passed (instructions.Call f first count) =
+    (count ≤ MOST_PARAMETERS) × (count ≤ 4 + passed)
 PassesWell passed other = Unit {0}
 
 pub record HasRoom (b : LinearBody) : Type 0 where

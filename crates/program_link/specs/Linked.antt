@@ -32,7 +32,9 @@ total (r ∷ rs) = routine_size r + total rs
 
 -- what the addresses of `.rdata` and `.xdata` rest on: the sizes of the sections before them
 abbrev pub front_sizes : List ℕ → List RoutineView → Sizes
-front_sizes globals rs = record { data_size = data_size globals; text_size = 51 + total rs; xdata_size = 0; pdata_size = 0 }
+front_sizes globals rs =
+    record { data_size = data_size globals; text_size = 51 + total rs; xdata_size = 0;
+        pdata_size = 0 }
 
 -- so many of the routines are functions
 abbrev pub site : List ℕ → List RoutineView → ℕ → SiteView
@@ -53,7 +55,9 @@ image_of globals rs functions main =
       text = text_bytes (site globals rs functions) rs;
       entry = get_or (bounds (first globals) rs) main 0 - text_begin globals;
       xdata = infos (site globals rs functions) (first globals) rs;
-      pdata = table_bytes (ranges (site globals rs functions) (xdata_at (front_sizes globals rs)) (first globals) rs);
+      pdata =
+          table_bytes (ranges (site globals rs functions) (xdata_at (front_sizes globals rs))
+              (first globals) rs);
     }
 
 abbrev pub linked : LinearProgram → Program

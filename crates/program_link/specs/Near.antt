@@ -20,7 +20,8 @@ IsFrameNear (Some f) = (0 < f.size) × (f.size ≤ 8184)
 abbrev pub IsEntryNear : Layout → Entry → Type 0
 IsEntryNear y (entries.Function count) = (count ≤ MOST_PARAMETERS) × AreParametersNear y count
 IsEntryNear y (entries.Filter parent) = IsKeptNear parent (base_of y y.base) × ArePointersNear y
-IsEntryNear y (entries.Finally parent flag) = IsKeptNear parent (base_of y y.base) × IsSlotNear y (Local flag)
+IsEntryNear y (entries.Finally parent flag) =
+    IsKeptNear parent (base_of y y.base) × IsSlotNear y (Local flag)
 
 pub record IsRoutineNear (r : RoutineView) : Type 0 where
   pub frame : IsFrameNear r.frame
@@ -35,7 +36,8 @@ pub record IsSiteNear (s : SiteView) : Type 0 where
   pub functions : AreNear s.functions
   pub funclets : AreNear s.funclets
 
--- all routines have room in an image, whose first routine is a function and which begins at one that isn't empty
+-- all routines have room in an image, whose first routine is a function and which begins at one
+-- that isn't empty
 pub record HasPlaces (rs : List RoutineView) (functions main : ℕ) : Type 0 where
   pub room : room rs < 2 ^ 29 + 2 ^ 28
   pub tables : infos_room rs < 2 ^ 29

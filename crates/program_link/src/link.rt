@@ -32,7 +32,8 @@ fn data_pages(size: u64) -> u32
     (size.max(1).div_ceil(PAGE) * PAGE) as u32
 }
 
-/// The addresses that a text at `text` refers to, where the first `functions` routines are functions.
+/// The addresses that a text at `text` refers to, where the first `functions` routines are
+/// functions.
 fn site_of<'a>(text: u32, rdata: u32, bounds: &'a [u32], functions: usize) -> Site<'a>
     requires { functions ≤ length bounds.now }
     ensures { result ≡ record {
@@ -91,8 +92,8 @@ fn image_with(
     Ok(Image::new(data_size, data, code, entry, tables.xdata, tables.pdata))
 }
 
-/// The image of routines between bounds, of which the first so many are functions, and which begins at
-/// the one of the index `main`.
+/// The image of routines between bounds, of which the first so many are functions, and which begins
+/// at the one of the index `main`.
 fn linked(
     alloc: Global,
     globals: &[u8],
@@ -130,8 +131,8 @@ fn linked(
     )
 }
 
-/// The image of routines, of which the first so many are functions, and which begins at the one of the
-/// index `main`.
+/// The image of routines, of which the first so many are functions, and which begins at the one of
+/// the index `main`.
 fn image_of(
     alloc: Global,
     globals: &[u8],

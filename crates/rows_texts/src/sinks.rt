@@ -13,7 +13,8 @@ fn failing_at(alloc: Global, call: u64) -> Result<MemSink, Fail> {
     Ok(MemSink::new(Vec::new(alloc), Plan::new([call].to_vec(alloc)?, 1)))
 }
 
-/// Each call of `out` fails in turn: what was taken are the bytes before it, and nothing else is tried.
+/// Each call of `out` fails in turn: what was taken are the bytes before it, and nothing else is
+/// tried.
 fn fails(rt: &impl Abort, alloc: Global, command: &str) -> Result<(), Fail> {
     let text = b"int main(void){ put(1); put(23); put(-456); return 7; }";
     let whole = b"1\n23\n-456\nexit 7\n";

@@ -74,8 +74,8 @@ fn refusal(image: &ImageView<'_>) -> Option<LoadErr>
     None
 }
 
-/// Loads an image: its sections, a stack and the arena are mapped, the slots of its imports hold the
-/// addresses of the host's services, a later one over an earlier, and the run is at the entry
+/// Loads an image: its sections, a stack and the arena are mapped, the slots of its imports hold
+/// the addresses of the host's services, a later one over an earlier, and the run is at the entry
 /// point with the argument in RCX.
 ///
 /// It is refused for the first reason that holds, in this order: `Table` where the function table

@@ -1,4 +1,5 @@
--- The text of a run: a line for each event that is shown, and one for the end, each with its line feed.
+-- The text of a run: a line for each event that is shown, and one for the end, each with its line
+-- feed.
 use Rattle.std.specs.Prelude.{ℕ, zero, suc, ◌/◌, ◌%◌, ◌==◌, Bool, true, false, if◌then◌else◌, List, [], ◌∷◌, ◌++◌, codes}
 use Rattle.std.specs.Prelude.{Option, Some, None}
 use Rattle.std.specs.Fmt.{decimal, signed_decimal, digit_glyph}
@@ -29,7 +30,8 @@ flag_text false = codes "0"
 
 abbrev pub access_text : Option (Bool × ℕ) → List ℕ
 access_text None = []
-access_text (Some (write, address)) = (if write then codes " write " else codes " read ") ++ address_text address
+access_text (Some (write, address)) =
+    (if write then codes " write " else codes " read ") ++ address_text address
 
 -- the access is written in the line where the exception is an access violation
 abbrev pub raise_text : Code → Bool → Option (Bool × ℕ) → List ℕ
@@ -67,7 +69,8 @@ end_text (Exit v) = codes "exit " ++ signed_decimal v
 end_text (Unhandled code) = codes "unhandled " ++ code_text code
 end_text (StackLimit address) = codes "stack limit " ++ address_text address
 end_text (OutOfTurns turns) = codes "out of turns " ++ decimal turns
-end_text (Stopped why address) = codes "stopped " ++ reason_text why ++ codes " " ++ address_text address
+end_text (Stopped why address) =
+    codes "stopped " ++ reason_text why ++ codes " " ++ address_text address
 
 abbrev pub end_line : RunEnd → List ℕ
 end_line end = ended (end_text end)

@@ -20,7 +20,9 @@ filter_funclet owner names e = record {
   kind = kinds.Filter;
   function = owner.function;
   parent = owner.parent;
-  body = body_with owner.locals (expression_code names e 0 0 ++ instructions.Return (Temporary 0) ∷ []) [];
+  body =
+      body_with owner.locals (expression_code names e 0 0 ++ instructions.Return (Temporary 0) ∷ [])
+          [];
 }
 
 abbrev pub filter_funclets : Owner → Names → Filter → List LinearFunclet
@@ -33,7 +35,9 @@ finally_funclet owner names last = record {
   kind = kinds.Finally names.free;
   function = owner.function;
   parent = owner.parent;
-  body = body_with owner.locals (statements_code (finally_scope names) last 0 ++ instructions.Return (Local names.free) ∷ []) (statements_regions last 0);
+  body =
+      body_with owner.locals (statements_code (finally_scope names) last 0
+          ++ instructions.Return (Local names.free) ∷ []) (statements_regions last 0);
 }
 
 -- in the body of a funclet
@@ -46,7 +50,8 @@ abbrev mutual
   statement_funclets owner names (Block ss) = statements_funclets owner names ss
   statement_funclets owner names (Evaluate e) = []
   statement_funclets owner names (If c s) = statement_funclets owner names s
-  statement_funclets owner names (IfElse c s t) = statement_funclets owner names s ++ statement_funclets owner names t
+  statement_funclets owner names (IfElse c s t) =
+      statement_funclets owner names s ++ statement_funclets owner names t
   statement_funclets owner names (For ds first c next s) = statement_funclets owner names s
   statement_funclets owner names (DoWhile s c) = statement_funclets owner names s
   statement_funclets owner names (Return e) = []
@@ -54,11 +59,15 @@ abbrev mutual
   statement_funclets owner names Continue = []
   statement_funclets owner names Leave = []
   statement_funclets owner names (TryExcept body filter block) =
-      statements_funclets owner names body ++ (filter_funclets owner (filter_names names) filter ++ statements_funclets owner (except_names names) block)
+      statements_funclets owner names body
+      ++ (filter_funclets owner (filter_names names) filter
+          ++ statements_funclets owner (except_names names) block)
   statement_funclets owner names (TryFinally body k last) =
       statements_funclets owner names body
-      ++ (finally_funclet owner names last ∷ statements_funclets (in_funclet (k - 1) owner) (finally_names names) last)
+      ++ (finally_funclet owner names last
+          ∷ statements_funclets (in_funclet (k - 1) owner) (finally_names names) last)
 
   pub statements_funclets : Owner → Names → Statements → List LinearFunclet
   statements_funclets owner names Empty = []
-  statements_funclets owner names (Then s ss) = statement_funclets owner names s ++ statements_funclets owner names ss
+  statements_funclets owner names (Then s ss) =
+      statement_funclets owner names s ++ statements_funclets owner names ss

@@ -27,16 +27,22 @@ scope_of f = function_scope (own_locals f) (statements_size f.body + 1)
 abbrev pub lowered_function : Function → LinearFunction
 lowered_function f = record {
   parameters = length f.parameters;
-  body = body_with (all_locals f) (statements_code (scope_of f) f.body 0 ++ constant 0 0 ∷ Return (Temporary 0) ∷ []) (statements_regions f.body 0);
+  body =
+      body_with (all_locals f) (statements_code (scope_of f) f.body 0 ++ constant 0 0
+          ∷ Return (Temporary 0) ∷ []) (statements_regions f.body 0);
 }
 
 -- the funclets of a function of this number
 abbrev pub lowered_funclets : ℕ → Function → List LinearFunclet
-lowered_funclets number f = statements_funclets (record { function = number; locals = all_locals f; parent = None }) (scope_of f).names f.body
+lowered_funclets number f =
+    statements_funclets (record { function = number; locals = all_locals f; parent = None })
+        (scope_of f).names f.body
 
 abbrev pub all_funclets : ℕ → List Function → List LinearFunclet
 all_funclets number [] = []
 all_funclets number (f ∷ fs) = lowered_funclets number f ++ all_funclets (number + 1) fs
 
 abbrev pub lowered : Program → LinearProgram
-lowered p = record { globals = p.globals; main = p.main; functions = map lowered_function p.functions; funclets = all_funclets 0 p.functions }
+lowered p =
+    record { globals = p.globals; main = p.main; functions = map lowered_function p.functions;
+        funclets = all_funclets 0 p.functions }

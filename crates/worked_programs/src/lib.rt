@@ -5,7 +5,8 @@
 
 ghost use Rattle.worked_programs.specs.AllRows.{AllRows};
 
-/// Each text is resolved to a sound program, which prints what it should, or it is refused where it should be.
+/// Each text is resolved to a sound program, which prints what it should, or it is refused where it
+/// should be.
 pub fn rows()
     ensures { AllRows }
 {}

@@ -52,8 +52,10 @@ IsFieldNear (ExceptionInformation k) = k < EXCEPTION_MAXIMUM_PARAMETERS
 IsFieldNear f = Unit {0}
 
 abbrev pub IsInstructionNear : Layout → Instruction → Type 0
-IsInstructionNear y (instructions.Compute to o first second) = IsSlotNear y to × IsSlotNear y first × IsSlotNear y second
-IsInstructionNear y (instructions.Information to field) = IsSlotNear y to × ArePointersNear y × IsFieldNear field
+IsInstructionNear y (instructions.Compute to o first second) =
+    IsSlotNear y to × IsSlotNear y first × IsSlotNear y second
+IsInstructionNear y (instructions.Information to field) =
+    IsSlotNear y to × ArePointersNear y × IsFieldNear field
 IsInstructionNear y (instructions.Landing to) = IsSlotNear y to
 IsInstructionNear y (instructions.JumpIfZero slot label) = IsSlotNear y slot
 IsInstructionNear y (instructions.Call function first count) = AreArgumentsNear y first count

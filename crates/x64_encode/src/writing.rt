@@ -221,8 +221,8 @@ fn put_opcode(into: &mut ArrayVec<u8, LONGEST_INSTRUCTION>, opcode: Opcode)
     }
 }
 
-/// An opcode with ModRM, into an empty list: `reg` is the number of the register in the reg field, or
-/// the opcode extension there.
+/// An opcode with ModRM, into an empty list: `reg` is the number of the register in the reg field,
+/// or the opcode extension there.
 #[tactic(auto, unfolding(crate::specs::Chosen::modrm))]
 pub(crate) fn put_modrm(
     into: &mut ArrayVec<u8, LONGEST_INSTRUCTION>,

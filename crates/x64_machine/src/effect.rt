@@ -407,8 +407,8 @@ fn transfer_effect<S: AddressSpace>(cpu: Cpu, space: &mut S, instr: &Instr) -> R
     }
 }
 
-/// What an instruction does, where RIP is that of the next one. INT3 and UD2 have no effect, and are
-/// stopped before it.
+/// What an instruction does, where RIP is that of the next one. INT3 and UD2 have no effect, and
+/// are stopped before it.
 pub(crate) fn effect<S: AddressSpace>(cpu: Cpu, space: &mut S, instr: &Instr) -> Result<Cpu, Stop>
     ensures answer { Answers result (spec.effect (spec.state cpu (S.memory space.old)) instr.now) }
     ensures memory { LeavesMemory (S.memory space.old) (S.memory space.new)

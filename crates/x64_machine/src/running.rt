@@ -43,8 +43,8 @@ fn is_trap(instr: &Instr) -> bool
     }
 }
 
-/// What an instruction of so many bytes does at RIP. INT3 and UD2 do nothing but to stop at their own
-/// address. After a stop the memory is as before.
+/// What an instruction of so many bytes does at RIP. INT3 and UD2 do nothing but to stop at their
+/// own address. After a stop the memory is as before.
 pub fn execute<S: AddressSpace>(
     cpu: Cpu,
     space: &mut S,
@@ -65,8 +65,8 @@ pub fn execute<S: AddressSpace>(
 }
 
 /// One step of the processor. In the host's page no instruction is fetched: the step says that the
-/// host's service is due, or that there is none. After anything but `Next`, registers and memory are
-/// as before.
+/// host's service is due, or that there is none. After anything but `Next`, registers and memory
+/// are as before.
 #[tactic(auto, unfolding(crate::specs::Effect::step))]
 pub fn step<S: AddressSpace>(cpu: &mut Cpu, space: &mut S) -> StepOutcome
     ensures answer { result

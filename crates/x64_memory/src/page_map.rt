@@ -17,8 +17,8 @@ use seh_num::size::LONGEST_INSTRUCTION;
 use seh_num::width::Width;
 use std::alloc::{AllocError, Global};
 
-/// Memory in a table of stretches of pages, which holds those of the arena. A page is found by halves
-/// among the stretches, and by its place in its stretch.
+/// Memory in a table of stretches of pages, which holds those of the arena. A page is found by
+/// halves among the stretches, and by its place in its stretch.
 #[derive(Drop)]
 pub struct PageMap {
     stretches: Vec<Stretch>,
@@ -98,8 +98,8 @@ fn map_region(
 impl PageMap {
     ghost use Rattle.x64_memory.specs.PageMaps.{memory_of, holds, pages_of};
 
-    /// Memory in which the regions are mapped, each with its protection, and all bytes are 0. Only the
-    /// system's memory can be wanting.
+    /// Memory in which the regions are mapped, each with its protection, and all bytes are 0. Only
+    /// the system's memory can be wanting.
     pub fn new(alloc: Global, regions: &[Region]) -> Result<PageMap, AllocError>
         requires whole { All IsWhole regions.now }
         requires ascending { AreAscending 0 regions.now }
@@ -137,8 +137,8 @@ impl PageMap {
         }
     }
 
-    /// Puts bytes at an address, whatever the protection there, and changes nothing else. The bytes lie
-    /// in mapped regions.
+    /// Puts bytes at an address, whatever the protection there, and changes nothing else. The bytes
+    /// lie in mapped regions.
     pub fn fill(&mut self, at: u64, piece: &[u8])
         requires room { at + length piece.now < 2 ^ 64 }
         requires there { (a : ℕ) → at ≤ a → a < at + length piece.now → holds self.old a ≡ true }

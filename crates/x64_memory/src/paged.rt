@@ -1,4 +1,5 @@
-//! Accesses to memory that is kept in pages: a page is looked up once for an access that lies in it.
+//! Accesses to memory that is kept in pages: a page is looked up once for an access that lies in
+//! it.
 
 ghost use Rattle.std.specs.Prelude.{◌≡◌, ◌+◌, ◌*◌, ◌%◌, ◌≤◌, ◌^◌, ◌<◌, ℕ, true, None, IfOk, length, take, slice_index};
 ghost use Rattle.seh_num.specs.Widths.{bytes_of, limit};
@@ -17,8 +18,8 @@ use seh_num::width::Width;
 pub trait Paged {
     ghost memory: { Self → Memory };
 
-    /// The protection at an address, and the bytes from there to the end of its page; none where no page
-    /// is.
+    /// The protection at an address, and the bytes from there to the end of its page; none where no
+    /// page is.
     fn rest_of_page(&self, at: u64) -> (Protection, &[u8])
         ensures { IsRestOfPage (memory self.now) at result.0 result.1.now };
 

@@ -6,8 +6,8 @@ use flat_memory::access::RefusedAccess;
 use seh_num::size::LONGEST_INSTRUCTION;
 use seh_num::width::Width;
 
-/// A machine's memory. What it means is a map from addresses to a protection and a byte; every method is
-/// an equation on that map. No method takes memory of the system.
+/// A machine's memory. What it means is a map from addresses to a protection and a byte; every
+/// method is an equation on that map. No method takes memory of the system.
 pub trait AddressSpace {
     ghost memory: { Self → Memory };
 
@@ -16,7 +16,8 @@ pub trait AddressSpace {
         ensures value { result ≡ loaded (memory self.now) at width }
         ensures fits { IfOk result (λ v. v < limit width) };
 
-    /// Whether a number may be put at an address; refused by the first byte that may not be written.
+    /// Whether a number may be put at an address; refused by the first byte that may not be
+    /// written.
     fn may_store(&self, at: u64, width: Width) -> Result<(), RefusedAccess>
         ensures { result ≡ stored (memory self.now) at width };
 
@@ -25,8 +26,8 @@ pub trait AddressSpace {
         ensures answer { result ≡ stored (memory self.old) at width }
         ensures after { memory self.new ≡ after_store (memory self.old) at width value };
 
-    /// The executable bytes from an address on, as many as there are of fifteen, which is the length
-    /// of the longest instruction (Intel manual, volume 2, "Instruction Format").
+    /// The executable bytes from an address on, as many as there are of fifteen, which is the
+    /// length of the longest instruction (Intel manual, volume 2, "Instruction Format").
     fn fetch(&self, at: u64, into: &mut [u8; LONGEST_INSTRUCTION]) -> usize
         ensures count { result ≤ LONGEST_INSTRUCTION }
         ensures bytes { take result into.new ≡ executable (memory self.now) LONGEST_INSTRUCTION at };

@@ -1,4 +1,5 @@
--- What a filter reads of its exception (Windows headers, `EXCEPTION_POINTERS` and `EXCEPTION_RECORD`).
+-- What a filter reads of its exception (Windows headers, `EXCEPTION_POINTERS` and
+-- `EXCEPTION_RECORD`).
 use Rattle.std.specs.Prelude.{◌≡◌, ℕ, ◌+◌, ◌^◌, ◌<◌, ◌≤◌, true}
 use Rattle.seh_num.specs.declared.width.Width.{Width}
 use Rattle.seh_num.specs.declared.width.Width.TheVariants.{W32, W64}
@@ -27,7 +28,8 @@ pub record Reads (m : Memory) (n at x : ℕ) : Type 0 where
   pub readable : (a : ℕ) → at ≤ a → a < at + n → may_read m a ≡ true
   pub number : number_at m.byte n at ≡ x
 
--- the frame keeps the address of the pointers, of which the first leads to the record, in which the field is x
+-- the frame keeps the address of the pointers, of which the first leads to the record, in which the
+-- field is x
 pub record HasException (m : Memory) (kept : ℕ) (field : Field) (x : ℕ) : Type 0 where
   pub pointers : ℕ
   pub exception : ℕ
