@@ -50,10 +50,10 @@ module _ (t : Functions) (fs : List Funclet) (program : LinearProgram) (p : Plan
     pub acts : List Activation
     pub store : c.store.activations ≡ locals_of acts
     pub slots : BodyWaits t fs program p s.memory (context_of s.cpu)
-            (slots_end (p.layout c.frame.body) (p.leaf c.frame.body))
-            (last_temporary (p.layout c.frame.body) c.frame.body (p.leaf c.frame.body)) c.frame acts
+        (slots_end (p.layout c.frame.body) (p.leaf c.frame.body))
+        (last_temporary (p.layout c.frame.body) c.frame.body (p.leaf c.frame.body)) c.frame acts
     pub pointers : HasPointers t fs program p s.memory (p.layout c.frame.body) (register s.cpu Rsp)
-            (p.layout c.frame.body).frame c.below
+        (p.layout c.frame.body).frame c.below
     pub above : IsAbove t fs program p c.frame c.frame.body c.below
     pub home : p.leaf c.frame.body ≡ true → register s.cpu Rsp + home_end ≤ STACK_END
     pub back : ℕ
@@ -63,8 +63,8 @@ module _ (t : Functions) (fs : List Funclet) (program : LinearProgram) (p : Plan
     pub below :
         (others : List ℕ) → length others ≡ 8
         → On t fs program p s.memory (context_below back (register s.cpu Rsp
-            + (p.layout c.frame.body).frame + 8) others) is c.below
-            (activations_below c.frame.body acts)
+        + (p.layout c.frame.body).frame + 8) others) is c.below
+        (activations_below c.frame.body acts)
 
   -- an instruction of linear code begins; where an `__except` block has just taken over, RAX is the
   -- exception's code

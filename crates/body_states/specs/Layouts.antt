@@ -50,7 +50,7 @@ module _ (program : LinearProgram) (p : Plan) where
     pub function_there : body_of program (FunctionBody funclet.function) ≡ Some function
     pub same_locals : b.locals ≡ function.locals
     pub layout : IsFuncletLayout (p.layout (FuncletBody k))
-            (p.layout (FunctionBody funclet.function)) b
+        (p.layout (FunctionBody funclet.function)) b
 
   abbrev pub IsLaidOut : BodyName → LinearBody → Type 0
   IsLaidOut (FunctionBody f) b = IsLayoutIf (p.layout (FunctionBody f)) b (p.leaf (FunctionBody f))

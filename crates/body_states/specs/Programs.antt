@@ -67,8 +67,13 @@ no_memory = record { protection = λ a. UNMAPPED; byte = λ a. 0 }
 
 abbrev pub view_of : Cpu → MachineView
 view_of c =
-    record { rax = register c Rax; rcx = register c Rcx; rdx = register c Rdx;
-        rest = drop 3 c.registers; memory = no_memory }
+    record {
+      rax = register c Rax;
+      rcx = register c Rcx;
+      rdx = register c Rdx;
+      rest = drop 3 c.registers;
+      memory = no_memory;
+    }
 
 module _ (t : Functions) (fs : List Funclet) (program : LinearProgram) (p : Plan) (q : Sites) where
   -- ---- addresses
@@ -179,9 +184,9 @@ module _ (t : Functions) (fs : List Funclet) (program : LinearProgram) (p : Plan
     pub first : ℕ
     pub second : ℕ
     pub works : at_instruction b (instructions.Compute to operation (Temporary first)
-            (Temporary second))
+        (Temporary second))
     pub here : saved.rip ≡ p.address b.body b.next + sizes
-            (operands_code (p.layout b.body) operation (Temporary first) (Temporary second))
+        (operands_code (p.layout b.body) operation (Temporary first) (Temporary second))
     pub has_first : slice_get b.temporaries first ≡ Some (register saved Rax)
     pub has_second : slice_get b.temporaries second ≡ Some (register saved Rcx)
     pub ready : IsReady operation (view_of saved)
@@ -221,7 +226,7 @@ module _ (t : Functions) (fs : List Funclet) (program : LinearProgram) (p : Plan
         (m : Memory) (done left : List Instr) (item : Instr)
         → HasProgram m → arguments_code program p name ≡ done ++ (item ∷ left)
         → FindsReturn t m (begin_of p q name + making_size p q name + sizes done)
-            (p.layout name).frame
+        (p.layout name).frame
     pub returns :
         (m : Memory) (label : ℕ) (from : Slot) (done left : List Instr)
         → HasProgram m → slice_get b.code label ≡ Some (instructions.Return from)
@@ -232,7 +237,7 @@ module _ (t : Functions) (fs : List Funclet) (program : LinearProgram) (p : Plan
         → HasProgram m → slice_get b.code label ≡ Some (instructions.Return from)
         → (p.layout name).frame ≡ suc n
         → FindsReturn t m (p.address name label + sizes (fetch (p.layout name) Rax from)
-            + size (give_back (p.layout name).frame)) 0
+        + size (give_back (p.layout name).frame)) 0
 
   -- so it is where no entry of the function table is: in thunks, in `__chkstk`, and at the host's
   -- services

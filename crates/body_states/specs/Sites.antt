@@ -35,8 +35,13 @@ pub record Sites : Type 0 where
 -- what the code of a body refers to
 abbrev pub links_of : Plan → Sites → BodyName → Links
 links_of p q name =
-    record { label = p.address name; function = q.function; known = q.thunk; funclet = p.funclet;
-        local_unwind = q.local_unwind }
+    record {
+      label = p.address name;
+      function = q.function;
+      known = q.thunk;
+      funclet = p.funclet;
+      local_unwind = q.local_unwind;
+    }
 
 -- the first byte of a body's function or funclet
 abbrev pub begin_of : Plan → Sites → BodyName → ℕ
@@ -106,4 +111,4 @@ entry_code program p q name =
 abbrev pub code_of : LinearProgram → Plan → Sites → BodyName → LinearBody → List Instr
 code_of program p q name b =
     entry_code program p q name ++ code_from (links_of p q name) (p.layout name)
-        (p.address name 0) b.code
+    (p.address name 0) b.code

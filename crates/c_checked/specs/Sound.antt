@@ -200,7 +200,7 @@ abbrev pub change_fits : Option Size → Conversion → Operation → Option Siz
 change_fits place before o amount after =
     let result = takes o (size_after before place) amount in
     can_convert before place && is_number result && can_convert after result && same_sizes
-            (size_after after result) place
+    (size_after after result) place
 
 -- ---- expressions: whether they are sound
 
@@ -216,27 +216,27 @@ abbrev mutual
       lvalue_sound s p && expression_sound s e && same_sizes (expression_size s e) (lvalue_size s p)
   node_sound s (nodes.CompoundAssign p before o e after) =
       lvalue_sound s p && expression_sound s e && change_fits (lvalue_size s p) before o
-          (expression_size s e) after
+      (expression_size s e) after
   node_sound s (nodes.Increment m p before o n after) =
       let operand = size_after before (lvalue_size s p) in
       lvalue_sound s p && change_fits (lvalue_size s p) before o operand after && amount_fits
-              operand n
+      operand n
   node_sound s (nodes.Unary o e) = expression_sound s e && is_number (node_size s (nodes.Unary o e))
   node_sound s (nodes.Binary o e f) =
       expression_sound s e && expression_sound s f && is_number (node_size s (nodes.Binary o e f))
   node_sound s (nodes.PointerDifference n e f) =
       expression_sound s e && expression_sound s f && is_size Long
-          (expression_size s e) && is_size Long (expression_size s f) && is_divisor n
+      (expression_size s e) && is_size Long (expression_size s f) && is_divisor n
   node_sound s (nodes.Not e) = expression_sound s e && is_number (expression_size s e)
   node_sound s (nodes.And e f) =
       expression_sound s e && expression_sound s f && both (expression_size s e)
-          (expression_size s f)
+      (expression_size s f)
   node_sound s (nodes.Or e f) =
       expression_sound s e && expression_sound s f && both (expression_size s e)
-          (expression_size s f)
+      (expression_size s f)
   node_sound s (nodes.Conditional c e f) =
       expression_sound s c && expression_sound s e && expression_sound s f && is_number
-          (expression_size s c) && same_sizes (expression_size s e) (expression_size s f)
+      (expression_size s c) && same_sizes (expression_size s e) (expression_size s f)
   node_sound s (nodes.Comma e f) = expression_sound s e && expression_sound s f
   node_sound s (nodes.Call f es) =
       arguments_sound s es && call_fits (slice_get s.functions f) (argument_sizes s es)
@@ -252,7 +252,7 @@ abbrev mutual
   lvalue_sound s (Indirection access e) = expression_sound s e && is_size Long (expression_size s e)
   lvalue_sound s (Element access e i) =
       expression_sound s e && expression_sound s i && is_size Long
-          (expression_size s e) && is_size Long (expression_size s i)
+      (expression_size s e) && is_size Long (expression_size s i)
 
   pub arguments_sound : Scope → Arguments → Bool
   arguments_sound s Done = true
@@ -296,7 +296,7 @@ abbrev pub result_sound : Inside → Option Expression → Bool
 result_sound i None = same_sizes None i.returns
 result_sound i (Some e) =
     expression_sound i.scope e && is_number i.returns && same_sizes
-        (expression_size i.scope e) i.returns
+    (expression_size i.scope e) i.returns
 
 abbrev pub filter_sound : Scope → Filter → Bool
 filter_sound s Always = true
@@ -314,7 +314,7 @@ abbrev mutual
       condition_sound i.scope c && statement_sound i s && statement_sound i t
   statement_sound i (For ds first c next s) =
       all_declared_sound i.scope ds && optional_sound i.scope first && test_sound i.scope c &&
-          optional_sound i.scope next && statement_sound (record i { loop = true }) s
+      optional_sound i.scope next && statement_sound (record i { loop = true }) s
   statement_sound i (DoWhile s c) =
       condition_sound i.scope c && statement_sound (record i { loop = true }) s
   statement_sound i (Return e) = i.function && result_sound i e
@@ -323,12 +323,17 @@ abbrev mutual
   statement_sound i Leave = i.body
   statement_sound i (TryExcept body filter block) =
       statements_sound (record i { body = true }) body && filter_sound i.scope filter &&
-          statements_sound (record i { scope = record i.scope { code = true } }) block
+      statements_sound (record i { scope = record i.scope { code = true } }) block
   -- no jump out of a `__finally` block
   statement_sound i (TryFinally body k last) =
       statements_sound (record i { body = true }) body
-      && statements_sound (record { scope = record i.scope { abnormal = true }; returns = i.returns;
-              loop = false; body = false; function = false }) last
+      && statements_sound (record {
+        scope = record i.scope { abnormal = true };
+        returns = i.returns;
+        loop = false;
+        body = false;
+        function = false;
+      }) last
 
   pub statements_sound : Inside → Statements → Bool
   statements_sound i Empty = true
@@ -375,8 +380,13 @@ abbrev pub function_sound : List Function → Function → Bool
 function_sound functions f =
     statements_sound
     (record {
-      scope = record { functions = functions; sizes = f.parameters ++ f.locals; code = false;
-          information = false; abnormal = false };
+      scope = record {
+        functions = functions;
+        sizes = f.parameters ++ f.locals;
+        code = false;
+        information = false;
+        abnormal = false;
+      };
       returns = f.returns;
       loop = false;
       body = false;
@@ -393,15 +403,15 @@ abbrev pub main_sound : Option Function → Bool
 main_sound None = false
 main_sound (Some f) =
     (are_sizes [] (some_sizes f.parameters) || are_sizes (Long ∷ []) (some_sizes f.parameters)) &&
-        is_size Int f.returns
+    is_size Int f.returns
 
 abbrev pub is_sound : Program → Bool
 is_sound p =
     functions_sound p.functions p.functions && main_sound
-        (slice_get p.functions p.main) && count_up 1 (all_funclets p.functions)
+    (slice_get p.functions p.main) && count_up 1 (all_funclets p.functions)
     && nat_le (length p.functions) MOST_FUNCTIONS && nat_le
-            (length (all_funclets p.functions)) MOST_FUNCLETS && nat_le
-            (length p.globals) MOST_GLOBALS
+    (length (all_funclets p.functions)) MOST_FUNCLETS && nat_le
+    (length p.globals) MOST_GLOBALS
 
 abbrev pub IsSound : Program → Type 0
 IsSound p = is_sound p ≡ true

@@ -63,7 +63,7 @@ layer (opened.Evaluate e) = Evaluate (option_map expression e)
 layer (opened.If c s t) = choice (expression c) s.value (option_map (λ b. b.value) t)
 layer (opened.For ds first c next s) =
     For (map declared ds.items) (option_map expression first) (option_map expression c)
-        (option_map expression next) s.value
+    (option_map expression next) s.value
 layer (opened.Do s c) = DoWhile s.value (expression c)
 layer (opened.Return e) = Return (option_map expression e)
 layer opened.Break = Break

@@ -13,7 +13,9 @@ use Rattle.c_types.specs.Views.{typed_node}
 pub record Values (before after : Least) (found : Option TypedNode) (e : Expr)
     (rule : ResolvedExpression → Value) : Type 0 where
   pub value : (fs : List FaultAt) → expression e ≡ (rule
-          (record { found = option_map typed_node found; faults = fs })).value
+      (record { found = option_map typed_node found; faults = fs })).value
   pub faults : (first : Option FaultAt) (fs : List FaultAt) → least_of before ≡ kept first fs
-      → least_of after ≡ kept first (rule (record { found = option_map typed_node found;
-          faults = fs })).faults
+      → least_of after ≡ kept first (rule (record {
+        found = option_map typed_node found;
+        faults = fs;
+      })).faults

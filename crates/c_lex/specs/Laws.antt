@@ -74,7 +74,7 @@ Spellings =
 abbrev pub NoOtherSpellings : Type 0
 NoOtherSpellings =
     ((s : Punctuator) (w : List ℕ) → punctuators.punctuator_of w ≡ Some s
-        → w ≡ punctuators.spelling s)
+    → w ≡ punctuators.spelling s)
     × ((k : Keyword) (w : List ℕ) → keywords.keyword_of w ≡ Some k → w ≡ keywords.spelling k)
     × ((r : Reserved) (w : List ℕ) → reserved_words.reserved_of w ≡ Some r
-        → w ≡ reserved_words.spelling r)
+    → w ≡ reserved_words.spelling r)

@@ -34,4 +34,4 @@ pub record Begins (names : List (Bor (List ℕ) × Entity)) (before after : Walk
   pub counts : numbering after ≡ r.resolved.counts
   pub block : block_of names ≡ r.resolved.block
   pub faults : least_of after.worst ≡ kept (least_of before.worst)
-          (r.resolved.faults ++ r.first.faults)
+      (r.resolved.faults ++ r.first.faults)

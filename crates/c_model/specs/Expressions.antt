@@ -90,7 +90,7 @@ abbrev pub tried : Does → Operation → ℕ → ℕ → Context → State → 
 tried does o a b context st (performing.Gives v memory) = Gives (Value v) (set_memory st memory)
 tried does o a b context st (performing.Raises code access) =
     and_then (does (Raise (record { code = code.0; flag = false; access = access })) context st)
-        (λ st. does (Retry o a b) context st)
+    (λ st. does (Retry o a b) context st)
 tried does o a b context st (performing.Undefined a') = Gives (End (Some (Undefined a'))) st
 
 abbrev pub operate : Program → Does → Operation → ℕ → ℕ → Context → State → Outcome
@@ -105,13 +105,13 @@ locate does (Global access a) context st = Gives (Value a) st
 locate does (Indirection access e) context st = does (Eval e) context st
 locate does (Element access e i) context st =
     with_value (does (Eval e) context st)
-        (λ a st. with_value (does (Eval i) context st)
-        (λ n st. Gives (Value (result_of (Add Long) a n)) st))
+    (λ a st. with_value (does (Eval i) context st)
+    (λ n st. Gives (Value (result_of (Add Long) a n)) st))
 
 abbrev pub load : Program → Does → Access → ℕ → Context → State → Outcome
 load program does access a context st =
     with_value (operate program does (Load access.width) a 0 context st)
-        (λ v st. Gives (Value (value_of access v)) st)
+    (λ v st. Gives (Value (value_of access v)) st)
 
 -- what stands at a place that was located
 abbrev pub read : Program → Does → Lvalue → ℕ → Context → State → Outcome
@@ -136,7 +136,7 @@ abbrev pub each : Does → Arguments → Context → State → (List ℕ → Sta
 each does Done context st go = go [] st
 each does (Next e es) context st go =
     with_value (does (Eval e) context st)
-        (λ v st. each does es context st (λ vs st. go (v ∷ vs) st))
+    (λ v st. each does es context st (λ vs st. go (v ∷ vs) st))
 
 -- statements, one after another
 abbrev pub all : Does → Statements → Context → State → Outcome
@@ -162,8 +162,12 @@ abbrev pub enter : Does → Option Function → List ℕ → Context → State �
 enter does None vs context st = Gives (Value 0) st
 enter does (Some f) vs context st =
     deeper 1 st (λ st. ended_call (length st.frames) (all does f.body
-    (record { handlers = context.handlers; activation = length st.frames; exception = no_exception;
-            abnormal = false })
+    (record {
+      handlers = context.handlers;
+      activation = length st.frames;
+      exception = no_exception;
+      abnormal = false;
+    })
     (record st { frames = st.frames ++ (vs ++ replicate (length f.locals) 0) ∷ [] })))
 
 abbrev pub is_some : Option Rights → Bool
@@ -177,10 +181,10 @@ call_built_in does Protect vs context st =
     let a = get_or vs 0 0 in
     let mode = signed W32 (get_or vs 1 0) in
     Gives (Value (of_test (is_some (rights_asked a mode))))
-            (set_memory st (protected st.memory a mode))
+    (set_memory st (protected st.memory a mode))
 call_built_in does RaiseException vs context st =
     and_then (does (Raise (raised (get_or vs 0 0) (get_or vs 1 0))) context st)
-        (λ st. Gives (Value 0) st)
+    (λ st. Gives (Value 0) st)
 
 -- ---- expressions
 
@@ -191,44 +195,44 @@ node program does (nodes.Read p) context st =
 node program does (nodes.AddressOf p) context st = does (Locate p) context st
 node program does (nodes.Assign p e) context st =
     with_value (does (Locate p) context st)
-        (λ a st. with_value (does (Eval e) context st)
-        (λ v st. write program does p a v context st))
+    (λ a st. with_value (does (Eval e) context st)
+    (λ v st. write program does p a v context st))
 node program does (nodes.CompoundAssign p before o e after) context st =
     with_value (does (Locate p) context st) (λ a st.
     with_value (read program does p a context st) (λ x st.
     with_value (does (Eval e) context st) (λ y st.
     with_value (operate program does o (converted before x) y context st)
-            (λ z st. write program does p a (converted after z) context st))))
+    (λ z st. write program does p a (converted after z) context st))))
 node program does (nodes.Increment m p before o n after) context st =
     with_value (does (Locate p) context st) (λ a st.
     with_value (read program does p a context st) (λ x st.
     with_value (operate program does o (converted before x) n context st) (λ z st.
     with_value (write program does p a (converted after z) context st)
-            (λ new st. Gives (Value (incremented_value m x new)) st))))
+    (λ new st. Gives (Value (incremented_value m x new)) st))))
 node program does (nodes.Unary o e) context st =
     with_value (does (Eval e) context st) (λ v st. Gives (Value (result_of o v 0)) st)
 node program does (nodes.Binary o e f) context st =
     with_value (does (Eval e) context st)
-        (λ x st. with_value (does (Eval f) context st)
-        (λ y st. operate program does o x y context st))
+    (λ x st. with_value (does (Eval f) context st)
+    (λ y st. operate program does o x y context st))
 node program does (nodes.PointerDifference size e f) context st =
     with_value (does (Eval e) context st)
-        (λ x st. with_value (does (Eval f) context st) (λ y st. Gives (Value (apart size x y)) st))
+    (λ x st. with_value (does (Eval f) context st) (λ y st. Gives (Value (apart size x y)) st))
 node program does (nodes.Not e) context st =
     with_value (does (Eval e) context st) (λ v st. Gives (Value (of_test (nat_eq v 0))) st)
 node program does (nodes.And e f) context st =
     with_value (does (Eval e) context st) (λ x st.
     choose (nat_eq x 0) (λ st. Gives (Value 0) st)
-            (λ st. with_value (does (Eval f) context st)
-            (λ y st. Gives (Value (of_test (not (nat_eq y 0)))) st)) st)
+    (λ st. with_value (does (Eval f) context st)
+    (λ y st. Gives (Value (of_test (not (nat_eq y 0)))) st)) st)
 node program does (nodes.Or e f) context st =
     with_value (does (Eval e) context st) (λ x st.
     choose (nat_eq x 0) (λ st. with_value (does (Eval f) context st)
-            (λ y st. Gives (Value (of_test (not (nat_eq y 0)))) st)) (λ st. Gives (Value 1) st) st)
+    (λ y st. Gives (Value (of_test (not (nat_eq y 0)))) st)) (λ st. Gives (Value 1) st) st)
 node program does (nodes.Conditional c e f) context st =
     with_value (does (Eval c) context st)
-        (λ x st. choose (nat_eq x 0) (λ st. does (Eval f) context st)
-        (λ st. does (Eval e) context st) st)
+    (λ x st. choose (nat_eq x 0) (λ st. does (Eval f) context st)
+    (λ st. does (Eval e) context st) st)
 node program does (nodes.Comma e f) context st =
     with_value (does (Eval e) context st) (λ x st. does (Eval f) context st)
 node program does (nodes.Call f es) context st =

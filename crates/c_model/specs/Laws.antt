@@ -16,7 +16,7 @@ abbrev pub DoesIs : Type 0
 DoesIs =
     (program : Program) (task : Task) (context : Context) (st : State)
     → does program task context st ≡ counted st (λ st. perform program
-        (does program) task context st)
+    (does program) task context st)
 
 -- no more steps are left after a task than before it
 abbrev pub NeverRises : Type 0

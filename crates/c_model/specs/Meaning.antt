@@ -42,8 +42,13 @@ does program task context st = within program st.steps_left task context st
 
 abbrev pub start : Program → ℕ → State
 start program n =
-    record { steps_left = n; memory = first_memory program.globals; frames = []; held = 0;
-        events = [] }
+    record {
+      steps_left = n;
+      memory = first_memory program.globals;
+      frames = [];
+      held = 0;
+      events = [];
+    }
 
 abbrev pub outside : Context
 outside = record { handlers = []; activation = 0; exception = no_exception; abnormal = false }
@@ -90,5 +95,5 @@ Calm program arg n = is_calm (meaning program arg n).end
 -- what a proof opens, by `unfolding computed`, to compute a meaning
 unfoldable pub computed : ℕ
 unfolding choose deeper with_value and_then ended_call in_loop landing finally_after counted
-        first_refused number_at with_number
+    first_refused number_at with_number
 computed = 0

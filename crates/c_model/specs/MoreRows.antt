@@ -29,15 +29,15 @@ use Rattle.c_model.specs.Rows.{ended, unfinished, Shows, raised, landed, wrote, 
 abbrev pub filter_asked_once : Program
 filter_asked_once =
     with_main [] (function [] [] (except (raise 0xE0000001 0 ∷ []) (Funclet 1 (lit 0))
-        (put (long (Constant Int 7)) ∷ []) ∷ []) ∷ [])
+    (put (long (Constant Int 7)) ∷ []) ∷ []) ∷ [])
     (except (finally (evaluate (Call 0 Done) ∷ []) 2 (raise 0xE0000002 0 ∷ []) ∷ []) Always
-            (put (long (code_is 0xE0000002)) ∷ []) ∷ answer (lit 0) ∷ [])
+    (put (long (code_is 0xE0000002)) ∷ []) ∷ answer (lit 0) ∷ [])
 
 abbrev pub FilterAskedOnceUnderCollision : Type 0
 FilterAskedOnceUnderCollision =
     Shows filter_asked_once 100
     (raised 0xE0000001 ∷ events.Filter 1 ∷ events.Answer (pos 0) ∷ events.Finally 2 true
-            ∷ raised 0xE0000002 ∷ landed 0xE0000002 ∷ wrote 1 ∷ []) (exit 0)
+    ∷ raised 0xE0000002 ∷ landed 0xE0000002 ∷ wrote 1 ∷ []) (exit 0)
 
 -- int main(void){ __try{ __try{ __try{ __try{ RaiseException(0xE0000001,0,0,0); } __finally{
 -- RaiseException(0xE0000002,0,0,0); } } __finally{ RaiseException(0xE0000003,0,0,0); } }
@@ -46,15 +46,15 @@ abbrev pub collided_twice : Program
 collided_twice =
     main_alone
     (except (except (finally (finally (raise 0xE0000001 0 ∷ []) 1 (raise 0xE0000002 0 ∷ []) ∷ []) 2
-            (raise 0xE0000003 0 ∷ []) ∷ []) (Funclet 3 (kept (code_is 0xE0000003)))
-            (put (long (Constant Int 3)) ∷ []) ∷ [])
+    (raise 0xE0000003 0 ∷ []) ∷ []) (Funclet 3 (kept (code_is 0xE0000003)))
+    (put (long (Constant Int 3)) ∷ []) ∷ [])
     Always (put (long (Constant Int 1)) ∷ []) ∷ answer (lit 0) ∷ [])
 
 abbrev pub CollidedTwice : Type 0
 CollidedTwice =
     Shows collided_twice 100
     (raised 0xE0000001 ∷ events.Filter 3 ∷ events.Answer (pos 0) ∷ events.Finally 1 true
-            ∷ raised 0xE0000002 ∷ events.Filter 3 ∷ events.Answer (pos 0) ∷ events.Finally 2 true
+    ∷ raised 0xE0000002 ∷ events.Filter 3 ∷ events.Answer (pos 0) ∷ events.Finally 2 true
     ∷ raised 0xE0000003 ∷ events.Filter 3 ∷ events.Answer (pos 1) ∷ landed 0xE0000003 ∷ wrote 3
     ∷ [])
     (exit 0)
@@ -67,8 +67,8 @@ target_in_outer_activation =
     (function (Int ∷ []) []
     (finally
     (except (IfElse (local 0) (evaluate (Call 0 (Next (kept (subtract (local 0) (lit 1))) Done)))
-            (raise 0xE0000001 0) ∷ []) (Funclet 1 (kept (equal (local 0) (lit 1))))
-            (put (long (Read (Local 0))) ∷ []) ∷ [])
+    (raise 0xE0000001 0) ∷ []) (Funclet 1 (kept (equal (local 0) (lit 1))))
+    (put (long (Read (Local 0))) ∷ []) ∷ [])
     2 (put (long (plus (lit 10) (local 0))) ∷ []) ∷ answer (lit 0) ∷ [])
     ∷ [])
     (evaluate (Call 0 (Next (lit 1) Done)) ∷ answer (lit 0) ∷ [])
@@ -77,7 +77,7 @@ abbrev pub TargetInOuterActivation : Type 0
 TargetInOuterActivation =
     Shows target_in_outer_activation 100
     (raised 0xE0000001 ∷ events.Filter 1 ∷ events.Answer (pos 0) ∷ events.Filter 1
-            ∷ events.Answer (pos 1) ∷ events.Finally 2 true ∷ wrote 10 ∷ landed 0xE0000001 ∷ wrote 1
+    ∷ events.Answer (pos 1) ∷ events.Finally 2 true ∷ wrote 10 ∷ landed 0xE0000001 ∷ wrote 1
     ∷ events.Finally 2 false ∷ wrote 11 ∷ [])
     (exit 0)
 
@@ -93,17 +93,17 @@ abbrev pub two_filters : Program
 two_filters =
     main_alone
     (except (except (evaluate (Assign (Indirection char (cast 8))
-            (On (Constant Int 1) (Extend Signed W8 Int))) ∷ []) (Funclet 1 (lit 0))
-            (put (long (Constant Int 1)) ∷ []) ∷ [])
+    (On (Constant Int 1) (Extend Signed W8 Int))) ∷ []) (Funclet 1 (lit 0))
+    (put (long (Constant Int 1)) ∷ []) ∷ [])
     (Funclet 2 (kept (Information NumberParameters))) (put (long (Constant Int 2)) ∷ [])
-        ∷ answer (lit 0) ∷ [])
+    ∷ answer (lit 0) ∷ [])
 
 abbrev pub TwoFiltersOfOneFault : Type 0
 TwoFiltersOfOneFault =
     Shows two_filters 100
     (events.Raise (record { 0 = 0xC0000005 }) false (Some (true, 8)) ∷ events.Filter 1
-            ∷ events.Answer (pos 0) ∷ events.Filter 2 ∷ events.Answer (pos 2) ∷ landed 0xC0000005
-        ∷ wrote 2 ∷ [])
+    ∷ events.Answer (pos 0) ∷ events.Filter 2 ∷ events.Answer (pos 2) ∷ landed 0xC0000005
+    ∷ wrote 2 ∷ [])
     (exit 0)
 
 -- ---- jumps out of bodies
@@ -117,10 +117,10 @@ break_through_finally =
           function [] (Int ∷ [])
           (Declare (record { local = 0; value = None })
           ∷ For [] (Some (kept (Assign (Local 0) (lit 0))))
-              (Some (kept (compare Less (local 0) (lit 3))))
-              (Some (kept (Increment Postfix (Local 0) Kept (Pure (pures.Add Int)) 1 Kept)))
+          (Some (kept (compare Less (local 0) (lit 3))))
+          (Some (kept (Increment Postfix (Local 0) Kept (Pure (pures.Add Int)) 1 Kept)))
           (Block (statements (finally (If (kept (equal (local 0) (lit 1))) Break ∷ []) 1
-                  (put (long abnormal) ∷ []) ∷ []))) ∷ answer (local 0) ∷ [])
+          (put (long abnormal) ∷ []) ∷ []))) ∷ answer (local 0) ∷ [])
           ∷ [];
       main = 0;
       globals = [];
@@ -129,18 +129,18 @@ break_through_finally =
 abbrev pub BreakThroughFinally : Type 0
 BreakThroughFinally =
     Shows break_through_finally 100 (events.Finally 1 false ∷ wrote 0 ∷ events.Finally 1 true
-        ∷ wrote 1 ∷ []) (exit 1)
+    ∷ wrote 1 ∷ []) (exit 1)
 
 -- int main(void){ __try{ __try{ return 4; } __finally{ put(1); } } __finally{ put(2); } return 0; }
 abbrev pub return_through_two : Program
 return_through_two =
     main_alone (finally (finally (answer (lit 4) ∷ []) 1 (put (long (Constant Int 1)) ∷ []) ∷ []) 2
-        (put (long (Constant Int 2)) ∷ []) ∷ answer (lit 0) ∷ [])
+    (put (long (Constant Int 2)) ∷ []) ∷ answer (lit 0) ∷ [])
 
 abbrev pub ReturnThroughTwoFinallys : Type 0
 ReturnThroughTwoFinallys =
     Shows return_through_two 100 (events.Finally 1 true ∷ wrote 1 ∷ events.Finally 2 true ∷ wrote 2
-        ∷ []) (exit 4)
+    ∷ []) (exit 4)
 
 -- ---- memory
 
@@ -150,13 +150,13 @@ abbrev pub store_across_pages : Program
 store_across_pages =
     main_alone
     (protect 0x20000000 2 ∷ except (evaluate (Assign (Indirection int (cast 0x20000FFE))
-            (lit 0x01010101)) ∷ []) Always
-            (put (long (Read (Indirection short (cast 0x20000FFE)))) ∷ []) ∷ answer (lit 0) ∷ [])
+    (lit 0x01010101)) ∷ []) Always
+    (put (long (Read (Indirection short (cast 0x20000FFE)))) ∷ []) ∷ answer (lit 0) ∷ [])
 
 abbrev pub StoreAcrossPages : Type 0
 StoreAcrossPages =
     Shows store_across_pages 100 (events.Raise (record { 0 = 0xC0000005 }) false
-        (Some (true, 0x20001000)) ∷ landed 0xC0000005 ∷ wrote 0 ∷ []) (exit 0)
+    (Some (true, 0x20001000)) ∷ landed 0xC0000005 ∷ wrote 0 ∷ []) (exit 0)
 
 -- int main(void){ __try{ put(*(char*)0x20000003); }
 -- __except(put(GetExceptionInformation()->ExceptionRecord->ExceptionInformation[1]), 1){ put(4); }
@@ -166,20 +166,20 @@ fault_address =
     main_alone
     (except (put (long (Read (Indirection char (cast 0x20000003)))) ∷ [])
     (Funclet 1 (kept (Comma (kept (CallBuiltIn Put (Next
-            (kept (Information (ExceptionInformation 1))) Done))) (lit 1))))
+    (kept (Information (ExceptionInformation 1))) Done))) (lit 1))))
     (put (long (Constant Int 4)) ∷ []) ∷ answer (lit 0) ∷ [])
 
 abbrev pub FaultAddressInFilter : Type 0
 FaultAddressInFilter =
     Shows fault_address 100
     (events.Raise (record { 0 = 0xC0000005 }) false (Some (false, 0x20000003)) ∷ events.Filter 1
-            ∷ wrote 536870915 ∷ events.Answer (pos 1) ∷ landed 0xC0000005 ∷ wrote 4 ∷ []) (exit 0)
+    ∷ wrote 536870915 ∷ events.Answer (pos 1) ∷ landed 0xC0000005 ∷ wrote 4 ∷ []) (exit 0)
 
 -- int main(void){ put(1); return *(int*)0x70000000; }
 abbrev pub reserved_access : Program
 reserved_access =
     main_alone (put (long (Constant Int 1))
-        ∷ answer (kept (Read (Indirection int (cast 0x70000000)))) ∷ [])
+    ∷ answer (kept (Read (Indirection int (cast 0x70000000)))) ∷ [])
 
 abbrev pub UndefinedReservedAccess : Type 0
 UndefinedReservedAccess = Shows reserved_access 100 (wrote 1 ∷ []) (Undefined 0x70000000)
@@ -200,7 +200,7 @@ conversions =
 abbrev pub ConversionsAndShifts : Type 0
 ConversionsAndShifts =
     Shows conversions 100 (events.Put (negsuc 55) ∷ wrote 4294967295 ∷ events.Put (negsuc 2)
-        ∷ events.Put (negsuc 0) ∷ wrote 2 ∷ []) (exit 0)
+    ∷ events.Put (negsuc 0) ∷ wrote 2 ∷ []) (exit 0)
 
 -- int a[2]; int main(void){ char c = 127; int *p = a; put(c++); put(c); *++p = 5; put(a[1]); put(p
 -- - a); put(p[-1] || 0); put(1 && c ? 3 : 4); c += 130; put(c); return 0; }
@@ -209,22 +209,24 @@ operators =
     record {
       functions =
           function [] (Int ∷ Long ∷ [])
-          (Declare (record { local = 0; value = Some (On (Constant Int 127) (Extend Signed W8 Int))
-                  })
+          (Declare (record {
+            local = 0;
+            value = Some (On (Constant Int 127) (Extend Signed W8 Int));
+          })
           ∷ Declare (record { local = 1; value = Some (address first_data) })
           ∷ put (long (Increment Postfix (Local 0) Kept (Pure (pures.Add Int)) 1
-              (Extend Signed W8 Int)))
+          (Extend Signed W8 Int)))
           ∷ put (long (Read (Local 0)))
           ∷ evaluate (Assign (Indirection int (kept (Increment Prefix (Local 1) Kept
-              (Pure (pures.Add Long)) 4 Kept))) (lit 5))
+          (Pure (pures.Add Long)) 4 Kept))) (lit 5))
           ∷ put (long (Read (Element int (address first_data)
-              (On (Constant Int 1) (Scale Signed W32 4)))))
+          (On (Constant Int 1) (Scale Signed W32 4)))))
           ∷ put (kept (PointerDifference 4 (local 1) (address first_data)))
           ∷ put (long (Or (kept (Read (Element int (local 1) (On (minus 1) (Scale Signed W32 4)))))
-              (lit 0)))
+          (lit 0)))
           ∷ put (long (Conditional (kept (And (lit 1) (local 0))) (lit 3) (lit 4)))
           ∷ evaluate (CompoundAssign (Local 0) Kept (Pure (pures.Add Int)) (lit 130)
-              (Extend Signed W8 Int))
+          (Extend Signed W8 Int))
           ∷ put (long (Read (Local 0)))
           ∷ answer (lit 0) ∷ [])
           ∷ [];
@@ -235,7 +237,7 @@ operators =
 abbrev pub Operators : Type 0
 Operators =
     Shows operators 200 (wrote 127 ∷ events.Put (negsuc 127) ∷ wrote 5 ∷ wrote 1 ∷ wrote 0 ∷ wrote 3
-        ∷ wrote 2 ∷ []) (exit 0)
+    ∷ wrote 2 ∷ []) (exit 0)
 
 -- ---- calls and loops
 
@@ -246,10 +248,10 @@ six_arguments =
     with_main []
     (function (Int ∷ Int ∷ Int ∷ Int ∷ Int ∷ Int ∷ []) []
     (answer (kept (subtract (kept (plus (kept (subtract (kept
-            (plus (kept (subtract (local 0) (local 1))) (local 2))) (local 3))) (local 4)))
-            (local 5))) ∷ []) ∷ [])
+    (plus (kept (subtract (local 0) (local 1))) (local 2))) (local 3))) (local 4)))
+    (local 5))) ∷ []) ∷ [])
     (put (long (Call 0 (arguments (lit 1 ∷ lit 2 ∷ lit 3 ∷ lit 4 ∷ lit 5 ∷ lit 6 ∷ []))))
-            ∷ answer (lit 0) ∷ [])
+    ∷ answer (lit 0) ∷ [])
 
 abbrev pub SixArguments : Type 0
 SixArguments = Shows six_arguments 100 (events.Put (negsuc 2) ∷ []) (exit 0)
@@ -263,11 +265,11 @@ sum_to_argument =
           function (Long ∷ []) (Long ∷ [])
           (Declare (record { local = 1; value = Some (long (Constant Int 0)) })
           ∷ For [] None (Some (kept (Binary (Pure (pures.Compare Greater Signed Long)) (local 0)
-              (long (Constant Int 0))))) None
+          (long (Constant Int 0))))) None
           (Block (statements
           (evaluate (Assign (Local 1) (kept (Binary (Pure (pures.Add Long)) (local 1) (local 0))))
           ∷ evaluate (Assign (Local 0) (kept (Binary (Pure (pures.Subtract Long)) (local 0)
-              (long (Constant Int 1))))) ∷ [])))
+          (long (Constant Int 1))))) ∷ [])))
           ∷ put (local 1) ∷ answer (lit 0) ∷ [])
           ∷ [];
       main = 0;
@@ -306,15 +308,15 @@ deep_recursion =
     with_main []
     (function (Int ∷ []) []
     (If (kept (equal (local 0) (lit 0))) (answer (lit 0))
-            ∷ answer (kept (plus (kept (Call 0 (Next (kept (subtract (local 0) (lit 1))) Done)))
-            (lit 1))) ∷ []) ∷ [])
+    ∷ answer (kept (plus (kept (Call 0 (Next (kept (subtract (local 0) (lit 1))) Done)))
+    (lit 1))) ∷ []) ∷ [])
     (put (long (Call 0 (Next (lit 40) Done))) ∷ answer (lit 0) ∷ [])
 
 -- int r(int n){ return r(n + 1) + 1; } int main(void){ put(r(0)); return 0; }
 abbrev pub endless_recursion : Program
 endless_recursion =
     with_main [] (function (Int ∷ []) [] (answer (kept (plus
-        (kept (Call 0 (Next (kept (plus (local 0) (lit 1))) Done))) (lit 1))) ∷ []) ∷ [])
+    (kept (Call 0 (Next (kept (plus (local 0) (lit 1))) Done))) (lit 1))) ∷ []) ∷ [])
     (put (long (Call 0 (Next (lit 0) Done))) ∷ answer (lit 0) ∷ [])
 
 -- 4 steps lead to the first call, and 6 from each call to the next; the 1,000th would be the

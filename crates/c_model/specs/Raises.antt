@@ -34,7 +34,7 @@ abbrev pub search_by : Does → Filter → Handler → ℕ → Exception → Con
 search_by does Always h level exc context st next = Gives (Target level exc) st
 search_by does (Funclet k e) h level exc context st next =
     with_value (does (RunFilter k e h exc) context st)
-        (λ v st. answered does v level exc context st next)
+    (λ v st. answered does v level exc context st next)
 
 abbrev pub search : Does → List Handler → Exception → Context → State → Outcome
 search does [] exc context st = Gives (End (Some (Unhandled (record { 0 = exc.code })))) st
@@ -45,12 +45,16 @@ search does (h ∷ outer) exc context st =
 abbrev pub run_filter : Does → ℕ → Expression → Handler → Exception → Context → State → Outcome
 run_filter does k e h exc context st =
     deeper 2 st (λ st.
-    with_value (does (Eval e) (record { handlers = context.handlers; activation = h.activation;
-            exception = exc; abnormal = h.abnormal }) (emit (events.Filter k) (hold st)))
+    with_value (does (Eval e) (record {
+      handlers = context.handlers;
+      activation = h.activation;
+      exception = exc;
+      abnormal = h.abnormal;
+    }) (emit (events.Filter k) (hold st)))
     (λ v st. Gives (Value v) (emit (events.Answer (signed W32 v)) (let_go st))))
 
 abbrev pub run_finally : Does → ℕ → Statements → Bool → Context → State → Outcome
 run_finally does k last flag context st =
     deeper 2 st (λ st.
     and_then (all does last (record context { abnormal = flag })
-            (emit (events.Finally k flag) (hold st))) (λ st. Gives Normal (let_go st)))
+    (emit (events.Finally k flag) (hold st))) (λ st. Gives Normal (let_go st)))

@@ -109,8 +109,13 @@ abnormal = AbnormalTermination
 
 abbrev pub function : List Size → List Size → List Statement → Function
 function parameters locals body =
-    record { name = []; parameters = parameters; locals = locals; returns = Some Int;
-        body = statements body }
+    record {
+      name = [];
+      parameters = parameters;
+      locals = locals;
+      returns = Some Int;
+      body = statements body;
+    }
 
 -- a program of `main` alone, without locals, and one with globals, and with further functions
 -- before it
@@ -119,5 +124,8 @@ main_alone body = record { functions = function [] [] body ∷ []; main = 0; glo
 
 abbrev pub with_main : List ℕ → List Function → List Statement → Program
 with_main globals others body =
-    record { functions = others ++ function [] [] body ∷ []; main = length others;
-        globals = globals }
+    record {
+      functions = others ++ function [] [] body ∷ [];
+      main = length others;
+      globals = globals;
+    }

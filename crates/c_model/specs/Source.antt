@@ -23,7 +23,7 @@ is_data globals a = is_between first_data (data_end globals) a
 abbrev pub is_reserved : List ℕ → ℕ → Bool
 is_reserved globals a =
     is_between GUARD_START STACK_END a ||
-        (is_between IMAGE_BASE IMAGE_RANGE_END a && not (is_data globals a))
+    (is_between IMAGE_BASE IMAGE_RANGE_END a && not (is_data globals a))
 
 abbrev pub plain_mode : Rights → Protection
 plain_mode rights = record { rights = rights; execute = false }

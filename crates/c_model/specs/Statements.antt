@@ -18,7 +18,7 @@ optional does default (Some e) context st go = with_value (does (Eval e) context
 abbrev pub declare : Does → Declared → Context → State → Outcome
 declare does d context st =
     optional does 0 d.value context (set_local st context.activation d.local 0)
-        (λ v st. Gives Normal (set_local st context.activation d.local v))
+    (λ v st. Gives Normal (set_local st context.activation d.local v))
 
 abbrev pub declare_each : Does → List Declared → Context → State → Outcome
 declare_each does [] context st = Gives Normal st
@@ -38,7 +38,7 @@ unfoldable pub landing : ℕ → ℕ → Outcome → (Exception → State → Ou
 landing level held (Gives LeftTry st) go = Gives Normal st
 landing level held (Gives (Target to exc) st) go =
     choose (nat_eq to level) (λ st. go exc (emit (events.Except (record { 0 = exc.code }))
-        (record st { held = held }))) (λ st. Gives (Target to exc) st) st
+    (record st { held = held }))) (λ st. Gives (Target to exc) st) st
 landing level held o go = o
 
 -- a `__try` with a `__finally`: the block runs for every result but an end, and then that result
@@ -59,14 +59,14 @@ statement does (Block ss) context st = all does ss context st
 statement does (Evaluate e) context st = optional does 0 e context st (λ v st. Gives Normal st)
 statement does (If c s) context st =
     with_value (does (Eval c) context st)
-        (λ v st. choose (nat_eq v 0) (λ st. Gives Normal st) (λ st. does (Run s) context st) st)
+    (λ v st. choose (nat_eq v 0) (λ st. Gives Normal st) (λ st. does (Run s) context st) st)
 statement does (IfElse c s t) context st =
     with_value (does (Eval c) context st)
-        (λ v st. choose (nat_eq v 0) (λ st. does (Run t) context st)
-        (λ st. does (Run s) context st) st)
+    (λ v st. choose (nat_eq v 0) (λ st. does (Run t) context st)
+    (λ st. does (Run s) context st) st)
 statement does (For ds first c next s) context st =
     and_then (declare_each does ds context st)
-        (λ st. optional does 0 first context st (λ v st. does (ForIteration c next s) context st))
+    (λ st. optional does 0 first context st (λ v st. does (ForIteration c next s) context st))
 statement does (DoWhile s c) context st = does (DoIteration s c) context st
 statement does (Return e) context st = optional does 0 e context st (λ v st. Gives (Returned v) st)
 statement does Break context st = Gives Broke st
@@ -75,11 +75,11 @@ statement does Leave context st = Gives LeftTry st
 statement does (TryExcept body filter block) context st =
     landing (length context.handlers) st.held
     (does (TryBody body) (record context { handlers = handler filter context ∷ context.handlers })
-            st)
+    st)
     (λ exc st. all does block (record context { exception = exc }) st)
 statement does (TryFinally body k last) context st =
     finally_after (does (TryBody body) context st)
-        (λ flag st. does (RunFinally k last flag) context st)
+    (λ flag st. does (RunFinally k last flag) context st)
 
 -- an iteration of `for` or `while`, and those after it; a missing condition holds (C11, 6.8.5)
 abbrev pub for_iteration : Does → Option Expression → Option Expression → Statement → Context
@@ -88,13 +88,13 @@ for_iteration does c next s context st =
     optional does 1 c context st (λ v st.
     choose (nat_eq v 0) (λ st. Gives Normal st)
     (λ st. in_loop (does (Run s) context st)
-            (λ st. optional does 0 next context st
-            (λ w st. does (ForIteration c next s) context st))) st)
+    (λ st. optional does 0 next context st
+    (λ w st. does (ForIteration c next s) context st))) st)
 
 -- an iteration of `do`, and those after it (C11, 6.8.5.2)
 abbrev pub do_iteration : Does → Statement → Expression → Context → State → Outcome
 do_iteration does s c context st =
     in_loop (does (Run s) context st) (λ st.
     with_value (does (Eval c) context st)
-            (λ v st. choose (nat_eq v 0) (λ st. Gives Normal st)
-            (λ st. does (DoIteration s c) context st) st))
+    (λ v st. choose (nat_eq v 0) (λ st. Gives Normal st)
+    (λ st. does (DoIteration s c) context st) st))

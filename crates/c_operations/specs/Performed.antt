@@ -57,17 +57,17 @@ unless_refused write (Some a) outcome = Raises ACCESS_VIOLATION (Some (write, a)
 abbrev pub accessed : (ℕ → Bool) → Bool → (ℕ → Bool) → ℕ → ℕ → Outcome → Outcome
 accessed reserved write may n at outcome =
     unless_reserved (first_refused (λ a. not (reserved a)) n at)
-        (unless_refused write (first_refused may n at) outcome)
+    (unless_refused write (first_refused may n at) outcome)
 
 abbrev pub load : (ℕ → Bool) → Width → ℕ → Memory → Outcome
 load reserved w at m =
     accessed reserved false (may_read m) (bytes_of w) at
-        (Gives (low w (number_at m.byte (bytes_of w) at)) m)
+    (Gives (low w (number_at m.byte (bytes_of w) at)) m)
 
 abbrev pub store : (ℕ → Bool) → Width → ℕ → ℕ → Memory → Outcome
 store reserved w at v m =
     accessed reserved true (may_write m) (bytes_of w) at
-        (Gives v (with_bytes m (with_number m.byte (bytes_of w) at (low w v))))
+    (Gives v (with_bytes m (with_number m.byte (bytes_of w) at (low w v))))
 
 -- ---- operations on two operands of 64 bits
 

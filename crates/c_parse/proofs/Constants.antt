@@ -100,9 +100,11 @@ next_back : (rest b after : List Token) (c : Constant) → HasPunctuator punctua
 next_back rest b after c k is [] end m = let e : punctuators.Comma ≡ punctuators.CloseBrace = other_punctuator punctuators.Comma punctuators.CloseBrace rest rest b end refl k m in absurd cc
 next_back rest b after c k is (x ∷ xs) end m =
     let p = has_same punctuators.Comma rest rest b m.after_comma refl k m.comma in
-    let u = constant_once c x b m.after_comma after m.after_element p is m.element in
-    (xs, ap (λ (z : Constant). z ∷ xs) (sym u.0),
-    subst (λ (z : List Token). AreMoreConstants xs z end) (sym u.1) m.others)
+    let u = constant_once c x b m.after_comma after m.after_element p is m.element in (
+      xs,
+      ap (λ (z : Constant). z ∷ xs) (sym u.0),
+      subst (λ (z : List Token). AreMoreConstants xs z end) (sym u.1) m.others,
+    )
 
 pub next : (text : List ℕ) (ts rest b after : List Token) (found : List Constant) (c : Constant) → HasPunctuator punctuators.Comma rest b → IsConstant c b after → Constants ts found rest → Constants ts (found ++ c ∷ []) after
 next text ts rest b after found c k is d =

@@ -51,9 +51,11 @@ next_back rest b after x k is s [] end m = let e : punctuators.Comma ≡ punctua
 next_back rest b after x k is s (g ∷ gs) end m =
     let p = has_same punctuators.Comma rest rest b m.after_comma refl k m.comma in
     let u = global_once x g b m.after_comma after m.after_element p s
-    (globals_stop gs m.after_element end m.others) is m.element in
-    (gs, ap (λ (z : Global). z ∷ gs) (sym u.0),
-    subst (λ (z : List Token). AreMoreGlobals gs z end) (sym u.1) m.others)
+    (globals_stop gs m.after_element end m.others) is m.element in (
+      gs,
+      ap (λ (z : Global). z ∷ gs) (sym u.0),
+      subst (λ (z : List Token). AreMoreGlobals gs z end) (sym u.1) m.others,
+    )
 
 mapped : (found : List Global') (x : Global') → map global (found ++ x ∷ []) ≡ map global found ++ global x ∷ []
 mapped [] x = refl
@@ -103,9 +105,12 @@ in_first text base at ts = record {
 no_more : (base : Base) (now n : ℕ) (text : List ℕ) (rest b : List Token) → HasPunctuator punctuators.Comma rest b → NoGlobal base now n text b → (gs : List Global) (end : List Token) → AreMoreGlobals gs rest end → (5 ≤ n → end_of_globals base gs now ≤ 1048576) → ⊥
 no_more base now n text rest b k none [] end m low = let e : punctuators.Comma ≡ punctuators.Semicolon = other_punctuator punctuators.Comma punctuators.Semicolon rest rest b end refl k m in absurd cc
 no_more base now n text rest b k none (g ∷ gs) end m low =
-    none g gs end (m.after_element,
-    subst (λ (z : List Token). IsGlobal g z m.after_element)
-    (has_same punctuators.Comma rest rest m.after_comma b refl m.comma k) m.element, m.others)
+    none g gs end (
+      m.after_element,
+      subst (λ (z : List Token). IsGlobal g z m.after_element)
+          (has_same punctuators.Comma rest rest m.after_comma b refl m.comma k) m.element,
+      m.others,
+    )
     (λ five. let a = grows base gs
     (end_of base g.pointers g.length now) in let c = low five in omega arith)
 

@@ -129,10 +129,13 @@ none_bracketed base pointers at n text ts a o none None i gs end h low =
     absurd (bracket_not ts h.after_length a h.length
     (stops i gs h.after_length h.after_initialiser end h.initialiser h.others) o)
 none_bracketed base pointers at n text ts a o none (Some l) i gs end h low =
-    none l h.after_length
-    (h.length.after_inner, subst (λ (x : List Token). IsInteger l.value l.at x h.length.after_inner)
-    (has_same punctuators.OpenBracket ts ts h.length.after_opening a refl h.length.opening o)
-    h.length.inner, h.length.closing)
+    none l h.after_length (
+      h.length.after_inner,
+      subst (λ (x : List Token). IsInteger l.value l.at x h.length.after_inner)
+          (has_same punctuators.OpenBracket ts ts h.length.after_opening a refl h.length.opening o)
+          h.length.inner,
+      h.length.closing,
+    )
     (stops i gs h.after_length h.after_initialiser end h.initialiser h.others) low
 
 pub in_bracketed : (text : List ℕ) (base : Base) (pointers at : ℕ) (ts a : List Token) → HasPunctuator punctuators.OpenBracket ts a → Wraps (NoneBracketed base pointers at) (HasBracketed base pointers at) (NoLength base pointers at) (HasLength base pointers at) text a ts
@@ -363,16 +366,19 @@ no_name text base at n ts d w s z none =
         trees = g ∷ [];
         are = λ other.
             let rest = punctuator punctuators.Semicolon ∷ other in
-            following (λ x. AreGlobals (g ∷ []) x other) m.front (name ∷ array) other
-            (rest, record {
-              after_stars = name ∷ (array ++ other);
-              after_name = array ++ other;
-              after_length = rest;
-              stars = again (name ∷ (array ++ other));
-              name = refl;
-              length = is_array other;
-              initialiser = refl;
-            }, has_it punctuators.Semicolon other);
+            following (λ x. AreGlobals (g ∷ []) x other) m.front (name ∷ array) other (
+              rest,
+              record {
+                after_stars = name ∷ (array ++ other);
+                after_name = array ++ other;
+                after_length = rest;
+                stars = again (name ∷ (array ++ other));
+                name = refl;
+                length = is_array other;
+                initialiser = refl;
+              },
+              has_it punctuators.Semicolon other,
+            );
         low = λ five. no_elements base n at w;
       };
     })
@@ -412,16 +418,19 @@ in_length text base at n called ts d b s e =
                   let q = h.is other in
                   following (λ z. AreGlobals (g ∷ h.others) z other) ((m.front ++ t ∷ []) ++ inner) [] other
                   (following (λ z. AreGlobals (g ∷ h.others) z other) (m.front ++ t ∷ []) inner other
-                  (following (λ z. AreGlobals (g ∷ h.others) z other) m.front (t ∷ []) (inner ++ other)
-                  (q.after_initialiser, record {
-                    after_stars = t ∷ (inner ++ other);
-                    after_name = inner ++ other;
-                    after_length = q.after_length;
-                    stars = again (t ∷ (inner ++ other));
-                    name = refl;
-                    length = q.length;
-                    initialiser = q.initialiser;
-                  }, q.others)));
+                  (following (λ z. AreGlobals (g ∷ h.others) z other) m.front (t ∷ []) (inner ++ other) (
+                    q.after_initialiser,
+                    record {
+                      after_stars = t ∷ (inner ++ other);
+                      after_name = inner ++ other;
+                      after_length = q.after_length;
+                      stars = again (t ∷ (inner ++ other));
+                      name = refl;
+                      length = q.length;
+                      initialiser = q.initialiser;
+                    },
+                    q.others,
+                  )));
               low = h.low;
             };
           };
@@ -458,16 +467,19 @@ in_initialiser text base at n called l ts d b c s e i stop w =
                   let rest = punctuator punctuators.Semicolon ∷ other in
                   following (λ z. AreGlobals (g ∷ []) z other) ((m.front ++ t ∷ o.front) ++ inner) (punctuator punctuators.Semicolon ∷ []) other
                   (following (λ z. AreGlobals (g ∷ []) z other) (m.front ++ t ∷ o.front) inner rest
-                  (following (λ z. AreGlobals (g ∷ []) z other) m.front (t ∷ o.front) (inner ++ rest)
-                  (rest, record {
-                    after_stars = t ∷ (o.front ++ (inner ++ rest));
-                    after_name = o.front ++ (inner ++ rest);
-                    after_length = inner ++ rest;
-                    stars = again (t ∷ (o.front ++ (inner ++ rest)));
-                    name = refl;
-                    length = length_again (inner ++ rest);
-                    initialiser = h.is rest;
-                  }, has_it punctuators.Semicolon other)));
+                  (following (λ z. AreGlobals (g ∷ []) z other) m.front (t ∷ o.front) (inner ++ rest) (
+                    rest,
+                    record {
+                      after_stars = t ∷ (o.front ++ (inner ++ rest));
+                      after_name = o.front ++ (inner ++ rest);
+                      after_length = inner ++ rest;
+                      stars = again (t ∷ (o.front ++ (inner ++ rest)));
+                      name = refl;
+                      length = length_again (inner ++ rest);
+                      initialiser = h.is rest;
+                    },
+                    has_it punctuators.Semicolon other,
+                  )));
               low = λ five. w;
             };
           };

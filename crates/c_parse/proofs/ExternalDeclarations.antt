@@ -44,12 +44,20 @@ no_base text ts none =
     (λ text' other s b n m d end h. firsts.no_base ts other s none b d h.base)
     (λ text'. record {
       more = word ∷ name ∷ [];
-      has = record { base = bases.Int; pointers = 0; name = named; is = λ other. (name ∷ other, record {
-        after_stars = name ∷ other;
-        base = inl (name ∷ other, (0, (0, refl)), refl);
-        stars = refl;
-        name = refl;
-      }) };
+      has = record {
+        base = bases.Int;
+        pointers = 0;
+        name = named;
+        is = λ other. (
+          name ∷ other,
+          record {
+            after_stars = name ∷ other;
+            base = inl (name ∷ other, (0, (0, refl)), refl);
+            stars = refl;
+            name = refl;
+          },
+        );
+      };
     })
 
 pub no_name : (text : List ℕ) (b : Base) (k : ℕ) (ts d a : List Token) → IsBase b ts d → EndsBase b ts d → AreStars k d a → NoStar a → NoIdentifier a → Failed 0 (place text a) NoHead HasHead text ts
@@ -78,15 +86,17 @@ no_name text b k ts d a is far s z none =
         is = λ other.
             let rest = name ∷ other in
             following (λ x. (g : List Token) × IsHead b k named x g other) (far.front ++ ms.front) (name ∷ []) other
-            (following (λ x. (g : List Token) × IsHead b k named x g other) far.front ms.front rest
-            (ms.front ++ rest, record {
-              after_stars = rest;
-              base =
-                  subst (λ (x : List Token). IsBase b (x ++ (ms.front ++ rest)) (ms.front ++ rest))
-                  e (mb.again text (ms.front ++ rest) (alike_same text ts));
-              stars = again rest;
-              name = refl;
-            }));
+            (following (λ x. (g : List Token) × IsHead b k named x g other) far.front ms.front rest (
+              ms.front ++ rest,
+              record {
+                after_stars = rest;
+                base =
+                    subst (λ (x : List Token). IsBase b (x ++ (ms.front ++ rest)) (ms.front ++ rest))
+                    e (mb.again text (ms.front ++ rest) (alike_same text ts));
+                stars = again rest;
+                name = refl;
+              },
+            ));
       };
     })
 
@@ -135,16 +145,23 @@ array_after counts n text inner w h =
           let q = h.is (array ++ other) in
           let rest = punctuator punctuators.Semicolon ∷ other in
           following (λ x. IsExternalDeclaration text (Globals h.base (g ∷ [])) x other) inner array
-          other
-          (q.0, q.1.base, (rest, record {
-            after_stars = q.1.after_stars;
-            after_name = array ++ other;
-            after_length = rest;
-            stars = q.1.stars;
-            name = q.1.name;
-            length = is_array other;
-            initialiser = refl;
-          }, has_it punctuators.Semicolon other));
+          other (
+            q.0,
+            q.1.base,
+            (
+              rest,
+              record {
+                after_stars = q.1.after_stars;
+                after_name = array ++ other;
+                after_length = rest;
+                stars = q.1.stars;
+                name = q.1.name;
+                length = is_array other;
+                initialiser = refl;
+              },
+              has_it punctuators.Semicolon other,
+            ),
+          );
       fits = record { each = tt; functions = λ four. omega arith; bytes = λ five. no_elements h.base h.pointers counts.bytes w; funclets = λ six. omega arith };
     }
 
@@ -349,15 +366,19 @@ against counts k text base n called ts d rest front fault other m w l s f (inr (
     let x : Global = record { pointers = n; name = called; length = Some (record { at = 0; value = 0 }); initialiser = None } in
     let h = m.declares array in
     let rest' = punctuator punctuators.Semicolon ∷ [] in
-    let are : AreGlobals (x ∷ []) (m.declared ++ array) [] = (rest', record {
-      after_stars = h.0;
-      after_name = array;
-      after_length = rest';
-      stars = h.1;
-      name = h.2;
-      length = is_array [];
-      initialiser = refl;
-    }, has_it punctuators.Semicolon []) in
+    let are : AreGlobals (x ∷ []) (m.declared ++ array) [] = (
+      rest',
+      record {
+        after_stars = h.0;
+        after_name = array;
+        after_length = rest';
+        stars = h.1;
+        name = h.2;
+        length = is_array [];
+        initialiser = refl;
+      },
+      has_it punctuators.Semicolon [],
+    ) in
     absurd (f o (subst (λ (z : List Token). SameFirst z o) (sym q) (g ++ array, refl)) (x ∷ []) [] (subst (λ (z : List Token). AreGlobals (x ∷ []) z []) e are) (λ five. no_elements base n counts.bytes w))
 
 globals_has : (counts : Counts) (k : ℕ) (text : List ℕ) (base : Base) (front inner : List Token) → ((other : List Token) → IsBase base (front ++ other) other) → HasGlobals base counts.bytes k text inner → HasExternalDeclaration counts k text (front ++ inner)

@@ -104,9 +104,11 @@ next_back : (rest b after : List Token) (x : Parameter) → HasPunctuator punctu
 next_back rest b after x k is [] end m = let e : punctuators.Comma ≡ punctuators.CloseParenthesis = other_punctuator punctuators.Comma punctuators.CloseParenthesis rest rest b end refl k m in absurd cc
 next_back rest b after x k is (p ∷ ps) end m =
     let q = has_same punctuators.Comma rest rest b m.after_comma refl k m.comma in
-    let u = parameter_once x p b m.after_comma after m.after_element q is m.element in
-    (ps, ap (λ (z : Parameter). z ∷ ps) (sym u.0),
-    subst (λ (z : List Token). AreMoreParameters ps z end) (sym u.1) m.others)
+    let u = parameter_once x p b m.after_comma after m.after_element q is m.element in (
+      ps,
+      ap (λ (z : Parameter). z ∷ ps) (sym u.0),
+      subst (λ (z : List Token). AreMoreParameters ps z end) (sym u.1) m.others,
+    )
 
 pub next : (text : List ℕ) (ts rest b after : List Token) (found : List Parameter) (x : Parameter) → HasPunctuator punctuators.Comma rest b → IsParameter x b after → Parameters ts found rest → Parameters ts (found ++ x ∷ []) after
 next text ts rest b after found x k is d =

@@ -158,18 +158,18 @@ full text room whole ts rest b found d c = record {
           ∷ name ∷ punctuator punctuators.Semicolon ∷ []) other))
           (d.forward text' (token (kinds.Punctuator punctuators.Comma) c.0 c.1.0
           ∷ name ∷ punctuator punctuators.Semicolon ∷ other) a (plain ∷ []) other (record {
-        after_comma = _;
-        after_element = punctuator punctuators.Semicolon ∷ other;
-        comma = (c.0, (c.1.0, refl));
-        element = record {
-          after_stars = _;
-          after_name = _;
-          stars = refl;
-          name = refl;
-          initialiser = refl;
-        };
-        others = (0, (0, refl));
-      }));
+            after_comma = _;
+            after_element = punctuator punctuators.Semicolon ∷ other;
+            comma = (c.0, (c.1.0, refl));
+            element = record {
+              after_stars = _;
+              after_name = _;
+              stars = refl;
+              name = refl;
+              initialiser = refl;
+            };
+            others = (0, (0, refl));
+          }));
       within = record {
         expressions = λ k. height_more 64 (map local found) plain d.expressions (omega arith);
         statements = λ k. over_more room (map local found) plain d.statements (omega arith);

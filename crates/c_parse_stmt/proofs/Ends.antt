@@ -76,12 +76,12 @@ in_condition text ts a o =
               λ other. subst (λ (z : List Token). IsCondition text' h.tree z other)
               (sym (flat m.front inner (punctuator punctuators.CloseParenthesis ∷ []) other))
               (record {
-            after_opening = inner ++ punctuator punctuators.CloseParenthesis ∷ other;
-            after_inner = punctuator punctuators.CloseParenthesis ∷ other;
-            opening = m.again text' (inner ++ punctuator punctuators.CloseParenthesis ∷ other) k;
-            inner = h.derives (punctuator punctuators.CloseParenthesis ∷ other);
-            closing = (0, (0, refl));
-          });
+                after_opening = inner ++ punctuator punctuators.CloseParenthesis ∷ other;
+                after_inner = punctuator punctuators.CloseParenthesis ∷ other;
+                opening = m.again text' (inner ++ punctuator punctuators.CloseParenthesis ∷ other) k;
+                inner = h.derives (punctuator punctuators.CloseParenthesis ∷ other);
+                closing = (0, (0, refl));
+              });
           low = h.low;
         };
       };

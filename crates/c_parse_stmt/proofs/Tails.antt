@@ -252,9 +252,11 @@ after_return text at (While at' c s) ts a end k h = absurd (let p : begins ts �
 after_return text at (DoWhile s at' c) ts a end k h = absurd (let p : begins ts ≡ 7 = ap begins k.1 in let q = item_begins text (DoWhile s at' c) ts end h in omega arith)
 after_return text at (For at' f c n s) ts a end k h = absurd (let p : begins ts ≡ 7 = ap begins k.1 in let q = item_begins text (For at' f c n s) ts end h in omega arith)
 after_return text at (Return at' e) ts a end k h =
-    let p = place keywords.Return at at' ts ts a h.0 refl k h.1 in
-    (e, ap (λ (x : ℕ). Return x e) (sym p.0),
-    subst (λ (x : List Token). IsUpTo text punctuators.Semicolon e x end) (sym p.1) h.2)
+    let p = place keywords.Return at at' ts ts a h.0 refl k h.1 in (
+      e,
+      ap (λ (x : ℕ). Return x e) (sym p.0),
+      subst (λ (x : List Token). IsUpTo text punctuators.Semicolon e x end) (sym p.1) h.2,
+    )
 after_return text at (Break at') ts a end k h = absurd (let p : begins ts ≡ 7 = ap begins k.1 in let q = item_begins text (Break at') ts end h in omega arith)
 after_return text at (Continue at') ts a end k h = absurd (let p : begins ts ≡ 7 = ap begins k.1 in let q = item_begins text (Continue at') ts end h in omega arith)
 after_return text at (Leave at') ts a end k h = absurd (let p : begins ts ≡ 7 = ap begins k.1 in let q = item_begins text (Leave at') ts end h in omega arith)

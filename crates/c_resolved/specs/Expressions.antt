@@ -175,7 +175,7 @@ field record_fields.Flags = good (typed unsigned (nodes.Information fields.Excep
 field record_fields.Count = good (typed unsigned (nodes.Information fields.NumberParameters))
 field (record_fields.Information k at) =
     given_that (nat_le k (EXCEPTION_MAXIMUM_PARAMETERS - 1)) at TypeClash []
-        (good (typed (plain UnsignedLongLong) (nodes.Information (fields.ExceptionInformation k))))
+    (good (typed (plain UnsignedLongLong) (nodes.Information (fields.ExceptionInformation k))))
 
 -- ---- calls
 
@@ -213,8 +213,10 @@ pub record Passed : Type 0 where
 
 abbrev pub before : List FaultAt → nodes.Expression → Passed → Passed
 before fs e rest =
-    record { found = elim rest.found [ Some es ↦ Some (Next e es) | None ↦ None ];
-        faults = fs ++ rest.faults }
+    record {
+      found = elim rest.found [ Some es ↦ Some (Next e es) | None ↦ None ];
+      faults = fs ++ rest.faults;
+    }
 
 abbrev pub spoiled : List FaultAt → Passed → Passed
 spoiled fs rest = record { found = None; faults = fs ++ rest.faults }
@@ -234,14 +236,16 @@ faults_of (a ∷ more) = a.resolved.faults ++ faults_of more
 
 abbrev pub called : CType → (Arguments → nodes.Node) → Passed → ResolvedExpression
 called t make p =
-    record { found = elim p.found [ Some es ↦ Some (typed t (make es)) | None ↦ None ];
-        faults = p.faults }
+    record {
+      found = elim p.found [ Some es ↦ Some (typed t (make es)) | None ↦ None ];
+      faults = p.faults;
+    }
 
 abbrev pub call_with : ℕ → List Wanted → CType → (Arguments → nodes.Node) → List Argument
     → ResolvedExpression
 call_with at ws t make args =
     given_that (nat_eq (length ws) (length args)) at ArgCount (faults_of args)
-        (called t make (pass_all ws args))
+    (called t make (pass_all ws args))
 
 -- a call that is right in itself, but has a meaning in some places alone
 abbrev pub only_where : Bool → ℕ → Fault → ResolvedExpression → ResolvedExpression
@@ -253,10 +257,10 @@ call s at (Some (BuiltInFunction k)) args =
     call_with at (built_in_wants k) (built_in_result k) (nodes.CallBuiltIn k) args
 call s at (Some CodeFunction) args =
     only_where s.code at CodeOutsideFilter
-        (call_with at [] unsigned (λ es. nodes.ExceptionCode) args)
+    (call_with at [] unsigned (λ es. nodes.ExceptionCode) args)
 call s at (Some AbnormalFunction) args =
     only_where s.abnormal at AbnormalOutsideFinally
-        (call_with at [] int (λ es. nodes.AbnormalTermination) args)
+    (call_with at [] int (λ es. nodes.AbnormalTermination) args)
 call s at other args = bad (fault_at at UnknownName ++ faults_of args)
 
 -- ---- expressions
@@ -277,34 +281,34 @@ abbrev mutual
   resolve_expression s (trees.Parentheses at e) = resolve_expression s e
   resolve_expression s (trees.Index a at i) =
       rule_2 at element_of ((resolve_expression s a).faults ++ (resolve_expression s i).faults)
-          (resolve_expression s a).found (resolve_expression s i).found
+      (resolve_expression s a).found (resolve_expression s i).found
   resolve_expression s (trees.Postfix e o at) =
       given_that (is_lvalue s e) (start e) NotLvalue (resolve_expression s e).faults
-          (rule_1 at (incremented Postfix o) (resolve_expression s e).faults
-          (resolve_expression s e).found)
+      (rule_1 at (incremented Postfix o) (resolve_expression s e).faults
+      (resolve_expression s e).found)
   resolve_expression s (trees.Prefix at o e) =
       given_that (is_lvalue s e) (start e) NotLvalue (resolve_expression s e).faults
-          (rule_1 at (incremented Prefix o) (resolve_expression s e).faults
-          (resolve_expression s e).found)
+      (rule_1 at (incremented Prefix o) (resolve_expression s e).faults
+      (resolve_expression s e).found)
   resolve_expression s (trees.Unary at o e) =
       given_that (operand_is_lvalue o s e) (start e) NotLvalue (resolve_expression s e).faults
-          (rule_1 at (unary_of o) (resolve_expression s e).faults (resolve_expression s e).found)
+      (rule_1 at (unary_of o) (resolve_expression s e).faults (resolve_expression s e).found)
   resolve_expression s (trees.Cast at t e) =
       rule_1 at (cast_of t) (resolve_expression s e).faults (resolve_expression s e).found
   resolve_expression s (trees.Binary a at o b) =
       rule_2 at (binary_of o) ((resolve_expression s a).faults ++ (resolve_expression s b).faults)
-          (resolve_expression s a).found (resolve_expression s b).found
+      (resolve_expression s a).found (resolve_expression s b).found
   resolve_expression s (trees.Conditional c at a b) =
       rule_3 at conditional_of ((resolve_expression s c).faults ++ (resolve_expression s a).faults
-          ++ (resolve_expression s b).faults) (resolve_expression s c).found
-          (resolve_expression s a).found (resolve_expression s b).found
+      ++ (resolve_expression s b).faults) (resolve_expression s c).found
+      (resolve_expression s a).found (resolve_expression s b).found
   resolve_expression s (trees.Assign a at o b) =
       given_that (is_lvalue s a) (start a) NotLvalue
-          ((resolve_expression s a).faults ++ (resolve_expression s b).faults)
-          (changed o at (start b) (resolve_expression s a) (resolve_expression s b))
+      ((resolve_expression s a).faults ++ (resolve_expression s b).faults)
+      (changed o at (start b) (resolve_expression s a) (resolve_expression s b))
   resolve_expression s (trees.Comma a at b) =
       rule_2 at comma_of ((resolve_expression s a).faults ++ (resolve_expression s b).faults)
-          (resolve_expression s a).found (resolve_expression s b).found
+      (resolve_expression s a).found (resolve_expression s b).found
 
   pub resolve_arguments : Names → trees.Arguments → List Argument
   resolve_arguments s trees.Done = []

@@ -61,7 +61,7 @@ can_become t a =
     (is_integer a.type && is_integer t)
     || (is_pointer t && a.zero)
     || (is_pointer a.type && is_pointer t &&
-            (same_type a.type t || is_void_pointer a.type || is_void_pointer t))
+    (same_type a.type t || is_void_pointer a.type || is_void_pointer t))
 
 -- ---- operators on numbers
 
@@ -97,7 +97,7 @@ abbrev pub on_integers : Arithmetic → TypedNode → TypedNode → Option Typed
 on_integers o a b =
     let t = working_type o a.type b.type in
     only_if (is_integer a.type && is_integer b.type)
-            (typed t (nodes.Binary (operation_in o t) (as_type t a) (right_operand o t b)))
+    (typed t (nodes.Binary (operation_in o t) (as_type t a) (right_operand o t b)))
 
 -- ---- operators on pointers
 
@@ -110,20 +110,20 @@ moved o p i = typed p.type (nodes.Binary (long_operation o) (as_is p) (as_index 
 abbrev pub sum : TypedNode → TypedNode → Option TypedNode
 sum a b =
     if is_pointer a.type then only_if (is_sized_pointer a.type && is_integer b.type)
-        (moved arithmetic.Add a b)
+    (moved arithmetic.Add a b)
     else if is_pointer b.type then only_if (is_sized_pointer b.type && is_integer a.type)
-            (typed b.type (nodes.Binary (long_operation arithmetic.Add) (as_index b.type a)
-            (as_is b)))
+    (typed b.type (nodes.Binary (long_operation arithmetic.Add) (as_index b.type a)
+    (as_is b)))
     else on_integers arithmetic.Add a b
 
 abbrev pub difference : TypedNode → TypedNode → Option TypedNode
 difference a b =
     if is_pointer a.type && is_pointer b.type
     then only_if (is_sized_pointer a.type && same_type a.type b.type)
-            (typed (plain LongLong) (nodes.PointerDifference (bytes_in (pointed a.type)) (as_is a)
-            (as_is b)))
+    (typed (plain LongLong) (nodes.PointerDifference (bytes_in (pointed a.type)) (as_is a)
+    (as_is b)))
     else if is_pointer a.type then only_if (is_sized_pointer a.type && is_integer b.type)
-            (moved arithmetic.Subtract a b)
+    (moved arithmetic.Subtract a b)
     else on_integers arithmetic.Subtract a b
 
 abbrev pub arithmetic_of : Arithmetic → TypedNode → TypedNode → Option TypedNode
@@ -144,13 +144,13 @@ relation_of comparisons.NotEqual = relations.NotEqual
 abbrev pub compared : Comparison → CType → TypedNode → TypedNode → TypedNode
 compared c t a b =
     typed int (nodes.Binary (operations.Pure (pures.Compare (relation_of c) (sort_of t)
-        (size_of t))) (as_type t a) (as_type t b))
+    (size_of t))) (as_type t a) (as_type t b))
 
 -- pointers of one type, one to void, or one and a literal 0
 abbrev pub are_comparable : TypedNode → TypedNode → Bool
 are_comparable a b =
     (is_pointer a.type && is_pointer b.type &&
-        (same_type a.type b.type || is_void_pointer a.type || is_void_pointer b.type))
+    (same_type a.type b.type || is_void_pointer a.type || is_void_pointer b.type))
     || (is_pointer a.type && b.zero) || (is_pointer b.type && a.zero)
 
 abbrev pub void_pointer : CType
@@ -185,15 +185,15 @@ unary_of unary.Plus a =
     only_if (is_integer a.type) (typed (promoted a.type) (nodes.Unary pures.First (as_is a)))
 unary_of unary.Minus a =
     only_if (is_integer a.type) (typed (promoted a.type)
-        (nodes.Unary (pures.Negate (size_of (promoted a.type))) (as_is a)))
+    (nodes.Unary (pures.Negate (size_of (promoted a.type))) (as_is a)))
 unary_of unary.Complement a =
     only_if (is_integer a.type) (typed (promoted a.type)
-        (nodes.Unary (pures.Not (size_of (promoted a.type))) (as_is a)))
+    (nodes.Unary (pures.Not (size_of (promoted a.type))) (as_is a)))
 unary_of unary.LogicalNot a = only_if (is_scalar a.type) (typed int (nodes.Not (as_is a)))
 unary_of unary.Indirection a =
     only_if (is_sized_pointer a.type)
-        (typed (pointed a.type) (nodes.Read (nodes.Indirection (access_of (pointed a.type))
-        (as_is a))))
+    (typed (pointed a.type) (nodes.Read (nodes.Indirection (access_of (pointed a.type))
+    (as_is a))))
 unary_of unary.AddressOf a = address a.type (lvalue_of a.node)
 
 abbrev pub cast_of : CType → TypedNode → Option TypedNode
@@ -203,8 +203,8 @@ cast_of t a =
 abbrev pub element_of : TypedNode → TypedNode → Option TypedNode
 element_of a i =
     only_if (is_sized_pointer a.type && is_integer i.type)
-        (typed (pointed a.type) (nodes.Read (nodes.Element (access_of (pointed a.type)) (as_is a)
-        (as_index a.type i))))
+    (typed (pointed a.type) (nodes.Read (nodes.Element (access_of (pointed a.type)) (as_is a)
+    (as_index a.type i))))
 
 -- ---- changes of a place
 
@@ -215,7 +215,7 @@ with_lvalue (Some p) go = Some (go p)
 abbrev pub assigned : TypedNode → TypedNode → Option TypedNode
 assigned a b =
     if can_become a.type b then with_lvalue (lvalue_of a.node)
-        (λ p. typed a.type (nodes.Assign p (as_type a.type b))) else None
+    (λ p. typed a.type (nodes.Assign p (as_type a.type b))) else None
 
 abbrev pub is_additive : Arithmetic → Bool
 is_additive arithmetic.Add = true
@@ -226,15 +226,15 @@ abbrev pub compound_assigned : Arithmetic → TypedNode → TypedNode → Option
 compound_assigned o a b =
     if is_pointer a.type
     then (if is_additive o && is_sized_pointer a.type && is_integer b.type
-            then with_lvalue (lvalue_of a.node)
-            (λ p. typed a.type (nodes.CompoundAssign p Kept (long_operation o)
-            (as_index a.type b) Kept)) else None)
+    then with_lvalue (lvalue_of a.node)
+    (λ p. typed a.type (nodes.CompoundAssign p Kept (long_operation o)
+    (as_index a.type b) Kept)) else None)
     else (
     let t = working_type o a.type b.type in
     if is_integer a.type && is_integer b.type
     then with_lvalue (lvalue_of a.node)
-            (λ p. typed a.type (nodes.CompoundAssign p (conversion a.type t) (operation_in o t)
-            (right_operand o t b) (conversion t a.type)))
+    (λ p. typed a.type (nodes.CompoundAssign p (conversion a.type t) (operation_in o t)
+    (right_operand o t b) (conversion t a.type)))
     else None)
 
 abbrev pub increment_operator : Increment → Arithmetic
@@ -246,11 +246,11 @@ abbrev pub incremented : Fixity → Increment → TypedNode → Option TypedNode
 incremented m i a =
     if is_pointer a.type
     then (if is_sized_pointer a.type then with_lvalue (lvalue_of a.node)
-            (λ p. typed a.type (nodes.Increment m p Kept (long_operation (increment_operator i))
-            (bytes_in (pointed a.type)) Kept)) else None)
+    (λ p. typed a.type (nodes.Increment m p Kept (long_operation (increment_operator i))
+    (bytes_in (pointed a.type)) Kept)) else None)
     else (if is_integer a.type then with_lvalue (lvalue_of a.node)
-            (λ p. typed a.type (nodes.Increment m p Kept (operation_in (increment_operator i)
-            (promoted a.type)) 1 (conversion (promoted a.type) a.type))) else None)
+    (λ p. typed a.type (nodes.Increment m p Kept (operation_in (increment_operator i)
+    (promoted a.type)) 1 (conversion (promoted a.type) a.type))) else None)
 
 -- ---- conditional and comma
 
@@ -261,7 +261,7 @@ branch_type a b =
     else if is_pointer a.type && (same_type a.type b.type || b.zero) then Some a.type
     else if is_pointer b.type && a.zero then Some b.type
     else if is_pointer a.type && is_pointer b.type &&
-            (is_void_pointer a.type || is_void_pointer b.type) then Some void_pointer
+    (is_void_pointer a.type || is_void_pointer b.type) then Some void_pointer
     else None
 
 abbrev pub as_branch : CType → TypedNode → Expression

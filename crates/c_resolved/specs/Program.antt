@@ -73,8 +73,10 @@ initial_value t (Some l) None = record { bytes = replicate (l.value * bytes_in t
 initial_value t (Some l) (Some (Single c)) =
     record { bytes = replicate (l.value * bytes_in t) 0; faults = fault_at c.at BadInitialiser }
 initial_value t (Some l) (Some (Several at cs)) =
-    record { bytes = filled (l.value * bytes_in t) (bytes_of_all (bytes_in t) cs);
-        faults = too_many (drop l.value cs) }
+    record {
+      bytes = filled (l.value * bytes_in t) (bytes_of_all (bytes_in t) cs);
+      faults = too_many (drop l.value cs);
+    }
 
 abbrev pub length_faults : Option Length → List FaultAt
 length_faults None = []
@@ -115,7 +117,7 @@ with_global text base g file =
     let before = padded (bytes_in t) file.bytes in
     let b = initial_value t g.length g.initialiser in
     named text g.name (global_entity t (first_data + length before) g.length)
-            (before ++ b.bytes) file.functions
+    (before ++ b.bytes) file.functions
     (unless_holds (is_scalar t) g.name.start TypeClash ++ length_faults g.length ++ b.faults) file
 
 abbrev pub with_globals : List ℕ → Base → List Global → File → File
@@ -129,7 +131,7 @@ abbrev pub with_external_declaration : List ℕ → ExternalDeclaration → File
 with_external_declaration text (Globals base gs) file = with_globals text base gs file
 with_external_declaration text (Function t n ps body) file =
     named text n (UserFunction file.functions t (parameter_types ps)) file.bytes
-        (file.functions + 1) [] file
+    (file.functions + 1) [] file
 
 abbrev pub file_of : List ℕ → List ExternalDeclaration → File → File
 file_of text [] file = file
@@ -163,20 +165,32 @@ pub record Functions : Type 0 where
 
 abbrev pub around : List ℕ → Scope → CType → Environment
 around text file t =
-    record { text = text; outer = file; returns = t; loop = Nowhere; body = Nowhere;
-        function = Near; code = false; abnormal = false }
+    record {
+      text = text;
+      outer = file;
+      returns = t;
+      loop = Nowhere;
+      body = Nowhere;
+      function = Near;
+      code = false;
+      abnormal = false;
+    }
 
 abbrev pub function_of : List ℕ → Scope → CType → Identifier → List Parameter → Statements → ℕ
     → Functions
 function_of text file t n ps body number =
     let sizes = map (λ p. size_of p.of) ps in
     let m =
-        resolve_statements body (around text file t) (with_parameters text ps [] 0)
-            (record { sizes = sizes; number = number }) in
+    resolve_statements body (around text file t) (with_parameters text ps [] 0)
+    (record { sizes = sizes; number = number }) in
     record {
-      done = record { name = spelled text n; parameters = sizes;
-          locals = drop (length ps) m.counts.sizes; returns = result_size t;
-      body = checked.statements m.done } ∷ [];
+      done = record {
+        name = spelled text n;
+        parameters = sizes;
+        locals = drop (length ps) m.counts.sizes;
+        returns = result_size t;
+        body = checked.statements m.done;
+      } ∷ [];
       number = m.counts.number;
       faults = parameter_faults text ps [] ++ m.faults;
     }
@@ -213,8 +227,11 @@ pub record Main : Type 0 where
 
 abbrev pub main_of : List ExternalDeclaration → Option Entity → Main
 main_of xs (Some (UserFunction k t ps)) =
-    record { number = k; faults = unless_holds (same_type t int && are_main_parameters ps)
-        (place_of_function xs k) TypeClash }
+    record {
+      number = k;
+      faults = unless_holds (same_type t int && are_main_parameters ps)
+          (place_of_function xs k) TypeClash;
+    }
 main_of xs other = record { number = 0; faults = fault_at 0 NoMain }
 
 -- ---- programs

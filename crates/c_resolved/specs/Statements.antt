@@ -93,15 +93,21 @@ unless_holds false at f = fault_at at f
 
 abbrev pub any : ResolvedExpression → Value
 any j =
-    elim j.found [ Some t ↦ record { value = as_is t; faults = j.faults } | None ↦ record
-        { value = nothing; faults = j.faults } ]
+    elim j.found [
+      | Some t ↦ record { value = as_is t; faults = j.faults }
+      | None ↦ record
+          { value = nothing; faults = j.faults }
+    ]
 
 -- an integer or a pointer, else a fault at the keyword
 abbrev pub condition : ℕ → ResolvedExpression → Value
 condition at j =
     elim j.found [
-      | Some t ↦ record { value = as_is t; faults = j.faults
-          ++ unless_holds (is_scalar t.type) at TypeClash }
+      | Some t ↦ record {
+        value = as_is t;
+        faults = j.faults
+            ++ unless_holds (is_scalar t.type) at TypeClash;
+      }
       | None ↦ record { value = nothing; faults = j.faults }
     ]
 
@@ -109,8 +115,11 @@ condition at j =
 abbrev pub to_type : CType → ℕ → ResolvedExpression → Value
 to_type type at j =
     elim j.found [
-      | Some t ↦ record { value = as_type type t; faults = j.faults
-          ++ unless_holds (can_become type t) at TypeClash }
+      | Some t ↦ record {
+        value = as_type type t;
+        faults = j.faults
+            ++ unless_holds (can_become type t) at TypeClash;
+      }
       | None ↦ record { value = nothing; faults = j.faults }
     ]
 
@@ -118,8 +127,11 @@ to_type type at j =
 abbrev pub to_answer : ℕ → ResolvedExpression → Value
 to_answer at j =
     elim j.found [
-      | Some t ↦ record { value = as_type int t; faults = j.faults
-          ++ unless_holds (is_integer t.type) at TypeClash }
+      | Some t ↦ record {
+        value = as_type int t;
+        faults = j.faults
+            ++ unless_holds (is_integer t.type) at TypeClash;
+      }
       | None ↦ record { value = nothing; faults = j.faults }
     ]
 
@@ -152,8 +164,8 @@ declare a base l block n =
     let number = length n.sizes in
     let after = with_name block name (LocalVariable number type) in
     let value =
-        optional (λ e. to_type type (start e) (resolve_expression (names_at a after) e))
-            l.initialiser in
+    optional (λ e. to_type type (start e) (resolve_expression (names_at a after) e))
+    l.initialiser in
     record {
       done = checked.Declare (record { local = number; value = value.value }) ∷ [];
       counts = record { sizes = n.sizes ++ size_of type ∷ []; number = n.number };
@@ -165,8 +177,12 @@ declare a base l block n =
 
 abbrev pub follow : ResolvedStatements → ResolvedStatements → ResolvedStatements
 follow m next =
-    record { done = m.done ++ next.done; counts = next.counts; block = next.block;
-        faults = m.faults ++ next.faults }
+    record {
+      done = m.done ++ next.done;
+      counts = next.counts;
+      block = next.block;
+      faults = m.faults ++ next.faults;
+    }
 
 abbrev pub none : Scope → Numbering → ResolvedStatements
 none block n = record { done = []; counts = n; block = block; faults = [] }
@@ -202,8 +218,10 @@ returned a block at None =
 returned a block at (Some e) =
     let j = resolve_expression (names_at a block) e in
     if is_void a.returns then record { value = None; faults = j.faults ++ fault_at at TypeClash }
-    else record { value = Some (to_type a.returns (start e) j).value;
-            faults = (to_type a.returns (start e) j).faults }
+    else record {
+      value = Some (to_type a.returns (start e) j).value;
+      faults = (to_type a.returns (start e) j).faults;
+    }
 
 -- a literal 1 or the name of the accepting constant, parentheses aside
 abbrev pub is_accepting : Option Entity → Bool
@@ -249,11 +267,17 @@ names_only (s ∷ ss) = names_only ss
 abbrev pub resolve_for_initialiser : Environment → ForInitialiser → Numbering
     → ResolvedForInitialiser
 resolve_for_initialiser a (Declaring base ls) n =
-    let m = declare_all a base ls [] n in record { declared = names_only m.done;
-        first = record { value = None; faults = [] }; resolved = m }
+    let m = declare_all a base ls [] n in record {
+      declared = names_only m.done;
+      first = record { value = None; faults = [] };
+      resolved = m;
+    }
 resolve_for_initialiser a (Evaluating e) n =
-    record { declared = []; first = optional (λ e. any (resolve_expression (names_at a []) e)) e;
-        resolved = none [] n }
+    record {
+      declared = [];
+      first = optional (λ e. any (resolve_expression (names_at a []) e)) e;
+      resolved = none [] n;
+    }
 
 -- A statement that is a part of another is a block of its own, whose names end with it (C11, 6.8.4
 -- p3 and 6.8.5 p5).
@@ -287,13 +311,13 @@ abbrev mutual
       let b = resolve_for_initialiser (inside a block) f n in
       let here = inside a block in
       let v =
-          optional (λ e. condition at (resolve_expression (names_at here b.resolved.block) e)) c in
+      optional (λ e. condition at (resolve_expression (names_at here b.resolved.block) e)) c in
       let w = optional (λ e. any (resolve_expression (names_at here b.resolved.block) e)) next in
       let m =
-          resolve_statement s (record (inside here b.resolved.block) { loop = Near }) []
-              b.resolved.counts in
+      resolve_statement s (record (inside here b.resolved.block) { loop = Near }) []
+      b.resolved.counts in
       enclosed block m (checked.For b.declared b.first.value v.value w.value (only m.done))
-              (b.resolved.faults ++ b.first.faults ++ v.faults ++ w.faults)
+      (b.resolved.faults ++ b.first.faults ++ v.faults ++ w.faults)
   resolve_statement (statements.Return at e) a block n =
       let v = returned a block at e in
       simple (checked.Return v.value) (jump a.function JumpOutOfFinally at ++ v.faults) block n
@@ -308,20 +332,24 @@ abbrev mutual
       let m = resolve_statements body (record here { body = Near }) [] n in
       let q = resolve_filter a block f m.counts.number in
       let k =
-          resolve_statements handler (record here { code = true }) []
-              (with_number m.counts q.number) in
+      resolve_statements handler (record here { code = true }) []
+      (with_number m.counts q.number) in
       enclosed block (follow m k) (checked.TryExcept (checked.statements m.done) q.filter
-              (checked.statements k.done)) q.faults
+      (checked.statements k.done)) q.faults
   resolve_statement (statements.TryFinally body at last) a block n =
       let here = inside a block in
       let m = resolve_statements body (record here { body = Near }) [] n in
       let number = m.counts.number in
       let k =
-          resolve_statements last (record here { loop = past_finally a.loop;
-              body = past_finally a.body; function = Beyond; abnormal = true }) []
-              (with_number m.counts (number + 1)) in
+      resolve_statements last (record here {
+        loop = past_finally a.loop;
+        body = past_finally a.body;
+        function = Beyond;
+        abnormal = true;
+      }) []
+      (with_number m.counts (number + 1)) in
       enclosed block (follow m k) (checked.TryFinally (checked.statements m.done) number
-              (checked.statements k.done)) []
+      (checked.statements k.done)) []
 
   pub resolve_statements : Statements → Environment → Scope → Numbering → ResolvedStatements
   resolve_statements statements.Empty a block n = none block n

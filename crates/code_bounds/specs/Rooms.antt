@@ -57,10 +57,10 @@ abbrev mutual
   node_room (nodes.Assign p e) = locate_room p + (expression_room e + write_room p)
   node_room (nodes.CompoundAssign p before o e after) =
       locate_room p + (read_room p + (conversion_room before
-          + (expression_room e + (35 + (conversion_room after + write_room p)))))
+      + (expression_room e + (35 + (conversion_room after + write_room p)))))
   node_room (nodes.Increment m p before o n after) =
       locate_room p + (read_room p + (35 + (conversion_room before
-          + (70 + (conversion_room after + (write_room p + 35))))))
+      + (70 + (conversion_room after + (write_room p + 35))))))
   node_room (nodes.Unary o e) = expression_room e + 70
   node_room (nodes.Binary o e f) = expression_room e + (expression_room f + 35)
   node_room (nodes.PointerDifference n e f) = expression_room e + (expression_room f + 105)
@@ -120,7 +120,7 @@ abbrev mutual
       expression_room c + (18 + (statement_room s + (5 + statement_room t)))
   statement_room (For ds first c next s) =
       all_declared_room ds + (discarded_room first + (condition_room c
-          + (statement_room s + (1 + (discarded_room next + 5)))))
+      + (statement_room s + (1 + (discarded_room next + 5)))))
   statement_room (DoWhile s c) = statement_room s + (1 + (expression_room c + 23))
   statement_room (Return e) = returned_room e + 17
   statement_room Break = 16

@@ -29,7 +29,7 @@ show_app = new_app (codes "show")
 abbrev pub run_app_named : Text → App
 run_app_named name =
     with_rule (with_rule (with_rule (new_app name) (number_option (codes "turns")))
-        (number_option (codes "arg"))) (flag (codes "trace"))
+    (number_option (codes "arg"))) (flag (codes "trace"))
 
 abbrev pub exec_app : App
 exec_app = run_app_named (codes "exec")
@@ -43,15 +43,20 @@ meaning_app = run_app_named (codes "meaning")
 -- the words after the program's name are a command, and none of them asks for help or a version
 abbrev pub bare_app : App
 bare_app =
-    on_top (λ s. record s { no_binary_name = true; disable_help_flag = true;
-        disable_help_subcommand = true; disable_version_flag = true; subcommand_required = true })
+    on_top (λ s. record s {
+      no_binary_name = true;
+      disable_help_flag = true;
+      disable_help_subcommand = true;
+      disable_version_flag = true;
+      subcommand_required = true;
+    })
     (new_app (codes "seh"))
 
 abbrev pub seh_app : App
 seh_app =
     with_subcommand (with_subcommand (with_subcommand (with_subcommand
-        (with_subcommand bare_app compile_app.top) show_app.top) exec_app.top) run_app.top)
-        meaning_app.top
+    (with_subcommand bare_app compile_app.top) show_app.top) exec_app.top) run_app.top)
+    meaning_app.top
 
 -- ---- what a line means
 
@@ -65,7 +70,7 @@ pub record HasOptions (options : RunOptions) (rows : List Row) : Type 0 where
   pub turns : IsNumber DEFAULT_TURNS (first_of (codes "turns") rows) options.turns
   pub argument : (n : ℕ) × IsNumber 0 (first_of (codes "arg") rows) n × (options.argument ≡ pos n)
   pub trace : options.trace ≡ option_map_or (λ t. bytes_eq t (codes "true"))
-          (first_of (codes "trace") rows) false
+      (first_of (codes "trace") rows) false
 
 abbrev pub Names : Command → Text × List Row → Type 0
 Names Compile x = x.0 ≡ codes "compile"
@@ -78,7 +83,7 @@ Names (Meaning options) x = (x.0 ≡ codes "meaning") × HasOptions options x.1
 abbrev pub IsLine : List Text → Command → Type 0
 IsLine words command =
     (fault_of seh_app words ≡ []) × ((x : Text × List Row) × (subcommand_of seh_app words ≡ Some x)
-        × Names command x)
+    × Names command x)
 
 abbrev pub IsNoLine : List Text → Type 0
 IsNoLine words = (command : Command) → IsLine words command → ⊥

@@ -77,7 +77,7 @@ with_bytes m byte = record { protection = m.protection; byte = byte }
 abbrev pub after_store : Memory → ℕ → Width → ℕ → Memory
 after_store m at w v =
     unless_refused (first_refused (may_write m) (bytes_of w) at)
-        (with_bytes m (with_number m.byte (bytes_of w) at v)) m
+    (with_bytes m (with_number m.byte (bytes_of w) at v)) m
 
 -- the executable bytes at an address, at most n
 unfoldable pub executable : Memory → ℕ → ℕ → List ℕ
@@ -94,8 +94,11 @@ rights_asked at number = if in_arena at then rights_numbered number else None
 abbrev pub with_rights : Memory → ℕ → Option Rights → Memory
 with_rights m at None = m
 with_rights m at (Some r) =
-    record { protection = λ a. if a / PAGE == at / PAGE then record (m.protection a) { rights = r }
-        else m.protection a; byte = m.byte }
+    record {
+      protection = λ a. if a / PAGE == at / PAGE then record (m.protection a) { rights = r }
+          else m.protection a;
+      byte = m.byte;
+    }
 
 abbrev pub protected : Memory → ℕ → ℤ → Memory
 protected m at number = with_rights m at (rights_asked at number)

@@ -50,7 +50,7 @@ plan_of frame probe =
 unfoldable pub taking_size : ℕ → ℕ
 taking_size size =
     bytes (rules.spelled_by spell (prologue_code (plan_of
-        (record { kept = 0; temporaries = 0; locals = 0; size = size }) 0)))
+    (record { kept = 0; temporaries = 0; locals = 0; size = size }) 0)))
 
 -- an unwind info that is to be written says the same as one that is read
 pub record Describes (u : UnwindInfo) (i : Info) : Type 0 where

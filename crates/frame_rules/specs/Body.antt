@@ -130,10 +130,10 @@ leaving f (r ∷ rs) x = only_if (Some (Leaving rs)) (is_pop r x.instr)
 abbrev pub from_body : ℕ → ℕ → List UnwindOperation → List ℕ → FetchedInstr → Role → Option Mode
 from_body f offset ops rs x Other =
     only_if (Some (Body (with_restored rs (restored_by f offset ops x.instr))))
-        (may_write_all f ops (written x.instr))
+    (may_write_all f ops (written x.instr))
 from_body f offset ops rs x Opens =
     only_if (Some (Leaving (pushes ops)))
-        (are_restored rs ops && gives_back f offset (allocation ops) x.instr)
+    (are_restored rs ops && gives_back f offset (allocation ops) x.instr)
 from_body f offset ops rs x r =
     only_if (leaving f (pushes ops) x) (are_restored rs ops && (allocation ops == 0))
 

@@ -16,8 +16,11 @@ use Rattle.frame_rules.specs.Rules as states
 
 abbrev pub spell : Instr → FetchedInstr
 spell i =
-    record { instr = i; size = length (chosen i);
-        plain = is_plain (chosen i) (length (chosen i)) i }
+    record {
+      instr = i;
+      size = length (chosen i);
+      plain = is_plain (chosen i) (length (chosen i)) i;
+    }
 
 -- the bytes stand at this address, to be executed
 abbrev pub Stands : Memory → ℕ → List ℕ → Type 0
@@ -77,4 +80,4 @@ PlannedFramesAreRight =
     → begin + length (code (all_code p parts last)) < 2 ^ 63 → s.cpu.rip ≡ begin + distance
     → states.Stands (planned p parts last) e s distance
     → Finds (in_entry s.memory (unwind_of spell p) [] (context_of s.cpu) distance)
-        (left_to (registers e) (return_address e)) (registers s 4)
+    (left_to (registers e) (return_address e)) (registers s 4)

@@ -45,4 +45,4 @@ abbrev pub is_epilogue : ℕ → ℕ → List UnwindOperation → List Instr →
 is_epilogue f offset ops [] = false
 is_epilogue f offset ops (x ∷ is) =
     (gives_back f offset (allocation ops) x && pops (pushes ops) is) ||
-        ((allocation ops == 0) && pops (pushes ops) (x ∷ is))
+    ((allocation ops == 0) && pops (pushes ops) (x ∷ is))

@@ -49,5 +49,8 @@ pub record Holds (f offset : ℕ) (m : Memory) (old : ℕ → ℕ) (back : ℕ) 
 -- the caller's context: RSP above the return address, and the other nonvolatile registers
 abbrev pub left_to : (ℕ → ℕ) → ℕ → Context
 left_to old back =
-    record { rip = back; kept = (old 4 + 8) ∷ old 3 ∷ old 5 ∷ old 6 ∷ old 7 ∷ old 12 ∷ old 13
-        ∷ old 14 ∷ old 15 ∷ [] }
+    record {
+      rip = back;
+      kept = (old 4 + 8) ∷ old 3 ∷ old 5 ∷ old 6 ∷ old 7 ∷ old 12 ∷ old 13
+          ∷ old 14 ∷ old 15 ∷ [];
+    }

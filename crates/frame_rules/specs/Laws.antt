@@ -67,7 +67,7 @@ FramesAreRight =
     → to < 2 ^ 63 → s.cpu.rip ≡ begin + distance
     → Stands f e s distance
     → Finds (in_entry s.memory f.info [] (context_of s.cpu) distance)
-        (left_to (registers e) (return_address e)) (registers s 4)
+    (left_to (registers e) (return_address e)) (registers s 4)
 
 -- ---- with the function tables
 

@@ -53,7 +53,7 @@ allocation_then false n xs = xs
 abbrev pub operations_of : Plan → List UnwindOperation
 operations_of p =
     saves_then p.saves (frame_then (not (p.frame == 0)) (allocation_then (not (p.size == 0)) p.size
-        (pushed p.pushes)))
+    (pushed p.pushes)))
 
 -- a plan that fits
 pub record IsPlan (p : Plan) : Type 0 where
@@ -105,7 +105,7 @@ turned done (x ∷ xs) = turned (x ∷ done) xs
 abbrev pub step_of : (Instr → FetchedInstr) → Plan → ℕ → UnwindOperation → Step
 step_of spell p at x =
     let is = spelled_by spell (instructions_of p x) in record
-        { code = record { offset = at + bytes is; operation = x }; items = is }
+    { code = record { offset = at + bytes is; operation = x }; items = is }
 
 abbrev pub steps_of : (Instr → FetchedInstr) → Plan → ℕ → List UnwindOperation → List Step
 steps_of spell p at [] = []
@@ -117,10 +117,20 @@ prologue spell p = steps_of spell p 0 (turned [] (operations_of p))
 
 abbrev pub unwind_of : (Instr → FetchedInstr) → Plan → Info
 unwind_of spell p =
-    record { bytes = []; flags = 0; prologue_size = bytes (items (prologue spell p));
-        frame_register = p.frame; frame_offset = p.distance; codes =
-    codes_onto [] (prologue spell p); handler = None; parent = None; has_c_handler = false; scopes =
-    [] }
+    record {
+      bytes = [];
+      flags = 0;
+      prologue_size = bytes (items (prologue spell p));
+      frame_register = p.frame;
+      frame_offset = p.distance;
+      codes =
+          codes_onto [] (prologue spell p);
+      handler = None;
+      parent = None;
+      has_c_handler = false;
+      scopes =
+          [];
+    }
 
 -- ---- the epilogue, with the loads before it
 
@@ -135,8 +145,11 @@ loads_then (s ∷ ss) is = load_of s ∷ loads_then ss is
 abbrev pub opening_by : Plan → Bool → Instr
 opening_by p true = instrs.Arithmetic Add W64 (places.Register Rsp) (operands.Immediate p.size)
 opening_by p false =
-    instrs.LoadAddress W64 Rsp (record { base = bases.Register (register p.frame); index = None;
-        displacement = (p.size + (2 ^ 64 - p.distance)) % 2 ^ 64 })
+    instrs.LoadAddress W64 Rsp (record {
+      base = bases.Register (register p.frame);
+      index = None;
+      displacement = (p.size + (2 ^ 64 - p.distance)) % 2 ^ 64;
+    })
 
 abbrev pub opening_then : Plan → Bool → List Instr → List Instr
 opening_then p true is = is
@@ -157,7 +170,7 @@ epilogue p =
 abbrev pub is_inner : Plan → FetchedInstr → Bool
 is_inner p x =
     is_other (role_of p.frame x.plain x.instr) && may_write_all p.frame (operations_of p)
-        (written x.instr)
+    (written x.instr)
 
 abbrev pub are_inner : Plan → List FetchedInstr → Bool
 are_inner p [] = true
@@ -177,8 +190,11 @@ all_inner p (xs ∷ xss) = are_inner p xs && all_inner p xss
 abbrev pub function_of : (Instr → FetchedInstr) → Plan → List (List FetchedInstr)
     → List FetchedInstr → Function
 function_of spell p parts last =
-    record { info = unwind_of spell p; steps = prologue spell p;
-        rest = with_epilogues spell p parts last }
+    record {
+      info = unwind_of spell p;
+      steps = prologue spell p;
+      rest = with_epilogues spell p parts last;
+    }
 
 -- ---- the size of a frame, its return address counted
 

@@ -37,7 +37,7 @@ is_stack n a = is_stack_base a.base a.index && (a.displacement == n)
 abbrev pub does : ℕ → ℕ → UnwindOperation → Instr → Bool
 does f offset (Push r) (instrs.Push q) = number q == r
 does f offset (Allocate n) (instrs.Arithmetic Sub W64 (places.Register Rsp) (operands.Immediate v))
-        = v == n
+    = v == n
 does f offset SetFrame (instrs.LoadAddress W64 to a) = (number to == f) && is_stack offset a
 does f offset (Save r n) (instrs.Move W64 (places.Memory a) (operands.Register q)) =
     (number q == r) && is_stack n a

@@ -42,7 +42,7 @@ abbrev pub one : ℕ → ℕ → ℕ → UnwindCode → (List FetchedInstr → O
     → List FetchedInstr → Option (List Step)
 one f offset at c others (x ∷ xs) =
     with_step c (x ∷ []) (others xs) (fits f offset at c (x ∷ []))
-        (three f offset at c others (x ∷ xs))
+    (three f offset at c others (x ∷ xs))
 one f offset at c others [] = None
 
 abbrev pub none_left : List FetchedInstr → Option (List Step)
@@ -63,14 +63,14 @@ are_steps None = false
 abbrev pub has_codes : Info → Bool
 has_codes i =
     are_allowed i.frame_register (operations i.codes) &&
-        (not (has_frame i) || sets_frame (operations i.codes))
+    (not (has_frame i) || sets_frame (operations i.codes))
 
 -- Prologue
 abbrev pub has_prologue : Info → List FetchedInstr → Bool
 has_prologue i xs =
     is_ordered (operations i.codes) &&
-        ((i.prologue_size == bytes xs) && are_steps
-        (steps i.frame_register i.frame_offset 0 (turned [] i.codes) xs))
+    ((i.prologue_size == bytes xs) && are_steps
+    (steps i.frame_register i.frame_offset 0 (turned [] i.codes) xs))
 
 -- StackWrite, Unsaved and Epilogue
 abbrev pub has_body : Info → List FetchedInstr → Bool

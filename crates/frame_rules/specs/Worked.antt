@@ -25,9 +25,19 @@ instructions bytes = spelled (length bytes) bytes
 
 abbrev pub info : ℕ → ℕ → ℕ → List UnwindCode → Info
 info prologue_size register offset codes =
-    record { bytes = []; flags = 0; prologue_size = prologue_size; frame_register = register;
-        frame_offset = offset; codes = codes; handler = None; parent = None; has_c_handler =
-    false; scopes = [] }
+    record {
+      bytes = [];
+      flags = 0;
+      prologue_size = prologue_size;
+      frame_register = register;
+      frame_offset = offset;
+      codes = codes;
+      handler = None;
+      parent = None;
+      has_c_handler =
+          false;
+      scopes = [];
+    }
 
 abbrev pub keeps : Info → List ℕ → List ℕ → Bool
 keeps i prologue rest = keeps_rules i (instructions prologue) (instructions rest)
@@ -40,7 +50,7 @@ is_leaf bytes = is_body (following 0 0 [] (instructions bytes) (Body []))
 abbrev pub pushing : Info
 pushing =
     info 5 0 0 (record { offset = 5; operation = Allocate 32 }
-        ∷ record { offset = 1; operation = Push 3 } ∷ [])
+    ∷ record { offset = 1; operation = Push 3 } ∷ [])
 
 abbrev pub push_rbx : List ℕ
 push_rbx = 0x53 ∷ 0x48 ∷ 0x83 ∷ 0xEC ∷ 0x20 ∷ []
@@ -62,7 +72,7 @@ forgets_rbx = 0x90 ∷ 0x48 ∷ 0x83 ∷ 0xC4 ∷ 0x28 ∷ 0xC3 ∷ []
 abbrev pub saving : Info
 saving =
     info 10 0 0 (record { offset = 10; operation = Save 12 40 }
-        ∷ record { offset = 5; operation = Allocate 64 } ∷ record { offset = 1; operation = Push 3 }
+    ∷ record { offset = 5; operation = Allocate 64 } ∷ record { offset = 1; operation = Push 3 }
     ∷ [])
 
 abbrev pub save_r12 : List ℕ
@@ -81,7 +91,7 @@ forgets_r12 = 0x90 ∷ 0x48 ∷ 0x83 ∷ 0xC4 ∷ 0x40 ∷ 0x5B ∷ 0xC3 ∷ []
 abbrev pub framing : Info
 framing =
     info 16 5 128 (record { offset = 16; operation = SetFrame }
-        ∷ record { offset = 8; operation = Allocate 256 }
+    ∷ record { offset = 8; operation = Allocate 256 }
     ∷ record { offset = 1; operation = Push 5 } ∷ [])
 
 abbrev pub set_rbp : List ℕ

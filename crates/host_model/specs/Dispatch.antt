@@ -58,14 +58,17 @@ after_placing s at r go = if_placed s at r go (misplaced s.memory at)
 abbrev pub called : List ℕ → ℕ → ℕ → ℕ → List ℕ
 called registers first frame rsp =
     slice_set (slice_set (slice_set registers (number Rcx) first) (number Rdx) frame)
-        (number Rsp) rsp
+    (number Rsp) rsp
 
 -- the funclet is called, with its return address below the record
 abbrev pub entered : State → ℕ → ℕ → ℕ → ℕ → ℕ → State
 entered s at back handler first frame =
     record {
-      cpu = record { registers = called s.cpu.registers first frame (return_address_at at);
-          rip = handler; flags = s.cpu.flags };
+      cpu = record {
+        registers = called s.cpu.registers first frame (return_address_at at);
+        rip = handler;
+        flags = s.cpu.flags;
+      };
       memory = after_store s.memory (return_address_at at) W64 back;
     }
 
@@ -104,7 +107,7 @@ land s r c = by_purpose s r c r.kind
 abbrev pub after_unwind : State → ℕ → DispatchRecord → UnwindResult → Turn
 after_unwind s at r (unwinds.Finally handler frame row walk) =
     after_placing s at (in_hand r frame row walk)
-        (λ u. Continues (entered u at finally_return handler 1 frame) [])
+    (λ u. Continues (entered u at finally_return handler 1 frame) [])
 after_unwind s at r (unwinds.Land c) = land s r c
 after_unwind s at r (unwinds.Stop y) = stopped y
 
@@ -120,12 +123,12 @@ accepting r frame target =
 abbrev pub accepted : Functions → State → ℕ → DispatchRecord → ℕ → ℕ → Turn
 accepted t s at r frame target =
     after_placing s at (accepting r frame target)
-        (λ u. unwinds_on t u at (accepting r frame target))
+    (λ u. unwinds_on t u at (accepting r frame target))
 
 abbrev pub after_search : Functions → State → ℕ → DispatchRecord → SearchResult → Turn
 after_search t s at r (searches.Filter handler frame row walk) =
     after_placing s at (in_hand r frame row walk)
-        (λ u. Continues (entered u at filter_return handler ((at + POINTERS_AT) % 2 ^ 64) frame) [])
+    (λ u. Continues (entered u at filter_return handler ((at + POINTERS_AT) % 2 ^ 64) frame) [])
 after_search t s at r (searches.Accept frame target) = accepted t s at r frame target
 after_search t s at r searches.Nobody = Ends [] (ends.Unhandled r.code)
 after_search t s at r (searches.Stop y) = stopped y
@@ -170,7 +173,7 @@ place_of saved = place_below (register saved Rsp)
 abbrev pub raising : Functions → State → Code → ℕ → Option (Bool × ℕ) → Cpu → Turn
 raising t s code flags access saved =
     after_placing s (place_of saved) (new_record Search code flags access saved)
-        (λ u. searches_on t u (place_of saved) (new_record Search code flags access saved))
+    (λ u. searches_on t u (place_of saved) (new_record Search code flags access saved))
 
 -- bit 0 of the flags makes it noncontinuable
 abbrev pub raised : Functions → State → Code → ℕ → Option (Bool × ℕ) → Cpu → Turn
@@ -181,12 +184,12 @@ raised t s code flags access saved =
 abbrev pub to_target : Cpu → ℕ → ℕ → DispatchRecord
 to_target saved frame target =
     record (new_record LocalUnwind (record { 0 = 0 }) 0 None saved)
-        { target_frame = frame; target = target }
+    { target_frame = frame; target = target }
 
 abbrev pub unwound_locally : Functions → State → ℕ → ℕ → Cpu → Turn
 unwound_locally t s frame target saved =
     after_placing s (place_of saved) (to_target saved frame target)
-        (λ u. unwinds_on t u (place_of saved) (to_target saved frame target))
+    (λ u. unwinds_on t u (place_of saved) (to_target saved frame target))
 
 -- ---- answers of filters
 
@@ -196,8 +199,14 @@ noncontinuable = NONCONTINUABLE_EXCEPTION
 
 abbrev pub again : DispatchRecord → DispatchRecord
 again r =
-    begun (record r { code = noncontinuable; flags = 1; count = 0;
-        parameters = replicate EXCEPTION_MAXIMUM_PARAMETERS 0; target_frame = 0; target = 0 })
+    begun (record r {
+      code = noncontinuable;
+      flags = 1;
+      count = 0;
+      parameters = replicate EXCEPTION_MAXIMUM_PARAMETERS 0;
+      target_frame = 0;
+      target = 0;
+    })
 
 abbrev pub searched_again : Functions → State → ℕ → DispatchRecord → Turn
 searched_again t s at r = after_placing s at (again r) (λ u. searches_on t u at (again r))

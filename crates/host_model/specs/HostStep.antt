@@ -65,7 +65,7 @@ served t s (Some services.Put) = put s
 served t s (Some services.Protect) = returning s (protecting s)
 served t s (Some services.RaiseException) =
     returning s (λ u. raised t s (record { 0 = low W32 (register s.cpu Rcx) })
-        (register s.cpu Rdx % 2) None u.cpu)
+    (register s.cpu Rdx % 2) None u.cpu)
 served t s (Some services.LocalUnwind) =
     returning s (λ u. unwound_locally t s (register s.cpu Rcx) (register s.cpu Rdx) u.cpu)
 served t s (Some services.FilterReturn) =

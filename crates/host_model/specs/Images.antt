@@ -53,7 +53,7 @@ of_parts data' text rdata xdata pdata =
     ++ section 0x3000 (length rdata) (432 + length data' + length text) 0x40000040
     ++ section 0x4000 (length xdata) (432 + length data' + length text + length rdata) 0x40000040
     ++ section 0x5000 (length pdata) (432 + length data' + length text + length rdata
-        + length xdata) 0x40000040
+    + length xdata) 0x40000040
     ++ data'
     ++ text
     ++ rdata
@@ -95,9 +95,9 @@ filter_and_finally_text =
 abbrev pub filter_and_finally : List ℕ
 filter_and_finally =
     image [] filter_and_finally_text (frame_info 3 ++ u32 0x2060 ++ u32 2
-        ++ row 0x2004 0x2019 0x2039 0 ++ row 0x2004 0x2019 0x2052 0x2024 ++ frame_info 0)
-        (function 0x2000 0x2039 0x4000 ++ function 0x2039 0x2052 0x4030
-        ++ function 0x2052 0x2060 0x4030)
+    ++ row 0x2004 0x2019 0x2039 0 ++ row 0x2004 0x2019 0x2052 0x2024 ++ frame_info 0)
+    (function 0x2000 0x2039 0x4000 ++ function 0x2039 0x2052 0x4030
+    ++ function 0x2052 0x2060 0x4030)
 
 -- a filter that answers -1 to an exception that can be continued: what is put comes after the call
 -- of RaiseException
@@ -113,8 +113,8 @@ continued_raise_text =
 abbrev pub continued_raise : List ℕ
 continued_raise =
     image [] continued_raise_text (frame_info 1 ++ u32 0x2041 ++ u32 1
-        ++ row 0x2004 0x2024 0x2033 0x202E ++ frame_info 0)
-        (function 0x2000 0x202E 0x4000 ++ function 0x2033 0x2041 0x4020)
+    ++ row 0x2004 0x2024 0x2033 0x202E ++ frame_info 0)
+    (function 0x2000 0x202E 0x4000 ++ function 0x2033 0x2041 0x4020)
 
 -- a filter that answers -1 to an exception that can't be continued, and then 0 to C0000025
 unfoldable pub continued_in_vain_text : List ℕ
@@ -128,8 +128,8 @@ continued_in_vain_text =
 abbrev pub continued_in_vain : List ℕ
 continued_in_vain =
     image (u64 0xFFFFFFFFFFFFFFFF) continued_in_vain_text
-        (frame_info 1 ++ u32 0x203B ++ u32 1 ++ row 0x2004 0x2019 0x2023 0x2019 ++ frame_info 0)
-        (function 0x2000 0x2023 0x4000 ++ function 0x2023 0x203B 0x4020)
+    (frame_info 1 ++ u32 0x203B ++ u32 1 ++ row 0x2004 0x2019 0x2023 0x2019 ++ frame_info 0)
+    (function 0x2000 0x2023 0x4000 ++ function 0x2023 0x203B 0x4020)
 
 -- a load from 16 in a body whose handler always accepts
 unfoldable pub accepted_fault_text : List ℕ
@@ -142,7 +142,7 @@ accepted_fault_text =
 abbrev pub accepted_fault : List ℕ
 accepted_fault =
     image [] accepted_fault_text (frame_info 1 ++ u32 0x2026 ++ u32 1 ++ row 0x2004 0x2011 1 0x2011)
-        (function 0x2000 0x2026 0x4000)
+    (function 0x2000 0x2026 0x4000)
 
 -- a local unwind of a frame from within its body, past its finally block
 unfoldable pub local_unwind_text : List ℕ
@@ -157,7 +157,7 @@ local_unwind_text =
 abbrev pub local_unwind : List ℕ
 local_unwind =
     image [] local_unwind_text (frame_info 2 ++ u32 0x2042 ++ u32 1 ++ row 0x2004 0x2019 0x202E 0
-        ++ frame_info 0) (function 0x2000 0x202E 0x4000 ++ function 0x202E 0x2042 0x4020)
+    ++ frame_info 0) (function 0x2000 0x202E 0x4000 ++ function 0x202E 0x2042 0x4020)
 
 -- a filter that raises: it is asked again at its own raise, and accepts
 unfoldable pub raise_in_filter_text : List ℕ
@@ -176,8 +176,8 @@ raise_in_filter_text =
 abbrev pub raise_in_filter : List ℕ
 raise_in_filter =
     image (u64 0x0 ++ u64 0x0 ++ u64 0x14000204B ++ u64 0x14000206A) raise_in_filter_text
-        (frame_info 1 ++ u32 0x2074 ++ u32 1 ++ row 0x2004 0x2019 0x202E 0x2019 ++ frame_info 0)
-        (function 0x2000 0x202E 0x4000 ++ function 0x202E 0x2074 0x4020)
+    (frame_info 1 ++ u32 0x2074 ++ u32 1 ++ row 0x2004 0x2019 0x202E 0x2019 ++ frame_info 0)
+    (function 0x2000 0x202E 0x4000 ++ function 0x202E 0x2074 0x4020)
 
 -- a finally block that raises while an unwinding runs it: the new unwinding collides with the old
 -- one, and continues after its row
@@ -196,9 +196,9 @@ raise_in_finally_text =
 abbrev pub raise_in_finally : List ℕ
 raise_in_finally =
     image [] raise_in_finally_text (frame_info 3 ++ u32 0x206A ++ u32 2
-        ++ row 0x2004 0x2019 0x2033 0 ++ row 0x2004 0x2019 0x205C 0x2019 ++ frame_info 0)
-        (function 0x2000 0x202E 0x4000 ++ function 0x2033 0x205C 0x4030
-        ++ function 0x205C 0x206A 0x4030)
+    ++ row 0x2004 0x2019 0x2033 0 ++ row 0x2004 0x2019 0x205C 0x2019 ++ frame_info 0)
+    (function 0x2000 0x202E 0x4000 ++ function 0x2033 0x205C 0x4030
+    ++ function 0x205C 0x206A 0x4030)
 
 -- a filter that raises four times, each time asked again at the raise point of the one before: five
 -- records stand on one another
@@ -218,9 +218,9 @@ raises_in_filters_text =
 abbrev pub raises_in_filters : List ℕ
 raises_in_filters =
     image (u64 0x0 ++ u64 0x0 ++ u64 0x14000204B ++ u64 0x14000204B ++ u64 0x14000204B
-        ++ u64 0x14000204B ++ u64 0x14000206A) raises_in_filters_text
-        (frame_info 1 ++ u32 0x2074 ++ u32 1 ++ row 0x2004 0x2019 0x202E 0x2019 ++ frame_info 0)
-        (function 0x2000 0x202E 0x4000 ++ function 0x202E 0x2074 0x4020)
+    ++ u64 0x14000204B ++ u64 0x14000206A) raises_in_filters_text
+    (frame_info 1 ++ u32 0x2074 ++ u32 1 ++ row 0x2004 0x2019 0x202E 0x2019 ++ frame_info 0)
+    (function 0x2000 0x202E 0x4000 ++ function 0x202E 0x2074 0x4020)
 
 -- a store to a page without rights; the filter allows it by protect and answers -1, and the store
 -- is made again with the same operands
@@ -236,8 +236,8 @@ continued_access_text =
 abbrev pub continued_access : List ℕ
 continued_access =
     image [] continued_access_text (frame_info 1 ++ u32 0x2047 ++ u32 1
-        ++ row 0x2013 0x2016 0x2029 0x201F ++ frame_info 0)
-        (function 0x2000 0x2029 0x4000 ++ function 0x2029 0x2047 0x4020)
+    ++ row 0x2013 0x2016 0x2029 0x201F ++ frame_info 0)
+    (function 0x2000 0x2029 0x4000 ++ function 0x2029 0x2047 0x4020)
 
 -- ---- what they show
 
@@ -253,54 +253,54 @@ ShowsInTurns bytes n shown end = machine bytes (pos 0) n ≡ record { events = s
 abbrev pub ShowsFilterAndFinally : Type 0
 ShowsFilterAndFinally =
     ShowsInTurns filter_and_finally 24
-        (raise 0xE0000001 ∷ events.Filter 2 ∷ events.Answer (pos 2) ∷ events.Finally 1 true
-        ∷ events.Put (pos 1) ∷ events.Except (code 0xE0000001) ∷ events.Put (pos 3) ∷ [])
-        (ends.Exit (pos 0))
+    (raise 0xE0000001 ∷ events.Filter 2 ∷ events.Answer (pos 2) ∷ events.Finally 1 true
+    ∷ events.Put (pos 1) ∷ events.Except (code 0xE0000001) ∷ events.Put (pos 3) ∷ [])
+    (ends.Exit (pos 0))
 
 abbrev pub ShowsContinuedRaise : Type 0
 ShowsContinuedRaise =
     ShowsInTurns continued_raise 17 (raise 0xE0000001 ∷ events.Filter 1 ∷ events.Answer (negsuc 0)
-        ∷ events.Put (pos 1) ∷ []) (ends.Exit (pos 7))
+    ∷ events.Put (pos 1) ∷ []) (ends.Exit (pos 7))
 
 abbrev pub ShowsContinuedInVain : Type 0
 ShowsContinuedInVain =
     ShowsInTurns continued_in_vain 17
-        (events.Raise (code 0xE0000001) true None ∷ events.Filter 1 ∷ events.Answer (negsuc 0)
-        ∷ events.Raise (code 0xC0000025) true None ∷ events.Filter 1 ∷ events.Answer (pos 0) ∷ [])
-        (ends.Unhandled (code 0xC0000025))
+    (events.Raise (code 0xE0000001) true None ∷ events.Filter 1 ∷ events.Answer (negsuc 0)
+    ∷ events.Raise (code 0xC0000025) true None ∷ events.Filter 1 ∷ events.Answer (pos 0) ∷ [])
+    (ends.Unhandled (code 0xC0000025))
 
 abbrev pub ShowsAcceptedFault : Type 0
 ShowsAcceptedFault =
     ShowsInTurns accepted_fault 9 (events.Raise (code 0xC0000005) false (Some (false, 16))
-        ∷ events.Except (code 0xC0000005) ∷ events.Put (pos 5) ∷ []) (ends.Exit (pos 7))
+    ∷ events.Except (code 0xC0000005) ∷ events.Put (pos 5) ∷ []) (ends.Exit (pos 7))
 
 abbrev pub ShowsLocalUnwind : Type 0
 ShowsLocalUnwind =
     ShowsInTurns local_unwind 18 (events.Finally 1 true ∷ events.Put (pos 1) ∷ events.Put (pos 5)
-        ∷ []) (ends.Exit (pos 7))
+    ∷ []) (ends.Exit (pos 7))
 
 abbrev pub ShowsRaiseInFilter : Type 0
 ShowsRaiseInFilter =
     ShowsInTurns raise_in_filter 29 (raise 0xE0000001 ∷ events.Filter 1 ∷ raise 0xE0000002
-        ∷ events.Filter 1 ∷ events.Answer (pos 1) ∷ events.Except (code 0xE0000002)
+    ∷ events.Filter 1 ∷ events.Answer (pos 1) ∷ events.Except (code 0xE0000002)
     ∷ events.Put (pos 5) ∷ []) (ends.Exit (pos 7))
 
 abbrev pub ShowsRaiseInFinally : Type 0
 ShowsRaiseInFinally =
     ShowsInTurns raise_in_finally 29 (raise 0xE0000001 ∷ events.Filter 2 ∷ events.Answer (pos 1)
-        ∷ events.Finally 1 true ∷ events.Put (pos 1) ∷ raise 0xE0000002 ∷ events.Filter 2
+    ∷ events.Finally 1 true ∷ events.Put (pos 1) ∷ raise 0xE0000002 ∷ events.Filter 2
     ∷ events.Answer (pos 1) ∷ events.Except (code 0xE0000002) ∷ events.Put (pos 5) ∷ [])
-        (ends.Exit (pos 7))
+    (ends.Exit (pos 7))
 
 abbrev pub ShowsRaisesInFilters : Type 0
 ShowsRaisesInFilters =
     ShowsInTurns raises_in_filters 56
-        (raise 0xE0000001 ∷ events.Filter 1 ∷ raise 0xE0000002 ∷ events.Filter 1 ∷ raise 0xE0000002
-        ∷ events.Filter 1 ∷ raise 0xE0000002 ∷ events.Filter 1 ∷ raise 0xE0000002 ∷ events.Filter 1
+    (raise 0xE0000001 ∷ events.Filter 1 ∷ raise 0xE0000002 ∷ events.Filter 1 ∷ raise 0xE0000002
+    ∷ events.Filter 1 ∷ raise 0xE0000002 ∷ events.Filter 1 ∷ raise 0xE0000002 ∷ events.Filter 1
     ∷ events.Answer (pos 1) ∷ events.Except (code 0xE0000002) ∷ events.Put (pos 5) ∷ [])
-        (ends.Exit (pos 7))
+    (ends.Exit (pos 7))
 
 abbrev pub ShowsContinuedAccess : Type 0
 ShowsContinuedAccess =
     ShowsInTurns continued_access 20 (events.Raise (code 0xC0000005) false (Some (true, 0x20000000))
-        ∷ events.Filter 1 ∷ events.Answer (negsuc 0) ∷ events.Put (pos 5) ∷ []) (ends.Exit (pos 7))
+    ∷ events.Filter 1 ∷ events.Answer (negsuc 0) ∷ events.Put (pos 5) ∷ []) (ends.Exit (pos 7))

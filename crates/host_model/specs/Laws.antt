@@ -55,8 +55,10 @@ shown_in_turns f fs (suc n) h = shown_next f fs h ++ shown_in_turns f fs n (next
 abbrev pub RunsAreTurns : Type 0
 RunsAreTurns =
     (f : Functions) (fs : List Funclet) (n : ℕ) (h : Host) (out : List Event)
-    → run f fs n h out ≡ record { events = out ++ shown_in_turns f fs n h;
-        end = end_of (after_turns f fs n h) }
+    → run f fs n h out ≡ record {
+      events = out ++ shown_in_turns f fs n h;
+      end = end_of (after_turns f fs n h);
+    }
 
 -- a host that has ended stays so, and shows nothing
 pub record Stays (f : Functions) (fs : List Funclet) (n : ℕ) (e : RunEnd) : Type 0 where

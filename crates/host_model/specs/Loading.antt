@@ -86,8 +86,10 @@ stored_byte image a = byte_in image.base (section_of image.base a image.sections
 
 unfoldable pub mapped : Image → Memory
 mapped image =
-    record { protection = mode_at image;
-        byte = with_slots image.base (stored_byte image) (imports_of image) }
+    record {
+      protection = mode_at image;
+      byte = with_slots image.base (stored_byte image) (imports_of image);
+    }
 
 -- RIP is the entry point, RCX the argument; RSP points to a return address of 0 near the stack's
 -- top
@@ -125,7 +127,7 @@ table_refusal image = of_tables (tables image)
 abbrev pub has_place : Image → Bool
 has_place image =
     (image.base % BASE_ALIGNMENT == 0) && nat_le LEAST_BASE image.base && nat_le image.size
-        MOST_IMAGE && nat_le (image.base + image.size) ADDRESSES_END
+    MOST_IMAGE && nat_le (image.base + image.size) ADDRESSES_END
 
 abbrev pub place_refusal : Image → Option LoadErr
 place_refusal image = reason_unless (has_place image) (refusals.Place image.base)
@@ -160,4 +162,4 @@ later_refusal image =
 abbrev pub load_refusal : Image → Option LoadErr
 load_refusal image =
     first_of (table_refusal image ∷ place_refusal image ∷ import_refusal image ∷ entry_refusal image
-        ∷ [])
+    ∷ [])

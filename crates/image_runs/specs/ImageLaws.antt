@@ -14,4 +14,4 @@ abbrev pub LoweredHasImage : Type 0
 LoweredHasImage =
     (program : Program) → IsLinkable program
     → IsSoundImage (functions_of (lowered program)) (funclets_of (lowered program))
-        (lowered program) (plan_of (lowered program)) (sites_of (lowered program))
+    (lowered program) (plan_of (lowered program)) (sites_of (lowered program))

@@ -28,7 +28,7 @@ module _ (t : Functions) (fs : List Funclet) (program : LinearProgram) (p : Plan
   back_to [] = Some 0
   back_to (Waits w ∷ below) =
       return_of (p.layout w.body) (p.address w.body w.next)
-          (instruction_in (body_of program w.body) w.next)
+      (instruction_in (body_of program w.body) w.next)
   back_to (Searches exception resumption asked rest ∷ below) = Some filter_return
   back_to (Unwinds rest target ∷ below) = Some finally_return
 
@@ -37,7 +37,7 @@ module _ (t : Functions) (fs : List Funclet) (program : LinearProgram) (p : Plan
   pub record IsFrameOf (m : Memory) (c : Context) (b : linear.Frame) (below : List Item)
       (acts : List Activation) (f : LiveFrame) : Type 0 where
     pub waits : BodyWaits t fs program p m c (slots_end (p.layout b.body) (p.leaf b.body))
-            (last_temporary (p.layout b.body) b.body (p.leaf b.body)) b acts
+        (last_temporary (p.layout b.body) b.body (p.leaf b.body)) b acts
     pub at : f.at ≡ rsp c
     pub back : back_to below ≡ Some f.caller.rip
     pub after : rsp f.caller ≡ rsp c + (p.layout b.body).frame + 8
@@ -54,7 +54,7 @@ module _ (t : Functions) (fs : List Funclet) (program : LinearProgram) (p : Plan
   AreFrames m c [] acts [] = (c.rip ≡ 0) × (acts ≡ [])
   AreFrames m c (Waits b ∷ below) acts (f ∷ frames) =
       IsFrameOf m c b below acts f × AreFrames m f.caller below
-          (activations_below b.body acts) frames
+      (activations_below b.body acts) frames
   AreFrames m c (Searches exception resumption asked rest ∷ below) acts frames =
       (r : DispatchRecord) × IsRecordAt m c filter_return r
       × AreFrames m (context_of r.saved) below acts frames

@@ -31,7 +31,7 @@ pub record Realises (bytes : List ℕ) (program : Program) : Type 0 where
   pub shows :
       (arg n : ℕ) → arg < 2 ^ 63
       → Covers (meaning program (pos arg) n).events (run_end_of (meaning program (pos arg) n).end)
-          (machine bytes (pos arg) (256 * n + 256))
+      (machine bytes (pos arg) (256 * n + 256))
 
 -- in m turns it shows no more than the program shows within (m + 1) * K steps, where these are
 -- calm, and ends only as they end

@@ -36,7 +36,7 @@ pub record WalksTheShadow (bytes : List ℕ) (arg : ℤ) (m : ℕ) : Type 0 wher
   pub image : Image
   pub is : IsImage bytes image
   pub gives : WalkGivesShadow (functions_in image) (funclets (functions_in image).entries) m
-          (start image arg) (first_shadow (start image arg))
+      (start image arg) (first_shadow (start image arg))
 
 -- ---- what is claimed
 

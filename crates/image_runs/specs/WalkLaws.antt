@@ -61,4 +61,4 @@ abbrev pub LinkedStandStill : Type 0
 LinkedStandStill =
     (program : LinearProgram) → IsCompiled program
     → StandStill (functions_of program) (funclets_of program) program (plan_of program)
-        (sites_of program)
+    (sites_of program)

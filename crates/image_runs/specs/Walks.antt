@@ -34,7 +34,7 @@ pub record ShowsFrames (t : Functions) (fs : List Funclet) (program : LinearProg
 abbrev pub ShowsFramesOf : Program → State → Configuration → Type 0
 ShowsFramesOf program =
     ShowsFrames (functions_of (lowered program)) (funclets_of (lowered program)) (lowered program)
-        (plan_of (lowered program))
+    (plan_of (lowered program))
 
 -- a few turns from the first one of the image's run `main` begins; from there on, for each of so
 -- many steps of linear code, the run passes a state in which the walk gives the live frames
@@ -45,10 +45,10 @@ pub record PassesTheFrames (program : Program) (arg : ℤ) (n : ℕ) : Type 0 wh
   pub few : turns ≤ most_before_main
   pub state : State
   pub comes : Comes (functions_of (lowered program)) (funclets_of (lowered program)) turns
-          (images.start (image_of (linked (lowered program))) arg) [] state
+      (images.start (image_of (linked (lowered program))) arg) [] state
   pub passes : Passes (functions_of (lowered program)) (funclets_of (lowered program))
-          (lowered program) pace turns_left (ShowsFramesOf program) n state
-          (start (lowered program) arg main)
+      (lowered program) pace turns_left (ShowsFramesOf program) n state
+      (start (lowered program) arg main)
 
 -- a return of `main`, or an exception that nobody handles: not the stack's limit, and no stop
 abbrev pub IsOfProgram : RunEnd → Type 0

@@ -21,7 +21,7 @@ abbrev pub ImagesStart : Type 0
 ImagesStart =
     (program : LinearProgram) → IsCompiled program → HasBytes program
     → IsMachineMemory (functions_of program) (funclets_of program) program (plan_of program)
-        (sites_of program) (mapped (image_of (linked program))) (first_memory program.globals)
+    (sites_of program) (mapped (image_of (linked program))) (first_memory program.globals)
 
 abbrev pub ImagesLoad : Type 0
 ImagesLoad =

@@ -13,7 +13,7 @@ abbrev pub ImagesArePrograms : Type 0
 ImagesArePrograms =
     (program : LinearProgram) → IsCompiled program
     → IsProgramImage (functions_of program) (funclets_of program) program (plan_of program)
-        (sites_of program)
+    (sites_of program)
 
 -- a leaf function calls nothing (Microsoft x64 ABI, "Leaf functions")
 abbrev pub LeavesCallNothing : Type 0

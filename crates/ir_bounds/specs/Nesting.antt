@@ -116,7 +116,7 @@ abbrev mutual
       max (f c) (max (most_of_statement f s) (most_of_statement f t))
   most_of_statement f (For ds first c next s) =
       max (most_of_declared f ds) (max (most_of_optional f first)
-          (max (most_of_optional f c) (max (most_of_optional f next) (most_of_statement f s))))
+      (max (most_of_optional f c) (max (most_of_optional f next) (most_of_statement f s))))
   most_of_statement f (DoWhile s c) = max (most_of_statement f s) (f c)
   most_of_statement f (Return e) = most_of_optional f e
   most_of_statement f Break = 0

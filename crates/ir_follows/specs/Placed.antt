@@ -61,7 +61,7 @@ module _ (program : Program) (linear : LinearProgram) (pace body own : ℕ) wher
   FilterPlaced names (Funclet k e) =
       (k ≡ k - 1 + 1) × HasFunclet linear (k - 1) (λ funclet. funclet.kind ≡ kinds.Filter)
       × HasAt linear (FuncletBody (k - 1)) [] 0
-          (expression_code (filter_names names) e 0 0 ++ Return (Temporary 0) ∷ [])
+      (expression_code (filter_names names) e 0 0 ++ Return (Temporary 0) ∷ [])
       × ExpressionFits program own true e × (expression_weight e + body + 4 ≤ pace)
 
   abbrev pub DeclaredPlaced : BodyName → Names → Declared → List Region → ℕ → Type 0
@@ -82,15 +82,15 @@ module _ (program : Program) (linear : LinearProgram) (pace body own : ℕ) wher
     Placed b scope (If c s) rs at =
         let then = at + expression_size c + 1 in
         ExpressionFits program own false c
-            × HasAt linear b rs at (expression_code scope.names c 0 at
-                ++ JumpIfZero (Temporary 0) (then + statement_size s) ∷ [])
-                × Placed b scope s rs then
+        × HasAt linear b rs at (expression_code scope.names c 0 at
+        ++ JumpIfZero (Temporary 0) (then + statement_size s) ∷ [])
+        × Placed b scope s rs then
     Placed b scope (IfElse c s t) rs at =
         let then = at + expression_size c + 1 in
         let otherwise = then + statement_size s + 1 in
         ExpressionFits program own false c
-            × HasAt linear b rs at (expression_code scope.names c 0 at
-                ++ JumpIfZero (Temporary 0) otherwise ∷ []) × Placed b scope s rs then
+        × HasAt linear b rs at (expression_code scope.names c 0 at
+        ++ JumpIfZero (Temporary 0) otherwise ∷ []) × Placed b scope s rs then
         × HasAt linear b rs (then + statement_size s) (Jump (otherwise + statement_size t) ∷ [])
         × Placed b scope t rs otherwise
     Placed b scope (For ds first c next s) rs at =
@@ -100,9 +100,9 @@ module _ (program : Program) (linear : LinearProgram) (pace body own : ℕ) wher
         let again = start + statement_size s in
         let end = for_end c next s iteration in
         AllDeclaredPlaced b scope.names ds rs at × OptionalFits first
-            × HasAt linear b rs begin (discarded_code scope.names first begin)
+        × HasAt linear b rs begin (discarded_code scope.names first begin)
         × (OptionalFits c × OptionalFits next
-            × HasAt linear b rs iteration (condition_code scope.names c end iteration)
+        × HasAt linear b rs iteration (condition_code scope.names c end iteration)
         × Placed b (in_loop end again scope) s rs start
         × HasAt linear b rs again (Separator ∷ [])
         × HasAt linear b rs (again + 1) (discarded_code scope.names next (again + 1))
@@ -111,10 +111,10 @@ module _ (program : Program) (linear : LinearProgram) (pace body own : ℕ) wher
         let again = at + statement_size s in
         let end = do_end s c at in
         ExpressionFits program own false c × Placed b (in_loop end again scope) s rs at
-            × HasAt linear b rs again (Separator ∷ [])
+        × HasAt linear b rs again (Separator ∷ [])
         × HasAt linear b rs (again + 1) (expression_code scope.names c 0 (again + 1)
-            ++ JumpIfZero (Temporary 0) end ∷ [])
-            × HasAt linear b rs (again + 1 + expression_size c + 1) (Jump at ∷ [])
+        ++ JumpIfZero (Temporary 0) end ∷ [])
+        × HasAt linear b rs (again + 1 + expression_size c + 1) (Jump at ∷ [])
     Placed b scope (statements.Return e) rs at =
         OptionalFits e × HasAt linear b rs at (returned_code scope.names e at)
         × HasAt linear b rs (at + returned_size e) (return_code scope.exit) × IsWay scope.exit
@@ -129,20 +129,20 @@ module _ (program : Program) (linear : LinearProgram) (pace body own : ℕ) wher
         let end = target + 1 + statements_size block in
         AllPlaced b (in_try end scope) body (region at target (except_kind filter target) ∷ rs) at
         × HasAt linear b (region at target (except_kind filter target) ∷ rs)
-            (at + statements_size body) (Jump end ∷ [])
+        (at + statements_size body) (Jump end ∷ [])
         × HasAt linear b rs target (Landing (Local scope.names.free) ∷ [])
         × AllPlaced b (in_except scope) block rs (target + 1) × FilterPlaced scope.names filter
     Placed b scope (TryFinally body k last) rs at =
         let end = at + statements_size body in
         AllPlaced b (in_guarded end scope) body
-                (region at (end + 1) (regions.Finally (k - 1)) ∷ rs) at
+        (region at (end + 1) (regions.Finally (k - 1)) ∷ rs) at
         × HasAt linear b (region at (end + 1) (regions.Finally (k - 1)) ∷ rs) end (Separator ∷ [])
         × HasAt linear b rs (end + 1) (CallFinally (k - 1) ∷ Separator ∷ [])
         × ((k ≡ k - 1 + 1) × HasFunclet linear (k - 1) (λ funclet. funclet.kind
-            ≡ kinds.Finally scope.names.free)
-            × AllPlaced (FuncletBody (k - 1)) (finally_scope scope.names) last [] 0
+        ≡ kinds.Finally scope.names.free)
+        × AllPlaced (FuncletBody (k - 1)) (finally_scope scope.names) last [] 0
         × HasAt linear (FuncletBody (k - 1)) [] (statements_size last)
-            (Return (Local scope.names.free) ∷ []))
+        (Return (Local scope.names.free) ∷ []))
 
     pub AllPlaced : BodyName → Scope → Statements → List Region → ℕ → Type 0
     AllPlaced b scope Empty rs at = Unit {0}
@@ -156,8 +156,8 @@ module _ (program : Program) (linear : LinearProgram) (pace body own : ℕ) wher
       let again = start + statement_size s in
       let end = for_end c next s at in
       OptionalFits c × OptionalFits next
-          × HasAt linear b rs at (condition_code scope.names c end at)
-          × Placed b (in_loop end again scope) s rs start
+      × HasAt linear b rs at (condition_code scope.names c end at)
+      × Placed b (in_loop end again scope) s rs start
       × HasAt linear b rs again (Separator ∷ [])
       × HasAt linear b rs (again + 1) (discarded_code scope.names next (again + 1))
       × HasAt linear b rs (again + 1 + discarded_size next) (Jump at ∷ [])
@@ -167,18 +167,18 @@ module _ (program : Program) (linear : LinearProgram) (pace body own : ℕ) wher
       let again = at + statement_size s in
       let end = do_end s c at in
       ExpressionFits program own false c × Placed b (in_loop end again scope) s rs at
-          × HasAt linear b rs again (Separator ∷ [])
+      × HasAt linear b rs again (Separator ∷ [])
       × HasAt linear b rs (again + 1) (expression_code scope.names c 0 (again + 1)
-          ++ JumpIfZero (Temporary 0) end ∷ [])
-          × HasAt linear b rs (again + 1 + expression_size c + 1) (Jump at ∷ [])
+      ++ JumpIfZero (Temporary 0) end ∷ [])
+      × HasAt linear b rs (again + 1 + expression_size c + 1) (Jump at ∷ [])
 
   abbrev pub FinallyPlaced : Names → ℕ → Statements → Type 0
   FinallyPlaced names k last =
       (k ≡ k - 1 + 1) × HasFunclet linear (k - 1) (λ funclet. funclet.kind
-          ≡ kinds.Finally names.free) × AllPlaced (FuncletBody (k - 1))
-          (finally_scope names) last [] 0
+      ≡ kinds.Finally names.free) × AllPlaced (FuncletBody (k - 1))
+      (finally_scope names) last [] 0
       × HasAt linear (FuncletBody (k - 1)) [] (statements_size last)
-          (Return (Local names.free) ∷ [])
+      (Return (Local names.free) ∷ [])
 
 module _ (program : Program) (linear : LinearProgram) (pace body : ℕ) where
   -- a function of this number stands in the linear code
@@ -186,9 +186,9 @@ module _ (program : Program) (linear : LinearProgram) (pace body : ℕ) where
     pub parameters : lf.parameters ≡ length fn.parameters
     pub locals : lf.body.locals ≡ all_locals fn
     pub placed : AllPlaced program linear pace body (own_locals fn) (FunctionBody k)
-            (scope_of fn) fn.body [] 0
+        (scope_of fn) fn.body [] 0
     pub ends : HasAt linear (FunctionBody k) [] (statements_size fn.body)
-            (constant 0 0 ∷ instructions.Return (Temporary 0) ∷ [])
+        (constant 0 0 ∷ instructions.Return (Temporary 0) ∷ [])
     pub light : statements_weight fn.body ≤ body
     pub quick : statements_weight fn.body + body + 4 ≤ pace
 

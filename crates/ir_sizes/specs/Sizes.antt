@@ -61,10 +61,10 @@ abbrev mutual
   node_size (nodes.Assign p e) = locate_size p + (expression_size e + 1)
   node_size (nodes.CompoundAssign p before o e after) =
       locate_size p + (read_size p + (conversion_size before
-          + (expression_size e + (1 + (conversion_size after + 1)))))
+      + (expression_size e + (1 + (conversion_size after + 1)))))
   node_size (nodes.Increment m p before o n after) =
       locate_size p + (read_size p + (1 + (conversion_size before
-          + (2 + (conversion_size after + 2)))))
+      + (2 + (conversion_size after + 2)))))
   node_size (nodes.Unary o e) = expression_size e + unary_size o
   node_size (nodes.Binary o e f) = expression_size e + (expression_size f + 1)
   node_size (nodes.PointerDifference n e f) = expression_size e + (expression_size f + 3)
@@ -113,7 +113,7 @@ abbrev mutual
       expression_size c + (1 + (statement_size s + (1 + statement_size t)))
   statement_size (For ds first c next s) =
       all_declared_size ds + (discarded_size first + (condition_size c
-          + (statement_size s + (1 + (discarded_size next + 1)))))
+      + (statement_size s + (1 + (discarded_size next + 1)))))
   statement_size (DoWhile s c) = statement_size s + (1 + (expression_size c + 2))
   statement_size (Return e) = returned_size e + 2
   statement_size Break = 2

@@ -59,7 +59,7 @@ module _ (program : LinearProgram) where
   abbrev pub IsLanding : BodyName → ℕ → Type 0
   IsLanding name label =
       (slot : ℕ) × (instruction_in (body_of program name) label
-          ≡ Some (instructions.Landing (Local slot)))
+      ≡ Some (instructions.Landing (Local slot)))
 
   -- its funclet is one of the body, and its block begins where it ends
   abbrev pub IsKindOf : BodyName → ℕ → RegionKind → Type 0

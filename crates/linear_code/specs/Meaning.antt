@@ -65,4 +65,4 @@ unfoldable pub run : (ℕ → Bool) → List Instruction → ℕ → ℕ → Bod
 run reserved code zero number b = Some (number, b)
 run reserved code (suc n) number b =
     if nat_lt number (length code) then continued (run reserved code n) number
-        (step reserved (get_or code number instructions.Separator) b) else None
+    (step reserved (get_or code number instructions.Separator) b) else None

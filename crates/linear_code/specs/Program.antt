@@ -35,8 +35,13 @@ pub record LinearProgram : Type 0 where
 
 abbrev pub linear_body : IrBody → LinearBody
 linear_body b =
-    record { locals = b.locals; temporaries = b.temporaries; passed = b.passed; code = b.code.items;
-        regions = b.regions.items }
+    record {
+      locals = b.locals;
+      temporaries = b.temporaries;
+      passed = b.passed;
+      code = b.code.items;
+      regions = b.regions.items;
+    }
 
 abbrev pub linear_function : IrFunction → LinearFunction
 linear_function f = record { parameters = f.parameters; body = linear_body f.body }
@@ -47,6 +52,10 @@ linear_funclet f =
 
 abbrev pub linear_program : IrProgram → LinearProgram
 linear_program p =
-    record { globals = p.globals.items; main = p.main;
-        functions = map linear_function p.functions.items; funclets =
-    map linear_funclet p.funclets.items }
+    record {
+      globals = p.globals.items;
+      main = p.main;
+      functions = map linear_function p.functions.items;
+      funclets =
+          map linear_funclet p.funclets.items;
+    }

@@ -63,7 +63,7 @@ tested (Temporary i) c = with_last (take i c.frame.temporaries) c
 abbrev pub jump_if_zero : Next → Slot → ℕ → Configuration → Seen
 jump_if_zero next slot label c =
     with_some c.events (read c slot) (λ v. pick (nat_eq v 0) (next (at_label label (tested slot c)))
-        (next (forth (tested slot c))))
+    (next (forth (tested slot c))))
 
 -- ---- calls
 
@@ -76,12 +76,21 @@ abbrev pub begin_function : ℕ → LinearFunction → List ℕ → ℕ → List
     → Configuration
 begin_function f function arguments held below store es = record {
   frame =
-      record { body = FunctionBody f; next = 0; activation = length store.activations;
-          exception = no_exception; held = held; temporaries = []; landed = None };
+      record {
+        body = FunctionBody f;
+        next = 0;
+        activation = length store.activations;
+        exception = no_exception;
+        held = held;
+        temporaries = [];
+        landed = None;
+      };
   below = below;
   store =
-      record store { activations = store.activations ++ (arguments
-          ++ replicate (function.body.locals - function.parameters) 0) ∷ [] };
+      record store {
+        activations = store.activations ++ (arguments
+            ++ replicate (function.body.locals - function.parameters) 0) ∷ [];
+      };
   events = es;
 }
 
@@ -91,7 +100,7 @@ call program next f first count c =
     with_some c.events (slice_get program.functions f) (λ function.
     deeper 1 c.frame.held c.store c.events
     (next (begin_function f function arguments c.frame.held
-            (Waits (waiting c first).frame ∷ c.below) c.store c.events))))
+    (Waits (waiting c first).frame ∷ c.below) c.store c.events))))
 
 abbrev pub count_of : BuiltIn → ℕ
 count_of Put = 1
@@ -109,14 +118,14 @@ built_in program next Protect vs c =
     let a = get_or vs 0 0 in
     let number = signed W32 (get_or vs 1 0) in
     answers next (of_test (is_some (rights_asked a number)))
-            (record c { store = record c.store { memory = protected c.store.memory a number } })
+    (record c { store = record c.store { memory = protected c.store.memory a number } })
 built_in program next RaiseException vs c =
     raise program next (raised (get_or vs 0 0) (get_or vs 1 0)) AfterCall c
 
 abbrev pub call_built_in : LinearProgram → Next → BuiltIn → ℕ → Configuration → Seen
 call_built_in program next f first c =
     with_some c.events (last_temporaries c.frame.temporaries first (count_of f))
-        (λ vs. built_in program next f vs (waiting c first))
+    (λ vs. built_in program next f vs (waiting c first))
 
 -- ---- ends of bodies
 
@@ -151,8 +160,12 @@ end_body program next (FuncletBody k) v c =
 -- a local unwind runs the `__finally` blocks between the instruction and its label
 abbrev pub local_unwind : LinearProgram → Next → ℕ → Configuration → Seen
 local_unwind program next label c =
-    unwind program next (record { depth = length c.below; label = label; code = None;
-        held = c.frame.held }) (Waits c.frame ∷ c.below) None c.events c.store
+    unwind program next (record {
+      depth = length c.below;
+      label = label;
+      code = None;
+      held = c.frame.held;
+    }) (Waits c.frame ∷ c.below) None c.events c.store
 
 abbrev pub not_landed : Configuration → Configuration
 not_landed c = record c { frame = record c.frame { landed = None } }

@@ -33,13 +33,13 @@ main_arguments parameters arg = if nat_eq parameters 0 then [] else wrapped W64 
 abbrev pub start : LinearProgram → ℤ → LinearFunction → Configuration
 start program arg main =
     begin_function program.main main (main_arguments main.parameters arg) 0 []
-        (record { memory = first_memory program.globals; activations = [] }) []
+    (record { memory = first_memory program.globals; activations = [] }) []
 
 -- what is seen of a program within n turns
 abbrev pub seen : LinearProgram → ℤ → ℕ → Seen
 seen program arg n =
     with_some [] (slice_get program.functions program.main)
-        (λ main. exec program n (start program arg main))
+    (λ main. exec program n (start program arg main))
 
 -- the events and the end; a run that is stuck has none
 abbrev pub shown : Seen → Shown

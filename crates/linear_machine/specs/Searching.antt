@@ -19,15 +19,22 @@ target_of h code held = record { depth = h.depth; label = h.target; code = Some 
 abbrev pub accept : LinearProgram → Handler → Exception → Next → Configuration → Seen
 accept program h exception next c =
     unwind program next (target_of h exception.code c.frame.held)
-        (Waits c.frame ∷ c.below) None c.events c.store
+    (Waits c.frame ∷ c.below) None c.events c.store
 
 -- a filter begins
 abbrev pub begin_filter : ℕ → Handler → List Handler → Exception → Resumption → Configuration
     → Configuration
 begin_filter k h rest exception resumption c = record {
   frame =
-      record { body = FuncletBody k; next = 0; activation = h.activation; exception = exception;
-          held = c.frame.held + 2; temporaries = []; landed = None };
+      record {
+        body = FuncletBody k;
+        next = 0;
+        activation = h.activation;
+        exception = exception;
+        held = c.frame.held + 2;
+        temporaries = [];
+        landed = None;
+      };
   below = Searches exception resumption h rest ∷ Waits c.frame ∷ c.below;
   store = c.store;
   events = c.events ++ events.Filter (k + 1) ∷ [];
@@ -51,7 +58,7 @@ search program next (h ∷ rest) exception resumption c =
 abbrev pub raise : LinearProgram → Next → Exception → Resumption → Configuration → Seen
 raise program next exception resumption c =
     search program next (handlers program (Waits c.frame ∷ c.below) None) exception resumption
-        (record c { events = c.events ++ raise_event exception ∷ [] })
+    (record c { events = c.events ++ raise_event exception ∷ [] })
 
 -- the result of a call goes to the temporary after those that waited
 abbrev pub resumed : Resumption → Configuration → Configuration
@@ -66,11 +73,15 @@ answered program next v exception resumption h rest c =
     pick (nat_eq (low W32 v) 0) (search program next rest exception resumption c)
     (pick (nat_lt (low W32 v) (2 ^ 31)) (accept program h exception next c)
     (pick exception.flag (raise program next noncontinuable resumption c)
-            (next (resumed resumption c))))
+    (next (resumed resumption c))))
 
 abbrev pub answer : LinearProgram → Next → ℕ → List Item → List Event → Store → Seen
 answer program next v (Searches exception resumption h rest ∷ Waits f ∷ below) es store =
     answered program next v exception resumption h rest
-        (record { frame = f; below = below; store = store;
-        events = es ++ events.Answer (signed W32 v) ∷ [] })
+    (record {
+      frame = f;
+      below = below;
+      store = store;
+      events = es ++ events.Answer (signed W32 v) ∷ [];
+    })
 answer program next v items es store = Stuck es

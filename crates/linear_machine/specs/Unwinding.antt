@@ -27,8 +27,15 @@ flag_of (Some f) = flag_in f.kind
 abbrev pub begin_finally : ℕ → ℕ → Bool → ℕ → List Item → Configuration → Configuration
 begin_finally k flag abnormal held below c = record {
   frame =
-      record { body = FuncletBody k; next = 0; activation = c.frame.activation;
-          exception = no_exception; held = held + 2; temporaries = []; landed = None };
+      record {
+        body = FuncletBody k;
+        next = 0;
+        activation = c.frame.activation;
+        exception = no_exception;
+        held = held + 2;
+        temporaries = [];
+        landed = None;
+      };
   below = below;
   store = set_local c.store c.frame.activation flag (of_test abnormal);
   events = c.events ++ events.Finally (k + 1) abnormal ∷ [];
@@ -45,8 +52,14 @@ run_finally program k abnormal held below next c =
 abbrev pub arrive : Target → Option ℕ → Next → Configuration → Seen
 arrive target None next c = next (record c { frame = record c.frame { next = target.label } })
 arrive target (Some code) next c =
-    next (record c { frame = record c.frame { next = target.label; temporaries = [];
-        landed = Some code }; events = c.events ++ events.Except (record { 0 = code }) ∷ [] })
+    next (record c {
+      frame = record c.frame {
+        next = target.label;
+        temporaries = [];
+        landed = Some code;
+      };
+      events = c.events ++ events.Except (record { 0 = code }) ∷ [];
+    })
 
 -- the activation of a function that is left is held
 abbrev pub target_past : BodyName → Target → Target
@@ -72,11 +85,11 @@ abbrev pub unwind_body : LinearProgram → Next → Target → (Store → Seen) 
     → Configuration → Seen
 unwind_body program next target out [] c =
     pick (nat_eq target.depth (length c.below)) (arrive target target.code next c)
-        (out (left_store c.frame.body c.frame.activation c.store))
+    (out (left_store c.frame.body c.frame.activation c.store))
 unwind_body program next target out (r ∷ regions) c =
     pick (stops target r (length c.below)) (arrive target target.code next c)
     (leave_region program next target r.kind regions
-            (unwind_body program next target out regions c) c)
+    (unwind_body program next target out regions c) c)
 
 -- an unwinding over what waits: a search that it meets is over, and the regions that an older
 -- unwinding has left aren't left again
@@ -85,9 +98,9 @@ abbrev pub unwind : LinearProgram → Next → Target → List Item → Option (
 unwind program next target [] left es store = Stuck es
 unwind program next target (Waits f ∷ below) left es store =
     unwind_body program next target (λ store. unwind program next
-        (target_past f.body target) below None es store)
+    (target_past f.body target) below None es store)
     (regions_left left (regions_at program f.body f.next))
-            (record { frame = f; below = below; store = store; events = es })
+    (record { frame = f; below = below; store = store; events = es })
 unwind program next target (Searches exception resumption asked rest ∷ below) left es store =
     unwind program next target below None es store
 unwind program next target (Unwinds rest older ∷ below) left es store =

@@ -29,9 +29,9 @@ abbrev pub left_activations : ℕ → Program
 left_activations n =
     with_main []
     (function (Int ∷ []) [] (IfElse (local 0) (with_less 0) (raise 0xE0000001 0) ∷ [])
-            ∷ function (Int ∷ []) [] (If (local 0) (with_less 1) ∷ []) ∷ [])
+    ∷ function (Int ∷ []) [] (If (local 0) (with_less 1) ∷ []) ∷ [])
     (except (finally (with_number 0 497 ∷ []) 1 (with_number 1 n ∷ []) ∷ []) Always
-            (with_number 1 499 ∷ []) ∷ answer (lit 0) ∷ [])
+    (with_number 1 499 ∷ []) ∷ answer (lit 0) ∷ [])
 
 abbrev pub BothShow : Program → ℕ → List Event → Ended → Type 0
 BothShow p n es e = Shows p n es e × (linear_meaning (lowered p) (pos 0) (3 * n + 2) ≡ ended es e)
@@ -41,6 +41,6 @@ BothShow p n es e = Shows p n es e × (linear_meaning (lowered p) (pos 0) (3 * n
 abbrev pub LeftActivations : Type 0
 LeftActivations =
     BothShow (left_activations 498) 12000
-        (raised 0xE0000001 ∷ events.Finally 1 true ∷ landed 0xE0000001 ∷ []) (exit 0)
+    (raised 0xE0000001 ∷ events.Finally 1 true ∷ landed 0xE0000001 ∷ []) (exit 0)
     × BothShow (left_activations 499) 12000 (raised 0xE0000001 ∷ events.Finally 1 true ∷ [])
-        (Deep 1001)
+    (Deep 1001)

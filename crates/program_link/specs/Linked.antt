@@ -33,8 +33,12 @@ total (r ∷ rs) = routine_size r + total rs
 -- what the addresses of `.rdata` and `.xdata` rest on: the sizes of the sections before them
 abbrev pub front_sizes : List ℕ → List RoutineView → Sizes
 front_sizes globals rs =
-    record { data_size = data_size globals; text_size = 51 + total rs; xdata_size = 0;
-        pdata_size = 0 }
+    record {
+      data_size = data_size globals;
+      text_size = 51 + total rs;
+      xdata_size = 0;
+      pdata_size = 0;
+    }
 
 -- so many of the routines are functions
 abbrev pub site : List ℕ → List RoutineView → ℕ → SiteView
@@ -57,7 +61,7 @@ image_of globals rs functions main =
       xdata = infos (site globals rs functions) (first globals) rs;
       pdata =
           table_bytes (ranges (site globals rs functions) (xdata_at (front_sizes globals rs))
-              (first globals) rs);
+          (first globals) rs);
     }
 
 abbrev pub linked : LinearProgram → Program

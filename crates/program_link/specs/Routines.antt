@@ -40,8 +40,12 @@ is_leaf b =
 
 abbrev pub function_frame : LinearBody → Frame
 function_frame b =
-    frame_of (record { passed = b.passed; kept = 0; temporaries = b.temporaries;
-        locals = b.locals })
+    frame_of (record {
+      passed = b.passed;
+      kept = 0;
+      temporaries = b.temporaries;
+      locals = b.locals;
+    })
 
 -- the slots of a leaf are above its return address
 abbrev pub leaf_layout : LinearBody → Layout
@@ -50,18 +54,31 @@ leaf_layout b =
 
 abbrev pub function_layout : Frame → Layout
 function_layout f =
-    record { base = None; pointers = 0; locals = f.locals; temporaries = f.temporaries;
-        frame = f.size }
+    record {
+      base = None;
+      pointers = 0;
+      locals = f.locals;
+      temporaries = f.temporaries;
+      frame = f.size;
+    }
 
 abbrev pub leaf : LinearFunction → RoutineView
 leaf f =
-    record { entry = entries.Function f.parameters; frame = None; layout = leaf_layout f.body;
-        body = f.body }
+    record {
+      entry = entries.Function f.parameters;
+      frame = None;
+      layout = leaf_layout f.body;
+      body = f.body;
+    }
 
 abbrev pub framed : LinearFunction → RoutineView
 framed f =
-    let frame = function_frame f.body in record { entry = entries.Function f.parameters;
-        frame = Some frame; layout = function_layout frame; body = f.body }
+    let frame = function_frame f.body in record {
+      entry = entries.Function f.parameters;
+      frame = Some frame;
+      layout = function_layout frame;
+      body = f.body;
+    }
 
 abbrev pub leaf_if : Bool → LinearFunction → RoutineView
 leaf_if true f = leaf f
@@ -88,8 +105,12 @@ function_body p index = (get_or p.functions index (record { parameters = 0; body
 
 abbrev pub funclet_body : LinearProgram → ℕ → LinearBody
 funclet_body p index =
-    (get_or p.funclets index (record { kind = Filter; function = 0; parent = None;
-        body = nothing })).body
+    (get_or p.funclets index (record {
+      kind = Filter;
+      function = 0;
+      parent = None;
+      body = nothing;
+    })).body
 
 -- where the funclet's parent keeps the base, if that is a funclet too
 abbrev pub kept_by : LinearProgram → Option ℕ → Option ℕ
@@ -107,8 +128,13 @@ entry_of (Finally flag) parent = entries.Finally parent flag
 -- the locals are those of the function
 abbrev pub funclet_layout : Frame → Frame → Layout
 funclet_layout function own =
-    record { base = Some own.kept; pointers = own.kept + 8; locals = function.locals;
-        temporaries = own.temporaries; frame = own.size }
+    record {
+      base = Some own.kept;
+      pointers = own.kept + 8;
+      locals = function.locals;
+      temporaries = own.temporaries;
+      frame = own.size;
+    }
 
 abbrev pub funclet : LinearProgram → LinearFunclet → RoutineView
 funclet p f =

@@ -31,9 +31,13 @@ jump_target labels end (kinds.Always target) = address_or labels target end
 
 abbrev pub scope_record : List ℕ → List ℕ → ℕ → Region → ScopeRecord
 scope_record funclets labels end r =
-    record { begin = address_or labels r.begin end; end = address_or labels r.end end;
-        handler_address = handler_address funclets r.kind; jump_target =
-    jump_target labels end r.kind }
+    record {
+      begin = address_or labels r.begin end;
+      end = address_or labels r.end end;
+      handler_address = handler_address funclets r.kind;
+      jump_target =
+          jump_target labels end r.kind;
+    }
 
 abbrev pub scope_records : List ℕ → List ℕ → ℕ → List Region → List ScopeRecord
 scope_records funclets labels end rs = map (scope_record funclets labels end) rs

@@ -83,8 +83,12 @@ thunk_at text s = text + 6 * thunk_number s
 
 abbrev pub thunks_at : ℕ → Thunks
 thunks_at text =
-    record { put = thunk_at text Put; protect = thunk_at text Protect;
-        raise_exception = thunk_at text RaiseException; local_unwind = thunk_at text LocalUnwind }
+    record {
+      put = thunk_at text Put;
+      protect = thunk_at text Protect;
+      raise_exception = thunk_at text RaiseException;
+      local_unwind = thunk_at text LocalUnwind;
+    }
 
 abbrev pub service_thunk : ℕ → ℕ → Service → Instr
 service_thunk text rdata s = thunk (distance (thunk_at text s + 6) (rdata + slot_of s))
@@ -113,8 +117,10 @@ pub record OwnAddresses : Type 0 where
 
 abbrev pub own_addresses : ℕ → RoutineView → OwnAddresses
 own_addresses at r =
-    record { labels = label_list r.layout (at + entry_size r) r.body.code;
-        end = at + routine_size r }
+    record {
+      labels = label_list r.layout (at + entry_size r) r.body.code;
+      end = at + routine_size r;
+    }
 
 -- what every routine refers to: the text's begin, and the addresses of functions and funclets
 pub record SiteView : Type 0 where

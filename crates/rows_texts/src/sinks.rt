@@ -61,7 +61,11 @@ fn endless_run(rt: HostRuntime) -> Result<(), Fail> {
         let status = top(alloc, &words, &mut source, &mut out, &mut err);
         assert_eq!(rt; status, Status::WriteFault, "{command}");
         assert_eq!(rt; out.bytes.as_slice(), b"1\n1\n".as_slice(), "{command}");
-        assert_eq!(rt; err.bytes.as_slice(), b"write fault\n".as_slice(), "{command}");
+        assert_eq!(rt;
+            err.bytes.as_slice(),
+            b"write fault\n".as_slice(),
+            "{command}"
+        );
     }
     Ok(())
 }

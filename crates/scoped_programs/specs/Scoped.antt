@@ -103,7 +103,7 @@ abbrev mutual
   statement_within seen (For ds first c next s) =
       let inner = after_all_declared seen ds in
       all_declared_within seen ds && optional_within inner first && optional_within inner c &&
-              optional_within inner next && statement_within inner s
+      optional_within inner next && statement_within inner s
   statement_within seen (DoWhile s c) = expression_within seen c && statement_within seen s
   statement_within seen (Return e) = optional_within seen e
   statement_within seen Break = true

@@ -47,7 +47,7 @@ PutText taken faults old text new =
 pub record TookEvents {X : Type 0} (taken : X → Option (List ℕ)) (faults : X → ℕ) (old : Lines X)
     (events : List Event) (new : Lines X) : Type 0 where
   pub wrote : Wrote (writer_of taken faults old) (lines old.trace events)
-          (writer_of taken faults new)
+      (writer_of taken faults new)
   pub trace : new.trace ≡ old.trace
   pub same_reference : new.sink.ghost_name ≡ old.sink.ghost_name
 
@@ -90,9 +90,11 @@ module _ (x y z : Writer) (t u : List ℕ) (p : Wrote x t y) (q : Wrote y u z) w
   went_on : y.failed ≡ false → Wrote x (t ++ u) z
   went_on is = record {
     part = p.part ++ q.part;
-    begins =
-        (q.begins.0, ap (λ s. s ++ u) (sym (p.whole is)) ∙ ap (λ s. p.part ++ s) q.begins.1
-            ∙ sym (append_assoc p.part q.part q.begins.0));
+    begins = (
+      q.begins.0,
+      ap (λ s. s ++ u) (sym (p.whole is)) ∙ ap (λ s. p.part ++ s) q.begins.1
+          ∙ sym (append_assoc p.part q.part q.begins.0),
+    );
     grew = grew_more x.taken y.taken z.taken p.part q.part p.grew q.grew;
     whole = λ done. ap (λ s. s ++ q.part) (p.whole is) ∙ ap (λ s. t ++ s) (q.whole done);
     nothing = λ was. not_both y.failed ((p.nothing was).1) is;
@@ -109,15 +111,17 @@ module _ (x y z : Writer) (t u : List ℕ) (p : Wrote x t y) (q : Wrote y u z) w
       let same : p.part ++ q.part ≡ p.part = ap (λ s. p.part ++ s) none ∙ append-nil p.part in
       record {
         part = p.part ++ q.part;
-        begins =
-            (p.begins.0 ++ u, ap (λ s. s ++ u) p.begins.1 ∙ append_assoc p.part p.begins.0 u
-                ∙ ap (λ s. s ++ (p.begins.0 ++ u)) (sym same));
+        begins = (
+          p.begins.0 ++ u,
+          ap (λ s. s ++ u) p.begins.1 ∙ append_assoc p.part p.begins.0 u
+              ∙ ap (λ s. s ++ (p.begins.0 ++ u)) (sym same),
+        );
         grew = grew_more x.taken y.taken z.taken p.part q.part p.grew q.grew;
         whole = λ done. not_both z.failed ((q.nothing was).1) done;
         nothing = λ before. (same ∙ (p.nothing before).0, (q.nothing was).1);
         cause =
             λ is _. (λ below. let rising = q.faults in let rose : y.faults < last_count
-                → x.faults < y.faults = p.cause is was in omega (arith, rose));
+            → x.faults < y.faults = p.cause is was in omega (arith, rose));
         faults = omega (arith, p.faults, q.faults);
         counted = omega (arith, p.counted, q.counted, length-append p.part q.part);
       }

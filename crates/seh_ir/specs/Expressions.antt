@@ -133,7 +133,7 @@ abbrev mutual
   locate_code names (Indirection access e) d at = expression_code names e d at
   locate_code names (Element access e i) d at =
       expression_code names e d at ++ (expression_code names i (d + 1) (at + expression_size e)
-          ++ combine d (Pure (Add Long)) ∷ [])
+      ++ combine d (Pure (Add Long)) ∷ [])
 
   pub arguments_code : Names → Arguments → ℕ → ℕ → List Instruction
   arguments_code names Done d at = []
@@ -154,7 +154,7 @@ abbrev mutual
       ++ (read_code p d old
       ++ (conversion_code before old
       ++ (expression_code names e (old + 1)
-          (at + (locate_size p + (read_size p + conversion_size before)))
+      (at + (locate_size p + (read_size p + conversion_size before)))
       ++ (combine old o
       ∷ (conversion_code after old
       ++ write_code p d old d ∷ [])))))
@@ -173,7 +173,7 @@ abbrev mutual
   node_code names (nodes.Unary o e) d at = expression_code names e d at ++ unary_code o d
   node_code names (nodes.Binary o e f) d at =
       expression_code names e d at ++ (expression_code names f (d + 1) (at + expression_size e)
-          ++ combine d o ∷ [])
+      ++ combine d o ∷ [])
   node_code names (nodes.PointerDifference n e f) d at =
       expression_code names e d at
       ++ (expression_code names f (d + 1) (at + expression_size e)
@@ -205,7 +205,7 @@ abbrev mutual
   node_code names (nodes.Comma e f) d at =
       expression_code names e d at
       ++ (expression_code names f (d + 1) (at + expression_size e)
-          ++ copy (Temporary d) (Temporary (d + 1)) ∷ [])
+      ++ copy (Temporary d) (Temporary (d + 1)) ∷ [])
   node_code names (nodes.Call f es) d at =
       arguments_code names es d at ++ Call f d (argument_count es) ∷ []
   node_code names (nodes.CallBuiltIn k es) d at =

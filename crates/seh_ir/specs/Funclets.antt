@@ -22,7 +22,7 @@ filter_funclet owner names e = record {
   parent = owner.parent;
   body =
       body_with owner.locals (expression_code names e 0 0 ++ instructions.Return (Temporary 0) ∷ [])
-          [];
+      [];
 }
 
 abbrev pub filter_funclets : Owner → Names → Filter → List LinearFunclet
@@ -37,7 +37,7 @@ finally_funclet owner names last = record {
   parent = owner.parent;
   body =
       body_with owner.locals (statements_code (finally_scope names) last 0
-          ++ instructions.Return (Local names.free) ∷ []) (statements_regions last 0);
+      ++ instructions.Return (Local names.free) ∷ []) (statements_regions last 0);
 }
 
 -- in the body of a funclet
@@ -61,11 +61,11 @@ abbrev mutual
   statement_funclets owner names (TryExcept body filter block) =
       statements_funclets owner names body
       ++ (filter_funclets owner (filter_names names) filter
-          ++ statements_funclets owner (except_names names) block)
+      ++ statements_funclets owner (except_names names) block)
   statement_funclets owner names (TryFinally body k last) =
       statements_funclets owner names body
       ++ (finally_funclet owner names last
-          ∷ statements_funclets (in_funclet (k - 1) owner) (finally_names names) last)
+      ∷ statements_funclets (in_funclet (k - 1) owner) (finally_names names) last)
 
   pub statements_funclets : Owner → Names → Statements → List LinearFunclet
   statements_funclets owner names Empty = []

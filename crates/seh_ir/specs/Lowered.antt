@@ -29,14 +29,14 @@ lowered_function f = record {
   parameters = length f.parameters;
   body =
       body_with (all_locals f) (statements_code (scope_of f) f.body 0 ++ constant 0 0
-          ∷ Return (Temporary 0) ∷ []) (statements_regions f.body 0);
+      ∷ Return (Temporary 0) ∷ []) (statements_regions f.body 0);
 }
 
 -- the funclets of a function of this number
 abbrev pub lowered_funclets : ℕ → Function → List LinearFunclet
 lowered_funclets number f =
     statements_funclets (record { function = number; locals = all_locals f; parent = None })
-        (scope_of f).names f.body
+    (scope_of f).names f.body
 
 abbrev pub all_funclets : ℕ → List Function → List LinearFunclet
 all_funclets number [] = []
@@ -44,5 +44,9 @@ all_funclets number (f ∷ fs) = lowered_funclets number f ++ all_funclets (numb
 
 abbrev pub lowered : Program → LinearProgram
 lowered p =
-    record { globals = p.globals; main = p.main; functions = map lowered_function p.functions;
-        funclets = all_funclets 0 p.functions }
+    record {
+      globals = p.globals;
+      main = p.main;
+      functions = map lowered_function p.functions;
+      funclets = all_funclets 0 p.functions;
+    }

@@ -23,7 +23,7 @@ compound_begun p before d =
 abbrev pub compound_ended : Lvalue → Operation → Conversion → ℕ → List Instruction
 compound_ended p o after d =
     combine (d + address_count p) o ∷ (conversion_code after (d + address_count p)
-        ++ write_code p d (d + address_count p) d ∷ [])
+    ++ write_code p d (d + address_count p) d ∷ [])
 
 abbrev pub difference_ended : ℕ → ℕ → List Instruction
 difference_ended n d =
@@ -37,7 +37,7 @@ abbrev pub next_value : Conversion → Operation → ℕ → Conversion → ℕ 
 next_value before o n after old =
     copy (Temporary (old + 1)) (Temporary old)
     ∷ (conversion_code before (old + 1)
-        ++ (constant (old + 2) n ∷ combine (old + 1) o ∷ conversion_code after (old + 1)))
+    ++ (constant (old + 2) n ∷ combine (old + 1) o ∷ conversion_code after (old + 1)))
 
 -- `++` and `--` at a place that was located: the old value stays in one temporary, and the new one
 -- is made in the next
@@ -46,4 +46,4 @@ abbrev pub incremented : Lvalue → Fixity → Conversion → Operation → ℕ 
 incremented p m before o n after d =
     read_code p d (d + address_count p)
     ++ (next_value before o n after (d + address_count p)
-        ++ increment_ended p m (d + address_count p) d)
+    ++ increment_ended p m (d + address_count p) d)

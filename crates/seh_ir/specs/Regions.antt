@@ -33,10 +33,10 @@ abbrev mutual
   statement_regions (TryExcept body filter block) at =
       let target = at + statements_size body + 1 in
       statements_regions body at ++ (region at target (except_kind filter target)
-              ∷ statements_regions block (target + 1))
+      ∷ statements_regions block (target + 1))
   statement_regions (TryFinally body k last) at =
       statements_regions body at ++ region at (at + statements_size body + 1)
-          (kinds.Finally (k - 1)) ∷ []
+      (kinds.Finally (k - 1)) ∷ []
 
   pub statements_regions : Statements → ℕ → List Region
   statements_regions Empty at = []

@@ -41,5 +41,10 @@ passed_in (i ∷ is) = max (instruction_passes i) (passed_in is)
 -- a body of an activation with so many locals
 abbrev pub body_with : ℕ → List Instruction → List Region → LinearBody
 body_with locals code regions =
-    record { locals = locals; temporaries = temporaries_in code; passed = passed_in code;
-        code = code; regions = regions }
+    record {
+      locals = locals;
+      temporaries = temporaries_in code;
+      passed = passed_in code;
+      code = code;
+      regions = regions;
+    }

@@ -29,7 +29,7 @@ decided t w (Past u) = Ok u
 decided t w (Broken y) = Err (Stop y)
 decided t w (Frame f u) =
     by_row t f.frame w.context u (first_with_jump_target
-        (searched f.asked (distance t.base w.context.rip) w.row))
+    (searched f.asked (distance t.base w.context.rip) w.row))
 
 -- at most so many steps of the walk
 unfoldable pub search : ℕ → Functions → Memory → WalkState → SearchResult

@@ -38,7 +38,7 @@ abbrev mutual
       let inner = after_all_declared seen ds in
       all_declared_sets seen ds
       ++ (replicate (discarded_size first + condition_size c) inner
-          ++ (statement_sets free inner s ++ replicate (suc (discarded_size next + 1)) inner))
+      ++ (statement_sets free inner s ++ replicate (suc (discarded_size next + 1)) inner))
   statement_sets free seen (DoWhile s c) =
       statement_sets free seen s ++ replicate (suc (expression_size c + 2)) seen
   statement_sets free seen (Return e) = replicate (returned_size e + 2) seen
@@ -48,7 +48,7 @@ abbrev mutual
   -- an `__except` block sees its code
   statement_sets free seen (TryExcept body filter block) =
       statements_sets free seen body ++ (replicate 2 seen
-          ++ statements_sets (free + 1) (with_local free seen) block)
+      ++ statements_sets (free + 1) (with_local free seen) block)
   statement_sets free seen (TryFinally body k last) =
       statements_sets free seen body ++ replicate 3 seen
 
@@ -86,11 +86,11 @@ abbrev mutual
   statement_funclet_sets free seen (TryExcept body filter block) =
       statements_funclet_sets free seen body
       ++ (filter_sets seen filter ++ statements_funclet_sets (free + 1)
-          (with_local free seen) block)
+      (with_local free seen) block)
   statement_funclet_sets free seen (TryFinally body k last) =
       statements_funclet_sets free seen body
       ++ (finally_sets free seen last ∷ statements_funclet_sets (free + 1)
-          (with_local free seen) last)
+      (with_local free seen) last)
 
   pub statements_funclet_sets : ℕ → Seen → Statements → List (List Seen)
   statements_funclet_sets free seen Empty = []

@@ -97,7 +97,7 @@ module _ (program : LinearProgram) (sets : BodyName → ℕ → Seen) where
   pub record IsSetBody (name : BodyName) (b : LinearBody) : Type 0 where
     pub code : (label : ℕ) (i : Instruction) → slice_get b.code label ≡ Some i → Leads name label i
     pub regions : (label : ℕ) → AllByRecursion (λ (r : Region). holds label r ≡ true
-            → Guards name label r.kind) b.regions
+        → Guards name label r.kind) b.regions
 
   -- where a function begins, its parameters have been set; the flag of a block is one of its
   -- function's locals

@@ -20,8 +20,12 @@ pub record Place : Type 0 where
 -- the machine's handlers are outermost first
 abbrev pub context_at : List Handler → Place → Context
 context_at hs p =
-    record { handlers = reverse hs; activation = p.activation; exception = p.exception;
-        abnormal = p.abnormal }
+    record {
+      handlers = reverse hs;
+      activation = p.activation;
+      exception = p.exception;
+      abnormal = p.abnormal;
+    }
 
 -- what is called
 pub data Callee : Type 0 where

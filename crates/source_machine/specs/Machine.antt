@@ -73,18 +73,23 @@ begun m (tasks.DoIteration s c) p =
     follow m (Push (Body (frames.EndsDoBody s c p)) (Start (tasks.Run s) p))
 begun m (tasks.TryBody ss) p = go_on m (frames.Proceed ss p)
 begun m (tasks.Raise exc) p =
-    record m { state = emit (raise_event exc) m.state;
-        next = frames.Search (length m.handlers) exc p }
+    record m {
+      state = emit (raise_event exc) m.state;
+      next = frames.Search (length m.handlers) exc p;
+    }
 begun m (tasks.RunFilter k e h exc) p =
     unless_deep (is_deep m.state 2) m
     (follow (at_state m (emit (events.Filter k) (hold m.state)))
     (Push (InStatement frames.EndsFilter)
-            (evaluates e (record { activation = h.activation; exception = exc;
-            abnormal = h.abnormal }))))
+    (evaluates e (record {
+      activation = h.activation;
+      exception = exc;
+      abnormal = h.abnormal;
+    }))))
 begun m (tasks.RunFinally k last flag) p =
     unless_deep (is_deep m.state 2) m
     (follow (at_state m (emit (events.Finally k flag) (hold m.state)))
-            (Push (Sequel frames.EndsFinally) (frames.Proceed last (record p { abnormal = flag }))))
+    (Push (Sequel frames.EndsFinally) (frames.Proceed last (record p { abnormal = flag }))))
 begun m (tasks.Retry o a b) p = go_on m (frames.Operate o a b p)
 
 -- ---- places and operations
@@ -109,7 +114,7 @@ operated m o a b p (performing.Gives v memory) =
     go_on (at_state m (set_memory m.state memory)) (Give (Value v))
 operated m o a b p (performing.Raises code access) =
     follow m (Push (Sequel (frames.Retries o a b p))
-        (Start (tasks.Raise (record { code = code.0; flag = false; access = access })) p))
+    (Start (tasks.Raise (record { code = code.0; flag = false; access = access })) p))
 operated m o a b p (performing.Undefined a') = over m (End (Some (Undefined a')))
 
 -- ---- calls
@@ -119,10 +124,15 @@ entered m None vs = go_on m (Give (Value 0))
 entered m (Some f) vs =
     let n = length m.state.frames in
     unless_deep (is_deep m.state 1) m
-    (follow (at_state m (record m.state { frames = m.state.frames
-            ++ (vs ++ replicate (length f.locals) 0) ∷ [] }))
-    (Push (EndsCall n) (frames.Proceed f.body (record { activation = n; exception = no_exception;
-            abnormal = false }))))
+    (follow (at_state m (record m.state {
+      frames = m.state.frames
+          ++ (vs ++ replicate (length f.locals) 0) ∷ [];
+    }))
+    (Push (EndsCall n) (frames.Proceed f.body (record {
+      activation = n;
+      exception = no_exception;
+      abnormal = false;
+    }))))
 
 abbrev pub built_in : Machine → BuiltIn → List ℕ → Place → Machine
 built_in m Put vs p =
@@ -131,10 +141,10 @@ built_in m Protect vs p =
     let a = get_or vs 0 0 in
     let mode = signed W32 (get_or vs 1 0) in
     go_on (at_state m (set_memory m.state (protected m.state.memory a mode)))
-            (Give (Value (of_test (is_some (rights_asked a mode)))))
+    (Give (Value (of_test (is_some (rights_asked a mode)))))
 built_in m RaiseException vs p =
     follow m (Push (Sequel frames.GivesZero)
-        (Start (tasks.Raise (raised (get_or vs 0 0) (get_or vs 1 0))) p))
+    (Start (tasks.Raise (raised (get_or vs 0 0) (get_or vs 1 0))) p))
 
 abbrev pub called : Program → Machine → Callee → List ℕ → Place → Machine
 called program m (frames.Defined f) vs p = entered m (slice_get program.functions f) vs
@@ -146,7 +156,7 @@ called program m (frames.BuiltInOf k) vs p = built_in m k vs p
 abbrev pub declared : Machine → Declared → Place → Machine
 declared m d p =
     follow (with_local m p d.local 0)
-        (evaluated (frames.Initialises d.local p) d.value p (Then (frames.SetLocal d.local 0 p)))
+    (evaluated (frames.Initialises d.local p) d.value p (Then (frames.SetLocal d.local 0 p)))
 
 abbrev pub handler_at : Filter → Place → Handler
 handler_at filter p = record { filter = filter; activation = p.activation; abnormal = p.abnormal }
@@ -167,7 +177,7 @@ abbrev pub asked_by : Machine → Filter → Handler → ℕ → Exception → P
 asked_by m Always h level exc p = go_on m (Give (Target level exc))
 asked_by m (Funclet k e) h level exc p =
     follow m (Push (InStatement (frames.IsAnswered level exc p))
-        (Start (tasks.RunFilter k e h exc) p))
+    (Start (tasks.RunFilter k e h exc) p))
 
 abbrev pub asked : Machine → Option Handler → ℕ → Exception → Place → Machine
 asked m None level exc p = unhandled m exc
@@ -182,7 +192,7 @@ searched m (suc level) exc p = asked m (slice_get m.handlers level) level exc p
 abbrev pub target_landed : Machine → Bool → ℕ → Statements → Place → ℕ → Exception → Machine
 target_landed m true held block p to exc =
     go_on (at_state m (emit (events.Except (record { 0 = exc.code }))
-        (record m.state { held = held }))) (frames.Proceed block (record p { exception = exc }))
+    (record m.state { held = held }))) (frames.Proceed block (record p { exception = exc }))
 target_landed m false held block p to exc = go_on m (Give (Target to exc))
 
 abbrev pub landed : Machine → ℕ → Statements → Place → Result → Machine

@@ -53,11 +53,22 @@ node_plan (nodes.Read l) p = assignment (frames.Reads l p) (frames.Find l p)
 node_plan (nodes.AddressOf l) p = Then (locates l p)
 node_plan (nodes.Assign l e) p = assignment (frames.EvaluatesAssigned l e p) (locates l p)
 node_plan (nodes.CompoundAssign l before o e after) p =
-    assignment (frames.ReadsCompound (record { target = l; before = before; operation = o;
-        value = e; after = after }) p) (locates l p)
+    assignment (frames.ReadsCompound (record {
+      target = l;
+      before = before;
+      operation = o;
+      value = e;
+      after = after;
+    }) p) (locates l p)
 node_plan (nodes.Increment m l before o n after) p =
-    assignment (frames.ReadsStepped (record { fixity = m; target = l; before = before;
-        operation = o; amount = n; after = after }) p) (locates l p)
+    assignment (frames.ReadsStepped (record {
+      fixity = m;
+      target = l;
+      before = before;
+      operation = o;
+      amount = n;
+      after = after;
+    }) p) (locates l p)
 node_plan (nodes.Unary o e) p = operand (frames.Applies o) e p
 node_plan (nodes.Binary o e f) p = operand (frames.EvaluatesRight o f p) e p
 node_plan (nodes.PointerDifference size e f) p = operand (frames.EvaluatesSubtrahend size f p) e p
@@ -119,14 +130,14 @@ assignment_plan (frames.EvaluatesCompound k a p) x =
     assignment (frames.OperatesCompound k a x p) (evaluates k.value p)
 assignment_plan (frames.OperatesCompound k a x p) y =
     assignment (frames.AssignsCompound k a p)
-        (frames.Operate k.operation (converted k.before x) y p)
+    (frames.Operate k.operation (converted k.before x) y p)
 assignment_plan (frames.AssignsCompound k a p) z =
     Then (frames.Put k.target a (converted k.after z) p)
 assignment_plan (frames.ReadsStepped k p) a =
     assignment (frames.OperatesStepped k a p) (frames.Fetch k.target a p)
 assignment_plan (frames.OperatesStepped k a p) x =
     assignment (frames.AssignsStepped k a x p)
-        (frames.Operate k.operation (converted k.before x) k.amount p)
+    (frames.Operate k.operation (converted k.before x) k.amount p)
 assignment_plan (frames.AssignsStepped k a x p) z =
     assignment (frames.GivesStepped k.fixity x) (frames.Put k.target a (converted k.after z) p)
 assignment_plan (frames.GivesStepped m x) new = gives (incremented_value m x new)
@@ -172,7 +183,7 @@ statement_plan (statements.IfElse c s t) p =
     Push (InStatement (frames.Branches s (Some t) p)) (evaluates c p)
 statement_plan (statements.For ds first c next s) p =
     Push (Sequel (frames.EvaluatesFirst first (record { condition = c; next = next; body = s }) p))
-        (frames.DeclareEach ds p)
+    (frames.DeclareEach ds p)
 statement_plan (statements.DoWhile s c) p = Then (Start (tasks.DoIteration s c) p)
 statement_plan (statements.Return e) p = evaluated frames.Returns e p (Then (Give (Returned 0)))
 statement_plan statements.Break p = Then (Give Broke)

@@ -16,7 +16,7 @@ abbrev pub first : Program → ℤ → ℕ → Machine
 first program arg n =
     beginning program n
     (Call (Defined program.main) (main_arguments (slice_get program.functions program.main) arg)
-            (record { activation = 0; exception = no_exception; abnormal = false }))
+    (record { activation = 0; exception = no_exception; abnormal = false }))
 
 -- the machine after so many steps of its own
 abbrev pub after : Program → ℕ → Machine → Machine

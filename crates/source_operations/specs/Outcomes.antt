@@ -28,4 +28,4 @@ violation write (refused.Guard a) = Raises ACCESS_VIOLATION (Some (write, a))
 abbrev pub loaded : Width → ℕ → Memory → Outcome
 loaded w at m =
     unless_refused false (first_refused (may_read m) (bytes_of w) at)
-        (Gives (low w (number_at m.byte (bytes_of w) at)) m)
+    (Gives (low w (number_at m.byte (bytes_of w) at)) m)

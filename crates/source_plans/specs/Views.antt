@@ -49,8 +49,11 @@ exception_of e = record { code = e.code; flag = e.flag; access = e.access }
 
 abbrev pub place_of : Place → frames.Place
 place_of p =
-    record { activation = p.activation; exception = exception_of p.exception;
-        abnormal = p.abnormal }
+    record {
+      activation = p.activation;
+      exception = exception_of p.exception;
+      abnormal = p.abnormal;
+    }
 
 abbrev pub handler_of : Handler → tasks.Handler
 handler_of h =
@@ -58,8 +61,11 @@ handler_of h =
 
 abbrev pub for_loop_of : ForLoop → frames.ForLoop
 for_loop_of k =
-    record { condition = option_map expression k.condition.now;
-        next = option_map expression k.next.now; body = statement k.body.now.value }
+    record {
+      condition = option_map expression k.condition.now;
+      next = option_map expression k.next.now;
+      body = statement k.body.now.value;
+    }
 
 abbrev pub callee_of : Callee → frames.Callee
 callee_of (callees.Defined f) = frames.Defined f
@@ -67,13 +73,24 @@ callee_of (callees.BuiltIn k) = frames.BuiltInOf k
 
 abbrev pub compound_of : Compound → frames.Compound
 compound_of k =
-    record { target = lvalue k.target.now; before = k.before; operation = k.operation;
-        value = expression k.value.now.value; after = k.after }
+    record {
+      target = lvalue k.target.now;
+      before = k.before;
+      operation = k.operation;
+      value = expression k.value.now.value;
+      after = k.after;
+    }
 
 abbrev pub stepped_of : Stepped → frames.Stepped
 stepped_of k =
-    record { fixity = k.fixity; target = lvalue k.target.now; before = k.before;
-        operation = k.operation; amount = k.amount; after = k.after }
+    record {
+      fixity = k.fixity;
+      target = lvalue k.target.now;
+      before = k.before;
+      operation = k.operation;
+      amount = k.amount;
+      after = k.after;
+    }
 
 abbrev pub result_of : Outcome → Result
 result_of (outcomes.Value v) = Value v
@@ -113,7 +130,7 @@ task_of (task_kinds.RunBoxed s) = tasks.Run (statement s.now.value)
 task_of (task_kinds.Declare d) = tasks.Run (statements.Declare (statements.declared d.now))
 task_of (task_kinds.ForIteration k) =
     tasks.ForIteration (option_map expression k.condition.now) (option_map expression k.next.now)
-        (statement k.body.now.value)
+    (statement k.body.now.value)
 task_of (task_kinds.DoIteration s c) = tasks.DoIteration (statement s.now.value) (expression c.now)
 task_of (task_kinds.TryBody ss) = tasks.TryBody (all_statements ss.now.items)
 task_of (task_kinds.Raise exc) = tasks.Raise (exception_of exc)
@@ -241,7 +258,7 @@ next_of (nexts.DeclareName d p) = frames.DeclareName (statements.declared d.now)
 next_of (nexts.SetLocal x v p) = frames.SetLocal x v (place_of p)
 next_of (nexts.Guard body f block p) =
     frames.Guard (all_statements body.now.items) (filter f.now) (all_statements block.now.items)
-        (place_of p)
+    (place_of p)
 next_of (nexts.Answer v) = frames.Answer v
 next_of nexts.LetGo = frames.LetGo
 next_of (nexts.Search level exc p) = frames.Search level (exception_of exc) (place_of p)

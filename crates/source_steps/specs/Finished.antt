@@ -15,7 +15,7 @@ abbrev pub finished : Machine → Operation → ℕ → ℕ → Place → Perfor
 finished m o a b p (performed.Gives v) = go_on m (Give (Value v))
 finished m o a b p (performed.Raises code access) =
     follow m (Push (Sequel (frames.Retries o a b p))
-        (Start (tasks.Raise (record { code = code.0; flag = false; access = access })) p))
+    (Start (tasks.Raise (record { code = code.0; flag = false; access = access })) p))
 finished m o a b p (performed.Undefined at) = over m (End (Some (Undefined at)))
 
 -- a frame's result, where the frame's handler is still there

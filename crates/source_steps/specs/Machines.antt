@@ -13,14 +13,23 @@ use Rattle.source_steps.specs.declared.machine.Step.{Step}
 
 abbrev pub state_of : Machine' → List Event → State
 state_of m es =
-    record { steps_left = m.steps_left; memory = memory_of m.memory;
-        frames = frames_of m.activations; held = m.held; events = es }
+    record {
+      steps_left = m.steps_left;
+      memory = memory_of m.memory;
+      frames = frames_of m.activations;
+      held = m.held;
+      events = es;
+    }
 
 -- with what is done next
 abbrev pub machine_of : Machine' → frames.Next → List Event → Machine
 machine_of m next es =
-    record { state = state_of m es; handlers = map handler_of m.handlers.items;
-        stack = reverse (map frame_of m.stack.items); next = next }
+    record {
+      state = state_of m es;
+      handlers = map handler_of m.handlers.items;
+      stack = reverse (map frame_of m.stack.items);
+      next = next;
+    }
 
 abbrev pub shown_after : List Event → Option Event → List Event
 shown_after es None = es

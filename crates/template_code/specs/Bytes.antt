@@ -22,5 +22,8 @@ sizes (i ∷ is) = size i + sizes is
 -- "Import Address Table")
 abbrev pub thunk : ℕ → Instr
 thunk away =
-    instrs.Jump (Indirect (places.Memory (record { base = bases.Rip; index = None;
-        displacement = away })))
+    instrs.Jump (Indirect (places.Memory (record {
+      base = bases.Rip;
+      index = None;
+      displacement = away;
+    })))

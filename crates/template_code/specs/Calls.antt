@@ -77,8 +77,11 @@ call_finally_code at to = finally_arguments ++ (call (at + sizes finally_argumen
 -- instruction
 abbrev pub address_to : ℕ → ℕ → Instr
 address_to next to =
-    instrs.LoadAddress W64 Rdx (record { base = bases.Rip; index = None;
-        displacement = distance next to })
+    instrs.LoadAddress W64 Rdx (record {
+      base = bases.Rip;
+      index = None;
+      displacement = distance next to;
+    })
 
 abbrev pub local_unwind_code : ℕ → ℕ → ℕ → List Instr
 local_unwind_code at target to =

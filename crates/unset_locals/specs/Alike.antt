@@ -40,8 +40,15 @@ abbrev pub freshly : ℕ → LinearFunction → List ℕ → List ℕ → ℕ �
     → Configuration
 freshly f function arguments values held below store es = record {
   frame =
-      record { body = FunctionBody f; next = 0; activation = length store.activations;
-          exception = no_exception; held = held; temporaries = []; landed = None };
+      record {
+        body = FunctionBody f;
+        next = 0;
+        activation = length store.activations;
+        exception = no_exception;
+        held = held;
+        temporaries = [];
+        landed = None;
+      };
   below = below;
   store = record store { activations = store.activations ++ (arguments ++ values) ∷ [] };
   events = es;

@@ -31,12 +31,12 @@ module _ (c d : Configuration) (f first : ℕ) (function : LinearFunction)
   abbrev pub called : Configuration
   called =
       begin_function f function arguments c.frame.held
-          (Waits (waiting c first).frame ∷ c.below) c.store c.events
+      (Waits (waiting c first).frame ∷ c.below) c.store c.events
 
   abbrev pub called_with : Configuration
   called_with =
       freshly f function arguments values d.frame.held
-          (Waits (waiting d first).frame ∷ d.below) d.store d.events
+      (Waits (waiting d first).frame ∷ d.below) d.store d.events
 
 abbrev pub CallsAreAlike : Type 0
 CallsAreAlike =
@@ -46,22 +46,22 @@ CallsAreAlike =
     → slice_get program.functions f ≡ Some function
     → length values ≡ function.body.locals - function.parameters
     → AreAlike (next_marks program (instructions.Call f first count) c
-        (called c d f first function arguments values) marks)
+    (called c d f first function arguments values) marks)
     (called c d f first function arguments values)
-            (called_with c d f first function arguments values)
+    (called_with c d f first function arguments values)
 
 -- `main` with other numbers in the locals after its arguments
 abbrev pub started_with : LinearProgram → ℤ → LinearFunction → List ℕ → Configuration
 started_with program arg main values =
     freshly program.main main (main_arguments main.parameters arg) values 0 []
-        (record { memory = first_memory program.globals; activations = [] }) []
+    (record { memory = first_memory program.globals; activations = [] }) []
 
 abbrev pub StartsAreAlike : Type 0
 StartsAreAlike =
     (program : LinearProgram) (arg : ℤ) (main : LinearFunction) (values : List ℕ)
     → length values ≡ main.body.locals - main.parameters
     → AreAlike (start_marks program arg main) (start program arg main)
-        (started_with program arg main values)
+    (started_with program arg main values)
 
 -- ---- runs with their marks
 

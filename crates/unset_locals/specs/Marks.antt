@@ -53,7 +53,7 @@ local_given outcome to = None
 abbrev pub local_written : LinearProgram → Instruction → Configuration → Option ℕ
 local_written program (instructions.Compute to o first second) c =
     local_given (outcome_of program o (operand (is_constant o) c first)
-        (operand (is_constant o) c second) c.store.memory) to
+    (operand (is_constant o) c second) c.store.memory) to
 local_written program (instructions.Information to field) c = local_in to
 local_written program (instructions.Landing to) c = local_in to
 local_written program i c = None
@@ -84,12 +84,12 @@ flag_set program false name = None
 abbrev pub marks_left : LinearProgram → Instruction → Configuration → Marks → Marks
 marks_left program (instructions.Call f first count) d marks =
     elim (slice_get program.functions f)
-        [ Some function ↦ marks ++ first_marks count function ∷ [] | None ↦ marks ]
+    [ Some function ↦ marks ++ first_marks count function ∷ [] | None ↦ marks ]
 marks_left program i d marks = take (length d.store.activations) marks
 
 -- the marks after a step by an instruction from c to d
 abbrev pub next_marks : LinearProgram → Instruction → Configuration → Configuration → Marks → Marks
 next_marks program i c d marks =
     with_mark (flag_set program (begins_block (drop (length c.events) d.events)) d.frame.body)
-        d.frame.activation
+    d.frame.activation
     (with_mark (local_written program i c) c.frame.activation (marks_left program i d marks))

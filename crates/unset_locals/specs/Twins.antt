@@ -54,7 +54,7 @@ TwinsCall =
     → nat_lt DEEPEST (length d.store.activations + d.frame.held + 1) ≡ false
     → length values ≡ function.body.locals - function.parameters → AreSmall values
     → GoesAsTwin program (instructions.Call f first count) c
-        (called_with c d f first function arguments values)
+    (called_with c d f first function arguments values)
 
 abbrev pub TwinsStart : Type 0
 TwinsStart =

@@ -47,8 +47,10 @@ scale n = if n == 0 then One else (if n == 1 then Two else (if n == 2 then Four 
 abbrev pub index_of_sib : Prefixes → ℕ → Option Index
 index_of_sib p sib =
     if (8 * bit 1 p.rex + sib / 8 % 8) == 4 then None
-    else Some (record { register = register (8 * bit 1 p.rex + sib / 8 % 8);
-        scale = scale (sib / 64) })
+    else Some (record {
+      register = register (8 * bit 1 p.rex + sib / 8 % 8);
+      scale = scale (sib / 64);
+    })
 
 abbrev pub memory : Base → Option Index → ℕ → RegisterOrMemory
 memory b i d = places.Memory (record { base = b; index = i; displacement = d })
@@ -65,7 +67,7 @@ sib_operand p mode sib bytes =
     if (mode == 0) && (sib % 8 == 5)
     then (signed W32 W64 bytes >>= λ d. Some (memory bases.Nothing (index_of_sib p sib) d.0, d.1))
     else (displaced mode bytes >>= λ d. Some
-            (memory (bases.Register (register_of_low_bits p sib)) (index_of_sib p sib) d.0, d.1))
+    (memory (bases.Register (register_of_low_bits p sib)) (index_of_sib p sib) d.0, d.1))
 
 -- 100 says that SIB follows; 101 with mod 00 is relative to the next instruction
 abbrev pub memory_operand : Prefixes → ℕ → ℕ → List ℕ → Read RegisterOrMemory
@@ -75,7 +77,7 @@ memory_operand p mode low bytes =
     else (if (mode == 0) && (low == 5)
     then (signed W32 W64 bytes >>= λ d. Some (memory bases.Rip None d.0, d.1))
     else (displaced mode bytes >>= λ d. Some
-            (memory (bases.Register (register_of_low_bits p low)) None d.0, d.1)))
+    (memory (bases.Register (register_of_low_bits p low)) None d.0, d.1)))
 
 -- mod 11 is a register
 unfoldable pub place : Prefixes → ℕ → List ℕ → Read RegisterOrMemory
@@ -102,7 +104,7 @@ is_listed p w at = true
 abbrev pub rm_and_register : Prefixes → Width → Width → List ℕ → Read (RegisterOrMemory × Reg)
 rm_and_register p w v bytes =
     modrm_with_register p bytes >>= λ x. if is_listed p w x.0.0 && is_listed p v
-        (places.Register x.0.1) then Some x else None
+    (places.Register x.0.1) then Some x else None
 
 abbrev pub rm_and_opcode_extension : Prefixes → Width → List ℕ → Read (RegisterOrMemory × ℕ)
 rm_and_opcode_extension p w bytes =

@@ -93,13 +93,13 @@ condition n =
 abbrev pub group_1 : Width → Width → ℕ → RegisterOrMemory → List ℕ → Read Instr
 group_1 from w opcode_extension to bytes =
     given (operation opcode_extension) bytes >>= λ o. signed from w o.1 >>= λ v. Some
-        (instrs.Arithmetic o.0 w to (operands.Immediate v.0), v.1)
+    (instrs.Arithmetic o.0 w to (operands.Immediate v.0), v.1)
 
 -- r/m, imm, with /0
 abbrev pub group_11 : Width → ℕ → RegisterOrMemory → List ℕ → Read Instr
 group_11 w opcode_extension to bytes =
     if opcode_extension == 0 then (signed (immediate_of w) w bytes >>= λ v. Some
-        (instrs.Move w to (operands.Immediate v.0), v.1)) else None
+    (instrs.Move w to (operands.Immediate v.0), v.1)) else None
 
 abbrev pub test_immediate : Width → RegisterOrMemory → List ℕ → Read Instr
 test_immediate w at bytes =
@@ -119,7 +119,7 @@ group_3 t w opcode_extension at bytes =
 abbrev pub group_2_immediate : Width → ℕ → RegisterOrMemory → List ℕ → Read Instr
 group_2_immediate w opcode_extension to bytes =
     given (direction opcode_extension) bytes >>= λ d. byte d.1 >>= λ n. Some
-        (instrs.Shift d.0 w to (counts.Immediate n.0), n.1)
+    (instrs.Shift d.0 w to (counts.Immediate n.0), n.1)
 
 abbrev pub group_2_cl : Width → ℕ → RegisterOrMemory → List ℕ → Read Instr
 group_2_cl w opcode_extension to bytes =
@@ -134,9 +134,11 @@ group_5 opcode_extension at bytes =
 -- r, imm of the whole width, with the register in the opcode
 abbrev pub move_immediate : Prefixes → ℕ → List ℕ → Read Instr
 move_immediate p op bytes =
-    number (bytes_of (width_of p)) bytes >>= λ v. Some
-        (instrs.Move (width_of p) (places.Register (register_of_low_bits p op))
-        (operands.Immediate v.0), v.1)
+    number (bytes_of (width_of p)) bytes >>= λ v. Some (
+      instrs.Move (width_of p) (places.Register (register_of_low_bits p op))
+          (operands.Immediate v.0),
+      v.1,
+    )
 
 -- with REX.W alone
 abbrev pub sign_extend : Prefixes → List ℕ → Read Instr
@@ -147,7 +149,7 @@ sign_extend p bytes =
 abbrev pub extend : Extension → Prefixes → ℕ → List ℕ → Read Instr
 extend e p op bytes =
     r_rm p (width_of p) (sized_narrow op)
-        (λ to from. instrs.Extend e (width_of p) to (sized_narrow op) from) bytes
+    (λ to from. instrs.Extend e (width_of p) to (sized_narrow op) from) bytes
 
 abbrev pub load : Width → Reg → RegisterOrMemory → Instr
 load w to from = instrs.Move w (places.Register to) (source from)
@@ -156,7 +158,7 @@ load w to from = instrs.Move w (places.Register to) (source from)
 abbrev pub multiply_by : Prefixes → Width → List ℕ → Read Instr
 multiply_by p from bytes =
     rm_and_register p (width_of p) (width_of p) bytes >>= λ x. signed from
-        (width_of p) x.1 >>= λ v. Some (instrs.MultiplyBy (width_of p) x.0.1 x.0.0 v.0, v.1)
+    (width_of p) x.1 >>= λ v. Some (instrs.MultiplyBy (width_of p) x.0.1 x.0.0 v.0, v.1)
 
 -- r, m
 abbrev pub address_to : Width → Reg → RegisterOrMemory → List ℕ → Read Instr
@@ -166,18 +168,18 @@ address_to w to (places.Register r) bytes = None
 abbrev pub load_address : Prefixes → List ℕ → Read Instr
 load_address p bytes =
     rm_and_register p (width_of p) (width_of p) bytes >>= λ x. address_to
-        (width_of p) x.0.1 x.0.0 x.1
+    (width_of p) x.0.1 x.0.0 x.1
 
 -- the condition in the low four bits of the opcode
 abbrev pub jump_if : Width → ℕ → List ℕ → Read Instr
 jump_if from op bytes =
     given (condition (op % 16)) bytes >>= λ c. signed from W64 c.1 >>= λ d. Some
-        (instrs.JumpIf c.0 d.0, d.1)
+    (instrs.JumpIf c.0 d.0, d.1)
 
 abbrev pub set_if : Prefixes → ℕ → List ℕ → Read Instr
 set_if p op bytes =
     given (condition (op % 16)) bytes >>= λ c. rm_and_opcode_extension p W8 c.1 >>= λ x. Some
-        (instrs.Set c.0 x.0.0, x.1)
+    (instrs.Set c.0 x.0.0, x.1)
 
 abbrev pub jump : Width → List ℕ → Read Instr
 jump from bytes = signed from W64 bytes >>= λ d. Some (instrs.Jump (Relative d.0), d.1)
@@ -196,7 +198,7 @@ abbrev pub arithmetic_form : Prefixes → Operation → ℕ → List ℕ → Rea
 arithmetic_form p o op bytes =
     if op % 8 / 2 == 0 then rm_r p (sized p op) (instrs.Arithmetic o (sized p op)) bytes
     else (if op % 8 / 2 == 1 then r_rm p (sized p op) (sized p op)
-            (λ to from. instrs.Arithmetic o (sized p op) (places.Register to) (source from)) bytes
+    (λ to from. instrs.Arithmetic o (sized p op) (places.Register to) (source from)) bytes
     else None)
 
 abbrev pub arithmetic_row : Prefixes → ℕ → List ℕ → Read Instr
@@ -264,7 +266,7 @@ unfoldable pub after_size : Bool → ℕ → List ℕ → Read Instr
 after_size size b bytes =
     if b / 16 == 4
     then (byte bytes >>= λ c. after_prefixes
-            (record { operand_size = size; has_rex = true; rex = b % 16 }) c.0 c.1)
+    (record { operand_size = size; has_rex = true; rex = b % 16 }) c.0 c.1)
     else after_prefixes (record { operand_size = size; has_rex = false; rex = 0 }) b bytes
 
 unfoldable pub instr : List ℕ → Read Instr

@@ -222,7 +222,7 @@ abbrev pub divide : State → Division → Width → RegisterOrMemory → Answer
 divide s d w by = do
   v ← read s w by
   with_quotient s w (divided d w (joined w (low w (register s.cpu Rdx))
-          (low w (register s.cpu Rax))) v)
+      (low w (register s.cpu Rax))) v)
 
 -- copies of the top bit of RAX
 abbrev pub sign_of_rax : Width → Cpu → ℕ

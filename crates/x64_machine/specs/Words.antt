@@ -13,14 +13,18 @@ flags_of w v carry overflow =
 -- a carry where the sum of the unsigned numbers doesn't fit, an overflow where that of the signed
 -- ones doesn't
 unfoldable pub added : Width → ℕ → ℕ → ℕ × Flags
-added w a b =
-    (low w (a + b), flags_of w (low w (a + b)) (nat_le (limit w) (a + b))
-        (not (is_signed w (signed w a +ℤ signed w b))))
+added w a b = (
+  low w (a + b),
+  flags_of w (low w (a + b)) (nat_le (limit w) (a + b))
+      (not (is_signed w (signed w a +ℤ signed w b))),
+)
 
 unfoldable pub subtracted : Width → ℕ → ℕ → ℕ × Flags
-subtracted w a b =
-    (low w (a + (limit w - b)), flags_of w (low w (a + (limit w - b))) (nat_lt a b)
-        (not (is_signed w (signed w a -ℤ signed w b))))
+subtracted w a b = (
+  low w (a + (limit w - b)),
+  flags_of w (low w (a + (limit w - b))) (nat_lt a b)
+      (not (is_signed w (signed w a -ℤ signed w b))),
+)
 
 unfoldable pub multiplied : Width → ℕ → ℕ → Flags → ℕ × Flags
 multiplied w a b f =

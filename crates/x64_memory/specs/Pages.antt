@@ -25,15 +25,20 @@ has_page pages a = is_some (page_of pages a)
 -- each address has the protection of its page, and there its byte
 unfoldable pub paged : (ℕ → Option Page) → Memory
 paged pages =
-    record { protection = λ a. page_mode (page_of pages a);
-        byte = λ a. page_byte (page_of pages a) (a % PAGE) }
+    record {
+      protection = λ a. page_mode (page_of pages a);
+      byte = λ a. page_byte (page_of pages a) (a % PAGE);
+    }
 
 -- memory with one page in the place of another, or of none
 abbrev pub with_page : Memory → ℕ → Page → Memory
 with_page m k p =
-    record { protection = λ a. if a / PAGE == k then p.protection
-        else m.protection a; byte = λ a. if a / PAGE == k then slice_index p.bytes (a % PAGE)
-    else m.byte a }
+    record {
+      protection = λ a. if a / PAGE == k then p.protection
+          else m.protection a;
+      byte = λ a. if a / PAGE == k then slice_index p.bytes (a % PAGE)
+          else m.byte a;
+    }
 
 abbrev pub zero_page : Protection → Page
 zero_page protection = record { protection = protection; bytes = replicate PAGE 0 }

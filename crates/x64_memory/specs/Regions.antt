@@ -22,8 +22,11 @@ covers r a = nat_le r.start a && nat_lt a r.end
 -- a region over what was there
 abbrev pub with_region : Memory → Region → Memory
 with_region m r =
-    record { protection = λ a. if covers r a then region_mode r
-        else m.protection a; byte = λ a. if covers r a then 0 else m.byte a }
+    record {
+      protection = λ a. if covers r a then region_mode r
+          else m.protection a;
+      byte = λ a. if covers r a then 0 else m.byte a;
+    }
 
 abbrev pub mapped_over : Memory → List Region → Memory
 mapped_over m [] = m
@@ -54,8 +57,11 @@ HoldsArena rs = (a : ℕ) → ARENA_START ≤ a → a < ARENA_END → in_regions
 -- memory with bytes put at a place, whatever the protection there
 abbrev pub filled : Memory → ℕ → List ℕ → Memory
 filled m at xs =
-    record { protection = m.protection; byte = λ a. if nat_le at a && nat_lt a (at + length xs)
-        then slice_index xs (a - at) else m.byte a }
+    record {
+      protection = m.protection;
+      byte = λ a. if nat_le at a && nat_lt a (at + length xs)
+          then slice_index xs (a - at) else m.byte a;
+    }
 
 -- each region begins where the one before ends or above, and none below an address
 abbrev pub AreAscending : ℕ → List Region → Type 0

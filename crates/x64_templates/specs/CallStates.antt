@@ -18,8 +18,13 @@ with_four v a b c d =
 -- the return address is below what was RSP
 abbrev pub pushed : MachineView → ℕ → ℕ → MachineView
 pushed v sp back =
-    record { rax = v.rax; rcx = v.rcx; rdx = v.rdx; rest = with_sp v.rest (sp - 8);
-        memory = with_bytes v.memory (with_number v.memory.byte 8 (sp - 8) back) }
+    record {
+      rax = v.rax;
+      rcx = v.rcx;
+      rdx = v.rdx;
+      rest = with_sp v.rest (sp - 8);
+      memory = with_bytes v.memory (with_number v.memory.byte 8 (sp - 8) back);
+    }
 
 -- n bytes below RSP may be written
 pub record HasBelow (m : Memory) (sp n : ℕ) : Type 0 where

@@ -26,14 +26,14 @@ abbrev pub InstructionDone : Frame → Links → MachineView → ℕ → Flags �
     → Step → Type 0
 InstructionDone p k v here flags b instruction (Next c) =
     RunsTo p (length (template k p.layout here instruction)) (machine v here flags)
-        (here + template_size p.layout instruction) v.rest c
+    (here + template_size p.layout instruction) v.rest c
 InstructionDone p k v here flags b instruction (JumpsTo c label) =
     RunsTo p (length (template k p.layout here instruction)) (machine v here flags)
-        (k.label label) v.rest c
+    (k.label label) v.rest c
 InstructionDone p k v here flags b (instructions.Compute to o first second) (Faults code access) =
     ReachesFault (length (operands_code p.layout o first second)) v here flags
-        (here + sizes (operands_code p.layout o first second)) o (b.slots first)
-        (b.slots second) code access
+    (here + sizes (operands_code p.layout o first second)) o (b.slots first)
+    (b.slots second) code access
 InstructionDone p k v here flags b instruction _ = Unit {0}
 
 -- the same for n instructions, in n to 16 n turns

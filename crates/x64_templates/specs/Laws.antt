@@ -39,7 +39,7 @@ OperationsRun =
     → Holds p v.memory b
     → HasCode v.memory rip (compute_code p.layout to o first second)
     → Computed p to o first second v rip f b
-        (step p.reserved (instructions.Compute to o first second) b)
+    (step p.reserved (instructions.Compute to o first second) b)
 
 -- so many instructions of a body, none of which needs the dispatcher, are run in at least as many
 -- and at most 16 times as many turns
@@ -50,7 +50,7 @@ BodiesRun =
     → IsLinked p k v.memory start body → sp_of v ≡ p.sp → Holds p v.memory b
     → run p.reserved body n number b ≡ Some (last, c)
     → RunsAllTo p n (machine v (start + offset_of p.layout body number) f)
-        (start + offset_of p.layout body last) v.rest c
+    (start + offset_of p.layout body last) v.rest c
 
 -- ---- faults
 
@@ -105,8 +105,11 @@ FunctionsEnter =
     → HasCode v.memory rip (function_entry p.layout count)
     → EntersBody p (length (function_entry p.layout count)) (machine v rip f)
     (rip + sizes (function_entry p.layout count)) (with_sp v.rest p.sp)
-    (record { slots = with_arguments (body_in_memory p.layout p.sp p.base v.memory source).slots
-            arguments 0 count; memory = source })
+    (record {
+      slots = with_arguments (body_in_memory p.layout p.sp p.base v.memory source).slots
+          arguments 0 count;
+      memory = source;
+    })
 
 -- a return leaves the number in RAX and gives the frame back
 abbrev pub BodiesReturn : Type 0
@@ -116,7 +119,7 @@ BodiesReturn =
     → Holds p v.memory b → HasBack v.memory (p.sp + p.layout.frame) back
     → HasCode v.memory rip (return_code p.layout from)
     → Returned (length (return_code p.layout from)) v (p.sp + p.layout.frame + 8) back
-        (b.slots from) rip f
+    (b.slots from) rip f
 
 -- ---- bytes
 

@@ -36,7 +36,7 @@ abbrev pub Retried : Frame → ℕ → Slot → Operation → MachineView → �
     → Type 0
 Retried p next to o v at f b (Gives x m) =
     ReachesBody p (length (finish_code p.layout o to)) (machine v at f) next v.rest
-        (record { slots = with_slot b.slots to x; memory = m })
+    (record { slots = with_slot b.slots to x; memory = m })
 Retried p next to o v at f b (Raises code access) =
     machines.step (machine v at f) ≡ Err (stops.Fault code access)
 Retried p next to o v at f b (Undefined a) = Unit {0}

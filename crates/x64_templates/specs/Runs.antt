@@ -116,8 +116,8 @@ abbrev pub Finished : Frame → Operation → Slot → MachineView → ℕ → F
     → Type 0
 Finished p o to v at flags b (Gives x m) =
     ReachesBody p (length (finish_code p.layout o to)) (machine v at flags)
-        (at + sizes (finish_code p.layout o to)) v.rest
-        (record { slots = with_slot b.slots to x; memory = m })
+    (at + sizes (finish_code p.layout o to)) v.rest
+    (record { slots = with_slot b.slots to x; memory = m })
 Finished p o to v at flags b (Raises code access) =
     machines.step (machine v at flags) ≡ Err (stops.Fault code access)
 Finished p o to v at flags b (Undefined a) = Unit {0}
@@ -128,9 +128,9 @@ abbrev pub Computed : Frame → Slot → Operation → Slot → Slot → Machine
     → Step → Type 0
 Computed p to o first second v rip flags b (Next c) =
     ReachesBody p (length (compute_code p.layout to o first second)) (machine v rip flags)
-        (rip + sizes (compute_code p.layout to o first second)) v.rest c
+    (rip + sizes (compute_code p.layout to o first second)) v.rest c
 Computed p to o first second v rip flags b (Faults code access) =
     ReachesFault (length (operands_code p.layout o first second)) v rip flags
-        (rip + sizes (operands_code p.layout o first second)) o (b.slots first)
-        (b.slots second) code access
+    (rip + sizes (operands_code p.layout o first second)) o (b.slots first)
+    (b.slots second) code access
 Computed p to o first second v rip flags b _ = Unit {0}

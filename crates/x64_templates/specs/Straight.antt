@@ -89,14 +89,16 @@ pub record MachineView : Type 0 where
 
 abbrev pub machine : MachineView → ℕ → Flags → State
 machine v rip flags =
-    record { cpu = record { registers = v.rax ∷ v.rcx ∷ v.rdx ∷ v.rest; rip = rip; flags = flags };
-        memory = v.memory }
+    record {
+      cpu = record { registers = v.rax ∷ v.rcx ∷ v.rdx ∷ v.rest; rip = rip; flags = flags };
+      memory = v.memory;
+    }
 
 -- from any place, with any flags, the instructions lead from one view to another
 abbrev pub Executes : List Instr → MachineView → MachineView → Type 0
 Executes is v w =
     (rip : ℕ) (flags : Flags) → (after : Flags) × (effects is (machine v rip flags)
-        ≡ Ok (machine w (rip + sizes is) after))
+    ≡ Ok (machine w (rip + sizes is) after))
 
 -- the instructions leave this number in RAX and this memory, and change no register but RAX, RCX
 -- and RDX

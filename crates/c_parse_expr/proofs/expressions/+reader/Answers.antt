@@ -239,10 +239,15 @@ signed-returns-in-Some-clause-found t c =
     let level = c.requires.level in
     let h = subst (λ (z : Punctuator). IsPunctuator z c.args.at c.args.tokens.now c.args.rest.now) q c.requires.punctuator in
     rw c.in_ok-expr.ensures.made
-    (record { derives = record
-    { fits = omega arith; spells = record
-    { after_operator = c.args.rest.now; operator = h; operand = k.ensures.found } }; head = tt;
-    closes = k.ensures.stops })
+    (record {
+      derives = record {
+        fits = omega arith;
+        spells = record
+            { after_operator = c.args.rest.now; operator = h; operand = k.ensures.found };
+      };
+      head = tt;
+      closes = k.ensures.stops;
+    })
 
 pub signed-returns-in-Some-unary_of-clause-found : goal.signed-returns-in-Some-unary_of-clause-found
 signed-returns-in-Some-unary_of-clause-found t c =
@@ -252,10 +257,15 @@ signed-returns-in-Some-unary_of-clause-found t c =
     let level = c.requires.level in
     let h = subst (λ (z : Punctuator). IsPunctuator z c.args.at c.args.tokens.now c.args.rest.now) q c.requires.punctuator in
     rw c.in_ok-expr-2.ensures.made
-    (record { derives = record
-    { fits = omega arith; spells = record
-    { after_operator = c.args.rest.now; operator = h; operand = k.ensures.found } }; head = tt;
-    closes = k.ensures.stops })
+    (record {
+      derives = record {
+        fits = omega arith;
+        spells = record
+            { after_operator = c.args.rest.now; operator = h; operand = k.ensures.found };
+      };
+      head = tt;
+      closes = k.ensures.stops;
+    })
 
 pub parenthesised-returns-in_default-clause-refused : goal.parenthesised-returns-in_default-clause-refused
 parenthesised-returns-in_default-clause-refused t c =
