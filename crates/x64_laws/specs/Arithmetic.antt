@@ -1,8 +1,9 @@
 -- What the results of instructions are as whole numbers (Intel manual, volume 2, each instruction's
 -- page).
-use Rattle.std.specs.Prelude.{◌≡◌, ℕ, ◌*◌, ◌^◌, ◌<◌, ◌≤◌, false, ℤ, pos, ◌+ℤ◌, ◌-ℤ◌, ◌*ℤ◌, ◌≤ℤ◌, ◌<ℤ◌}
+use Rattle.std.specs.Prelude.{◌≡◌, ℕ, ◌*◌, ◌^◌, ◌<◌, ◌≤◌, true, false, ℤ, pos, ◌+ℤ◌, ◌-ℤ◌, ◌*ℤ◌, ◌≤ℤ◌, ◌<ℤ◌}
 use Rattle.seh_num.specs.declared.width.Width.{Width}
 use Rattle.seh_num.specs.Widths.{bytes_of, limit, low, signed, wrapped}
+use Rattle.seh_num.specs.Division.{is_signed}
 use Rattle.x64_instr.specs.declared.instruction.Direction.TheVariants.{ArithmeticRight}
 use Rattle.x64_instr.specs.declared.instruction.Extension.TheVariants.{Sign, Zero}
 use Rattle.x64_instr.specs.declared.instruction.Unary.TheVariants.{Negate}
@@ -33,6 +34,15 @@ ImulIsWhole =
     (w : Width) (a b : ℕ) (f : Flags) → a < limit w → b < limit w
     → (multiplied w a b f).1.overflow ≡ false
     → signed w (multiplied w a b f).0 ≡ signed w a *ℤ signed w b
+
+-- CF and OF are set together, exactly where the product is no signed number of the width
+pub record SaysWhetherItFits (w : Width) (a b : ℕ) (f : Flags) : Type 0 where
+  pub together : (multiplied w a b f).1.carry ≡ (multiplied w a b f).1.overflow
+  pub clear : (multiplied w a b f).1.overflow ≡ false → is_signed w (signed w a *ℤ signed w b) ≡ true
+  pub set : (multiplied w a b f).1.overflow ≡ true → is_signed w (signed w a *ℤ signed w b) ≡ false
+
+abbrev pub ImulSaysWhetherItFits : Type 0
+ImulSaysWhetherItFits = (w : Width) (a b : ℕ) (f : Flags) → SaysWhetherItFits w a b f
 
 -- NEG: the signed number taken from 0, modulo the limit
 abbrev pub NegIsNegative : Type 0
