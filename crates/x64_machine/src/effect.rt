@@ -22,7 +22,6 @@ use x64_instr::operand::{Operand, RegisterOrMemory};
 use x64_instr::register::Reg;
 use x64_memory::space::AddressSpace;
 
-
 fn computed(operation: Operation, width: Width, first: u64, second: u64) -> (u64, Flags)
     requires { second < limit width }
     ensures { result ≡ spec.computed operation width first second }

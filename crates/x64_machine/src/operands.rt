@@ -16,7 +16,6 @@ use x64_instr::operand::{Base, MemRef, Operand, RegisterOrMemory, Scale};
 use x64_instr::register::Reg;
 use x64_memory::space::AddressSpace;
 
-
 impl Cpu {
     /// The number in a register.
     pub fn register(&self, register: Reg) -> u64
