@@ -66,9 +66,7 @@ pub fn showing<'p>(event: Event, next: Next<'p>) -> Step<'p>
 pub fn too_deep<'p>() -> Next<'p>
     ensures { views.next_of result ≡ frames.Over (states.End (Some (ends.Deep TOO_DEEP))) }
 {
-    Next::Over(Finish::Ended(Ended::Deep {
-        depth: TOO_DEEP,
-    }))
+    Next::Over(Finish::Ended(Ended::Deep { depth: TOO_DEEP }))
 }
 
 impl<'p> Machine<'p> {
