@@ -5,6 +5,7 @@ use Rattle.host_layout.specs.Ranges.{in_arena}
 use Rattle.host_layout.specs.declared.service.Service.{Service}
 use Rattle.host_layout.specs.declared.service.Service.TheVariants as services
 use Rattle.host_layout.specs.Services.{address_of}
+use Rattle.host_layout.specs.declared.limit.TheConstants.{LEAST_BASE}
 use Rattle.flat_memory.specs.declared.protection.TheConstants.{UNMAPPED}
 use Rattle.flat_memory.specs.Memory.{Memory, may_write}
 use Rattle.x64_instr.specs.declared.instruction.Instr.{Instr}
@@ -246,7 +247,7 @@ module _ (t : Functions) (fs : List Funclet) (program : LinearProgram) (p : Plan
     pub local_unwind : (m : Memory) → FindsReturn t m q.local_unwind 0
     pub check_stack : (m : Memory) (d : ℕ) → d < sizes check_stack
         → FindsReturn t m (q.check_stack + d) 0
-    pub services : (m : Memory) (a : ℕ) → 0 < a → a < 0x100000000 → a ≢ filter_return
+    pub services : (m : Memory) (a : ℕ) → 0 < a → a < LEAST_BASE → a ≢ filter_return
         → a ≢ finally_return → FindsReturn t m a 0
 
   -- ---- all of it

@@ -1,6 +1,7 @@
 -- How deep expressions are nested in a checked program, and how many parameters of an exception it
 -- names.
 use Rattle.std.specs.Prelude.{ℕ, suc, ◌+◌, ◌≤◌, max, List, [], ◌∷◌, Option, Some, None}
+use Rattle.seh_num.specs.declared.size.TheConstants.{EXCEPTION_MAXIMUM_PARAMETERS}
 use Rattle.c_operations.specs.declared.field.Field.{Field}
 use Rattle.c_operations.specs.declared.field.Field.TheVariants.{ExceptionInformation}
 use Rattle.c_checked.specs.Expression as nodes
@@ -132,10 +133,10 @@ abbrev mutual
 
 -- ---- programs
 
--- within the limits of nesting; an exception has 15 parameters at most (Windows headers, `winnt.h`)
+-- within the limits of nesting, and of the parameters of an exception
 pub record IsShallow (fn : Function) : Type 0 where
   pub expressions : most_of expression_nesting fn.body ≤ 64
-  pub parameters : most_of expression_reads fn.body ≤ 15
+  pub parameters : most_of expression_reads fn.body ≤ EXCEPTION_MAXIMUM_PARAMETERS
   pub blocks : statements_notes fn.body ≤ 65
 
 abbrev pub AreShallow : List Function → Type 0
