@@ -51,10 +51,20 @@ call_wraps l room x text ts rest b i h =
       split = i ∙ ap (λ (z : List Token). name ∷ z) h.1.1;
       no = λ n text' other a s y. no_call text' n l room x (name ∷ paren ∷ other) (paren ∷ other) other refl (h.0, (h.1.0, refl)) y;
       has = λ n text' inner a k g. able_now (HasExpression l room) n text' (name ∷ paren ∷ inner)
-          (record { tree = Call x g.trees; derives = λ other. record
-          { fits = omega arith; spells = record
-          { after_name = paren ∷ (inner ++ other); after_opening = inner ++ other; called = refl;
-          opening = (h.0, (h.1.0, refl)); arguments = g.spells other } }; low = g.low });
+          (record {
+            tree = Call x g.trees;
+            derives = λ other. record {
+              fits = omega arith;
+              spells = record {
+                after_name = paren ∷ (inner ++ other);
+                after_opening = inner ++ other;
+                called = refl;
+                opening = (h.0, (h.1.0, refl));
+                arguments = g.spells other;
+              };
+            };
+            low = g.low;
+          });
     }
 
 pub information_wraps : (l room : ℕ) (text : List ℕ) (ts : List Token)
@@ -340,8 +350,14 @@ keyword_begins start end rest = λ text k.
 
 pub punctuator_begins : (s : Punctuator) (start end : ℕ) (rest : List Token) → Opens s → Begins (token (kinds.Punctuator s) start end ∷ rest)
 punctuator_begins s start end rest o =
-    λ text k. record { token = token (kinds.Punctuator s) start end; rest = rest; more = shortest s
-    o; is = refl; has = has_shortest assignment 0 s o start end text (omega arith) }
+    λ text k. record {
+      token = token (kinds.Punctuator s) start end;
+      rest = rest;
+      more = shortest s
+          o;
+      is = refl;
+      has = has_shortest assignment 0 s o start end text (omega arith);
+    }
 
 pub never_kind : (k : Kind) (start end : ℕ) (rest : List Token) → 5 < kind_class k → NeverBegins (token k start end ∷ rest)
 never_kind k start end rest p = λ text other s e after h.

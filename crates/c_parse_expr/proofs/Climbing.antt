@@ -65,8 +65,8 @@ inside : (text : List ℕ) (close : Punctuator) (e f : Expression) (ts mid end :
     → Encloses text close f ts end → (e ≡ f) × HasPunctuator close mid end
 inside text close e f ts mid end p h s x =
     let q = one_expression text comma e f ts mid x.mid h
-        (record { fits = rank_low f; spells = x.spells }) s
-        (has_stops close x.mid end comma x.closed (omega arith)) in
+    (record { fits = rank_low f; spells = x.spells }) s
+    (has_stops close x.mid end comma x.closed (omega arith)) in
     (q.0, subst (λ (z : List Token). HasPunctuator close z end) (sym q.1) x.closed)
 
 pub not_closed : (text : List ℕ) (w : ℕ) (close : Punctuator) (room : ℕ) (e : Expression)
@@ -78,5 +78,5 @@ not_closed text w close room e ts mid p h s n f end x low = n end (inside text c
 pub enclosed_once : (text : List ℕ) (close : Punctuator) (e f : Expression) (ts rest end : List Token) → punctuator_follows close ≡ 17 → Encloses text close e ts rest → Encloses text close f ts end → (e ≡ f) × (rest ≡ end)
 enclosed_once text close e f ts rest end p x y =
     let q = inside text close e f ts x.mid end p (record { fits = rank_low e; spells = x.spells })
-        (has_stops close x.mid rest comma x.closed (omega arith)) y in
+    (has_stops close x.mid rest comma x.closed (omega arith)) y in
     (q.0, has_same close x.mid x.mid rest end refl x.closed q.1)

@@ -93,8 +93,8 @@ there p ps text t ts rest e h = record {
   before = t ∷ [];
   split = e;
   no = λ n text' other a s x field end f. x field end
-  (subst (λ (z : List Token). Form ps text' field z end)
-  (sym (same_tail t f.first other f.after_first f.split)) f.others);
+      (subst (λ (z : List Token). Form ps text' field z end)
+      (sym (same_tail t f.first other f.after_first f.split)) f.others);
   has = λ n text' inner a k f. able_now (HasForm (p ∷ ps)) n text' (t ∷ inner)
       (record {
         field = f.field;
@@ -159,7 +159,7 @@ formed : (text : List ℕ) (at : ℕ) (field : Field) (ts end : List Token)
 formed text at field ts end h =
     let i = h.introduction in
     let last = formed_by punctuators.Arrow [] text field i.after_record h.after_introduction end
-        i.last_arrow h.field in
+    i.last_arrow h.field in
     let named : Form from_record text field i.after_arrow end = record {
       first = token kinds.Identifier i.of_record.0.start i.of_record.0.end;
       after_first = i.after_record;
@@ -168,9 +168,9 @@ formed text at field ts end h =
       others = last;
     } in
     let arrow = formed_by punctuators.Arrow from_record text field i.after_closing i.after_arrow end
-        i.arrow named in
+    i.arrow named in
     let closing = formed_by punctuators.CloseParenthesis from_arrow text field i.after_opening
-        i.after_closing end i.closing arrow in
+    i.after_closing end i.closing arrow in
     formed_by punctuators.OpenParenthesis from_closing text field i.after_keyword i.after_opening
     end
     i.opening closing
@@ -344,8 +344,15 @@ no_close_there text ts a b c value at x w h i =
     (no_close text' (t ∷ u ∷ v ∷ other) (u ∷ v ∷ other) (v ∷ other) other value at y (h.0, (h.1.0, refl)) (i.0, (i.1.0, refl))
     (firsts.no_punctuator punctuators.CloseBracket c other s
     (λ rest g. x (fields.Information value at) rest
-    (record { after_word = a; after_opening = b; after_index = c; word = w; opening = h; index = i;
-    closing = g })))))
+    (record {
+      after_word = a;
+      after_opening = b;
+      after_index = c;
+      word = w;
+      opening = h;
+      index = i;
+      closing = g;
+    })))))
     (λ text' l k. record {
       more = punctuator_token punctuators.CloseBracket ∷ [];
       has = record {

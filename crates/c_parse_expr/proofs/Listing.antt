@@ -123,8 +123,8 @@ more_back text w room (e ∷ es) Done ts rest end h s g low =
 more_back text w room (e ∷ es) (Next x xs) ts rest end h s g low =
     let p = has_same punctuators.Comma ts ts h.after_comma g.after_comma refl h.comma g.comma in
     let q = same_next text e x h.after_comma g.after_comma h.after_next g.after_next p h.next
-        (more_stops text es h.after_next rest h.others s) g.next
-        (spelled_stops text xs g.after_next end g.others) in
+    (more_stops text es h.after_next rest h.others s) g.next
+    (spelled_stops text xs g.after_next end g.others) in
     more_back text w room es xs h.after_next rest end h.others s
     (subst (λ (z : List Token). SpellsMoreArguments text xs z end) (sym q) g.others)
     (λ k. let a = low k in omega arith)
@@ -137,8 +137,8 @@ listed_back text w room (e ∷ es) Done ts rest end h s g low =
     absurd (not_begun text e ts h.after_first end h.first.spells g)
 listed_back text w room (e ∷ es) (Next x xs) ts rest end h s g low =
     let q = same_next text e x ts ts h.after_first g.after_first refl h.first
-        (more_stops text es h.after_first rest h.others s) g.first
-        (spelled_stops text xs g.after_first end g.others) in
+    (more_stops text es h.after_first rest h.others s) g.first
+    (spelled_stops text xs g.after_first end g.others) in
     more_back text w room es xs h.after_first rest end h.others s
     (subst (λ (z : List Token). SpellsMoreArguments text xs z end) (sym q) g.others)
     (λ k. let a = low k in omega arith)

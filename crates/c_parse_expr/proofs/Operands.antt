@@ -222,29 +222,32 @@ none_signed text w l room s at ts rest n pa pr un ca (Call y es) end o low =
 none_signed text w l room s at ts rest n pa pr un ca (Parentheses to e) end o low =
     let h = o.derives.spells in
     let q = punctuator_same s punctuators.OpenParenthesis at to ts ts rest h.after_opening refl n
-        h.opening in
-    pa e end q.0 (record
-    { mid = h.after_inner; spells = subst
-    (λ (z : List Token). SpellsExpression text e z h.after_inner) (sym q.2) h.inner; closed =
-    h.closing }) (λ k. let a = low k in omega arith)
+    h.opening in
+    pa e end q.0 (record {
+      mid = h.after_inner;
+      spells = subst
+          (λ (z : List Token). SpellsExpression text e z h.after_inner) (sym q.2) h.inner;
+      closed =
+          h.closing;
+    }) (λ k. let a = low k in omega arith)
 none_signed text w l room s at ts rest n pa pr un ca (Index e to i) end o low = o.head
 none_signed text w l room s at ts rest n pa pr un ca (Postfix e op to) end o low = o.head
 none_signed text w l room s at ts rest n pa pr un ca (Prefix to op e) end o low =
     let h = o.derives.spells in
     let q = punctuator_same s (increment_punctuator op) at to ts ts rest h.after_operator refl n
-        h.operator in
+    h.operator in
     pr op e end q.0 (subst (λ (z : List Token). Derives text unary e z end) (sym q.2) h.operand)
     o.closes (λ k. let a = low k in omega arith)
 none_signed text w l room s at ts rest n pa pr un ca (Unary to op e) end o low =
     let h = o.derives.spells in
     let q = punctuator_same s (unary_punctuator op) at to ts ts rest h.after_operator refl n
-        h.operator in
+    h.operator in
     un op e end q.0 (subst (λ (z : List Token). Derives text cast e z end) (sym q.2) h.operand)
     o.closes (λ k. let a = low k in omega arith)
 none_signed text w l room s at ts rest n pa pr un ca (Cast to type e) end o low =
     let h = o.derives.spells in
     let q = punctuator_same s punctuators.OpenParenthesis at to ts ts rest h.operator.after_opening
-        refl n h.operator.opening in
+    refl n h.operator.opening in
     ca type e h.operator.after_inner h.after_operator end q.0 o.derives.fits
     (subst (λ (z : List Token). IsType type z h.operator.after_inner) (sym q.2) h.operator.inner)
     h.operator.closing h.operand o.closes (λ k. let a = low k in omega arith)

@@ -8,7 +8,7 @@ use Rattle.c_syntax.specs.declared.operator.Comparison.TheVariants as comparison
 use Rattle.c_syntax.specs.declared.operator.BinaryOperator.TheVariants as binary
 use Rattle.c_syntax.specs.declared.operator.Increment.TheVariants as increments
 use Rattle.c_syntax.specs.Expression.{Expression, height}
-use Rattle.c_syntax.specs.Expressions.{rank, SpellsExpression, Derives}
+use Rattle.c_syntax.specs.Expressions.{rank, Derives}
 use Rattle.c_syntax.specs.Follow.{Stops}
 use Rattle.c_syntax.specs.Operators.{conditional, assignment, level}
 use Rattle.c_syntax.specs.Steps.{Step, At, After, With, Choose, Set, And, apply, bound as bound_of, Tail, Closes}
@@ -178,47 +178,56 @@ begun text e (And at f) ts end h c = record {
 
 pub tailed : (text : List ℕ) (e : Expression) (s : Step) (ts end : List Token) → Begun text s ts end → Tail text s ts end × Closes (apply e s) end
 tailed text e (At at i) ts end b =
-    let inner = b.following in
-    (record {
-      after_opening = b.mid;
-      after_inner = inner.mid;
-      opening = b.begins;
-      inner = inner.spells;
-      closing = inner.closed;
-    }, tt)
-tailed text e (After op at) ts end b =
-    (subst (λ (z : List Token). IsPunctuator (punctuator (Postfix op)) at ts z) b.following
-    b.begins,
-    tt)
+    let inner = b.following in (
+      record {
+        after_opening = b.mid;
+        after_inner = inner.mid;
+        opening = b.begins;
+        inner = inner.spells;
+        closing = inner.closed;
+      },
+      tt,
+    )
+tailed text e (After op at) ts end b = (
+  subst (λ (z : List Token). IsPunctuator (punctuator (Postfix op)) at ts z) b.following
+      b.begins,
+  tt,
+)
 tailed text e (With at op f) ts end b =
     let x = (levels op).0 in
     let d = b.following.derives in
-    let fits = d.fits in
-    (record {
-      after_operator = b.mid;
-      operator = b.begins;
-      operand = record { fits = omega arith; spells = d.spells };
-    }, b.following.stops)
+    let fits = d.fits in (
+      record {
+        after_operator = b.mid;
+        operator = b.begins;
+        operand = record { fits = omega arith; spells = d.spells };
+      },
+      b.following.stops,
+    )
 tailed text e (Choose at f g) ts end b =
     let yes = b.following.operator in
-    let no = b.following.operand in
-    (record {
-      after_operator = b.following.after_operator;
-      operator = record {
-        after_opening = b.mid;
-        after_inner = yes.mid;
-        opening = b.begins;
-        inner = yes.spells;
-        closing = yes.closed;
-      };
-      operand = no.derives;
-    }, no.stops)
-tailed text e (Set at op f) ts end b =
-    (record { after_operator = b.mid; operator = b.begins; operand = b.following.derives },
-    b.following.stops)
-tailed text e (And at f) ts end b =
-    (record { after_operator = b.mid; operator = b.begins; operand = b.following.derives },
-    b.following.stops)
+    let no = b.following.operand in (
+      record {
+        after_operator = b.following.after_operator;
+        operator = record {
+          after_opening = b.mid;
+          after_inner = yes.mid;
+          opening = b.begins;
+          inner = yes.spells;
+          closing = yes.closed;
+        };
+        operand = no.derives;
+      },
+      no.stops,
+    )
+tailed text e (Set at op f) ts end b = (
+  record { after_operator = b.mid; operator = b.begins; operand = b.following.derives },
+  b.following.stops,
+)
+tailed text e (And at f) ts end b = (
+  record { after_operator = b.mid; operator = b.begins; operand = b.following.derives },
+  b.following.stops,
+)
 
 -- ---- refusals after a punctuator
 

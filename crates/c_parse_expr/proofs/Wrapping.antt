@@ -118,9 +118,20 @@ index_wraps room at text ts = record {
   split = refl;
   no = λ n text' other a s x. none_indexed text' n room other x;
   has = λ n text' inner a k h. able_now (HasAfterPunctuator room Index at) n text' inner
-      (record { step = At at h.tree; operation = refl; tail = λ begin other g. let x = h.encloses
-      other in record { after_opening = inner ++ other; after_inner = x.mid; opening = g; inner =
-      x.spells; closing = x.closed }; low = h.low });
+      (record {
+        step = At at h.tree;
+        operation = refl;
+        tail = λ begin other g. let x = h.encloses
+            other in record {
+              after_opening = inner ++ other;
+              after_inner = x.mid;
+              opening = g;
+              inner =
+                  x.spells;
+              closing = x.closed;
+            };
+        low = h.low;
+      });
 }
 
 right_has : (room : ℕ) (op : Infix') (at n : ℕ) (text : List ℕ) (inner : List Token) → HasExpression (right op) room n text inner → HasAfterPunctuator room (Infix op) at n text inner
@@ -128,16 +139,30 @@ right_has room (infixes.Binary op) at n text inner h = record {
   step = With at op h.tree;
   operation = refl;
   tail = λ begin other g. let d = h.derives other in let x = (levels op).0 in let y = d.fits in
-  record { after_operator = inner ++ other; operator = g; operand = record
-  { fits = omega arith; spells = d.spells } };
+      record {
+        after_operator = inner ++ other;
+        operator = g;
+        operand = record
+            { fits = omega arith; spells = d.spells };
+      };
   low = h.low;
 }
 right_has room (infixes.Assign op) at n text inner h =
-    record { step = Set at op h.tree; operation = refl; tail = λ begin other g. record
-    { after_operator = inner ++ other; operator = g; operand = h.derives other }; low = h.low }
+    record {
+      step = Set at op h.tree;
+      operation = refl;
+      tail = λ begin other g. record
+          { after_operator = inner ++ other; operator = g; operand = h.derives other };
+      low = h.low;
+    }
 right_has room infixes.Comma at n text inner h =
-    record { step = And at h.tree; operation = refl; tail = λ begin other g. record
-    { after_operator = inner ++ other; operator = g; operand = h.derives other }; low = h.low }
+    record {
+      step = And at h.tree;
+      operation = refl;
+      tail = λ begin other g. record
+          { after_operator = inner ++ other; operator = g; operand = h.derives other };
+      low = h.low;
+    }
 
 pub right_wraps : (room : ℕ) (op : Infix') (at : ℕ) (text : List ℕ) (ts : List Token) → Wraps (NoExpression (right op) room) (HasExpression (right op) room) (NoneAfterPunctuator room (Infix op)) (HasAfterPunctuator room (Infix op) at) text ts ts
 right_wraps room op at text ts = record {

@@ -216,13 +216,13 @@ named-returns-in_ok-found-in-Some-clause-found t c =
     let made = call_is c.args.name k.found.exprs in
     let call : SpellsExpression c.args.text.now (Call c.args.name es) c.args.tokens.now
     k.found.rest.now =
-        record {
-          after_name = c.args.rest.now;
-          after_opening = c.in-Some.rest.now;
-          called = c.requires.name;
-          opening = c.in-Some.ensures.found;
-          arguments = k.ensures.found;
-        } in
+    record {
+      after_name = c.args.rest.now;
+      after_opening = c.in-Some.rest.now;
+      called = c.requires.name;
+      opening = c.in-Some.ensures.found;
+      arguments = k.ensures.found;
+    } in
     rw made
     (record { derives = record { fits = omega arith; spells = call }; head = tt; closes = tt })
 
@@ -258,10 +258,15 @@ signed-returns-in-Some-clause-found t c =
     let level = c.requires.level in
     let h = subst (λ (z : Punctuator). IsPunctuator z c.args.at c.args.tokens.now c.args.rest.now) q c.requires.punctuator in
     rw c.in_ok-expr.ensures.made
-    (record { derives = record
-    { fits = omega arith; spells = record
-    { after_operator = c.args.rest.now; operator = h; operand = k.ensures.found } }; head = tt;
-    closes = k.ensures.stops })
+    (record {
+      derives = record {
+        fits = omega arith;
+        spells = record
+            { after_operator = c.args.rest.now; operator = h; operand = k.ensures.found };
+      };
+      head = tt;
+      closes = k.ensures.stops;
+    })
 
 pub signed-returns-in-Some-unary_of-clause-found : goal.signed-returns-in-Some-unary_of-clause-found
 signed-returns-in-Some-unary_of-clause-found t c =
@@ -271,10 +276,15 @@ signed-returns-in-Some-unary_of-clause-found t c =
     let level = c.requires.level in
     let h = subst (λ (z : Punctuator). IsPunctuator z c.args.at c.args.tokens.now c.args.rest.now) q c.requires.punctuator in
     rw c.in_ok-expr-2.ensures.made
-    (record { derives = record
-    { fits = omega arith; spells = record
-    { after_operator = c.args.rest.now; operator = h; operand = k.ensures.found } }; head = tt;
-    closes = k.ensures.stops })
+    (record {
+      derives = record {
+        fits = omega arith;
+        spells = record
+            { after_operator = c.args.rest.now; operator = h; operand = k.ensures.found };
+      };
+      head = tt;
+      closes = k.ensures.stops;
+    })
 
 pub parenthesised-returns-in_default-clause-refused : goal.parenthesised-returns-in_default-clause-refused
 parenthesised-returns-in_default-clause-refused t c =
@@ -305,17 +315,17 @@ parenthesised-returns-in_ok-operand-in-Some-clause-found t c =
     let m = c.if-level-eq2.false in
     let to_cast : SpellsExpression c.args.text.now (Cast c.args.at to e) c.args.tokens.now
     k.inner.rest.now =
-        record {
-          after_operator = c.in-Some-after.rest.now;
-          operator = record {
-            after_opening = c.args.rest.now;
-            after_inner = c.in-Some.rest.now;
-            opening = c.requires.punctuator;
-            inner = c.in-Some.ensures.found;
-            closing = c.in-Some-after.ensures.found;
-          };
-          operand = k.ensures.found;
-        } in
+    record {
+      after_operator = c.in-Some-after.rest.now;
+      operator = record {
+        after_opening = c.args.rest.now;
+        after_inner = c.in-Some.rest.now;
+        opening = c.requires.punctuator;
+        inner = c.in-Some.ensures.found;
+        closing = c.in-Some-after.ensures.found;
+      };
+      operand = k.ensures.found;
+    } in
     rw made
     (record {
       derives = record { fits = omega arith; spells = to_cast };
@@ -335,17 +345,17 @@ grouped-returns-clause-found t c =
     let boxed = c.in_ok-inner-2.inner in
     let same : boxed.value ≡ k.inner.expr = c.in_ok-inner-2.ensures.ok in
     let made =
-        parentheses_is c.args.at boxed ∙ ap (λ x. Parentheses c.args.at (expression x)) same in
+    parentheses_is c.args.at boxed ∙ ap (λ x. Parentheses c.args.at (expression x)) same in
     let found = k.ensures.found in
     let grouped : SpellsExpression c.args.text.now (Parentheses c.args.at e) c.args.tokens.now
     k.inner.rest.now =
-        record {
-          after_opening = c.args.rest.now;
-          after_inner = found.mid;
-          opening = c.requires.punctuator;
-          inner = found.spells;
-          closing = found.closed;
-        } in
+    record {
+      after_opening = c.args.rest.now;
+      after_inner = found.mid;
+      opening = c.requires.punctuator;
+      inner = found.spells;
+      closing = found.closed;
+    } in
     rw made
     (record { derives = record { fits = omega arith; spells = grouped }; head = tt; closes = tt })
 
