@@ -24,28 +24,79 @@ mutual
   expression text (Constant at literal) ts rest h = let a = by_kind _ at ts rest h in omega arith
   expression text (Variable name) ts rest h = let a = ap length h in omega arith
   expression text (Information at f) ts rest h = let a = shorter.expression text (Information at f) ts rest h in omega arith
-  expression text (Call name es) ts rest h = let a = ap length h.2 in let b = ap length h.3.1.1 in let c = arguments text es h.1 rest h.4 in omega arith
-  expression text (Parentheses at e) ts rest h = let a = ap length h.2.1 in let b = expression text e h.0 h.1 h.3 in let c = ap length h.4.1.1 in omega arith
+  expression text (Call name es) ts rest h =
+      let a = ap length h.called in
+      let b = ap length h.opening.1.1 in
+      let c = arguments text es h.after_opening rest h.arguments in
+      omega arith
+  expression text (Parentheses at e) ts rest h =
+      let a = ap length h.opening.1 in
+      let b = expression text e h.after_opening h.after_inner h.inner in
+      let c = ap length h.closing.1.1 in
+      omega arith
   expression text (Index e at i) ts rest h =
-      let a = expression text e ts h.0 h.4 in let b = ap length h.5.1 in let c = expression text i h.1 h.2 h.6 in let d = ap length h.7.1.1 in omega arith
-  expression text (Postfix e op at) ts rest h = let a = expression text e ts h.0 h.2 in let b = ap length h.3.1 in omega arith
-  expression text (Prefix at op e) ts rest h = let a = ap length h.1.1 in let b = expression text e h.0 rest h.3 in omega arith
-  expression text (Unary at op e) ts rest h = let a = ap length h.1.1 in let b = expression text e h.0 rest h.3 in omega arith
+      let a = expression text e ts h.after_operand h.operand.spells in
+      let b = ap length h.step.opening.1 in
+      let c = expression text i h.step.after_opening h.step.after_inner h.step.inner in
+      let d = ap length h.step.closing.1.1 in
+      omega arith
+  expression text (Postfix e op at) ts rest h =
+      let a = expression text e ts h.after_operand h.operand.spells in
+      let b = ap length h.step.1 in
+      omega arith
+  expression text (Prefix at op e) ts rest h =
+      let a = ap length h.operator.1 in
+      let b = expression text e h.after_operator rest h.operand.spells in
+      omega arith
+  expression text (Unary at op e) ts rest h =
+      let a = ap length h.operator.1 in
+      let b = expression text e h.after_operator rest h.operand.spells in
+      omega arith
   expression text (Cast at to e) ts rest h =
-      let a = ap length h.3.1 in let b = base to.base h.0 h.4.0 h.4.1 in let c = stars to.pointers h.4.0 h.1 h.4.2 in let d = ap length h.5.1.1 in let f = expression text e h.2 rest h.7 in omega arith
-  expression text (Binary e at op f) ts rest h = let a = expression text e ts h.0 h.3 in let b = ap length h.4.1 in let c = expression text f h.1 rest h.6 in omega arith
+      let a = ap length h.operator.opening.1 in
+      let b = base to.base h.operator.after_opening h.operator.inner.0 h.operator.inner.1 in
+      let c = stars to.pointers h.operator.inner.0 h.operator.after_inner h.operator.inner.2 in
+      let d = ap length h.operator.closing.1.1 in
+      let f = expression text e h.after_operator rest h.operand.spells in
+      omega arith
+  expression text (Binary e at op f) ts rest h =
+      let a = expression text e ts h.after_operand h.operand.spells in
+      let b = ap length h.step.operator.1 in
+      let c = expression text f h.step.after_operator rest h.step.operand.spells in
+      omega arith
   expression text (Conditional e at f g) ts rest h =
-      let a = expression text e ts h.0 h.5 in let b = ap length h.6.1 in let c = expression text f h.1 h.2 h.7 in let d = ap length h.8.1.1 in let i = expression text g h.3 rest h.10 in omega arith
-  expression text (Assign e at op f) ts rest h = let a = expression text e ts h.0 h.3 in let b = ap length h.4.1 in let c = expression text f h.1 rest h.6 in omega arith
-  expression text (Comma e at f) ts rest h = let a = expression text e ts h.0 h.3 in let b = ap length h.4.1 in let c = expression text f h.1 rest h.6 in omega arith
+      let a = expression text e ts h.after_operand h.operand.spells in
+      let b = ap length h.step.operator.opening.1 in
+      let c = expression text f h.step.operator.after_opening h.step.operator.after_inner
+          h.step.operator.inner in
+      let d = ap length h.step.operator.closing.1.1 in
+      let i = expression text g h.step.after_operator rest h.step.operand.spells in
+      omega arith
+  expression text (Assign e at op f) ts rest h =
+      let a = expression text e ts h.after_operand h.operand.spells in
+      let b = ap length h.step.operator.1 in
+      let c = expression text f h.step.after_operator rest h.step.operand.spells in
+      omega arith
+  expression text (Comma e at f) ts rest h =
+      let a = expression text e ts h.after_operand h.operand.spells in
+      let b = ap length h.step.operator.1 in
+      let c = expression text f h.step.after_operator rest h.step.operand.spells in
+      omega arith
 
   arguments : (text : List ℕ) (es : Arguments) (ts rest : List Token) → SpellsArguments text es ts rest → nodes_of_arguments es + length rest ≤ length ts
   arguments text Done ts rest h = let a = ap length h.1.1 in omega arith
-  arguments text (Next e es) ts rest h = let a = expression text e ts h.0 h.2 in let b = more text es h.0 rest h.3 in omega arith
+  arguments text (Next e es) ts rest h =
+      let a = expression text e ts h.after_first h.first.spells in
+      let b = more text es h.after_first rest h.others in
+      omega arith
 
   more : (text : List ℕ) (es : Arguments) (ts rest : List Token) → SpellsMoreArguments text es ts rest → nodes_of_arguments es + length rest ≤ length ts
   more text Done ts rest h = let a = ap length h.1.1 in omega arith
-  more text (Next e es) ts rest h = let a = ap length h.2.1.1 in let b = expression text e h.0 h.1 h.4 in let c = more text es h.1 rest h.5 in omega arith
+  more text (Next e es) ts rest h =
+      let a = ap length h.comma.1.1 in
+      let b = expression text e h.after_comma h.after_next h.next.spells in
+      let c = more text es h.after_next rest h.others in
+      omega arith
 
 optional : (text : List ℕ) (e : Option Expression) (ts rest : List Token) → IsOptional text e ts rest → nodes_of_optional e + length rest ≤ length ts
 optional text None ts rest h = let a = ap length h in omega arith

@@ -8,9 +8,9 @@ use Rattle.c_syntax.specs.declared.operator.Comparison.TheVariants as comparison
 use Rattle.c_syntax.specs.declared.operator.BinaryOperator.TheVariants as binary
 use Rattle.c_syntax.specs.declared.operator.Increment.TheVariants as increments
 use Rattle.c_syntax.specs.Expression.{Expression, height}
-use Rattle.c_syntax.specs.Expressions.{rank, SpellsExpression, Derives}
+use Rattle.c_syntax.specs.Expressions.{rank, Derives}
 use Rattle.c_syntax.specs.Follow.{Stops}
-use Rattle.c_syntax.specs.Operators.{level}
+use Rattle.c_syntax.specs.Operators.{conditional, assignment, level}
 use Rattle.c_syntax.specs.Steps.{Step, At, After, With, Choose, Set, And, apply, bound as bound_of, Tail, Closes}
 use Rattle.c_syntax.specs.Tokens.{IsPunctuator}
 use Rattle.c_syntax.proofs.Fronts.{punctuator_same}

@@ -49,9 +49,19 @@ shape text (Variable named) ts rest y s = record { n = 0; high = refl; mid = ts;
 shape text (Information at field) ts rest y s = absurd cc
 shape text (Call named es) ts rest y s = absurd cc
 shape text (Parentheses at e) ts rest y s =
-    let x = shape text e s.0 s.1 y s.3 in
+    let x = shape text e s.after_opening s.after_inner y s.inner in
     let h = x.high in
-    record { n = suc x.n; high = omega arith; mid = x.mid; opening = (s.0, (at, s.2), x.opening); atom = x.atom; following = x.following; is = x.is; yes = x.yes; closing = (s.1, x.closing, s.4) }
+    record {
+      n = suc x.n;
+      high = omega arith;
+      mid = x.mid;
+      opening = (s.after_opening, (at, s.opening), x.opening);
+      atom = x.atom;
+      following = x.following;
+      is = x.is;
+      yes = x.yes;
+      closing = (s.after_inner, x.closing, s.closing);
+    }
 shape text (Index a at i) ts rest y s = absurd cc
 shape text (Postfix e op at) ts rest y s = absurd cc
 shape text (Prefix at op e) ts rest y s = absurd cc

@@ -125,7 +125,13 @@ nested (suc n) text e ts mid mid' rest o s c =
     let x = nested n text e o.0 mid mid' c.0 o.2 s c.1 in
     record {
       tree = Parentheses o.1.0 x.tree;
-      spells = (o.0, c.0, o.1.1, x.spells, c.2);
+      spells = record {
+        after_opening = o.0;
+        after_inner = c.0;
+        opening = o.1.1;
+        inner = x.spells;
+        closing = c.2;
+      };
       high = let h = x.high in omega arith;
       same = x.same;
       rank = λ l. refl;
