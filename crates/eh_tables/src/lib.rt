@@ -10,6 +10,7 @@ mod fields;
 mod handler;
 mod info;
 mod laws;
+mod layout;
 mod lookup;
 mod range;
 mod refusal;
