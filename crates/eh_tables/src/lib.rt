@@ -15,6 +15,7 @@ mod fields;
 mod handler;
 mod info;
 mod laws;
+mod layout;
 mod lookup;
 mod range;
 mod refusal;
