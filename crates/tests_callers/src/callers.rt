@@ -172,7 +172,8 @@ C3             | ret                    | - 0 8 0          |        | Wine's fra
 /// What is an epilogue and what is none. Here an epilogue ends in a plain `ret`, or in a jump through memory
 /// whose ModRM mod is 00, as the x64 ABI has it. Wine takes no jump through memory for an end, and answers
 /// as in the body; and it takes a `ret` with a prefix or an operand for an end, and a jump to a `ret` of the
-/// same function, where our answer is that of the body.
+/// same function, where our answer is that of the body. A REX prefix is one too: the machine runs such a
+/// `ret`, and it ends no epilogue.
 const ENDS: &str = r"
 # a frame register, lea by one byte, and a jump through memory
 info 09 0A 03 15 0A 03 05 32 01 50 00 00 00 02 00 00
@@ -243,6 +244,9 @@ with rbp=50
 F3 C3          | rep ret            | handler 30 38 0 | rsi=28 | Wine: - 0 8 0
 5E             | pop rsi            | handler 30 38 0 | rsi=28 | Wine: - 8 18 0, rsi=0
 C2 08 00       | ret 8              | handler 30 38 0 | rsi=28 | Wine: - 0 10 0
+48 83 C4 28    | add rsp,0x28       | handler 30 38 0 | rsi=28 | Wine: - 30 38 0, rsi=28
+5E             | pop rsi            | handler 30 38 0 | rsi=28 | Wine: - 8 10 0, rsi=0
+48 C3          | ret with REX.W     | handler 30 38 0 | rsi=28 | Wine: - 0 8 0
 5E             | pop rsi            | handler 30 38 0 | rsi=28
 E9 00 10 00 00 | jmp 0x1000 further | handler 30 38 0 | rsi=28
 5E             | pop rsi            | handler 30 38 0 | rsi=28
