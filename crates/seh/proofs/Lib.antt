@@ -4,3 +4,4 @@ pub mod Images
 pub mod Compiled
 pub mod Headline
 pub mod Meanings
+pub mod Completeness

@@ -1,5 +1,6 @@
 //! What the commands come to together.
 
+ghost use Rattle.seh.specs.Completeness.{AcceptedTextsCompile, CompiledImagesRun};
 ghost use Rattle.seh.specs.Headline.{Headline, NothingMore, Walks};
 
 /// The headline: where `compile` answered with an image for a text, each run of `exec` on it with an
@@ -14,6 +15,14 @@ ghost use Rattle.seh.specs.Headline.{Headline, NothingMore, Walks};
 pub fn headline()
     ensures shows { Headline }
     ensures nothing_more { NothingMore }
+{}
+
+/// Completeness: no accepted text is refused, and no image of one. What `compile` answers to an accepted
+/// text is that its image was written, and what `exec` answers to such an image is the end of its run;
+/// but for a fault of the sink and want of memory.
+pub fn completeness()
+    ensures compiles { AcceptedTextsCompile }
+    ensures runs { CompiledImagesRun }
 {}
 
 /// At every turn of a run of the image, up to its end, the walk over the stack gives exactly the shadow, a
