@@ -6,7 +6,7 @@ ghost use Rattle.seh.specs.Headline.{Headline, NothingMore, Walks};
 /// The headline: where `compile` answered with an image for a text, each run of `exec` on it with an
 /// argument from 0 to below 2^63 and at least `256 * n + 256` turns shows first what the text's program
 /// shows within n steps. Where the program returns or dies of an exception within n steps, the run has
-/// the same end, and its whole text is that of the program's meaning.
+/// the same end, with its status, and its whole text is that of the program's meaning.
 ///
 /// And nothing more: the events of a run are the first that the program shows within
 /// `(turns + 1) * (8 * L + 256)` steps, with L the length of the text in bytes, and where it has ended
