@@ -5,3 +5,4 @@ pub mod Compiled
 pub mod Headline
 pub mod Meanings
 pub mod Completeness
+pub mod TamePrograms

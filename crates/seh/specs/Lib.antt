@@ -7,3 +7,4 @@ pub mod Headline
 pub mod Meanings
 pub mod Commands
 pub mod Completeness
+pub mod TamePrograms

@@ -2,6 +2,7 @@
 
 ghost use Rattle.seh.specs.Completeness.{AcceptedTextsCompile, CompiledImagesRun};
 ghost use Rattle.seh.specs.Headline.{Headline, NothingMore, Walks};
+ghost use Rattle.seh.specs.TamePrograms.{TameProgramsWalk, TameProgramsEnd};
 
 /// The headline: where `compile` answered with an image for a text, each run of `exec` on it with an
 /// argument from 0 to below 2^63 and at least `256 * n + 256` turns shows first what the text's program
@@ -32,4 +33,12 @@ pub fn completeness()
 /// sentence does.
 pub fn walks()
     ensures shadow { Walks }
+{}
+
+/// Of a program that is Tame, which however long it runs touches no reserved byte and is never more than
+/// 1,000 deep, this holds at every turn of its image's run, without a bound; and the run never ends at the
+/// stack's limit or at a place where no turn can be made.
+pub fn tame_programs()
+    ensures walk { TameProgramsWalk }
+    ensures end { TameProgramsEnd }
 {}
