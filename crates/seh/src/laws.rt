@@ -27,7 +27,7 @@ pub fn completeness()
 {}
 
 /// At every turn of a run of the image, up to its end, the walk over the stack gives exactly the shadow, a
-/// list that the machine's model keeps with no look at unwind information: for each routine that has not
+/// list that the machine's model keeps with no look at unwind codes: for each routine that has not
 /// returned, innermost first, the return address, the stack pointer after the return and the nonvolatile
 /// registers that its caller had at the call. It ends at RIP 0. This holds as far as the headline's second
 /// sentence does.
