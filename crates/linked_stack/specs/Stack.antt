@@ -112,7 +112,10 @@ pub record IsWithin (a from to : ℕ) : Type 0 where
   pub low : from ≤ a
   pub high : a < to
 
--- of a function its return address, of a record all but its home space
+-- What a walk reads of each item's memory:
+-- of a body's frame the return address above it, of a leaf function the one at RSP;
+-- of a suspended search and a suspended unwinding the record, but for the home space at its begin.
+-- The slots of a waiting body are its own too, and no walk reads them: `BodyWaits` in Linked.antt.
 abbrev pub OwnedBy : Context → StackItem → ℕ → Type 0
 OwnedBy c (Framed f) a = IsWithin a (rsp c + f.size) (rsp c + f.size + 8)
 OwnedBy c (Leaf back) a = IsWithin a (rsp c) (rsp c + 8)

@@ -15,7 +15,7 @@ use Rattle.linear_machine.specs.Unwinding.{flag_of, begin_finally}
 use Rattle.linked_stack.specs.ImagePlan.{Plan}
 use Rattle.linked_stack.specs.Linked.{Activation, locals_of}
 use Rattle.linked_stack.specs.States.{Arrives}
-use Rattle.whole_runs.proofs.Matches.{LeadsTo}
+use Rattle.whole_runs.specs.Comes.{LeadsTo}
 use Rattle.body_states.specs.Sites.{Sites}
 use Rattle.body_states.specs.Programs.{IsMachineMemory}
 use Rattle.body_states.specs.Bodies.{Begins}

@@ -17,7 +17,7 @@ use Rattle.linear_machine.specs.Frames.{Item, Waits, Searches, Unwinds, Store, C
 use Rattle.linked_stack.specs.ImagePlan.{Plan}
 use Rattle.linked_stack.specs.States.{IsSane}
 use Rattle.whole_runs.specs.Shadow.{drop_below, started, WalkGives, KeepsShadow}
-use Rattle.whole_runs.proofs.Matches.{LeadsTo}
+use Rattle.whole_runs.specs.Comes.{LeadsTo}
 use Rattle.body_states.specs.Sites.{Sites}
 use Rattle.body_states.specs.Programs.{WorksAgain, IsMachineMemory}
 use Rattle.body_states.specs.Bodies.{InBody, Begins, turns_left}

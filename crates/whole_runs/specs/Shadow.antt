@@ -1,4 +1,4 @@
--- The shadow of a run: of each routine that has not returned, innermost first, what its caller goes on with. It is kept by what each turn does, with no look at unwind information.
+-- The shadow of a run: of each routine that has not returned, innermost first, what its caller goes on with. It is kept by what each turn does, with no look at unwind codes: of the tables it takes the funclets alone, which scope records name, to know where one starts.
 use Rattle.std.specs.Prelude.{◌≡◌, ℕ, zero, suc, ◌+◌, ◌≤◌, Bool, true, false, nat_lt, List, [], ◌∷◌, map, drop, option_map, Option, Some, None, Result, Ok, Err, slice_set}
 use Rattle.seh_num.specs.declared.event.Event.{Event}
 use Rattle.seh_num.specs.declared.event.Event.TheVariants as events
@@ -29,6 +29,7 @@ abbrev pub caller_at : State → Context
 caller_at s = record { rip = number_at s.memory.byte 8 (register s.cpu Rsp); kept = slice_set (context_of s.cpu).kept 0 (register s.cpu Rsp + 8) }
 
 -- the routines that were entered below a stack pointer are gone: their return addresses were 8 bytes below where their callers go on
+-- (the stack pointers of the list rise from the first entry on, so those to drop are the first)
 abbrev pub if_below : List Context → List Context → Bool → List Context
 if_below others cs true = others
 if_below others cs false = cs
