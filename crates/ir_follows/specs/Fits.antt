@@ -7,7 +7,7 @@ use Rattle.c_checked.specs.Expression.{Expression, On, Node, Lvalue, Local, Glob
 use Rattle.c_checked.specs.Program.{Program, Function}
 use Rattle.c_checked.specs.Sound.{is_in_memory}
 use Rattle.linear_machine.specs.Instructions.{is_constant, count_of}
-use Rattle.seh_ir.specs.Expressions.{argument_count}
+use Rattle.ir_expressions.specs.Expressions.{argument_count}
 
 -- a function that takes so many arguments
 abbrev pub IsCalled : Program → ℕ → ℕ → Type 0

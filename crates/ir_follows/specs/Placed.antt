@@ -13,13 +13,13 @@ use Rattle.linear_code.specs.declared.program.FuncletKind.TheVariants as kinds
 use Rattle.linear_code.specs.declared.program.RegionKind.TheVariants as regions
 use Rattle.linear_code.specs.Program.{LinearProgram, LinearFunction, LinearFunclet}
 use Rattle.linear_machine.specs.Frames.{BodyName, FunctionBody, FuncletBody}
-use Rattle.seh_ir.specs.declared.scope.Names.{Names}
-use Rattle.seh_ir.specs.declared.scope.Way.{Way}
-use Rattle.seh_ir.specs.declared.scope.Scope.{Scope}
-use Rattle.seh_ir.specs.declared.scope.Way.TheVariants.{Nowhere, Jumps, Unwinds}
-use Rattle.seh_ir.specs.Scope.{filter_names, finally_scope, in_loop, in_try, in_except, in_guarded}
+use Rattle.ir_expressions.specs.declared.scope.Names.{Names}
+use Rattle.ir_expressions.specs.declared.scope.Way.{Way}
+use Rattle.ir_expressions.specs.declared.scope.Scope.{Scope}
+use Rattle.ir_expressions.specs.declared.scope.Way.TheVariants.{Nowhere, Jumps, Unwinds}
+use Rattle.ir_expressions.specs.Scope.{filter_names, finally_scope, in_loop, in_try, in_except, in_guarded}
 use Rattle.ir_sizes.specs.Sizes.{expression_size, discarded_size, condition_size, declared_size, all_declared_size, returned_size, statement_size, statements_size}
-use Rattle.seh_ir.specs.Expressions.{constant, expression_code}
+use Rattle.ir_expressions.specs.Expressions.{constant, expression_code}
 use Rattle.seh_ir.specs.Lowered.{own_locals, all_locals, scope_of}
 use Rattle.seh_ir.specs.Regions.{except_kind, region}
 use Rattle.seh_ir.specs.Statements.{jump_code, return_code, leave_code, discarded_code, returned_code, condition_code, declared_code}

@@ -11,7 +11,7 @@ use Rattle.c_checked.specs.Expression.{Lvalue}
 use Rattle.linear_code.specs.declared.slot.Slot.TheVariants.{Temporary}
 use Rattle.linear_code.specs.declared.instruction.Instruction.{Instruction}
 use Rattle.ir_sizes.specs.Sizes.{address_count}
-use Rattle.seh_ir.specs.Expressions.{constant, copy, combine, conversion_code, read_code, write_code, chosen_of}
+use Rattle.ir_expressions.specs.Expressions.{constant, copy, combine, conversion_code, read_code, write_code, chosen_of}
 
 abbrev pub assigned : Lvalue → ℕ → List Instruction
 assigned p d = write_code p d (d + address_count p) d ∷ []
