@@ -182,6 +182,32 @@ rising image index last (r ∷ rs) es (suc j) (suc k) h le lt =
 pub ends_rise : (t : Tables) → IsWhole t → (j k : ℕ) → j ≤ k → k < length t.ranges → (get_or t.ranges j no_range).end ≤ (get_or t.ranges k no_range).end
 ends_rise t w j k le lt = rising t.image 0 0 t.ranges (entries_of t) j k w.whole le lt
 
+begin_above : (image : Image) (index last : ℕ) (rs : List RuntimeFunction) (es : List Entry) (k : ℕ) → entries image index last rs ≡ Ok es → k < length rs → last ≤ (get_or rs k no_range).begin
+begin_above image index last [] es k h lt = absurd (omega arith)
+begin_above image index last (r ∷ rs) es zero h lt =
+    let s = split image index last r rs es h in
+    s.read.sorted
+begin_above image index last (r ∷ rs) es (suc k) h lt =
+    let s = split image index last r rs es h in
+    let sorted = s.read.sorted in
+    let some = s.read.some in
+    let later = begin_above image (index + 1) r.end rs s.rest k s.others (omega arith) in
+    omega arith
+
+in_order : (image : Image) (index last : ℕ) (rs : List RuntimeFunction) (es : List Entry) (j k : ℕ) → entries image index last rs ≡ Ok es → j < k → k < length rs → (get_or rs j no_range).end ≤ (get_or rs k no_range).begin
+in_order image index last [] es j k h below lt = absurd (omega arith)
+in_order image index last (r ∷ rs) es j zero h below lt = absurd (omega arith)
+in_order image index last (r ∷ rs) es zero (suc k) h below lt =
+    let s = split image index last r rs es h in
+    begin_above image (index + 1) r.end rs s.rest k s.others (omega arith)
+in_order image index last (r ∷ rs) es (suc j) (suc k) h below lt =
+    let s = split image index last r rs es h in
+    in_order image (index + 1) r.end rs s.rest j k s.others (omega arith) (omega arith)
+
+-- no range begins below the end of one before it
+pub ends_below : (t : Tables) → IsWhole t → (j k : ℕ) → j < k → k < length t.ranges → (get_or t.ranges j no_range).end ≤ (get_or t.ranges k no_range).begin
+ends_below t w j k below lt = in_order t.image 0 0 t.ranges (entries_of t) j k w.whole below lt
+
 -- ---- a step halves what is left
 
 pub one_step : (steps since : ℕ) → since ≤ steps → 2 ^ (steps + 1 - since) ≡ 2 * 2 ^ (steps - since)

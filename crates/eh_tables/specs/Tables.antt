@@ -1,5 +1,6 @@
 -- Function tables, entry by entry. Each definition answers what it reads, or the first refusal.
 use Rattle.std.specs.Prelude.{◌≡◌, ℕ, zero, suc, ◌+◌, ◌/◌, ◌%◌, Bool, true, false, ◌&&◌, ◌==◌, nat_le, nat_lt, List, [], ◌∷◌, length, drop, slice_index_or, Option, Some, None, Result, Ok, Err}
+use Rattle.std.specs.Result.{result_ok}
 use Rattle.arrayvec.specs.ArrayVec.{ArrayVec}
 use Rattle.pe_image.specs.declared.directory.DataDirectory.{DataDirectory}
 use Rattle.pe_image.specs.Image.{Image, stored}
@@ -123,6 +124,11 @@ entry_or others e false = others
 abbrev pub holding : ℕ → List Entry → Option Entry
 holding rva [] = None
 holding rva (e ∷ es) = entry_or (holding rva es) e (covers_address rva e.range)
+
+-- the entry of an index that a search found
+abbrev pub entry_found : Tables → Option ℕ → Option Entry
+entry_found t None = None
+entry_found t (Some index) = result_ok (entry_at t index)
 
 -- whether none is refused
 abbrev pub passed : Table (List Entry) → Table Unit

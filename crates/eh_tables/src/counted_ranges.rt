@@ -3,6 +3,7 @@
 ghost use Rattle.std.specs.Prelude.{◌≡◌, ◌+◌, ◌<◌, length, slice_index_or};
 ghost use Rattle.eh_tables.specs.Tables as spec;
 
+use crate::range::RuntimeFunction;
 use crate::tables::Tables;
 use seh_num::steps::Steps;
 use std::marker::Model;
@@ -37,13 +38,13 @@ impl<'table, 'image, 'bytes> CountedRanges<'table, 'image, 'bytes> {
         self.tables.len()
     }
 
-    /// Where the range of an index ends; a step counts it.
-    pub(crate) fn end<L: Ledger>(&self, index: u64, steps: &mut Steps<L>) -> u64
+    /// The range of an index; a step counts it.
+    pub(crate) fn range<L: Ledger>(&self, index: u64, steps: &mut Steps<L>) -> RuntimeFunction
         requires { index < length self.now.ranges }
-        ensures value { result ≡ (slice_index_or self.now.ranges index spec.no_range).end }
+        ensures value { result ≡ slice_index_or self.now.ranges index spec.no_range }
         ensures counted { steps.new ≡ steps.old + 1 }
     {
         steps.tick();
-        self.tables.range(index).end as u64
+        self.tables.range(index)
     }
 }

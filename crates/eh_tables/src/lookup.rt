@@ -1,6 +1,6 @@
 //! The entry whose range covers an address.
 
-ghost use Rattle.std.specs.Prelude.{◌≡◌, ℕ, ◌+◌, ◌-◌, ◌*◌, ◌≤◌, ◌<◌, ◌^◌, length, slice_index_or};
+ghost use Rattle.std.specs.Prelude.{◌≡◌, ◌+◌, ◌-◌, ◌*◌, ◌≤◌, ◌<◌, ◌^◌, length, IfSome};
 ghost use Rattle.eh_tables.specs.Tables as spec;
 
 use crate::counted_ranges::CountedRanges;
@@ -19,45 +19,44 @@ impl<'image, 'bytes> Tables<'image, 'bytes> {
         lookup_with::<Brand>(self, rva, Blank::new(1))
     }
 
-    /// The same, with its steps counted: a step reads the range of one entry, and the search reads
-    /// ranges in no other way.
+    /// The same, with its steps counted: a step reads the range of one entry. The search sees nothing
+    /// of the table but its length and these ranges, and the entry that it finds is read after it.
     pub fn lookup_counted<L: Ledger>(&self, rva: u64, steps: &mut Steps<L>) -> Option<Entry<'bytes>>
         requires { spec.IsWhole self.now }
         ensures found { result ≡ spec.holding rva (spec.entries_of self.now) }
         ensures cost { 2 ^ (steps.new - steps.old) ≤ 2 * length self.now.ranges + 1 }
     {
-        let index = first_past(&CountedRanges::of(self), rva, steps);
-        if index == self.len() {
-            return None;
-        }
-        if rva < self.range(index).begin as u64 {
-            return None;
-        }
+        let index = covering(&CountedRanges::of(self), rva, steps)?;
         self.entry(index).ok()
     }
 }
 
-/// The index of the first range that ends above an address, or how many there are.
-fn first_past<L: Ledger>(ranges: &CountedRanges<'_, '_, '_>, rva: u64, steps: &mut Steps<L>) -> u64
+/// The index of the range that covers an address.
+fn covering<L: Ledger>(
+    ranges: &CountedRanges<'_, '_, '_>,
+    rva: u64,
+    steps: &mut Steps<L>,
+) -> Option<u64>
     requires { spec.IsWhole ranges.now }
-    ensures within { result ≤ length ranges.now.ranges }
-    ensures below { (k : ℕ) → k < result
-        → (slice_index_or ranges.now.ranges k spec.no_range).end ≤ rva }
-    ensures above { (k : ℕ) → result ≤ k → k < length ranges.now.ranges
-        → rva < (slice_index_or ranges.now.ranges k spec.no_range).end }
+    ensures within { IfSome result (λ index. index < length ranges.now.ranges) }
+    ensures found { spec.entry_found ranges.now result
+        ≡ spec.holding rva (spec.entries_of ranges.now) }
     ensures cost { 2 ^ (steps.new - steps.old) ≤ 2 * length ranges.now.ranges + 1 }
 {
     let mut low = 0;
     let mut high = ranges.len();
     while low < high {
         let middle = low + (high - low) / 2;
-        if ranges.end(middle, steps) <= rva {
+        let range = ranges.range(middle, steps);
+        if range.end as u64 <= rva {
             low = middle + 1;
-        } else {
+        } else if rva < range.begin as u64 {
             high = middle;
+        } else {
+            return Some(middle);
         }
     }
-    low
+    None
 }
 
 fn lookup_with<'bytes, L: Ledger>(
