@@ -4,7 +4,6 @@ use Rattle.c_lex.specs.declared.punctuator.Punctuator.TheVariants as punctuators
 use Rattle.c_lex.specs.declared.token.IntegerType.TheVariants as types
 use Rattle.c_lex.specs.declared.token.Kind.TheVariants as kinds
 use Rattle.c_lex.specs.declared.token.Token.{Token}
-use Rattle.c_syntax.specs.declared.declaration.Constant.{Constant}
 use Rattle.c_syntax.specs.declared.declaration.Length.{Length}
 use Rattle.c_syntax.specs.declared.expression.Base.{Base}
 use Rattle.c_syntax.specs.declared.expression.Literal.TheVariants as literals
@@ -13,7 +12,7 @@ use Rattle.c_syntax.specs.Expressions.{IsInteger}
 use Rattle.c_syntax.specs.Faults.{SameFirst, place, Onward, Failed, Wraps}
 use Rattle.c_syntax.specs.Follow.{follows, Stops}
 use Rattle.c_syntax.specs.Program.{Initialiser, Single, Several, Global}
-use Rattle.c_syntax.specs.Programs.{AreConstants, AreMoreConstants, IsInitialiser, IsLength, IsGlobal, AreMoreGlobals, AreGlobals}
+use Rattle.c_syntax.specs.Programs.{IsInitialiser, IsLength, AreMoreGlobals, AreGlobals}
 use Rattle.c_syntax.specs.Tokens.{token, IsIdentifier, HasPunctuator}
 use Rattle.c_syntax.specs.Types.{AreStars}
 use Rattle.c_syntax.proofs.Failing.{append_append, alike_same}
@@ -34,7 +33,6 @@ use Rattle.c_parse_expr.specs.Refusals.{Placed}
 use Rattle.c_parse_stmt.specs.Parts.{NoPunctuator, APunctuator}
 use Rattle.c_parse.specs.Parts.{NoInitialiser, HasInitialiser, end_of, IsBracketed, NoneBracketed, HasBracketed, IsAfterName, NoLength, HasLength, EndsScalar, NoGlobal, HasGlobals}
 use Rattle.c_parse.proofs.Refusing.{missing, punctuator, named, name, digit, has_it, following, Lacks, NoInteger, NoIdentifier, continues as refusing_goes_on}
-use Rattle.c_parse.proofs.Constants.{constant_shorter}
 use Rattle.c_parse.proofs.Placing.{no_elements}
 
 -- ---- lengths in brackets
@@ -484,42 +482,3 @@ in_initialiser text base at n called l ts d b c s e i stop w =
             };
           };
     }
-
--- ---- what is read takes tokens
-
-more_shorter : (cs : List Constant) (ts end : List Token) → AreMoreConstants cs ts end → length end < length ts
-more_shorter [] ts end h = let a = ap length h.1.1 in omega arith
-more_shorter (c ∷ cs) ts end h =
-    let a = ap length h.comma.1.1 in
-    let b = constant_shorter c h.after_comma h.after_element h.element in
-    let d = more_shorter cs h.after_element end h.others in
-    omega arith
-
-list_shorter : (cs : List Constant) (ts end : List Token) → AreConstants cs ts end → length end < length ts
-list_shorter [] ts end h = absurd h
-list_shorter (c ∷ cs) ts end h = let b = constant_shorter c ts h.0 h.1 in let d = more_shorter cs h.0 end h.2 in omega arith
-
-initialiser_shorter : (i : Option Initialiser) (ts end : List Token) → IsInitialiser i ts end → length end ≤ length ts
-initialiser_shorter None ts end h = let a = ap length h in omega arith
-initialiser_shorter (Some (Single c)) ts end h = let a = ap length h.1.1.1 in let b = constant_shorter c h.0 end h.2 in omega arith
-initialiser_shorter (Some (Several at cs)) ts end h =
-    let a = ap length h.assign.1.1 in
-    let b = ap length h.brace.1 in
-    let d = list_shorter cs h.after_brace end h.constants in
-    omega arith
-
-pub length_shorter : (n : Option Length) (ts end : List Token) → IsLength n ts end → length end ≤ length ts
-length_shorter None ts end h = let a = ap length h in omega arith
-length_shorter (Some n) ts end h =
-    let a = ap length h.opening.1.1 in
-    let b = ap length h.inner.1.1 in
-    let d = ap length h.closing.1.1 in
-    omega arith
-
-pub global_shorter : (g : Global) (ts end : List Token) → IsGlobal g ts end → length end < length ts
-global_shorter g ts end h =
-    let a = stars g.pointers ts h.after_stars h.stars in
-    let b = ap length h.name in
-    let c = length_shorter g.length h.after_name h.after_length h.length in
-    let d = initialiser_shorter g.initialiser h.after_length end h.initialiser in
-    omega arith

@@ -29,7 +29,8 @@ use Rattle.c_parse.specs.Counts.{Taken, NoExternalDeclaration, HasExternalDeclar
 use Rattle.c_parse.specs.Parts.{NoGlobals, HasGlobals, IsTail, NoTail, HasTail, IsHead, NoHead, HasHead}
 use Rattle.c_parse.proofs.Refusing.{missing, punctuator, named, name, has_it, following, Lacks, NoIdentifier}
 use Rattle.c_parse.proofs.Placing.{no_elements}
-use Rattle.c_parse.proofs.Declarators.{global_shorter, array, is_array}
+use Rattle.c_parse.proofs.Declarators.{array, is_array}
+use Rattle.c_parse.proofs.Shorter.{global_shorter}
 use Rattle.c_parse.proofs.Parameters.{word}
 use Rattle.c_parse.proofs.Bodies.{empty}
 

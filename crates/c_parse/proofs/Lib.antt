@@ -3,6 +3,7 @@ pub mod Lists
 pub mod Constants
 pub mod Placing
 pub mod Declarators
+pub mod Shorter
 pub mod Declarations
 pub mod Parameters
 pub mod Bodies

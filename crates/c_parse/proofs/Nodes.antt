@@ -15,7 +15,7 @@ use Rattle.c_syntax.proofs.Shorter as shorter
 use Rattle.c_syntax.proofs.Shorter.{by_kind, base, stars}
 use Rattle.c_parse.specs.Nodes.{nodes, nodes_of_arguments, nodes_of_optional, nodes_of_locals, nodes_of_for_initialiser, nodes_of_statement, nodes_of_statements, nodes_of_initialiser, nodes_of_globals, nodes_of_external_declaration, nodes_of}
 use Rattle.c_parse.proofs.Constants.{constant_shorter}
-use Rattle.c_parse.proofs.Declarators.{length_shorter}
+use Rattle.c_parse.proofs.Shorter.{length_shorter}
 
 -- ---- expressions
 

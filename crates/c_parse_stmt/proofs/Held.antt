@@ -24,7 +24,7 @@ use Rattle.c_parse_stmt.specs.declared.openings.Opening.TheVariants as openings
 use Rattle.c_parse_stmt.specs.Openings.{Opens}
 use Rattle.c_parse_stmt.specs.Parts.{NoDeclaration, HasDeclaration}
 use Rattle.c_parse_stmt.specs.Within.{AllTaken, NoBlockItems, HasBlockItems, Within, Reads, NoStatement, HasStatement, ReadsBlockItem, NoBlockItem, AnItem, HasBlockItem}
-use Rattle.c_parse_stmt.proofs.Guarding.{Items, brace, is_brace}
+use Rattle.c_parse_stmt.proofs.Clauses.{Items, brace, is_brace}
 use Rattle.c_parse_stmt.proofs.Heading.{Sig}
 use Rattle.c_parse_stmt.proofs.Inside.{Item}
 use Rattle.c_parse_stmt.proofs.Sequences.{both_fixed, able_now, wraps, wraps_wraps, wraps_same, a_punctuator}

@@ -32,7 +32,8 @@ use Rattle.c_parse_stmt.specs.Parts.{NoPunctuator, APunctuator, NoCondition, Has
 use Rattle.c_parse_stmt.specs.Within.{Within, Reads, NoStatement, HasStatement}
 use Rattle.c_parse_stmt.proofs.Heading.{Key, Sig, Condition, key_moves, for_item, semicolon, in_parentheses, is_unit, unit, while_end}
 use Rattle.c_parse_stmt.proofs.Sequences.{Both, Fixed, both_fixed, both_moves, moves_so, able_now, wraps, failed, a_punctuator, a_word}
-use Rattle.c_parse_stmt.proofs.Wholes.{left_of, no_then, no_otherwise, if_found, if_else_found, not_dangling, no_while_body, while_found, no_do_body, no_do_while, no_do_condition, no_do_end, do_found, no_for_body, for_found}
+use Rattle.c_parse_stmt.proofs.Loops.{no_while_body, while_found, no_do_body, no_do_while, no_do_condition, no_do_end, do_found, no_for_body, for_found}
+use Rattle.c_parse_stmt.proofs.Wholes.{left_of, no_then, no_otherwise, if_found, if_else_found, not_dangling}
 
 -- ---- relations
 

@@ -15,6 +15,9 @@ pub mod Tails
 pub mod Held
 pub mod Sequences
 pub mod Wholes
+pub mod Loops
+pub mod Tries
 pub mod Heading
+pub mod Clauses
 pub mod Guarding
 pub mod Inside

@@ -5,7 +5,7 @@ use Rattle.c_lex.specs.declared.punctuator.Punctuator.TheVariants as punctuators
 use Rattle.c_parse_stmt.specs.Parts.{NoPunctuator, APunctuator}
 use Rattle.c_parse.specs.Parts.{NoGlobal, NoGlobals, HasGlobals}
 use Rattle.c_parse.proofs.Refusing.{placed_in}
-use Rattle.c_parse.proofs.Declarators.{global_shorter}
+use Rattle.c_parse.proofs.Shorter.{global_shorter}
 use Rattle.c_parse.proofs.Declarations.{begins, next, ends, ends_at, in_first, in_next, in_end}
 use Rattle.c_parse.proofs.globals.globals.Goals as goal
 
