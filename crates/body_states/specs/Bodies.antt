@@ -20,7 +20,8 @@ use Rattle.linked_stack.specs.States.{IsSane}
 use Rattle.body_states.specs.Sites.{Sites}
 use Rattle.body_states.specs.Programs.{IsMachineMemory}
 
--- where the locals of a body end above RSP at the latest, and its temporaries: in a leaf function the temporaries come after the locals, up to the end of the home space above its return address
+-- where the locals of a body end above RSP at the latest, and its temporaries: in a leaf function
+-- the temporaries come after the locals, up to the end of the home space above its return address
 abbrev pub slots_end : Layout → Bool → ℕ
 slots_end y true = y.temporaries
 slots_end y false = y.frame
@@ -36,17 +37,23 @@ held_below (Waits f ∷ below) = length f.temporaries + held_below below
 held_below (Searches exception resumption asked rest ∷ below) = held_below below
 held_below (Unwinds rest target ∷ below) = held_below below
 
--- turns of the machine that were not needed so far: three for each temporary that is held, since an instruction that makes one takes at most 13 turns, and a call needs the more the more arguments it has
+-- turns of the machine that were not needed so far: three for each temporary that is held, since an
+-- instruction that makes one takes at most 13 turns, and a call needs the more the more arguments
+-- it has
 abbrev pub turns_left : Configuration → ℕ
 turns_left c = 3 * (length c.frame.temporaries + held_below c.below)
 
 module _ (t : Functions) (fs : List Funclet) (program : LinearProgram) (p : Plan) (q : Sites) where
-  -- the body's frame is from RSP up: its slots hold what linear code has in them, above them is the return address, and from there on the list stands
+  -- the body's frame is from RSP up: its slots hold what linear code has in them, above them is the
+  -- return address, and from there on the list stands
   pub record InBody (s : State) (c : Configuration) : Type 0 where
     pub acts : List Activation
     pub store : c.store.activations ≡ locals_of acts
-    pub slots : BodyWaits t fs program p s.memory (context_of s.cpu) (slots_end (p.layout c.frame.body) (p.leaf c.frame.body)) (last_temporary (p.layout c.frame.body) c.frame.body (p.leaf c.frame.body)) c.frame acts
-    pub pointers : HasPointers t fs program p s.memory (p.layout c.frame.body) (register s.cpu Rsp) (p.layout c.frame.body).frame c.below
+    pub slots : BodyWaits t fs program p s.memory (context_of s.cpu)
+        (slots_end (p.layout c.frame.body) (p.leaf c.frame.body))
+        (last_temporary (p.layout c.frame.body) c.frame.body (p.leaf c.frame.body)) c.frame acts
+    pub pointers : HasPointers t fs program p s.memory (p.layout c.frame.body) (register s.cpu Rsp)
+        (p.layout c.frame.body).frame c.below
     pub above : IsAbove t fs program p c.frame c.frame.body c.below
     pub home : p.leaf c.frame.body ≡ true → register s.cpu Rsp + home_end ≤ STACK_END
     pub back : ℕ
@@ -55,9 +62,12 @@ module _ (t : Functions) (fs : List Funclet) (program : LinearProgram) (p : Plan
     pub is : List StackItem
     pub below :
         (others : List ℕ) → length others ≡ 8
-        → On t fs program p s.memory (context_below back (register s.cpu Rsp + (p.layout c.frame.body).frame + 8) others) is c.below (activations_below c.frame.body acts)
+        → On t fs program p s.memory (context_below back (register s.cpu Rsp
+        + (p.layout c.frame.body).frame + 8) others) is c.below
+        (activations_below c.frame.body acts)
 
-  -- an instruction of linear code begins; where an `__except` block has just taken over, RAX is the exception's code
+  -- an instruction of linear code begins; where an `__except` block has just taken over, RAX is the
+  -- exception's code
   pub record Begins (s : State) (c : Configuration) : Type 0 where
     pub rip : s.cpu.rip ≡ p.address c.frame.body c.frame.next
     pub sane : IsSane s

@@ -1,11 +1,13 @@
 -- Where the slots of each body stand (Microsoft x64 ABI, "Stack allocation").
 use Rattle.std.specs.Prelude.{◌≡◌, ℕ, ◌+◌, ◌*◌, ◌<◌, ◌≤◌, true, false, Bool, slice_get, Option, Some, None}
+use Rattle.host_layout.specs.declared.range.TheConstants.{PAGE}
 use Rattle.linear_code.specs.Program.{LinearProgram, LinearBody, LinearFunclet}
 use Rattle.linear_machine.specs.Frames.{BodyName, FunctionBody, FuncletBody, body_of}
 use Rattle.template_code.specs.declared.layout.Layout.{Layout}
 use Rattle.linked_stack.specs.ImagePlan.{Plan}
 
--- a function's frame, from RSP up: home space and further arguments of its calls, temporaries, locals
+-- a function's frame, from RSP up: home space and further arguments of its calls, temporaries,
+-- locals
 pub record IsFunctionLayout (y : Layout) (b : LinearBody) : Type 0 where
   pub none : y.base ≡ None
   pub passed : 32 + 8 * b.passed ≤ y.temporaries
@@ -21,7 +23,8 @@ pub record IsLeafLayout (y : Layout) (b : LinearBody) : Type 0 where
   pub temporaries : y.temporaries ≡ 8 + 8 * b.locals
   pub few : b.locals + b.temporaries ≤ 4
 
--- a funclet's frame: home space and further arguments, the base, the address of EXCEPTION_POINTERS, temporaries; its locals are those of its function, above the base
+-- a funclet's frame: home space and further arguments, the base, the address of EXCEPTION_POINTERS,
+-- temporaries; its locals are those of its function, above the base
 pub record IsFuncletLayout (y function : Layout) (b : LinearBody) : Type 0 where
   pub slot : ℕ
   pub base : y.base ≡ Some slot
@@ -30,7 +33,7 @@ pub record IsFuncletLayout (y function : Layout) (b : LinearBody) : Type 0 where
   pub kept : slot + 16 ≤ y.temporaries
   pub temporaries : y.temporaries + 8 * b.temporaries ≤ y.frame
   pub locals : y.locals ≡ function.locals
-  pub small : y.frame ≤ 4096
+  pub small : y.frame ≤ PAGE
 
 module _ (program : LinearProgram) (p : Plan) where
   abbrev pub IsLayoutIf : Layout → LinearBody → Bool → Type 0
@@ -46,7 +49,8 @@ module _ (program : LinearProgram) (p : Plan) where
     pub function : LinearBody
     pub function_there : body_of program (FunctionBody funclet.function) ≡ Some function
     pub same_locals : b.locals ≡ function.locals
-    pub layout : IsFuncletLayout (p.layout (FuncletBody k)) (p.layout (FunctionBody funclet.function)) b
+    pub layout : IsFuncletLayout (p.layout (FuncletBody k))
+        (p.layout (FunctionBody funclet.function)) b
 
   abbrev pub IsLaidOut : BodyName → LinearBody → Type 0
   IsLaidOut (FunctionBody f) b = IsLayoutIf (p.layout (FunctionBody f)) b (p.leaf (FunctionBody f))

@@ -1,6 +1,7 @@
 -- Where the code of a program's parts begins, and what comes before a body.
 use Rattle.std.specs.Prelude.{ℕ, Bool, true, false, nat_le, if◌then◌else◌, List, [], ◌∷◌, ◌++◌, slice_get, Option, Some, None}
 use Rattle.seh_num.specs.declared.width.Width.TheVariants.{W32, W64}
+use Rattle.host_layout.specs.declared.range.TheConstants.{PAGE}
 use Rattle.x64_instr.specs.declared.register.Reg.TheVariants.{Rax, Rcx, Rsp}
 use Rattle.x64_instr.specs.declared.operand.RegisterOrMemory.TheVariants as places
 use Rattle.x64_instr.specs.declared.operand.Operand.TheVariants as operands
@@ -23,7 +24,8 @@ use Rattle.template_code.specs.Probing.{enter_large}
 use Rattle.template_code.specs.Template.{Links, code_from}
 use Rattle.linked_stack.specs.ImagePlan.{Plan}
 
--- the first bytes of functions, the thunks of the built-in functions and of `_local_unwind`, and `__chkstk`
+-- the first bytes of functions, the thunks of the built-in functions and of `_local_unwind`, and
+-- `__chkstk`
 pub record Sites : Type 0 where
   pub function : ℕ → ℕ
   pub thunk : BuiltIn → ℕ
@@ -32,7 +34,14 @@ pub record Sites : Type 0 where
 
 -- what the code of a body refers to
 abbrev pub links_of : Plan → Sites → BodyName → Links
-links_of p q name = record { label = p.address name; function = q.function; known = q.thunk; funclet = p.funclet; local_unwind = q.local_unwind }
+links_of p q name =
+    record {
+      label = p.address name;
+      function = q.function;
+      known = q.thunk;
+      funclet = p.funclet;
+      local_unwind = q.local_unwind;
+    }
 
 -- the first byte of a body's function or funclet
 abbrev pub begin_of : Plan → Sites → BodyName → ℕ
@@ -48,15 +57,17 @@ making size at check false = enter_large size at check
 
 abbrev pub frame_code : ℕ → ℕ → ℕ → Bool → List Instr
 frame_code size at check true = []
-frame_code size at check false = making size at check (nat_le size 4096)
+frame_code size at check false = making size at check (nat_le size PAGE)
 
 -- how many bytes that takes
 abbrev pub making_size : Plan → Sites → BodyName → ℕ
-making_size p q name = sizes (frame_code (p.layout name).frame (begin_of p q name) q.check_stack (p.leaf name))
+making_size p q name =
+    sizes (frame_code (p.layout name).frame (begin_of p q name) q.check_stack (p.leaf name))
 
 -- and given back
 abbrev pub give_back : ℕ → Instr
-give_back frame = instrs.Arithmetic arithmetic.Add W64 (places.Register Rsp) (operands.Immediate frame)
+give_back frame =
+    instrs.Arithmetic arithmetic.Add W64 (places.Register Rsp) (operands.Immediate frame)
 
 -- where a funclet keeps the base, and where its parent does, if that is a funclet
 abbrev pub base_in : Layout → ℕ
@@ -82,15 +93,22 @@ function_arguments y (Some f) = parameters_code y 0 f.parameters
 
 abbrev pub funclet_arguments : Plan → Layout → Option LinearFunclet → List Instr
 funclet_arguments p y None = []
-funclet_arguments p y (Some f) = keep_base (parent_base p f.parent) (base_in y) ++ keep_argument y f.kind
+funclet_arguments p y (Some f) =
+    keep_base (parent_base p f.parent) (base_in y) ++ keep_argument y f.kind
 
 abbrev pub arguments_code : LinearProgram → Plan → BodyName → List Instr
-arguments_code program p (FunctionBody f) = function_arguments (p.layout (FunctionBody f)) (slice_get program.functions f)
-arguments_code program p (FuncletBody k) = funclet_arguments p (p.layout (FuncletBody k)) (slice_get program.funclets k)
+arguments_code program p (FunctionBody f) =
+    function_arguments (p.layout (FunctionBody f)) (slice_get program.functions f)
+arguments_code program p (FuncletBody k) =
+    funclet_arguments p (p.layout (FuncletBody k)) (slice_get program.funclets k)
 
 abbrev pub entry_code : LinearProgram → Plan → Sites → BodyName → List Instr
-entry_code program p q name = frame_code (p.layout name).frame (begin_of p q name) q.check_stack (p.leaf name) ++ arguments_code program p name
+entry_code program p q name =
+    frame_code (p.layout name).frame (begin_of p q name) q.check_stack (p.leaf name)
+    ++ arguments_code program p name
 
 -- all of its code
 abbrev pub code_of : LinearProgram → Plan → Sites → BodyName → LinearBody → List Instr
-code_of program p q name b = entry_code program p q name ++ code_from (links_of p q name) (p.layout name) (p.address name 0) b.code
+code_of program p q name b =
+    entry_code program p q name ++ code_from (links_of p q name) (p.layout name)
+    (p.address name 0) b.code

@@ -26,7 +26,7 @@ use Rattle.body_states.specs.Programs.{IsProgramImage}
 use Rattle.body_states.specs.Bodies.{turns_left, Begins}
 use Rattle.body_steps.specs.Views.{counts_of}
 use Rattle.body_steps.specs.Known.{IsWellMade, IsKnown}
-use Rattle.body_steps.specs.Laws.{pace, Completes, IsPlain, PlainStepsAreMatched}
+use Rattle.body_steps.specs.Laws.{pace, Completes, IsWithinBody, StepsWithinBodiesAreMatched}
 use Rattle.body_steps.proofs.Running.{code, slots, has_slots}
 use Rattle.body_steps.proofs.Plain.{is_read, jump_step, separator_step, jump_if_zero_step}
 use Rattle.body_steps.proofs.Computing.{same_constant, outcome_here, compute_step}
@@ -80,7 +80,7 @@ module _ (t : Functions) (fs : List Funclet) (program : LinearProgram) (p : Plan
   small_code None value e h = cc
   small_code (Some x) value e h = let n = some_number x value e in omega arith
 
-  step : (i : Instruction) → instruction_at program c ≡ Some i → IsPlain program c i → HasRule (act program i (exec program zero) c) → Moves t fs program pace turns_left (Begins t fs program p q) s c i
+  step : (i : Instruction) → instruction_at program c ≡ Some i → IsWithinBody program c i → HasRule (act program i (exec program zero) c) → Moves t fs program pace turns_left (Begins t fs program p q) s c i
   step (instructions.Compute to o first second) e h rule =
       let r = ready_here t fs program p q image made s c b known (instructions.Compute to o first second) e in
       compute_step t fs program p q image made.room s c b (counted_here t fs program p q image made c known) (around_here t fs program p q image made s c b known) to o first second h.value h.memory
@@ -107,5 +107,5 @@ module _ (t : Functions) (fs : List Funclet) (program : LinearProgram) (p : Plan
   step (instructions.LocalUnwind label) e h rule = absurd h
   step (instructions.Return from) e h rule = absurd h
 
-pub plain : PlainStepsAreMatched
-plain t fs program p q image made s c i b known e h rule = step t fs program p q image made s c b known i e h rule
+pub within_body : StepsWithinBodiesAreMatched
+within_body t fs program p q image made s c i b known e h rule = step t fs program p q image made s c b known i e h rule

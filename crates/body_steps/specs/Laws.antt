@@ -38,20 +38,20 @@ module _ (program : LinearProgram) where
     pub gives : performed (is_reserved program.globals) o a b c.store.memory ≡ Gives value memory
 
   -- a step within one body
-  abbrev pub IsPlain : Configuration → Instruction → Type 0
-  IsPlain c (instructions.Compute to o first second) = Completes c o first second
-  IsPlain c (instructions.Jump label) = Unit {0}
-  IsPlain c (instructions.JumpIfZero slot label) = Unit {0}
-  IsPlain c (instructions.Landing to) = Unit {0}
-  IsPlain c instructions.Separator = Unit {0}
-  IsPlain c other = ⊥
+  abbrev pub IsWithinBody : Configuration → Instruction → Type 0
+  IsWithinBody c (instructions.Compute to o first second) = Completes c o first second
+  IsWithinBody c (instructions.Jump label) = Unit {0}
+  IsWithinBody c (instructions.JumpIfZero slot label) = Unit {0}
+  IsWithinBody c (instructions.Landing to) = Unit {0}
+  IsWithinBody c instructions.Separator = Unit {0}
+  IsWithinBody c other = ⊥
 
 -- where an instruction begins in a state that stands for a configuration, the machine makes its step in one turn or more, shows nothing, and stands for the next configuration
-abbrev pub PlainStepsAreMatched : Type 0
-PlainStepsAreMatched =
+abbrev pub StepsWithinBodiesAreMatched : Type 0
+StepsWithinBodiesAreMatched =
     (t : Functions) (fs : List Funclet) (program : LinearProgram) (p : Plan) (q : Sites)
     → IsProgramImage t fs program p q → IsWellMade program p
     → (s : State) (c : Configuration) (i : Instruction)
-    → Begins t fs program p q s c → IsKnown program c → instruction_at program c ≡ Some i → IsPlain program c i
+    → Begins t fs program p q s c → IsKnown program c → instruction_at program c ≡ Some i → IsWithinBody program c i
     → HasRule (act program i (exec program zero) c)
     → Moves t fs program pace turns_left (Begins t fs program p q) s c i

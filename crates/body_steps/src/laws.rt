@@ -1,9 +1,9 @@
 //! Laws of the steps of linear code that need neither a call nor the dispatcher.
 
-ghost use Rattle.body_steps.specs.Laws.{PlainStepsAreMatched};
+ghost use Rattle.body_steps.specs.Laws.{StepsWithinBodiesAreMatched};
 
 /// Where the machine stands for a configuration of linear code, it makes each step within the body in at
 /// most sixteen turns, less those that a temporary takes more or fewer, and stands for the next one.
 pub fn laws()
-    ensures plain { PlainStepsAreMatched }
+    ensures within { StepsWithinBodiesAreMatched }
 {}

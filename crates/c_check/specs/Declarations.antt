@@ -7,4 +7,5 @@ use Rattle.c_syntax.specs.Program.{ExternalDeclaration}
 
 -- whatever the file is before, afterwards it has the names and the bytes of the declaration too
 abbrev pub Declares : List ℕ → ExternalDeclaration → File' → File' → Type 0
-Declares text x before after = (d : File) → IsFile before d → IsFile after (with_external_declaration text x d)
+Declares text x before after =
+    (d : File) → IsFile before d → IsFile after (with_external_declaration text x d)

@@ -5,7 +5,8 @@ use Rattle.c_checked.specs.Program.{function}
 use Rattle.c_expressions.specs.Kept.{least_of, kept}
 use Rattle.c_resolved.specs.Program.{Functions}
 
--- the functions that a walk made, the number of the next funclet and the least fault after them are what the definition says
+-- the functions that a walk made, the number of the next funclet and the least fault after them are
+-- what the definition says
 pub record AddsFunctions (before after : Progress) (f : Functions) : Type 0 where
   pub done : map function after.done.items ≡ map function before.done.items ++ f.done
   pub number : after.number ≡ f.number

@@ -13,4 +13,6 @@ sizes_of ps = map (λ p. size_of p.of) ps
 
 -- the rules that a parameter breaks where the block has these names
 abbrev pub faults_of_parameter : List ℕ → Parameter → Scope → List FaultAt
-faults_of_parameter text p block = unless_holds (not (is_taken block (spelled text p.name))) p.name.start Duplicate ++ unless_holds (is_scalar p.of) p.name.start TypeClash
+faults_of_parameter text p block =
+    unless_holds (not (is_taken block (spelled text p.name))) p.name.start Duplicate
+    ++ unless_holds (is_scalar p.of) p.name.start TypeClash

@@ -1,7 +1,10 @@
--- What holds of an accepted program beside its shape: numbers name what is there, each operand has the size that its operator takes, jumps and the names of exceptions stand where they mean something, filters and `__finally` blocks are numbered in their order.
+-- What holds of an accepted program beside its shape: numbers name what is there, each operand has
+-- the size that its operator takes, jumps and the names of exceptions stand where they mean
+-- something, filters and `__finally` blocks are numbered in their order.
 use Rattle.std.specs.Prelude.{◌≡◌, ℕ, ◌+◌, ◌^◌, Bool, true, false, ◌&&◌, ◌||◌, nat_lt, nat_le, nat_eq, if◌then◌else◌, List, [], ◌∷◌, ◌++◌, length, slice_get, Option, Some, None}
 use Rattle.seh_num.specs.declared.width.Width.{Width}
 use Rattle.seh_num.specs.declared.width.Width.TheVariants.{W8, W16, W32, W64}
+use Rattle.seh_num.specs.declared.limit.TheConstants.{MOST_LOCALS, MOST_PARAMETERS, MOST_FUNCTIONS, MOST_GLOBALS, MOST_FUNCLETS}
 use Rattle.c_operations.specs.declared.field.Field.{Field}
 use Rattle.c_operations.specs.declared.field.Field.TheVariants as fields
 use Rattle.c_operations.specs.declared.operation.Operation.{Operation}
@@ -19,7 +22,8 @@ use Rattle.c_checked.specs.Expression.{Expression, On, Node, Lvalue, Local, Glob
 use Rattle.c_checked.specs.Statement.{Declared, Filter, Always, Funclet, Statement, Declare, Block, Evaluate, If, IfElse, For, DoWhile, Return, Break, Continue, Leave, TryExcept, TryFinally, Statements, Empty, Then}
 use Rattle.c_checked.specs.Program.{Program, Function}
 
--- what is around a part of a program: the functions; the sizes of the function's parameters and locals; whether GetExceptionCode, GetExceptionInformation and AbnormalTermination mean something
+-- what is around a part of a program: the functions; the sizes of the function's parameters and
+-- locals; whether GetExceptionCode, GetExceptionInformation and AbnormalTermination mean something
 pub record Scope : Type 0 where
   pub functions : List Function
   pub sizes : List Size
@@ -74,7 +78,8 @@ can_convert Kept z = true
 can_convert (Extend s from size) z = has_bits from z
 can_convert (Scale s from by) z = has_bits from z
 
--- the size of the operand and the result of an operator with one operand; casts and unary + take both sizes
+-- the size of the operand and the result of an operator with one operand; casts and unary + take
+-- both sizes
 abbrev pub unary_takes : Pure → Option Size → Option Size
 unary_takes pures.First z = z
 unary_takes (pures.Not z) y = if is_size z y then Some z else None
@@ -180,7 +185,8 @@ abbrev pub constant_fits : Size → ℕ → Bool
 constant_fits Int n = nat_lt n (2 ^ 32)
 constant_fits Long n = nat_lt n (2 ^ 64)
 
--- the size of what pointers point to, by which their distance is divided as a signed number of 64 bits
+-- the size of what pointers point to, by which their distance is divided as a signed number of 64
+-- bits
 abbrev pub is_divisor : ℕ → Bool
 is_divisor n = nat_lt 0 n && nat_lt n (2 ^ 63)
 
@@ -193,7 +199,8 @@ amount_fits (Some z) n = constant_fits z n
 abbrev pub change_fits : Option Size → Conversion → Operation → Option Size → Conversion → Bool
 change_fits place before o amount after =
     let result = takes o (size_after before place) amount in
-    can_convert before place && is_number result && can_convert after result && same_sizes (size_after after result) place
+    can_convert before place && is_number result && can_convert after result && same_sizes
+    (size_after after result) place
 
 -- ---- expressions: whether they are sound
 
@@ -205,22 +212,36 @@ abbrev mutual
   node_sound s (nodes.Constant z n) = constant_fits z n
   node_sound s (nodes.Read p) = lvalue_sound s p
   node_sound s (nodes.AddressOf p) = lvalue_sound s p && is_in_memory p
-  node_sound s (nodes.Assign p e) = lvalue_sound s p && expression_sound s e && same_sizes (expression_size s e) (lvalue_size s p)
-  node_sound s (nodes.CompoundAssign p before o e after) = lvalue_sound s p && expression_sound s e && change_fits (lvalue_size s p) before o (expression_size s e) after
+  node_sound s (nodes.Assign p e) =
+      lvalue_sound s p && expression_sound s e && same_sizes (expression_size s e) (lvalue_size s p)
+  node_sound s (nodes.CompoundAssign p before o e after) =
+      lvalue_sound s p && expression_sound s e && change_fits (lvalue_size s p) before o
+      (expression_size s e) after
   node_sound s (nodes.Increment m p before o n after) =
       let operand = size_after before (lvalue_size s p) in
-      lvalue_sound s p && change_fits (lvalue_size s p) before o operand after && amount_fits operand n
+      lvalue_sound s p && change_fits (lvalue_size s p) before o operand after && amount_fits
+      operand n
   node_sound s (nodes.Unary o e) = expression_sound s e && is_number (node_size s (nodes.Unary o e))
-  node_sound s (nodes.Binary o e f) = expression_sound s e && expression_sound s f && is_number (node_size s (nodes.Binary o e f))
-  node_sound s (nodes.PointerDifference n e f) = expression_sound s e && expression_sound s f && is_size Long (expression_size s e) && is_size Long (expression_size s f) && is_divisor n
+  node_sound s (nodes.Binary o e f) =
+      expression_sound s e && expression_sound s f && is_number (node_size s (nodes.Binary o e f))
+  node_sound s (nodes.PointerDifference n e f) =
+      expression_sound s e && expression_sound s f && is_size Long
+      (expression_size s e) && is_size Long (expression_size s f) && is_divisor n
   node_sound s (nodes.Not e) = expression_sound s e && is_number (expression_size s e)
-  node_sound s (nodes.And e f) = expression_sound s e && expression_sound s f && both (expression_size s e) (expression_size s f)
-  node_sound s (nodes.Or e f) = expression_sound s e && expression_sound s f && both (expression_size s e) (expression_size s f)
+  node_sound s (nodes.And e f) =
+      expression_sound s e && expression_sound s f && both (expression_size s e)
+      (expression_size s f)
+  node_sound s (nodes.Or e f) =
+      expression_sound s e && expression_sound s f && both (expression_size s e)
+      (expression_size s f)
   node_sound s (nodes.Conditional c e f) =
-      expression_sound s c && expression_sound s e && expression_sound s f && is_number (expression_size s c) && same_sizes (expression_size s e) (expression_size s f)
+      expression_sound s c && expression_sound s e && expression_sound s f && is_number
+      (expression_size s c) && same_sizes (expression_size s e) (expression_size s f)
   node_sound s (nodes.Comma e f) = expression_sound s e && expression_sound s f
-  node_sound s (nodes.Call f es) = arguments_sound s es && call_fits (slice_get s.functions f) (argument_sizes s es)
-  node_sound s (nodes.CallBuiltIn k es) = arguments_sound s es && are_sizes (built_in_takes k) (argument_sizes s es)
+  node_sound s (nodes.Call f es) =
+      arguments_sound s es && call_fits (slice_get s.functions f) (argument_sizes s es)
+  node_sound s (nodes.CallBuiltIn k es) =
+      arguments_sound s es && are_sizes (built_in_takes k) (argument_sizes s es)
   node_sound s nodes.ExceptionCode = s.code
   node_sound s (nodes.Information f) = s.information
   node_sound s nodes.AbnormalTermination = s.abnormal
@@ -229,7 +250,9 @@ abbrev mutual
   lvalue_sound s (Local x) = nat_lt x (length s.sizes)
   lvalue_sound s (Global access a) = nat_lt a (2 ^ 64)
   lvalue_sound s (Indirection access e) = expression_sound s e && is_size Long (expression_size s e)
-  lvalue_sound s (Element access e i) = expression_sound s e && expression_sound s i && is_size Long (expression_size s e) && is_size Long (expression_size s i)
+  lvalue_sound s (Element access e i) =
+      expression_sound s e && expression_sound s i && is_size Long
+      (expression_size s e) && is_size Long (expression_size s i)
 
   pub arguments_sound : Scope → Arguments → Bool
   arguments_sound s Done = true
@@ -237,7 +260,8 @@ abbrev mutual
 
 -- ---- statements
 
--- where a statement stands, beside its scope: what its function returns; whether a loop, a `__try` body and the function can be left from here
+-- where a statement stands, beside its scope: what its function returns; whether a loop, a `__try`
+-- body and the function can be left from here
 pub record Inside : Type 0 where
   pub scope : Scope
   pub returns : Option Size
@@ -261,7 +285,8 @@ value_fits s size None = true
 value_fits s size (Some e) = expression_sound s e && same_sizes (expression_size s e) size
 
 abbrev pub declared_sound : Scope → Declared → Bool
-declared_sound s d = nat_lt d.local (length s.sizes) && value_fits s (slice_get s.sizes d.local) d.value
+declared_sound s d =
+    nat_lt d.local (length s.sizes) && value_fits s (slice_get s.sizes d.local) d.value
 
 abbrev pub all_declared_sound : Scope → List Declared → Bool
 all_declared_sound s [] = true
@@ -269,11 +294,15 @@ all_declared_sound s (d ∷ ds) = declared_sound s d && all_declared_sound s ds
 
 abbrev pub result_sound : Inside → Option Expression → Bool
 result_sound i None = same_sizes None i.returns
-result_sound i (Some e) = expression_sound i.scope e && is_number i.returns && same_sizes (expression_size i.scope e) i.returns
+result_sound i (Some e) =
+    expression_sound i.scope e && is_number i.returns && same_sizes
+    (expression_size i.scope e) i.returns
 
 abbrev pub filter_sound : Scope → Filter → Bool
 filter_sound s Always = true
-filter_sound s (Funclet k e) = let t = record s { code = true; information = true } in expression_sound t e && is_size Int (expression_size t e)
+filter_sound s (Funclet k e) =
+    let t = record s { code = true; information = true }
+    in expression_sound t e && is_size Int (expression_size t e)
 
 abbrev mutual
   pub statement_sound : Inside → Statement → Bool
@@ -281,20 +310,30 @@ abbrev mutual
   statement_sound i (Block ss) = statements_sound i ss
   statement_sound i (Evaluate e) = optional_sound i.scope e
   statement_sound i (If c s) = condition_sound i.scope c && statement_sound i s
-  statement_sound i (IfElse c s t) = condition_sound i.scope c && statement_sound i s && statement_sound i t
+  statement_sound i (IfElse c s t) =
+      condition_sound i.scope c && statement_sound i s && statement_sound i t
   statement_sound i (For ds first c next s) =
-      all_declared_sound i.scope ds && optional_sound i.scope first && test_sound i.scope c && optional_sound i.scope next && statement_sound (record i { loop = true }) s
-  statement_sound i (DoWhile s c) = condition_sound i.scope c && statement_sound (record i { loop = true }) s
+      all_declared_sound i.scope ds && optional_sound i.scope first && test_sound i.scope c &&
+      optional_sound i.scope next && statement_sound (record i { loop = true }) s
+  statement_sound i (DoWhile s c) =
+      condition_sound i.scope c && statement_sound (record i { loop = true }) s
   statement_sound i (Return e) = i.function && result_sound i e
   statement_sound i Break = i.loop
   statement_sound i Continue = i.loop
   statement_sound i Leave = i.body
   statement_sound i (TryExcept body filter block) =
-      statements_sound (record i { body = true }) body && filter_sound i.scope filter && statements_sound (record i { scope = record i.scope { code = true } }) block
+      statements_sound (record i { body = true }) body && filter_sound i.scope filter &&
+      statements_sound (record i { scope = record i.scope { code = true } }) block
   -- no jump out of a `__finally` block
   statement_sound i (TryFinally body k last) =
       statements_sound (record i { body = true }) body
-      && statements_sound (record { scope = record i.scope { abnormal = true }; returns = i.returns; loop = false; body = false; function = false }) last
+      && statements_sound (record {
+        scope = record i.scope { abnormal = true };
+        returns = i.returns;
+        loop = false;
+        body = false;
+        function = false;
+      }) last
 
   pub statements_sound : Inside → Statements → Bool
   statements_sound i Empty = true
@@ -319,7 +358,8 @@ abbrev mutual
   funclets_in Break = []
   funclets_in Continue = []
   funclets_in Leave = []
-  funclets_in (TryExcept body filter block) = funclets body ++ filter_funclet filter ++ funclets block
+  funclets_in (TryExcept body filter block) =
+      funclets body ++ filter_funclet filter ++ funclets block
   funclets_in (TryFinally body k last) = funclets body ++ k ∷ funclets last
 
   pub funclets : Statements → List ℕ
@@ -340,13 +380,19 @@ abbrev pub function_sound : List Function → Function → Bool
 function_sound functions f =
     statements_sound
     (record {
-      scope = record { functions = functions; sizes = f.parameters ++ f.locals; code = false; information = false; abnormal = false };
+      scope = record {
+        functions = functions;
+        sizes = f.parameters ++ f.locals;
+        code = false;
+        information = false;
+        abnormal = false;
+      };
       returns = f.returns;
       loop = false;
       body = false;
       function = true;
     }) f.body
-    && nat_le (length f.parameters) 8 && nat_le (length f.locals) 256
+    && nat_le (length f.parameters) MOST_PARAMETERS && nat_le (length f.locals) MOST_LOCALS
 
 abbrev pub functions_sound : List Function → List Function → Bool
 functions_sound functions [] = true
@@ -355,12 +401,17 @@ functions_sound functions (f ∷ fs) = function_sound functions f && functions_s
 -- `main` takes nothing or one `long long`, and returns an `int`
 abbrev pub main_sound : Option Function → Bool
 main_sound None = false
-main_sound (Some f) = (are_sizes [] (some_sizes f.parameters) || are_sizes (Long ∷ []) (some_sizes f.parameters)) && is_size Int f.returns
+main_sound (Some f) =
+    (are_sizes [] (some_sizes f.parameters) || are_sizes (Long ∷ []) (some_sizes f.parameters)) &&
+    is_size Int f.returns
 
 abbrev pub is_sound : Program → Bool
 is_sound p =
-    functions_sound p.functions p.functions && main_sound (slice_get p.functions p.main) && count_up 1 (all_funclets p.functions)
-    && nat_le (length p.functions) 4096 && nat_le (length (all_funclets p.functions)) 16384 && nat_le (length p.globals) 1048576
+    functions_sound p.functions p.functions && main_sound
+    (slice_get p.functions p.main) && count_up 1 (all_funclets p.functions)
+    && nat_le (length p.functions) MOST_FUNCTIONS && nat_le
+    (length (all_funclets p.functions)) MOST_FUNCLETS && nat_le
+    (length p.globals) MOST_GLOBALS
 
 abbrev pub IsSound : Program → Type 0
 IsSound p = is_sound p ≡ true

@@ -23,8 +23,10 @@ mutual
     Evaluate : Option Expression → Statement
     If : Expression → Statement → Statement
     IfElse : Expression → Statement → Statement → Statement
-    -- what is declared, what is evaluated first, the condition, what is evaluated after each iteration, the body
-    For : List Declared → Option Expression → Option Expression → Option Expression → Statement → Statement
+    -- what is declared, what is evaluated first, the condition, what is evaluated after each
+    -- iteration, the body
+    For : List Declared → Option Expression → Option Expression → Option Expression → Statement
+        → Statement
     DoWhile : Statement → Expression → Statement
     Return : Option Expression → Statement
     Break : Statement
@@ -59,7 +61,9 @@ layer (opened.Declare d) = Declare (declared d)
 layer (opened.Block ss) = Block (statements ss.items)
 layer (opened.Evaluate e) = Evaluate (option_map expression e)
 layer (opened.If c s t) = choice (expression c) s.value (option_map (λ b. b.value) t)
-layer (opened.For ds first c next s) = For (map declared ds.items) (option_map expression first) (option_map expression c) (option_map expression next) s.value
+layer (opened.For ds first c next s) =
+    For (map declared ds.items) (option_map expression first) (option_map expression c)
+    (option_map expression next) s.value
 layer (opened.Do s c) = DoWhile s.value (expression c)
 layer (opened.Return e) = Return (option_map expression e)
 layer opened.Break = Break

@@ -5,8 +5,8 @@ use c_operations::field::Field;
 use c_operations::operation::{Operation, Pure, Signedness, Size};
 use seh_num::width::Width;
 
-/// The conversion of an expression's value for its use (C11, 6.3, and 6.5.6 for pointers). It counts no
-/// step.
+/// The conversion of an expression's value for its use (C11, 6.3, and 6.5.6 for pointers). It
+/// counts no step.
 #[derive(Clone, Copy, Debug, PartialEq, Eq)]
 pub enum Conversion {
     /// None: the number stays the same.
@@ -90,8 +90,8 @@ pub enum Node {
         target: Lvalue,
         value: Box<Expr>,
     },
-    /// `target operation= value` (C11, 6.5.16.2): the target's value is converted by `before` for the
-    /// operation, and its result by `after` to the target's type.
+    /// `target operation= value` (C11, 6.5.16.2): the target's value is converted by `before` for
+    /// the operation, and its result by `after` to the target's type.
     CompoundAssign {
         target: Lvalue,
         before: Conversion,

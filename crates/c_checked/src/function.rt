@@ -3,7 +3,8 @@
 use crate::statement::Stmt;
 use c_operations::operation::Size;
 
-/// A function definition (C11, 6.9.1). A parameter, a local and a result has the size of its numbers.
+/// A function definition (C11, 6.9.1). A parameter, a local and a result has the size of its
+/// numbers.
 #[derive(Drop)]
 pub struct Function {
     /// The name's bytes.

@@ -12,7 +12,7 @@ use Rattle.c_expressions.specs.declared.wanted.Wanted.{Wanted as Wanted'}
 use Rattle.c_expressions.specs.Views.{wanted}
 use Rattle.c_resolved.specs.declared.fault.Fault.{Fault}
 use Rattle.c_resolved.specs.declared.fault.Fault.TheVariants.{ArgCount}
-use Rattle.c_resolved.specs.Expressions.{FaultAt, Names, Passed, Wanted, Argument, ResolvedExpression, bad, unless, only_where, fault_at, faults_of, called, call_with, pass, pass_all, resolve_expression}
+use Rattle.c_resolved.specs.Expressions.{FaultAt, Names, Passed, Wanted, Argument, ResolvedExpression, bad, given_that, only_where, fault_at, faults_of, called, call_with, pass, pass_all, resolve_expression}
 use Rattle.c_resolved.specs.Operators.{TypedNode, typed}
 use Rattle.c_syntax.specs.declared.expression.CType.{CType}
 use Rattle.c_syntax.specs.declared.expression.Expr.{Expr}
@@ -31,11 +31,11 @@ same_counts s ws es = ap (λ n. nat_eq n (length (resolved_all s es))) (map_long
 
 pub call_refused : (at : ℕ) (ws : List Wanted) (t : CType) (make : nodes.Arguments → nodes.Node) (args : List Argument) → nat_eq (length ws) (length args) ≡ false
     → call_with at ws t make args ≡ bad (faults_of args ++ fault_at at ArgCount)
-call_refused at ws t make args e = ap (λ b. unless b at ArgCount (faults_of args) (called t make (pass_all ws args))) e
+call_refused at ws t make args e = ap (λ b. given_that b at ArgCount (faults_of args) (called t make (pass_all ws args))) e
 
 pub call_passed : (at : ℕ) (ws : List Wanted) (t : CType) (make : nodes.Arguments → nodes.Node) (args : List Argument) → nat_eq (length ws) (length args) ≡ true
     → call_with at ws t make args ≡ called t make (pass_all ws args)
-call_passed at ws t make args e = ap (λ b. unless b at ArgCount (faults_of args) (called t make (pass_all ws args))) e
+call_passed at ws t make args e = ap (λ b. given_that b at ArgCount (faults_of args) (called t make (pass_all ws args))) e
 
 -- ---- arguments so far, and what is still to be passed
 

@@ -6,7 +6,7 @@ use Rattle.c_expressions.specs.Kept.{kept}
 use Rattle.c_expressions.specs.Rules.{assigning_to, assigning_at}
 use Rattle.c_resolved.specs.declared.fault.Fault.{Fault}
 use Rattle.c_resolved.specs.declared.fault.Fault.TheVariants.{NotLvalue}
-use Rattle.c_resolved.specs.Expressions.{FaultAt, Names, ResolvedExpression, fault_at, unless, changed, is_lvalue}
+use Rattle.c_resolved.specs.Expressions.{FaultAt, Names, ResolvedExpression, fault_at, given_that, changed, is_lvalue}
 use Rattle.c_syntax.specs.declared.operator.Arithmetic.{Arithmetic}
 use Rattle.c_syntax.specs.Expression.{Expression, start}
 use Rattle.c_resolved.specs.Operators.{TypedNode}
@@ -33,14 +33,14 @@ three first w1 w2 w3 w4 jc ja jb rule c a b k1 k2 k3 ec ea eb adds =
 
 -- where the rule before it is broken
 pub refused_kept : (first old new : Option FaultAt) (b : Bool) (at : ℕ) (f : Fault) (fs : List FaultAt) (j : ResolvedExpression)
-    → b ≡ false → old ≡ kept first fs → new ≡ kept old (fault_at at f) → new ≡ kept first (unless b at f fs j).faults
-refused_kept first old new b at f fs j e p q = kept_more first old new fs (fault_at at f) p q ∙ sym (ap (λ k. kept first (unless k at f fs j).faults) e)
+    → b ≡ false → old ≡ kept first fs → new ≡ kept old (fault_at at f) → new ≡ kept first (given_that b at f fs j).faults
+refused_kept first old new b at f fs j e p q = kept_more first old new fs (fault_at at f) p q ∙ sym (ap (λ k. kept first (given_that k at f fs j).faults) e)
 
 pub on_any : {T E P : Type 0} (r : Result T E) → P → OnOk r P
 on_any (Ok x) p = p
 on_any (Err e) p = tt
 
 pub assign_is : (s : Names) (target value : Expression) (at : ℕ) (o : Option Arithmetic) (ja jb : ResolvedExpression)
-    → assigning_to s target (assigning_at o at (start value)) o (ja.faults ++ jb.faults) ja.found jb.found ≡ unless (is_lvalue s target) (start target) NotLvalue (ja.faults ++ jb.faults) (changed o at (start value) ja jb)
+    → assigning_to s target (assigning_at o at (start value)) o (ja.faults ++ jb.faults) ja.found jb.found ≡ given_that (is_lvalue s target) (start target) NotLvalue (ja.faults ++ jb.faults) (changed o at (start value) ja jb)
 assign_is s target value at None ja jb = refl
 assign_is s target value at (Some o) ja jb = refl

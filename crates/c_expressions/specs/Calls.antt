@@ -31,33 +31,45 @@ PassesFirst e rest all = put_before e rest.found ≡ all.found
 
 -- an argument of the text that is wanted so, after operands with these faults and before others
 abbrev pub passed_first : Wanted → Expr → Option TypedNode' → List FaultAt → Passed → Passed
-passed_first want e found fs rest = pass (wanted want) (start (expression e)) fs (option_map typed_node found) rest
+passed_first want e found fs rest =
+    pass (wanted want) (start (expression e)) fs (option_map typed_node found) rest
 
 -- the code passes what the rule passes, whatever the other arguments are
 abbrev pub Passes : Option Checked → (List FaultAt → Passed → Passed) → Type 0
-Passes e rule = (fs : List FaultAt) (rest : Passed) → PassesFirst (option_map nodes.expression e) rest (rule fs rest)
+Passes e rule =
+    (fs : List FaultAt) (rest : Passed)
+    → PassesFirst (option_map nodes.expression e) rest (rule fs rest)
 
--- where the argument's own faults are kept, the others' are to be kept after those that the rule adds
+-- where the argument's own faults are kept, the others' are to be kept after those that the rule
+-- adds
 abbrev pub AddsBefore : Least → Least → (List FaultAt → Passed → Passed) → Type 0
-AddsBefore before after rule = (first : Option FaultAt) (fs : List FaultAt) (rest : Passed) → least_of before ≡ kept first fs → kept (least_of after) rest.faults ≡ kept first (rule fs rest).faults
+AddsBefore before after rule =
+    (first : Option FaultAt) (fs : List FaultAt) (rest : Passed) → least_of before ≡ kept first fs
+    → kept (least_of after) rest.faults ≡ kept first (rule fs rest).faults
 
 abbrev pub expressions_of : Option (Vec Checked) → Option (List nodes.Expression)
 expressions_of passed = option_map (λ v. map nodes.expression v.items) passed
 
 -- one more argument, if all are good
-abbrev pub put_after : Option (List nodes.Expression) → Option nodes.Expression → Option (List nodes.Expression)
+abbrev pub put_after : Option (List nodes.Expression) → Option nodes.Expression
+    → Option (List nodes.Expression)
 put_after (Some es) (Some e) = Some (es ++ e ∷ [])
 put_after es e = None
 
 -- ---- calls
 
 -- of this type and node with these arguments, if all are good
-abbrev pub call_of : CType → (nodes.Arguments → nodes.Node) → Option (Vec Checked) → Option TypedNode
+abbrev pub call_of : CType → (nodes.Arguments → nodes.Node) → Option (Vec Checked)
+    → Option TypedNode
 call_of t make passed = option_map (λ v. typed t (make (passed_of v.items))) passed
 
 -- whatever the type and the node of the call are
-abbrev pub FindsCall : Option (Vec Checked) → (CType → (nodes.Arguments → nodes.Node) → ResolvedExpression) → Type 0
-FindsCall passed rule = (t : CType) (make : nodes.Arguments → nodes.Node) → call_of t make passed ≡ (rule t make).found
+abbrev pub FindsCall : Option (Vec Checked)
+    → (CType → (nodes.Arguments → nodes.Node) → ResolvedExpression) → Type 0
+FindsCall passed rule =
+    (t : CType) (make : nodes.Arguments → nodes.Node) → call_of t make passed ≡ (rule t make).found
 
-abbrev pub AddsCall : Least → Least → (CType → (nodes.Arguments → nodes.Node) → ResolvedExpression) → Type 0
-AddsCall before after rule = (t : CType) (make : nodes.Arguments → nodes.Node) → AddsFaults before after (rule t make).faults
+abbrev pub AddsCall : Least → Least → (CType → (nodes.Arguments → nodes.Node) → ResolvedExpression)
+    → Type 0
+AddsCall before after rule =
+    (t : CType) (make : nodes.Arguments → nodes.Node) → AddsFaults before after (rule t make).faults

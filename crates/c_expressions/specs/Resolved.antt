@@ -19,9 +19,12 @@ abbrev pub all_passed : Context → List Wanted → List Expr → Passed
 all_passed context wants given = pass_all (map wanted wants) (resolved_all (names_of context) given)
 
 -- a call of this type and node, whose arguments have to be what is wanted
-abbrev pub called_with : Context → ℕ → List Wanted → List Expr → CType → (Arguments → Node) → ResolvedExpression
-called_with context at wants given t make = call_with at (map wanted wants) t make (resolved_all (names_of context) given)
+abbrev pub called_with : Context → ℕ → List Wanted → List Expr → CType → (Arguments → Node)
+    → ResolvedExpression
+called_with context at wants given t make =
+    call_with at (map wanted wants) t make (resolved_all (names_of context) given)
 
 -- a call of a name with this meaning
 abbrev pub called : Context → ℕ → Option Entity → List Expr → ResolvedExpression
-called context at meaning given = call (names_of context) at (option_map entity meaning) (resolved_all (names_of context) given)
+called context at meaning given =
+    call (names_of context) at (option_map entity meaning) (resolved_all (names_of context) given)

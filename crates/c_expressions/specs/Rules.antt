@@ -2,7 +2,7 @@
 use Rattle.std.specs.Prelude.{◌≡◌, ℕ, Bool, true, false, List, Option, Some, None, option_map}
 use Rattle.c_expressions.specs.declared.least.Least.{Least}
 use Rattle.c_expressions.specs.Kept.{least_of, kept}
-use Rattle.c_resolved.specs.Expressions.{Entity, UserFunction, BuiltInFunction, FaultAt, Names, ResolvedExpression, only_where, unless, rule_1, rule_2, rule_3, is_lvalue, operand_is_lvalue}
+use Rattle.c_resolved.specs.Expressions.{Entity, UserFunction, BuiltInFunction, FaultAt, Names, ResolvedExpression, only_where, given_that, rule_1, rule_2, rule_3, is_lvalue, operand_is_lvalue}
 use Rattle.c_resolved.specs.Operators.{TypedNode, assigned, compound_assigned, incremented, unary_of}
 use Rattle.c_syntax.specs.declared.operator.Arithmetic.{Arithmetic}
 use Rattle.c_syntax.specs.declared.operator.Increment.{Increment}
@@ -21,25 +21,32 @@ Finds r rule = (fs : List FaultAt) → option_map typed_node r ≡ (rule fs).fou
 
 -- Where the operands' faults are kept, it keeps the rule's too.
 abbrev pub Adds : Least → Least → (List FaultAt → ResolvedExpression) → Type 0
-Adds before after rule = (first : Option FaultAt) (fs : List FaultAt) → least_of before ≡ kept first fs → least_of after ≡ kept first (rule fs).faults
+Adds before after rule =
+    (first : Option FaultAt) (fs : List FaultAt) → least_of before ≡ kept first fs
+    → least_of after ≡ kept first (rule fs).faults
 
 -- ---- rules on the types of one operand, of two and of three, after operands with these faults
 
-abbrev pub unary_rule : ℕ → (TypedNode → Option TypedNode) → Option TypedNode' → List FaultAt → ResolvedExpression
+abbrev pub unary_rule : ℕ → (TypedNode → Option TypedNode) → Option TypedNode' → List FaultAt
+    → ResolvedExpression
 unary_rule at rule a fs = rule_1 at rule fs (option_map typed_node a)
 
-abbrev pub binary_rule : ℕ → (TypedNode → TypedNode → Option TypedNode) → Option TypedNode' → Option TypedNode' → List FaultAt → ResolvedExpression
+abbrev pub binary_rule : ℕ → (TypedNode → TypedNode → Option TypedNode) → Option TypedNode'
+    → Option TypedNode' → List FaultAt → ResolvedExpression
 binary_rule at rule a b fs = rule_2 at rule fs (option_map typed_node a) (option_map typed_node b)
 
-abbrev pub ternary_rule : ℕ → (TypedNode → TypedNode → TypedNode → Option TypedNode) → Option TypedNode' → Option TypedNode' → Option TypedNode' → List FaultAt → ResolvedExpression
-ternary_rule at rule c a b fs = rule_3 at rule fs (option_map typed_node c) (option_map typed_node a) (option_map typed_node b)
+abbrev pub ternary_rule : ℕ → (TypedNode → TypedNode → TypedNode → Option TypedNode)
+    → Option TypedNode' → Option TypedNode' → Option TypedNode' → List FaultAt → ResolvedExpression
+ternary_rule at rule c a b fs =
+    rule_3 at rule fs (option_map typed_node c) (option_map typed_node a) (option_map typed_node b)
 
 -- `=`, or with an operator its compound form
 abbrev pub assigning_rule : Option Arithmetic → TypedNode → TypedNode → Option TypedNode
 assigning_rule None = assigned
 assigning_rule (Some o) = compound_assigned o
 
-abbrev pub assigning : Option Arithmetic → ℕ → List FaultAt → Option TypedNode → Option TypedNode → ResolvedExpression
+abbrev pub assigning : Option Arithmetic → ℕ → List FaultAt → Option TypedNode → Option TypedNode
+    → ResolvedExpression
 assigning o at fs a b = rule_2 at (assigning_rule o) fs a b
 
 -- the place of its fault: the value's for `=`
@@ -49,16 +56,23 @@ assigning_at (Some o) at value = at
 
 -- ---- operators whose operand has to be an lvalue, after operands with these faults
 
-abbrev pub stepping : Names → ℕ → Fixity → Increment → Expression → List FaultAt → Option TypedNode → ResolvedExpression
-stepping s at m o e fs a = unless (is_lvalue s e) (start e) NotLvalue fs (rule_1 at (incremented m o) fs a)
+abbrev pub stepping : Names → ℕ → Fixity → Increment → Expression → List FaultAt → Option TypedNode
+    → ResolvedExpression
+stepping s at m o e fs a =
+    given_that (is_lvalue s e) (start e) NotLvalue fs (rule_1 at (incremented m o) fs a)
 
-abbrev pub preceding : Names → ℕ → UnaryOperator → Expression → List FaultAt → Option TypedNode → ResolvedExpression
-preceding s at o e fs a = unless (operand_is_lvalue o s e) (start e) NotLvalue fs (rule_1 at (unary_of o) fs a)
+abbrev pub preceding : Names → ℕ → UnaryOperator → Expression → List FaultAt → Option TypedNode
+    → ResolvedExpression
+preceding s at o e fs a =
+    given_that (operand_is_lvalue o s e) (start e) NotLvalue fs (rule_1 at (unary_of o) fs a)
 
-abbrev pub assigning_to : Names → Expression → ℕ → Option Arithmetic → List FaultAt → Option TypedNode → Option TypedNode → ResolvedExpression
-assigning_to s target at o fs a b = unless (is_lvalue s target) (start target) NotLvalue fs (assigning o at fs a b)
+abbrev pub assigning_to : Names → Expression → ℕ → Option Arithmetic → List FaultAt
+    → Option TypedNode → Option TypedNode → ResolvedExpression
+assigning_to s target at o fs a b =
+    given_that (is_lvalue s target) (start target) NotLvalue fs (assigning o at fs a b)
 
--- a call that is right in itself, but has a meaning in some places alone, after arguments with these faults
+-- a call that is right in itself, but has a meaning in some places alone, after arguments with
+-- these faults
 abbrev pub allowed_call : Bool → ℕ → Fault → List FaultAt → Option TypedNode → ResolvedExpression
 allowed_call allowed at f fs a = only_where allowed at f (record { found = a; faults = fs })
 

@@ -10,6 +10,12 @@ use Rattle.c_types.specs.declared.typed.TypedNode.{TypedNode}
 use Rattle.c_types.specs.Views.{typed_node}
 
 -- whatever the faults of the expression are
-pub record Values (before after : Least) (found : Option TypedNode) (e : Expr) (rule : ResolvedExpression → Value) : Type 0 where
-  pub value : (fs : List FaultAt) → expression e ≡ (rule (record { found = option_map typed_node found; faults = fs })).value
-  pub faults : (first : Option FaultAt) (fs : List FaultAt) → least_of before ≡ kept first fs → least_of after ≡ kept first (rule (record { found = option_map typed_node found; faults = fs })).faults
+pub record Values (before after : Least) (found : Option TypedNode) (e : Expr)
+    (rule : ResolvedExpression → Value) : Type 0 where
+  pub value : (fs : List FaultAt) → expression e ≡ (rule
+      (record { found = option_map typed_node found; faults = fs })).value
+  pub faults : (first : Option FaultAt) (fs : List FaultAt) → least_of before ≡ kept first fs
+      → least_of after ≡ kept first (rule (record {
+        found = option_map typed_node found;
+        faults = fs;
+      })).faults

@@ -23,6 +23,7 @@ use c_types::nodes::read;
 use c_types::typed::{TypedNode, typed};
 use c_types::types::{access_of, plain, pointer_to, size_of};
 use seh_num::extension::wrap;
+use seh_num::size::EXCEPTION_MAXIMUM_PARAMETERS;
 use seh_num::width::Width;
 use std::alloc::AllocError;
 
@@ -106,6 +107,9 @@ pub fn name(
     }
 }
 
+/// The index of the last parameter that an exception may have.
+const LAST_INFORMATION: u64 = EXCEPTION_MAXIMUM_PARAMETERS as u64 - 1;
+
 /// A field of the exception's record.
 fn field(worst: &mut Least, of: Field) -> Option<TypedNode>
     ensures found { FindsTyped result (definitions.field of).found }
@@ -117,7 +121,7 @@ fn field(worst: &mut Least, of: Field) -> Option<TypedNode>
         Field::Flags => Some(typed(unsigned, Node::Information(Read::ExceptionFlags))),
         Field::Count => Some(typed(unsigned, Node::Information(Read::NumberParameters))),
         Field::Information { index, at } => {
-            if 14 < index {
+            if LAST_INFORMATION < index {
                 worst.add(at, Fault::TypeClash);
                 return None;
             }

@@ -19,13 +19,11 @@ use c_resolved::fault::Fault;
 use c_syntax::declaration::{Constant, Global as Declarator, Initialiser, Length};
 use c_syntax::expression::{Base, CType, Identifier, Literal};
 use c_types::types::{bytes_in, is_scalar};
+use host_layout::range::FIRST_DATA;
 use indexmap::IndexMap;
 use seh_num::extension::wrap;
 use seh_num::width::Width;
 use std::alloc::{AllocError, Global};
-
-/// The address of the first byte of the globals.
-const FIRST_DATA: u64 = 0x1_4000_1000;
 
 /// The names of the file, the bytes of the globals so far, how many functions there are so far, and
 /// the least fault.

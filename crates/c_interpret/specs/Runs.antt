@@ -16,20 +16,24 @@ use Rattle.source_steps.specs.declared.machine.Machine.{Machine as Machine'}
 use Rattle.source_steps.specs.Machines.{machine_of}
 
 -- a step was made, and the receiver took what it shows
-pub record Turned {X : Type 0} (took : X → List Event → X → Type 0) (program : Program) (m : Machine') (next : Next) (x : X) (m' : Machine') (next' : Next) (x' : X) : Type 0 where
+pub record Turned {X : Type 0} (took : X → List Event → X → Type 0) (program : Program)
+    (m : Machine') (next : Next) (x : X) (m' : Machine') (next' : Next) (x' : X) : Type 0 where
   pub shown : List Event
   pub took_shown : took x shown x'
-  pub stepped : (es : List Event) → step program (machine_of m next es) ≡ machine_of m' next' (es ++ shown)
+  pub stepped : (es : List Event) → step program (machine_of m next es)
+      ≡ machine_of m' next' (es ++ shown)
 
 -- the receiver took all that the machine shows, and this is what the machine comes to
-pub record Ran {X : Type 0} (took : X → List Event → X → Type 0) (program : Program) (m : Machine) (how : Result) (x x' : X) : Type 0 where
+pub record Ran {X : Type 0} (took : X → List Event → X → Type 0) (program : Program) (m : Machine)
+    (how : Result) (x x' : X) : Type 0 where
   pub shown : List Event
   pub took_shown : took x shown x'
   pub how_is : how_of (comes_to program (does program) m) ≡ how
   pub all : (state_of (comes_to program (does program) m)).events ≡ shown
 
 -- the receiver took the front of what the machine shows
-pub record ShownPart {X : Type 0} (took : X → List Event → X → Type 0) (program : Program) (m : Machine) (x x' : X) : Type 0 where
+pub record ShownPart {X : Type 0} (took : X → List Event → X → Type 0) (program : Program)
+    (m : Machine) (x x' : X) : Type 0 where
   pub shown : List Event
   pub took_shown : took x shown x'
   pub front : IsPrefixOf shown (state_of (comes_to program (does program) m)).events
@@ -41,12 +45,14 @@ end_of (End e) = e
 end_of how = None
 
 -- the receiver took all that a program shows, which ended so
-pub record Means {X : Type 0} (took : X → List Event → X → Type 0) (meaning : Shown) (end : Option Ended) (x x' : X) : Type 0 where
+pub record Means {X : Type 0} (took : X → List Event → X → Type 0) (meaning : Shown)
+    (end : Option Ended) (x x' : X) : Type 0 where
   pub took_events : took x meaning.events x'
   pub ended : meaning.end ≡ end
 
 -- the receiver took the front of what a program shows
-pub record MeansPart {X : Type 0} (took : X → List Event → X → Type 0) (meaning : Shown) (x x' : X) : Type 0 where
+pub record MeansPart {X : Type 0} (took : X → List Event → X → Type 0) (meaning : Shown)
+    (x x' : X) : Type 0 where
   pub shown : List Event
   pub took_shown : took x shown x'
   pub front : IsPrefixOf shown meaning.events

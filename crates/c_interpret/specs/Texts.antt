@@ -31,7 +31,8 @@ text trace steps shown = lines trace shown.events ++ ended_line (ended_within st
 -- after a fault, and where memory is wanting, the sink took a part of the text from the front
 abbrev pub TookFront : MeanErr → Option (List ℕ) → List ℕ → Option (List ℕ) → Type 0
 TookFront (Write taken) before text after = TookPart before text after taken
-TookFront Memory before text after = (part : List ℕ) × ((rest : List ℕ) × (text ≡ part ++ rest)) × Grew before part after
+TookFront Memory before text after =
+    (part : List ℕ) × ((rest : List ℕ) × (text ≡ part ++ rest)) × Grew before part after
 
 abbrev pub HasCause : MeanErr → ℕ → ℕ → Type 0
 HasCause (Write taken) faults faults' = Rose faults faults'

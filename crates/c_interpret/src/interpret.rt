@@ -54,11 +54,11 @@ fn ended_line(ended: &Ended) -> Line
     line
 }
 
-/// Runs a program within `budget` steps from an argument, writes the lines of what it shows and of its
-/// end, and answers its end.
+/// Runs a program within `budget` steps from an argument, writes the lines of what it shows and of
+/// its end, and answers its end.
 ///
-/// With `trace` each event has its line, else what is put alone. A program that hasn't ended within the
-/// steps is out of steps. After an error the sink has taken a part of the text from the front.
+/// With `trace` each event has its line, else what is put alone. A program that hasn't ended within
+/// the steps is out of steps. After an error the sink has taken a part of the text from the front.
 pub fn interpret<O: Sink>(
     alloc: Global,
     program: &Checked,

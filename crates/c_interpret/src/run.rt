@@ -131,7 +131,8 @@ fn end_of(finish: Finish) -> Option<Ended>
     }
 }
 
-/// Runs a program within some steps; the receiver takes what it shows. No end is the end within them.
+/// Runs a program within some steps; the receiver takes what it shows. No end is the end within
+/// them.
 pub fn run_program<V: Events>(
     alloc: Global,
     program: &Checked,

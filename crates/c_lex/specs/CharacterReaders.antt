@@ -17,7 +17,9 @@ closed (Some n) (b ∷ bs) = if b == 39 then Some (signed_char n, bs) else None
 abbrev pub two_digits : List ℕ → Option (ℤ × List ℕ)
 two_digits [] = None
 two_digits (a ∷ []) = None
-two_digits (a ∷ (b ∷ bs)) = if nat_lt (digit a) 16 && nat_lt (digit b) 16 then closed (Some (16 * digit a + digit b)) bs else None
+two_digits (a ∷ (b ∷ bs)) =
+    if nat_lt (digit a) 16 && nat_lt (digit b) 16 then closed (Some (16 * digit a + digit b)) bs
+    else None
 
 -- after `\`
 abbrev pub escape : List ℕ → Option (ℤ × List ℕ)

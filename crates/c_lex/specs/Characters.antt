@@ -32,7 +32,8 @@ char n = Lexeme (kinds.CharacterConstant (signed_char n))
 abbrev pub is_hexadecimal : ℕ → Bool
 is_hexadecimal b = nat_lt (digit b) 16
 
--- what may follow a quote: a byte, an escape, or `\x` and two digits, and a quote; alone it is no character
+-- what may follow a quote: a byte, an escape, or `\x` and two digits, and a quote; alone it is no
+-- character
 unfoldable pub quoted : List ℕ → Option Word
 quoted [] = Some (Bad BadChar)
 quoted (b ∷ []) = None
@@ -40,6 +41,7 @@ quoted (b ∷ (q ∷ [])) = if q == 39 && is_plain b then Some (char b) else Non
 quoted (s ∷ (b ∷ (q ∷ []))) = if q == 39 && s == 92 then option_map char (escaped b) else None
 quoted (s ∷ (x ∷ (a ∷ (b ∷ [])))) = None
 quoted (s ∷ (x ∷ (a ∷ (b ∷ (q ∷ []))))) =
-    if q == 39 && (s == 92 && (x == 120 && (is_hexadecimal a && is_hexadecimal b))) then Some (char (16 * digit a + digit b))
+    if q == 39 && (s == 92 && (x == 120 && (is_hexadecimal a && is_hexadecimal b)))
+    then Some (char (16 * digit a + digit b))
     else None
 quoted (s ∷ (x ∷ (a ∷ (b ∷ (q ∷ (c ∷ bs)))))) = None

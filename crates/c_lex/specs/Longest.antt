@@ -2,10 +2,12 @@
 use Rattle.std.specs.Prelude.{◌≡◌, ℕ, Bool, ◌&&◌, true, if◌then◌else◌, List, [], ◌∷◌, ◌++◌, Option, Some, None}
 
 -- The text is a word and a rest: the word is an x, and with more of the rest it is nothing.
-pub record IsLongest {A : Type 0} (of : List ℕ → Option A) (text word rest : List ℕ) (x : A) : Type 0 where
+pub record IsLongest {A : Type 0} (of : List ℕ → Option A) (text word rest : List ℕ)
+    (x : A) : Type 0 where
   pub split : text ≡ word ++ rest
   pub is : of word ≡ Some x
-  pub longest : (more after : List ℕ) (y : A) → rest ≡ more ++ after → of (word ++ more) ≡ Some y → more ≡ []
+  pub longest : (more after : List ℕ) (y : A) → rest ≡ more ++ after → of (word ++ more) ≡ Some y
+      → more ≡ []
 
 abbrev pub every : (ℕ → Bool) → List ℕ → Bool
 every p [] = true

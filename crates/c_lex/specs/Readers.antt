@@ -5,13 +5,15 @@ use Rattle.c_lex.specs.Integers.{digit}
 -- the value of the digits at the front after digits that make n, and the rest
 abbrev pub number : ℕ → ℕ → List ℕ → ℕ × List ℕ
 number base n [] = (n, [])
-number base n (b ∷ bs) = if nat_lt (digit b) base then number base (base * n + digit b) bs else (n, b ∷ bs)
+number base n (b ∷ bs) =
+    if nat_lt (digit b) base then number base (base * n + digit b) bs else (n, b ∷ bs)
 
 -- the first digit after an `x` at the front, and the rest
 abbrev pub hexadecimal : List ℕ → Option (ℕ × List ℕ)
 hexadecimal [] = None
 hexadecimal (x ∷ []) = None
-hexadecimal (x ∷ (b ∷ bs)) = if (x == 120 || x == 88) && nat_lt (digit b) 16 then Some (digit b, bs) else None
+hexadecimal (x ∷ (b ∷ bs)) =
+    if (x == 120 || x == 88) && nat_lt (digit b) 16 then Some (digit b, bs) else None
 
 -- ---- the longest of at most three bytes, or else x
 

@@ -16,7 +16,8 @@ pub record Piece : Type 0 where
 -- The text is these words one after another, each the longest that is at its place, and then rest.
 abbrev pub Cut : List Piece → List ℕ → List ℕ → Type 0
 Cut [] text rest = text ≡ rest
-Cut (p ∷ ps) text rest = (after : List ℕ) × IsLongest word text p.bytes after p.is × Cut ps after rest
+Cut (p ∷ ps) text rest =
+    (after : List ℕ) × IsLongest word text p.bytes after p.is × Cut ps after rest
 
 -- a token, white space or a comment
 abbrev pub IsGood : Word → Type 0

@@ -11,8 +11,8 @@ use crate::token::Token;
 use crate::word::{Fault, Word, longest_word};
 use std::alloc::{AllocError, AllocFailed, Global};
 
-/// Why a text has no list of tokens. `at` is the place of the first byte that belongs to no token, no
-/// white space and no comment.
+/// Why a text has no list of tokens. `at` is the place of the first byte that belongs to no token,
+/// no white space and no comment.
 #[derive(Clone, Copy, Debug, PartialEq, Eq)]
 pub enum LexErr {
     /// A byte begins no token, white space or comment.

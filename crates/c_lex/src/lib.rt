@@ -4,9 +4,9 @@
 //! "Lexical elements"). Words are the tokens, white space and comments. What begins no such word is
 //! refused at its place. A text is bytes: it is read as ASCII, and any byte may be in a comment.
 //!
-//! `lexing::lex` gives the tokens of a text, in its order, or the first fault; `laws::laws` says what
-//! holds of every text. A token has its kind and its bytes' places: a name's spelling is read from
-//! the text, all else is in the kind.
+//! `lexing::lex` gives the tokens of a text, in its order, or the first fault; `laws::laws` says
+//! what holds of every text. A token has its kind and its bytes' places: a name's spelling is read
+//! from the text, all else is in the kind.
 #![tactic(auto)]
 
 mod character;

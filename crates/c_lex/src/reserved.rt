@@ -3,7 +3,8 @@
 ghost use Rattle.std.specs.Prelude.{◌≡◌};
 ghost use Rattle.c_lex.specs.ReservedWords.{spelling, reserved_of};
 
-/// Keywords of C (C11, 6.4.1) that are no keywords here: no name is spelled so, and no rule has them.
+/// Keywords of C (C11, 6.4.1) that are no keywords here: no name is spelled so, and no rule has
+/// them.
 #[derive(Clone, Copy, Debug, PartialEq, Eq)]
 pub enum Reserved {
     Auto,

@@ -88,7 +88,8 @@ fn word_from<'a>(first: u8, rest: &'a [u8], text: &'a [u8]) -> (Word, &'a [u8])
     }
 }
 
-/// What the longest word at the front is, and what follows it; nothing where the text is at its end.
+/// What the longest word at the front is, and what follows it; nothing where the text is at its
+/// end.
 pub(crate) fn longest_word(text: &[u8]) -> Option<(Word, &[u8])>
     ensures found { IfSome result (λ x. (w : List ℕ) × IsLongest word text.now w x.1.now x.0) }
     ensures none { IfNone result (text.now ≡ []) }

@@ -17,17 +17,21 @@ use Rattle.c_resolved.specs.Statements.{ResolvedStatements, ResolvedForInitialis
 abbrev pub declares : Declared → checked.Statement
 declares d = checked.Declare (declared d)
 
--- what was made, the numbering and the names of the block after it, and its faults after those before
-pub record Resolves (names : List (Bor (List ℕ) × Entity)) (before after : Walk) (made : List checked.Statement) (r : ResolvedStatements) : Type 0 where
+-- what was made, the numbering and the names of the block after it, and its faults after those
+-- before
+pub record Resolves (names : List (Bor (List ℕ) × Entity)) (before after : Walk)
+    (made : List checked.Statement) (r : ResolvedStatements) : Type 0 where
   pub done : made ≡ r.done
   pub counts : numbering after ≡ r.counts
   pub block : block_of names ≡ r.block
   pub faults : least_of after.worst ≡ kept (least_of before.worst) r.faults
 
 -- what a `for` does first, likewise
-pub record Begins (names : List (Bor (List ℕ) × Entity)) (before after : Walk) (b : Beginning) (r : ResolvedForInitialiser) : Type 0 where
+pub record Begins (names : List (Bor (List ℕ) × Entity)) (before after : Walk) (b : Beginning)
+    (r : ResolvedForInitialiser) : Type 0 where
   pub declared : map declared b.declared.items ≡ r.declared
   pub first : option_map expression b.first ≡ r.first.value
   pub counts : numbering after ≡ r.resolved.counts
   pub block : block_of names ≡ r.resolved.block
-  pub faults : least_of after.worst ≡ kept (least_of before.worst) (r.resolved.faults ++ r.first.faults)
+  pub faults : least_of after.worst ≡ kept (least_of before.worst)
+      (r.resolved.faults ++ r.first.faults)

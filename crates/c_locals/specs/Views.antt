@@ -53,16 +53,34 @@ in_handler a = record a { code = true }
 
 -- the block of a `__finally`
 abbrev pub in_last : Environment → Environment
-in_last a = record a { loop = past_finally a.loop; body = past_finally a.body; function = Beyond; abnormal = true }
+in_last a =
+    record a {
+      loop = past_finally a.loop;
+      body = past_finally a.body;
+      function = Beyond;
+      abnormal = true;
+    }
 
 -- ---- expressions
 
 -- with these names around
 abbrev pub names_within : Environment → Scope → Names
-names_within a scope = record { entity = λ n. meaning_in (built_ins ++ scope) (spelled a.text n); code = a.code; information = false; abnormal = a.abnormal }
+names_within a scope =
+    record {
+      entity = λ n. meaning_in (built_ins ++ scope) (spelled a.text n);
+      code = a.code;
+      information = false;
+      abnormal = a.abnormal;
+    }
 
 abbrev pub filter_names_within : Environment → Scope → Names
-filter_names_within a scope = record { entity = λ n. meaning_in (built_ins ++ scope) (spelled a.text n); code = true; information = true; abnormal = a.abnormal }
+filter_names_within a scope =
+    record {
+      entity = λ n. meaning_in (built_ins ++ scope) (spelled a.text n);
+      code = true;
+      information = true;
+      abnormal = a.abnormal;
+    }
 
 abbrev pub resolved_at : Environment → Scope → Expression → ResolvedExpression
 resolved_at a block e = resolve_expression (names_at a block) e
@@ -75,9 +93,14 @@ filter_resolved_at a block e = resolve_expression (filter_names a block) e
 abbrev pub resolved_in : Environment' → List (Bor (List ℕ) × Entity) → Expr → ResolvedExpression
 resolved_in a entries e = resolved_at (environment a) (block_of entries) (expression e)
 
-abbrev pub filter_resolved_in : Environment' → List (Bor (List ℕ) × Entity) → Expr → ResolvedExpression
-filter_resolved_in a entries e = filter_resolved_at (environment a) (block_of entries) (expression e)
+abbrev pub filter_resolved_in : Environment' → List (Bor (List ℕ) × Entity) → Expr
+    → ResolvedExpression
+filter_resolved_in a entries e =
+    filter_resolved_at (environment a) (block_of entries) (expression e)
 
 -- by a rule on its value, where there is an expression
-abbrev pub optional_in : (Expression → ResolvedExpression → Value) → Environment' → List (Bor (List ℕ) × Entity) → Option Expr → Optional
-optional_in rule a entries e = optional (λ x. rule x (resolved_at (environment a) (block_of entries) x)) (option_map expression e)
+abbrev pub optional_in : (Expression → ResolvedExpression → Value) → Environment'
+    → List (Bor (List ℕ) × Entity) → Option Expr → Optional
+optional_in rule a entries e =
+    optional (λ x. rule x (resolved_at (environment a) (block_of entries) x))
+    (option_map expression e)

@@ -5,6 +5,8 @@
 //! `evaluated` the values of its expressions; `declarations` the locals of a block; `filters` what
 //! an `__except` asks. Each equals the definition of its name in `c_resolved`, and keeps the least
 //! fault.
+//!
+//! Begin with `environment`.
 #![tactic(auto)]
 
 pub mod declarations;

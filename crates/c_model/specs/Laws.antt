@@ -13,23 +13,36 @@ IsPrefixOf es fs = (rest : List Event) × (es ++ rest ≡ fs)
 
 -- what a task does is one step, and then its case
 abbrev pub DoesIs : Type 0
-DoesIs = (program : Program) (task : Task) (context : Context) (st : State) → does program task context st ≡ counted st (λ st. perform program (does program) task context st)
+DoesIs =
+    (program : Program) (task : Task) (context : Context) (st : State)
+    → does program task context st ≡ counted st (λ st. perform program
+    (does program) task context st)
 
 -- no more steps are left after a task than before it
 abbrev pub NeverRises : Type 0
-NeverRises = (program : Program) (task : Task) (context : Context) (st : State) → (state_of (does program task context st)).steps_left ≤ st.steps_left
+NeverRises =
+    (program : Program) (task : Task) (context : Context) (st : State)
+    → (state_of (does program task context st)).steps_left ≤ st.steps_left
 
 -- what n steps show is the front of what more steps show
 abbrev pub ShowsMore : Type 0
-ShowsMore = (program : Program) (arg : ℤ) (n k : ℕ) → IsPrefixOf (meaning program arg n).events (meaning program arg (n + k)).events
+ShowsMore =
+    (program : Program) (arg : ℤ) (n k : ℕ)
+    → IsPrefixOf (meaning program arg n).events (meaning program arg (n + k)).events
 
 -- a program that has ended shows nothing more
 abbrev pub EndStays : Type 0
-EndStays = (program : Program) (arg : ℤ) (n k : ℕ) (e : Ended) → (meaning program arg n).end ≡ Some e → meaning program arg (n + k) ≡ meaning program arg n
+EndStays =
+    (program : Program) (arg : ℤ) (n k : ℕ) (e : Ended) → (meaning program arg n).end ≡ Some e
+    → meaning program arg (n + k) ≡ meaning program arg n
 
 abbrev pub CalmBefore : Type 0
-CalmBefore = (program : Program) (arg : ℤ) (n k : ℕ) → Calm program arg (n + k) ≡ true → Calm program arg n ≡ true
+CalmBefore =
+    (program : Program) (arg : ℤ) (n k : ℕ) → Calm program arg (n + k) ≡ true
+    → Calm program arg n ≡ true
 
 -- what a task shows comes after what was shown before it
 abbrev pub EventsGrow : Type 0
-EventsGrow = (program : Program) (task : Task) (context : Context) (st : State) → IsPrefixOf st.events (state_of (does program task context st)).events
+EventsGrow =
+    (program : Program) (task : Task) (context : Context) (st : State)
+    → IsPrefixOf st.events (state_of (does program task context st)).events

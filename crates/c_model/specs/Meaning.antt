@@ -24,7 +24,8 @@ perform program does (Run s) context st = statement does s context st
 perform program does (ForIteration c next s) context st = for_iteration does c next s context st
 perform program does (DoIteration s c) context st = do_iteration does s c context st
 perform program does (TryBody ss) context st = all does ss context st
-perform program does (Raise exc) context st = search does context.handlers exc context (emit (raise_event exc) st)
+perform program does (Raise exc) context st =
+    search does context.handlers exc context (emit (raise_event exc) st)
 perform program does (RunFilter k e h exc) context st = run_filter does k e h exc context st
 perform program does (RunFinally k last flag) context st = run_finally does k last flag context st
 perform program does (Retry o a b) context st = operate program does o a b context st
@@ -32,14 +33,22 @@ perform program does (Retry o a b) context st = operate program does o a b conte
 -- at most n tasks inside one another
 abbrev pub within : Program → ℕ → Does
 within program zero task context st = Gives (End None) st
-within program (suc n) task context st = counted st (λ st. perform program (within program n) task context st)
+within program (suc n) task context st =
+    counted st (λ st. perform program (within program n) task context st)
 
 -- what a task does: there are as many tasks inside one another as steps at most
 abbrev pub does : Program → Does
 does program task context st = within program st.steps_left task context st
 
 abbrev pub start : Program → ℕ → State
-start program n = record { steps_left = n; memory = first_memory program.globals; frames = []; held = 0; events = [] }
+start program n =
+    record {
+      steps_left = n;
+      memory = first_memory program.globals;
+      frames = [];
+      held = 0;
+      events = [];
+    }
 
 abbrev pub outside : Context
 outside = record { handlers = []; activation = 0; exception = no_exception; abnormal = false }
@@ -85,5 +94,6 @@ Calm program arg n = is_calm (meaning program arg n).end
 
 -- what a proof opens, by `unfolding computed`, to compute a meaning
 unfoldable pub computed : ℕ
-unfolding choose deeper with_value and_then ended_call in_loop landing finally_after counted first_refused number_at with_number
+unfolding choose deeper with_value and_then ended_call in_loop landing finally_after counted
+    first_refused number_at with_number
 computed = 0

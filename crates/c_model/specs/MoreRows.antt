@@ -24,39 +24,51 @@ use Rattle.c_model.specs.Rows.{ended, unfinished, Shows, raised, landed, wrote, 
 -- ---- exceptions in one another
 
 -- void g(void){ __try{ RaiseException(0xE0000001,0,0,0); } __except(0){ put(7); } }
--- int main(void){ __try{ __try{ g(); } __finally{ RaiseException(0xE0000002,0,0,0); } } __except(1){ put(GetExceptionCode() == 0xE0000002); } return 0; }
+-- int main(void){ __try{ __try{ g(); } __finally{ RaiseException(0xE0000002,0,0,0); } }
+-- __except(1){ put(GetExceptionCode() == 0xE0000002); } return 0; }
 abbrev pub filter_asked_once : Program
 filter_asked_once =
-    with_main [] (function [] [] (except (raise 0xE0000001 0 ∷ []) (Funclet 1 (lit 0)) (put (long (Constant Int 7)) ∷ []) ∷ []) ∷ [])
-    (except (finally (evaluate (Call 0 Done) ∷ []) 2 (raise 0xE0000002 0 ∷ []) ∷ []) Always (put (long (code_is 0xE0000002)) ∷ []) ∷ answer (lit 0) ∷ [])
+    with_main [] (function [] [] (except (raise 0xE0000001 0 ∷ []) (Funclet 1 (lit 0))
+    (put (long (Constant Int 7)) ∷ []) ∷ []) ∷ [])
+    (except (finally (evaluate (Call 0 Done) ∷ []) 2 (raise 0xE0000002 0 ∷ []) ∷ []) Always
+    (put (long (code_is 0xE0000002)) ∷ []) ∷ answer (lit 0) ∷ [])
 
 abbrev pub FilterAskedOnceUnderCollision : Type 0
 FilterAskedOnceUnderCollision =
     Shows filter_asked_once 100
-    (raised 0xE0000001 ∷ events.Filter 1 ∷ events.Answer (pos 0) ∷ events.Finally 2 true ∷ raised 0xE0000002 ∷ landed 0xE0000002 ∷ wrote 1 ∷ []) (exit 0)
+    (raised 0xE0000001 ∷ events.Filter 1 ∷ events.Answer (pos 0) ∷ events.Finally 2 true
+    ∷ raised 0xE0000002 ∷ landed 0xE0000002 ∷ wrote 1 ∷ []) (exit 0)
 
--- int main(void){ __try{ __try{ __try{ __try{ RaiseException(0xE0000001,0,0,0); } __finally{ RaiseException(0xE0000002,0,0,0); } } __finally{ RaiseException(0xE0000003,0,0,0); } }
+-- int main(void){ __try{ __try{ __try{ __try{ RaiseException(0xE0000001,0,0,0); } __finally{
+-- RaiseException(0xE0000002,0,0,0); } } __finally{ RaiseException(0xE0000003,0,0,0); } }
 --   __except(GetExceptionCode()==0xE0000003){ put(3); } } __except(1){ put(1); } return 0; }
 abbrev pub collided_twice : Program
 collided_twice =
     main_alone
-    (except (except (finally (finally (raise 0xE0000001 0 ∷ []) 1 (raise 0xE0000002 0 ∷ []) ∷ []) 2 (raise 0xE0000003 0 ∷ []) ∷ []) (Funclet 3 (kept (code_is 0xE0000003))) (put (long (Constant Int 3)) ∷ []) ∷ [])
+    (except (except (finally (finally (raise 0xE0000001 0 ∷ []) 1 (raise 0xE0000002 0 ∷ []) ∷ []) 2
+    (raise 0xE0000003 0 ∷ []) ∷ []) (Funclet 3 (kept (code_is 0xE0000003)))
+    (put (long (Constant Int 3)) ∷ []) ∷ [])
     Always (put (long (Constant Int 1)) ∷ []) ∷ answer (lit 0) ∷ [])
 
 abbrev pub CollidedTwice : Type 0
 CollidedTwice =
     Shows collided_twice 100
-    (raised 0xE0000001 ∷ events.Filter 3 ∷ events.Answer (pos 0) ∷ events.Finally 1 true ∷ raised 0xE0000002 ∷ events.Filter 3 ∷ events.Answer (pos 0) ∷ events.Finally 2 true
-    ∷ raised 0xE0000003 ∷ events.Filter 3 ∷ events.Answer (pos 1) ∷ landed 0xE0000003 ∷ wrote 3 ∷ [])
+    (raised 0xE0000001 ∷ events.Filter 3 ∷ events.Answer (pos 0) ∷ events.Finally 1 true
+    ∷ raised 0xE0000002 ∷ events.Filter 3 ∷ events.Answer (pos 0) ∷ events.Finally 2 true
+    ∷ raised 0xE0000003 ∷ events.Filter 3 ∷ events.Answer (pos 1) ∷ landed 0xE0000003 ∷ wrote 3
+    ∷ [])
     (exit 0)
 
--- int f(int n){ __try{ __try{ if (n) f(n - 1); else RaiseException(0xE0000001,0,0,0); } __except(n == 1){ put(n); } } __finally{ put(10 + n); } return 0; } int main(void){ f(1); return 0; }
+-- int f(int n){ __try{ __try{ if (n) f(n - 1); else RaiseException(0xE0000001,0,0,0); } __except(n
+-- == 1){ put(n); } } __finally{ put(10 + n); } return 0; } int main(void){ f(1); return 0; }
 abbrev pub target_in_outer_activation : Program
 target_in_outer_activation =
     with_main []
     (function (Int ∷ []) []
     (finally
-    (except (IfElse (local 0) (evaluate (Call 0 (Next (kept (subtract (local 0) (lit 1))) Done))) (raise 0xE0000001 0) ∷ []) (Funclet 1 (kept (equal (local 0) (lit 1)))) (put (long (Read (Local 0))) ∷ []) ∷ [])
+    (except (IfElse (local 0) (evaluate (Call 0 (Next (kept (subtract (local 0) (lit 1))) Done)))
+    (raise 0xE0000001 0) ∷ []) (Funclet 1 (kept (equal (local 0) (lit 1))))
+    (put (long (Read (Local 0))) ∷ []) ∷ [])
     2 (put (long (plus (lit 10) (local 0))) ∷ []) ∷ answer (lit 0) ∷ [])
     ∷ [])
     (evaluate (Call 0 (Next (lit 1) Done)) ∷ answer (lit 0) ∷ [])
@@ -64,11 +76,13 @@ target_in_outer_activation =
 abbrev pub TargetInOuterActivation : Type 0
 TargetInOuterActivation =
     Shows target_in_outer_activation 100
-    (raised 0xE0000001 ∷ events.Filter 1 ∷ events.Answer (pos 0) ∷ events.Filter 1 ∷ events.Answer (pos 1) ∷ events.Finally 2 true ∷ wrote 10 ∷ landed 0xE0000001 ∷ wrote 1
+    (raised 0xE0000001 ∷ events.Filter 1 ∷ events.Answer (pos 0) ∷ events.Filter 1
+    ∷ events.Answer (pos 1) ∷ events.Finally 2 true ∷ wrote 10 ∷ landed 0xE0000001 ∷ wrote 1
     ∷ events.Finally 2 false ∷ wrote 11 ∷ [])
     (exit 0)
 
--- int main(void){ __try{ __try{ *(char*)8 = 1; } __except(0){ put(1); } } __except(GetExceptionInformation()->ExceptionRecord->NumberParameters){ put(2); } return 0; }
+-- int main(void){ __try{ __try{ *(char*)8 = 1; } __except(0){ put(1); } }
+-- __except(GetExceptionInformation()->ExceptionRecord->NumberParameters){ put(2); } return 0; }
 abbrev pub char : Access
 char = record { width = W8; signedness = Signed }
 
@@ -78,26 +92,35 @@ short = record { width = W16; signedness = Signed }
 abbrev pub two_filters : Program
 two_filters =
     main_alone
-    (except (except (evaluate (Assign (Indirection char (cast 8)) (On (Constant Int 1) (Extend Signed W8 Int))) ∷ []) (Funclet 1 (lit 0)) (put (long (Constant Int 1)) ∷ []) ∷ [])
-    (Funclet 2 (kept (Information NumberParameters))) (put (long (Constant Int 2)) ∷ []) ∷ answer (lit 0) ∷ [])
+    (except (except (evaluate (Assign (Indirection char (cast 8))
+    (On (Constant Int 1) (Extend Signed W8 Int))) ∷ []) (Funclet 1 (lit 0))
+    (put (long (Constant Int 1)) ∷ []) ∷ [])
+    (Funclet 2 (kept (Information NumberParameters))) (put (long (Constant Int 2)) ∷ [])
+    ∷ answer (lit 0) ∷ [])
 
 abbrev pub TwoFiltersOfOneFault : Type 0
 TwoFiltersOfOneFault =
     Shows two_filters 100
-    (events.Raise (record { 0 = 0xC0000005 }) false (Some (true, 8)) ∷ events.Filter 1 ∷ events.Answer (pos 0) ∷ events.Filter 2 ∷ events.Answer (pos 2) ∷ landed 0xC0000005 ∷ wrote 2 ∷ [])
+    (events.Raise (record { 0 = 0xC0000005 }) false (Some (true, 8)) ∷ events.Filter 1
+    ∷ events.Answer (pos 0) ∷ events.Filter 2 ∷ events.Answer (pos 2) ∷ landed 0xC0000005
+    ∷ wrote 2 ∷ [])
     (exit 0)
 
 -- ---- jumps out of bodies
 
--- int main(void){ int i; for (i = 0; i < 3; i++){ __try{ if (i == 1) break; } __finally{ put(AbnormalTermination()); } } return i; }
+-- int main(void){ int i; for (i = 0; i < 3; i++){ __try{ if (i == 1) break; } __finally{
+-- put(AbnormalTermination()); } } return i; }
 abbrev pub break_through_finally : Program
 break_through_finally =
     record {
       functions =
           function [] (Int ∷ [])
           (Declare (record { local = 0; value = None })
-          ∷ For [] (Some (kept (Assign (Local 0) (lit 0)))) (Some (kept (compare Less (local 0) (lit 3)))) (Some (kept (Increment Postfix (Local 0) Kept (Pure (pures.Add Int)) 1 Kept)))
-          (Block (statements (finally (If (kept (equal (local 0) (lit 1))) Break ∷ []) 1 (put (long abnormal) ∷ []) ∷ []))) ∷ answer (local 0) ∷ [])
+          ∷ For [] (Some (kept (Assign (Local 0) (lit 0))))
+          (Some (kept (compare Less (local 0) (lit 3))))
+          (Some (kept (Increment Postfix (Local 0) Kept (Pure (pures.Add Int)) 1 Kept)))
+          (Block (statements (finally (If (kept (equal (local 0) (lit 1))) Break ∷ []) 1
+          (put (long abnormal) ∷ []) ∷ []))) ∷ answer (local 0) ∷ [])
           ∷ [];
       main = 0;
       globals = [];
@@ -105,45 +128,58 @@ break_through_finally =
 
 abbrev pub BreakThroughFinally : Type 0
 BreakThroughFinally =
-    Shows break_through_finally 100 (events.Finally 1 false ∷ wrote 0 ∷ events.Finally 1 true ∷ wrote 1 ∷ []) (exit 1)
+    Shows break_through_finally 100 (events.Finally 1 false ∷ wrote 0 ∷ events.Finally 1 true
+    ∷ wrote 1 ∷ []) (exit 1)
 
 -- int main(void){ __try{ __try{ return 4; } __finally{ put(1); } } __finally{ put(2); } return 0; }
 abbrev pub return_through_two : Program
 return_through_two =
-    main_alone (finally (finally (answer (lit 4) ∷ []) 1 (put (long (Constant Int 1)) ∷ []) ∷ []) 2 (put (long (Constant Int 2)) ∷ []) ∷ answer (lit 0) ∷ [])
+    main_alone (finally (finally (answer (lit 4) ∷ []) 1 (put (long (Constant Int 1)) ∷ []) ∷ []) 2
+    (put (long (Constant Int 2)) ∷ []) ∷ answer (lit 0) ∷ [])
 
 abbrev pub ReturnThroughTwoFinallys : Type 0
 ReturnThroughTwoFinallys =
-    Shows return_through_two 100 (events.Finally 1 true ∷ wrote 1 ∷ events.Finally 2 true ∷ wrote 2 ∷ []) (exit 4)
+    Shows return_through_two 100 (events.Finally 1 true ∷ wrote 1 ∷ events.Finally 2 true ∷ wrote 2
+    ∷ []) (exit 4)
 
 -- ---- memory
 
--- int main(void){ protect((void*)0x20000000,2); __try{ *(int*)0x20000FFE = 0x01010101; } __except(1){ put(*(short*)0x20000FFE); } return 0; }
+-- int main(void){ protect((void*)0x20000000,2); __try{ *(int*)0x20000FFE = 0x01010101; }
+-- __except(1){ put(*(short*)0x20000FFE); } return 0; }
 abbrev pub store_across_pages : Program
 store_across_pages =
     main_alone
-    (protect 0x20000000 2 ∷ except (evaluate (Assign (Indirection int (cast 0x20000FFE)) (lit 0x01010101)) ∷ []) Always (put (long (Read (Indirection short (cast 0x20000FFE)))) ∷ []) ∷ answer (lit 0) ∷ [])
+    (protect 0x20000000 2 ∷ except (evaluate (Assign (Indirection int (cast 0x20000FFE))
+    (lit 0x01010101)) ∷ []) Always
+    (put (long (Read (Indirection short (cast 0x20000FFE)))) ∷ []) ∷ answer (lit 0) ∷ [])
 
 abbrev pub StoreAcrossPages : Type 0
 StoreAcrossPages =
-    Shows store_across_pages 100 (events.Raise (record { 0 = 0xC0000005 }) false (Some (true, 0x20001000)) ∷ landed 0xC0000005 ∷ wrote 0 ∷ []) (exit 0)
+    Shows store_across_pages 100 (events.Raise (record { 0 = 0xC0000005 }) false
+    (Some (true, 0x20001000)) ∷ landed 0xC0000005 ∷ wrote 0 ∷ []) (exit 0)
 
--- int main(void){ __try{ put(*(char*)0x20000003); } __except(put(GetExceptionInformation()->ExceptionRecord->ExceptionInformation[1]), 1){ put(4); } return 0; }
+-- int main(void){ __try{ put(*(char*)0x20000003); }
+-- __except(put(GetExceptionInformation()->ExceptionRecord->ExceptionInformation[1]), 1){ put(4); }
+-- return 0; }
 abbrev pub fault_address : Program
 fault_address =
     main_alone
     (except (put (long (Read (Indirection char (cast 0x20000003)))) ∷ [])
-    (Funclet 1 (kept (Comma (kept (CallBuiltIn Put (Next (kept (Information (ExceptionInformation 1))) Done))) (lit 1))))
+    (Funclet 1 (kept (Comma (kept (CallBuiltIn Put (Next
+    (kept (Information (ExceptionInformation 1))) Done))) (lit 1))))
     (put (long (Constant Int 4)) ∷ []) ∷ answer (lit 0) ∷ [])
 
 abbrev pub FaultAddressInFilter : Type 0
 FaultAddressInFilter =
     Shows fault_address 100
-    (events.Raise (record { 0 = 0xC0000005 }) false (Some (false, 0x20000003)) ∷ events.Filter 1 ∷ wrote 536870915 ∷ events.Answer (pos 1) ∷ landed 0xC0000005 ∷ wrote 4 ∷ []) (exit 0)
+    (events.Raise (record { 0 = 0xC0000005 }) false (Some (false, 0x20000003)) ∷ events.Filter 1
+    ∷ wrote 536870915 ∷ events.Answer (pos 1) ∷ landed 0xC0000005 ∷ wrote 4 ∷ []) (exit 0)
 
 -- int main(void){ put(1); return *(int*)0x70000000; }
 abbrev pub reserved_access : Program
-reserved_access = main_alone (put (long (Constant Int 1)) ∷ answer (kept (Read (Indirection int (cast 0x70000000)))) ∷ [])
+reserved_access =
+    main_alone (put (long (Constant Int 1))
+    ∷ answer (kept (Read (Indirection int (cast 0x70000000)))) ∷ [])
 
 abbrev pub UndefinedReservedAccess : Type 0
 UndefinedReservedAccess = Shows reserved_access 100 (wrote 1 ∷ []) (Undefined 0x70000000)
@@ -163,24 +199,34 @@ conversions =
 
 abbrev pub ConversionsAndShifts : Type 0
 ConversionsAndShifts =
-    Shows conversions 100 (events.Put (negsuc 55) ∷ wrote 4294967295 ∷ events.Put (negsuc 2) ∷ events.Put (negsuc 0) ∷ wrote 2 ∷ []) (exit 0)
+    Shows conversions 100 (events.Put (negsuc 55) ∷ wrote 4294967295 ∷ events.Put (negsuc 2)
+    ∷ events.Put (negsuc 0) ∷ wrote 2 ∷ []) (exit 0)
 
--- int a[2]; int main(void){ char c = 127; int *p = a; put(c++); put(c); *++p = 5; put(a[1]); put(p - a); put(p[-1] || 0); put(1 && c ? 3 : 4); c += 130; put(c); return 0; }
+-- int a[2]; int main(void){ char c = 127; int *p = a; put(c++); put(c); *++p = 5; put(a[1]); put(p
+-- - a); put(p[-1] || 0); put(1 && c ? 3 : 4); c += 130; put(c); return 0; }
 abbrev pub operators : Program
 operators =
     record {
       functions =
           function [] (Int ∷ Long ∷ [])
-          (Declare (record { local = 0; value = Some (On (Constant Int 127) (Extend Signed W8 Int)) })
+          (Declare (record {
+            local = 0;
+            value = Some (On (Constant Int 127) (Extend Signed W8 Int));
+          })
           ∷ Declare (record { local = 1; value = Some (address first_data) })
-          ∷ put (long (Increment Postfix (Local 0) Kept (Pure (pures.Add Int)) 1 (Extend Signed W8 Int)))
+          ∷ put (long (Increment Postfix (Local 0) Kept (Pure (pures.Add Int)) 1
+          (Extend Signed W8 Int)))
           ∷ put (long (Read (Local 0)))
-          ∷ evaluate (Assign (Indirection int (kept (Increment Prefix (Local 1) Kept (Pure (pures.Add Long)) 4 Kept))) (lit 5))
-          ∷ put (long (Read (Element int (address first_data) (On (Constant Int 1) (Scale Signed W32 4)))))
+          ∷ evaluate (Assign (Indirection int (kept (Increment Prefix (Local 1) Kept
+          (Pure (pures.Add Long)) 4 Kept))) (lit 5))
+          ∷ put (long (Read (Element int (address first_data)
+          (On (Constant Int 1) (Scale Signed W32 4)))))
           ∷ put (kept (PointerDifference 4 (local 1) (address first_data)))
-          ∷ put (long (Or (kept (Read (Element int (local 1) (On (minus 1) (Scale Signed W32 4))))) (lit 0)))
+          ∷ put (long (Or (kept (Read (Element int (local 1) (On (minus 1) (Scale Signed W32 4)))))
+          (lit 0)))
           ∷ put (long (Conditional (kept (And (lit 1) (local 0))) (lit 3) (lit 4)))
-          ∷ evaluate (CompoundAssign (Local 0) Kept (Pure (pures.Add Int)) (lit 130) (Extend Signed W8 Int))
+          ∷ evaluate (CompoundAssign (Local 0) Kept (Pure (pures.Add Int)) (lit 130)
+          (Extend Signed W8 Int))
           ∷ put (long (Read (Local 0)))
           ∷ answer (lit 0) ∷ [])
           ∷ [];
@@ -190,32 +236,40 @@ operators =
 
 abbrev pub Operators : Type 0
 Operators =
-    Shows operators 200 (wrote 127 ∷ events.Put (negsuc 127) ∷ wrote 5 ∷ wrote 1 ∷ wrote 0 ∷ wrote 3 ∷ wrote 2 ∷ []) (exit 0)
+    Shows operators 200 (wrote 127 ∷ events.Put (negsuc 127) ∷ wrote 5 ∷ wrote 1 ∷ wrote 0 ∷ wrote 3
+    ∷ wrote 2 ∷ []) (exit 0)
 
 -- ---- calls and loops
 
--- int f(int a,int b,int c,int d,int e,int g){ return a-b+c-d+e-g; } int main(void){ put(f(1,2,3,4,5,6)); return 0; }
+-- int f(int a,int b,int c,int d,int e,int g){ return a-b+c-d+e-g; } int main(void){
+-- put(f(1,2,3,4,5,6)); return 0; }
 abbrev pub six_arguments : Program
 six_arguments =
     with_main []
     (function (Int ∷ Int ∷ Int ∷ Int ∷ Int ∷ Int ∷ []) []
-    (answer (kept (subtract (kept (plus (kept (subtract (kept (plus (kept (subtract (local 0) (local 1))) (local 2))) (local 3))) (local 4))) (local 5))) ∷ []) ∷ [])
-    (put (long (Call 0 (arguments (lit 1 ∷ lit 2 ∷ lit 3 ∷ lit 4 ∷ lit 5 ∷ lit 6 ∷ [])))) ∷ answer (lit 0) ∷ [])
+    (answer (kept (subtract (kept (plus (kept (subtract (kept
+    (plus (kept (subtract (local 0) (local 1))) (local 2))) (local 3))) (local 4)))
+    (local 5))) ∷ []) ∷ [])
+    (put (long (Call 0 (arguments (lit 1 ∷ lit 2 ∷ lit 3 ∷ lit 4 ∷ lit 5 ∷ lit 6 ∷ []))))
+    ∷ answer (lit 0) ∷ [])
 
 abbrev pub SixArguments : Type 0
 SixArguments = Shows six_arguments 100 (events.Put (negsuc 2) ∷ []) (exit 0)
 
--- int main(long long n){ long long s = 0; while (n > 0){ s = s + n; n = n - 1; } put(s); return 0; }
+-- int main(long long n){ long long s = 0; while (n > 0){ s = s + n; n = n - 1; } put(s); return 0;
+-- }
 abbrev pub sum_to_argument : Program
 sum_to_argument =
     record {
       functions =
           function (Long ∷ []) (Long ∷ [])
           (Declare (record { local = 1; value = Some (long (Constant Int 0)) })
-          ∷ For [] None (Some (kept (Binary (Pure (pures.Compare Greater Signed Long)) (local 0) (long (Constant Int 0))))) None
+          ∷ For [] None (Some (kept (Binary (Pure (pures.Compare Greater Signed Long)) (local 0)
+          (long (Constant Int 0))))) None
           (Block (statements
           (evaluate (Assign (Local 1) (kept (Binary (Pure (pures.Add Long)) (local 1) (local 0))))
-          ∷ evaluate (Assign (Local 0) (kept (Binary (Pure (pures.Subtract Long)) (local 0) (long (Constant Int 1))))) ∷ [])))
+          ∷ evaluate (Assign (Local 0) (kept (Binary (Pure (pures.Subtract Long)) (local 0)
+          (long (Constant Int 1))))) ∷ [])))
           ∷ put (local 1) ∷ answer (lit 0) ∷ [])
           ∷ [];
       main = 0;
@@ -247,21 +301,26 @@ loops =
 abbrev pub Loops : Type 0
 Loops = meaning loops (pos 0) 1000 ≡ unfinished (wrote 1 ∷ wrote 3 ∷ [])
 
--- int r(int n){ if (n == 0) return 0; return r(n - 1) + 1; } int main(void){ put(r(40)); return 0; }
+-- int r(int n){ if (n == 0) return 0; return r(n - 1) + 1; } int main(void){ put(r(40)); return 0;
+-- }
 abbrev pub deep_recursion : Program
 deep_recursion =
     with_main []
     (function (Int ∷ []) []
-    (If (kept (equal (local 0) (lit 0))) (answer (lit 0)) ∷ answer (kept (plus (kept (Call 0 (Next (kept (subtract (local 0) (lit 1))) Done))) (lit 1))) ∷ []) ∷ [])
+    (If (kept (equal (local 0) (lit 0))) (answer (lit 0))
+    ∷ answer (kept (plus (kept (Call 0 (Next (kept (subtract (local 0) (lit 1))) Done)))
+    (lit 1))) ∷ []) ∷ [])
     (put (long (Call 0 (Next (lit 40) Done))) ∷ answer (lit 0) ∷ [])
 
 -- int r(int n){ return r(n + 1) + 1; } int main(void){ put(r(0)); return 0; }
 abbrev pub endless_recursion : Program
 endless_recursion =
-    with_main [] (function (Int ∷ []) [] (answer (kept (plus (kept (Call 0 (Next (kept (plus (local 0) (lit 1))) Done))) (lit 1))) ∷ []) ∷ [])
+    with_main [] (function (Int ∷ []) [] (answer (kept (plus
+    (kept (Call 0 (Next (kept (plus (local 0) (lit 1))) Done))) (lit 1))) ∷ []) ∷ [])
     (put (long (Call 0 (Next (lit 0) Done))) ∷ answer (lit 0) ∷ [])
 
--- 4 steps lead to the first call, and 6 from each call to the next; the 1,000th would be the 1,001st activation
+-- 4 steps lead to the first call, and 6 from each call to the next; the 1,000th would be the
+-- 1,001st activation
 abbrev pub DeepRecursion : Type 0
 DeepRecursion =
     Shows deep_recursion 1000 (wrote 40 ∷ []) (exit 0)

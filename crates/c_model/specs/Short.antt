@@ -80,7 +80,8 @@ abbrev pub put : Expression → Statement
 put e = evaluate (CallBuiltIn Put (Next e Done))
 
 abbrev pub raise : ℕ → ℕ → Statement
-raise code flags = evaluate (CallBuiltIn RaiseException (arguments (lit code ∷ lit flags ∷ lit 0 ∷ lit 0 ∷ [])))
+raise code flags =
+    evaluate (CallBuiltIn RaiseException (arguments (lit code ∷ lit flags ∷ lit 0 ∷ lit 0 ∷ [])))
 
 abbrev pub protect : ℕ → ℕ → Statement
 protect a mode = evaluate (CallBuiltIn Protect (arguments (cast a ∷ lit mode ∷ [])))
@@ -107,11 +108,24 @@ abnormal = AbnormalTermination
 -- ---- functions
 
 abbrev pub function : List Size → List Size → List Statement → Function
-function parameters locals body = record { name = []; parameters = parameters; locals = locals; returns = Some Int; body = statements body }
+function parameters locals body =
+    record {
+      name = [];
+      parameters = parameters;
+      locals = locals;
+      returns = Some Int;
+      body = statements body;
+    }
 
--- a program of `main` alone, without locals, and one with globals, and with further functions before it
+-- a program of `main` alone, without locals, and one with globals, and with further functions
+-- before it
 abbrev pub main_alone : List Statement → Program
 main_alone body = record { functions = function [] [] body ∷ []; main = 0; globals = [] }
 
 abbrev pub with_main : List ℕ → List Function → List Statement → Program
-with_main globals others body = record { functions = others ++ function [] [] body ∷ []; main = length others; globals = globals }
+with_main globals others body =
+    record {
+      functions = others ++ function [] [] body ∷ [];
+      main = length others;
+      globals = globals;
+    }

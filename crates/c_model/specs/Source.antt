@@ -1,6 +1,6 @@
 -- The memory that a program begins with, and the addresses of which the language says nothing.
 use Rattle.std.specs.Prelude.{ℕ, ◌+◌, ◌-◌, ◌*◌, ◌/◌, Bool, false, not, ◌&&◌, ◌||◌, nat_le, nat_lt, if◌then◌else◌, List, length, get_or}
-use Rattle.host_layout.specs.declared.range.TheConstants.{GUARD_START, STACK_END, IMAGE_BASE, IMAGE_RANGE_END, PAGE}
+use Rattle.host_layout.specs.declared.range.TheConstants.{GUARD_START, STACK_END, IMAGE_BASE, IMAGE_RANGE_END, PAGE, FIRST_DATA}
 use Rattle.flat_memory.specs.declared.protection.Protection.{Protection}
 use Rattle.flat_memory.specs.declared.protection.Rights.{Rights}
 use Rattle.flat_memory.specs.declared.protection.Rights.TheVariants.{Nothing, ReadWrite}
@@ -10,18 +10,20 @@ abbrev pub is_between : ℕ → ℕ → ℕ → Bool
 is_between first end a = nat_le first a && nat_lt a end
 
 abbrev pub first_data : ℕ
-first_data = IMAGE_BASE + PAGE
+first_data = FIRST_DATA
 
 -- the end of the pages of the globals, of which there is one at least
 abbrev pub data_end : List ℕ → ℕ
-data_end globals = first_data + 4096 * ((length globals - 1) / 4096 + 1)
+data_end globals = first_data + PAGE * ((length globals - 1) / PAGE + 1)
 
 abbrev pub is_data : List ℕ → ℕ → Bool
 is_data globals a = is_between first_data (data_end globals) a
 
 -- the stack with its guard, and the image's range without its data
 abbrev pub is_reserved : List ℕ → ℕ → Bool
-is_reserved globals a = is_between GUARD_START STACK_END a || (is_between IMAGE_BASE IMAGE_RANGE_END a && not (is_data globals a))
+is_reserved globals a =
+    is_between GUARD_START STACK_END a ||
+    (is_between IMAGE_BASE IMAGE_RANGE_END a && not (is_data globals a))
 
 abbrev pub plain_mode : Rights → Protection
 plain_mode rights = record { rights = rights; execute = false }

@@ -4,14 +4,18 @@ use Rattle.seh_num.specs.declared.event.Event.{Event}
 use Rattle.flat_memory.specs.Memory.{Memory}
 use Rattle.c_model.specs.declared.ended.Ended.{Ended}
 use Rattle.c_model.specs.declared.ended.Ended.TheVariants.{Deep}
+use Rattle.c_model.specs.declared.depth.TheConstants.{DEEPEST, TOO_DEEP}
 
--- an exception: its code, whether it is noncontinuable, and for a refused access whether it was a write, and the address
+-- an exception: its code, whether it is noncontinuable, and for a refused access whether it was a
+-- write, and the address
 pub record Exception : Type 0 where
   pub code : ℕ
   pub flag : Bool
   pub access : Option (Bool × ℕ)
 
--- the steps that are left; memory; the live activations' locals, outermost first; what is held of the depth beside them: 2 for each filter and `__finally` block that runs, or that a target has left, and 1 for each activation that a target has left, until the target lands; the events so far
+-- the steps that are left; memory; the live activations' locals, outermost first; what is held of
+-- the depth beside them: 2 for each filter and `__finally` block that runs, or that a target has
+-- left, and 1 for each activation that a target has left, until the target lands; the events so far
 pub record State : Type 0 where
   pub steps_left : ℕ
   pub memory : Memory
@@ -19,7 +23,8 @@ pub record State : Type 0 where
   pub held : ℕ
   pub events : List Event
 
--- what a part of a program comes to; a target names its handler by the number of handlers outside its `__try`; an end is none where no step was left
+-- what a part of a program comes to; a target names its handler by the number of handlers outside
+-- its `__try`; an end is none where no step was left
 pub data Result : Type 0 where
   Value : ℕ → Result
   Normal : Result
@@ -68,9 +73,10 @@ unfoldable pub choose : Bool → (State → Outcome) → (State → Outcome) →
 choose true a b st = a st
 choose false a b st = b st
 
--- goes on unless the depth would rise above 1,000
+-- goes on unless the depth would rise above the greatest
 unfoldable pub deeper : ℕ → State → (State → Outcome) → Outcome
-deeper n st go = choose (nat_lt 1000 (depth st + n)) (λ st. Gives (End (Some (Deep 1001))) st) go st
+deeper n st go =
+    choose (nat_lt DEEPEST (depth st + n)) (λ st. Gives (End (Some (Deep TOO_DEEP))) st) go st
 
 -- goes on with a value; any other result stays
 unfoldable pub with_value : Outcome → (ℕ → State → Outcome) → Outcome

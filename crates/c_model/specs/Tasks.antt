@@ -11,7 +11,8 @@ pub record Handler : Type 0 where
   pub activation : ℕ
   pub abnormal : Bool
 
--- the handlers around a place, innermost first; its activation; the exception that the innermost filter or `__except` block around it is about, and what AbnormalTermination answers there
+-- the handlers around a place, innermost first; its activation; the exception that the innermost
+-- filter or `__except` block around it is about, and what AbnormalTermination answers there
 pub record Context : Type 0 where
   pub handlers : List Handler
   pub activation : ℕ
@@ -45,4 +46,5 @@ Does = Task → Context → State → Outcome
 
 -- a task counts one step where it begins
 unfoldable pub counted : State → (State → Outcome) → Outcome
-counted st go = elim st.steps_left [ zero ↦ Gives (End None) st | suc n ↦ go (record st { steps_left = n }) ]
+counted st go =
+    elim st.steps_left [ zero ↦ Gives (End None) st | suc n ↦ go (record st { steps_left = n }) ]

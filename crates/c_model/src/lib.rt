@@ -6,5 +6,6 @@
 //! their events.
 #![tactic(auto)]
 
+pub mod depth;
 pub mod ended;
 pub mod laws;

@@ -43,7 +43,8 @@ extended Signed from to a = wrapped to (signed from a)
 -- `>>` by a count below the width: the quotient by a power of two, rounded down
 abbrev pub shifted_right : Signedness → Width → ℕ → ℕ → ℕ
 shifted_right Unsigned w a c = a / 2 ^ c
-shifted_right Signed w a c = if nat_lt a (half w) then a / 2 ^ c else low w (a / 2 ^ c + (limit w - limit w / 2 ^ c))
+shifted_right Signed w a c =
+    if nat_lt a (half w) then a / 2 ^ c else low w (a / 2 ^ c + (limit w - limit w / 2 ^ c))
 
 -- the result of an operation without faults on two operands
 abbrev pub result_of : Pure → ℕ → ℕ → ℕ

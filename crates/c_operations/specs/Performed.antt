@@ -6,6 +6,7 @@ use Rattle.seh_num.specs.declared.division.DivFault.{DivFault}
 use Rattle.seh_num.specs.declared.division.DivFault.TheVariants as faults
 use Rattle.seh_num.specs.Widths.{bytes_of, low, signed, wrapped}
 use Rattle.seh_num.specs.Division.{divided_signed, divided_unsigned}
+use Rattle.seh_num.specs.declared.code.TheConstants.{ACCESS_VIOLATION, INTEGER_DIVIDE_BY_ZERO, INTEGER_OVERFLOW}
 use Rattle.flat_memory.specs.Memory.{Memory, first_refused, may_read, may_write, number_at, with_number, with_bytes}
 use Rattle.c_operations.specs.declared.operation.Signedness.{Signedness}
 use Rattle.c_operations.specs.declared.operation.Signedness.TheVariants.{Unsigned, Signed}
@@ -13,17 +14,19 @@ use Rattle.c_operations.specs.declared.operation.Operation.{Operation}
 use Rattle.c_operations.specs.declared.operation.Operation.TheVariants as operations
 use Rattle.c_operations.specs.Numbers.{width, result_of}
 
--- what an operation comes to: a number, and the memory after it; a fault with its access (whether it is a write, and the address), where memory is unchanged; or an access to a reserved byte, of which the language says nothing
+-- what an operation comes to: a number, and the memory after it; a fault with its access (whether
+-- it is a write, and the address), where memory is unchanged; or an access to a reserved byte, of
+-- which the language says nothing
 pub data Outcome : Type 0 where
   Gives : ℕ → Memory → Outcome
   Raises : Code → Option (Bool × ℕ) → Outcome
   Undefined : ℕ → Outcome
 
--- ---- division: STATUS_INTEGER_DIVIDE_BY_ZERO and STATUS_INTEGER_OVERFLOW are its faults (Windows headers, `ntstatus.h`)
+-- ---- division and its faults
 
 abbrev pub fault_of : DivFault → Outcome
-fault_of faults.Zero = Raises (record { 0 = 0xC0000094 }) None
-fault_of faults.Overflow = Raises (record { 0 = 0xC0000095 }) None
+fault_of faults.Zero = Raises INTEGER_DIVIDE_BY_ZERO None
+fault_of faults.Overflow = Raises INTEGER_OVERFLOW None
 
 abbrev pub signed_part : (ℤ × ℤ → ℤ) → Width → Memory → Result (ℤ × ℤ) DivFault → Outcome
 signed_part part w m (Ok x) = Gives (wrapped w (part x)) m
@@ -41,7 +44,7 @@ abbrev pub remainder : Signedness → Width → ℕ → ℕ → Memory → Outco
 remainder Signed w a b m = signed_part (λ x. x.1) w m (divided_signed w (signed w a) (signed w b))
 remainder Unsigned w a b m = unsigned_part (λ x. x.1) m (divided_unsigned w (low w a) (low w b))
 
--- ---- accesses: an access is undefined at its first reserved byte, else STATUS_ACCESS_VIOLATION at its first byte that may not be accessed
+-- ---- accesses: an access is undefined at its first reserved byte, else an access violation at its first byte that may not be accessed
 
 abbrev pub unless_reserved : Option ℕ → Outcome → Outcome
 unless_reserved None outcome = outcome
@@ -49,16 +52,22 @@ unless_reserved (Some a) outcome = Undefined a
 
 abbrev pub unless_refused : Bool → Option ℕ → Outcome → Outcome
 unless_refused write None outcome = outcome
-unless_refused write (Some a) outcome = Raises (record { 0 = 0xC0000005 }) (Some (write, a))
+unless_refused write (Some a) outcome = Raises ACCESS_VIOLATION (Some (write, a))
 
 abbrev pub accessed : (ℕ → Bool) → Bool → (ℕ → Bool) → ℕ → ℕ → Outcome → Outcome
-accessed reserved write may n at outcome = unless_reserved (first_refused (λ a. not (reserved a)) n at) (unless_refused write (first_refused may n at) outcome)
+accessed reserved write may n at outcome =
+    unless_reserved (first_refused (λ a. not (reserved a)) n at)
+    (unless_refused write (first_refused may n at) outcome)
 
 abbrev pub load : (ℕ → Bool) → Width → ℕ → Memory → Outcome
-load reserved w at m = accessed reserved false (may_read m) (bytes_of w) at (Gives (low w (number_at m.byte (bytes_of w) at)) m)
+load reserved w at m =
+    accessed reserved false (may_read m) (bytes_of w) at
+    (Gives (low w (number_at m.byte (bytes_of w) at)) m)
 
 abbrev pub store : (ℕ → Bool) → Width → ℕ → ℕ → Memory → Outcome
-store reserved w at v m = accessed reserved true (may_write m) (bytes_of w) at (Gives v (with_bytes m (with_number m.byte (bytes_of w) at (low w v))))
+store reserved w at v m =
+    accessed reserved true (may_write m) (bytes_of w) at
+    (Gives v (with_bytes m (with_number m.byte (bytes_of w) at (low w v))))
 
 -- ---- operations on two operands of 64 bits
 

@@ -5,7 +5,7 @@ pub enum BuiltIn {
     Put,
     /// `int protect(void *, int)`: sets the protection of a page.
     Protect,
-    /// `void RaiseException(unsigned, unsigned, unsigned, unsigned long long *)`: raises an exception
-    /// (Windows headers, `errhandlingapi.h`).
+    /// `void RaiseException(unsigned, unsigned, unsigned, unsigned long long *)`: raises an
+    /// exception (Windows headers, `errhandlingapi.h`).
     RaiseException,
 }

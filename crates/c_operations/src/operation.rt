@@ -70,8 +70,8 @@ pub enum Pure {
 #[derive(Clone, Copy, Debug, PartialEq, Eq)]
 pub enum Operation {
     Pure(Pure),
-    /// The quotient, truncated toward zero (C11, 6.5.5). A zero divisor, and a signed quotient out of
-    /// range, are faults.
+    /// The quotient, truncated toward zero (C11, 6.5.5). A zero divisor, and a signed quotient out
+    /// of range, are faults.
     Divide(Signedness, Size),
     /// The remainder of that division, with its faults.
     Remainder(Signedness, Size),

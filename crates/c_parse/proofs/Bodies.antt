@@ -31,13 +31,21 @@ pub in_parameters : (text : List ℕ) (funclets : ℕ) (ts : List Token) → Wra
 in_parameters text funclets ts = record {
   before = [];
   split = refl;
-  no = λ n text' other a s x ps body end h w k. x ps h.0 h.2 w.parameters;
+  no = λ n text' other a s x ps body end h w k. x ps h.after_parameters h.parameters w.parameters;
   has = λ n text' inner a s h. record {
     more = braces;
     has = record {
       parameters = h.trees;
       body = Empty;
-      is = λ other. following (λ z. IsTail text' h.trees Empty z other) inner braces other (braces ++ other, punctuator punctuators.CloseBrace ∷ other, h.are (braces ++ other), has_it punctuators.OpenBrace (punctuator punctuators.CloseBrace ∷ other), has_it punctuators.CloseBrace other);
+      is = λ other. following (λ z. IsTail text' h.trees Empty z other) inner braces other (record {
+        after_parameters = braces ++ other;
+        parameters = h.are (braces ++ other);
+        body = record {
+          after_brace = punctuator punctuators.CloseBrace ∷ other;
+          brace = has_it punctuators.OpenBrace (punctuator punctuators.CloseBrace ∷ other);
+          items = has_it punctuators.CloseBrace other;
+        };
+      });
       within = empty n h.trees h.few;
       numbered = λ six. omega arith;
     };
@@ -51,8 +59,10 @@ in_brace text funclets ts b found is few =
       before = m.front;
       split = m.split;
       no = λ n text' other a s x ps body end h w k.
-          let q = parameters found ps (m.front ++ other) (m.front ++ other) other h.0 refl (again other) h.2 in
-          x h.1 (subst (λ (z : List Token). HasPunctuator punctuators.OpenBrace z h.1) (sym q.1) h.3);
+          let q = parameters found ps (m.front ++ other)
+          (m.front ++ other) other h.after_parameters refl (again other) h.parameters in
+          x h.body.after_brace (subst (λ (z : List Token). HasPunctuator punctuators.OpenBrace z
+          h.body.after_brace) (sym q.1) h.body.brace);
       has = λ n text' inner a s h. record {
         more = punctuator punctuators.CloseBrace ∷ [];
         has = record {
@@ -61,7 +71,15 @@ in_brace text funclets ts b found is few =
           is = λ other.
               let rest = punctuator punctuators.CloseBrace ∷ other in
               following (λ z. IsTail text' found Empty z other) (m.front ++ inner) (punctuator punctuators.CloseBrace ∷ []) other
-              (following (λ z. IsTail text' found Empty z other) m.front inner rest (inner ++ rest, rest, again (inner ++ rest), h rest, has_it punctuators.CloseBrace other));
+              (following (λ z. IsTail text' found Empty z other) m.front inner rest (record {
+                after_parameters = inner ++ rest;
+                parameters = again (inner ++ rest);
+                body = record {
+                  after_brace = rest;
+                  brace = h rest;
+                  items = has_it punctuators.CloseBrace other;
+                };
+              }));
           within = empty n found (λ three. few);
           numbered = λ six. omega arith;
         };
@@ -76,9 +94,18 @@ in_body text left ts b c found l is few o =
       before = m.front ++ t ∷ [];
       split = m.split ∙ ap (λ (x : List Token). m.front ++ x) o.1.1 ∙ sym (append_append m.front (t ∷ []) c);
       no = λ n text' other a s x. following (λ z. NoTail left.funclets n text' z) m.front (t ∷ []) other (λ ps body end h w k.
-          let q = parameters found ps (m.front ++ t ∷ other) (m.front ++ t ∷ other) (t ∷ other) h.0 refl (again (t ∷ other)) h.2 in
-          let r = has_same punctuators.OpenBrace (t ∷ other) h.0 other h.1 q.1 (o.0, (o.1.0, refl)) h.3 in
-          x body end (subst (λ (z : List Token). AreBlockItems text' body z end) (sym r) h.4) (record { statements = w.statements; expressions = w.expressions; locals = λ two. let a = w.locals two in omega arith; funclets = k }));
+          let q = parameters found ps (m.front ++ t ∷ other) (m.front ++ t ∷ other)
+          (t ∷ other) h.after_parameters refl (again (t ∷ other)) h.parameters in
+          let r = has_same punctuators.OpenBrace
+          (t ∷ other) h.after_parameters other h.body.after_brace q.1
+          (o.0, (o.1.0, refl)) h.body.brace in
+          x body end (subst (λ (z : List Token). AreBlockItems text' body z end)
+          (sym r) h.body.items) (record {
+            statements = w.statements;
+            expressions = w.expressions;
+            locals = λ two. let a = w.locals two in omega arith;
+            funclets = k;
+          }));
       has = λ n text' inner a s h.
           let v = h.within in record {
             more = [];
@@ -88,7 +115,16 @@ in_body text left ts b c found l is few o =
               is = λ other.
                   following (λ z. IsTail text' found h.trees z other) ((m.front ++ t ∷ []) ++ inner) [] other
                   (following (λ z. IsTail text' found h.trees z other) (m.front ++ t ∷ []) inner other
-                  (following (λ z. IsTail text' found h.trees z other) m.front (t ∷ []) (inner ++ other) (t ∷ (inner ++ other), inner ++ other, again (t ∷ (inner ++ other)), (o.0, (o.1.0, refl)), h.are other)));
+                  (following (λ z. IsTail text' found h.trees z other) m.front (t ∷ [])
+                  (inner ++ other) (record {
+                    after_parameters = t ∷ (inner ++ other);
+                    parameters = again (t ∷ (inner ++ other));
+                    body = record {
+                      after_brace = inner ++ other;
+                      brace = (o.0, (o.1.0, refl));
+                      items = h.are other;
+                    };
+                  })));
               within = record { statements = v.statements; expressions = v.expressions; locals = λ two. let a = v.locals two in omega arith; parameters = λ three. few };
               numbered = v.funclets;
             };

@@ -29,12 +29,14 @@ use Rattle.c_parse.proofs.Refusing.{missing, punctuator, digit, has_it, followin
 not_after : (negative : Bool) (at to : ℕ) (literal : Literal) (ts b end : List Token) → IsPunctuator punctuators.Minus to ts b → NoLiteral b → IsLiteral negative at literal ts end → ⊥
 not_after false at to literal ts b end m none h = let a = ap front h.1 in let c = literal_class literal in let d = ap front m.1 in absurd (omega arith)
 not_after true at to literal ts b end m none h =
-    let q = punctuator_same punctuators.Minus punctuators.Minus to at ts ts b h.0 refl m h.2 in
-    none literal h.1 end (subst (λ (x : List Token). IsKind (literal_kind literal) h.1 x end) (sym q.2) h.3)
+    let q = punctuator_same punctuators.Minus punctuators.Minus to at ts ts b h.after_minus refl m
+    h.minus in
+    none literal h.place end (subst (λ (x : List Token). IsKind (literal_kind literal) h.place x
+    end) (sym q.2) h.literal)
 
 not_alone : (negative : Bool) (at : ℕ) (literal : Literal) (ts end : List Token) → LacksAt punctuators.Minus ts → NoLiteral ts → IsLiteral negative at literal ts end → ⊥
 not_alone false at literal ts end m none h = none literal at end h
-not_alone true at literal ts end m none h = m at h.0 h.2
+not_alone true at literal ts end m none h = m at h.after_minus h.minus
 
 abbrev one : Literal
 one = literals.Integer 1 types.Int
@@ -44,7 +46,18 @@ no_literal text to ts b m none =
     let t = token (kinds.Punctuator punctuators.Minus) to m.0 in
     missing NoConstant HasConstant text ts (t ∷ []) b m.1
     (λ text' other s c end h. not_after c.negative c.at to c.literal (t ∷ other) other end (m.0, refl) (firsts.no_literal b other s none) h)
-    (λ text'. record { more = digit 1 ∷ []; has = record { tree = record { at = to; negative = true; literal = one }; is = λ other. (digit 1 ∷ other, 0, (m.0, refl), (0, refl)) } })
+    (λ text'. record {
+      more = digit 1 ∷ [];
+      has = record {
+        tree = record { at = to; negative = true; literal = one };
+        is = λ other. record {
+          after_minus = digit 1 ∷ other;
+          place = 0;
+          minus = (m.0, refl);
+          literal = (0, refl);
+        };
+      };
+    })
 
 pub neither : (text : List ℕ) (ts : List Token) → LacksAt punctuators.Minus ts → NoLiteral ts → Failed 0 (place text ts) NoConstant HasConstant text ts
 neither text ts m none =
@@ -54,7 +67,10 @@ neither text ts m none =
 
 literal_shorter : (negative : Bool) (at : ℕ) (literal : Literal) (ts end : List Token) → IsLiteral negative at literal ts end → length end < length ts
 literal_shorter false at literal ts end h = let a = ap length h.1 in omega arith
-literal_shorter true at literal ts end h = let a = ap length h.2.1 in let b = ap length h.3.1 in omega arith
+literal_shorter true at literal ts end h =
+    let a = ap length h.minus.1 in
+    let b = ap length h.literal.1 in
+    omega arith
 
 pub constant_shorter : (c : Constant) (ts end : List Token) → IsConstant c ts end → length end < length ts
 constant_shorter c ts end h = literal_shorter c.negative c.at c.literal ts end h
@@ -83,9 +99,12 @@ begins text ts rest c is =
 next_back : (rest b after : List Token) (c : Constant) → HasPunctuator punctuators.Comma rest b → IsConstant c b after → (xs : List Constant) (end : List Token) → AreMoreConstants xs rest end → (ys : List Constant) × (xs ≡ c ∷ ys) × AreMoreConstants ys after end
 next_back rest b after c k is [] end m = let e : punctuators.Comma ≡ punctuators.CloseBrace = other_punctuator punctuators.Comma punctuators.CloseBrace rest rest b end refl k m in absurd cc
 next_back rest b after c k is (x ∷ xs) end m =
-    let p = has_same punctuators.Comma rest rest b m.0 refl k m.2 in
-    let u = constant_once c x b m.0 after m.1 p is m.3 in
-    (xs, ap (λ (z : Constant). z ∷ xs) (sym u.0), subst (λ (z : List Token). AreMoreConstants xs z end) (sym u.1) m.4)
+    let p = has_same punctuators.Comma rest rest b m.after_comma refl k m.comma in
+    let u = constant_once c x b m.after_comma after m.after_element p is m.element in (
+      xs,
+      ap (λ (z : Constant). z ∷ xs) (sym u.0),
+      subst (λ (z : List Token). AreMoreConstants xs z end) (sym u.1) m.others,
+    )
 
 pub next : (text : List ℕ) (ts rest b after : List Token) (found : List Constant) (c : Constant) → HasPunctuator punctuators.Comma rest b → IsConstant c b after → Constants ts found rest → Constants ts (found ++ c ∷ []) after
 next text ts rest b after found c k is d =
@@ -93,7 +112,13 @@ next text ts rest b after found c k is d =
     let again : (other : List Token) → IsConstant c (m.front ++ other) other = λ other. m.again text other (alike_same text b) in
     let t = token (kinds.Punctuator punctuators.Comma) k.0 k.1.0 in
     continues AreConstants AreMoreConstants ts rest (t ∷ m.front) after found c (k.1.1 ∙ ap (λ (z : List Token). t ∷ z) m.split)
-    (λ other xs end h. (m.front ++ other, other, (k.0, (k.1.0, refl)), again other, h))
+    (λ other xs end h. record {
+      after_comma = m.front ++ other;
+      after_element = other;
+      comma = (k.0, (k.1.0, refl));
+      element = again other;
+      others = h;
+    })
     (λ other s. next_back (t ∷ (m.front ++ other)) (m.front ++ other) other c (k.0, (k.1.0, refl)) (again other))
     d
 
@@ -121,7 +146,9 @@ in_first text ts = record {
 
 no_more : (rest b : List Token) → HasPunctuator punctuators.Comma rest b → NoConstant 0 [] b → (cs : List Constant) (end : List Token) → AreMoreConstants cs rest end → ⊥
 no_more rest b k none [] end m = let e : punctuators.Comma ≡ punctuators.CloseBrace = other_punctuator punctuators.Comma punctuators.CloseBrace rest rest b end refl k m in absurd cc
-no_more rest b k none (c ∷ cs) end m = none c m.1 (subst (λ (z : List Token). IsConstant c z m.1) (has_same punctuators.Comma rest rest m.0 b refl m.2 k) m.3)
+no_more rest b k none (c ∷ cs) end m =
+    none c m.after_element (subst (λ (z : List Token). IsConstant c z m.after_element)
+    (has_same punctuators.Comma rest rest m.after_comma b refl m.comma k) m.element)
 
 pub in_next : (text : List ℕ) (ts rest b : List Token) (found : List Constant) → Constants ts found rest → HasPunctuator punctuators.Comma rest b → Wraps NoConstant HasConstant NoConstants HasConstants text b ts
 in_next text ts rest b found d k =
@@ -139,14 +166,21 @@ in_next text ts rest b found d k =
               following (λ z. AreConstants (found ++ h.tree ∷ []) z other) ((d.front ++ t ∷ []) ++ inner) (punctuator punctuators.CloseBrace ∷ []) other
               (following (λ z. AreConstants (found ++ h.tree ∷ []) z other) (d.front ++ t ∷ []) inner (punctuator punctuators.CloseBrace ∷ other)
               (following (λ z. AreConstants (found ++ h.tree ∷ []) z other) d.front (t ∷ []) (inner ++ punctuator punctuators.CloseBrace ∷ other)
-              (d.forward (t ∷ (inner ++ punctuator punctuators.CloseBrace ∷ other)) (h.tree ∷ []) other (inner ++ punctuator punctuators.CloseBrace ∷ other, punctuator punctuators.CloseBrace ∷ other, (k.0, (k.1.0, refl)), h.is (punctuator punctuators.CloseBrace ∷ other), has_it punctuators.CloseBrace other))));
+              (d.forward (t ∷ (inner ++ punctuator punctuators.CloseBrace ∷ other))
+              (h.tree ∷ []) other (record {
+                after_comma = inner ++ punctuator punctuators.CloseBrace ∷ other;
+                after_element = punctuator punctuators.CloseBrace ∷ other;
+                comma = (k.0, (k.1.0, refl));
+                element = h.is (punctuator punctuators.CloseBrace ∷ other);
+                others = has_it punctuators.CloseBrace other;
+              }))));
         };
       };
     }
 
 no_end : (rest : List Token) → Lacks punctuators.Comma rest → Lacks punctuators.CloseBrace rest → (cs : List Constant) (end : List Token) → AreMoreConstants cs rest end → ⊥
 no_end rest k s [] end m = s end m
-no_end rest k s (c ∷ cs) end m = k m.0 m.2
+no_end rest k s (c ∷ cs) end m = k m.after_comma m.comma
 
 pub in_end : (text : List ℕ) (ts rest : List Token) (found : List Constant) → Constants ts found rest → Lacks punctuators.Comma rest → Wraps (NoPunctuator punctuators.CloseBrace) (APunctuator punctuators.CloseBrace) NoConstants HasConstants text rest ts
 in_end text ts rest found d k = record {
@@ -206,11 +240,18 @@ given_once (Several at cs) (Several to ds) ts us rest end p h g =
 
 pub assigned : (i : Initialiser) (ts a rest : List Token) → HasPunctuator punctuators.Assign ts a → IsGiven i a rest → IsInitialiser (Some i) ts rest
 assigned (Single c) ts a rest s h = (a, s, h)
-assigned (Several at cs) ts a rest s h = (a, h.0, s, h.1, h.2)
+assigned (Several at cs) ts a rest s h = record {
+  after_assign = a;
+  after_brace = h.0;
+  assign = s;
+  brace = h.1;
+  constants = h.2;
+}
 
 after_assign : (i : Initialiser) (ts rest : List Token) → IsInitialiser (Some i) ts rest → (a : List Token) × HasPunctuator punctuators.Assign ts a × IsGiven i a rest
 after_assign (Single c) ts rest h = h
-after_assign (Several at cs) ts rest h = (h.0, h.2, (h.1, h.3, h.4))
+after_assign (Several at cs) ts rest h =
+    (h.after_assign, h.assign, (h.after_brace, h.brace, h.constants))
 
 -- ---- initialisers
 

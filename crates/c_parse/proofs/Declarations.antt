@@ -49,9 +49,13 @@ begins text base at now ts rest x is s e =
 next_back : (rest b after : List Token) (x : Global) → HasPunctuator punctuators.Comma rest b → IsGlobal x b after → Stops 15 after → (xs : List Global) (end : List Token) → AreMoreGlobals xs rest end → (ys : List Global) × (xs ≡ x ∷ ys) × AreMoreGlobals ys after end
 next_back rest b after x k is s [] end m = let e : punctuators.Comma ≡ punctuators.Semicolon = other_punctuator punctuators.Comma punctuators.Semicolon rest rest b end refl k m in absurd cc
 next_back rest b after x k is s (g ∷ gs) end m =
-    let p = has_same punctuators.Comma rest rest b m.0 refl k m.2 in
-    let u = global_once x g b m.0 after m.1 p s (globals_stop gs m.1 end m.4) is m.3 in
-    (gs, ap (λ (z : Global). z ∷ gs) (sym u.0), subst (λ (z : List Token). AreMoreGlobals gs z end) (sym u.1) m.4)
+    let p = has_same punctuators.Comma rest rest b m.after_comma refl k m.comma in
+    let u = global_once x g b m.after_comma after m.after_element p s
+    (globals_stop gs m.after_element end m.others) is m.element in (
+      gs,
+      ap (λ (z : Global). z ∷ gs) (sym u.0),
+      subst (λ (z : List Token). AreMoreGlobals gs z end) (sym u.1) m.others,
+    )
 
 mapped : (found : List Global') (x : Global') → map global (found ++ x ∷ []) ≡ map global found ++ global x ∷ []
 mapped [] x = refl
@@ -63,7 +67,13 @@ next text base at now further ts rest b after found x k is s e d =
     let again : (other : List Token) → IsGlobal (global x) (m.front ++ other) other = λ other. m.again text other (alike_same text b) in
     let t = token (kinds.Punctuator punctuators.Comma) k.0 k.1.0 in
     let r : Begun AreGlobals AreMoreGlobals ts (map global found ++ global x ∷ []) after = continues AreGlobals AreMoreGlobals ts rest (t ∷ m.front) after (map global found) (global x) (k.1.1 ∙ ap (λ (z : List Token). t ∷ z) m.split)
-    (λ other gs end h. (m.front ++ other, other, (k.0, (k.1.0, refl)), again other, h))
+    (λ other gs end h. record {
+      after_comma = m.front ++ other;
+      after_element = other;
+      comma = (k.0, (k.1.0, refl));
+      element = again other;
+      others = h;
+    })
     (λ other f. next_back (t ∷ (m.front ++ other)) (m.front ++ other) other (global x) (k.0, (k.1.0, refl)) (again other) (firsts.stops 15 after other f s))
     d.0 in (
       subst (λ (z : List Global). Begun AreGlobals AreMoreGlobals ts z after) (sym (mapped found x)) r,
@@ -95,11 +105,24 @@ in_first text base at ts = record {
 no_more : (base : Base) (now n : ℕ) (text : List ℕ) (rest b : List Token) → HasPunctuator punctuators.Comma rest b → NoGlobal base now n text b → (gs : List Global) (end : List Token) → AreMoreGlobals gs rest end → (5 ≤ n → end_of_globals base gs now ≤ 1048576) → ⊥
 no_more base now n text rest b k none [] end m low = let e : punctuators.Comma ≡ punctuators.Semicolon = other_punctuator punctuators.Comma punctuators.Semicolon rest rest b end refl k m in absurd cc
 no_more base now n text rest b k none (g ∷ gs) end m low =
-    none g gs end (m.1, subst (λ (z : List Token). IsGlobal g z m.1) (has_same punctuators.Comma rest rest m.0 b refl m.2 k) m.3, m.4) (λ five. let a = grows base gs (end_of base g.pointers g.length now) in let c = low five in omega arith)
+    none g gs end (
+      m.after_element,
+      subst (λ (z : List Token). IsGlobal g z m.after_element)
+          (has_same punctuators.Comma rest rest m.after_comma b refl m.comma k) m.element,
+      m.others,
+    )
+    (λ five. let a = grows base gs
+    (end_of base g.pointers g.length now) in let c = low five in omega arith)
 
 listed : (gs : List Global) (rest ts end : List Token) → HasPunctuator punctuators.Comma rest ts → AreGlobals gs ts end → AreMoreGlobals gs rest end
 listed [] rest ts end k h = absurd h
-listed (g ∷ gs) rest ts end k h = (ts, h.0, k, h.1, h.2)
+listed (g ∷ gs) rest ts end k h = record {
+  after_comma = ts;
+  after_element = h.0;
+  comma = k;
+  element = h.1;
+  others = h.2;
+}
 
 pub in_next : (text : List ℕ) (base : Base) (at now : ℕ) (ts rest b : List Token) (found : List Global') → Read base at ts found rest now → HasPunctuator punctuators.Comma rest b → Wraps (NoGlobal base now) (HasGlobals base now) (NoGlobals base at) (HasGlobals base at) text b ts
 in_next text base at now ts rest b found d k =
@@ -126,7 +149,7 @@ in_next text base at now ts rest b found d k =
 
 no_end : (rest : List Token) → Lacks punctuators.Comma rest → Lacks punctuators.Semicolon rest → (gs : List Global) (end : List Token) → AreMoreGlobals gs rest end → ⊥
 no_end rest k s [] end m = s end m
-no_end rest k s (g ∷ gs) end m = k m.0 m.2
+no_end rest k s (g ∷ gs) end m = k m.after_comma m.comma
 
 pub in_end : (text : List ℕ) (base : Base) (at now : ℕ) (ts rest : List Token) (found : List Global') → Read base at ts found rest now → now ≤ 1048576 → Lacks punctuators.Comma rest → Wraps (NoPunctuator punctuators.Semicolon) (APunctuator punctuators.Semicolon) (NoGlobals base at) (HasGlobals base at) text rest ts
 in_end text base at now ts rest found d w k = record {

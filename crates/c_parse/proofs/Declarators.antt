@@ -109,7 +109,13 @@ goes_further text base pointers at value p ts b rest is c w z =
 -- ---- lengths
 
 pub bracketed : (n : Length) (ts a rest : List Token) → HasPunctuator punctuators.OpenBracket ts a → IsBracketed n a rest → IsLength (Some n) ts rest
-bracketed n ts a rest o h = (a, h.0, o, h.1, h.2)
+bracketed n ts a rest o h = record {
+  after_opening = a;
+  after_inner = h.0;
+  opening = o;
+  inner = h.1;
+  closing = h.2;
+}
 
 bracket_not : (ts end b : List Token) → ts ≡ end → Stops 1 end → HasPunctuator punctuators.OpenBracket ts b → ⊥
 bracket_not ts end b p s o = let a = follows_punctuator punctuators.OpenBracket o.0 ts b 1 o.1 refl in let c = ap follows p in absurd (omega arith)
@@ -119,9 +125,18 @@ stops : (i : Option Initialiser) (gs : List Global) (a b end : List Token) → I
 stops i gs a b end h m = initialiser_stops i a b (globals_stop gs b end m) h
 
 none_bracketed : (base : Base) (pointers at n : ℕ) (text : List ℕ) (ts a : List Token) → HasPunctuator punctuators.OpenBracket ts a → NoneBracketed base pointers at n text a → NoLength base pointers at n text ts
-none_bracketed base pointers at n text ts a o none None i gs end h low = absurd (bracket_not ts h.0 a h.2 (stops i gs h.0 h.1 end h.3 h.4) o)
+none_bracketed base pointers at n text ts a o none None i gs end h low =
+    absurd (bracket_not ts h.after_length a h.length
+    (stops i gs h.after_length h.after_initialiser end h.initialiser h.others) o)
 none_bracketed base pointers at n text ts a o none (Some l) i gs end h low =
-    none l h.0 (h.2.1, subst (λ (x : List Token). IsInteger l.value l.at x h.2.1) (has_same punctuators.OpenBracket ts ts h.2.0 a refl h.2.2 o) h.2.3, h.2.4) (stops i gs h.0 h.1 end h.3 h.4) low
+    none l h.after_length (
+      h.length.after_inner,
+      subst (λ (x : List Token). IsInteger l.value l.at x h.length.after_inner)
+          (has_same punctuators.OpenBracket ts ts h.length.after_opening a refl h.length.opening o)
+          h.length.inner,
+      h.length.closing,
+    )
+    (stops i gs h.after_length h.after_initialiser end h.initialiser h.others) low
 
 pub in_bracketed : (text : List ℕ) (base : Base) (pointers at : ℕ) (ts a : List Token) → HasPunctuator punctuators.OpenBracket ts a → Wraps (NoneBracketed base pointers at) (HasBracketed base pointers at) (NoLength base pointers at) (HasLength base pointers at) text a ts
 in_bracketed text base pointers at ts a o =
@@ -138,7 +153,15 @@ in_bracketed text base pointers at ts a o =
           is = λ other.
               let rest = punctuator punctuators.Semicolon ∷ other in
               following (λ z. IsAfterName (Some h.tree) None [] z other) (t ∷ inner) (punctuator punctuators.Semicolon ∷ []) other
-              (rest, rest, bracketed h.tree (t ∷ (inner ++ rest)) (inner ++ rest) rest (o.0, (o.1.0, refl)) (h.is rest), refl, has_it punctuators.Semicolon other);
+              (record {
+                after_length = rest;
+                after_initialiser = rest;
+                length =
+                    bracketed h.tree (t ∷ (inner ++ rest)) (inner ++ rest) rest (o.0, (o.1.0, refl))
+                    (h.is rest);
+                initialiser = refl;
+                others = has_it punctuators.Semicolon other;
+              });
           low = h.low;
         };
       };
@@ -149,20 +172,36 @@ abbrev pub array : List Token
 array = punctuator punctuators.OpenBracket ∷ digit 0 ∷ punctuator punctuators.CloseBracket ∷ punctuator punctuators.Semicolon ∷ []
 
 pub is_array : (other : List Token) → IsLength (Some (length_of 0 0)) (array ++ other) (punctuator punctuators.Semicolon ∷ other)
-is_array other = (digit 0 ∷ punctuator punctuators.CloseBracket ∷ punctuator punctuators.Semicolon ∷ other, punctuator punctuators.CloseBracket ∷ punctuator punctuators.Semicolon ∷ other, has_it punctuators.OpenBracket _, (types.Int, (0, refl)), has_it punctuators.CloseBracket _)
+is_array other = record {
+  after_opening =
+      digit 0 ∷ punctuator punctuators.CloseBracket ∷ punctuator punctuators.Semicolon ∷ other;
+  after_inner = punctuator punctuators.CloseBracket ∷ punctuator punctuators.Semicolon ∷ other;
+  opening = has_it punctuators.OpenBracket _;
+  inner = (types.Int, (0, refl));
+  closing = has_it punctuators.CloseBracket _;
+}
 
 array_has : (base : Base) (pointers at n : ℕ) (text : List ℕ) → at ≤ 1048576 → HasLength base pointers at n text array
 array_has base pointers at n text w = record {
   length = Some (length_of 0 0);
   initialiser = None;
   others = [];
-  is = λ other. (punctuator punctuators.Semicolon ∷ other, punctuator punctuators.Semicolon ∷ other, is_array other, refl, has_it punctuators.Semicolon other);
+  is = λ other. record {
+    after_length = punctuator punctuators.Semicolon ∷ other;
+    after_initialiser = punctuator punctuators.Semicolon ∷ other;
+    length = is_array other;
+    initialiser = refl;
+    others = has_it punctuators.Semicolon other;
+  };
   low = λ five. no_elements base pointers at w;
 }
 
 no_scalar : (base : Base) (pointers at n : ℕ) (text : List ℕ) (ts : List Token) → Lacks punctuators.OpenBracket ts → (Stops 1 ts → ⊥) → NoLength base pointers at n text ts
-no_scalar base pointers at n text ts l z None i gs end h low = z (subst (λ (x : List Token). Stops 1 x) (sym h.2) (stops i gs h.0 h.1 end h.3 h.4))
-no_scalar base pointers at n text ts l z (Some m) i gs end h low = l h.2.0 h.2.2
+no_scalar base pointers at n text ts l z None i gs end h low =
+    z (subst (λ (x : List Token). Stops 1 x) (sym h.length)
+    (stops i gs h.after_length h.after_initialiser end h.initialiser h.others))
+no_scalar base pointers at n text ts l z (Some m) i gs end h low =
+    l h.length.after_opening h.length.opening
 
 pub not_scalar : (text : List ℕ) (base : Base) (pointers at : ℕ) (ts : List Token) → at ≤ 1048576 → Lacks punctuators.OpenBracket ts → (Stops 1 ts → ⊥) → Failed 0 (place text ts) (NoLength base pointers at) (HasLength base pointers at) text ts
 not_scalar text base pointers at ts w l z =
@@ -172,7 +211,8 @@ not_scalar text base pointers at ts w l z =
 
 scalar_far : (base : Base) (pointers at n : ℕ) (text : List ℕ) (ts : List Token) → 5 ≤ n → Lacks punctuators.OpenBracket ts → 1048576 < end_of base pointers None at → NoLength base pointers at n text ts
 scalar_far base pointers at n text ts five l f None i gs end h low = let a = low five in absurd (omega arith)
-scalar_far base pointers at n text ts five l f (Some m) i gs end h low = l h.2.0 h.2.2
+scalar_far base pointers at n text ts five l f (Some m) i gs end h low =
+    l h.length.after_opening h.length.opening
 
 punctuator_goes_on : (base : Base) (pointers at k : ℕ) (text : List ℕ) (ts : List Token) → 5 ≡ suc k → EndsScalar ts → Onward (HasLength base pointers at) k text [] ts
 punctuator_goes_on base pointers at k text ts e (rest, inl h) =
@@ -181,7 +221,19 @@ punctuator_goes_on base pointers at k text ts e (rest, inl h) =
       rest = rest;
       more = [];
       is = h.1.1;
-      has = record { length = None; initialiser = None; others = []; is = λ other. (t ∷ other, t ∷ other, refl, refl, (h.0, (h.1.0, refl))); low = λ five. absurd (omega arith) };
+      has = record {
+        length = None;
+        initialiser = None;
+        others = [];
+        is = λ other. record {
+          after_length = t ∷ other;
+          after_initialiser = t ∷ other;
+          length = refl;
+          initialiser = refl;
+          others = (h.0, (h.1.0, refl));
+        };
+        low = λ five. absurd (omega arith);
+      };
     }
 punctuator_goes_on base pointers at k text ts e (rest, inr (inl h)) =
     let t = token (kinds.Punctuator punctuators.Comma) h.0 h.1.0 in record {
@@ -196,7 +248,27 @@ punctuator_goes_on base pointers at k text ts e (rest, inr (inl h)) =
         is = λ other.
             let s = punctuator punctuators.Semicolon ∷ other in
             let m = name ∷ s in
-            (t ∷ m, t ∷ m, refl, refl, (m, s, (h.0, (h.1.0, refl)), (m, s, s, refl, refl, refl, refl), has_it punctuators.Semicolon other));
+            record {
+              after_length = t ∷ m;
+              after_initialiser = t ∷ m;
+              length = refl;
+              initialiser = refl;
+              others = record {
+                after_comma = m;
+                after_element = s;
+                comma = (h.0, (h.1.0, refl));
+                element = record {
+                  after_stars = m;
+                  after_name = s;
+                  after_length = s;
+                  stars = refl;
+                  name = refl;
+                  length = refl;
+                  initialiser = refl;
+                };
+                others = has_it punctuators.Semicolon other;
+              };
+            };
         low = λ five. absurd (omega arith);
       };
     }
@@ -212,7 +284,13 @@ punctuator_goes_on base pointers at k text ts e (rest, inr (inr h)) =
         others = [];
         is = λ other.
             let s = punctuator punctuators.Semicolon ∷ other in
-            (t ∷ digit 1 ∷ s, s, refl, (digit 1 ∷ s, (h.0, (h.1.0, refl)), (0, refl)), has_it punctuators.Semicolon other);
+            record {
+              after_length = t ∷ digit 1 ∷ s;
+              after_initialiser = s;
+              length = refl;
+              initialiser = (digit 1 ∷ s, (h.0, (h.1.0, refl)), (0, refl));
+              others = has_it punctuators.Semicolon other;
+            };
         low = λ five. absurd (omega arith);
       };
     }
@@ -241,11 +319,18 @@ at_end : (ts a : List Token) → ts ≡ a → EndsScalar a → EndsScalar ts
 at_end ts a p h = subst EndsScalar (sym p) h
 
 no_punctuator : (base : Base) (pointers at n : ℕ) (text : List ℕ) (ts : List Token) → Lacks punctuators.OpenBracket ts → (EndsScalar ts → ⊥) → NoLength base pointers at n text ts
-no_punctuator base pointers at n text ts l z (Some m) i gs end h low = l h.2.0 h.2.2
-no_punctuator base pointers at n text ts l z None None [] end h low = z (at_end ts h.1 (h.2 ∙ h.3) (end, inl h.4))
-no_punctuator base pointers at n text ts l z None None (g ∷ gs) end h low = z (at_end ts h.1 (h.2 ∙ h.3) (h.4.0, inr (inl h.4.2)))
-no_punctuator base pointers at n text ts l z None (Some (Single c)) gs end h low = z (at_end ts h.0 h.2 (h.3.0, inr (inr h.3.1)))
-no_punctuator base pointers at n text ts l z None (Some (Several to cs)) gs end h low = z (at_end ts h.0 h.2 (h.3.0, inr (inr h.3.2)))
+no_punctuator base pointers at n text ts l z (Some m) i gs end h low =
+    l h.length.after_opening h.length.opening
+no_punctuator base pointers at n text ts l z None None [] end h low =
+    z (at_end ts h.after_initialiser (h.length ∙ h.initialiser) (end, inl h.others))
+no_punctuator base pointers at n text ts l z None None (g ∷ gs) end h low =
+    z (at_end ts h.after_initialiser (h.length ∙ h.initialiser)
+    (h.others.after_comma, inr (inl h.others.comma)))
+no_punctuator base pointers at n text ts l z None (Some (Single c)) gs end h low =
+    z (at_end ts h.after_length h.length (h.initialiser.0, inr (inr h.initialiser.1)))
+no_punctuator base pointers at n text ts l z None (Some (Several to cs)) gs end h low =
+    z (at_end ts h.after_length h.length
+    (h.initialiser.after_assign, inr (inr h.initialiser.assign)))
 
 scalar_ends : (text : List ℕ) (base : Base) (pointers at : ℕ) (ts : List Token) → at ≤ 1048576 → Lacks punctuators.OpenBracket ts → (EndsScalar ts → ⊥) → Failed 0 (place text ts) (NoLength base pointers at) (HasLength base pointers at) text ts
 scalar_ends text base pointers at ts w l z =
@@ -263,8 +348,10 @@ scalar e text base pointers at ts w l f (inr h) = subst (λ (x : ParseErr). Plac
 
 not_named : (base : Base) (at k n : ℕ) (text : List ℕ) (ts d : List Token) → AreStars n ts d → NoStar d → NoIdentifier d → NoGlobal base at k text ts
 not_named base at k n text ts d s z none g gs end h low =
-    let p = stars_once n g.pointers ts ts d h.1.0 refl z (name_star g.name h.1.0 h.1.1 h.1.4) s h.1.3 in
-    none g.name h.1.1 (subst (λ (x : List Token). IsIdentifier g.name x h.1.1) (sym p.1) h.1.4)
+    let p = stars_once n g.pointers ts ts d h.1.after_stars refl z
+    (name_star g.name h.1.after_stars h.1.after_name h.1.name) s h.1.stars in
+    none g.name h.1.after_name (subst (λ (x : List Token). IsIdentifier g.name x h.1.after_name)
+    (sym p.1) h.1.name)
 
 pub no_name : (text : List ℕ) (base : Base) (at n : ℕ) (ts d : List Token) → at ≤ 1048576 → AreStars n ts d → NoStar d → NoIdentifier d → Failed 0 (place text d) (NoGlobal base at) (HasGlobals base at) text ts
 no_name text base at n ts d w s z none =
@@ -279,17 +366,37 @@ no_name text base at n ts d w s z none =
         trees = g ∷ [];
         are = λ other.
             let rest = punctuator punctuators.Semicolon ∷ other in
-            following (λ x. AreGlobals (g ∷ []) x other) m.front (name ∷ array) other
-            (rest, (name ∷ (array ++ other), array ++ other, rest, again (name ∷ (array ++ other)), refl, is_array other, refl), has_it punctuators.Semicolon other);
+            following (λ x. AreGlobals (g ∷ []) x other) m.front (name ∷ array) other (
+              rest,
+              record {
+                after_stars = name ∷ (array ++ other);
+                after_name = array ++ other;
+                after_length = rest;
+                stars = again (name ∷ (array ++ other));
+                name = refl;
+                length = is_array other;
+                initialiser = refl;
+              },
+              has_it punctuators.Semicolon other,
+            );
         low = λ five. no_elements base n at w;
       };
     })
 
 no_length : (base : Base) (at k n : ℕ) (text : List ℕ) (called : Identifier) (ts d b : List Token) → AreStars n ts d → NoStar d → IsIdentifier called d b → NoLength base n at k text b → NoGlobal base at k text ts
 no_length base at k n text called ts d b s z m none g gs end h low =
-    let p = stars_once n g.pointers ts ts d h.1.0 refl z (name_star g.name h.1.0 h.1.1 h.1.4) s h.1.3 in
-    let q = name_same called g.name d h.1.0 b h.1.1 p.1 m h.1.4 in
-    none g.length g.initialiser gs end (h.1.2, h.0, subst (λ (x : List Token). IsLength g.length x h.1.2) (sym q.1) h.1.5, h.1.6, h.2) (λ five. subst (λ (x : ℕ). end_of base x g.length at ≤ 1048576) (sym p.0) (low five))
+    let p = stars_once n g.pointers ts ts d h.1.after_stars refl z
+    (name_star g.name h.1.after_stars h.1.after_name h.1.name) s h.1.stars in
+    let q = name_same called g.name d h.1.after_stars b h.1.after_name p.1 m h.1.name in
+    none g.length g.initialiser gs end
+    (record {
+      after_length = h.1.after_length;
+      after_initialiser = h.0;
+      length =
+          subst (λ (x : List Token). IsLength g.length x h.1.after_length) (sym q.1) h.1.length;
+      initialiser = h.1.initialiser;
+      others = h.2;
+    }) (λ five. subst (λ (x : ℕ). end_of base x g.length at ≤ 1048576) (sym p.0) (low five))
 
 no_star : (called : Identifier) (other : List Token) → NoStar (token kinds.Identifier called.start called.end ∷ other)
 no_star called other = name_star called (token kinds.Identifier called.start called.end ∷ other) other refl
@@ -311,8 +418,19 @@ in_length text base at n called ts d b s e =
                   let q = h.is other in
                   following (λ z. AreGlobals (g ∷ h.others) z other) ((m.front ++ t ∷ []) ++ inner) [] other
                   (following (λ z. AreGlobals (g ∷ h.others) z other) (m.front ++ t ∷ []) inner other
-                  (following (λ z. AreGlobals (g ∷ h.others) z other) m.front (t ∷ []) (inner ++ other)
-                  (q.1, (t ∷ (inner ++ other), inner ++ other, q.0, again (t ∷ (inner ++ other)), refl, q.2, q.3), q.4)));
+                  (following (λ z. AreGlobals (g ∷ h.others) z other) m.front (t ∷ []) (inner ++ other) (
+                    q.after_initialiser,
+                    record {
+                      after_stars = t ∷ (inner ++ other);
+                      after_name = inner ++ other;
+                      after_length = q.after_length;
+                      stars = again (t ∷ (inner ++ other));
+                      name = refl;
+                      length = q.length;
+                      initialiser = q.initialiser;
+                    },
+                    q.others,
+                  )));
               low = h.low;
             };
           };
@@ -321,10 +439,13 @@ in_length text base at n called ts d b s e =
 no_initialiser : (base : Base) (at k n : ℕ) (text : List ℕ) (called : Identifier) (l : Option Length) (ts d b c : List Token) → AreStars n ts d → NoStar d → IsIdentifier called d b → IsLength l b c → Stops 1 c → NoInitialiser k text c → NoGlobal base at k text ts
 no_initialiser base at k n text called l ts d b c s z m e t none g gs end h low =
     let st = globals_stop gs h.0 end h.2 in
-    let p = stars_once n g.pointers ts ts d h.1.0 refl z (name_star g.name h.1.0 h.1.1 h.1.4) s h.1.3 in
-    let q = name_same called g.name d h.1.0 b h.1.1 p.1 m h.1.4 in
-    let r = length_once l g.length b h.1.1 c h.1.2 q.1 t (initialiser_stops g.initialiser h.1.2 h.0 st h.1.6) e h.1.5 in
-    none g.initialiser h.0 (subst (λ (x : List Token). IsInitialiser g.initialiser x h.0) (sym r.1) h.1.6) st
+    let p = stars_once n g.pointers ts ts d h.1.after_stars refl z
+    (name_star g.name h.1.after_stars h.1.after_name h.1.name) s h.1.stars in
+    let q = name_same called g.name d h.1.after_stars b h.1.after_name p.1 m h.1.name in
+    let r = length_once l g.length b h.1.after_name c h.1.after_length q.1 t
+    (initialiser_stops g.initialiser h.1.after_length h.0 st h.1.initialiser) e h.1.length in
+    none g.initialiser h.0 (subst (λ (x : List Token). IsInitialiser g.initialiser x h.0)
+    (sym r.1) h.1.initialiser) st
 
 pub in_initialiser : (text : List ℕ) (base : Base) (at n : ℕ) (called : Identifier) (l : Option Length) (ts d b c : List Token) → AreStars n ts d → IsIdentifier called d b → IsLength l b c → Stops 1 c → end_of base n l at ≤ 1048576 → Wraps NoInitialiser HasInitialiser (NoGlobal base at) (HasGlobals base at) text c ts
 in_initialiser text base at n called l ts d b c s e i stop w =
@@ -346,8 +467,19 @@ in_initialiser text base at n called l ts d b c s e i stop w =
                   let rest = punctuator punctuators.Semicolon ∷ other in
                   following (λ z. AreGlobals (g ∷ []) z other) ((m.front ++ t ∷ o.front) ++ inner) (punctuator punctuators.Semicolon ∷ []) other
                   (following (λ z. AreGlobals (g ∷ []) z other) (m.front ++ t ∷ o.front) inner rest
-                  (following (λ z. AreGlobals (g ∷ []) z other) m.front (t ∷ o.front) (inner ++ rest)
-                  (rest, (t ∷ (o.front ++ (inner ++ rest)), o.front ++ (inner ++ rest), inner ++ rest, again (t ∷ (o.front ++ (inner ++ rest))), refl, length_again (inner ++ rest), h.is rest), has_it punctuators.Semicolon other)));
+                  (following (λ z. AreGlobals (g ∷ []) z other) m.front (t ∷ o.front) (inner ++ rest) (
+                    rest,
+                    record {
+                      after_stars = t ∷ (o.front ++ (inner ++ rest));
+                      after_name = o.front ++ (inner ++ rest);
+                      after_length = inner ++ rest;
+                      stars = again (t ∷ (o.front ++ (inner ++ rest)));
+                      name = refl;
+                      length = length_again (inner ++ rest);
+                      initialiser = h.is rest;
+                    },
+                    has_it punctuators.Semicolon other,
+                  )));
               low = λ five. w;
             };
           };
@@ -357,7 +489,11 @@ in_initialiser text base at n called l ts d b c s e i stop w =
 
 more_shorter : (cs : List Constant) (ts end : List Token) → AreMoreConstants cs ts end → length end < length ts
 more_shorter [] ts end h = let a = ap length h.1.1 in omega arith
-more_shorter (c ∷ cs) ts end h = let a = ap length h.2.1.1 in let b = constant_shorter c h.0 h.1 h.3 in let d = more_shorter cs h.1 end h.4 in omega arith
+more_shorter (c ∷ cs) ts end h =
+    let a = ap length h.comma.1.1 in
+    let b = constant_shorter c h.after_comma h.after_element h.element in
+    let d = more_shorter cs h.after_element end h.others in
+    omega arith
 
 list_shorter : (cs : List Constant) (ts end : List Token) → AreConstants cs ts end → length end < length ts
 list_shorter [] ts end h = absurd h
@@ -366,12 +502,24 @@ list_shorter (c ∷ cs) ts end h = let b = constant_shorter c ts h.0 h.1 in let 
 initialiser_shorter : (i : Option Initialiser) (ts end : List Token) → IsInitialiser i ts end → length end ≤ length ts
 initialiser_shorter None ts end h = let a = ap length h in omega arith
 initialiser_shorter (Some (Single c)) ts end h = let a = ap length h.1.1.1 in let b = constant_shorter c h.0 end h.2 in omega arith
-initialiser_shorter (Some (Several at cs)) ts end h = let a = ap length h.2.1.1 in let b = ap length h.3.1 in let d = list_shorter cs h.1 end h.4 in omega arith
+initialiser_shorter (Some (Several at cs)) ts end h =
+    let a = ap length h.assign.1.1 in
+    let b = ap length h.brace.1 in
+    let d = list_shorter cs h.after_brace end h.constants in
+    omega arith
 
 pub length_shorter : (n : Option Length) (ts end : List Token) → IsLength n ts end → length end ≤ length ts
 length_shorter None ts end h = let a = ap length h in omega arith
-length_shorter (Some n) ts end h = let a = ap length h.2.1.1 in let b = ap length h.3.1.1 in let d = ap length h.4.1.1 in omega arith
+length_shorter (Some n) ts end h =
+    let a = ap length h.opening.1.1 in
+    let b = ap length h.inner.1.1 in
+    let d = ap length h.closing.1.1 in
+    omega arith
 
 pub global_shorter : (g : Global) (ts end : List Token) → IsGlobal g ts end → length end < length ts
 global_shorter g ts end h =
-    let a = stars g.pointers ts h.0 h.3 in let b = ap length h.4 in let c = length_shorter g.length h.1 h.2 h.5 in let d = initialiser_shorter g.initialiser h.2 end h.6 in omega arith
+    let a = stars g.pointers ts h.after_stars h.stars in
+    let b = ap length h.name in
+    let c = length_shorter g.length h.after_name h.after_length h.length in
+    let d = initialiser_shorter g.initialiser h.after_length end h.initialiser in
+    omega arith

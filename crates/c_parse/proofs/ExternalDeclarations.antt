@@ -41,10 +41,23 @@ declarators_type n called ts a end s m = stars_front n ts a (name_type called a 
 pub no_base : (text : List ℕ) (ts : List Token) → NoBase ts → Failed 0 (place text ts) NoHead HasHead text ts
 no_base text ts none =
     missing NoHead HasHead text ts [] ts refl
-    (λ text' other s b n m d end h. firsts.no_base ts other s none b d h.1)
+    (λ text' other s b n m d end h. firsts.no_base ts other s none b d h.base)
     (λ text'. record {
       more = word ∷ name ∷ [];
-      has = record { base = bases.Int; pointers = 0; name = named; is = λ other. (name ∷ other, (name ∷ other, inl (name ∷ other, (0, (0, refl)), refl), refl, refl)) };
+      has = record {
+        base = bases.Int;
+        pointers = 0;
+        name = named;
+        is = λ other. (
+          name ∷ other,
+          record {
+            after_stars = name ∷ other;
+            base = inl (name ∷ other, (0, (0, refl)), refl);
+            stars = refl;
+            name = refl;
+          },
+        );
+      };
     })
 
 pub no_name : (text : List ℕ) (b : Base) (k : ℕ) (ts d a : List Token) → IsBase b ts d → EndsBase b ts d → AreStars k d a → NoStar a → NoIdentifier a → Failed 0 (place text a) NoHead HasHead text ts
@@ -55,10 +68,15 @@ no_name text b k ts d a is far s z none =
     let again : (other : List Token) → AreStars k (ms.front ++ other) other = λ other. ms.again text other (alike_same text d) in
     missing NoHead HasHead text ts (far.front ++ ms.front) a (far.split ∙ ap (λ (x : List Token). far.front ++ x) ms.split ∙ sym (append_append far.front ms.front a))
     (λ text' other f. following (λ x. NoHead 0 text' x) far.front ms.front other (λ c n m g end h.
-    let t = declarators_type n m g h.0 end h.2 h.3 in
-    let q = far.only (ms.front ++ other) (subst (λ (x : List Token). SameFirst x (ms.front ++ other)) (sym ms.split) (first_after ms.front a other f)) c g h.1 (λ x y w. t (base_front x g y w)) in
-    let r = stars_once k n (ms.front ++ other) g other h.0 q.1 (firsts.no_punctuator punctuators.Star a other f z) (name_star m h.0 end h.3) (again other) h.2 in
-    firsts.no_name a other f none m end (subst (λ (x : List Token). IsIdentifier m x end) (sym r.1) h.3)))
+    let t = declarators_type n m g h.after_stars end h.stars h.name in
+    let q = far.only (ms.front ++ other)
+    (subst (λ (x : List Token). SameFirst x (ms.front ++ other)) (sym ms.split)
+    (first_after ms.front a other f)) c g h.base (λ x y w. t (base_front x g y w)) in
+    let r = stars_once k n (ms.front ++ other) g other h.after_stars q.1
+    (firsts.no_punctuator punctuators.Star a other f z) (name_star m h.after_stars end h.name)
+    (again other) h.stars in
+    firsts.no_name a other f none m end
+    (subst (λ (x : List Token). IsIdentifier m x end) (sym r.1) h.name)))
     (λ text'. record {
       more = name ∷ [];
       has = record {
@@ -68,8 +86,17 @@ no_name text b k ts d a is far s z none =
         is = λ other.
             let rest = name ∷ other in
             following (λ x. (g : List Token) × IsHead b k named x g other) (far.front ++ ms.front) (name ∷ []) other
-            (following (λ x. (g : List Token) × IsHead b k named x g other) far.front ms.front rest
-            (ms.front ++ rest, (rest, subst (λ (x : List Token). IsBase b (x ++ (ms.front ++ rest)) (ms.front ++ rest)) e (mb.again text (ms.front ++ rest) (alike_same text ts)), again rest, refl)));
+            (following (λ x. (g : List Token) × IsHead b k named x g other) far.front ms.front rest (
+              ms.front ++ rest,
+              record {
+                after_stars = rest;
+                base =
+                    subst (λ (x : List Token). IsBase b (x ++ (ms.front ++ rest)) (ms.front ++ rest))
+                    e (mb.again text (ms.front ++ rest) (alike_same text ts));
+                stars = again rest;
+                name = refl;
+              },
+            ));
       };
     })
 
@@ -84,20 +111,24 @@ pub record Headed (b : Base) (n : ℕ) (called : Identifier) (ts d rest : List T
 
 pub headed : (text : List ℕ) (b : Base) (n : ℕ) (called : Identifier) (ts d rest : List Token) → IsHead b n called ts d rest → Headed b n called ts d rest
 headed text b n called ts d rest h =
-    let mb = moves.base b text ts d h.1 in
-    let ms = moves.stars n text d h.0 h.2 in
+    let mb = moves.base b text ts d h.base in
+    let ms = moves.stars n text d h.after_stars h.stars in
     let t = token kinds.Identifier called.start called.end in record {
       front = mb.front;
       split = mb.split;
       declared = ms.front ++ t ∷ [];
-      split_declared = ms.split ∙ ap (λ (x : List Token). ms.front ++ x) h.3 ∙ sym (append_append ms.front (t ∷ []) rest);
+      split_declared =
+          ms.split ∙ ap (λ (x : List Token). ms.front ++ x) h.name
+          ∙ sym (append_append ms.front (t ∷ []) rest);
       again = λ other. mb.again text other (alike_same text ts);
       declares = λ other. following (λ x. (a : List Token) × AreStars n x a × IsIdentifier called a other) ms.front (t ∷ []) other (t ∷ other, ms.again text (t ∷ other) (alike_same text d), refl);
     }
 
 -- with these tokens after it
 is_head : (b : Base) (n : ℕ) (called : Identifier) (ts d rest : List Token) (m : Headed b n called ts d rest) (other : List Token) → IsHead b n called (m.front ++ (m.declared ++ other)) (m.declared ++ other) other
-is_head b n called ts d rest m other = let q = m.declares other in (q.0, m.again (m.declared ++ other), q.1, q.2)
+is_head b n called ts d rest m other =
+    let q = m.declares other in
+    record { after_stars = q.0; base = m.again (m.declared ++ other); stars = q.1; name = q.2 }
 
 whole_split : (b : Base) (n : ℕ) (called : Identifier) (ts d rest : List Token) (m : Headed b n called ts d rest) → ts ≡ (m.front ++ m.declared) ++ rest
 whole_split b n called ts d rest m = m.split ∙ ap (λ (x : List Token). m.front ++ x) m.split_declared ∙ sym (append_append m.front m.declared rest)
@@ -113,14 +144,35 @@ array_after counts n text inner w h =
       is = λ other.
           let q = h.is (array ++ other) in
           let rest = punctuator punctuators.Semicolon ∷ other in
-          following (λ x. IsExternalDeclaration text (Globals h.base (g ∷ [])) x other) inner array other (q.0, q.1.1, (rest, (q.1.0, array ++ other, rest, q.1.2, q.1.3, is_array other, refl), has_it punctuators.Semicolon other));
+          following (λ x. IsExternalDeclaration text (Globals h.base (g ∷ [])) x other) inner array
+          other (
+            q.0,
+            q.1.base,
+            (
+              rest,
+              record {
+                after_stars = q.1.after_stars;
+                after_name = array ++ other;
+                after_length = rest;
+                stars = q.1.stars;
+                name = q.1.name;
+                length = is_array other;
+                initialiser = refl;
+              },
+              has_it punctuators.Semicolon other,
+            ),
+          );
       fits = record { each = tt; functions = λ four. omega arith; bytes = λ five. no_elements h.base h.pointers counts.bytes w; funclets = λ six. omega arith };
     }
 
 no_head : (counts : Counts) (n : ℕ) (text : List ℕ) (ts : List Token) → NoHead n text ts → NoExternalDeclaration counts n text ts
 no_head counts n text ts none (Globals b []) end h w = absurd h.2
-no_head counts n text ts none (Globals b (g ∷ gs)) end h w = none b g.pointers g.name h.0 h.2.1.1 (h.2.1.0, h.1, h.2.1.3, h.2.1.4)
-no_head counts n text ts none (Function t called ps body) end h w = none t.base t.pointers called h.5.0 h.1 (h.0, h.5.1, h.5.2, h.6)
+no_head counts n text ts none (Globals b (g ∷ gs)) end h w =
+    none b g.pointers g.name h.0 h.2.1.after_name
+    (record { after_stars = h.2.1.after_stars; base = h.1; stars = h.2.1.stars; name = h.2.1.name })
+no_head counts n text ts none (Function t called ps body) end h w =
+    none t.base t.pointers called h.returns.0 h.after_name
+    (record { after_stars = h.after_type; base = h.returns.1; stars = h.returns.2; name = h.name })
 
 pub in_head : (text : List ℕ) (counts : Counts) (ts : List Token) → counts.bytes ≤ 1048576 → Wraps NoHead HasHead (NoExternalDeclaration counts) (HasExternalDeclaration counts) text ts ts
 in_head text counts ts w = record {
@@ -137,17 +189,33 @@ typed b n = record { base = b; pointers = n }
 
 -- no globals stand where a parenthesis is after the head
 not_globals : (text : List ℕ) (b base : Base) (n : ℕ) (called : Identifier) (gs : List Global) (ts d rest inner end : List Token) → IsHead base n called ts d rest → HasPunctuator punctuators.OpenParenthesis rest inner → IsExternalDeclaration text (Globals b gs) ts end → ⊥
-not_globals text b base n called gs ts d rest inner end h o g = apart b gs (typed base n) called ts ts h.0 rest inner end refl g (d, h.1, h.2) h.3 o
+not_globals text b base n called gs ts d rest inner end h o g =
+    apart b gs (typed base n) called ts ts h.after_stars rest inner end refl g
+    (d, h.base, h.stars) h.name o
 
 -- a function has one head
 head_once : (base other : Base) (n m : ℕ) (called again : Identifier) (ts d e rest end : List Token) → IsHead base n called ts d rest → IsHead other m again ts e end → rest ≡ end
 head_once base other n m called again ts d e rest end h g =
-    let b = base_once base other ts ts d e refl (declarators_type n called d h.0 rest h.2 h.3) (declarators_type m again e g.0 end g.2 g.3) h.1 g.1 in
-    let s = stars_once n m d e h.0 g.0 b.1 (name_star called h.0 rest h.3) (name_star again g.0 end g.3) h.2 g.2 in
-    (name_same called again h.0 g.0 rest end s.1 h.3 g.3).1
+    let b = base_once base other ts ts d e refl
+    (declarators_type n called d h.after_stars rest h.stars h.name)
+    (declarators_type m again e g.after_stars end g.stars g.name) h.base g.base in
+    let s = stars_once n m d e h.after_stars g.after_stars b.1
+    (name_star called h.after_stars rest h.name)
+    (name_star again g.after_stars end g.name) h.stars g.stars in
+    (name_same called again h.after_stars g.after_stars rest end s.1 h.name g.name).1
 
 pub function : (text : List ℕ) (base : Base) (n : ℕ) (called : Identifier) (ps : List Parameter) (body : Statements) (ts d rest inner end : List Token) → IsHead base n called ts d rest → HasPunctuator punctuators.OpenParenthesis rest inner → IsTail text ps body inner end → IsExternalDeclaration text (Function (typed base n) called ps body) ts end
-function text base n called ps body ts d rest inner end h o t = (h.0, rest, inner, t.0, t.1, (d, h.1, h.2), h.3, o, t.2, t.3, t.4)
+function text base n called ps body ts d rest inner end h o t = record {
+  after_type = h.after_stars;
+  after_name = rest;
+  after_parenthesis = inner;
+  after_parameters = t.after_parameters;
+  returns = (d, h.base, h.stars);
+  name = h.name;
+  parenthesis = o;
+  parameters = t.parameters;
+  body = t.body;
+}
 
 full : (counts : Counts) (k : ℕ) (text : List ℕ) (base : Base) (n : ℕ) (called : Identifier) (ts d rest inner : List Token) → 4 ≤ k → IsHead base n called ts d rest → HasPunctuator punctuators.OpenParenthesis rest inner → counts.functions ≡ 0 → NoExternalDeclaration counts k text ts
 full counts k text base n called ts d rest inner four h o z (Globals b gs) end g w = not_globals text b base n called gs ts d rest inner end h o g
@@ -181,7 +249,18 @@ functions_full text counts base n called ts d rest inner w h o z =
               following (λ x. IsExternalDeclaration text' (Function (typed base n) called [] Empty) x other) (m.front ++ m.declared) (t ∷ nothing) other
               (following (λ x. IsExternalDeclaration text' (Function (typed base n) called [] Empty) x other) m.front m.declared u
               (function text' base n called [] Empty (m.front ++ (m.declared ++ u)) (m.declared ++ u) u (nothing ++ other) other (is_head base n called ts d rest m u) (o.0, (o.1.0, refl))
-              (punctuator punctuators.OpenBrace ∷ punctuator punctuators.CloseBrace ∷ other, punctuator punctuators.CloseBrace ∷ other, inl (has_it punctuators.CloseParenthesis (punctuator punctuators.OpenBrace ∷ punctuator punctuators.CloseBrace ∷ other)), has_it punctuators.OpenBrace (punctuator punctuators.CloseBrace ∷ other), has_it punctuators.CloseBrace other)));
+              (record {
+                after_parameters =
+                    punctuator punctuators.OpenBrace ∷ punctuator punctuators.CloseBrace ∷ other;
+                parameters =
+                    inl (has_it punctuators.CloseParenthesis
+                    (punctuator punctuators.OpenBrace ∷ punctuator punctuators.CloseBrace ∷ other));
+                body = record {
+                  after_brace = punctuator punctuators.CloseBrace ∷ other;
+                  brace = has_it punctuators.OpenBrace (punctuator punctuators.CloseBrace ∷ other);
+                  items = has_it punctuators.CloseBrace other;
+                };
+              })));
           fits = record { each = (empty k [] (λ three. omega arith), tt); functions = λ four. absurd (omega arith); bytes = λ five. w; funclets = λ six. omega arith };
         };
       };
@@ -190,10 +269,22 @@ functions_full text counts base n called ts d rest inner w h o z =
 no_tail : (counts : Counts) (k : ℕ) (text : List ℕ) (base : Base) (n : ℕ) (called : Identifier) (ts d rest inner : List Token) → IsHead base n called ts d rest → HasPunctuator punctuators.OpenParenthesis rest inner → NoTail counts.funclets k text inner → NoExternalDeclaration counts k text ts
 no_tail counts k text base n called ts d rest inner h o none (Globals b gs) end g w = not_globals text b base n called gs ts d rest inner end h o g
 no_tail counts k text base n called ts d rest inner h o none (Function t again ps body) end g w =
-    let r = head_once base t.base n t.pointers called again ts d g.5.0 rest g.1 h (g.0, g.5.1, g.5.2, g.6) in
-    let i = has_same punctuators.OpenParenthesis rest g.1 inner g.2 r o g.7 in
+    let r = head_once base t.base n t.pointers called again ts d g.returns.0 rest g.after_name h (record {
+      after_stars = g.after_type;
+      base = g.returns.1;
+      stars = g.returns.2;
+      name = g.name;
+    }) in
+    let i = has_same punctuators.OpenParenthesis rest g.after_name inner g.after_parenthesis r o
+    g.parenthesis in
     let b = length-append (funclets_of_all text body) [] in
-    none ps body end (g.3, g.4, subst (λ (x : List Token). AreParameters ps x g.3) (sym i) g.8, g.9, g.10) w.each.0 (λ six. let a = w.funclets six in omega arith)
+    none ps body end
+    (record {
+      after_parameters = g.after_parameters;
+      parameters =
+          subst (λ (x : List Token). AreParameters ps x g.after_parameters) (sym i) g.parameters;
+      body = g.body;
+    }) w.each.0 (λ six. let a = w.funclets six in omega arith)
 
 pub in_tail : (text : List ℕ) (counts : Counts) (base : Base) (n : ℕ) (called : Identifier) (ts d rest inner : List Token) → counts.bytes ≤ 1048576 → IsHead base n called ts d rest → HasPunctuator punctuators.OpenParenthesis rest inner → (counts.functions ≡ 0 → ⊥) → Wraps (NoTail counts.funclets) (HasTail counts.funclets) (NoExternalDeclaration counts) (HasExternalDeclaration counts) text inner ts
 in_tail text counts base n called ts d rest inner w h o z =
@@ -232,11 +323,19 @@ function_taken text counts after type called ps body f b low w n =
 
 no_globals : (counts : Counts) (k : ℕ) (text : List ℕ) (base : Base) (n : ℕ) (called : Identifier) (ts d rest : List Token) → IsHead base n called ts d rest → Lacks punctuators.OpenParenthesis rest → NoGlobals base counts.bytes k text d → NoExternalDeclaration counts k text ts
 no_globals counts k text base n called ts d rest h l none (Globals b gs) end g w =
-    let q = base_once base b ts ts d g.0 refl (declarators_type n called d h.0 rest h.2 h.3) (globals_type gs g.0 end g.2) h.1 g.1 in
+    let q = base_once base b ts ts d g.0 refl
+    (declarators_type n called d h.after_stars rest h.stars h.name)
+    (globals_type gs g.0 end g.2) h.base g.1 in
     none gs end (subst (λ (x : List Token). AreGlobals gs x end) (sym q.1) g.2) (λ five. subst (λ (x : Base). end_of_globals x gs counts.bytes ≤ 1048576) (sym q.0) (w.bytes five))
 no_globals counts k text base n called ts d rest h l none (Function t again ps body) end g w =
-    let r = head_once base t.base n t.pointers called again ts d g.5.0 rest g.1 h (g.0, g.5.1, g.5.2, g.6) in
-    l g.2 (subst (λ (x : List Token). HasPunctuator punctuators.OpenParenthesis x g.2) (sym r) g.7)
+    let r = head_once base t.base n t.pointers called again ts d g.returns.0 rest g.after_name h (record {
+      after_stars = g.after_type;
+      base = g.returns.1;
+      stars = g.returns.2;
+      name = g.name;
+    }) in
+    l g.after_parenthesis (subst (λ (x : List Token). HasPunctuator punctuators.OpenParenthesis x
+    g.after_parenthesis) (sym r) g.parenthesis)
 
 -- of two ways to cut a list one goes further
 abbrev Cuts : List Token → List Token → List Token → List Token → Type 0
@@ -267,7 +366,19 @@ against counts k text base n called ts d rest front fault other m w l s f (inr (
     let x : Global = record { pointers = n; name = called; length = Some (record { at = 0; value = 0 }); initialiser = None } in
     let h = m.declares array in
     let rest' = punctuator punctuators.Semicolon ∷ [] in
-    let are : AreGlobals (x ∷ []) (m.declared ++ array) [] = (rest', (h.0, array, rest', h.1, h.2, is_array [], refl), has_it punctuators.Semicolon []) in
+    let are : AreGlobals (x ∷ []) (m.declared ++ array) [] = (
+      rest',
+      record {
+        after_stars = h.0;
+        after_name = array;
+        after_length = rest';
+        stars = h.1;
+        name = h.2;
+        length = is_array [];
+        initialiser = refl;
+      },
+      has_it punctuators.Semicolon [],
+    ) in
     absurd (f o (subst (λ (z : List Token). SameFirst z o) (sym q) (g ++ array, refl)) (x ∷ []) [] (subst (λ (z : List Token). AreGlobals (x ∷ []) z []) e are) (λ five. no_elements base n counts.bytes w))
 
 globals_has : (counts : Counts) (k : ℕ) (text : List ℕ) (base : Base) (front inner : List Token) → ((other : List Token) → IsBase base (front ++ other) other) → HasGlobals base counts.bytes k text inner → HasExternalDeclaration counts k text (front ++ inner)
@@ -304,7 +415,11 @@ globals_taken text counts after base gs f b low n = record { each = tt; function
 
 more_globals : (gs : List Global) (ts end : List Token) → AreMoreGlobals gs ts end → length end < length ts
 more_globals [] ts end h = let a = ap length h.1.1 in omega arith
-more_globals (g ∷ gs) ts end h = let a = ap length h.2.1.1 in let b = global_shorter g h.0 h.1 h.3 in let c = more_globals gs h.1 end h.4 in omega arith
+more_globals (g ∷ gs) ts end h =
+    let a = ap length h.comma.1.1 in
+    let b = global_shorter g h.after_comma h.after_element h.element in
+    let c = more_globals gs h.after_element end h.others in
+    omega arith
 
 globals : (gs : List Global) (ts end : List Token) → AreGlobals gs ts end → length end < length ts
 globals [] ts end h = absurd h
@@ -313,7 +428,12 @@ globals (g ∷ gs) ts end h = let b = global_shorter g ts h.0 h.1 in let c = mor
 more_parameters : (ps : List Parameter) (ts end : List Token) → AreMoreParameters ps ts end → length end ≤ length ts
 more_parameters [] ts end h = let a = ap length h.1.1 in omega arith
 more_parameters (p ∷ ps) ts end h =
-    let a = ap length h.2.1.1 in let b = base p.«of».base h.0 h.3.1.0 h.3.1.1 in let c = stars p.«of».pointers h.3.1.0 h.3.0 h.3.1.2 in let d = ap length h.3.2 in let e = more_parameters ps h.1 end h.4 in omega arith
+    let a = ap length h.comma.1.1 in
+    let b = base p.«of».base h.after_comma h.element.1.0 h.element.1.1 in
+    let c = stars p.«of».pointers h.element.1.0 h.element.0 h.element.1.2 in
+    let d = ap length h.element.2 in
+    let e = more_parameters ps h.after_element end h.others in
+    omega arith
 
 parameters : (ps : List Parameter) (ts end : List Token) → AreParameters ps ts end → length end ≤ length ts
 parameters [] ts end (inl h) = let a = ap length h.1.1 in omega arith
@@ -324,5 +444,11 @@ parameters (p ∷ ps) ts end h =
 pub shorter : (text : List ℕ) (x : ExternalDeclaration) (ts end : List Token) → IsExternalDeclaration text x ts end → length end < length ts
 shorter text (Globals b gs) ts end h = let a = base b ts h.0 h.1 in let c = globals gs h.0 end h.2 in omega arith
 shorter text (Function t name ps body) ts end h =
-    let a = base t.base ts h.5.0 h.5.1 in let b = stars t.pointers h.5.0 h.0 h.5.2 in let c = ap length h.6 in let d = ap length h.7.1.1 in
-    let e = parameters ps h.2 h.3 h.8 in let f = ap length h.9.1.1 in let g = items text body h.4 end h.10 in omega arith
+    let a = base t.base ts h.returns.0 h.returns.1 in
+    let b = stars t.pointers h.returns.0 h.after_type h.returns.2 in
+    let c = ap length h.name in
+    let d = ap length h.parenthesis.1.1 in
+    let e = parameters ps h.after_parenthesis h.after_parameters h.parameters in
+    let f = ap length h.body.brace.1.1 in
+    let g = items text body h.body.after_brace end h.body.items in
+    omega arith

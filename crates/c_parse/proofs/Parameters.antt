@@ -103,9 +103,12 @@ begins text ts rest x is =
 next_back : (rest b after : List Token) (x : Parameter) → HasPunctuator punctuators.Comma rest b → IsParameter x b after → (xs : List Parameter) (end : List Token) → AreMoreParameters xs rest end → (ys : List Parameter) × (xs ≡ x ∷ ys) × AreMoreParameters ys after end
 next_back rest b after x k is [] end m = let e : punctuators.Comma ≡ punctuators.CloseParenthesis = other_punctuator punctuators.Comma punctuators.CloseParenthesis rest rest b end refl k m in absurd cc
 next_back rest b after x k is (p ∷ ps) end m =
-    let q = has_same punctuators.Comma rest rest b m.0 refl k m.2 in
-    let u = parameter_once x p b m.0 after m.1 q is m.3 in
-    (ps, ap (λ (z : Parameter). z ∷ ps) (sym u.0), subst (λ (z : List Token). AreMoreParameters ps z end) (sym u.1) m.4)
+    let q = has_same punctuators.Comma rest rest b m.after_comma refl k m.comma in
+    let u = parameter_once x p b m.after_comma after m.after_element q is m.element in (
+      ps,
+      ap (λ (z : Parameter). z ∷ ps) (sym u.0),
+      subst (λ (z : List Token). AreMoreParameters ps z end) (sym u.1) m.others,
+    )
 
 pub next : (text : List ℕ) (ts rest b after : List Token) (found : List Parameter) (x : Parameter) → HasPunctuator punctuators.Comma rest b → IsParameter x b after → Parameters ts found rest → Parameters ts (found ++ x ∷ []) after
 next text ts rest b after found x k is d =
@@ -113,7 +116,13 @@ next text ts rest b after found x k is d =
     let again : (other : List Token) → IsParameter x (m.front ++ other) other = λ other. m.again text other (alike_same text b) in
     let t = token (kinds.Punctuator punctuators.Comma) k.0 k.1.0 in
     continues AreParameters AreMoreParameters ts rest (t ∷ m.front) after found x (k.1.1 ∙ ap (λ (z : List Token). t ∷ z) m.split)
-    (λ other ps end h. (m.front ++ other, other, (k.0, (k.1.0, refl)), again other, h))
+    (λ other ps end h. record {
+      after_comma = m.front ++ other;
+      after_element = other;
+      comma = (k.0, (k.1.0, refl));
+      element = again other;
+      others = h;
+    })
     (λ other s. next_back (t ∷ (m.front ++ other)) (m.front ++ other) other x (k.0, (k.1.0, refl)) (again other))
     d
 
@@ -153,7 +162,15 @@ one_more n text ts rest b inner found p d k is few =
     (λ other.
     following (λ z. AreParameters (found ++ p ∷ []) z other) d.front (t ∷ (inner ++ close ∷ [])) other
     (d.forward (t ∷ (inner ++ close ∷ [] ++ other)) (p ∷ []) other
-    (inner ++ close ∷ [] ++ other, close ∷ other, (k.0, (k.1.0, refl)), following (λ z. IsParameter p z (close ∷ other)) inner (close ∷ []) other (is (close ∷ other)), has_it punctuators.CloseParenthesis other)))
+    (record {
+      after_comma = inner ++ close ∷ [] ++ other;
+      after_element = close ∷ other;
+      comma = (k.0, (k.1.0, refl));
+      element =
+          following (λ z. IsParameter p z (close ∷ other)) inner (close ∷ []) other
+          (is (close ∷ other));
+      others = has_it punctuators.CloseParenthesis other;
+    })))
     (λ three. let a = few three in omega arith)
 
 no_more : (n left : ℕ) (rest b : List Token) → left ≡ 0 → HasPunctuator punctuators.Comma rest b → (ps : List Parameter) (end : List Token) → AreMoreParameters ps rest end → length ps ≤ left → ⊥
@@ -193,7 +210,9 @@ full text left ts rest b found d e z k =
 
 none_next : (n left : ℕ) (rest b : List Token) → HasPunctuator punctuators.Comma rest b → NoParameter 0 [] b → (ps : List Parameter) (end : List Token) → AreMoreParameters ps rest end → ⊥
 none_next n left rest b k none [] end m = let e : punctuators.Comma ≡ punctuators.CloseParenthesis = other_punctuator punctuators.Comma punctuators.CloseParenthesis rest rest b end refl k m in absurd cc
-none_next n left rest b k none (p ∷ ps) end m = none p m.1 (subst (λ (z : List Token). IsParameter p z m.1) (has_same punctuators.Comma rest rest m.0 b refl m.2 k) m.3)
+none_next n left rest b k none (p ∷ ps) end m =
+    none p m.after_element (subst (λ (z : List Token). IsParameter p z m.after_element)
+    (has_same punctuators.Comma rest rest m.after_comma b refl m.comma k) m.element)
 
 pub in_next : (text : List ℕ) (left : ℕ) (ts rest b : List Token) (found : List Parameter) → Parameters ts found rest → left + length found ≡ 8 → (left ≡ 0 → ⊥) → HasPunctuator punctuators.Comma rest b → Wraps NoParameter HasParameter NoListed HasListed text b ts
 in_next text left ts rest b found d e z k =
@@ -211,7 +230,7 @@ in_next text left ts rest b found d e z k =
 
 no_end : (rest : List Token) → Lacks punctuators.Comma rest → Lacks punctuators.CloseParenthesis rest → (ps : List Parameter) (end : List Token) → AreMoreParameters ps rest end → ⊥
 no_end rest k s [] end m = s end m
-no_end rest k s (p ∷ ps) end m = k m.0 m.2
+no_end rest k s (p ∷ ps) end m = k m.after_comma m.comma
 
 pub in_end : (text : List ℕ) (left : ℕ) (ts rest : List Token) (found : List Parameter) → Parameters ts found rest → left + length found ≡ 8 → left ≤ 7 → Lacks punctuators.Comma rest → Wraps (NoPunctuator punctuators.CloseParenthesis) (APunctuator punctuators.CloseParenthesis) NoListed HasListed text rest ts
 in_end text left ts rest found d e low k = record {

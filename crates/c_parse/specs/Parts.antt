@@ -13,11 +13,12 @@ use Rattle.c_syntax.specs.declared.limit.TheConstants.{MOST_GLOBALS, MOST_PARAME
 use Rattle.c_syntax.specs.Expressions.{IsInteger}
 use Rattle.c_syntax.specs.Follow.{Stops}
 use Rattle.c_syntax.specs.Limits.{Number, IsInForce, size, elements, aligned, end_of_globals, funclets_of_all}
+use Rattle.c_syntax.specs.Phrases.{InTurn}
 use Rattle.c_syntax.specs.Program.{Initialiser, Single, Several, Global}
 use Rattle.c_syntax.specs.Programs.{IsConstant, AreConstants, IsInitialiser, IsLength, AreMoreGlobals, AreGlobals, IsParameter, AreParameters}
 use Rattle.c_syntax.specs.Statement.{Statements}
-use Rattle.c_syntax.specs.Statements.{AreBlockItems}
-use Rattle.c_syntax.specs.Tokens.{IsPunctuator, IsIdentifier, HasPunctuator, HasKeyword}
+use Rattle.c_syntax.specs.Statements.{IsBlock, AreBlockItems}
+use Rattle.c_syntax.specs.Tokens.{Phrase, IsPunctuator, IsIdentifier, HasPunctuator, HasKeyword}
 use Rattle.c_syntax.specs.Types.{IsBase, AreStars}
 use Rattle.c_syntax.specs.Viable.{FunctionWithinFirst}
 
@@ -38,9 +39,9 @@ pub record HasConstants (n : ℕ) (text : List ℕ) (ts : List Token) : Type 0 w
   pub are : (other : List Token) → AreConstants trees (ts ++ other) other
 
 -- what is after `=`
-abbrev pub IsGiven : Initialiser → List Token → List Token → Type 0
-IsGiven (Single c) ts rest = IsConstant c ts rest
-IsGiven (Several at cs) ts rest = (a : List Token) × IsPunctuator punctuators.OpenBrace at ts a × AreConstants cs a rest
+abbrev pub IsGiven : Initialiser → Phrase
+IsGiven (Single c) = IsConstant c
+IsGiven (Several at cs) = InTurn (IsPunctuator punctuators.OpenBrace at) (AreConstants cs)
 
 abbrev pub NoneGiven : ℕ → List ℕ → List Token → Type 0
 NoneGiven n text ts = (i : Initialiser) (end : List Token) → IsGiven i ts end → ⊥
@@ -63,8 +64,8 @@ abbrev pub end_of : Base → ℕ → Option Length → ℕ → ℕ
 end_of base pointers n at = aligned at (size base pointers) + size base pointers * elements n
 
 -- after `[`
-abbrev pub IsBracketed : Length → List Token → List Token → Type 0
-IsBracketed n ts rest = (a : List Token) × IsInteger n.value n.at ts a × HasPunctuator punctuators.CloseBracket a rest
+abbrev pub IsBracketed : Length → Phrase
+IsBracketed n = InTurn (IsInteger n.value n.at) (HasPunctuator punctuators.CloseBracket)
 
 abbrev pub NoneBracketed : Base → ℕ → ℕ → ℕ → List ℕ → List Token → Type 0
 NoneBracketed base pointers at n text ts = (l : Length) (end : List Token) → IsBracketed l ts end → Stops 1 end → (IsInForce (Number Globals) n → end_of base pointers (Some l) at ≤ MOST_GLOBALS) → ⊥
@@ -75,8 +76,13 @@ pub record HasBracketed (base : Base) (pointers at n : ℕ) (text : List ℕ) (t
   pub low : IsInForce (Number Globals) n → end_of base pointers (Some tree) at ≤ MOST_GLOBALS
 
 -- what is after the name of a global, up to the semicolon: its length and its initialiser, and further globals
-abbrev pub IsAfterName : Option Length → Option Initialiser → List Global → List Token → List Token → Type 0
-IsAfterName l i gs ts rest = (a : List Token) × (b : List Token) × IsLength l ts a × IsInitialiser i a b × AreMoreGlobals gs b rest
+pub record IsAfterName (l : Option Length) (i : Option Initialiser) (gs : List Global)
+    (ts rest : List Token) : Type 0 where
+  pub after_length : List Token
+  pub after_initialiser : List Token
+  pub length : IsLength l ts after_length
+  pub initialiser : IsInitialiser i after_length after_initialiser
+  pub others : AreMoreGlobals gs after_initialiser rest
 
 -- The length counts, and what is after it only has to be there.
 abbrev pub NoLength : Base → ℕ → ℕ → ℕ → List ℕ → List Token → Type 0
@@ -116,8 +122,8 @@ pub record HasParameter (n : ℕ) (text : List ℕ) (ts : List Token) : Type 0 w
   pub is : (other : List Token) → IsParameter tree (ts ++ other) other
 
 -- `void` before the parenthesis
-abbrev pub IsVoid : List Token → List Token → Type 0
-IsVoid ts rest = (a : List Token) × HasKeyword keywords.Void ts a × HasPunctuator punctuators.CloseParenthesis a rest
+abbrev pub IsVoid : Phrase
+IsVoid = InTurn (HasKeyword keywords.Void) (HasPunctuator punctuators.CloseParenthesis)
 
 -- none but nothing and `void`
 abbrev pub NoListed : ℕ → List ℕ → List Token → Type 0
@@ -138,8 +144,11 @@ pub record HasParameters (n : ℕ) (text : List ℕ) (ts : List Token) : Type 0 
   pub few : IsInForce (Number Parameters) n → length trees ≤ MOST_PARAMETERS
 
 -- what is after the name and the parenthesis
-abbrev pub IsTail : List ℕ → List Parameter → Statements → List Token → List Token → Type 0
-IsTail text ps body ts rest = (a : List Token) × (b : List Token) × AreParameters ps ts a × HasPunctuator punctuators.OpenBrace a b × AreBlockItems text body b rest
+pub record IsTail (text : List ℕ) (ps : List Parameter) (items : Statements)
+    (ts rest : List Token) : Type 0 where
+  pub after_parameters : List Token
+  pub parameters : AreParameters ps ts after_parameters
+  pub body : IsBlock (AreBlockItems text items) after_parameters rest
 
 abbrev pub NoTail : ℕ → ℕ → List ℕ → List Token → Type 0
 NoTail funclets n text ts = (ps : List Parameter) (body : Statements) (end : List Token) → IsTail text ps body ts end → FunctionWithinFirst n ps body → (IsInForce (Number Funclets) n → length (funclets_of_all text body) ≤ funclets) → ⊥
@@ -154,8 +163,12 @@ pub record HasTail (funclets n : ℕ) (text : List ℕ) (ts : List Token) : Type
 -- ---- external declarations
 
 -- a base, stars and a name
-abbrev pub IsHead : Base → ℕ → Identifier → List Token → List Token → List Token → Type 0
-IsHead base pointers name ts declarators rest = (a : List Token) × IsBase base ts declarators × AreStars pointers declarators a × IsIdentifier name a rest
+pub record IsHead (b : Base) (pointers : ℕ) (called : Identifier)
+    (ts declarators rest : List Token) : Type 0 where
+  pub after_stars : List Token
+  pub base : IsBase b ts declarators
+  pub stars : AreStars pointers declarators after_stars
+  pub name : IsIdentifier called after_stars rest
 
 abbrev pub NoHead : ℕ → List ℕ → List Token → Type 0
 NoHead n text ts = (base : Base) (pointers : ℕ) (name : Identifier) (declarators end : List Token) → IsHead base pointers name ts declarators end → ⊥

@@ -5,6 +5,9 @@
 //! continues, or the text's end. If no program continues so at all, it is `Unexpected`; else, if
 //! none is within the limit of nesting, `TooDeep`; else `TooMany`, with the first count, in the
 //! order of `Count`, of which each has too much.
+//!
+//! Proved: `program::parse` answers the one program that the tokens are within all limits, else
+//! their first fault. Begin with `specs/Refused.antt`.
 #![tactic(auto)]
 
 pub mod counts;

@@ -5,9 +5,9 @@ use Rattle.c_lex.specs.declared.keyword.Keyword.TheVariants as keywords
 use Rattle.c_lex.specs.declared.punctuator.Punctuator.TheVariants as punctuators
 use Rattle.c_lex.specs.declared.token.Kind.TheVariants as kinds
 use Rattle.c_lex.specs.declared.token.Token.{Token}
-use Rattle.c_syntax.specs.Tokens.{IsKeyword, HasPunctuator, HasWord}
+use Rattle.c_syntax.specs.Expressions.{IsIntroduced}
+use Rattle.c_syntax.specs.Tokens.{Phrase, IsKeyword, HasPunctuator, HasWord}
 use Rattle.c_syntax.proofs.Fronts.{kind_same, has_same, name_same}
-use Rattle.c_parse_atom.specs.Information.{IsIntroduced}
 
 pub if_none : {A : Type 0} (P : Type 0) (o : Option A) → P → IfNone o P
 if_none P None p = p
@@ -16,47 +16,103 @@ if_none P (Some x) p = tt
 abbrev pub Nowhere : List ℕ → List Token → Type 0
 Nowhere text ts = (at : ℕ) (rest : List Token) → IsIntroduced text at ts rest → ⊥
 
-abbrev pub At0 : List ℕ → List Token → List Token → Type 0
-At0 text ts x = (at : ℕ) (rest : List Token) (h : IsIntroduced text at ts rest) → x ≡ h.0
+-- no phrase of the kind is at the front
+abbrev pub Never : Phrase → List Token → Type 0
+Never R ts = (rest : List Token) → R ts rest → ⊥
 
-abbrev pub At1 : List ℕ → List Token → List Token → Type 0
-At1 text ts x = (at : ℕ) (rest : List Token) (h : IsIntroduced text at ts rest) → x ≡ h.1
+none_at : (R : Phrase) (x y rest : List Token) → Never R x → x ≡ y → R y rest → ⊥
+none_at R x y rest n p h = n rest (subst (λ (z : List Token). R z rest) (sym p) h)
 
-abbrev pub At2 : List ℕ → List Token → List Token → Type 0
-At2 text ts x = (at : ℕ) (rest : List Token) (h : IsIntroduced text at ts rest) → x ≡ h.2
+-- ---- what was read is the front of every introduction that is there
 
-abbrev pub At3 : List ℕ → List Token → List Token → Type 0
-At3 text ts x = (at : ℕ) (rest : List Token) (h : IsIntroduced text at ts rest) → x ≡ h.3
+abbrev pub AfterKeyword : List ℕ → List Token → List Token → Type 0
+AfterKeyword text ts x =
+    (at : ℕ) (rest : List Token) (h : IsIntroduced text at ts rest) → x ≡ h.after_keyword
 
-abbrev pub At4 : List ℕ → List Token → List Token → Type 0
-At4 text ts x = (at : ℕ) (rest : List Token) (h : IsIntroduced text at ts rest) → x ≡ h.4
+abbrev pub AfterOpening : List ℕ → List Token → List Token → Type 0
+AfterOpening text ts x =
+    (at : ℕ) (rest : List Token) (h : IsIntroduced text at ts rest) → x ≡ h.after_opening
 
-pub at0 : (text : List ℕ) (ts a : List Token) (at : ℕ) → IsKeyword keywords.GetExceptionInformation at ts a → At0 text ts a
-at0 text ts a at g to rest h = (kind_same (kinds.Keyword keywords.GetExceptionInformation) (kinds.Keyword keywords.GetExceptionInformation) at to ts ts a h.0 refl g h.5).2
+abbrev pub AfterClosing : List ℕ → List Token → List Token → Type 0
+AfterClosing text ts x =
+    (at : ℕ) (rest : List Token) (h : IsIntroduced text at ts rest) → x ≡ h.after_closing
 
-pub at1 : (text : List ℕ) (ts x y : List Token) → At0 text ts x → HasPunctuator punctuators.OpenParenthesis x y → At1 text ts y
-at1 text ts x y p g to rest h = has_same punctuators.OpenParenthesis x h.0 y h.1 (p to rest h) g h.6
+abbrev pub AfterArrow : List ℕ → List Token → List Token → Type 0
+AfterArrow text ts x =
+    (at : ℕ) (rest : List Token) (h : IsIntroduced text at ts rest) → x ≡ h.after_arrow
 
-pub gone1 : (text : List ℕ) (ts x : List Token) → At0 text ts x → ((rest : List Token) → HasPunctuator punctuators.OpenParenthesis x rest → ⊥) → Nowhere text ts
-gone1 text ts x p n to rest h = n h.1 (subst (λ (z : List Token). HasPunctuator punctuators.OpenParenthesis z h.1) (sym (p to rest h)) h.6)
+abbrev pub AfterRecord : List ℕ → List Token → List Token → Type 0
+AfterRecord text ts x =
+    (at : ℕ) (rest : List Token) (h : IsIntroduced text at ts rest) → x ≡ h.after_record
 
-pub at2 : (text : List ℕ) (ts x y : List Token) → At1 text ts x → HasPunctuator punctuators.CloseParenthesis x y → At2 text ts y
-at2 text ts x y p g to rest h = has_same punctuators.CloseParenthesis x h.1 y h.2 (p to rest h) g h.7
+pub after_keyword : (text : List ℕ) (ts x : List Token) (at : ℕ)
+    → IsKeyword keywords.GetExceptionInformation at ts x → AfterKeyword text ts x
+after_keyword text ts x at g to rest h =
+    let word = kinds.Keyword keywords.GetExceptionInformation in
+    (kind_same word word at to ts ts x h.after_keyword refl g h.keyword).2
 
-pub gone2 : (text : List ℕ) (ts x : List Token) → At1 text ts x → ((rest : List Token) → HasPunctuator punctuators.CloseParenthesis x rest → ⊥) → Nowhere text ts
-gone2 text ts x p n to rest h = n h.2 (subst (λ (z : List Token). HasPunctuator punctuators.CloseParenthesis z h.2) (sym (p to rest h)) h.7)
+pub after_opening : (text : List ℕ) (ts x y : List Token) → AfterKeyword text ts x
+    → HasPunctuator punctuators.OpenParenthesis x y → AfterOpening text ts y
+after_opening text ts x y p g to rest h =
+    has_same punctuators.OpenParenthesis x h.after_keyword y h.after_opening (p to rest h) g
+    h.opening
 
-pub at3 : (text : List ℕ) (ts x y : List Token) → At2 text ts x → HasPunctuator punctuators.Arrow x y → At3 text ts y
-at3 text ts x y p g to rest h = has_same punctuators.Arrow x h.2 y h.3 (p to rest h) g h.8
+pub after_closing : (text : List ℕ) (ts x y : List Token) → AfterOpening text ts x
+    → HasPunctuator punctuators.CloseParenthesis x y → AfterClosing text ts y
+after_closing text ts x y p g to rest h =
+    has_same punctuators.CloseParenthesis x h.after_opening y h.after_closing (p to rest h) g
+    h.closing
 
-pub gone3 : (text : List ℕ) (ts x : List Token) → At2 text ts x → ((rest : List Token) → HasPunctuator punctuators.Arrow x rest → ⊥) → Nowhere text ts
-gone3 text ts x p n to rest h = n h.3 (subst (λ (z : List Token). HasPunctuator punctuators.Arrow z h.3) (sym (p to rest h)) h.8)
+pub after_arrow : (text : List ℕ) (ts x y : List Token) → AfterClosing text ts x
+    → HasPunctuator punctuators.Arrow x y → AfterArrow text ts y
+after_arrow text ts x y p g to rest h =
+    has_same punctuators.Arrow x h.after_closing y h.after_arrow (p to rest h) g h.arrow
 
-pub at4 : (text : List ℕ) (ts x y : List Token) → At3 text ts x → HasWord text (codes "ExceptionRecord") x y → At4 text ts y
-at4 text ts x y p g to rest h = (name_same g.0 h.9.0 x h.3 y h.4 (p to rest h) g.1 h.9.1).1
+pub after_record : (text : List ℕ) (ts x y : List Token) → AfterArrow text ts x
+    → HasWord text (codes "ExceptionRecord") x y → AfterRecord text ts y
+after_record text ts x y p g to rest h =
+    let r = h.of_record in
+    (name_same g.0 r.0 x h.after_arrow y h.after_record (p to rest h) g.1 r.1).1
 
-pub gone4 : (text : List ℕ) (ts x : List Token) → At3 text ts x → ((rest : List Token) → HasWord text (codes "ExceptionRecord") x rest → ⊥) → Nowhere text ts
-gone4 text ts x p n to rest h = n h.4 (subst (λ (z : List Token). HasWord text (codes "ExceptionRecord") z h.4) (sym (p to rest h)) h.9)
+-- ---- where the next token is none of an introduction
 
-pub gone5 : (text : List ℕ) (ts x : List Token) → At4 text ts x → ((rest : List Token) → HasPunctuator punctuators.Arrow x rest → ⊥) → Nowhere text ts
-gone5 text ts x p n to rest h = n rest (subst (λ (z : List Token). HasPunctuator punctuators.Arrow z rest) (sym (p to rest h)) h.10)
+pub no_opening : (text : List ℕ) (ts x : List Token) → AfterKeyword text ts x
+    → Never (HasPunctuator punctuators.OpenParenthesis) x → Nowhere text ts
+no_opening text ts x p n to rest h =
+    none_at (HasPunctuator punctuators.OpenParenthesis) x h.after_keyword h.after_opening n
+    (p to rest h) h.opening
+
+pub no_closing : (text : List ℕ) (ts x : List Token) → AfterOpening text ts x
+    → Never (HasPunctuator punctuators.CloseParenthesis) x → Nowhere text ts
+no_closing text ts x p n to rest h =
+    none_at (HasPunctuator punctuators.CloseParenthesis) x h.after_opening h.after_closing n
+    (p to rest h) h.closing
+
+pub no_arrow : (text : List ℕ) (ts x : List Token) → AfterClosing text ts x
+    → Never (HasPunctuator punctuators.Arrow) x → Nowhere text ts
+no_arrow text ts x p n to rest h =
+    none_at (HasPunctuator punctuators.Arrow) x h.after_closing h.after_arrow n (p to rest h)
+    h.arrow
+
+pub no_record : (text : List ℕ) (ts x : List Token) → AfterArrow text ts x
+    → Never (HasWord text (codes "ExceptionRecord")) x → Nowhere text ts
+no_record text ts x p n to rest h =
+    none_at (HasWord text (codes "ExceptionRecord")) x h.after_arrow h.after_record n (p to rest h)
+    h.of_record
+
+pub no_last_arrow : (text : List ℕ) (ts x : List Token) → AfterRecord text ts x
+    → Never (HasPunctuator punctuators.Arrow) x → Nowhere text ts
+no_last_arrow text ts x p n to rest h =
+    none_at (HasPunctuator punctuators.Arrow) x h.after_record rest n (p to rest h) h.last_arrow
+
+-- introductions of the same tokens end at the same place
+pub introduced_once : (text : List ℕ) (ts x rest : List Token) (place at : ℕ)
+    → IsIntroduced text place ts x → IsIntroduced text at ts rest → x ≡ rest
+introduced_once text ts x rest place at i h =
+    let keyword = after_keyword text ts i.after_keyword place i.keyword in
+    let opening = after_opening text ts i.after_keyword i.after_opening keyword i.opening in
+    let closing = after_closing text ts i.after_opening i.after_closing opening i.closing in
+    let arrow = after_arrow text ts i.after_closing i.after_arrow closing i.arrow in
+    let of_record = after_record text ts i.after_arrow i.after_record arrow i.of_record in
+    has_same punctuators.Arrow i.after_record h.after_record x rest (of_record at rest h)
+    i.last_arrow h.last_arrow

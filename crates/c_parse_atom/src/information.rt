@@ -4,10 +4,10 @@ ghost use Rattle.std.specs.Prelude.{◌≡◌, ℕ, List, IfSome, IfNone, codes,
 ghost use Rattle.c_lex.specs.declared.token.Token.{Token};
 ghost use Rattle.c_lex.specs.declared.keyword.Keyword.TheVariants as keywords;
 ghost use Rattle.c_syntax.specs.Expression.{Information};
-ghost use Rattle.c_syntax.specs.Expressions.{IsField, SpellsExpression};
+ghost use Rattle.c_syntax.specs.Expressions.{IsField, IsIntroduced, SpellsExpression};
 ghost use Rattle.c_syntax.specs.Tokens.{IsKeyword, HasWord};
 ghost use Rattle.c_syntax.specs.declared.expression.Field.{Field};
-ghost use Rattle.c_parse_atom.specs.Information.{is_word, IsIntroduced};
+ghost use Rattle.c_parse_atom.specs.Information.{is_word};
 
 use crate::operands::{integer, name};
 use c_lex::keyword::Keyword;

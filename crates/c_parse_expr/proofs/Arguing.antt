@@ -4,9 +4,10 @@ use Rattle.c_lex.specs.declared.punctuator.Punctuator.TheVariants as punctuators
 use Rattle.c_lex.specs.declared.token.Kind.TheVariants as kinds
 use Rattle.c_lex.specs.declared.token.Token.{Token}
 use Rattle.c_syntax.specs.Expression.{Expression, Done, Next, arguments, heights}
-use Rattle.c_syntax.specs.Expressions.{SpellsExpression, SpellsArguments}
+use Rattle.c_syntax.specs.Expressions.{SpellsArguments, Derives}
 use Rattle.c_syntax.specs.Faults.{SameFirst, place, Failed, Wraps}
 use Rattle.c_syntax.specs.Follow.{Stops}
+use Rattle.c_syntax.specs.Operators.{assignment}
 use Rattle.c_syntax.specs.Tokens.{token, HasPunctuator}
 use Rattle.c_syntax.proofs.Firsts as firsts
 use Rattle.c_syntax.proofs.Failing.{append_append}
@@ -21,14 +22,25 @@ close = punctuator_token punctuators.CloseParenthesis
 
 -- ---- the first
 
-one_argument : (room n : ℕ) (text : List ℕ) (inner : List Token) → (1 ≤ n → 1 ≤ room) → HasExpression 15 (room - 1) n text inner → HasArguments room n text (inner ++ (close ∷ []))
+one_argument : (room n : ℕ) (text : List ℕ) (inner : List Token) → (1 ≤ n → 1 ≤ room)
+    → HasExpression assignment (room - 1) n text inner
+    → HasArguments room n text (inner ++ (close ∷ []))
 one_argument room n text inner r h = record {
   trees = Next h.tree Done;
-  spells = λ other. let d = h.derives (close ∷ other) in (close ∷ other, d.fits, subst (λ (z : List Token). SpellsExpression text h.tree z (close ∷ other)) (sym (append_append inner (close ∷ []) other)) d.spells, (0, (0, refl)));
+  spells = λ other. record {
+    after_first = close ∷ other;
+    first =
+        subst (λ (z : List Token). Derives text assignment h.tree z (close ∷ other))
+        (sym (append_append inner (close ∷ []) other)) (h.derives (close ∷ other));
+    others = (0, (0, refl));
+  };
   low = λ k. let a = h.low k in let b = r k in omega arith;
 }
 
-pub first_wraps : (room : ℕ) (text : List ℕ) (ts : List Token) → 1 ≤ room → ((rest : List Token) → HasPunctuator punctuators.CloseParenthesis ts rest → ⊥) → Wraps (NoExpression 15 (room - 1)) (HasExpression 15 (room - 1)) (NoArguments room) (HasArguments room) text ts ts
+pub first_wraps : (room : ℕ) (text : List ℕ) (ts : List Token) → 1 ≤ room
+    → ((rest : List Token) → HasPunctuator punctuators.CloseParenthesis ts rest → ⊥)
+    → Wraps (NoExpression assignment (room - 1)) (HasExpression assignment (room - 1))
+    (NoArguments room) (HasArguments room) text ts ts
 first_wraps room text ts r c = record {
   before = [];
   split = refl;
@@ -50,7 +62,8 @@ deep_there text ts c b =
 
 no_argument : (text : List ℕ) (n room : ℕ) (ts other : List Token) → SameFirst ts other → ((rest : List Token) → HasPunctuator punctuators.CloseParenthesis ts rest → ⊥) → NeverBegins ts → NoArguments room n text other
 no_argument text n room ts other s c b Done end g low = firsts.no_punctuator punctuators.CloseParenthesis ts other s c end g
-no_argument text n room ts other s c b (Next x xs) end g low = b text other s x g.0 g.2
+no_argument text n room ts other s c b (Next x xs) end g low =
+    b text other s x g.after_first g.first.spells
 
 pub none_there : (text : List ℕ) (ts : List Token) → ((rest : List Token) → HasPunctuator punctuators.CloseParenthesis ts rest → ⊥) → NeverBegins ts → Failed 0 (place text ts) (NoArguments 0) (HasArguments 0) text ts
 none_there text ts c b =
@@ -63,14 +76,31 @@ none_there text ts c b =
 more_moves : (text : List ℕ) (es : List Expression) (ts rest : List Token) → AreMore text es ts rest → Moves (λ t. AreMore t es) text ts rest
 more_moves text [] ts rest h = moved.nothing text ts rest h
 more_moves text (e ∷ es) ts rest h =
-    moved.map (moved.both (moved.has_punctuator punctuators.Comma text ts h.0 h.2) (moved.both (moved.derives 15 e text h.0 h.1 h.3) (more_moves text es h.1 rest h.4))) (λ t us vs g. (g.0, g.2.0, g.1, g.2.1, g.2.2))
+    moved.map
+    (moved.both (moved.has_punctuator punctuators.Comma text ts h.after_comma h.comma)
+    (moved.both (moved.derives assignment e text h.after_comma h.after_next h.next)
+    (more_moves text es h.after_next rest h.others)))
+    (λ t us vs g. record {
+      after_comma = g.0;
+      after_next = g.2.0;
+      comma = g.1;
+      next = g.2.1;
+      others = g.2.2;
+    })
 
 listed_moves : (text : List ℕ) (es : List Expression) (ts rest : List Token) → AreListed text es ts rest → Moves (λ t. AreListed t es) text ts rest
 listed_moves text [] ts rest h = absurd h
-listed_moves text (e ∷ es) ts rest h = moved.map (moved.both (moved.derives 15 e text ts h.0 h.1) (more_moves text es h.0 rest h.2)) (λ t us vs g. (g.0, g.1, g.2))
+listed_moves text (e ∷ es) ts rest h =
+    moved.map
+    (moved.both (moved.derives assignment e text ts h.after_first h.first)
+    (more_moves text es h.after_first rest h.others))
+    (λ t us vs g. record { after_first = g.0; first = g.1; others = g.2 })
 
-pub next_wraps : (room : ℕ) (es : List Expression) (text : List ℕ) (ts rest following : List Token) → 1 ≤ room → AreListed text es ts rest → Stops 15 rest → HasPunctuator punctuators.Comma rest following → heights (arguments es) ≤ room
-    → Wraps (NoExpression 15 (room - 1)) (HasExpression 15 (room - 1)) (NoArguments room) (HasArguments room) text following ts
+pub next_wraps : (room : ℕ) (es : List Expression) (text : List ℕ) (ts rest following : List Token)
+    → 1 ≤ room → AreListed text es ts rest → Stops assignment rest
+    → HasPunctuator punctuators.Comma rest following → heights (arguments es) ≤ room
+    → Wraps (NoExpression assignment (room - 1)) (HasExpression assignment (room - 1))
+    (NoArguments room) (HasArguments room) text following ts
 next_wraps room es text ts rest following r h st c low =
     let m = listed_moves text es ts rest h in
     let comma = token (kinds.Punctuator punctuators.Comma) c.0 c.1.0 in
@@ -96,7 +126,8 @@ next_wraps room es text ts rest following r h st c low =
       };
     }
 
-pub stuck_there : (room : ℕ) (es : List Expression) (text : List ℕ) (ts rest : List Token) → AreListed text es ts rest → Stops 15 rest
+pub stuck_there : (room : ℕ) (es : List Expression) (text : List ℕ) (ts rest : List Token)
+    → AreListed text es ts rest → Stops assignment rest
     → ((b : List Token) → HasPunctuator punctuators.CloseParenthesis rest b → ⊥)
     → ((b : List Token) → HasPunctuator punctuators.Comma rest b → ⊥)
     → heights (arguments es) ≤ room
@@ -104,7 +135,10 @@ pub stuck_there : (room : ℕ) (es : List Expression) (text : List ℕ) (ts rest
 stuck_there room es text ts rest h st n c low =
     let m = listed_moves text es ts rest h in
     unexpected_at (NoArguments room) (HasArguments room) text ts m.front rest m.split
-    (λ text' other a s. stuck text' 0 room es (m.front ++ other) other (m.again text' other a) (firsts.stops 15 rest other s st) (firsts.no_punctuator punctuators.CloseParenthesis rest other s n) (firsts.no_punctuator punctuators.Comma rest other s c))
+    (λ text' other a s. stuck text' 0 room es (m.front ++ other) other (m.again text' other a)
+    (firsts.stops assignment rest other s st)
+    (firsts.no_punctuator punctuators.CloseParenthesis rest other s n)
+    (firsts.no_punctuator punctuators.Comma rest other s c))
     (λ text' a k. record {
       more = close ∷ [];
       has = record {

@@ -20,7 +20,7 @@ use Rattle.c_syntax.specs.declared.operator.UnaryOperator.TheVariants as unary_o
 use Rattle.c_syntax.specs.Expression.{Constant, Variable, Information, Call, Parentheses, Prefix, Unary, Cast}
 use Rattle.c_syntax.specs.Expressions.{literal_kind}
 use Rattle.c_syntax.specs.Faults.{SameFirst, place, Failed, Wraps}
-use Rattle.c_syntax.specs.Operators.{increment_punctuator, unary_punctuator}
+use Rattle.c_syntax.specs.Operators.{unary, cast, assignment, increment_punctuator, unary_punctuator}
 use Rattle.c_syntax.specs.PunctuatorReaders.{unary_of, increment_of}
 use Rattle.c_syntax.specs.Tokens.{token, IsKind, IsPunctuator, IsIdentifier, HasPunctuator}
 use Rattle.c_syntax.specs.Types.{IsType}
@@ -51,7 +51,20 @@ call_wraps l room x text ts rest b i h =
       split = i ∙ ap (λ (z : List Token). name ∷ z) h.1.1;
       no = λ n text' other a s y. no_call text' n l room x (name ∷ paren ∷ other) (paren ∷ other) other refl (h.0, (h.1.0, refl)) y;
       has = λ n text' inner a k g. able_now (HasExpression l room) n text' (name ∷ paren ∷ inner)
-          (record { tree = Call x g.trees; derives = λ other. record { fits = omega arith; spells = (paren ∷ (inner ++ other), inner ++ other, refl, (h.0, (h.1.0, refl)), g.spells other) }; low = g.low });
+          (record {
+            tree = Call x g.trees;
+            derives = λ other. record {
+              fits = omega arith;
+              spells = record {
+                after_name = paren ∷ (inner ++ other);
+                after_opening = inner ++ other;
+                called = refl;
+                opening = (h.0, (h.1.0, refl));
+                arguments = g.spells other;
+              };
+            };
+            low = g.low;
+          });
     }
 
 pub information_wraps : (l room : ℕ) (text : List ℕ) (ts : List Token)
@@ -74,28 +87,55 @@ information_wraps l room text ts no_literal no_name no_punctuator = record {
 
 -- ---- operators before an operand
 
-prefixed : (l room n : ℕ) (s : Punctuator) (op : Increment) (at end : ℕ) (text : List ℕ) (inner : List Token) → 2 ≤ l → (1 ≤ n → 1 ≤ room) → increment_of s ≡ Some op → HasExpression 2 (room - 1) n text inner
+prefixed : (l room n : ℕ) (s : Punctuator) (op : Increment) (at end : ℕ) (text : List ℕ)
+    (inner : List Token) → unary ≤ l → (1 ≤ n → 1 ≤ room) → increment_of s ≡ Some op → HasExpression
+    unary (room - 1) n text inner
     → HasExpression l room n text (token (kinds.Punctuator s) at end ∷ inner)
 prefixed l room n s op at end text inner p r e h =
     let q : s ≡ increment_punctuator op = increment_only op s e in
     record {
       tree = Prefix at op h.tree;
-      derives = λ other. let d = h.derives other in record { fits = omega arith; spells = (inner ++ other, (end, ap (λ (z : Punctuator). token (kinds.Punctuator z) at end ∷ (inner ++ other)) q), d.fits, d.spells) };
+      derives = λ other. record {
+        fits = omega arith;
+        spells = record {
+          after_operator = inner ++ other;
+          operator = (
+            end,
+            ap (λ (z : Punctuator). token (kinds.Punctuator z) at end ∷ (inner ++ other)) q,
+          );
+          operand = h.derives other;
+        };
+      };
       low = λ k. let y = h.low k in let z = r k in omega arith;
     }
 
-unaried : (l room n : ℕ) (s : Punctuator) (op : UnaryOperator) (at end : ℕ) (text : List ℕ) (inner : List Token) → 2 ≤ l → (1 ≤ n → 1 ≤ room) → unary_of s ≡ Some op → HasExpression 3 (room - 1) n text inner
+unaried : (l room n : ℕ) (s : Punctuator) (op : UnaryOperator) (at end : ℕ) (text : List ℕ)
+    (inner : List Token) → unary ≤ l → (1 ≤ n → 1 ≤ room) → unary_of s ≡ Some op → HasExpression
+    cast (room - 1) n text inner
     → HasExpression l room n text (token (kinds.Punctuator s) at end ∷ inner)
 unaried l room n s op at end text inner p r e h =
     let q : s ≡ unary_punctuator op = unary_only op s e in
     record {
       tree = Unary at op h.tree;
-      derives = λ other. let d = h.derives other in record { fits = omega arith; spells = (inner ++ other, (end, ap (λ (z : Punctuator). token (kinds.Punctuator z) at end ∷ (inner ++ other)) q), d.fits, d.spells) };
+      derives = λ other. record {
+        fits = omega arith;
+        spells = record {
+          after_operator = inner ++ other;
+          operator = (
+            end,
+            ap (λ (z : Punctuator). token (kinds.Punctuator z) at end ∷ (inner ++ other)) q,
+          );
+          operand = h.derives other;
+        };
+      };
       low = λ k. let y = h.low k in let z = r k in omega arith;
     }
 
-pub prefix_wraps : (l room : ℕ) (s : Punctuator) (op : Increment) (at : ℕ) (text : List ℕ) (ts rest : List Token) → 2 ≤ l → 1 ≤ room → IsPunctuator s at ts rest → increment_of s ≡ Some op
-    → Wraps (NoExpression 2 (room - 1)) (HasExpression 2 (room - 1)) (NoOperand l room) (HasExpression l room) text rest ts
+pub prefix_wraps : (l room : ℕ) (s : Punctuator) (op : Increment) (at : ℕ) (text : List ℕ)
+    (ts rest : List Token) → unary ≤ l → 1 ≤ room → IsPunctuator s at ts rest → increment_of s ≡
+    Some op
+    → Wraps (NoExpression unary (room - 1)) (HasExpression unary (room - 1)) (NoOperand l room)
+    (HasExpression l room) text rest ts
 prefix_wraps l room s op at text ts rest p r h e = record {
   before = token (kinds.Punctuator s) at h.0 ∷ [];
   split = h.1;
@@ -103,8 +143,10 @@ prefix_wraps l room s op at text ts rest p r h e = record {
   has = λ n text' inner a k g. able_now (HasExpression l room) n text' (token (kinds.Punctuator s) at h.0 ∷ inner) (prefixed l room n s op at h.0 text' inner p (λ q. r) e g);
 }
 
-pub unary_wraps : (l room : ℕ) (s : Punctuator) (op : UnaryOperator) (at : ℕ) (text : List ℕ) (ts rest : List Token) → 2 ≤ l → 1 ≤ room → IsPunctuator s at ts rest → unary_of s ≡ Some op
-    → Wraps (NoExpression 3 (room - 1)) (HasExpression 3 (room - 1)) (NoOperand l room) (HasExpression l room) text rest ts
+pub unary_wraps : (l room : ℕ) (s : Punctuator) (op : UnaryOperator) (at : ℕ) (text : List ℕ)
+    (ts rest : List Token) → unary ≤ l → 1 ≤ room → IsPunctuator s at ts rest → unary_of s ≡ Some op
+    → Wraps (NoExpression cast (room - 1)) (HasExpression cast (room - 1)) (NoOperand l room)
+    (HasExpression l room) text rest ts
 unary_wraps l room s op at text ts rest p r h e = record {
   before = token (kinds.Punctuator s) at h.0 ∷ [];
   split = h.1;
@@ -117,11 +159,23 @@ unary_wraps l room s op at text ts rest p r h e = record {
 grouped : (l room n at end : ℕ) (text : List ℕ) (inner : List Token) → HasEnclosed punctuators.CloseParenthesis room n text inner → HasExpression l (room + 1) n text (token (kinds.Punctuator punctuators.OpenParenthesis) at end ∷ inner)
 grouped l room n at end text inner h = record {
   tree = Parentheses at h.tree;
-  derives = λ other. let x = h.encloses other in record { fits = omega arith; spells = (inner ++ other, x.mid, (end, refl), x.spells, x.closed) };
+  derives = λ other.
+      let x = h.encloses other in
+      record {
+        fits = omega arith;
+        spells = record {
+          after_opening = inner ++ other;
+          after_inner = x.mid;
+          opening = (end, refl);
+          inner = x.spells;
+          closing = x.closed;
+        };
+      };
   low = λ k. let y = h.low k in omega arith;
 }
 
-pub group_wraps : (l room at : ℕ) (text : List ℕ) (ts rest : List Token) → Open at ts rest → ((3 ≤ l) → NoBase rest)
+pub group_wraps : (l room at : ℕ) (text : List ℕ) (ts rest : List Token) → Open at ts rest
+    → ((cast ≤ l) → NoBase rest)
     → Wraps (NoneEnclosed punctuators.CloseParenthesis room) (HasEnclosed punctuators.CloseParenthesis room) (NoOperand l (room + 1)) (HasExpression l (room + 1)) text rest ts
 group_wraps l room at text ts rest h b =
     let paren = token (kinds.Punctuator punctuators.OpenParenthesis) at h.0 in
@@ -138,8 +192,11 @@ only_there to rest mid front other w p s =
     let q : w.front ≡ front = append_cancel_right w.front front mid (sym w.split ∙ p) in
     λ u end t n m. (w.only other s u end (subst (λ (z : List Token). IsType u (z ++ other) end) (sym q) t) n m).1
 
-pub cast_wraps : (l room at : ℕ) (to : CType) (text : List ℕ) (ts rest mid after : List Token) → 3 ≤ l → Open at ts rest → IsType to rest mid → EndsType to rest mid → HasPunctuator punctuators.CloseParenthesis mid after
-    → Wraps (NoExpression 3 room) (HasExpression 3 room) (NoOperand l (room + 1)) (HasExpression l (room + 1)) text after ts
+pub cast_wraps : (l room at : ℕ) (to : CType) (text : List ℕ) (ts rest mid after : List Token)
+    → cast ≤ l → Open at ts rest → IsType to rest mid → EndsType to rest mid
+    → HasPunctuator punctuators.CloseParenthesis mid after
+    → Wraps (NoExpression cast room) (HasExpression cast room) (NoOperand l (room + 1))
+    (HasExpression l (room + 1)) text after ts
 cast_wraps l room at to text ts rest mid after p h t w g =
     let m = moved.type to text rest mid t in
     let paren = token (kinds.Punctuator punctuators.OpenParenthesis) at h.0 in
@@ -157,16 +214,30 @@ cast_wraps l room at to text ts rest mid after p h t w g =
             tree = Cast at to f.tree;
             derives = λ other.
                 let b = alike_inner text text' (paren ∷ []) rest ts h.1 a in
-                let d = f.derives other in
                 let e : ((m.front ++ (close ∷ [])) ++ inner) ++ other ≡ m.front ++ (close ∷ (inner ++ other)) =
                 append_append (m.front ++ (close ∷ [])) inner other ∙ append_append m.front (close ∷ []) (inner ++ other) in
                 let y = subst (λ (z : List Token). IsType to z (close ∷ (inner ++ other))) (sym e) (m.again text' (close ∷ (inner ++ other)) b) in
-                record { fits = p; spells = (((m.front ++ (close ∷ [])) ++ inner) ++ other, close ∷ (inner ++ other), inner ++ other, (h.0, refl), y, (g.0, (g.1.0, refl)), d.fits, d.spells) };
+                record {
+                  fits = p;
+                  spells = record {
+                    after_operator = inner ++ other;
+                    operator = record {
+                      after_opening = ((m.front ++ (close ∷ [])) ++ inner) ++ other;
+                      after_inner = close ∷ (inner ++ other);
+                      opening = (h.0, refl);
+                      inner = y;
+                      closing = (g.0, (g.1.0, refl));
+                    };
+                    operand = f.derives other;
+                  };
+                };
             low = λ q. let y = f.low q in omega arith;
           });
     }
 
-pub cast_unclosed : (l room at : ℕ) (to : CType) (text : List ℕ) (ts rest mid : List Token) → 3 ≤ l → Open at ts rest → IsType to rest mid → EndsType to rest mid → ((end : List Token) → HasPunctuator punctuators.CloseParenthesis mid end → ⊥)
+pub cast_unclosed : (l room at : ℕ) (to : CType) (text : List ℕ) (ts rest mid : List Token)
+    → cast ≤ l → Open at ts rest → IsType to rest mid → EndsType to rest mid
+    → ((end : List Token) → HasPunctuator punctuators.CloseParenthesis mid end → ⊥)
     → Failed 0 (place text mid) (NoOperand l (room + 1)) (HasExpression l (room + 1)) text ts
 cast_unclosed l room at to text ts rest mid p h t w x =
     let m = moved.type to text rest mid t in
@@ -183,7 +254,20 @@ cast_unclosed l room at to text ts rest mid p h t w x =
         derives = λ other.
             let b = alike_inner text text' (paren ∷ []) rest ts h.1 a in
             let y = subst (λ (z : List Token). IsType to z (close ∷ one ∷ other)) (sym (append_append m.front (close ∷ one ∷ []) other)) (m.again text' (close ∷ one ∷ other) b) in
-            record { fits = p; spells = ((m.front ++ (close ∷ one ∷ [])) ++ other, close ∷ one ∷ other, one ∷ other, (h.0, refl), y, (0, (0, refl)), omega arith, (0, refl)) };
+            record {
+              fits = p;
+              spells = record {
+                after_operator = one ∷ other;
+                operator = record {
+                  after_opening = (m.front ++ (close ∷ one ∷ [])) ++ other;
+                  after_inner = close ∷ one ∷ other;
+                  opening = (h.0, refl);
+                  inner = y;
+                  closing = (0, (0, refl));
+                };
+                operand = record { fits = omega arith; spells = (0, refl) };
+              };
+            };
         low = λ q. omega arith;
       };
     })
@@ -205,15 +289,22 @@ shortest s (Parenthesis e) = one ∷ punctuator_token punctuators.CloseParenthes
 shortest s (Steps op e) = one ∷ []
 shortest s (Operates op e) = one ∷ []
 
-pub has_shortest : (l room : ℕ) (s : Punctuator) (o : Opens s) (at end : ℕ) (text : List ℕ) → 2 ≤ l → HasExpression l room 0 text (token (kinds.Punctuator s) at end ∷ shortest s o)
+pub has_shortest : (l room : ℕ) (s : Punctuator) (o : Opens s) (at end : ℕ) (text : List ℕ)
+    → unary ≤ l → HasExpression l room 0 text (token (kinds.Punctuator s) at end ∷ shortest s o)
 has_shortest l room s (Parenthesis e) at end text p = subst (λ (z : Punctuator). HasExpression l room 0 text (token (kinds.Punctuator z) at end ∷ one ∷ punctuator_token punctuators.CloseParenthesis ∷ [])) (sym e)
     (loosen l (0 + 1) room text (token (kinds.Punctuator punctuators.OpenParenthesis) at end ∷ one ∷ punctuator_token punctuators.CloseParenthesis ∷ [])
     (grouped l 0 0 at end text (one ∷ punctuator_token punctuators.CloseParenthesis ∷ [])
     (record { tree = one_tree; encloses = λ other. record { mid = punctuator_token punctuators.CloseParenthesis ∷ other; spells = (0, refl); closed = (0, (0, refl)) }; low = λ k. omega arith })))
-has_shortest l room s (Steps op e) at end text p = prefixed l room 0 s op at end text (one ∷ []) p (λ k. omega arith) e (has_one 2 (room - 1) 0 text)
-has_shortest l room s (Operates op e) at end text p = unaried l room 0 s op at end text (one ∷ []) p (λ k. omega arith) e (has_one 3 (room - 1) 0 text)
+has_shortest l room s (Steps op e) at end text p =
+    prefixed l room 0 s op at end text (one ∷ []) p (λ k. omega arith) e
+    (has_one unary (room - 1) 0 text)
+has_shortest l room s (Operates op e) at end text p =
+    unaried l room 0 s op at end text (one ∷ []) p (λ k. omega arith) e
+    (has_one cast (room - 1) 0 text)
 
-pub no_room_there : (l : ℕ) (s : Punctuator) (at : ℕ) (text : List ℕ) (ts rest : List Token) → 2 ≤ l → IsPunctuator s at ts rest → Opens s → Failed 1 (place text ts) (NoOperand l 0) (HasExpression l 0) text ts
+pub no_room_there : (l : ℕ) (s : Punctuator) (at : ℕ) (text : List ℕ) (ts rest : List Token)
+    → unary ≤ l → IsPunctuator s at ts rest → Opens s
+    → Failed 1 (place text ts) (NoOperand l 0) (HasExpression l 0) text ts
 no_room_there l s at text ts rest p h o =
     deep_at (NoOperand l 0) (HasExpression l 0) text ts [] ts refl
     (λ text' other q f. let g = subst (λ (z : List Token). SameFirst z other) h.1 f in no_room text' l s at other g.0 (h.0, g.1))
@@ -258,7 +349,15 @@ keyword_begins start end rest = λ text k.
     }
 
 pub punctuator_begins : (s : Punctuator) (start end : ℕ) (rest : List Token) → Opens s → Begins (token (kinds.Punctuator s) start end ∷ rest)
-punctuator_begins s start end rest o = λ text k. record { token = token (kinds.Punctuator s) start end; rest = rest; more = shortest s o; is = refl; has = has_shortest 15 0 s o start end text (omega arith) }
+punctuator_begins s start end rest o =
+    λ text k. record {
+      token = token (kinds.Punctuator s) start end;
+      rest = rest;
+      more = shortest s
+          o;
+      is = refl;
+      has = has_shortest assignment 0 s o start end text (omega arith);
+    }
 
 pub never_kind : (k : Kind) (start end : ℕ) (rest : List Token) → 5 < kind_class k → NeverBegins (token k start end ∷ rest)
 never_kind k start end rest p = λ text other s e after h.

@@ -5,6 +5,7 @@ use Rattle.c_lex.specs.declared.token.Token.{Token}
 use Rattle.c_syntax.specs.Expression.{Expression}
 use Rattle.c_syntax.specs.Expressions.{rank, SpellsExpression, Derives}
 use Rattle.c_syntax.specs.Follow.{punctuator_follows, follows, Stops}
+use Rattle.c_syntax.specs.Operators.{comma}
 use Rattle.c_syntax.specs.Steps.{Step, At, After, With, Choose, Set, And, apply, bound, Tail, Closes}
 use Rattle.c_syntax.specs.Tokens.{HasPunctuator}
 use Rattle.c_syntax.proofs.Fronts.{has_same}
@@ -32,12 +33,18 @@ no_step text w l room left ts rest h c f n e end d s low =
     n g.step g.mid (record { fits = g.fits; tail = g.tail; closes = g.ends }) (λ q. let r = low q in omega arith)
 
 pub joined : (text : List ℕ) (e : Expression) (s : Step) (ts mid end : List Token) → SpellsExpression text e ts mid → rank e ≤ bound s → Tail text s mid end → SpellsExpression text (apply e s) ts end
-joined text e (At at i) ts mid end h f t = (mid, t.0, t.1, f, h, t.2, t.3, t.4)
-joined text e (After op at) ts mid end h f t = (mid, f, h, t)
-joined text e (With at op g) ts mid end h f t = (mid, t.0, f, h, t.1, t.2, t.3)
-joined text e (Choose at g i) ts mid end h f t = (mid, t.0, t.1, t.2, f, h, t.3, t.4, t.5, t.6, t.7)
-joined text e (Set at op g) ts mid end h f t = (mid, t.0, f, h, t.1, t.2, t.3)
-joined text e (And at g) ts mid end h f t = (mid, t.0, f, h, t.1, t.2, t.3)
+joined text e (At at i) ts mid end h f t =
+    record { after_operand = mid; operand = record { fits = f; spells = h }; step = t }
+joined text e (After op at) ts mid end h f t =
+    record { after_operand = mid; operand = record { fits = f; spells = h }; step = t }
+joined text e (With at op g) ts mid end h f t =
+    record { after_operand = mid; operand = record { fits = f; spells = h }; step = t }
+joined text e (Choose at g i) ts mid end h f t =
+    record { after_operand = mid; operand = record { fits = f; spells = h }; step = t }
+joined text e (Set at op g) ts mid end h f t =
+    record { after_operand = mid; operand = record { fits = f; spells = h }; step = t }
+joined text e (And at g) ts mid end h f t =
+    record { after_operand = mid; operand = record { fits = f; spells = h }; step = t }
 
 pub continues : (text : List ℕ) (l : ℕ) (left : Expression) (s : Step) (ts rest end : List Token) → Derives text l left ts rest → follows rest ≤ l → IsStep text left s rest end → Derives text l (apply left s) ts end
 continues text l left s ts rest end h f x =
@@ -46,18 +53,30 @@ continues text l left s ts rest end h f x =
 
 -- ---- an expression and the punctuator that ends it
 
-pub none_inside : (text : List ℕ) (w : ℕ) (close : Punctuator) (room : ℕ) (ts : List Token) → punctuator_follows close ≡ 17 → NoExpression 16 room w text ts → NoneEnclosed close room w text ts
-none_inside text w close room ts p n e end x low = n e x.mid (record { fits = rank_low e; spells = x.spells }) (has_stops close x.mid end 16 x.closed (omega arith)) low
+pub none_inside : (text : List ℕ) (w : ℕ) (close : Punctuator) (room : ℕ) (ts : List Token)
+    → punctuator_follows close ≡ 17 → NoExpression comma room w text ts
+    → NoneEnclosed close room w text ts
+none_inside text w close room ts p n e end x low =
+    n e x.mid (record { fits = rank_low e; spells = x.spells })
+    (has_stops close x.mid end comma x.closed (omega arith)) low
 
-inside : (text : List ℕ) (close : Punctuator) (e f : Expression) (ts mid end : List Token) → punctuator_follows close ≡ 17 → Derives text 16 e ts mid → Stops 16 mid → Encloses text close f ts end → (e ≡ f) × HasPunctuator close mid end
+inside : (text : List ℕ) (close : Punctuator) (e f : Expression) (ts mid end : List Token)
+    → punctuator_follows close ≡ 17 → Derives text comma e ts mid → Stops comma mid
+    → Encloses text close f ts end → (e ≡ f) × HasPunctuator close mid end
 inside text close e f ts mid end p h s x =
-    let q = one_expression text 16 e f ts mid x.mid h (record { fits = rank_low f; spells = x.spells }) s (has_stops close x.mid end 16 x.closed (omega arith)) in
+    let q = one_expression text comma e f ts mid x.mid h
+    (record { fits = rank_low f; spells = x.spells }) s
+    (has_stops close x.mid end comma x.closed (omega arith)) in
     (q.0, subst (λ (z : List Token). HasPunctuator close z end) (sym q.1) x.closed)
 
-pub not_closed : (text : List ℕ) (w : ℕ) (close : Punctuator) (room : ℕ) (e : Expression) (ts mid : List Token) → punctuator_follows close ≡ 17 → Derives text 16 e ts mid → Stops 16 mid → ((end : List Token) → HasPunctuator close mid end → ⊥) → NoneEnclosed close room w text ts
+pub not_closed : (text : List ℕ) (w : ℕ) (close : Punctuator) (room : ℕ) (e : Expression)
+    (ts mid : List Token) → punctuator_follows close ≡ 17 → Derives text comma e ts mid → Stops
+    comma mid → ((end : List Token) → HasPunctuator close mid end → ⊥) → NoneEnclosed close room w
+    text ts
 not_closed text w close room e ts mid p h s n f end x low = n end (inside text close e f ts mid end p h s x).1
 
 pub enclosed_once : (text : List ℕ) (close : Punctuator) (e f : Expression) (ts rest end : List Token) → punctuator_follows close ≡ 17 → Encloses text close e ts rest → Encloses text close f ts end → (e ≡ f) × (rest ≡ end)
 enclosed_once text close e f ts rest end p x y =
-    let q = inside text close e f ts x.mid end p (record { fits = rank_low e; spells = x.spells }) (has_stops close x.mid rest 16 x.closed (omega arith)) y in
+    let q = inside text close e f ts x.mid end p (record { fits = rank_low e; spells = x.spells })
+    (has_stops close x.mid rest comma x.closed (omega arith)) y in
     (q.0, has_same close x.mid x.mid rest end refl x.closed q.1)

@@ -27,9 +27,18 @@ abbrev pub Test : List ℕ → Piece → Token → Type 0
 Test text (Mark s) t = t.kind ≡ kinds.Punctuator s
 Test text Record t = (t.kind ≡ kinds.Identifier) × (slice_range text t.start t.end ≡ codes "ExceptionRecord")
 
+-- a token that passes a test, and others after it
+pub record IsFirst (Passes : Token → Type 0) (Others : List Token → Type 0) (ts : List Token)
+    : Type 0 where
+  pub first : Token
+  pub after_first : List Token
+  pub split : ts ≡ first ∷ after_first
+  pub passes : Passes first
+  pub others : Others after_first
+
 abbrev pub Form : List Piece → List ℕ → Field → List Token → List Token → Type 0
 Form [] text field ts end = IsField text field ts end
-Form (p ∷ ps) text field ts end = (t : Token) × (rest : List Token) × (ts ≡ t ∷ rest) × Test text p t × Form ps text field rest end
+Form (p ∷ ps) text field ts end = IsFirst (Test text p) (λ rest. Form ps text field rest end) ts
 
 abbrev pub NoForm : List Piece → ℕ → List ℕ → List Token → Type 0
 NoForm ps n text ts = (field : Field) (end : List Token) → Form ps text field ts end → ⊥
@@ -59,14 +68,21 @@ ends text k (p ∷ ps) = piece text k p ∷ ends text k ps
 
 ends_are : (text : List ℕ) (k : Speaks text) (ps : List Piece) (other : List Token) → Form ps text fields.Code (ends text k ps ++ other) other
 ends_are text k [] other = (k.of_code, refl, k.spells_code)
-ends_are text k (p ∷ ps) other = (piece text k p, ends text k ps ++ other, refl, piece_is text k p, ends_are text k ps other)
+ends_are text k (p ∷ ps) other = record {
+  first = piece text k p;
+  after_first = ends text k ps ++ other;
+  split = refl;
+  passes = piece_is text k p;
+  others = ends_are text k ps other;
+}
 
 gone : (p : Piece) (ps : List Piece) (text : List ℕ) (ts : List Token) → ((t : Token) (rest : List Token) → ts ≡ t ∷ rest → Test text p t → ⊥) → Failed 0 (place text ts) (NoForm (p ∷ ps)) (HasForm (p ∷ ps)) text ts
 gone p ps text ts n =
     unexpected_at (NoForm (p ∷ ps)) (HasForm (p ∷ ps)) text ts [] ts refl
     (λ text' other a s field end f.
-    let b = firsts.first_token f.0 f.1 ts other s f.2 in
-    n f.0 b.0 b.1 (test_again text' text p f.0 (sym (alike_head text text' f.0 ts b.0 b.1 a)) f.3))
+    let b = firsts.first_token f.first f.after_first ts other s f.split in
+    let same = sym (alike_head text text' f.first ts b.0 b.1 a) in
+    n f.first b.0 b.1 (test_again text' text p f.first same f.passes))
     (λ text' a k. record { more = ends text' k (p ∷ ps); has = record { field = fields.Code; is = ends_are text' k (p ∷ ps) } })
 
 same_tail : (t u : Token) (xs ys : List Token) → t ∷ xs ≡ u ∷ ys → xs ≡ ys
@@ -76,9 +92,20 @@ there : (p : Piece) (ps : List Piece) (text : List ℕ) (t : Token) (ts rest : L
 there p ps text t ts rest e h = record {
   before = t ∷ [];
   split = e;
-  no = λ n text' other a s x field end f. x field end (subst (λ (z : List Token). Form ps text' field z end) (sym (same_tail t f.0 other f.1 f.2)) f.4);
+  no = λ n text' other a s x field end f. x field end
+      (subst (λ (z : List Token). Form ps text' field z end)
+      (sym (same_tail t f.first other f.after_first f.split)) f.others);
   has = λ n text' inner a k f. able_now (HasForm (p ∷ ps)) n text' (t ∷ inner)
-      (record { field = f.field; is = λ other. (t, inner ++ other, refl, test_again text text' p t (alike_head text text' t ts rest e a) h, f.is other) });
+      (record {
+        field = f.field;
+        is = λ other. record {
+          first = t;
+          after_first = inner ++ other;
+          split = refl;
+          passes = test_again text text' p t (alike_head text text' t ts rest e a) h;
+          others = f.is other;
+        };
+      });
 }
 
 pub punctuator_gone : (s : Punctuator) (ps : List Piece) (text : List ℕ) (ts : List Token) → ((rest : List Token) → HasPunctuator s ts rest → ⊥) → Failed 0 (place text ts) (NoForm (Mark s ∷ ps)) (HasForm (Mark s ∷ ps)) text ts
@@ -103,35 +130,50 @@ field_there text ts = record {
 
 -- ---- the keyword before them
 
-abbrev pub introduction : List Piece
-introduction = Mark punctuators.OpenParenthesis ∷ Mark punctuators.CloseParenthesis ∷ Mark punctuators.Arrow ∷ Record ∷ Mark punctuators.Arrow ∷ []
+abbrev pub from_record : List Piece
+from_record = Record ∷ Mark punctuators.Arrow ∷ []
 
-formed : (text : List ℕ) (at : ℕ) (field : Field) (ts end : List Token) (h : SpellsExpression text (Information at field) ts end) → Form introduction text field h.0 end
-formed text at field ts end h = (
-  token (kinds.Punctuator punctuators.OpenParenthesis) h.7.0 h.7.1.0,
-  h.1,
-  h.7.1.1,
-  refl,
-  (
-    token (kinds.Punctuator punctuators.CloseParenthesis) h.8.0 h.8.1.0,
-    h.2,
-    h.8.1.1,
-    refl,
-    (
-      token (kinds.Punctuator punctuators.Arrow) h.9.0 h.9.1.0,
-      h.3,
-      h.9.1.1,
-      refl,
-      (
-        token kinds.Identifier h.10.0.start h.10.0.end,
-        h.4,
-        h.10.1,
-        (refl, h.10.2),
-        (token (kinds.Punctuator punctuators.Arrow) h.11.0 h.11.1.0, h.5, h.11.1.1, refl, h.12),
-      ),
-    ),
-  ),
-)
+abbrev pub from_arrow : List Piece
+from_arrow = Mark punctuators.Arrow ∷ from_record
+
+abbrev pub from_closing : List Piece
+from_closing = Mark punctuators.CloseParenthesis ∷ from_arrow
+
+abbrev pub introduction : List Piece
+introduction = Mark punctuators.OpenParenthesis ∷ from_closing
+
+formed_by : (s : Punctuator) (ps : List Piece) (text : List ℕ) (field : Field)
+    (ts rest end : List Token)
+    → HasPunctuator s ts rest → Form ps text field rest end → Form (Mark s ∷ ps) text field ts end
+formed_by s ps text field ts rest end h f = record {
+  first = token (kinds.Punctuator s) h.0 h.1.0;
+  after_first = rest;
+  split = h.1.1;
+  passes = refl;
+  others = f;
+}
+
+formed : (text : List ℕ) (at : ℕ) (field : Field) (ts end : List Token)
+    → (h : SpellsExpression text (Information at field) ts end)
+    → Form introduction text field h.introduction.after_keyword end
+formed text at field ts end h =
+    let i = h.introduction in
+    let last = formed_by punctuators.Arrow [] text field i.after_record h.after_introduction end
+    i.last_arrow h.field in
+    let named : Form from_record text field i.after_arrow end = record {
+      first = token kinds.Identifier i.of_record.0.start i.of_record.0.end;
+      after_first = i.after_record;
+      split = i.of_record.1;
+      passes = (refl, i.of_record.2);
+      others = last;
+    } in
+    let arrow = formed_by punctuators.Arrow from_record text field i.after_closing i.after_arrow end
+    i.arrow named in
+    let closing = formed_by punctuators.CloseParenthesis from_arrow text field i.after_opening
+    i.after_closing end i.closing arrow in
+    formed_by punctuators.OpenParenthesis from_closing text field i.after_keyword i.after_opening
+    end
+    i.opening closing
 
 marked : (s : Punctuator) (t : Token) (ts rest : List Token) → ts ≡ t ∷ rest → t.kind ≡ kinds.Punctuator s → HasPunctuator s ts rest
 marked s t ts rest e h = (t.start, (t.end, e ∙ ap (λ z. token z t.start t.end ∷ rest) h))
@@ -140,30 +182,46 @@ worded : (text : List ℕ) (t : Token) (ts rest : List Token) → ts ≡ t ∷ r
 worded text t ts rest e h = (record { start = t.start; end = t.end }, e ∙ ap (λ z. token z t.start t.end ∷ rest) h.0, h.1)
 
 spelled : (text : List ℕ) (at : ℕ) (field : Field) (ts a end : List Token) → IsKeyword keywords.GetExceptionInformation at ts a → Form introduction text field a end → SpellsExpression text (Information at field) ts end
-spelled text at field ts a end k f0 =
-    let f1 = f0.4 in
-    let f2 = f1.4 in
-    let f3 = f2.4 in
-    let f4 = f3.4 in (
-      a,
-      f0.1,
-      f1.1,
-      f2.1,
-      f3.1,
-      f4.1,
-      k,
-      marked punctuators.OpenParenthesis f0.0 a f0.1 f0.2 f0.3,
-      marked punctuators.CloseParenthesis f1.0 f0.1 f1.1 f1.2 f1.3,
-      marked punctuators.Arrow f2.0 f1.1 f2.1 f2.2 f2.3,
-      worded text f3.0 f2.1 f3.1 f3.2 f3.3,
-      marked punctuators.Arrow f4.0 f3.1 f4.1 f4.2 f4.3,
-      f4.4,
-    )
+spelled text at field ts a end k opening =
+    let closing = opening.others in
+    let arrow = closing.others in
+    let of_record = arrow.others in
+    let last_arrow = of_record.others in
+    record {
+      after_introduction = last_arrow.after_first;
+      introduction = record {
+        after_keyword = a;
+        after_opening = opening.after_first;
+        after_closing = closing.after_first;
+        after_arrow = arrow.after_first;
+        after_record = of_record.after_first;
+        keyword = k;
+        opening =
+            marked punctuators.OpenParenthesis opening.first a opening.after_first opening.split
+            opening.passes;
+        closing =
+            marked punctuators.CloseParenthesis closing.first opening.after_first
+            closing.after_first
+            closing.split closing.passes;
+        arrow =
+            marked punctuators.Arrow arrow.first closing.after_first arrow.after_first arrow.split
+            arrow.passes;
+        of_record =
+            worded text of_record.first arrow.after_first of_record.after_first of_record.split
+            of_record.passes;
+        last_arrow =
+            marked punctuators.Arrow last_arrow.first of_record.after_first last_arrow.after_first
+            last_arrow.split last_arrow.passes;
+      };
+      field = last_arrow.others;
+    }
 
 pub keyword_gone : (text : List ℕ) (ts : List Token) → ((at : ℕ) (rest : List Token) → IsKeyword keywords.GetExceptionInformation at ts rest → ⊥) → Failed 0 (place text ts) NoInformation HasInformation text ts
 keyword_gone text ts n =
     unexpected_at NoInformation HasInformation text ts [] ts refl
-    (λ text' other a s at field end h. firsts.no_kind (kinds.Keyword keywords.GetExceptionInformation) ts other s n at h.0 h.6)
+    (λ text' other a s at field end h. firsts.no_kind
+    (kinds.Keyword keywords.GetExceptionInformation) ts other s n at h.introduction.after_keyword
+    h.introduction.keyword)
     (λ text' a k. record {
       more = token (kinds.Keyword keywords.GetExceptionInformation) 0 0 ∷ ends text' k introduction;
       has = record {
@@ -181,7 +239,12 @@ keyword_there text at ts rest k =
       before = word ∷ [];
       split = k.1;
       no = λ n text' other a s x to field end h.
-          x field end (subst (λ (z : List Token). Form introduction text' field z end) (sym (same_tail word (token (kinds.Keyword keywords.GetExceptionInformation) to h.6.0) other h.0 h.6.1)) (formed text' to field (word ∷ other) end h));
+          let i = h.introduction in
+          let again = token (kinds.Keyword keywords.GetExceptionInformation) to i.keyword.0 in
+          let same = same_tail word again other i.after_keyword i.keyword.1 in
+          x field end
+          (subst (λ (z : List Token). Form introduction text' field z end) (sym same)
+          (formed text' to field (word ∷ other) end h));
       has = λ n text' inner a z f. able_now HasInformation n text' (word ∷ inner)
           (record { at = at; field = f.field; spells = λ other. spelled text' at f.field (word ∷ (inner ++ other)) (inner ++ other) other (k.0, refl) (f.is other) });
     }
@@ -232,15 +295,15 @@ no_bracket_there text ts a x w n =
       more = punctuator_token punctuators.OpenBracket ∷ index_end;
       has = record {
         field = fields.Information 1 0;
-        is = λ other. (
-          punctuator_token punctuators.OpenBracket ∷ one ∷ punctuator_token punctuators.CloseBracket ∷ other,
-          one ∷ punctuator_token punctuators.CloseBracket ∷ other,
-          punctuator_token punctuators.CloseBracket ∷ other,
-          (w.0, refl, sym (alike_head text text' t ts a w.1 l) ∙ w.2),
-          (0, (0, refl)),
-          (integers.Int, (0, refl)),
-          (0, (0, refl)),
-        );
+        is = λ other. record {
+          after_word = punctuator_token punctuators.OpenBracket ∷ (index_end ++ other);
+          after_opening = index_end ++ other;
+          after_index = punctuator_token punctuators.CloseBracket ∷ other;
+          word = (w.0, refl, sym (alike_head text text' t ts a w.1 l) ∙ w.2);
+          opening = (0, (0, refl));
+          index = (integers.Int, (0, refl));
+          closing = (0, (0, refl));
+        };
       };
     })
 
@@ -257,15 +320,15 @@ no_index_there text ts a b x w h n =
       more = index_end;
       has = record {
         field = fields.Information 1 0;
-        is = λ other. (
-          u ∷ one ∷ punctuator_token punctuators.CloseBracket ∷ other,
-          one ∷ punctuator_token punctuators.CloseBracket ∷ other,
-          punctuator_token punctuators.CloseBracket ∷ other,
-          (w.0, refl, sym (alike_head text text' t ts a w.1 l) ∙ w.2),
-          (h.0, (h.1.0, refl)),
-          (integers.Int, (0, refl)),
-          (0, (0, refl)),
-        );
+        is = λ other. record {
+          after_word = u ∷ (index_end ++ other);
+          after_opening = index_end ++ other;
+          after_index = punctuator_token punctuators.CloseBracket ∷ other;
+          word = (w.0, refl, sym (alike_head text text' t ts a w.1 l) ∙ w.2);
+          opening = (h.0, (h.1.0, refl));
+          index = (integers.Int, (0, refl));
+          closing = (0, (0, refl));
+        };
       };
     })
 
@@ -279,19 +342,29 @@ no_close_there text ts a b c value at x w h i =
     let y : HasWord text' element (t ∷ u ∷ v ∷ other) (u ∷ v ∷ other) = (w.0, refl, sym (alike_head text text' t ts a w.1 l) ∙ w.2) in
     none_again 0 text text' ts (t ∷ u ∷ v ∷ other) x l (first_there t ts a (u ∷ v ∷ other) w.1)
     (no_close text' (t ∷ u ∷ v ∷ other) (u ∷ v ∷ other) (v ∷ other) other value at y (h.0, (h.1.0, refl)) (i.0, (i.1.0, refl))
-    (firsts.no_punctuator punctuators.CloseBracket c other s (λ rest g. x (fields.Information value at) rest (a, b, c, w, h, i, g)))))
+    (firsts.no_punctuator punctuators.CloseBracket c other s
+    (λ rest g. x (fields.Information value at) rest
+    (record {
+      after_word = a;
+      after_opening = b;
+      after_index = c;
+      word = w;
+      opening = h;
+      index = i;
+      closing = g;
+    })))))
     (λ text' l k. record {
       more = punctuator_token punctuators.CloseBracket ∷ [];
       has = record {
         field = fields.Information value at;
-        is = λ other. (
-          u ∷ v ∷ punctuator_token punctuators.CloseBracket ∷ other,
-          v ∷ punctuator_token punctuators.CloseBracket ∷ other,
-          punctuator_token punctuators.CloseBracket ∷ other,
-          (w.0, refl, sym (alike_head text text' t ts a w.1 l) ∙ w.2),
-          (h.0, (h.1.0, refl)),
-          (i.0, (i.1.0, refl)),
-          (0, (0, refl)),
-        );
+        is = λ other. record {
+          after_word = u ∷ v ∷ punctuator_token punctuators.CloseBracket ∷ other;
+          after_opening = v ∷ punctuator_token punctuators.CloseBracket ∷ other;
+          after_index = punctuator_token punctuators.CloseBracket ∷ other;
+          word = (w.0, refl, sym (alike_head text text' t ts a w.1 l) ∙ w.2);
+          opening = (h.0, (h.1.0, refl));
+          index = (i.0, (i.1.0, refl));
+          closing = (0, (0, refl));
+        };
       };
     })

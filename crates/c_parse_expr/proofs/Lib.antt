@@ -8,3 +8,4 @@ pub mod Wrapping
 pub mod Beginning
 pub mod Arguing
 pub mod Departing
+pub mod Trees

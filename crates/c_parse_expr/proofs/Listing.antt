@@ -5,6 +5,7 @@ use Rattle.c_lex.specs.declared.token.Token.{Token}
 use Rattle.c_syntax.specs.Expression.{Expression, Arguments, Done, Next, arguments, height, heights}
 use Rattle.c_syntax.specs.Expressions.{SpellsExpression, SpellsArguments, SpellsMoreArguments, Derives}
 use Rattle.c_syntax.specs.Follow.{Stops}
+use Rattle.c_syntax.specs.Operators.{assignment}
 use Rattle.c_syntax.specs.Tokens.{HasPunctuator}
 use Rattle.c_syntax.proofs.Fronts.{has_same, punctuator_same, front}
 use Rattle.c_syntax.proofs.Once.{has_stops, one_expression, expression_front}
@@ -12,16 +13,37 @@ use Rattle.c_parse_expr.specs.Readings.{NoExpression, NoArguments, AreMore, AreL
 
 -- ---- one more argument
 
-pub one_listed : (text : List ℕ) (e : Expression) (ts rest : List Token) → Derives text 15 e ts rest → AreListed text (e ∷ []) ts rest
-one_listed text e ts rest d = (rest, d, refl)
+pub one_listed : (text : List ℕ) (e : Expression) (ts rest : List Token)
+    → Derives text assignment e ts rest → AreListed text (e ∷ []) ts rest
+one_listed text e ts rest d = record { after_first = rest; first = d; others = refl }
 
-more_after : (text : List ℕ) (es : List Expression) (e : Expression) (ts rest b end : List Token) → AreMore text es ts rest → HasPunctuator punctuators.Comma rest b → Derives text 15 e b end → AreMore text (es ++ e ∷ []) ts end
-more_after text [] e ts rest b end h c d = (b, end, subst (λ (z : List Token). HasPunctuator punctuators.Comma z b) (sym h) c, d, refl)
-more_after text (x ∷ es) e ts rest b end h c d = (h.0, h.1, h.2, h.3, more_after text es e h.1 rest b end h.4 c d)
+more_after : (text : List ℕ) (es : List Expression) (e : Expression) (ts rest b end : List Token)
+    → AreMore text es ts rest → HasPunctuator punctuators.Comma rest b
+    → Derives text assignment e b end → AreMore text (es ++ e ∷ []) ts end
+more_after text [] e ts rest b end h c d = record {
+  after_comma = b;
+  after_next = end;
+  comma = subst (λ (z : List Token). HasPunctuator punctuators.Comma z b) (sym h) c;
+  next = d;
+  others = refl;
+}
+more_after text (x ∷ es) e ts rest b end h c d = record {
+  after_comma = h.after_comma;
+  after_next = h.after_next;
+  comma = h.comma;
+  next = h.next;
+  others = more_after text es e h.after_next rest b end h.others c d;
+}
 
-pub listed_after : (text : List ℕ) (es : List Expression) (e : Expression) (ts rest b end : List Token) → AreListed text es ts rest → HasPunctuator punctuators.Comma rest b → Derives text 15 e b end → AreListed text (es ++ e ∷ []) ts end
+pub listed_after : (text : List ℕ) (es : List Expression) (e : Expression)
+    (ts rest b end : List Token) → AreListed text es ts rest → HasPunctuator punctuators.Comma rest
+    b → Derives text assignment e b end → AreListed text (es ++ e ∷ []) ts end
 listed_after text [] e ts rest b end h c d = absurd h
-listed_after text (x ∷ es) e ts rest b end h c d = (h.0, h.1, more_after text es e h.0 rest b end h.2 c d)
+listed_after text (x ∷ es) e ts rest b end h c d = record {
+  after_first = h.after_first;
+  first = h.first;
+  others = more_after text es e h.after_first rest b end h.others c d;
+}
 
 pub heights_after : (es : List Expression) (e : Expression) → heights (arguments (es ++ e ∷ [])) ≡ max (heights (arguments es)) (height e + 1)
 heights_after [] e = omega arith
@@ -39,27 +61,40 @@ positive (suc n) h = omega arith
 
 more_spelled : (text : List ℕ) (es : List Expression) (ts rest end : List Token) → AreMore text es ts rest → HasPunctuator punctuators.CloseParenthesis rest end → SpellsMoreArguments text (arguments es) ts end
 more_spelled text [] ts rest end h c = subst (λ (z : List Token). HasPunctuator punctuators.CloseParenthesis z end) (sym h) c
-more_spelled text (e ∷ es) ts rest end h c = (h.0, h.1, h.2, h.3.fits, h.3.spells, more_spelled text es h.1 rest end h.4 c)
+more_spelled text (e ∷ es) ts rest end h c = record {
+  after_comma = h.after_comma;
+  after_next = h.after_next;
+  comma = h.comma;
+  next = h.next;
+  others = more_spelled text es h.after_next rest end h.others c;
+}
 
 pub listed_spelled : (text : List ℕ) (es : List Expression) (ts rest end : List Token) → AreListed text es ts rest → HasPunctuator punctuators.CloseParenthesis rest end → SpellsArguments text (arguments es) ts end
 listed_spelled text [] ts rest end h c = absurd h
-listed_spelled text (e ∷ es) ts rest end h c = (h.0, h.1.fits, h.1.spells, more_spelled text es h.0 rest end h.2 c)
+listed_spelled text (e ∷ es) ts rest end h c = record {
+  after_first = h.after_first;
+  first = h.first;
+  others = more_spelled text es h.after_first rest end h.others c;
+}
 
 -- ---- what can stand after what was read
 
-comma_stops : (ts rest : List Token) → HasPunctuator punctuators.Comma ts rest → Stops 15 ts
-comma_stops ts rest h = has_stops punctuators.Comma ts rest 15 h (omega arith)
+comma_stops : (ts rest : List Token) → HasPunctuator punctuators.Comma ts rest → Stops assignment ts
+comma_stops ts rest h = has_stops punctuators.Comma ts rest assignment h (omega arith)
 
-close_stops : (ts rest : List Token) → HasPunctuator punctuators.CloseParenthesis ts rest → Stops 15 ts
-close_stops ts rest h = has_stops punctuators.CloseParenthesis ts rest 15 h (omega arith)
+close_stops : (ts rest : List Token) → HasPunctuator punctuators.CloseParenthesis ts rest
+    → Stops assignment ts
+close_stops ts rest h = has_stops punctuators.CloseParenthesis ts rest assignment h (omega arith)
 
-spelled_stops : (text : List ℕ) (xs : Arguments) (ts end : List Token) → SpellsMoreArguments text xs ts end → Stops 15 ts
+spelled_stops : (text : List ℕ) (xs : Arguments) (ts end : List Token)
+    → SpellsMoreArguments text xs ts end → Stops assignment ts
 spelled_stops text Done ts end h = close_stops ts end h
-spelled_stops text (Next x xs) ts end h = comma_stops ts h.0 h.2
+spelled_stops text (Next x xs) ts end h = comma_stops ts h.after_comma h.comma
 
-more_stops : (text : List ℕ) (es : List Expression) (ts rest : List Token) → AreMore text es ts rest → Stops 15 rest → Stops 15 ts
-more_stops text [] ts rest h s = subst (λ (z : List Token). Stops 15 z) (sym h) s
-more_stops text (e ∷ es) ts rest h s = comma_stops ts h.0 h.2
+more_stops : (text : List ℕ) (es : List Expression) (ts rest : List Token) → AreMore text es ts rest
+    → Stops assignment rest → Stops assignment ts
+more_stops text [] ts rest h s = subst (λ (z : List Token). Stops assignment z) (sym h) s
+more_stops text (e ∷ es) ts rest h s = comma_stops ts h.after_comma h.comma
 
 pub not_both : (ts rest end : List Token) → HasPunctuator punctuators.Comma ts rest → HasPunctuator punctuators.CloseParenthesis ts end → ⊥
 not_both ts rest end h g = let q = (punctuator_same punctuators.Comma punctuators.CloseParenthesis h.0 g.0 ts ts rest end refl h.1 g.1).0 in let e : punctuators.Comma ≡ punctuators.CloseParenthesis = q in cc
@@ -72,50 +107,80 @@ record Left (text : List ℕ) (w room : ℕ) (ts end : List Token) : Type 0 wher
   spells : SpellsMoreArguments text others ts end
   low : 1 ≤ w → heights others ≤ room
 
-same_next : (text : List ℕ) (e x : Expression) (ts us rest end : List Token) → ts ≡ us → Derives text 15 e ts rest → Stops 15 rest → Derives text 15 x us end → Stops 15 end → rest ≡ end
+same_next : (text : List ℕ) (e x : Expression) (ts us rest end : List Token) → ts ≡ us
+    → Derives text assignment e ts rest → Stops assignment rest → Derives text assignment x us end
+    → Stops assignment end → rest ≡ end
 same_next text e x ts us rest end p d s g z =
-    (one_expression text 15 e x ts rest end d (record { fits = g.fits; spells = subst (λ (y : List Token). SpellsExpression text x y end) (sym p) g.spells }) s z).1
+    (one_expression text assignment e x ts rest end d
+    (subst (λ (y : List Token). Derives text assignment x y end) (sym p) g) s z).1
 
-more_back : (text : List ℕ) (w room : ℕ) (es : List Expression) (xs : Arguments) (ts rest end : List Token) → AreMore text es ts rest → Stops 15 rest → SpellsMoreArguments text xs ts end → (1 ≤ w → heights xs ≤ room) → Left text w room rest end
+more_back : (text : List ℕ) (w room : ℕ) (es : List Expression) (xs : Arguments)
+    (ts rest end : List Token) → AreMore text es ts rest → Stops assignment rest →
+    SpellsMoreArguments text xs ts end → (1 ≤ w → heights xs ≤ room) → Left text w room rest end
 more_back text w room [] xs ts rest end h s g low = record { others = xs; spells = subst (λ (z : List Token). SpellsMoreArguments text xs z end) h g; low = low }
-more_back text w room (e ∷ es) Done ts rest end h s g low = absurd (not_both ts h.0 end h.2 g)
+more_back text w room (e ∷ es) Done ts rest end h s g low =
+    absurd (not_both ts h.after_comma end h.comma g)
 more_back text w room (e ∷ es) (Next x xs) ts rest end h s g low =
-    let p = has_same punctuators.Comma ts ts h.0 g.0 refl h.2 g.2 in
-    let q = same_next text e x h.0 g.0 h.1 g.1 p h.3 (more_stops text es h.1 rest h.4 s) (record { fits = g.3; spells = g.4 }) (spelled_stops text xs g.1 end g.5) in
-    more_back text w room es xs h.1 rest end h.4 s (subst (λ (z : List Token). SpellsMoreArguments text xs z end) (sym q) g.5) (λ k. let a = low k in omega arith)
+    let p = has_same punctuators.Comma ts ts h.after_comma g.after_comma refl h.comma g.comma in
+    let q = same_next text e x h.after_comma g.after_comma h.after_next g.after_next p h.next
+    (more_stops text es h.after_next rest h.others s) g.next
+    (spelled_stops text xs g.after_next end g.others) in
+    more_back text w room es xs h.after_next rest end h.others s
+    (subst (λ (z : List Token). SpellsMoreArguments text xs z end) (sym q) g.others)
+    (λ k. let a = low k in omega arith)
 
-listed_back : (text : List ℕ) (w room : ℕ) (es : List Expression) (xs : Arguments) (ts rest end : List Token) → AreListed text es ts rest → Stops 15 rest → SpellsArguments text xs ts end → (1 ≤ w → heights xs ≤ room) → Left text w room rest end
+listed_back : (text : List ℕ) (w room : ℕ) (es : List Expression) (xs : Arguments)
+    (ts rest end : List Token) → AreListed text es ts rest → Stops assignment rest → SpellsArguments
+    text xs ts end → (1 ≤ w → heights xs ≤ room) → Left text w room rest end
 listed_back text w room [] xs ts rest end h s g low = absurd h
-listed_back text w room (e ∷ es) Done ts rest end h s g low = absurd (not_begun text e ts h.0 end h.1.spells g)
+listed_back text w room (e ∷ es) Done ts rest end h s g low =
+    absurd (not_begun text e ts h.after_first end h.first.spells g)
 listed_back text w room (e ∷ es) (Next x xs) ts rest end h s g low =
-    let q = same_next text e x ts ts h.0 g.0 refl h.1 (more_stops text es h.0 rest h.2 s) (record { fits = g.1; spells = g.2 }) (spelled_stops text xs g.0 end g.3) in
-    more_back text w room es xs h.0 rest end h.2 s (subst (λ (z : List Token). SpellsMoreArguments text xs z end) (sym q) g.3) (λ k. let a = low k in omega arith)
+    let q = same_next text e x ts ts h.after_first g.after_first refl h.first
+    (more_stops text es h.after_first rest h.others s) g.first
+    (spelled_stops text xs g.after_first end g.others) in
+    more_back text w room es xs h.after_first rest end h.others s
+    (subst (λ (z : List Token). SpellsMoreArguments text xs z end) (sym q) g.others)
+    (λ k. let a = low k in omega arith)
 
 -- ---- refusals
 
 none_left : (text : List ℕ) (w room : ℕ) (xs : Arguments) (rest end : List Token) → SpellsMoreArguments text xs rest end → (1 ≤ w → heights xs ≤ room)
     → ((b : List Token) → HasPunctuator punctuators.CloseParenthesis rest b → ⊥)
-    → ((x : Expression) (b c : List Token) → HasPunctuator punctuators.Comma rest b → Derives text 15 x b c → Stops 15 c → (1 ≤ w → height x < room) → ⊥)
+    → ((x : Expression) (b c : List Token) → HasPunctuator punctuators.Comma rest b → Derives text
+    assignment x b c → Stops assignment c → (1 ≤ w → height x < room) → ⊥)
     → ⊥
 none_left text w room Done rest end h low n m = n end h
-none_left text w room (Next x xs) rest end h low n m = m x h.0 h.1 h.2 (record { fits = h.3; spells = h.4 }) (spelled_stops text xs h.1 end h.5) (λ k. let a = low k in omega arith)
+none_left text w room (Next x xs) rest end h low n m =
+    m x h.after_comma h.after_next h.comma h.next (spelled_stops text xs h.after_next end h.others)
+    (λ k. let a = low k in omega arith)
 
-pub stuck : (text : List ℕ) (w room : ℕ) (es : List Expression) (ts rest : List Token) → AreListed text es ts rest → Stops 15 rest
+pub stuck : (text : List ℕ) (w room : ℕ) (es : List Expression) (ts rest : List Token)
+    → AreListed text es ts rest → Stops assignment rest
     → ((b : List Token) → HasPunctuator punctuators.CloseParenthesis rest b → ⊥)
     → ((b : List Token) → HasPunctuator punctuators.Comma rest b → ⊥)
     → NoArguments room w text ts
 stuck text w room es ts rest h s n m xs end g low =
     let l = listed_back text w room es xs ts rest end h s g low in none_left text w room l.others rest end l.spells l.low n (λ x b c k d z u. m b k)
 
-pub no_next : (text : List ℕ) (w room : ℕ) (es : List Expression) (ts rest following : List Token) → AreListed text es ts rest → Stops 15 rest → HasPunctuator punctuators.Comma rest following → NoExpression 15 (room - 1) w text following → NoArguments room w text ts
+pub no_next : (text : List ℕ) (w room : ℕ) (es : List Expression) (ts rest following : List Token)
+    → AreListed text es ts rest → Stops assignment rest
+    → HasPunctuator punctuators.Comma rest following
+    → NoExpression assignment (room - 1) w text following → NoArguments room w text ts
 no_next text w room es ts rest following h s k n xs end g low =
     let l = listed_back text w room es xs ts rest end h s g low in
     none_left text w room l.others rest end l.spells l.low (λ b c. not_both rest following b k c)
-    (λ x b c j d z u. let q = has_same punctuators.Comma rest rest b following refl j k in n x c (record { fits = d.fits; spells = subst (λ (y : List Token). SpellsExpression text x y c) q d.spells }) z (λ k. let a = u k in omega arith))
+    (λ x b c j d z u. let q = has_same punctuators.Comma rest rest b following refl j k in n x c
+    (subst (λ (y : List Token). Derives text assignment x y c) q d) z
+    (λ k. let a = u k in omega arith))
 
-pub no_first : (text : List ℕ) (w room : ℕ) (ts : List Token) → ((b : List Token) → HasPunctuator punctuators.CloseParenthesis ts b → ⊥) → NoExpression 15 (room - 1) w text ts → NoArguments room w text ts
+pub no_first : (text : List ℕ) (w room : ℕ) (ts : List Token)
+    → ((b : List Token) → HasPunctuator punctuators.CloseParenthesis ts b → ⊥)
+    → NoExpression assignment (room - 1) w text ts → NoArguments room w text ts
 no_first text w room ts n m Done end g low = n end g
-no_first text w room ts n m (Next x xs) end g low = m x g.0 (record { fits = g.1; spells = g.2 }) (spelled_stops text xs g.0 end g.3) (λ k. let a = low k in omega arith)
+no_first text w room ts n m (Next x xs) end g low =
+    m x g.after_first g.first (spelled_stops text xs g.after_first end g.others)
+    (λ k. let a = low k in omega arith)
 
 pub no_place : (text : List ℕ) (ts : List Token) → ((b : List Token) → HasPunctuator punctuators.CloseParenthesis ts b → ⊥) → NoArguments 0 1 text ts
 no_place text ts n Done end g low = n end g

@@ -18,7 +18,7 @@ use Rattle.c_syntax.specs.declared.operator.UnaryOperator.TheVariants as unary_o
 use Rattle.c_syntax.specs.Expression.{Expression, Constant, Variable, Information, Call, Parentheses, Index, Postfix, Prefix, Unary, Cast, Binary, Conditional, Assign, Comma, Arguments, height, heights}
 use Rattle.c_syntax.specs.Expressions.{literal_kind, SpellsExpression, SpellsArguments, Derives}
 use Rattle.c_syntax.specs.Follow.{punctuator_follows, kind_follows, follows, Stops}
-use Rattle.c_syntax.specs.Operators.{unary_punctuator, increment_punctuator}
+use Rattle.c_syntax.specs.Operators.{unary, cast, unary_punctuator, increment_punctuator}
 use Rattle.c_syntax.specs.PunctuatorReaders.{unary_of, increment_of}
 use Rattle.c_syntax.specs.Tokens.{token, IsKind, IsPunctuator, IsIdentifier, HasPunctuator}
 use Rattle.c_syntax.specs.Types.{IsType}
@@ -39,13 +39,23 @@ pub none_begins : (text : List ℕ) (w l room : ℕ) (ts : List Token)
 none_begins text w l room ts a b c d (Constant at x) end o low = a x at end o.derives.spells
 none_begins text w l room ts a b c d (Variable x) end o low = b x end o.derives.spells
 none_begins text w l room ts a b c d (Information at x) end o low = c at x end o.derives.spells
-none_begins text w l room ts a b c d (Call x es) end o low = let h = o.derives.spells in b x h.0 h.2
-none_begins text w l room ts a b c d (Parentheses at e) end o low = let h = o.derives.spells in d punctuators.OpenParenthesis at h.0 h.2
+none_begins text w l room ts a b c d (Call x es) end o low =
+    let h = o.derives.spells in
+    b x h.after_name h.called
+none_begins text w l room ts a b c d (Parentheses at e) end o low =
+    let h = o.derives.spells in
+    d punctuators.OpenParenthesis at h.after_opening h.opening
 none_begins text w l room ts a b c d (Index e at i) end o low = o.head
 none_begins text w l room ts a b c d (Postfix e op at) end o low = o.head
-none_begins text w l room ts a b c d (Prefix at op e) end o low = let h = o.derives.spells in d (increment_punctuator op) at h.0 h.1
-none_begins text w l room ts a b c d (Unary at op e) end o low = let h = o.derives.spells in d (unary_punctuator op) at h.0 h.1
-none_begins text w l room ts a b c d (Cast at to e) end o low = let h = o.derives.spells in d punctuators.OpenParenthesis at h.0 h.3
+none_begins text w l room ts a b c d (Prefix at op e) end o low =
+    let h = o.derives.spells in
+    d (increment_punctuator op) at h.after_operator h.operator
+none_begins text w l room ts a b c d (Unary at op e) end o low =
+    let h = o.derives.spells in
+    d (unary_punctuator op) at h.after_operator h.operator
+none_begins text w l room ts a b c d (Cast at to e) end o low =
+    let h = o.derives.spells in
+    d punctuators.OpenParenthesis at h.operator.after_opening h.operator.opening
 none_begins text w l room ts a b c d (Binary e at op f) end o low = o.head
 none_begins text w l room ts a b c d (Conditional e at f g) end o low = o.head
 none_begins text w l room ts a b c d (Assign e at op f) end o low = o.head
@@ -87,17 +97,33 @@ none_named text w l room x ts rest n v c (Constant at y) end o low = literal_nam
 none_named text w l room x ts rest n v c (Variable y) end o low =
     let q = (name_same x y ts ts rest end refl n o.derives.spells).1 in let p = ap follows q in let k = o.closes in v (omega arith)
 none_named text w l room x ts rest n v c (Information at y) end o low =
-    let h = o.derives.spells in keyword_not_name (other_kind _ _ at x.start ts h.0 rest h.6 (identifier_kind x ts rest n))
+    let h = o.derives.spells in
+    keyword_not_name (other_kind _ _ at x.start ts h.introduction.after_keyword rest
+    h.introduction.keyword (identifier_kind x ts rest n))
 none_named text w l room x ts rest n v c (Call y es) end o low =
     let h = o.derives.spells in
-    let q = (name_same y x ts ts h.0 rest refl h.2 n).1 in
-    c es h.1 end (subst (λ (z : List Token). HasPunctuator punctuators.OpenParenthesis z h.1) q h.3) h.4 low
-none_named text w l room x ts rest n v c (Parentheses at e) end o low = let h = o.derives.spells in punctuator_not_name _ (other_kind _ _ at x.start ts h.0 rest h.2 (identifier_kind x ts rest n))
+    let q = (name_same y x ts ts h.after_name rest refl h.called n).1 in
+    c es h.after_opening end (subst
+    (λ (z : List Token). HasPunctuator punctuators.OpenParenthesis z h.after_opening) q h.opening)
+    h.arguments low
+none_named text w l room x ts rest n v c (Parentheses at e) end o low =
+    let h = o.derives.spells in
+    punctuator_not_name _ (other_kind _ _ at x.start ts h.after_opening rest h.opening
+    (identifier_kind x ts rest n))
 none_named text w l room x ts rest n v c (Index e at i) end o low = o.head
 none_named text w l room x ts rest n v c (Postfix e op at) end o low = o.head
-none_named text w l room x ts rest n v c (Prefix at op e) end o low = let h = o.derives.spells in punctuator_not_name _ (other_kind _ _ at x.start ts h.0 rest h.1 (identifier_kind x ts rest n))
-none_named text w l room x ts rest n v c (Unary at op e) end o low = let h = o.derives.spells in punctuator_not_name _ (other_kind _ _ at x.start ts h.0 rest h.1 (identifier_kind x ts rest n))
-none_named text w l room x ts rest n v c (Cast at to e) end o low = let h = o.derives.spells in punctuator_not_name _ (other_kind _ _ at x.start ts h.0 rest h.3 (identifier_kind x ts rest n))
+none_named text w l room x ts rest n v c (Prefix at op e) end o low =
+    let h = o.derives.spells in
+    punctuator_not_name _ (other_kind _ _ at x.start ts h.after_operator rest h.operator
+    (identifier_kind x ts rest n))
+none_named text w l room x ts rest n v c (Unary at op e) end o low =
+    let h = o.derives.spells in
+    punctuator_not_name _ (other_kind _ _ at x.start ts h.after_operator rest h.operator
+    (identifier_kind x ts rest n))
+none_named text w l room x ts rest n v c (Cast at to e) end o low =
+    let h = o.derives.spells in
+    punctuator_not_name _ (other_kind _ _ at x.start ts h.operator.after_opening rest
+    h.operator.opening (identifier_kind x ts rest n))
 none_named text w l room x ts rest n v c (Binary e at op f) end o low = o.head
 none_named text w l room x ts rest n v c (Conditional e at f g) end o low = o.head
 none_named text w l room x ts rest n v c (Assign e at op f) end o low = o.head
@@ -175,32 +201,56 @@ no_parenthesis (t ∷ ts) n = positive_kind t.kind t.start t.end ts n
 
 pub none_signed : (text : List ℕ) (w l room : ℕ) (s : Punctuator) (at : ℕ) (ts rest : List Token) → IsPunctuator s at ts rest
     → ((e : Expression) (end : List Token) → s ≡ punctuators.OpenParenthesis → Encloses text punctuators.CloseParenthesis e rest end → (1 ≤ w → height e < room) → ⊥)
-    → ((op : Increment) (e : Expression) (end : List Token) → s ≡ increment_punctuator op → Derives text 2 e rest end → Stops 2 end → (1 ≤ w → height e < room) → ⊥)
-    → ((op : UnaryOperator) (e : Expression) (end : List Token) → s ≡ unary_punctuator op → Derives text 3 e rest end → Stops 3 end → (1 ≤ w → height e < room) → ⊥)
-    → ((to : CType) (e : Expression) (b c end : List Token) → s ≡ punctuators.OpenParenthesis → 3 ≤ l → IsType to rest b → HasPunctuator punctuators.CloseParenthesis b c → Derives text 3 e c end → Stops 3 end → (1 ≤ w → height e < room) → ⊥)
+    → ((op : Increment) (e : Expression) (end : List Token) → s ≡ increment_punctuator op → Derives
+    text unary e rest end → Stops unary end → (1 ≤ w → height e < room) → ⊥)
+    → ((op : UnaryOperator) (e : Expression) (end : List Token) → s ≡ unary_punctuator op → Derives
+    text cast e rest end → Stops cast end → (1 ≤ w → height e < room) → ⊥)
+    → ((to : CType) (e : Expression) (b c end : List Token) → s ≡ punctuators.OpenParenthesis →
+    cast ≤ l → IsType to rest b → HasPunctuator punctuators.CloseParenthesis b c → Derives text cast
+    e c end → Stops cast end → (1 ≤ w → height e < room) → ⊥)
     → NoOperand l room w text ts
 none_signed text w l room s at ts rest n pa pr un ca (Constant to y) end o low = literal_punctuator y s (other_kind _ _ to at ts end rest o.derives.spells n)
 none_signed text w l room s at ts rest n pa pr un ca (Variable y) end o low = name_not_punctuator s (other_kind _ _ y.start at ts end rest (identifier_kind y ts end o.derives.spells) n)
-none_signed text w l room s at ts rest n pa pr un ca (Information to y) end o low = let h = o.derives.spells in keyword_not_punctuator s (other_kind _ _ to at ts h.0 rest h.6 n)
-none_signed text w l room s at ts rest n pa pr un ca (Call y es) end o low = let h = o.derives.spells in name_not_punctuator s (other_kind _ _ y.start at ts h.0 rest (identifier_kind y ts h.0 h.2) n)
+none_signed text w l room s at ts rest n pa pr un ca (Information to y) end o low =
+    let h = o.derives.spells in
+    keyword_not_punctuator s (other_kind _ _ to at ts h.introduction.after_keyword rest
+    h.introduction.keyword n)
+none_signed text w l room s at ts rest n pa pr un ca (Call y es) end o low =
+    let h = o.derives.spells in
+    name_not_punctuator s (other_kind _ _ y.start at ts h.after_name rest
+    (identifier_kind y ts h.after_name h.called) n)
 none_signed text w l room s at ts rest n pa pr un ca (Parentheses to e) end o low =
     let h = o.derives.spells in
-    let q = punctuator_same s punctuators.OpenParenthesis at to ts ts rest h.0 refl n h.2 in
-    pa e end q.0 (record { mid = h.1; spells = subst (λ (z : List Token). SpellsExpression text e z h.1) (sym q.2) h.3; closed = h.4 }) (λ k. let a = low k in omega arith)
+    let q = punctuator_same s punctuators.OpenParenthesis at to ts ts rest h.after_opening refl n
+    h.opening in
+    pa e end q.0 (record {
+      mid = h.after_inner;
+      spells = subst
+          (λ (z : List Token). SpellsExpression text e z h.after_inner) (sym q.2) h.inner;
+      closed =
+          h.closing;
+    }) (λ k. let a = low k in omega arith)
 none_signed text w l room s at ts rest n pa pr un ca (Index e to i) end o low = o.head
 none_signed text w l room s at ts rest n pa pr un ca (Postfix e op to) end o low = o.head
 none_signed text w l room s at ts rest n pa pr un ca (Prefix to op e) end o low =
     let h = o.derives.spells in
-    let q = punctuator_same s (increment_punctuator op) at to ts ts rest h.0 refl n h.1 in
-    pr op e end q.0 (record { fits = h.2; spells = subst (λ (z : List Token). SpellsExpression text e z end) (sym q.2) h.3 }) o.closes (λ k. let a = low k in omega arith)
+    let q = punctuator_same s (increment_punctuator op) at to ts ts rest h.after_operator refl n
+    h.operator in
+    pr op e end q.0 (subst (λ (z : List Token). Derives text unary e z end) (sym q.2) h.operand)
+    o.closes (λ k. let a = low k in omega arith)
 none_signed text w l room s at ts rest n pa pr un ca (Unary to op e) end o low =
     let h = o.derives.spells in
-    let q = punctuator_same s (unary_punctuator op) at to ts ts rest h.0 refl n h.1 in
-    un op e end q.0 (record { fits = h.2; spells = subst (λ (z : List Token). SpellsExpression text e z end) (sym q.2) h.3 }) o.closes (λ k. let a = low k in omega arith)
+    let q = punctuator_same s (unary_punctuator op) at to ts ts rest h.after_operator refl n
+    h.operator in
+    un op e end q.0 (subst (λ (z : List Token). Derives text cast e z end) (sym q.2) h.operand)
+    o.closes (λ k. let a = low k in omega arith)
 none_signed text w l room s at ts rest n pa pr un ca (Cast to type e) end o low =
     let h = o.derives.spells in
-    let q = punctuator_same s punctuators.OpenParenthesis at to ts ts rest h.0 refl n h.3 in
-    ca type e h.1 h.2 end q.0 o.derives.fits (subst (λ (z : List Token). IsType type z h.1) (sym q.2) h.4) h.5 (record { fits = h.6; spells = h.7 }) o.closes (λ k. let a = low k in omega arith)
+    let q = punctuator_same s punctuators.OpenParenthesis at to ts ts rest h.operator.after_opening
+    refl n h.operator.opening in
+    ca type e h.operator.after_inner h.after_operator end q.0 o.derives.fits
+    (subst (λ (z : List Token). IsType type z h.operator.after_inner) (sym q.2) h.operator.inner)
+    h.operator.closing h.operand o.closes (λ k. let a = low k in omega arith)
 none_signed text w l room s at ts rest n pa pr un ca (Binary e to op f) end o low = o.head
 none_signed text w l room s at ts rest n pa pr un ca (Conditional e to f g) end o low = o.head
 none_signed text w l room s at ts rest n pa pr un ca (Assign e to op f) end o low = o.head
@@ -249,7 +299,9 @@ open_no_unary unary_operators.Complement e = cc
 open_no_unary unary_operators.Indirection e = cc
 open_no_unary unary_operators.AddressOf e = cc
 
-pub no_prefixed : (text : List ℕ) (w l room : ℕ) (s : Punctuator) (op : Increment) (at : ℕ) (ts rest : List Token) → IsPunctuator s at ts rest → increment_of s ≡ Some op → NoExpression 2 (room - 1) w text rest → NoOperand l room w text ts
+pub no_prefixed : (text : List ℕ) (w l room : ℕ) (s : Punctuator) (op : Increment) (at : ℕ)
+    (ts rest : List Token) → IsPunctuator s at ts rest → increment_of s ≡ Some op → NoExpression
+    unary (room - 1) w text rest → NoOperand l room w text ts
 no_prefixed text w l room s op at ts rest n p x =
     none_signed text w l room s at ts rest n
     (λ e end q y low. not_open s q op p)
@@ -257,7 +309,9 @@ no_prefixed text w l room s op at ts rest n p x =
     (λ o e end q d st low. let r : increment_of (unary_punctuator o) ≡ Some op = ap increment_of (sym q) ∙ p in unary_no_increment o op r)
     (λ to e b c end q f t z d st low. not_open s q op p)
 
-pub no_unary : (text : List ℕ) (w l room : ℕ) (s : Punctuator) (op : UnaryOperator) (at : ℕ) (ts rest : List Token) → IsPunctuator s at ts rest → unary_of s ≡ Some op → NoExpression 3 (room - 1) w text rest → NoOperand l room w text ts
+pub no_unary : (text : List ℕ) (w l room : ℕ) (s : Punctuator) (op : UnaryOperator) (at : ℕ)
+    (ts rest : List Token) → IsPunctuator s at ts rest → unary_of s ≡ Some op → NoExpression cast
+    (room - 1) w text rest → NoOperand l room w text ts
 no_unary text w l room s op at ts rest n p x =
     none_signed text w l room s at ts rest n
     (λ e end q y low. not_open_unary s q op p)
@@ -272,7 +326,9 @@ Open at ts rest = IsPunctuator punctuators.OpenParenthesis at ts rest
 
 pub none_open : (text : List ℕ) (w l room at : ℕ) (ts rest : List Token) → Open at ts rest
     → ((e : Expression) (end : List Token) → Encloses text punctuators.CloseParenthesis e rest end → (1 ≤ w → height e ≤ room) → ⊥)
-    → ((to : CType) (e : Expression) (b c end : List Token) → 3 ≤ l → IsType to rest b → HasPunctuator punctuators.CloseParenthesis b c → Derives text 3 e c end → Stops 3 end → (1 ≤ w → height e ≤ room) → ⊥)
+    → ((to : CType) (e : Expression) (b c end : List Token) → cast ≤ l → IsType to rest b →
+    HasPunctuator punctuators.CloseParenthesis b c → Derives text cast e c end → Stops cast end →
+    (1 ≤ w → height e ≤ room) → ⊥)
     → NoOperand l (room + 1) w text ts
 none_open text w l room at ts rest n pa ca =
     none_signed text w l (room + 1) punctuators.OpenParenthesis at ts rest n
@@ -295,18 +351,26 @@ abbrev pub OnlyType : List Token → List Token → Type 0
 OnlyType ts mid = (to : CType) (rest : List Token) → IsType to ts rest → NoBase rest → NoStar rest → mid ≡ rest
 
 pub no_cast : (text : List ℕ) (w l room at : ℕ) (to : CType) (ts rest mid : List Token) → Open at ts rest → IsType to rest mid → OnlyType rest mid
-    → ((e : Expression) (c end : List Token) → HasPunctuator punctuators.CloseParenthesis mid c → Derives text 3 e c end → Stops 3 end → (1 ≤ w → height e ≤ room) → ⊥)
+    → ((e : Expression) (c end : List Token) → HasPunctuator punctuators.CloseParenthesis mid c →
+    Derives text cast e c end → Stops cast end → (1 ≤ w → height e ≤ room) → ⊥)
     → NoOperand l (room + 1) w text ts
 no_cast text w l room at to ts rest mid n t only x =
     none_open text w l room at ts rest n
     (λ e end y low. no_type_inside text to e rest mid end t y)
     (λ u e b c end f g z d st low. x e c end (subst (λ (y : List Token). HasPunctuator punctuators.CloseParenthesis y c) (sym (only u b g (close_base b c z) (close_star b c z))) z) d st low)
 
-pub not_cast : (text : List ℕ) (w l room at : ℕ) (to : CType) (ts rest mid after : List Token) → Open at ts rest → IsType to rest mid → OnlyType rest mid → HasPunctuator punctuators.CloseParenthesis mid after → NoExpression 3 room w text after → NoOperand l (room + 1) w text ts
+pub not_cast : (text : List ℕ) (w l room at : ℕ) (to : CType) (ts rest mid after : List Token)
+    → Open at ts rest → IsType to rest mid → OnlyType rest mid
+    → HasPunctuator punctuators.CloseParenthesis mid after → NoExpression cast room w text after
+    → NoOperand l (room + 1) w text ts
 not_cast text w l room at to ts rest mid after n t only h x =
     no_cast text w l room at to ts rest mid n t only
-    (λ e c end z d st low. x e end (let q = has_same punctuators.CloseParenthesis mid mid c after refl z h in record { fits = d.fits; spells = subst (λ (y : List Token). SpellsExpression text e y end) q d.spells }) st low)
+    (λ e c end z d st low. x e end
+    (let q = has_same punctuators.CloseParenthesis mid mid c after refl z h in subst
+    (λ (y : List Token). Derives text cast e y end) q d) st low)
 
-pub no_group : (text : List ℕ) (w l room at : ℕ) (ts rest : List Token) → Open at ts rest → ((3 ≤ l) → NoBase rest) → NoneEnclosed punctuators.CloseParenthesis room w text rest → NoOperand l (room + 1) w text ts
+pub no_group : (text : List ℕ) (w l room at : ℕ) (ts rest : List Token) → Open at ts rest
+    → ((cast ≤ l) → NoBase rest) → NoneEnclosed punctuators.CloseParenthesis room w text rest
+    → NoOperand l (room + 1) w text ts
 no_group text w l room at ts rest n b x =
     none_open text w l room at ts rest n (λ e end y low. x e end y low) (λ u e m c end f g z d st low. b f u.base g.0 g.1)

@@ -8,9 +8,9 @@ use Rattle.c_syntax.specs.declared.operator.Comparison.TheVariants as comparison
 use Rattle.c_syntax.specs.declared.operator.BinaryOperator.TheVariants as binary
 use Rattle.c_syntax.specs.declared.operator.Increment.TheVariants as increments
 use Rattle.c_syntax.specs.Expression.{Expression, height}
-use Rattle.c_syntax.specs.Expressions.{rank, SpellsExpression, Derives}
+use Rattle.c_syntax.specs.Expressions.{rank, Derives}
 use Rattle.c_syntax.specs.Follow.{Stops}
-use Rattle.c_syntax.specs.Operators.{level}
+use Rattle.c_syntax.specs.Operators.{conditional, assignment, level}
 use Rattle.c_syntax.specs.Steps.{Step, At, After, With, Choose, Set, And, apply, bound as bound_of, Tail, Closes}
 use Rattle.c_syntax.specs.Tokens.{IsPunctuator}
 use Rattle.c_syntax.proofs.Fronts.{punctuator_same}
@@ -136,24 +136,98 @@ pub record Begun (text : List ℕ) (s : Step) (ts end : List Token) : Type 0 whe
   pub following : AfterPunctuator text s mid end
 
 pub begun : (text : List ℕ) (e : Expression) (s : Step) (ts end : List Token) → Tail text s ts end → Closes (apply e s) end → Begun text s ts end
-begun text e (At at i) ts end h c = record { mid = h.0; begins = h.2; following = record { mid = h.1; spells = h.3; closed = h.4 } }
+begun text e (At at i) ts end h c = record {
+  mid = h.after_opening;
+  begins = h.opening;
+  following = record { mid = h.after_inner; spells = h.inner; closed = h.closing };
+}
 begun text e (After op at) ts end h c = record { mid = end; begins = h; following = refl }
 begun text e (With at op f) ts end h c =
-    let x = (levels op).0 in record { mid = h.0; begins = h.1; following = record { derives = record { fits = omega (arith, h.2); spells = h.3 }; stops = c } }
-begun text e (Choose at f g) ts end h c =
-    record { mid = h.0; begins = h.3; following = (h.2, record { mid = h.1; spells = h.4; closed = h.5 }, record { derives = record { fits = h.6; spells = h.7 }; stops = c }) }
-begun text e (Set at op f) ts end h c = record { mid = h.0; begins = h.1; following = record { derives = record { fits = h.2; spells = h.3 }; stops = c } }
-begun text e (And at f) ts end h c = record { mid = h.0; begins = h.1; following = record { derives = record { fits = h.2; spells = h.3 }; stops = c } }
+    let x = (levels op).0 in
+    record {
+      mid = h.after_operator;
+      begins = h.operator;
+      following = record {
+        derives = record { fits = omega (arith, h.operand.fits); spells = h.operand.spells };
+        stops = c;
+      };
+    }
+begun text e (Choose at f g) ts end h c = record {
+  mid = h.operator.after_opening;
+  begins = h.operator.opening;
+  following = record {
+    after_operator = h.after_operator;
+    operator = record {
+      mid = h.operator.after_inner;
+      spells = h.operator.inner;
+      closed = h.operator.closing;
+    };
+    operand = record { derives = h.operand; stops = c };
+  };
+}
+begun text e (Set at op f) ts end h c = record {
+  mid = h.after_operator;
+  begins = h.operator;
+  following = record { derives = h.operand; stops = c };
+}
+begun text e (And at f) ts end h c = record {
+  mid = h.after_operator;
+  begins = h.operator;
+  following = record { derives = h.operand; stops = c };
+}
 
 pub tailed : (text : List ℕ) (e : Expression) (s : Step) (ts end : List Token) → Begun text s ts end → Tail text s ts end × Closes (apply e s) end
-tailed text e (At at i) ts end b = ((b.mid, b.following.mid, b.begins, b.following.spells, b.following.closed), tt)
-tailed text e (After op at) ts end b = (subst (λ (z : List Token). IsPunctuator (punctuator (Postfix op)) at ts z) b.following b.begins, tt)
+tailed text e (At at i) ts end b =
+    let inner = b.following in (
+      record {
+        after_opening = b.mid;
+        after_inner = inner.mid;
+        opening = b.begins;
+        inner = inner.spells;
+        closing = inner.closed;
+      },
+      tt,
+    )
+tailed text e (After op at) ts end b = (
+  subst (λ (z : List Token). IsPunctuator (punctuator (Postfix op)) at ts z) b.following
+      b.begins,
+  tt,
+)
 tailed text e (With at op f) ts end b =
-    let x = (levels op).0 in let y = b.following.derives.fits in ((b.mid, b.begins, omega arith, b.following.derives.spells), b.following.stops)
+    let x = (levels op).0 in
+    let d = b.following.derives in
+    let fits = d.fits in (
+      record {
+        after_operator = b.mid;
+        operator = b.begins;
+        operand = record { fits = omega arith; spells = d.spells };
+      },
+      b.following.stops,
+    )
 tailed text e (Choose at f g) ts end b =
-    let n = b.following.2 in ((b.mid, b.following.1.mid, b.following.0, b.begins, b.following.1.spells, b.following.1.closed, n.derives.fits, n.derives.spells), n.stops)
-tailed text e (Set at op f) ts end b = ((b.mid, b.begins, b.following.derives.fits, b.following.derives.spells), b.following.stops)
-tailed text e (And at f) ts end b = ((b.mid, b.begins, b.following.derives.fits, b.following.derives.spells), b.following.stops)
+    let yes = b.following.operator in
+    let no = b.following.operand in (
+      record {
+        after_operator = b.following.after_operator;
+        operator = record {
+          after_opening = b.mid;
+          after_inner = yes.mid;
+          opening = b.begins;
+          inner = yes.spells;
+          closing = yes.closed;
+        };
+        operand = no.derives;
+      },
+      no.stops,
+    )
+tailed text e (Set at op f) ts end b = (
+  record { after_operator = b.mid; operator = b.begins; operand = b.following.derives },
+  b.following.stops,
+)
+tailed text e (And at f) ts end b = (
+  record { after_operator = b.mid; operator = b.begins; operand = b.following.derives },
+  b.following.stops,
+)
 
 -- ---- refusals after a punctuator
 
@@ -176,25 +250,33 @@ none_right text w room op ts n (At at i) end e b low = absurd cc
 none_right text w room op ts n (After op' at) end e b low = absurd cc
 none_right text w room op ts n (With at op' f) end e b low = at_level text w room (level op' - 1) (right op) f ts end (ap right (same_infix (infixes.Binary op') op e)) n b low
 none_right text w room op ts n (Choose at f g) end e b low = absurd cc
-none_right text w room op ts n (Set at op' f) end e b low = at_level text w room 15 (right op) f ts end (ap right (same_infix (infixes.Assign op') op e)) n b low
-none_right text w room op ts n (And at f) end e b low = at_level text w room 15 (right op) f ts end (ap right (same_infix infixes.Comma op e)) n b low
+none_right text w room op ts n (Set at op' f) end e b low =
+    at_level text w room assignment (right op) f ts end
+    (ap right (same_infix (infixes.Assign op') op e)) n b low
+none_right text w room op ts n (And at f) end e b low =
+    at_level text w room assignment (right op) f ts end (ap right (same_infix infixes.Comma op e)) n
+    b low
 
 pub none_first : (text : List ℕ) (w room : ℕ) (ts : List Token) → NoneEnclosed punctuators.Colon room w text ts → NoneAfterPunctuator room Conditional w text ts
 none_first text w room ts n (At at i) end e b low = absurd cc
 none_first text w room ts n (After op at) end e b low = absurd cc
 none_first text w room ts n (With at op f) end e b low = absurd cc
-none_first text w room ts n (Choose at f g) end e b low = n f b.0 b.1 (λ k. let a = low k in omega arith)
+none_first text w room ts n (Choose at f g) end e b low =
+    n f b.after_operator b.operator (λ k. let a = low k in omega arith)
 none_first text w room ts n (Set at op f) end e b low = absurd cc
 none_first text w room ts n (And at f) end e b low = absurd cc
 
-pub none_second : (text : List ℕ) (w room : ℕ) (a : Expression) (ts mid : List Token) → Encloses text punctuators.Colon a ts mid → NoExpression 14 room w text mid → NoneAfterPunctuator room Conditional w text ts
+pub none_second : (text : List ℕ) (w room : ℕ) (a : Expression) (ts mid : List Token)
+    → Encloses text punctuators.Colon a ts mid → NoExpression conditional room w text mid
+    → NoneAfterPunctuator room Conditional w text ts
 none_second text w room a ts mid x n (At at i) end e b low = absurd cc
 none_second text w room a ts mid x n (After op at) end e b low = absurd cc
 none_second text w room a ts mid x n (With at op f) end e b low = absurd cc
 none_second text w room a ts mid x n (Choose at f g) end e b low =
-    let q = enclosed_once text punctuators.Colon a f ts mid b.0 refl x b.1 in
-    let r = b.2 in
-    n g end (record { fits = r.derives.fits; spells = subst (λ (z : List Token). SpellsExpression text g z end) (sym q.1) r.derives.spells }) r.stops (λ k. let a = low k in omega arith)
+    let q = enclosed_once text punctuators.Colon a f ts mid b.after_operator refl x b.operator in
+    let r = b.operand in
+    n g end (subst (λ (z : List Token). Derives text conditional g z end) (sym q.1) r.derives)
+    r.stops (λ k. let a = low k in omega arith)
 none_second text w room a ts mid x n (Set at op f) end e b low = absurd cc
 none_second text w room a ts mid x n (And at f) end e b low = absurd cc
 

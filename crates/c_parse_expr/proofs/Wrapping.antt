@@ -8,6 +8,7 @@ use Rattle.c_syntax.specs.Expression.{Expression, height}
 use Rattle.c_syntax.specs.Expressions.{rank, SpellsExpression, Derives}
 use Rattle.c_syntax.specs.Faults.{SameFirst, place, Failed, Wraps}
 use Rattle.c_syntax.specs.Follow.{punctuator_follows, follows, Stops}
+use Rattle.c_syntax.specs.Operators.{conditional, comma}
 use Rattle.c_syntax.specs.Steps.{At, After, With, Choose, Set, And, apply, Tail, Closes}
 use Rattle.c_syntax.specs.Tokens.{token, IsPunctuator, HasPunctuator}
 use Rattle.c_syntax.proofs.Firsts as firsts
@@ -61,7 +62,10 @@ step_wraps l room left text ts rest d c f low =
 
 -- ---- an expression and the punctuator that ends it
 
-pub enclosed_wraps : (close : Punctuator) (room : ℕ) (text : List ℕ) (ts : List Token) → punctuator_follows close ≡ 17 → Wraps (NoExpression 16 room) (HasExpression 16 room) (NoneEnclosed close room) (HasEnclosed close room) text ts ts
+pub enclosed_wraps : (close : Punctuator) (room : ℕ) (text : List ℕ) (ts : List Token)
+    → punctuator_follows close ≡ 17
+    → Wraps (NoExpression comma room) (HasExpression comma room) (NoneEnclosed close room)
+    (HasEnclosed close room) text ts ts
 enclosed_wraps close room text ts p = record {
   before = [];
   split = refl;
@@ -80,12 +84,16 @@ enclosed_wraps close room text ts p = record {
   };
 }
 
-pub unclosed : (close : Punctuator) (room : ℕ) (e : Expression) (text : List ℕ) (ts rest : List Token) → punctuator_follows close ≡ 17 → Derives text 16 e ts rest → Stops 16 rest → ((end : List Token) → HasPunctuator close rest end → ⊥) → height e ≤ room
+pub unclosed : (close : Punctuator) (room : ℕ) (e : Expression) (text : List ℕ)
+    (ts rest : List Token) → punctuator_follows close ≡ 17 → Derives text comma e ts rest → Stops
+    comma rest → ((end : List Token) → HasPunctuator close rest end → ⊥) → height e ≤ room
     → Failed 0 (place text rest) (NoneEnclosed close room) (HasEnclosed close room) text ts
 unclosed close room e text ts rest p d st n low =
-    let m = moved.derives 16 e text ts rest d in
+    let m = moved.derives comma e text ts rest d in
     unexpected_at (NoneEnclosed close room) (HasEnclosed close room) text ts m.front rest m.split
-    (λ text' other a s. not_closed text' 0 close room e (m.front ++ other) other p (m.again text' other a) (firsts.stops 16 rest other s st) (firsts.no_punctuator close rest other s n))
+    (λ text' other a s. not_closed text' 0 close room e (m.front ++ other) other p
+    (m.again text' other a) (firsts.stops comma rest other s st)
+    (firsts.no_punctuator close rest other s n))
     (λ text' a k. record {
       more = punctuator_token close ∷ [];
       has = record {
@@ -110,20 +118,51 @@ index_wraps room at text ts = record {
   split = refl;
   no = λ n text' other a s x. none_indexed text' n room other x;
   has = λ n text' inner a k h. able_now (HasAfterPunctuator room Index at) n text' inner
-      (record { step = At at h.tree; operation = refl; tail = λ begin other g. let x = h.encloses other in (inner ++ other, x.mid, g, x.spells, x.closed); low = h.low });
+      (record {
+        step = At at h.tree;
+        operation = refl;
+        tail = λ begin other g. let x = h.encloses
+            other in record {
+              after_opening = inner ++ other;
+              after_inner = x.mid;
+              opening = g;
+              inner =
+                  x.spells;
+              closing = x.closed;
+            };
+        low = h.low;
+      });
 }
 
 right_has : (room : ℕ) (op : Infix') (at n : ℕ) (text : List ℕ) (inner : List Token) → HasExpression (right op) room n text inner → HasAfterPunctuator room (Infix op) at n text inner
 right_has room (infixes.Binary op) at n text inner h = record {
   step = With at op h.tree;
   operation = refl;
-  tail = λ begin other g. let d = h.derives other in let x = (levels op).0 in let y = d.fits in (inner ++ other, g, omega arith, d.spells);
+  tail = λ begin other g. let d = h.derives other in let x = (levels op).0 in let y = d.fits in
+      record {
+        after_operator = inner ++ other;
+        operator = g;
+        operand = record
+            { fits = omega arith; spells = d.spells };
+      };
   low = h.low;
 }
 right_has room (infixes.Assign op) at n text inner h =
-    record { step = Set at op h.tree; operation = refl; tail = λ begin other g. let d = h.derives other in (inner ++ other, g, d.fits, d.spells); low = h.low }
+    record {
+      step = Set at op h.tree;
+      operation = refl;
+      tail = λ begin other g. record
+          { after_operator = inner ++ other; operator = g; operand = h.derives other };
+      low = h.low;
+    }
 right_has room infixes.Comma at n text inner h =
-    record { step = And at h.tree; operation = refl; tail = λ begin other g. let d = h.derives other in (inner ++ other, g, d.fits, d.spells); low = h.low }
+    record {
+      step = And at h.tree;
+      operation = refl;
+      tail = λ begin other g. record
+          { after_operator = inner ++ other; operator = g; operand = h.derives other };
+      low = h.low;
+    }
 
 pub right_wraps : (room : ℕ) (op : Infix') (at : ℕ) (text : List ℕ) (ts : List Token) → Wraps (NoExpression (right op) room) (HasExpression (right op) room) (NoneAfterPunctuator room (Infix op)) (HasAfterPunctuator room (Infix op) at) text ts ts
 right_wraps room op at text ts = record {
@@ -146,14 +185,25 @@ first_branch_wraps room at text ts = record {
       tail = λ begin other g.
           let x = h.encloses (one ∷ other) in
           let s = subst (λ (z : List Token). SpellsExpression text' h.tree z x.mid) (sym (append_append inner (one ∷ []) other)) x.spells in
-          ((inner ++ (one ∷ [])) ++ other, x.mid, one ∷ other, g, s, x.closed, omega arith, (0, refl));
+          record {
+            after_operator = one ∷ other;
+            operator = record {
+              after_opening = (inner ++ (one ∷ [])) ++ other;
+              after_inner = x.mid;
+              opening = g;
+              inner = s;
+              closing = x.closed;
+            };
+            operand = record { fits = omega arith; spells = (0, refl) };
+          };
       low = λ q. let y = h.low q in omega arith;
     };
   };
 }
 
 pub second_branch_wraps : (room at : ℕ) (e : Expression) (text : List ℕ) (ts mid : List Token) → Encloses text punctuators.Colon e ts mid → height e ≤ room
-    → Wraps (NoExpression 14 room) (HasExpression 14 room) (NoneAfterPunctuator room Conditional) (HasAfterPunctuator room Conditional at) text mid ts
+    → Wraps (NoExpression conditional room) (HasExpression conditional room)
+    (NoneAfterPunctuator room Conditional) (HasAfterPunctuator room Conditional at) text mid ts
 second_branch_wraps room at e text ts mid x low =
     let m = encloses_moves punctuators.Colon e text ts mid x in
     record {
@@ -166,9 +216,18 @@ second_branch_wraps room at e text ts mid x low =
             operation = refl;
             tail = λ begin other g.
                 let y = m.again text' (inner ++ other) a in
-                let d = h.derives other in
                 let s = subst (λ (z : List Token). SpellsExpression text' e z y.mid) (sym (append_append m.front inner other)) y.spells in
-                ((m.front ++ inner) ++ other, y.mid, inner ++ other, g, s, y.closed, d.fits, d.spells);
+                record {
+                  after_operator = inner ++ other;
+                  operator = record {
+                    after_opening = (m.front ++ inner) ++ other;
+                    after_inner = y.mid;
+                    opening = g;
+                    inner = s;
+                    closing = y.closed;
+                  };
+                  operand = h.derives other;
+                };
             low = λ q. let y = h.low q in omega arith;
           });
     }
@@ -184,7 +243,13 @@ has_shortest : (room : ℕ) (o : Operation) (at n : ℕ) (text : List ℕ) → H
 has_shortest room Index at n text = record {
   step = At at one_tree;
   operation = refl;
-  tail = λ begin other h. (one ∷ punctuator_token punctuators.CloseBracket ∷ other, punctuator_token punctuators.CloseBracket ∷ other, h, (0, refl), (0, (0, refl)));
+  tail = λ begin other h. record {
+    after_opening = one ∷ punctuator_token punctuators.CloseBracket ∷ other;
+    after_inner = punctuator_token punctuators.CloseBracket ∷ other;
+    opening = h;
+    inner = (0, refl);
+    closing = (0, (0, refl));
+  };
   low = λ k. omega arith;
 }
 has_shortest room (Postfix op) at n text = record { step = After op at; operation = refl; tail = λ begin other h. h; low = λ k. omega arith }
@@ -192,7 +257,17 @@ has_shortest room (Infix op) at n text = right_has room op at n text (one ∷ []
 has_shortest room Conditional at n text = record {
   step = Choose at one_tree one_tree;
   operation = refl;
-  tail = λ begin other h. (one ∷ punctuator_token punctuators.Colon ∷ one ∷ other, punctuator_token punctuators.Colon ∷ one ∷ other, one ∷ other, h, (0, refl), (0, (0, refl)), omega arith, (0, refl));
+  tail = λ begin other h. record {
+    after_operator = one ∷ other;
+    operator = record {
+      after_opening = one ∷ punctuator_token punctuators.Colon ∷ one ∷ other;
+      after_inner = punctuator_token punctuators.Colon ∷ one ∷ other;
+      opening = h;
+      inner = (0, refl);
+      closing = (0, (0, refl));
+    };
+    operand = record { fits = omega arith; spells = (0, refl) };
+  };
   low = λ k. omega arith;
 }
 

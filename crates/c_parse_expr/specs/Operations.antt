@@ -6,7 +6,7 @@ use Rattle.c_syntax.specs.declared.operator.Arithmetic.{Arithmetic}
 use Rattle.c_syntax.specs.declared.operator.BinaryOperator.{BinaryOperator}
 use Rattle.c_syntax.specs.declared.operator.Increment.{Increment}
 use Rattle.c_syntax.specs.Expression.{Expression}
-use Rattle.c_syntax.specs.Operators.{level, binary_punctuator, increment_punctuator, assignment_punctuator}
+use Rattle.c_syntax.specs.Operators.{postfix, unary, logical_or, assignment, comma, level, binary_punctuator, increment_punctuator, assignment_punctuator}
 use Rattle.c_syntax.specs.PunctuatorReaders.{binary_of, increment_of, assignment_of}
 use Rattle.c_syntax.specs.Steps as steps
 use Rattle.c_parse_expr.specs.declared.step.Infix.{Infix as Infix'}
@@ -49,20 +49,20 @@ punctuator Conditional = punctuators.Question
 
 abbrev pub left : Infix' → ℕ
 left (Binary op) = level op
-left (Assign op) = 2
-left Comma = 16
+left (Assign op) = unary
+left Comma = comma
 
 abbrev pub right : Infix' → ℕ
 right (Binary op) = level op - 1
-right (Assign op) = 15
-right Comma = 15
+right (Assign op) = assignment
+right Comma = assignment
 
 -- the loosest level of the operand before
 abbrev pub bound : Operation → ℕ
-bound Index = 1
-bound (Postfix op) = 1
+bound Index = postfix
+bound (Postfix op) = postfix
 bound (Infix op) = left op
-bound Conditional = 13
+bound Conditional = logical_or
 
 -- ---- steps
 

@@ -6,7 +6,7 @@ use Rattle.c_lex.specs.declared.token.Token.{Token}
 use Rattle.c_syntax.specs.declared.expression.Field.{Field}
 use Rattle.c_syntax.specs.Limits.{Nesting, IsInForce}
 use Rattle.c_syntax.specs.Expression.{Expression, Information, Arguments, height, heights}
-use Rattle.c_syntax.specs.Expressions.{rank, IsField, SpellsExpression, SpellsArguments, Derives}
+use Rattle.c_syntax.specs.Expressions.{rank, IsApplied, IsField, AreArguments, AreMoreArguments, SpellsExpression, SpellsArguments, Derives}
 use Rattle.c_syntax.specs.Faults.{SameFirst, Speaks, Onward}
 use Rattle.c_syntax.specs.Follow.{Stops}
 use Rattle.c_syntax.specs.declared.operator.Increment.{Increment}
@@ -61,11 +61,12 @@ pub record HasArguments (room n : ℕ) (text : List ℕ) (ts : List Token) : Typ
 -- expressions with commas between them
 abbrev pub AreMore : List ℕ → List Expression → List Token → List Token → Type 0
 AreMore text [] ts rest = ts ≡ rest
-AreMore text (e ∷ es) ts rest = (a : List Token) × (b : List Token) × HasPunctuator punctuators.Comma ts a × Derives text assignment e a b × AreMore text es b rest
+AreMore text (e ∷ es) ts rest =
+    AreMoreArguments (Derives text assignment e) (AreMore text es) ts rest
 
 abbrev pub AreListed : List ℕ → List Expression → List Token → List Token → Type 0
 AreListed text [] ts rest = ⊥
-AreListed text (e ∷ es) ts rest = (a : List Token) × Derives text assignment e ts a × AreMore text es a rest
+AreListed text (e ∷ es) ts rest = AreArguments (Derives text assignment e) (AreMore text es) ts rest
 
 -- ---- the first operand of an expression of a level
 
@@ -104,7 +105,8 @@ abbrev pub AfterPunctuator : List ℕ → Step → List Token → List Token →
 AfterPunctuator text (At at i) ts rest = Encloses text punctuators.CloseBracket i ts rest
 AfterPunctuator text (After op at) ts rest = ts ≡ rest
 AfterPunctuator text (With at op e) ts rest = Reads text (level op - 1) e ts rest
-AfterPunctuator text (Choose at a b) ts rest = (mid : List Token) × Encloses text punctuators.Colon a ts mid × Reads text conditional b mid rest
+AfterPunctuator text (Choose at a b) ts rest =
+    IsApplied (Encloses text punctuators.Colon a) (Reads text conditional b) ts rest
 AfterPunctuator text (Set at op e) ts rest = Reads text assignment e ts rest
 AfterPunctuator text (And at e) ts rest = Reads text assignment e ts rest
 

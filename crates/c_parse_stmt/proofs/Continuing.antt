@@ -15,13 +15,13 @@ use Rattle.c_syntax.specs.declared.operator.Increment.{Increment}
 use Rattle.c_syntax.specs.declared.operator.Increment.TheVariants as increments
 use Rattle.c_syntax.specs.declared.expression.Literal.TheVariants as literals
 use Rattle.c_syntax.specs.Expression.{Expression, Constant, Variable, Call, Done, Index, Postfix, Binary, Conditional, Assign, Comma, height}
-use Rattle.c_syntax.specs.Expressions.{rank, SpellsExpression}
+use Rattle.c_syntax.specs.Expressions.{rank, IsApplied, IsContinued, SpellsExpression, Derives}
 use Rattle.c_syntax.specs.Faults.{SameFirst}
 use Rattle.c_syntax.specs.Follow.{punctuator_follows, kind_follows, follows}
 use Rattle.c_syntax.specs.Limits.{accepts}
-use Rattle.c_syntax.specs.Operators.{binary_punctuator, increment_punctuator, assignment_punctuator}
-use Rattle.c_syntax.specs.Steps.{Step, At, After, With, Choose, Set, And, apply, Closes}
-use Rattle.c_syntax.specs.Tokens.{token, HasPunctuator}
+use Rattle.c_syntax.specs.Operators.{primary, postfix, assignment, comma, binary_punctuator, increment_punctuator, assignment_punctuator}
+use Rattle.c_syntax.specs.Steps.{Step, At, After, With, Choose, Set, And, apply, bound, Tail, Closes}
+use Rattle.c_syntax.specs.Tokens.{token, IsPunctuator, HasPunctuator}
 use Rattle.c_syntax.proofs.Failing.{first_keeps}
 use Rattle.c_syntax.proofs.Fronts.{kind_class, has_same}
 use Rattle.c_syntax.proofs.Once.{one_expression, rank_low, has_stops}
@@ -40,9 +40,10 @@ pub record Atom (text : List ℕ) (t : Token) : Type 0 where
   pub tree : Expression
   pub spells : (ts : List Token) → SpellsExpression text tree (t ∷ ts) ts
   pub low : height tree ≡ 0
-  pub rank : rank tree ≡ 0
+  pub rank : rank tree ≡ primary
   pub yes : accepts text tree ≡ true
-  pub closes : (ts : List Token) → (t.kind ≡ kinds.Identifier → 0 < follows ts) → Closes tree ts
+  pub closes : (ts : List Token) → (t.kind ≡ kinds.Identifier → primary < follows ts)
+      → Closes tree ts
   pub class : kind_class t.kind ≤ 2
 
 atom_by : (text : List ℕ) (k : Kind) (at end : ℕ) → accepts_kind text k at end ≡ true → Atom text (token k at end)
@@ -72,28 +73,112 @@ accepts_alike text text' t h = alike_by text text' t.kind t.start t.end h
 record Stepped (t : Token) : Type 0 where
   more : List Token
   after : Expression → Expression
-  spells : (text : List ℕ) (left : Expression) (ts other : List Token) → rank left ≡ 0 → SpellsExpression text left ts ((t ∷ more) ++ other) → SpellsExpression text (after left) ts other
+  spells : (text : List ℕ) (left : Expression) (ts other : List Token) → rank left ≡ primary
+      → SpellsExpression text left ts ((t ∷ more) ++ other)
+      → SpellsExpression text (after left) ts other
   high : (left : Expression) → height (after left) ≡ 1 + height left
 
+-- a step after an operand that is primary
+after_primary : (text : List ℕ) (s : Step) (left : Expression) (ts mid other : List Token)
+    → rank left ≡ primary → SpellsExpression text left ts mid → Tail text s mid other
+    → IsContinued (Derives text (bound s) left) (Tail text s) ts other
+after_primary text s left ts mid other r h t =
+    record { after_operand = mid; operand = record { fits = omega arith; spells = h }; step = t }
+
 index : (at end : ℕ) → Stepped (token (kinds.Punctuator punctuators.OpenBracket) at end)
-index at end = record { more = name ∷ punctuator punctuators.CloseBracket ∷ []; after = λ e. Index e at variable; spells = λ text e ts other r s. (_, name ∷ punctuator punctuators.CloseBracket ∷ other, punctuator punctuators.CloseBracket ∷ other, omega arith, s, (end, refl), refl, (0, (0, refl))); high = λ e. omega arith }
+index at end = record {
+  more = name ∷ punctuator punctuators.CloseBracket ∷ [];
+  after = λ e. Index e at variable;
+  spells = λ text e ts other r s.
+      let subscript : Tail text (At at variable) _ other = record {
+        after_opening = name ∷ punctuator punctuators.CloseBracket ∷ other;
+        after_inner = punctuator punctuators.CloseBracket ∷ other;
+        opening = (end, refl);
+        inner = refl;
+        closing = (0, (0, refl));
+      } in
+      after_primary text (At at variable) e ts _ other r s subscript;
+  high = λ e. omega arith;
+}
 
-increment : (op : Increment) (at end : ℕ) → Stepped (token (kinds.Punctuator (increment_punctuator op)) at end)
-increment op at end = record { more = []; after = λ e. Postfix e op at; spells = λ text e ts other r s. (_, omega arith, s, (end, refl)); high = λ e. omega arith }
+increment : (op : Increment) (at end : ℕ)
+    → Stepped (token (kinds.Punctuator (increment_punctuator op)) at end)
+increment op at end = record {
+  more = [];
+  after = λ e. Postfix e op at;
+  spells = λ text e ts other r s. after_primary text (After op at) e ts _ other r s (end, refl);
+  high = λ e. omega arith;
+}
 
-between : (op : BinaryOperator) (at end : ℕ) → Stepped (token (kinds.Punctuator (binary_punctuator op)) at end)
-between op at end = record { more = name ∷ []; after = λ e. Binary e at op variable; spells = λ text e ts other r s. let l = (levels op).0 in (_, name ∷ other, omega arith, s, (end, refl), omega arith, refl); high = λ e. omega arith }
+between : (op : BinaryOperator) (at end : ℕ)
+    → Stepped (token (kinds.Punctuator (binary_punctuator op)) at end)
+between op at end = record {
+  more = name ∷ [];
+  after = λ e. Binary e at op variable;
+  spells = λ text e ts other r s.
+      let l = (levels op).0 in
+      let with_name : Tail text (With at op variable) _ other = record {
+        after_operator = name ∷ other;
+        operator = (end, refl);
+        operand = record { fits = omega arith; spells = refl };
+      } in
+      after_primary text (With at op variable) e ts _ other r s with_name;
+  high = λ e. omega arith;
+}
 
 choice : (at end : ℕ) → Stepped (token (kinds.Punctuator punctuators.Question) at end)
-choice at end = record { more = name ∷ punctuator punctuators.Colon ∷ name ∷ []; after = λ e. Conditional e at variable variable; spells = λ text e ts other r s. (_, name ∷ punctuator punctuators.Colon ∷ name ∷ other, punctuator punctuators.Colon ∷ name ∷ other, name ∷ other, omega arith, s, (end, refl), refl, (0, (0, refl)), omega arith, refl); high = λ e. omega arith }
+choice at end = record {
+  more = name ∷ punctuator punctuators.Colon ∷ name ∷ [];
+  after = λ e. Conditional e at variable variable;
+  spells = λ text e ts other r s.
+      let branches : Tail text (Choose at variable variable) _ other = record {
+        after_operator = name ∷ other;
+        operator = record {
+          after_opening = name ∷ punctuator punctuators.Colon ∷ name ∷ other;
+          after_inner = punctuator punctuators.Colon ∷ name ∷ other;
+          opening = (end, refl);
+          inner = refl;
+          closing = (0, (0, refl));
+        };
+        operand = record { fits = omega arith; spells = refl };
+      } in
+      after_primary text (Choose at variable variable) e ts _ other r s branches;
+  high = λ e. omega arith;
+}
 
-assignment : (op : Option Arithmetic) (at end : ℕ) → Stepped (token (kinds.Punctuator (assignment_punctuator op)) at end)
-assignment op at end = record { more = name ∷ []; after = λ e. Assign e at op variable; spells = λ text e ts other r s. (_, name ∷ other, omega arith, s, (end, refl), omega arith, refl); high = λ e. omega arith }
+-- an operator and a name after it
+named_after : (text : List ℕ) (s : Punctuator) (at end : ℕ) (other : List Token)
+    → IsApplied (IsPunctuator s at) (Derives text assignment variable)
+    (token (kinds.Punctuator s) at end ∷ name ∷ other) other
+named_after text s at end other = record {
+  after_operator = name ∷ other;
+  operator = (end, refl);
+  operand = record { fits = omega arith; spells = refl };
+}
 
-comma : (at end : ℕ) → Stepped (token (kinds.Punctuator punctuators.Comma) at end)
-comma at end = record { more = name ∷ []; after = λ e. Comma e at variable; spells = λ text e ts other r s. (_, name ∷ other, omega arith, s, (end, refl), omega arith, refl); high = λ e. omega arith }
+assigning : (op : Option Arithmetic) (at end : ℕ)
+    → Stepped (token (kinds.Punctuator (assignment_punctuator op)) at end)
+assigning op at end = record {
+  more = name ∷ [];
+  after = λ e. Assign e at op variable;
+  spells = λ text e ts other r s.
+      after_primary text (Set at op variable) e ts _ other r s
+      (named_after text (assignment_punctuator op) at end other);
+  high = λ e. omega arith;
+}
 
-by_punctuator : (s : Punctuator) (at end : ℕ) → 1 ≤ punctuator_follows s → punctuator_follows s ≤ 16 → Stepped (token (kinds.Punctuator s) at end)
+separating : (at end : ℕ) → Stepped (token (kinds.Punctuator punctuators.Comma) at end)
+separating at end = record {
+  more = name ∷ [];
+  after = λ e. Comma e at variable;
+  spells = λ text e ts other r s.
+      after_primary text (And at variable) e ts _ other r s
+      (named_after text punctuators.Comma at end other);
+  high = λ e. omega arith;
+}
+
+by_punctuator : (s : Punctuator) (at end : ℕ) → postfix ≤ punctuator_follows s
+    → punctuator_follows s ≤ comma → Stepped (token (kinds.Punctuator s) at end)
 by_punctuator punctuators.OpenParenthesis at end h l = absurd (omega arith)
 by_punctuator punctuators.CloseParenthesis at end h l = absurd (omega arith)
 by_punctuator punctuators.OpenBracket at end h l = index at end
@@ -101,21 +186,22 @@ by_punctuator punctuators.CloseBracket at end h l = absurd (omega arith)
 by_punctuator punctuators.OpenBrace at end h l = absurd (omega arith)
 by_punctuator punctuators.CloseBrace at end h l = absurd (omega arith)
 by_punctuator punctuators.Semicolon at end h l = absurd (omega arith)
-by_punctuator punctuators.Comma at end h l = comma at end
+by_punctuator punctuators.Comma at end h l = separating at end
 by_punctuator punctuators.Question at end h l = choice at end
 by_punctuator punctuators.Colon at end h l = absurd (omega arith)
 by_punctuator punctuators.Arrow at end h l = absurd (omega arith)
-by_punctuator punctuators.Assign at end h l = assignment None at end
-by_punctuator punctuators.PlusAssign at end h l = assignment (Some arithmetic.Add) at end
-by_punctuator punctuators.MinusAssign at end h l = assignment (Some arithmetic.Subtract) at end
-by_punctuator punctuators.StarAssign at end h l = assignment (Some arithmetic.Multiply) at end
-by_punctuator punctuators.SlashAssign at end h l = assignment (Some arithmetic.Divide) at end
-by_punctuator punctuators.PercentAssign at end h l = assignment (Some arithmetic.Remainder) at end
-by_punctuator punctuators.AmpersandAssign at end h l = assignment (Some arithmetic.And) at end
-by_punctuator punctuators.BarAssign at end h l = assignment (Some arithmetic.Or) at end
-by_punctuator punctuators.CaretAssign at end h l = assignment (Some arithmetic.ExclusiveOr) at end
-by_punctuator punctuators.ShiftLeftAssign at end h l = assignment (Some arithmetic.ShiftLeft) at end
-by_punctuator punctuators.ShiftRightAssign at end h l = assignment (Some arithmetic.ShiftRight) at end
+by_punctuator punctuators.Assign at end h l = assigning None at end
+by_punctuator punctuators.PlusAssign at end h l = assigning (Some arithmetic.Add) at end
+by_punctuator punctuators.MinusAssign at end h l = assigning (Some arithmetic.Subtract) at end
+by_punctuator punctuators.StarAssign at end h l = assigning (Some arithmetic.Multiply) at end
+by_punctuator punctuators.SlashAssign at end h l = assigning (Some arithmetic.Divide) at end
+by_punctuator punctuators.PercentAssign at end h l = assigning (Some arithmetic.Remainder) at end
+by_punctuator punctuators.AmpersandAssign at end h l = assigning (Some arithmetic.And) at end
+by_punctuator punctuators.BarAssign at end h l = assigning (Some arithmetic.Or) at end
+by_punctuator punctuators.CaretAssign at end h l = assigning (Some arithmetic.ExclusiveOr) at end
+by_punctuator punctuators.ShiftLeftAssign at end h l = assigning (Some arithmetic.ShiftLeft) at end
+by_punctuator punctuators.ShiftRightAssign at end h l =
+    assigning (Some arithmetic.ShiftRight) at end
 by_punctuator punctuators.BarBar at end h l = between binary.LogicalOr at end
 by_punctuator punctuators.AmpersandAmpersand at end h l = between binary.LogicalAnd at end
 by_punctuator punctuators.Bar at end h l = between (binary.Arithmetic arithmetic.Or) at end
@@ -139,7 +225,8 @@ by_punctuator punctuators.Tilde at end h l = absurd (omega arith)
 by_punctuator punctuators.PlusPlus at end h l = increment increments.Increment at end
 by_punctuator punctuators.MinusMinus at end h l = increment increments.Decrement at end
 
-by_kind : (k : Kind) (at end : ℕ) → 1 ≤ kind_follows k → kind_follows k ≤ 16 → Stepped (token k at end)
+by_kind : (k : Kind) (at end : ℕ) → postfix ≤ kind_follows k → kind_follows k ≤ comma
+    → Stepped (token k at end)
 by_kind kinds.Identifier at end h l = absurd (omega arith)
 by_kind (kinds.Keyword k) at end h l = absurd (omega arith)
 by_kind (kinds.Reserved r) at end h l = absurd (omega arith)
@@ -147,10 +234,10 @@ by_kind (kinds.Integer value type) at end h l = absurd (omega arith)
 by_kind (kinds.CharacterConstant value) at end h l = absurd (omega arith)
 by_kind (kinds.Punctuator s) at end h l = by_punctuator s at end h l
 
-stepped : (t : Token) → 1 ≤ kind_follows t.kind → kind_follows t.kind ≤ 16 → Stepped t
+stepped : (t : Token) → postfix ≤ kind_follows t.kind → kind_follows t.kind ≤ comma → Stepped t
 stepped t h l = by_kind t.kind t.start t.end h l
 
-open_by : (s : Punctuator) → punctuator_follows s ≡ 0 → s ≡ punctuators.OpenParenthesis
+open_by : (s : Punctuator) → punctuator_follows s ≡ primary → s ≡ punctuators.OpenParenthesis
 open_by punctuators.OpenParenthesis h = refl
 open_by punctuators.CloseParenthesis h = absurd (omega arith)
 open_by punctuators.OpenBracket h = absurd (omega arith)
@@ -196,7 +283,7 @@ open_by punctuators.Tilde h = absurd (omega arith)
 open_by punctuators.PlusPlus h = absurd (omega arith)
 open_by punctuators.MinusMinus h = absurd (omega arith)
 
-open_kind : (k : Kind) → kind_follows k ≡ 0 → k ≡ kinds.Punctuator punctuators.OpenParenthesis
+open_kind : (k : Kind) → kind_follows k ≡ primary → k ≡ kinds.Punctuator punctuators.OpenParenthesis
 open_kind kinds.Identifier h = absurd (omega arith)
 open_kind (kinds.Keyword k) h = absurd (omega arith)
 open_kind (kinds.Reserved r) h = absurd (omega arith)
@@ -207,14 +294,24 @@ open_kind (kinds.Punctuator s) h = ap kinds.Punctuator (open_by s h)
 -- ---- where another condition continues
 
 call_by : (text : List ℕ) (k : Kind) (at end : ℕ) (u : Token) → k ≡ kinds.Identifier → u.kind ≡ kinds.Punctuator punctuators.OpenParenthesis → (e : Expression) × (height e ≡ 0) × ((ts : List Token) → SpellsExpression text e (token k at end ∷ u ∷ punctuator punctuators.CloseParenthesis ∷ ts) ts)
-call_by text kinds.Identifier at end u n o = (Call (record { start = at; end = end }) Done, refl, λ ts. (u ∷ punctuator punctuators.CloseParenthesis ∷ ts, punctuator punctuators.CloseParenthesis ∷ ts, refl, (u.start, (u.end, ap (λ (k : Kind). token k u.start u.end ∷ punctuator punctuators.CloseParenthesis ∷ ts) o)), (0, (0, refl))))
+call_by text kinds.Identifier at end u n o =
+    let close = punctuator punctuators.CloseParenthesis in
+    (Call (record { start = at; end = end }) Done, refl, λ ts. record {
+      after_name = u ∷ close ∷ ts;
+      after_opening = close ∷ ts;
+      called = refl;
+      opening = (u.start, (u.end, ap (λ (k : Kind). token k u.start u.end ∷ close ∷ ts) o));
+      arguments = (0, (0, refl));
+    })
 call_by text (kinds.Keyword k) at end u n o = absurd cc
 call_by text (kinds.Reserved r) at end u n o = absurd cc
 call_by text (kinds.Integer value type) at end u n o = absurd cc
 call_by text (kinds.CharacterConstant value) at end u n o = absurd cc
 call_by text (kinds.Punctuator s) at end u n o = absurd cc
 
-pub goes_call : (opened closed : ℕ) (a : Token) (ts : List Token) → closed < opened → opened ≤ 65 → closed ≡ 0 → a.kind ≡ kinds.Identifier → follows ts ≡ 0 → ContinuesAfter opened closed a ts
+pub goes_call : (opened closed : ℕ) (a : Token) (ts : List Token) → closed < opened → opened ≤ 65
+    → closed ≡ 0 → a.kind ≡ kinds.Identifier → follows ts ≡ primary
+    → ContinuesAfter opened closed a ts
 goes_call opened closed a [] l k z n f = absurd (omega arith)
 goes_call zero closed a (t ∷ ts) l k z n f = absurd (omega arith)
 goes_call (suc m) (suc c) a (t ∷ ts) l k z n f = absurd (omega arith)
@@ -231,15 +328,19 @@ goes_call (suc m) zero a (t ∷ ts) l k z n f = (t, ts, refl, λ text before mid
         let p : before ++ a ∷ t ∷ more ≡ before ++ a ∷ middle ++ t ∷ more = ap (λ (z : List Token). before ++ a ∷ (z ++ t ∷ more)) (sym c) ∙ sym (append_assoc before (a ∷ middle) (t ∷ more)) in
         record { more = more; has = subst (λ z. HasCondition 1 text z) p w }
 
-nested_rank : (text : List ℕ) (n : ℕ) (a : Token) (ts rest : List Token) (e : Atom text a) (x : Nested text n e.tree ts rest) → rank x.tree ≡ 0
+nested_rank : (text : List ℕ) (n : ℕ) (a : Token) (ts rest : List Token) (e : Atom text a)
+    (x : Nested text n e.tree ts rest) → rank x.tree ≡ primary
 nested_rank text zero a ts rest e x = ap rank (x.plain refl) ∙ e.rank
 nested_rank text (suc n) a ts rest e x = x.rank (omega arith)
 
-nested_closes : (text : List ℕ) (n : ℕ) (a : Token) (ts rest us : List Token) (e : Atom text a) (x : Nested text n e.tree ts rest) → (n ≡ 0 → a.kind ≡ kinds.Identifier → 0 < follows us) → Closes x.tree us
+nested_closes : (text : List ℕ) (n : ℕ) (a : Token) (ts rest us : List Token) (e : Atom text a)
+    (x : Nested text n e.tree ts rest) → (n ≡ 0 → a.kind ≡ kinds.Identifier → primary < follows us)
+    → Closes x.tree us
 nested_closes text zero a ts rest us e x f = subst (λ (z : Expression). Closes z us) (sym (x.plain refl)) (e.closes us (f refl))
 nested_closes text (suc n) a ts rest us e x f = x.closes (omega arith) us
 
-pub goes_step : (opened closed : ℕ) (a : Token) (ts : List Token) → closed < opened → opened < 65 → 1 ≤ follows ts → follows ts ≤ 16 → ContinuesAfter opened closed a ts
+pub goes_step : (opened closed : ℕ) (a : Token) (ts : List Token) → closed < opened → opened < 65
+    → postfix ≤ follows ts → follows ts ≤ comma → ContinuesAfter opened closed a ts
 goes_step opened closed a [] l k g f = absurd (omega arith)
 goes_step zero closed a (t ∷ ts) l k g f = absurd (omega arith)
 goes_step (suc m) closed a (t ∷ ts) l k g f = (t, ts, refl, λ text before middle o y c. continued text before middle o (atom text a y) c (stepped t g f))
@@ -269,10 +370,14 @@ none_after m closed n a text before middle other l o e c bound high f end h low 
     let v = a ∷ (middle ++ other) in
     let p : (before ++ a ∷ middle) ++ other ≡ before ++ v = append_assoc before (a ∷ middle) other in
     let x = opening_again (suc m) before v o in
-    let q = has_same punctuators.OpenParenthesis ((before ++ a ∷ middle) ++ other) (before ++ v) h.0 x.0 p h.2 x.1 in
+    let q = has_same punctuators.OpenParenthesis ((before ++ a ∷ middle) ++ other)
+    (before ++ v) h.after_opening x.0 p h.opening x.1 in
     let y = opening_split (m - closed) closed m x.0 v (omega arith) x.2 in
     let z = nested closed text e.tree y.0 v (middle ++ other) other y.2 (e.spells (middle ++ other)) (closing_again closed middle other c) in
-    let w = least (m - closed) n text x.0 y.0 y.1 (bound y.0 z) (λ k. opening_untyped closed y.0 v y.2 (λ i. let j = e.class in absurd (omega arith))) f h.1 end (subst (λ (u : List Token). SpellsExpression text f u h.1) q h.3.spells) h.4 in
+    let w = least (m - closed) n text x.0 y.0 y.1 (bound y.0 z)
+    (λ k. opening_untyped closed y.0 v y.2 (λ i. let j = e.class in absurd (omega arith))) f
+    h.after_inner end (subst (λ (u : List Token). SpellsExpression text f u h.after_inner) q
+    h.inner.spells) h.closing in
     let r = low (omega arith) in
     absurd (omega arith)
 
@@ -280,21 +385,32 @@ follows_first : (ts other : List Token) → SameFirst ts other → follows ts �
 follows_first ts other same = first_keeps (λ z. follows ts ≡ follows z) (λ t xs ys n. n) ts other same refl
 
 -- the operand stops
-pub stops_after : (opened closed : ℕ) (a : Token) (ts : List Token) → closed < opened → Lacks punctuators.CloseParenthesis ts → 16 < follows ts → NoneAfter opened closed a ts
+pub stops_after : (opened closed : ℕ) (a : Token) (ts : List Token) → closed < opened
+    → Lacks punctuators.CloseParenthesis ts → comma < follows ts → NoneAfter opened closed a ts
 stops_after zero closed a ts l lacks f text before middle other o y c same = absurd (omega arith)
 stops_after (suc m) closed a ts l lacks f text before middle other o y c same =
     let e = atom text a y in
     let p = follows_first ts other same in
     none_after m closed 65 a text before middle other (omega arith) o e c
     (λ us n g end r s k.
-    let u = one_expression text 16 n.tree g us other end (record { fits = rank_low n.tree; spells = n.spells }) (record { fits = rank_low g; spells = s }) (omega arith) (has_stops punctuators.CloseParenthesis end r 16 k (omega arith)) in
+    let u = one_expression text comma n.tree g us other end
+        (record { fits = rank_low n.tree; spells = n.spells })
+        (record { fits = rank_low g; spells = s }) (omega arith)
+        (has_stops punctuators.CloseParenthesis end r comma k (omega arith)) in
     absurd (lacks_first punctuators.CloseParenthesis ts other same lacks r (subst (λ (z : List Token). HasPunctuator punctuators.CloseParenthesis z r) (sym u.1) k)))
     (omega arith)
 
 -- it goes through the operand
-through : (text : List ℕ) (closed : ℕ) (a : Token) (us other : List Token) (e : Atom text a) (n : Nested text closed e.tree us other) → (closed ≡ 0 → a.kind ≡ kinds.Identifier → 0 < follows other) → follows other ≤ 16 → (g : Expression) (end r : List Token) → SpellsExpression text g us end → HasPunctuator punctuators.CloseParenthesis end r → (1 + height n.tree ≤ height g) × (1 ≤ follows other)
+through : (text : List ℕ) (closed : ℕ) (a : Token) (us other : List Token) (e : Atom text a)
+    (n : Nested text closed e.tree us other) →
+    (closed ≡ 0 → a.kind ≡ kinds.Identifier → primary < follows other) → follows other ≤ comma →
+    (g : Expression) (end r : List Token) → SpellsExpression text g us end → HasPunctuator
+    punctuators.CloseParenthesis end r → (1 + height n.tree ≤ height g) × (postfix ≤ follows other)
 through text closed a us other e n f l g end r s k =
-    let w = passes text 16 n.tree us other g end n.spells (rank_low n.tree) (nested_closes text closed a us other other e n f) l (record { fits = rank_low g; spells = s }) (has_stops punctuators.CloseParenthesis end r 16 k (omega arith)) in
+    let w = passes text comma n.tree us other g end n.spells (rank_low n.tree)
+        (nested_closes text closed a us other other e n f) l
+        (record { fits = rank_low g; spells = s })
+        (has_stops punctuators.CloseParenthesis end r comma k (omega arith)) in
     let p = step_follows text n.tree w.step other w.mid w.tail in
     let q = run_height text (apply n.tree w.step) w.steps w.mid g end w.run in
     let i = taller n.tree w.step in
@@ -317,7 +433,9 @@ through text closed a us other e n f l g end r s k =
     looser e (Set at op f) = omega arith
     looser e (And at f) = omega arith
 
-pub no_call : (opened closed : ℕ) (a : Token) (ts : List Token) → closed < opened → follows ts ≡ 0 → (closed ≡ 0 → a.kind ≡ kinds.Identifier → ⊥) → NoneAfter opened closed a ts
+pub no_call : (opened closed : ℕ) (a : Token) (ts : List Token) → closed < opened
+    → follows ts ≡ primary → (closed ≡ 0 → a.kind ≡ kinds.Identifier → ⊥)
+    → NoneAfter opened closed a ts
 no_call zero closed a ts l f bare text before middle other o y c same = absurd (omega arith)
 no_call (suc m) closed a ts l f bare text before middle other o y c same =
     let e = atom text a y in
@@ -326,7 +444,8 @@ no_call (suc m) closed a ts l f bare text before middle other o y c same =
     (λ us n g end r s k. let w = through text closed a us other e n (λ z i. absurd (bare z i)) (omega arith) g end r s k in absurd (omega (arith, w.1)))
     (omega arith)
 
-pub deep_after : (opened closed : ℕ) (a : Token) (ts : List Token) → closed < opened → 65 ≤ opened → 1 ≤ follows ts → follows ts ≤ 16 → NoneAfter opened closed a ts
+pub deep_after : (opened closed : ℕ) (a : Token) (ts : List Token) → closed < opened → 65 ≤ opened
+    → postfix ≤ follows ts → follows ts ≤ comma → NoneAfter opened closed a ts
 deep_after zero closed a ts l k f g text before middle other o y c same = absurd (omega arith)
 deep_after (suc m) closed a ts l k f g text before middle other o y c same =
     let e = atom text a y in

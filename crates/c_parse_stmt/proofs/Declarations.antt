@@ -16,9 +16,10 @@ use Rattle.c_syntax.proofs.Blocks.{local as one_local, locals_stop}
 use Rattle.c_syntax.proofs.Failing.{alike_inner, alike_same}
 use Rattle.c_syntax.proofs.Fronts.{punctuator_same, has_same}
 use Rattle.c_syntax.proofs.Moves.{both, has_punctuator}
+use Rattle.c_syntax.proofs.MovesStatements.{local as local_moves}
 use Rattle.c_parse_stmt.specs.Parts.{NoPunctuator, APunctuator, NoLocal, HasLocal, LocalsWithin, NoMoreLocals, NoLocals, HasLocals}
 use Rattle.c_parse_stmt.proofs.Begins.{punctuator, name}
-use Rattle.c_parse_stmt.proofs.Declarators.{plain, local_moves, has_first}
+use Rattle.c_parse_stmt.proofs.Declarators.{plain, has_first}
 use Rattle.c_parse_stmt.proofs.Ends.{flat, stops_first, same_after}
 use Rattle.c_parse_stmt.proofs.Placing.{Lacks, lacks_first}
 
@@ -86,9 +87,11 @@ other_punctuator s z ts rest end h g = (punctuator_same s z h.0 g.0 ts ts rest e
 next_back : (text : List ℕ) (room left more n : ℕ) (rest b after : List Token) (x : Local) → HasPunctuator punctuators.Comma rest b → IsLocal text x b after → Stops 15 after → more + 1 ≡ left → NoMoreLocals room more n text after → NoMoreLocals room left n text rest
 next_back text room left more n rest b after x c is st e none [] end h w = let e : punctuators.Comma ≡ punctuators.Semicolon = other_punctuator punctuators.Comma punctuators.Semicolon rest b end c h in cc
 next_back text room left more n rest b after x c is st e none (l ∷ ls) end h w =
-    let p = has_same punctuators.Comma rest rest b h.0 refl c h.2 in
-    let u = one_local text x l b h.0 after h.1 p st (locals_stop text ls h.1 end h.4) is h.3 in
-    none ls end (subst (λ (z : List Token). AreMoreLocals text ls z end) (sym u.1) h.4) (less n room left more l ls e w)
+    let p = has_same punctuators.Comma rest rest b h.after_comma refl c h.comma in
+    let u = one_local text x l b h.after_comma after h.after_element p st
+    (locals_stop text ls h.after_element end h.others) is h.element in
+    none ls end (subst (λ (z : List Token). AreMoreLocals text ls z end) (sym u.1) h.others)
+    (less n room left more l ls e w)
 
 pub continues : (text : List ℕ) (room whole left more : ℕ) (ts rest b after : List Token) (found : List Local') (x : Local') → Begun text room whole ts found rest left → HasPunctuator punctuators.Comma rest b → IsLocal text (local x) b after → Stops 15 after → height_of (local x).initialiser ≤ 64 → one_over (local x).initialiser ≤ room → more + 1 ≡ left → Begun text room whole ts (found ++ x ∷ []) after more
 continues text room whole left more ts rest b after found x d c is st low over e =
@@ -98,7 +101,13 @@ continues text room whole left more ts rest b after found x d c is st low over e
       split = d.split ∙ ap (λ z. d.before ++ z) m.split ∙ sym (append_assoc d.before m.front after);
       forward = λ text' other a ls end h.
           let g = m.again text' other (alike_inner text text' d.before rest ts d.split a) in
-          let f = d.forward text' (m.front ++ other) a (local x ∷ ls) end (g.0, other, g.1, g.2, h) in
+          let f = d.forward text' (m.front ++ other) a (local x ∷ ls) end (record {
+            after_comma = g.0;
+            after_element = other;
+            comma = g.1;
+            element = g.2;
+            others = h;
+          }) in
           subst (λ (z : List Local). AreLocals text' z (d.before ++ m.front ++ other) end) (sym (map_snoc found x ls)) (subst (λ (z : List Token). AreLocals text' (map local found ++ local x ∷ ls) z end) (sym (append_assoc d.before m.front other)) f);
       expressions = subst (λ (z : List Local). height_of_locals z ≤ 64) (sym (map_more found x)) (height_more 64 (map local found) (local x) d.expressions low);
       statements = subst (λ (z : List Local). one_over_locals z ≤ room) (sym (map_more found x)) (over_more room (map local found) (local x) d.statements over);
@@ -142,7 +151,25 @@ full text room whole ts rest b found d c = record {
     is = c.1.1;
     has = record {
       trees = map local found ++ plain ∷ [];
-      are = λ other. subst (λ (z : List Token). AreLocals text' (map local found ++ plain ∷ []) z other) (sym (append_assoc d.before (token (kinds.Punctuator punctuators.Comma) c.0 c.1.0 ∷ name ∷ punctuator punctuators.Semicolon ∷ []) other)) (d.forward text' (token (kinds.Punctuator punctuators.Comma) c.0 c.1.0 ∷ name ∷ punctuator punctuators.Semicolon ∷ other) a (plain ∷ []) other (_, punctuator punctuators.Semicolon ∷ other, (c.0, (c.1.0, refl)), (_, _, refl, refl, refl), (0, (0, refl))));
+      are =
+          λ other. subst (λ (z : List Token). AreLocals text'
+          (map local found ++ plain ∷ []) z other)
+          (sym (append_assoc d.before (token (kinds.Punctuator punctuators.Comma) c.0 c.1.0
+          ∷ name ∷ punctuator punctuators.Semicolon ∷ []) other))
+          (d.forward text' (token (kinds.Punctuator punctuators.Comma) c.0 c.1.0
+          ∷ name ∷ punctuator punctuators.Semicolon ∷ other) a (plain ∷ []) other (record {
+            after_comma = _;
+            after_element = punctuator punctuators.Semicolon ∷ other;
+            comma = (c.0, (c.1.0, refl));
+            element = record {
+              after_stars = _;
+              after_name = _;
+              stars = refl;
+              name = refl;
+              initialiser = refl;
+            };
+            others = (0, (0, refl));
+          }));
       within = record {
         expressions = λ k. height_more 64 (map local found) plain d.expressions (omega arith);
         statements = λ k. over_more room (map local found) plain d.statements (omega arith);
@@ -159,8 +186,10 @@ full text room whole ts rest b found d c = record {
 next_none : (text : List ℕ) (room left n : ℕ) (rest b : List Token) → HasPunctuator punctuators.Comma rest b → NoLocal room n text b → NoMoreLocals room left n text rest
 next_none text room left n rest b c none [] end h w = let e : punctuators.Comma ≡ punctuators.Semicolon = other_punctuator punctuators.Comma punctuators.Semicolon rest b end c h in cc
 next_none text room left n rest b c none (l ∷ ls) end h w =
-    let p = has_same punctuators.Comma rest rest h.0 b refl h.2 c in
-    none l h.1 (subst (λ (z : List Token). IsLocal text l z h.1) p h.3) (locals_stop text ls h.1 end h.4) (λ k. let e = w.expressions k in omega arith) (λ k. let e = w.statements k in omega arith)
+    let p = has_same punctuators.Comma rest rest h.after_comma b refl h.comma c in
+    none l h.after_element (subst (λ (z : List Token). IsLocal text l z h.after_element) p
+    h.element) (locals_stop text ls h.after_element end h.others)
+    (λ k. let e = w.expressions k in omega arith) (λ k. let e = w.statements k in omega arith)
 
 pub no_next : (text : List ℕ) (room whole left : ℕ) (ts rest b : List Token) (found : List Local') → Begun text room whole ts found rest left → HasPunctuator punctuators.Comma rest b → 1 ≤ left → Wraps (NoLocal room) (HasLocal room) (NoLocals room whole) (HasLocals room whole) text b ts
 no_next text room whole left ts rest b found d c some =
@@ -191,7 +220,7 @@ no_next text room whole left ts rest b found d c some =
 
 unended_at : (text : List ℕ) (room left n : ℕ) (rest : List Token) → Lacks punctuators.Comma rest → Lacks punctuators.Semicolon rest → NoMoreLocals room left n text rest
 unended_at text room left n rest c s [] end h w = s end h
-unended_at text room left n rest c s (l ∷ ls) end h w = c h.0 h.2
+unended_at text room left n rest c s (l ∷ ls) end h w = c h.after_comma h.comma
 
 pub unended : (text : List ℕ) (room whole left : ℕ) (ts rest : List Token) (found : List Local') → Begun text room whole ts found rest left → Lacks punctuators.Comma rest → Wraps (NoPunctuator punctuators.Semicolon) (APunctuator punctuators.Semicolon) (NoLocals room whole) (HasLocals room whole) text rest ts
 unended text room whole left ts rest found d lacks = record {

@@ -28,13 +28,6 @@ use Rattle.c_parse_stmt.proofs.Placing.{Lacks, lacks_first, has_elsewhere, missi
 
 -- ---- initialisers
 
-initialiser_moves : (e : Option Expression) (text : List ℕ) (ts rest : List Token) → IsInitialiser text e ts rest → Moves (λ t. IsInitialiser t e) text ts rest
-initialiser_moves None text ts rest h = nothing text ts rest h
-initialiser_moves (Some e) text ts rest h = map (both (has_punctuator punctuators.Assign text ts h.0 h.1) (derives 15 e text h.0 rest h.2)) (λ t us vs g. (g.0, g.1, g.2))
-
-pub local_moves : (l : Local) (text : List ℕ) (ts rest : List Token) → IsLocal text l ts rest → Moves (λ t. IsLocal t l) text ts rest
-local_moves l text ts rest h = map (both (stars l.pointers text ts h.0 h.2) (both (name l.name text h.0 h.1 h.3) (initialiser_moves l.initialiser text h.1 rest h.4))) (λ t us vs g. (g.0, g.2.0, g.1, g.2.1, g.2.2))
-
 assigned : (ts value rest : List Token) → HasPunctuator punctuators.Assign ts value → ts ≡ rest → Stops 15 rest → ⊥
 assigned ts value rest h e s =
     let f = follows_punctuator punctuators.Assign h.0 ts value 15 h.1 refl in
@@ -116,14 +109,27 @@ in_local text room n named ts d b s m =
       split = w.split;
       no = λ k text' other a same none l end h st low over.
           let g = w.again text' other a in
-          let p = stars_once n l.pointers (w.front ++ other) (w.front ++ other) g.0 h.0 refl (name_star named g.0 other g.2) (name_star l.name h.0 h.1 h.3) g.1 h.2 in
-          let q = name_same named l.name g.0 h.0 other h.1 p.1 g.2 h.3 in
-          none l.initialiser end (subst (λ (x : List Token). IsInitialiser text' l.initialiser x end) (sym q.1) h.4) st low over;
+          let p = stars_once n l.pointers (w.front ++ other)
+          (w.front ++ other) g.0 h.after_stars refl (name_star named g.0 other g.2)
+          (name_star l.name h.after_stars h.after_name h.name) g.1 h.stars in
+          let q = name_same named l.name g.0 h.after_stars other h.after_name p.1 g.2 h.name in
+          none l.initialiser end (subst (λ (x : List Token). IsInitialiser text' l.initialiser x
+          end) (sym q.1) h.initialiser) st low over;
       has = λ k text' inner a speaks x. record {
         more = [];
         has = record {
           tree = record { pointers = n; name = named; initialiser = x.tree };
-          is = λ other. let g = w.again text' (inner ++ other) a in subst (λ (z : List Token). IsLocal text' (record { pointers = n; name = named; initialiser = x.tree }) z other) (sym (flat w.front inner [] other)) (g.0, inner ++ other, g.1, g.2, x.is other);
+          is = λ other.
+              let g = w.again text' (inner ++ other) a in
+              subst (λ (z : List Token). IsLocal text'
+              (record { pointers = n; name = named; initialiser = x.tree }) z other)
+              (sym (flat w.front inner [] other)) (record {
+                after_stars = g.0;
+                after_name = inner ++ other;
+                stars = g.1;
+                name = g.2;
+                initialiser = x.is other;
+              });
           low = x.low;
           over = x.over;
         };
@@ -143,13 +149,25 @@ no_name text room n ts d s z none =
     let w = stars n text ts d s in
     missing (NoLocal room) (HasLocal room) text ts w.front d w.split
     (λ text' other a same l end h st low over.
-    let p = stars_once n l.pointers (w.front ++ other) (w.front ++ other) other h.0 refl (lacks_first punctuators.Star d other same z) (name_star l.name h.0 h.1 h.3) (w.again text' other a) h.2 in
-    first_keeps NoIdentifier named_elsewhere d other same none l.name h.1 (subst (λ (x : List Token). IsIdentifier l.name x h.1) (sym p.1) h.3))
+    let p = stars_once n l.pointers (w.front ++ other) (w.front ++ other) other h.after_stars refl
+    (lacks_first punctuators.Star d other same z)
+    (name_star l.name h.after_stars h.after_name h.name) (w.again text' other a) h.stars in
+    first_keeps NoIdentifier named_elsewhere d other same none l.name h.after_name
+    (subst (λ (x : List Token). IsIdentifier l.name x h.after_name) (sym p.1) h.name))
     (λ text' a k. record {
       more = begins.name ∷ [];
       has = record {
         tree = record { pointers = n; name = a_name; initialiser = None };
-        is = λ other. subst (λ (z : List Token). IsLocal text' (record { pointers = n; name = a_name; initialiser = None }) z other) (sym (append_assoc w.front (begins.name ∷ []) other)) (begins.name ∷ other, other, w.again text' (begins.name ∷ other) a, refl, refl);
+        is =
+            λ other. subst (λ (z : List Token). IsLocal text'
+            (record { pointers = n; name = a_name; initialiser = None }) z other)
+            (sym (append_assoc w.front (begins.name ∷ []) other)) (record {
+              after_stars = begins.name ∷ other;
+              after_name = other;
+              stars = w.again text' (begins.name ∷ other) a;
+              name = refl;
+              initialiser = refl;
+            });
         low = λ k. omega arith;
         over = λ k. omega arith;
       };

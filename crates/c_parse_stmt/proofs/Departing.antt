@@ -49,9 +49,19 @@ shape text (Variable named) ts rest y s = record { n = 0; high = refl; mid = ts;
 shape text (Information at field) ts rest y s = absurd cc
 shape text (Call named es) ts rest y s = absurd cc
 shape text (Parentheses at e) ts rest y s =
-    let x = shape text e s.0 s.1 y s.3 in
+    let x = shape text e s.after_opening s.after_inner y s.inner in
     let h = x.high in
-    record { n = suc x.n; high = omega arith; mid = x.mid; opening = (s.0, (at, s.2), x.opening); atom = x.atom; following = x.following; is = x.is; yes = x.yes; closing = (s.1, x.closing, s.4) }
+    record {
+      n = suc x.n;
+      high = omega arith;
+      mid = x.mid;
+      opening = (s.after_opening, (at, s.opening), x.opening);
+      atom = x.atom;
+      following = x.following;
+      is = x.is;
+      yes = x.yes;
+      closing = (s.after_inner, x.closing, s.closing);
+    }
 shape text (Index a at i) ts rest y s = absurd cc
 shape text (Postfix e op at) ts rest y s = absurd cc
 shape text (Prefix at op e) ts rest y s = absurd cc
@@ -92,8 +102,23 @@ unopened_at : (text : List ℕ) (ts : List Token) → Lacks punctuators.OpenPare
 unopened_at text ts lacks = record {
   front = [];
   split = refl;
-  able = λ text' a k. record { more = punctuator punctuators.OpenParenthesis ∷ one ∷ punctuator punctuators.CloseParenthesis ∷ []; has = has_filter text' (punctuator punctuators.OpenParenthesis ∷ one ∷ punctuator punctuators.CloseParenthesis ∷ []) (Constant 0 (literals.Integer 1 integers.Int)) (_, _, (0, (0, refl)), record { fits = omega arith; spells = (0, refl) }, (0, (0, refl))) (omega arith) refl };
-  none = λ text' other a same e end h low. lacks_first punctuators.OpenParenthesis ts other same lacks h.0 h.2;
+  able = λ text' a k. record {
+    more =
+        punctuator punctuators.OpenParenthesis ∷ one ∷ punctuator punctuators.CloseParenthesis ∷ [];
+    has =
+        has_filter text' (punctuator punctuators.OpenParenthesis
+        ∷ one ∷ punctuator punctuators.CloseParenthesis ∷ [])
+        (Constant 0 (literals.Integer 1 integers.Int)) (record {
+          after_opening = _;
+          after_inner = _;
+          opening = (0, (0, refl));
+          inner = record { fits = omega arith; spells = (0, refl) };
+          closing = (0, (0, refl));
+        }) (omega arith) refl;
+  };
+  none =
+      λ text' other a same e end h low. lacks_first punctuators.OpenParenthesis ts other same lacks
+      h.after_opening h.opening;
 }
 
 pub unopened : (n : ℕ) (text : List ℕ) (ts rest : List Token) → n ≡ 0 → AreOpening n ts rest → (n < 65 → Lacks punctuators.OpenParenthesis rest) → Departs text ts rest
@@ -133,10 +158,12 @@ refuses_first text text' (u ∷ us) other a same no_one t rest e y =
 none_accepts : (n : ℕ) (text : List ℕ) (ts rest : List Token) → n ≤ 65 → AreOpening n ts rest → (n < 65 → Lacks punctuators.OpenParenthesis rest) → Refuses text rest → NoFilter 0 6 text ts
 none_accepts n text ts rest k h lacks no_one f end c low count =
     let y = accepted (accepts text f) (count (omega arith)) in
-    let x = shape text f c.0 c.1 y c.3.spells in
+    let x = shape text f c.after_opening c.after_inner y c.inner.spells in
     let l = low (omega arith) in
     let w = x.high in
-    let q = opening_once 65 (suc x.n) n ts ts x.mid rest refl (c.0, c.2, x.opening) h (atom_lacks text x.atom x.mid x.following x.yes x.is) lacks (omega arith) k in
+    let q = opening_once 65 (suc x.n) n ts ts x.mid rest refl
+    (c.after_opening, c.opening, x.opening) h
+    (atom_lacks text x.atom x.mid x.following x.yes x.is) lacks (omega arith) k in
     no_one x.atom x.following (sym q.1 ∙ x.is) x.yes
 
 pub goes_on_inside : (n : ℕ) (text : List ℕ) (ts rest : List Token) → 1 ≤ n → n ≤ 65 → AreOpening n ts rest → (n < 65 → Lacks punctuators.OpenParenthesis rest) → Refuses text rest → ContinuesInside n rest → Failed 6 (place text rest) (NoFilter 0) (HasFilter 0) text ts
@@ -181,13 +208,16 @@ able_after (suc n) c text t before middle l k h y g =
 none_closes : (n c : ℕ) (text : List ℕ) (t : Token) (ts mid following rest : List Token) → c < n → n ≤ 65 → AreOpening n ts mid → mid ≡ t ∷ following → accepts_alone text t ≡ true → AreClosing c following rest → Lacks punctuators.CloseParenthesis rest → NoFilter 0 6 text ts
 none_closes n c text t ts mid following rest l k h is good g lacks f end d low count =
     let y = accepted (accepts text f) (count (omega arith)) in
-    let x = shape text f d.0 d.1 y d.3.spells in
+    let x = shape text f d.after_opening d.after_inner y d.inner.spells in
     let i = low (omega arith) in
     let w = x.high in
-    let q = opening_once 65 (suc x.n) n ts ts x.mid mid refl (d.0, d.2, x.opening) h (atom_lacks text x.atom x.mid x.following x.yes x.is) (λ j. atom_lacks text t mid following good is) (omega arith) k in
+    let q = opening_once 65 (suc x.n) n ts ts x.mid mid refl
+    (d.after_opening, d.opening, x.opening) h (atom_lacks text x.atom x.mid x.following x.yes x.is)
+    (λ j. atom_lacks text t mid following good is) (omega arith) k in
     let p : t ∷ following ≡ x.atom ∷ x.following = sym is ∙ sym q.1 ∙ x.is in
     let r : following ≡ x.following = cc in
-    closing_next c (suc x.n) following x.following rest end r g (d.1, x.closing, d.4) (let s = q.0 in omega arith) lacks
+    closing_next c (suc x.n) following x.following rest end r g
+    (d.after_inner, x.closing, d.closing) (let s = q.0 in omega arith) lacks
 
 -- the parts of what was read
 record Parts (n c : ℕ) (t : Token) (text : List ℕ) (ts rest : List Token) : Type 0 where

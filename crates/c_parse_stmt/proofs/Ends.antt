@@ -35,12 +35,22 @@ pub unopened : (text : List ℕ) (ts : List Token) → Wraps (NoPunctuator punct
 unopened text ts = record {
   before = [];
   split = refl;
-  no = λ n text' other a same none e end h low. none h.0 h.2;
+  no = λ n text' other a same none e end h low. none h.after_opening h.opening;
   has = λ n text' inner a speaks h. record {
     more = name ∷ punctuator punctuators.CloseParenthesis ∷ [];
     has = record {
       tree = variable;
-      is = λ other. (name ∷ punctuator punctuators.CloseParenthesis ∷ other, punctuator punctuators.CloseParenthesis ∷ other, subst (λ (z : List Token). HasPunctuator punctuators.OpenParenthesis z (name ∷ punctuator punctuators.CloseParenthesis ∷ other)) (sym (append_assoc inner (name ∷ punctuator punctuators.CloseParenthesis ∷ []) other)) (h (name ∷ punctuator punctuators.CloseParenthesis ∷ other)), record { fits = omega arith; spells = refl }, (0, (0, refl)));
+      is = λ other. record {
+        after_opening = name ∷ punctuator punctuators.CloseParenthesis ∷ other;
+        after_inner = punctuator punctuators.CloseParenthesis ∷ other;
+        opening =
+            subst (λ (z : List Token). HasPunctuator punctuators.OpenParenthesis z
+            (name ∷ punctuator punctuators.CloseParenthesis ∷ other))
+            (sym (append_assoc inner (name ∷ punctuator punctuators.CloseParenthesis ∷ []) other))
+            (h (name ∷ punctuator punctuators.CloseParenthesis ∷ other));
+        inner = record { fits = omega arith; spells = refl };
+        closing = (0, (0, refl));
+      };
       low = λ k. omega arith;
     };
   };
@@ -53,13 +63,25 @@ in_condition text ts a o =
       before = m.front;
       split = m.split;
       no = λ n text' other k same none e end h low.
-          let p = has_same punctuators.OpenParenthesis (m.front ++ other) (m.front ++ other) h.0 other refl h.2 (m.again text' other k) in
-          none e h.1 (subst (λ (x : List Token). Derives text' 16 e x h.1) p h.3) (has_stops punctuators.CloseParenthesis h.1 end 16 h.4 (omega arith)) low;
+          let p = has_same punctuators.OpenParenthesis (m.front ++ other)
+          (m.front ++ other) h.after_opening other refl h.opening (m.again text' other k) in
+          none e h.after_inner (subst (λ (x : List Token). Derives text' 16 e x h.after_inner) p
+          h.inner) (has_stops punctuators.CloseParenthesis h.after_inner end 16 h.closing
+          (omega arith)) low;
       has = λ n text' inner k speaks h. record {
         more = punctuator punctuators.CloseParenthesis ∷ [];
         has = record {
           tree = h.tree;
-          is = λ other. subst (λ (z : List Token). IsCondition text' h.tree z other) (sym (flat m.front inner (punctuator punctuators.CloseParenthesis ∷ []) other)) (inner ++ punctuator punctuators.CloseParenthesis ∷ other, punctuator punctuators.CloseParenthesis ∷ other, m.again text' (inner ++ punctuator punctuators.CloseParenthesis ∷ other) k, h.derives (punctuator punctuators.CloseParenthesis ∷ other), (0, (0, refl)));
+          is =
+              λ other. subst (λ (z : List Token). IsCondition text' h.tree z other)
+              (sym (flat m.front inner (punctuator punctuators.CloseParenthesis ∷ []) other))
+              (record {
+                after_opening = inner ++ punctuator punctuators.CloseParenthesis ∷ other;
+                after_inner = punctuator punctuators.CloseParenthesis ∷ other;
+                opening = m.again text' (inner ++ punctuator punctuators.CloseParenthesis ∷ other) k;
+                inner = h.derives (punctuator punctuators.CloseParenthesis ∷ other);
+                closing = (0, (0, refl));
+              });
           low = h.low;
         };
       };
@@ -67,10 +89,13 @@ in_condition text ts a o =
 
 unclosed_at : (text : List ℕ) (e : Expression) (ts a b : List Token) (n : ℕ) → HasPunctuator punctuators.OpenParenthesis ts a → Derives text 16 e a b → Stops 16 b → Lacks punctuators.CloseParenthesis b → NoCondition n text ts
 unclosed_at text e ts a b n o d s none f end h low =
-    let p = has_same punctuators.OpenParenthesis ts ts h.0 a refl h.2 o in
-    let k : Derives text 16 f a h.1 = subst (λ (x : List Token). Derives text 16 f x h.1) p h.3 in
-    let u = one_expression text 16 e f a b h.1 d k s (has_stops punctuators.CloseParenthesis h.1 end 16 h.4 (omega arith)) in
-    none end (subst (λ (x : List Token). HasPunctuator punctuators.CloseParenthesis x end) (sym u.1) h.4)
+    let p = has_same punctuators.OpenParenthesis ts ts h.after_opening a refl h.opening o in
+    let k : Derives text 16 f a h.after_inner = subst (λ (x : List Token). Derives text 16 f x
+    h.after_inner) p h.inner in
+    let u = one_expression text 16 e f a b h.after_inner d k s
+    (has_stops punctuators.CloseParenthesis h.after_inner end 16 h.closing (omega arith)) in
+    none end (subst (λ (x : List Token). HasPunctuator punctuators.CloseParenthesis x end)
+    (sym u.1) h.closing)
 
 pub unclosed : (text : List ℕ) (e : Expression) (ts a b : List Token) → HasPunctuator punctuators.OpenParenthesis ts a → Derives text 16 e a b → Stops 16 b → height e ≤ 64 → Wraps (NoPunctuator punctuators.CloseParenthesis) (APunctuator punctuators.CloseParenthesis) NoCondition HasCondition text b ts
 unclosed text e ts a b o d s low =
@@ -83,7 +108,16 @@ unclosed text e ts a b o d s low =
         more = [];
         has = record {
           tree = e;
-          is = λ other. let g = m.again text' (inner ++ other) k in subst (λ (z : List Token). IsCondition text' e z other) (sym (flat m.front inner [] other)) (g.0, inner ++ other, g.1, g.2, h other);
+          is = λ other.
+              let g = m.again text' (inner ++ other) k in
+              subst (λ (z : List Token). IsCondition text' e z other)
+              (sym (flat m.front inner [] other)) (record {
+                after_opening = g.0;
+                after_inner = inner ++ other;
+                opening = g.1;
+                inner = g.2;
+                closing = h other;
+              });
           low = λ k. low;
         };
       };

@@ -7,9 +7,10 @@ use Rattle.c_lex.specs.declared.token.Token.{Token}
 use Rattle.c_syntax.specs.Expression.{Expression, expression, height}
 use Rattle.c_syntax.specs.Faults.{Alike, place, Able, Failed, Wraps}
 use Rattle.c_syntax.specs.Limits.{statements_over_all, accepts, numbered, funclets_of_all}
+use Rattle.c_syntax.specs.Phrases.{InTurn}
 use Rattle.c_syntax.specs.Statement.{Statement, Declare, Block, Evaluate, If, IfElse, While, DoWhile, For, Return, Break, Continue, Leave, TryExcept, TryFinally, Statements, Empty, Then}
 use Rattle.c_syntax.specs.Statements.{IsCondition, IsBlockItem, AreBlockItems}
-use Rattle.c_syntax.specs.Tokens.{token, IsKeyword, HasPunctuator, HasKeyword}
+use Rattle.c_syntax.specs.Tokens.{Phrase, token, IsKeyword, HasPunctuator, HasKeyword}
 use Rattle.c_syntax.proofs.Failing.{alike_inner}
 use Rattle.c_syntax.proofs.Firsts.{no_keyword}
 use Rattle.c_syntax.proofs.Moves.{Moves, has_punctuator, has_keyword}
@@ -38,17 +39,40 @@ Items ss text = AreBlockItems text ss
 abbrev pub Guard : Statements → List ℕ → List Token → List Token → Type 0
 Guard body = Both Tries (Items body)
 
-abbrev pub Except : ℕ → Expression → Statements → List ℕ → List Token → List Token → Type 0
-Except at f last text ts rest = (a : List Token) × (b : List Token) × (c : List Token) × IsKeyword keywords.Except at ts a × IsCondition text f a b × HasPunctuator punctuators.OpenBrace b c × AreBlockItems text last c rest
+pub record Except (at : ℕ) (f : Expression) (last : Statements) (text : List ℕ)
+    (ts rest : List Token) : Type 0 where
+  pub after_keyword : List Token
+  pub after_filter : List Token
+  pub keyword : IsKeyword keywords.Except at ts after_keyword
+  pub filter : IsCondition text f after_keyword after_filter
+  pub handler : IsBraced text last after_filter rest
 
-abbrev pub Finally : ℕ → Statements → List ℕ → List Token → List Token → Type 0
-Finally at last text ts rest = (a : List Token) × (b : List Token) × IsKeyword keywords.Finally at ts a × HasPunctuator punctuators.OpenBrace a b × AreBlockItems text last b rest
+abbrev pub Finally : ℕ → Statements → List ℕ → Phrase
+Finally at last text = InTurn (IsKeyword keywords.Finally at) (IsBraced text last)
 
 pub excepted : (body last : Statements) (at : ℕ) (f : Expression) (text : List ℕ) (ts rest : List Token) → Both (Guard body) (Except at f last) text ts rest → IsBlockItem text (TryExcept body at f last) ts rest
-excepted body last at f text ts rest x = let t = x.first.first in let y = x.second in (t.0, x.first.mid, x.mid, y.0, y.1, y.2, t.1, t.2, x.first.second, y.3, y.4, y.5, y.6)
+excepted body last at f text ts rest x = record {
+  after_try = x.first.first.0;
+  after_body = x.mid;
+  after_except = x.second.after_keyword;
+  after_filter = x.second.after_filter;
+  try_keyword = x.first.first.1;
+  body = record { after_brace = x.first.mid; brace = x.first.first.2; items = x.first.second };
+  keyword = x.second.keyword;
+  filter = x.second.filter;
+  handler = x.second.handler;
+}
 
 pub finished : (body last : Statements) (at : ℕ) (text : List ℕ) (ts rest : List Token) → Both (Guard body) (Finally at last) text ts rest → IsBlockItem text (TryFinally body at last) ts rest
-finished body last at text ts rest x = let t = x.first.first in let y = x.second in (t.0, x.first.mid, x.mid, y.0, y.1, t.1, t.2, x.first.second, y.2, y.3, y.4)
+finished body last at text ts rest x = record {
+  after_try = x.first.first.0;
+  after_body = x.mid;
+  after_finally = x.second.0;
+  try_keyword = x.first.first.1;
+  body = record { after_brace = x.first.mid; brace = x.first.first.2; items = x.first.second };
+  keyword = x.second.1;
+  last = x.second.2;
+}
 
 pub try_moves : (text : List ℕ) (ts rest : List Token) → IsTry ts rest → Moves Tries text ts rest
 try_moves text ts rest t =
@@ -87,6 +111,17 @@ still text (suc room) left after body h t = omega arith
 
 -- ---- what always ends it
 
+-- `{}`
+abbrev pub Braces : List ℕ → Phrase
+Braces text = IsBraced text Empty
+
+is_braces : (text : List ℕ) → Fixed Braces text braces
+is_braces text other = record {
+  after_brace = punctuator punctuators.CloseBrace ∷ other;
+  brace = a_punctuator punctuators.OpenBrace (punctuator punctuators.CloseBrace ∷ other);
+  items = a_punctuator punctuators.CloseBrace other;
+}
+
 -- `(1) {}`
 abbrev pub unit_braces : List Token
 unit_braces = in_parentheses ++ braces
@@ -95,17 +130,16 @@ abbrev pub except : List Token
 except = word keywords.Except ∷ unit_braces
 
 pub is_except : (text : List ℕ) (at end : ℕ) → Fixed (Except at unit Empty) text (token (kinds.Keyword keywords.Except) at end ∷ unit_braces)
-is_except text at end other = (in_parentheses ++ braces ++ other, braces ++ other, punctuator punctuators.CloseBrace ∷ other, (end, refl), is_unit text (braces ++ other), a_punctuator punctuators.OpenBrace (punctuator punctuators.CloseBrace ∷ other), a_punctuator punctuators.CloseBrace other)
+is_except text at end other = record {
+  after_keyword = in_parentheses ++ braces ++ other;
+  after_filter = braces ++ other;
+  keyword = (end, refl);
+  filter = is_unit text (braces ++ other);
+  handler = is_braces text other;
+}
 
 pub is_finally : (text : List ℕ) (at end : ℕ) → Fixed (Finally at Empty) text (token (kinds.Keyword keywords.Finally) at end ∷ braces)
-is_finally text at end other = (braces ++ other, punctuator punctuators.CloseBrace ∷ other, (end, refl), a_punctuator punctuators.OpenBrace (punctuator punctuators.CloseBrace ∷ other), a_punctuator punctuators.CloseBrace other)
-
--- `{}`
-abbrev pub Braces : List ℕ → List Token → List Token → Type 0
-Braces text ts rest = (a : List Token) × HasPunctuator punctuators.OpenBrace ts a × AreBlockItems text Empty a rest
-
-is_braces : (text : List ℕ) → Fixed Braces text braces
-is_braces text other = (punctuator punctuators.CloseBrace ∷ other, a_punctuator punctuators.OpenBrace (punctuator punctuators.CloseBrace ∷ other), a_punctuator punctuators.CloseBrace other)
+is_finally text at end other = (braces ++ other, (end, refl), is_braces text other)
 
 -- `}`
 abbrev pub brace : List Token
@@ -147,7 +181,7 @@ guard_able (suc room) left n text body front h w r = record {
 -- ---- the first block
 
 no_open : (room : ℕ) (left : Left) (n : ℕ) (text : List ℕ) (ts : List Token) → NoPunctuator punctuators.OpenBrace n text ts → NoneBraced room left n text ts
-no_open room left n text ts none ss end h w = none h.0 h.1
+no_open room left n text ts none ss end h w = none h.after_brace h.brace
 
 pub try_open : (room at : ℕ) (left : Left) (text : List ℕ) (ts a : List Token) → 1 ≤ room + left.funclets → IsKeyword keywords.Try at ts a → Wraps (NoPunctuator punctuators.OpenBrace) (APunctuator punctuators.OpenBrace) (NoStatement room left) (HasStatement room left) text a ts
 try_open room at left text ts a o k =
@@ -183,7 +217,7 @@ all_within n room whole left body text t =
     record { statements = λ i. t.statements; expressions = λ i. t.expressions; locals = λ i. omega arith; funclets = λ i. omega arith }
 
 braced : (body : Statements) (text : List ℕ) (ts rest : List Token) (r : Guard body text ts rest) → IsBraced text body r.first.0 rest
-braced body text ts rest r = (r.mid, r.first.2, r.second)
+braced body text ts rest r = record { after_brace = r.mid; brace = r.first.2; items = r.second }
 
 guard_stays : (n room : ℕ) (whole left : Left) (body : Statements) (text text' : List ℕ) (ts rest front : List Token) → Alike text text' ts → Guards text room whole left body ts rest → Fixed (Guard body) text' front → Able (HasStatement room whole) n text' front
 guard_stays n room whole left body text text' ts rest front h g r = guard_able room whole n text' body front g.some (all_within n room whole left body text' (taken_moved room whole left body text text' ts rest h g)) r
@@ -257,7 +291,17 @@ filter_moved room at whole left next body f text text' ts rest j c h g k is fu =
     subst (λ (x : Bool). next.funclets + numbers_of x ≡ left.funclets) (sym e) fu
 
 filtered : (body : Statements) (at : ℕ) (f : Expression) (last : Statements) (text : List ℕ) (ts rest c : List Token) (w : Filtering body at f text ts rest) (end : List Token) → HasPunctuator punctuators.OpenBrace rest c → AreBlockItems text last c end → IsBlockItem text (TryExcept body at f last) ts end
-filtered body at f last text ts rest c w end o i = excepted body last at f text ts end (record { mid = w.first.mid; first = w.first.first; second = (w.mid, rest, c, w.first.second, w.second, o, i) })
+filtered body at f last text ts rest c w end o i = excepted body last at f text ts end (record {
+  mid = w.first.mid;
+  first = w.first.first;
+  second = record {
+    after_keyword = w.mid;
+    after_filter = rest;
+    keyword = w.first.second;
+    filter = w.second;
+    handler = record { after_brace = c; brace = o; items = i };
+  };
+})
 
 pub filter_fails : (room at : ℕ) (whole left : Left) (body : Statements) (text : List ℕ) (ts rest j : List Token) → 1 ≤ room → Guards text room whole left body ts rest → IsKeyword keywords.Except at rest j → Wraps (NoFilter left.funclets) (HasFilter left.funclets) (NoStatement room whole) (HasStatement room whole) text j ts
 filter_fails room at whole left body text ts rest j o g k =
@@ -272,7 +316,9 @@ filter_fails room at whole left body text ts rest j o g k =
             tree = TryExcept body at has.tree Empty;
             is = λ other.
                 let x = both_fixed (Filtering body at has.tree) Braces text' (front ++ inner) braces (both_fixed (Excepting body at) (Condition has.tree) text' front inner r has.is) (is_braces text') other in
-                filtered body at has.tree Empty text' (((front ++ inner) ++ braces) ++ other) x.mid x.second.0 x.first other x.second.1 x.second.2;
+                filtered body at has.tree Empty text'
+                (((front ++ inner) ++ braces) ++ other) x.mid x.second.after_brace x.first other
+                x.second.brace x.second.items;
             statement = refl;
             within = record {
               statements = λ i. let a = w.statements i in omega arith;
@@ -318,7 +364,11 @@ abbrev pub Finishing : Statements → ℕ → List ℕ → List Token → List T
 Finishing body at = Both (Guard body) (Key keywords.Finally at)
 
 finished_so : (body : Statements) (at : ℕ) (last : Statements) (text : List ℕ) (ts rest c : List Token) (w : Finishing body at text ts rest) (end : List Token) → HasPunctuator punctuators.OpenBrace rest c → AreBlockItems text last c end → IsBlockItem text (TryFinally body at last) ts end
-finished_so body at last text ts rest c w end o i = finished body last at text ts end (record { mid = w.mid; first = w.first; second = (rest, c, w.second, o, i) })
+finished_so body at last text ts rest c w end o i = finished body last at text ts end (record {
+  mid = w.mid;
+  first = w.first;
+  second = (rest, w.second, record { after_brace = c; brace = o; items = i });
+})
 
 pub finally_open : (room at : ℕ) (whole left next : Left) (body : Statements) (text : List ℕ) (ts rest j : List Token) → Guards text room whole left body ts rest → IsKeyword keywords.Finally at rest j → next.funclets + 1 ≡ left.funclets → next.locals ≡ left.locals →
     Wraps (NoPunctuator punctuators.OpenBrace) (APunctuator punctuators.OpenBrace) (NoStatement room whole) (HasStatement room whole) text j ts
@@ -349,9 +399,22 @@ finally_open room at whole left next body text ts rest j g k fu lo =
 
 clause_moves : (c : Clause) (text : List ℕ) (ts rest : List Token) → IsClause text c ts rest → Moves (λ t. IsClause t c) text ts rest
 clause_moves (clauses.Except at f) text ts rest h =
-    moves_so (Both (Both (Key keywords.Except at) (Condition (expression f))) (Sig punctuators.OpenBrace)) (λ t. IsClause t (clauses.Except at f)) text ts rest (λ t us end x. (x.first.mid, x.mid, x.first.first, x.first.second, x.second))
-    (both_moves (Both (Key keywords.Except at) (Condition (expression f))) (Sig punctuators.OpenBrace) text ts h.1 rest
-    (both_moves (Key keywords.Except at) (Condition (expression f)) text ts h.0 h.1 (key_moves keywords.Except at text ts h.0 h.2) (condition (expression f) text h.0 h.1 h.3)) (has_punctuator punctuators.OpenBrace text h.1 rest h.4))
+    moves_so (Both (Both (Key keywords.Except at) (Condition (expression f)))
+    (Sig punctuators.OpenBrace)) (λ t. IsClause t (clauses.Except at f)) text ts rest
+    (λ t us end x. record {
+      after_keyword = x.first.mid;
+      after_filter = x.mid;
+      keyword = x.first.first;
+      filter = x.first.second;
+      brace = x.second;
+    })
+    (both_moves (Both (Key keywords.Except at) (Condition (expression f)))
+    (Sig punctuators.OpenBrace) text ts h.after_filter rest
+    (both_moves (Key keywords.Except at)
+    (Condition (expression f)) text ts h.after_keyword h.after_filter
+    (key_moves keywords.Except at text ts h.after_keyword h.keyword)
+    (condition (expression f) text h.after_keyword h.after_filter h.filter))
+    (has_punctuator punctuators.OpenBrace text h.after_filter rest h.brace))
 clause_moves (clauses.Finally at) text ts rest h =
     moves_so (Both (Key keywords.Finally at) (Sig punctuators.OpenBrace)) (λ t. IsClause t (clauses.Finally at)) text ts rest (λ t us end x. (x.mid, x.first, x.second))
     (both_moves (Key keywords.Finally at) (Sig punctuators.OpenBrace) text ts h.0 rest (key_moves keywords.Finally at text ts h.0 h.1) (has_punctuator punctuators.OpenBrace text h.0 rest h.2))
@@ -367,17 +430,36 @@ last_block room whole left next body (clauses.Except at f) text ts rest j g c =
     wraps (Clausing body (clauses.Except at f)) (NoBlockItems room next) (HasBlockItems room next) (NoStatement room whole) (HasStatement room whole) text ts j (clausing_moves room whole left body (clauses.Except at f) text ts rest j g c.is)
     (λ n text' all other h e r none.
     let x = r.first in
-    no_handler n text' room x.first.1.0 at whole left next body (expression f) x.first.0 r.mid r.second.0 r.second.1 (braced body text' all r.mid x) (taken_moved room whole left body text text' ts rest h g) r.second.2 r.second.3
-    (filter_moved room at whole left next body (expression f) text text' ts rest c.is.0 c.is.1 h g c.is.2 c.is.3 c.funclets) c.locals (no_braced n text' room next r.second.1 other r.second.4 none) all x.first.1.1)
+    no_handler n text' room x.first.1.0 at whole left next body
+    (expression f) x.first.0 r.mid r.second.after_keyword r.second.after_filter
+    (braced body text' all r.mid x)
+    (taken_moved room whole left body text text' ts rest h g) r.second.keyword r.second.filter
+    (filter_moved room at whole left next body
+    (expression f) text text' ts rest c.is.after_keyword c.is.after_filter h g c.is.keyword
+    c.is.filter c.funclets) c.locals
+    (no_braced n text' room next r.second.after_filter other r.second.brace none) all x.first.1.1)
     (λ n text' front inner h r has. able_now (HasStatement room whole) n text' (front ++ inner) (
     let t = taken_moved room whole left body text text' ts rest h g in
-    let q = filter_moved room at whole left next body (expression f) text text' ts rest c.is.0 c.is.1 h g c.is.2 c.is.3 c.funclets in
+    let q = filter_moved room at whole left next body
+    (expression f) text text' ts rest c.is.after_keyword c.is.after_filter h g c.is.keyword
+    c.is.filter c.funclets in
     let l = c.locals in let s = c.statements in let y = c.low in
     record {
       tree = TryExcept body at (expression f) has.trees;
       is = λ other.
           let x = both_fixed (Clausing body (clauses.Except at f)) (Items has.trees) text' front inner r has.are other in let z = x.first.second in
-          excepted body has.trees at (expression f) text' ((front ++ inner) ++ other) other (record { mid = x.first.mid; first = x.first.first; second = (z.0, z.1, x.mid, z.2, z.3, z.4, x.second) });
+          excepted body has.trees at (expression f) text' ((front ++ inner) ++ other) other
+          (record {
+            mid = x.first.mid;
+            first = x.first.first;
+            second = record {
+              after_keyword = z.after_keyword;
+              after_filter = z.after_filter;
+              keyword = z.keyword;
+              filter = z.filter;
+              handler = record { after_brace = x.mid; brace = z.brace; items = x.second };
+            };
+          });
       statement = refl;
       within = record {
         statements = λ i. let a = t.statements in let b = has.within.statements i in omega arith;
@@ -398,7 +480,11 @@ last_block room whole left next body (clauses.Finally at) text ts rest j g c =
       tree = TryFinally body at has.trees;
       is = λ other.
           let x = both_fixed (Clausing body (clauses.Finally at)) (Items has.trees) text' front inner r has.are other in let z = x.first.second in
-          finished body has.trees at text' ((front ++ inner) ++ other) other (record { mid = x.first.mid; first = x.first.first; second = (z.0, x.mid, z.1, z.2, x.second) });
+          finished body has.trees at text' ((front ++ inner) ++ other) other (record {
+            mid = x.first.mid;
+            first = x.first.first;
+            second = (z.0, z.1, record { after_brace = x.mid; brace = z.2; items = x.second });
+          });
       statement = refl;
       within = record {
         statements = λ i. let a = t.statements in let b = has.within.statements i in omega arith;
@@ -410,9 +496,22 @@ last_block room whole left next body (clauses.Finally at) text ts rest j g c =
 
 pub guarded_found : (room : ℕ) (whole left next after : Left) (body last : Statements) (c : Clause) (text : List ℕ) (ts rest j end : List Token) → Guards text room whole left body ts rest → Continues text room left next c rest j → AreBlockItems text last j end → AllTaken text room next after last → Reads text room whole after (with_clause body c last) ts end
 guarded_found room whole left next after body last (clauses.Except at f) text ts rest j end g c are t =
-    except_found text room g.is.1.0 at whole left next after body last (expression f) g.is.0 rest c.is.0 c.is.1 end c.statements (g.mid, g.is.2, g.are) g.taken c.is.2 c.is.3 c.low c.funclets c.locals (j, c.is.4, are) t ts g.is.1.1
+    except_found text room g.is.1.0 at whole left next after body last
+    (expression f) g.is.0 rest c.is.after_keyword c.is.after_filter end c.statements
+    (record {
+      after_brace = g.mid;
+      brace = g.is.2;
+      items = g.are;
+    }) g.taken c.is.keyword c.is.filter c.low c.funclets c.locals
+    (record { after_brace = j; brace = c.is.brace; items = are }) t ts g.is.1.1
 guarded_found room whole left next after body last (clauses.Finally at) text ts rest j end g c are t =
-    finally_found text room g.is.1.0 at whole left next after body last g.is.0 rest c.is.0 end (g.mid, g.is.2, g.are) g.taken c.is.1 c.funclets c.locals (j, c.is.2, are) t ts g.is.1.1
+    finally_found text room g.is.1.0 at whole left next after body last g.is.0 rest c.is.0 end
+    (record {
+      after_brace = g.mid;
+      brace = g.is.2;
+      items = g.are;
+    }) g.taken c.is.1 c.funclets c.locals
+    (record { after_brace = j; brace = c.is.2; items = are }) t ts g.is.1.1
 
 abbrev pub guards : (text : List ℕ) (room : ℕ) (left after : Left) (body : Statements) (ts mid rest : List Token) → 1 ≤ room + left.funclets → IsTry ts mid → AreBlockItems text body mid rest → AllTaken text room left after body → Guards text room left after body ts rest
 guards text room left after body ts mid rest o t i k = record { some = o; mid = mid; is = t; are = i; taken = k }

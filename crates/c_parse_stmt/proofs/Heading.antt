@@ -12,14 +12,14 @@ use Rattle.c_syntax.specs.Expression.{Expression, Constant}
 use Rattle.c_syntax.specs.Faults.{Family, Able, Failed, Wraps}
 use Rattle.c_syntax.specs.Limits.{height_of, height_of_for_initialiser, locals_of_for_initialiser}
 use Rattle.c_syntax.specs.Statement.{ForInitialiser, Evaluating, Statement, Evaluate, If, While, DoWhile, For, Return, Break, Continue, Leave, TryFinally, Empty}
-use Rattle.c_syntax.specs.Statements.{IsOptional, IsCondition, IsForInitialiser, is_declaration, IsBlockItem}
+use Rattle.c_syntax.specs.Statements.{IsUpTo, IsCondition, IsForInitialiser, is_declaration, IsBlockItem}
 use Rattle.c_syntax.specs.Tokens.{token, IsKeyword, HasPunctuator, HasKeyword}
 use Rattle.c_syntax.proofs.Firsts.{first_back, no_punctuator}
 use Rattle.c_syntax.proofs.Fronts.{kind_same, keyword_same}
 use Rattle.c_syntax.proofs.Moves.{Moves, kind, has_punctuator}
-use Rattle.c_syntax.proofs.MovesStatements.{first, optional}
+use Rattle.c_syntax.proofs.MovesStatements.{first, up_to as up_to_moves}
 use Rattle.c_parse_stmt.specs.declared.left.Left.{Left}
-use Rattle.c_parse_stmt.specs.Parts.{NoPunctuator, APunctuator, IsUpTo, NoCondition, HasCondition, NoneUpTo, HasUpTo, NoForInitialiser, HasForInitialiser}
+use Rattle.c_parse_stmt.specs.Parts.{NoPunctuator, APunctuator, NoCondition, HasCondition, NoneUpTo, HasUpTo, NoForInitialiser, HasForInitialiser}
 use Rattle.c_parse_stmt.specs.Within.{NoStatement, HasStatement, NoEvaluation, HasEvaluation, AfterKeyword}
 use Rattle.c_parse_stmt.proofs.Sequences.{Both, Fixed, both_fixed, both_moves, moves_so, able_now, wraps, punctuator, word, a_punctuator, a_word, first_kind, kind_place}
 use Rattle.c_parse_stmt.proofs.Wholes.{no_if_room, no_if_condition, no_while_room, no_while_condition, no_do_room, no_for_room, no_for_open, no_for_initialiser, Started, no_for_condition, no_for_next, no_return, no_break, no_continue, no_leave, no_try, no_evaluation, Lacks, Plain, only_evaluations}
@@ -40,11 +40,6 @@ UpTo s e text = IsUpTo text s e
 
 abbrev pub key_moves : (k : Keyword) (at : ℕ) (text : List ℕ) (ts rest : List Token) → IsKeyword k at ts rest → Moves (Key k at) text ts rest
 key_moves k at text ts rest h = kind (kinds.Keyword k) at text ts rest h
-
-pub up_to_moves : (s : Punctuator) (e : Option Expression) (text : List ℕ) (ts rest : List Token) → IsUpTo text s e ts rest → Moves (UpTo s e) text ts rest
-up_to_moves s e text ts rest h =
-    moves_so (Both (λ t. IsOptional t e) (Sig s)) (UpTo s e) text ts rest (λ t us end x. (x.mid, x.first, x.second))
-    (both_moves (λ t. IsOptional t e) (Sig s) text ts h.0 rest (optional e text ts h.0 h.1) (has_punctuator s text h.0 rest h.2))
 
 -- ---- the least statement
 
@@ -73,7 +68,16 @@ abbrev pub in_parentheses : List Token
 in_parentheses = punctuator punctuators.OpenParenthesis ∷ token (kinds.Integer 1 types.Int) 0 0 ∷ punctuator punctuators.CloseParenthesis ∷ []
 
 pub is_unit : (text : List ℕ) → Fixed (Condition unit) text in_parentheses
-is_unit text other = (token (kinds.Integer 1 types.Int) 0 0 ∷ punctuator punctuators.CloseParenthesis ∷ other, punctuator punctuators.CloseParenthesis ∷ other, a_punctuator punctuators.OpenParenthesis (token (kinds.Integer 1 types.Int) 0 0 ∷ punctuator punctuators.CloseParenthesis ∷ other), record { fits = omega arith; spells = (0, refl) }, a_punctuator punctuators.CloseParenthesis other)
+is_unit text other = record {
+  after_opening =
+      token (kinds.Integer 1 types.Int) 0 0 ∷ punctuator punctuators.CloseParenthesis ∷ other;
+  after_inner = punctuator punctuators.CloseParenthesis ∷ other;
+  opening =
+      a_punctuator punctuators.OpenParenthesis
+      (token (kinds.Integer 1 types.Int) 0 0 ∷ punctuator punctuators.CloseParenthesis ∷ other);
+  inner = record { fits = omega arith; spells = (0, refl) };
+  closing = a_punctuator punctuators.CloseParenthesis other;
+}
 
 -- ---- at the keyword itself
 
@@ -99,7 +103,13 @@ if_too_deep room at left text ts a z k =
       in_parentheses ++ semicolon,
       record {
         tree = If at unit (Evaluate None);
-        is = λ other. (in_parentheses ++ semicolon ++ other, semicolon ++ other, (end, refl), is_unit text' (semicolon ++ other), refl, is_empty text' other);
+        is = λ other. record {
+          after_keyword = in_parentheses ++ semicolon ++ other;
+          after_condition = semicolon ++ other;
+          keyword = (end, refl);
+          condition = is_unit text' (semicolon ++ other);
+          body = record { no_declaration = refl; item = is_empty text' other };
+        };
         statement = refl;
         within = record { statements = λ i. omega arith; expressions = λ i. omega arith; locals = λ i. omega arith; funclets = λ i. omega arith };
       },
@@ -112,7 +122,13 @@ while_too_deep room at left text ts a z k =
       in_parentheses ++ semicolon,
       record {
         tree = While at unit (Evaluate None);
-        is = λ other. (in_parentheses ++ semicolon ++ other, semicolon ++ other, (end, refl), is_unit text' (semicolon ++ other), refl, is_empty text' other);
+        is = λ other. record {
+          after_keyword = in_parentheses ++ semicolon ++ other;
+          after_condition = semicolon ++ other;
+          keyword = (end, refl);
+          condition = is_unit text' (semicolon ++ other);
+          body = record { no_declaration = refl; item = is_empty text' other };
+        };
         statement = refl;
         within = record { statements = λ i. omega arith; expressions = λ i. omega arith; locals = λ i. omega arith; funclets = λ i. omega arith };
       },
@@ -129,14 +145,38 @@ do_too_deep room at left text ts a z k =
       semicolon ++ while_end,
       record {
         tree = DoWhile (Evaluate None) 0 unit;
-        is = λ other. (semicolon ++ while_end ++ other, while_end ++ other, in_parentheses ++ semicolon ++ other, semicolon ++ other, (at, (end, refl)), refl, is_empty text' (while_end ++ other), a_word keywords.While (in_parentheses ++ semicolon ++ other), is_unit text' (semicolon ++ other), a_punctuator punctuators.Semicolon other);
+        is = λ other. record {
+          after_do = semicolon ++ while_end ++ other;
+          after_body = while_end ++ other;
+          after_while = in_parentheses ++ semicolon ++ other;
+          after_condition = semicolon ++ other;
+          do_keyword = (at, (end, refl));
+          body = record { no_declaration = refl; item = is_empty text' (while_end ++ other) };
+          keyword = a_word keywords.While (in_parentheses ++ semicolon ++ other);
+          condition = is_unit text' (semicolon ++ other);
+          semicolon = a_punctuator punctuators.Semicolon other;
+        };
         statement = refl;
         within = record { statements = λ i. omega arith; expressions = λ i. omega arith; locals = λ i. omega arith; funclets = λ i. omega arith };
       },
     ))
 
 pub for_item : (text : List ℕ) (at : ℕ) (f : ForInitialiser) (c n : Option Expression) (s : Statement) (ts a b d g i rest : List Token) → IsKeyword keywords.For at ts a → HasPunctuator punctuators.OpenParenthesis a b → IsForInitialiser text f b d → IsUpTo text punctuators.Semicolon c d g → IsUpTo text punctuators.CloseParenthesis n g i → IsFalse (is_declaration s) → IsBlockItem text s i rest → IsBlockItem text (For at f c n s) ts rest
-for_item text at f c n s ts a b d g i rest k o h u v z t = (a, b, d, u.0, g, v.0, i, k, o, h, u.1, u.2, v.1, v.2, z, t)
+for_item text at f c n s ts a b d g i rest k o h u v z t = record {
+  after_head = i;
+  head = record {
+    after_keyword = a;
+    after_opening = b;
+    after_first = d;
+    after_condition = g;
+    keyword = k;
+    opening = o;
+    first = h;
+    condition = u;
+    next = v;
+  };
+  body = record { no_declaration = z; item = t };
+}
 
 -- what may stand after `for`, the shortest
 abbrev pub For3 : List ℕ → List Token → List Token → Type 0
@@ -197,7 +237,25 @@ try_too_many room at left text ts a z y k =
       braces ++ finally,
       record {
         tree = TryFinally Empty 0 Empty;
-        is = λ other. (braces ++ finally ++ other, punctuator punctuators.CloseBrace ∷ finally ++ other, finally ++ other, braces ++ other, punctuator punctuators.CloseBrace ∷ other, (at, (end, refl)), a_punctuator punctuators.OpenBrace (punctuator punctuators.CloseBrace ∷ finally ++ other), a_punctuator punctuators.CloseBrace (finally ++ other), a_word keywords.Finally (braces ++ other), a_punctuator punctuators.OpenBrace (punctuator punctuators.CloseBrace ∷ other), a_punctuator punctuators.CloseBrace other);
+        is = λ other. record {
+          after_try = braces ++ finally ++ other;
+          after_body = finally ++ other;
+          after_finally = braces ++ other;
+          try_keyword = (at, (end, refl));
+          body = record {
+            after_brace = punctuator punctuators.CloseBrace ∷ finally ++ other;
+            brace =
+                a_punctuator punctuators.OpenBrace
+                (punctuator punctuators.CloseBrace ∷ finally ++ other);
+            items = a_punctuator punctuators.CloseBrace (finally ++ other);
+          };
+          keyword = a_word keywords.Finally (braces ++ other);
+          last = record {
+            after_brace = punctuator punctuators.CloseBrace ∷ other;
+            brace = a_punctuator punctuators.OpenBrace (punctuator punctuators.CloseBrace ∷ other);
+            items = a_punctuator punctuators.CloseBrace other;
+          };
+        };
         statement = refl;
         within = record { statements = λ i. omega arith; expressions = λ i. omega arith; locals = λ i. omega arith; funclets = λ i. omega arith };
       },
@@ -223,7 +281,16 @@ while_condition room at left text ts a o k =
       more = semicolon;
       has = record {
         tree = While at has.tree (Evaluate None);
-        is = λ other. let x = both_fixed (Condition has.tree) Empties text' inner semicolon has.is (is_empty text') other in ((inner ++ semicolon) ++ other, x.mid, (end, refl), x.first, refl, x.second);
+        is = λ other.
+            let x = both_fixed (Condition has.tree) Empties text' inner semicolon has.is
+            (is_empty text') other in
+            record {
+              after_keyword = (inner ++ semicolon) ++ other;
+              after_condition = x.mid;
+              keyword = (end, refl);
+              condition = x.first;
+              body = record { no_declaration = refl; item = x.second };
+            };
         statement = refl;
         within = record { statements = λ i. omega arith; expressions = λ i. let b = has.low i in omega arith; locals = λ i. omega arith; funclets = λ i. omega arith };
       };
@@ -236,7 +303,16 @@ if_condition room at left text ts a o k =
       more = semicolon;
       has = record {
         tree = If at has.tree (Evaluate None);
-        is = λ other. let x = both_fixed (Condition has.tree) Empties text' inner semicolon has.is (is_empty text') other in ((inner ++ semicolon) ++ other, x.mid, (end, refl), x.first, refl, x.second);
+        is = λ other.
+            let x = both_fixed (Condition has.tree) Empties text' inner semicolon has.is
+            (is_empty text') other in
+            record {
+              after_keyword = (inner ++ semicolon) ++ other;
+              after_condition = x.mid;
+              keyword = (end, refl);
+              condition = x.first;
+              body = record { no_declaration = refl; item = x.second };
+            };
         statement = refl;
         within = record { statements = λ i. omega arith; expressions = λ i. let b = has.low i in omega arith; locals = λ i. omega arith; funclets = λ i. omega arith };
       };
@@ -247,7 +323,7 @@ return_value room at left text ts a k =
     key_wraps keywords.Return at room left (NoneUpTo punctuators.Semicolon room) (HasUpTo punctuators.Semicolon room) text ts a k (λ n text' other none. no_return n text' room at left other none)
     (λ n text' inner end has. able_now (HasStatement room left) n text' (token (kinds.Keyword keywords.Return) at end ∷ inner) (record {
       tree = Return at has.tree;
-      is = λ other. let x = has.is other in (inner ++ other, x.0, (end, refl), x.1, x.2);
+      is = λ other. (inner ++ other, (end, refl), has.is other);
       statement = refl;
       within = record { statements = has.over; expressions = has.low; locals = λ i. omega arith; funclets = λ i. omega arith };
     }))
@@ -319,9 +395,6 @@ for_first_moves at f text ts a b d k o h = both_moves (ForOpen at) (λ t. IsForI
 
 pub for_condition_moves : (at : ℕ) (f : ForInitialiser) (c : Option Expression) (text : List ℕ) (ts a b d g : List Token) → IsKeyword keywords.For at ts a → HasPunctuator punctuators.OpenParenthesis a b → IsForInitialiser text f b d → IsUpTo text punctuators.Semicolon c d g → Moves (ForCondition at f c) text ts g
 for_condition_moves at f c text ts a b d g k o h u = both_moves (ForFirst at f) (UpTo punctuators.Semicolon c) text ts d g (for_first_moves at f text ts a b d k o h) (up_to_moves punctuators.Semicolon c text d g u)
-
-pub for_head_moves : (at : ℕ) (f : ForInitialiser) (c n : Option Expression) (text : List ℕ) (ts a b d g i : List Token) → IsKeyword keywords.For at ts a → HasPunctuator punctuators.OpenParenthesis a b → IsForInitialiser text f b d → IsUpTo text punctuators.Semicolon c d g → IsUpTo text punctuators.CloseParenthesis n g i → Moves (ForHead at f c n) text ts i
-for_head_moves at f c n text ts a b d g i k o h u v = both_moves (ForCondition at f c) (UpTo punctuators.CloseParenthesis n) text ts g i (for_condition_moves at f c text ts a b d g k o h u) (up_to_moves punctuators.CloseParenthesis n text g i v)
 
 pub for_initialiser : (room at : ℕ) (left : Left) (text : List ℕ) (ts a b : List Token) → 1 ≤ room → IsKeyword keywords.For at ts a → HasPunctuator punctuators.OpenParenthesis a b → Wraps (NoForInitialiser left.locals) (HasForInitialiser left.locals) (NoStatement room left) (HasStatement room left) text b ts
 for_initialiser room at left text ts a b o k s =

@@ -17,6 +17,7 @@ use Rattle.c_syntax.proofs.Blocks.{absent, while_else}
 use Rattle.c_syntax.proofs.Failing.{alike_inner}
 use Rattle.c_syntax.proofs.Firsts.{closed, no_keyword}
 use Rattle.c_syntax.proofs.Moves.{Moves, has_keyword}
+use Rattle.c_syntax.proofs.MovesStatements as statements
 use Rattle.c_syntax.proofs.MovesStatements.{condition, item, numbered as same_funclets}
 use Rattle.c_parse_stmt.specs.declared.endings.Ending.{Ending}
 use Rattle.c_parse_stmt.specs.declared.endings.Ending.TheVariants as endings
@@ -29,7 +30,7 @@ use Rattle.c_parse_stmt.specs.Endings.{Ends}
 use Rattle.c_parse_stmt.specs.Openings.{IsHead, expressions_over, locals, Heads, Opens, Holds}
 use Rattle.c_parse_stmt.specs.Parts.{NoPunctuator, APunctuator, NoCondition, HasCondition}
 use Rattle.c_parse_stmt.specs.Within.{Within, Reads, NoStatement, HasStatement}
-use Rattle.c_parse_stmt.proofs.Heading.{Key, Sig, Condition, key_moves, ForHead, for_head_moves, for_item, semicolon, in_parentheses, is_unit, unit, while_end}
+use Rattle.c_parse_stmt.proofs.Heading.{Key, Sig, Condition, key_moves, for_item, semicolon, in_parentheses, is_unit, unit, while_end}
 use Rattle.c_parse_stmt.proofs.Sequences.{Both, Fixed, both_fixed, both_moves, moves_so, able_now, wraps, failed, a_punctuator, a_word}
 use Rattle.c_parse_stmt.proofs.Wholes.{left_of, no_then, no_otherwise, if_found, if_else_found, not_dangling, no_while_body, while_found, no_do_body, no_do_while, no_do_condition, no_do_end, do_found, no_for_body, for_found}
 
@@ -50,9 +51,8 @@ head_moves (heads.While at c) text ts rest h =
     (both_moves (Key keywords.While at) (Condition (expression c)) text ts h.0 rest (key_moves keywords.While at text ts h.0 h.1) (condition (expression c) text h.0 rest h.2))
 head_moves heads.Do text ts rest h = has_keyword keywords.Do text ts rest h
 head_moves (heads.For at f c n) text ts rest h =
-    moves_so (ForHead at (first f) (option_map expression c) (option_map expression n)) (Headed (heads.For at f c n)) text ts rest
-    (λ t us end x. (x.first.first.first.mid, x.first.first.mid, x.first.mid, x.mid, x.first.first.first.first, x.first.first.first.second, x.first.first.second, x.first.second, x.second))
-    (for_head_moves at (first f) (option_map expression c) (option_map expression n) text ts h.0 h.1 h.2 h.3 rest h.4 h.5 h.6 h.7 h.8)
+    statements.for_head at (first f) (option_map expression c)
+    (option_map expression n) text ts rest h
 
 -- ---- the same counts
 
@@ -74,11 +74,21 @@ reads_moved text text' room left after s ts rest all other h r i c =
 
 -- ---- what ends a `do`
 
-abbrev pub WhileEnd : List ℕ → List Token → List Token → Type 0
-WhileEnd text ts rest = (a : List Token) × (b : List Token) × IsKeyword keywords.While 0 ts a × IsCondition text unit a b × HasPunctuator punctuators.Semicolon b rest
+pub record WhileEnd (text : List ℕ) (ts rest : List Token) : Type 0 where
+  pub after_while : List Token
+  pub after_condition : List Token
+  pub keyword : IsKeyword keywords.While 0 ts after_while
+  pub condition : IsCondition text unit after_while after_condition
+  pub semicolon : HasPunctuator punctuators.Semicolon after_condition rest
 
 is_while_end : (text : List ℕ) → Fixed WhileEnd text while_end
-is_while_end text other = (in_parentheses ++ semicolon ++ other, semicolon ++ other, a_word keywords.While (in_parentheses ++ semicolon ++ other), is_unit text (semicolon ++ other), a_punctuator punctuators.Semicolon other)
+is_while_end text other = record {
+  after_while = in_parentheses ++ semicolon ++ other;
+  after_condition = semicolon ++ other;
+  keyword = a_word keywords.While (in_parentheses ++ semicolon ++ other);
+  condition = is_unit text (semicolon ++ other);
+  semicolon = a_punctuator punctuators.Semicolon other;
+}
 
 -- ---- the first statement
 
@@ -90,18 +100,43 @@ no_inner (heads.While at c) n text room less whole left all other m h w l f none
 no_inner heads.Do n text room less whole left all other m h w l f none =
     no_do_body n text room less h.0 whole other m (none_from n text less left whole other (same_left left whole (omega arith) f) none) all h.1
 no_inner (heads.For at g c e) n text room less whole left all other m h w l f none =
-    no_for_body n text room less at whole left (first g) (option_map expression c) (option_map expression e) h.0 h.1 h.2 h.3 other m (record { opens = h.5; is = h.6; low = omega arith; locals = l; funclets = f }) h.7 h.8 none all h.4
+    no_for_body n text room less at whole left (first g) (option_map expression c)
+    (option_map expression e) h.after_keyword h.after_opening h.after_first h.after_condition other
+    m (record {
+      opens = h.opening;
+      is = h.first;
+      low = omega arith;
+      locals = l;
+      funclets = f;
+    }) h.condition h.next none all h.keyword
 
 has_inner : (h : Head) (n : ℕ) (text : List ℕ) (room less : ℕ) (whole left : Left) (front inner : List Token) → less + 1 ≡ room → expressions_over h ≤ 64 → left.locals + locals h ≡ whole.locals → left.funclets ≡ whole.funclets → Fixed (Headed h) text front → HasStatement less left n text inner → Able (HasStatement room whole) n text (front ++ inner)
 has_inner (heads.If at c) n text room less whole left front inner m w l f r has = able_now (HasStatement room whole) n text (front ++ inner) (record {
   tree = If at (expression c) has.tree;
-  is = λ other. let x = both_fixed (Headed (heads.If at c)) (Item has.tree) text front inner r has.is other in (x.first.0, x.mid, x.first.1, x.first.2, has.statement, x.second);
+  is = λ other.
+      let x = both_fixed (Headed (heads.If at c)) (Item has.tree) text front inner r has.is other in
+      record {
+        after_keyword = x.first.0;
+        after_condition = x.mid;
+        keyword = x.first.1;
+        condition = x.first.2;
+        body = record { no_declaration = has.statement; item = x.second };
+      };
   statement = refl;
   within = record { statements = λ i. let a = has.within.statements i in omega arith; expressions = λ i. let a = has.within.expressions i in omega arith; locals = λ i. let a = has.within.locals i in omega arith; funclets = λ i. let a = has.within.funclets i in omega arith };
 })
 has_inner (heads.While at c) n text room less whole left front inner m w l f r has = able_now (HasStatement room whole) n text (front ++ inner) (record {
   tree = While at (expression c) has.tree;
-  is = λ other. let x = both_fixed (Headed (heads.While at c)) (Item has.tree) text front inner r has.is other in (x.first.0, x.mid, x.first.1, x.first.2, has.statement, x.second);
+  is = λ other.
+      let x = both_fixed (Headed (heads.While at c))
+      (Item has.tree) text front inner r has.is other in
+      record {
+        after_keyword = x.first.0;
+        after_condition = x.mid;
+        keyword = x.first.1;
+        condition = x.first.2;
+        body = record { no_declaration = has.statement; item = x.second };
+      };
   statement = refl;
   within = record { statements = λ i. let a = has.within.statements i in omega arith; expressions = λ i. let a = has.within.expressions i in omega arith; locals = λ i. let a = has.within.locals i in omega arith; funclets = λ i. let a = has.within.funclets i in omega arith };
 })
@@ -111,7 +146,17 @@ has_inner heads.Do n text room less whole left front inner m w l f r has = recor
     tree = DoWhile has.tree 0 unit;
     is = λ other.
         let x = both_fixed (Both (Headed heads.Do) (Item has.tree)) WhileEnd text (front ++ inner) while_end (both_fixed (Headed heads.Do) (Item has.tree) text front inner r has.is) (is_while_end text) other in let y = x.second in
-        (x.first.mid, x.mid, y.0, y.1, x.first.first, has.statement, x.first.second, y.2, y.3, y.4);
+        record {
+          after_do = x.first.mid;
+          after_body = x.mid;
+          after_while = y.after_while;
+          after_condition = y.after_condition;
+          do_keyword = x.first.first;
+          body = record { no_declaration = has.statement; item = x.first.second };
+          keyword = y.keyword;
+          condition = y.condition;
+          semicolon = y.semicolon;
+        };
     statement = refl;
     within = record { statements = λ i. let a = has.within.statements i in omega arith; expressions = λ i. let a = has.within.expressions i in omega arith; locals = λ i. let a = has.within.locals i in omega arith; funclets = λ i. let a = has.within.funclets i in omega arith };
   };
@@ -120,7 +165,9 @@ has_inner (heads.For at g c e) n text room less whole left front inner m w l f r
   tree = For at (first g) (option_map expression c) (option_map expression e) has.tree;
   is = λ other.
       let x = both_fixed (Headed (heads.For at g c e)) (Item has.tree) text front inner r has.is other in let y = x.first in
-      for_item text at (first g) (option_map expression c) (option_map expression e) has.tree ((front ++ inner) ++ other) y.0 y.1 y.2 y.3 x.mid other y.4 y.5 y.6 y.7 y.8 has.statement x.second;
+      for_item text at (first g) (option_map expression c) (option_map expression e) has.tree
+      ((front ++ inner) ++ other) y.after_keyword y.after_opening y.after_first y.after_condition
+      x.mid other y.keyword y.opening y.first y.condition y.next has.statement x.second;
   statement = refl;
   within = record { statements = λ i. let a = has.within.statements i in omega arith; expressions = λ i. let a = has.within.expressions i in omega arith; locals = λ i. let a = has.within.locals i in omega arith; funclets = λ i. let a = has.within.funclets i in omega arith };
 })
@@ -169,7 +216,18 @@ else_fails at room whole left c s text ts rest j g els =
       tree = IfElse at (expression c) s has.tree;
       is = λ other.
           let x = both_fixed (Else at c s) (Item has.tree) text' front inner r has.is other in let y = x.first.first.first in
-          (y.0, x.first.first.mid, x.first.mid, x.mid, y.1, y.2, g.inner.statement, not_dangling (dangles s) (λ i. g.inner.closed i j els), x.first.first.second, x.first.second, has.statement, x.second);
+          record {
+            after_if = y.0;
+            after_condition = x.first.first.mid;
+            after_body = x.first.mid;
+            after_else = x.mid;
+            keyword = y.1;
+            condition = y.2;
+            complete = not_dangling (dangles s) (λ i. g.inner.closed i j els);
+            body = record { no_declaration = g.inner.statement; item = x.first.first.second };
+            else_keyword = x.first.second;
+            else_body = record { no_declaration = has.statement; item = x.second };
+          };
       statement = refl;
       within = record {
         statements = λ i. let a = has.within.statements i in omega arith;
@@ -205,7 +263,15 @@ while_ends at room whole left c s text ts rest g =
 pub for_ends : (at room : ℕ) (whole left : Left) (f : ForInitialiser) (c n : Option Expr) (s : Statement) (text : List ℕ) (ts rest : List Token) → Holds text room whole left (heads.For at f c n) s ts rest → Reads text room whole left (For at (first f) (option_map expression c) (option_map expression n) s) ts rest
 for_ends at room whole left f c n s text ts rest g =
     let i = g.head.is in let low = g.head.low in
-    for_found text room g.less at whole g.between left (first f) (option_map expression c) (option_map expression n) s i.0 i.1 i.2 i.3 g.mid rest g.more (record { opens = i.5; is = i.6; low = omega arith; locals = g.head.locals; funclets = g.head.funclets }) i.7 (omega arith) i.8 (omega arith) g.inner ts i.4
+    for_found text room g.less at whole g.between left (first f) (option_map expression c)
+    (option_map expression n) s i.after_keyword i.after_opening i.after_first i.after_condition
+    g.mid rest g.more (record {
+      opens = i.opening;
+      is = i.first;
+      low = omega arith;
+      locals = g.head.locals;
+      funclets = g.head.funclets;
+    }) i.condition (omega arith) i.next (omega arith) g.inner ts i.keyword
 
 -- ---- `do`
 
@@ -243,7 +309,17 @@ do_unended room whole left s text ts rest g none =
         tree = DoWhile s 0 unit;
         is = λ other.
             let x = both_fixed (Inner heads.Do s) WhileEnd text' front while_end r (is_while_end text') other in let y = x.second in
-            (x.first.mid, x.mid, y.0, y.1, x.first.first, g.inner.statement, x.first.second, y.2, y.3, y.4);
+            record {
+              after_do = x.first.mid;
+              after_body = x.mid;
+              after_while = y.after_while;
+              after_condition = y.after_condition;
+              do_keyword = x.first.first;
+              body = record { no_declaration = g.inner.statement; item = x.first.second };
+              keyword = y.keyword;
+              condition = y.condition;
+              semicolon = y.semicolon;
+            };
         statement = refl;
         within = do_within 6 room whole left s unit 0 text text' ts rest g k (λ i. omega arith);
       };
@@ -260,7 +336,19 @@ abbrev pub DoAll : Statement → ℕ → Expression → List ℕ → List Token 
 DoAll s p c = Both (DoCondition s p c) (Sig punctuators.Semicolon)
 
 do_item : (s : Statement) (p : ℕ) (c : Expression) (text : List ℕ) (ts rest : List Token) → IsFalse (is_declaration s) → DoAll s p c text ts rest → IsBlockItem text (DoWhile s p c) ts rest
-do_item s p c text ts rest f x = let y = x.first.first in (y.first.mid, y.mid, x.first.mid, x.mid, y.first.first, f, y.first.second, y.second, x.first.second, x.second)
+do_item s p c text ts rest f x =
+    let y = x.first.first in
+    record {
+      after_do = y.first.mid;
+      after_body = y.mid;
+      after_while = x.first.mid;
+      after_condition = x.mid;
+      do_keyword = y.first.first;
+      body = record { no_declaration = f; item = y.first.second };
+      keyword = y.second;
+      condition = x.first.second;
+      semicolon = x.second;
+    }
 
 before_while : (s : Statement) (p : ℕ) (ts rest : List Token) → IsKeyword keywords.While p ts rest → Closed s ts
 before_while s p ts rest k i = while_else p ts rest k

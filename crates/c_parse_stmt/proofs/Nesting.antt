@@ -125,7 +125,13 @@ nested (suc n) text e ts mid mid' rest o s c =
     let x = nested n text e o.0 mid mid' c.0 o.2 s c.1 in
     record {
       tree = Parentheses o.1.0 x.tree;
-      spells = (o.0, c.0, o.1.1, x.spells, c.2);
+      spells = record {
+        after_opening = o.0;
+        after_inner = c.0;
+        opening = o.1.1;
+        inner = x.spells;
+        closing = c.2;
+      };
       high = let h = x.high in omega arith;
       same = x.same;
       rank = λ l. refl;
@@ -143,4 +149,15 @@ pub record Enclosed (text : List ℕ) (n : ℕ) (e : Expression) (ts rest : List
 pub enclosed : (n : ℕ) (text : List ℕ) (e : Expression) (ts mid mid' rest : List Token) → AreOpening (suc n) ts mid → SpellsExpression text e mid mid' → AreClosing (suc n) mid' rest → Enclosed text n e ts rest
 enclosed n text e ts mid mid' rest o s c =
     let x = nested n text e o.0 mid mid' c.0 o.2 s c.1 in
-    record { tree = x.tree; is = (o.0, c.0, o.1, record { fits = rank_low x.tree; spells = x.spells }, c.2); high = x.high; same = x.same }
+    record {
+      tree = x.tree;
+      is = record {
+        after_opening = o.0;
+        after_inner = c.0;
+        opening = o.1;
+        inner = record { fits = rank_low x.tree; spells = x.spells };
+        closing = c.2;
+      };
+      high = x.high;
+      same = x.same;
+    }

@@ -37,23 +37,33 @@ inner_head : (text : List ℕ) (n : ℕ) (ts y : List Token) → HasPunctuator p
 inner_head text n ts y o bare f (Constant at (literals.Integer value type)) after i s = let p = has_front punctuators.OpenParenthesis ts y o in let q = ap front s.1 in absurd (omega arith)
 inner_head text n ts y o bare f (Constant at (literals.CharacterConstant value)) after i s = let p = has_front punctuators.OpenParenthesis ts y o in let q = ap front s.1 in absurd (omega arith)
 inner_head text n ts y o bare f (Variable named) after i s = let p = has_front punctuators.OpenParenthesis ts y o in let q = ap front s in absurd (omega arith)
-inner_head text n ts y o bare f (Information at field) after i s = let p = has_front punctuators.OpenParenthesis ts y o in let q = ap front s.6.1 in absurd (omega arith)
-inner_head text n ts y o bare f (Call named es) after i s = let p = has_front punctuators.OpenParenthesis ts y o in let q = ap front s.2 in absurd (omega arith)
+inner_head text n ts y o bare f (Information at field) after i s =
+    let p = has_front punctuators.OpenParenthesis ts y o in
+    let q = ap front s.introduction.keyword.1 in
+    absurd (omega arith)
+inner_head text n ts y o bare f (Call named es) after i s =
+    let p = has_front punctuators.OpenParenthesis ts y o in
+    let q = ap front s.called in
+    absurd (omega arith)
 inner_head text n ts y o bare f (Parentheses at e) after i s =
-    let p = has_same punctuators.OpenParenthesis ts ts s.0 y refl (at, s.2) o in
-    let q = f e s.1 after (subst (λ (z : List Token). SpellsExpression text e z s.1) p s.3) s.4 in
+    let p = has_same punctuators.OpenParenthesis ts ts s.after_opening y refl (at, s.opening) o in
+    let q = f e s.after_inner after
+        (subst (λ (z : List Token). SpellsExpression text e z s.after_inner) p s.inner) s.closing in
     omega arith
 inner_head text n ts y o bare f (Index a at j) after i s = absurd i
 inner_head text n ts y o bare f (Postfix e op at) after i s = absurd i
 inner_head text n ts y o bare f (Prefix at op e) after i s =
     let p = has_front punctuators.OpenParenthesis ts y o in
-    let q : front ts ≡ 4 = ap front s.1.1 ∙ increment_class op in absurd (omega arith)
+    let q : front ts ≡ 4 = ap front s.operator.1 ∙ increment_class op in absurd (omega arith)
 inner_head text n ts y o bare f (Unary at op e) after i s =
     let p = has_front punctuators.OpenParenthesis ts y o in
-    let q : front ts ≡ 5 = ap front s.1.1 ∙ unary_class op in absurd (omega arith)
+    let q : front ts ≡ 5 = ap front s.operator.1 ∙ unary_class op in absurd (omega arith)
 inner_head text n ts y o bare f (Cast at to e) after i s =
-    let p = has_same punctuators.OpenParenthesis ts ts s.0 y refl (at, s.3) o in
-    absurd (bare (ap front (sym p) ∙ base_front to.base s.0 s.4.0 s.4.1))
+    let p = has_same punctuators.OpenParenthesis ts ts s.operator.after_opening y refl
+        (at, s.operator.opening) o in
+    absurd (bare
+    (ap front (sym p) ∙ base_front to.base s.operator.after_opening s.operator.inner.0
+    s.operator.inner.1))
 inner_head text n ts y o bare f (Binary a at op b) after i s = absurd i
 inner_head text n ts y o bare f (Conditional c at a b) after i s = absurd i
 inner_head text n ts y o bare f (Assign a at op b) after i s = absurd i
@@ -74,14 +84,18 @@ head_over : (text : List ℕ) (h : Expression) (ts after : List Token) → IsHea
 head_over text (Constant at (literals.Integer value type)) ts after i s = let p = ap first_over s.1 in omega arith
 head_over text (Constant at (literals.CharacterConstant value)) ts after i s = let p = ap first_over s.1 in omega arith
 head_over text (Variable named) ts after i s = let p = ap first_over s in omega arith
-head_over text (Information at field) ts after i s = let p = ap first_over s.6.1 in omega arith
-head_over text (Call named es) ts after i s = let p = ap first_over s.2 in omega arith
-head_over text (Parentheses at e) ts after i s = let p = ap first_over s.2.1 in omega arith
+head_over text (Information at field) ts after i s =
+    let p = ap first_over s.introduction.keyword.1 in
+    omega arith
+head_over text (Call named es) ts after i s = let p = ap first_over s.called in omega arith
+head_over text (Parentheses at e) ts after i s = let p = ap first_over s.opening.1 in omega arith
 head_over text (Index a at j) ts after i s = absurd i
 head_over text (Postfix e op at) ts after i s = absurd i
-head_over text (Prefix at op e) ts after i s = let p = ap first_over s.1.1 in omega arith
-head_over text (Unary at op e) ts after i s = let p = ap first_over s.1.1 in omega arith
-head_over text (Cast at to e) ts after i s = let p = ap first_over s.3.1 in omega arith
+head_over text (Prefix at op e) ts after i s = let p = ap first_over s.operator.1 in omega arith
+head_over text (Unary at op e) ts after i s = let p = ap first_over s.operator.1 in omega arith
+head_over text (Cast at to e) ts after i s =
+    let p = ap first_over s.operator.opening.1 in
+    omega arith
 head_over text (Binary a at op b) ts after i s = absurd i
 head_over text (Conditional c at a b) ts after i s = absurd i
 head_over text (Assign a at op b) ts after i s = absurd i
@@ -121,8 +135,11 @@ has_condition n text ts e h low =
 pub none_inside : (m n : ℕ) (text : List ℕ) (before other : List Token) → AreOpening (suc m) before [] → ((e : Expression) (rest r : List Token) → SpellsExpression text e other rest → HasPunctuator punctuators.CloseParenthesis rest r → n ≤ height e) → (1 ≤ m → front other ≡ 7 → ⊥) → 64 < m + n → NoCondition 1 text (before ++ other)
 none_inside m n text before other o f bare l e end h low =
     let x = opening_again (suc m) before other o in
-    let p = has_same punctuators.OpenParenthesis (before ++ other) (before ++ other) h.0 x.0 refl h.2 x.1 in
-    let q = least m n text x.0 other x.2 f bare e h.1 end (subst (λ (z : List Token). SpellsExpression text e z h.1) p h.3.spells) h.4 in
+    let p = has_same punctuators.OpenParenthesis (before ++ other)
+    (before ++ other) h.after_opening x.0 refl h.opening x.1 in
+    let q = least m n text x.0 other x.2 f bare e h.after_inner end
+    (subst (λ (z : List Token). SpellsExpression text e z h.after_inner) p h.inner.spells)
+    h.closing in
     let r = low (omega arith) in
     absurd (omega arith)
 
@@ -170,7 +187,17 @@ goes_type (suc (suc n)) (t ∷ ts) l k h = (t, ts, refl, λ text before speaks o
         let b = base_at t more h in
         let x = opening_split (suc n) 1 (suc (suc n)) (before ++ t ∷ more) (t ∷ more) (omega arith) (opening_again (suc (suc n)) before (t ∷ more) o) in
         let c = enclosed n text (Cast x.2.1.0 (record { base = b.0; pointers = 0 }) variable) (before ++ t ∷ more) x.0 (closing (suc n)) [] x.1
-        (x.2.0, more, name ∷ closing (suc n), x.2.1.1, (more, subst (λ (z : List Token). IsBase b.0 z more) (sym x.2.2) b.1, refl), (0, (0, refl)), omega arith, refl)
+        (record {
+          after_operator = name ∷ closing (suc n);
+          operator = record {
+            after_opening = x.2.0;
+            after_inner = more;
+            opening = x.2.1.1;
+            inner = (more, subst (λ (z : List Token). IsBase b.0 z more) (sym x.2.2) b.1, refl);
+            closing = (0, (0, refl));
+          };
+          operand = record { fits = omega arith; spells = refl };
+        })
         (closing_all (suc n)) in
         let w = c.high in
         record { more = more; has = has_condition 1 text (before ++ t ∷ more) c.tree c.is (omega arith) }

@@ -56,7 +56,23 @@ full text room ts following b is = record {
       has = inr (record {
         base = b;
         trees = plain ∷ [];
-        is = λ other. subst (λ (z : List Token). IsDeclaration text' b (plain ∷ []) (t ∷ z) other) (sym (append_assoc before (name ∷ punctuator punctuators.Semicolon ∷ []) other)) (name ∷ punctuator punctuators.Semicolon ∷ other, f (name ∷ punctuator punctuators.Semicolon ∷ other), (punctuator punctuators.Semicolon ∷ other, (_, _, refl, refl, refl), (0, (0, refl))));
+        is =
+            λ other. subst (λ (z : List Token). IsDeclaration text' b (plain ∷ []) (t ∷ z) other)
+            (sym (append_assoc before (name ∷ punctuator punctuators.Semicolon ∷ []) other)) (
+              name ∷ punctuator punctuators.Semicolon ∷ other,
+              f (name ∷ punctuator punctuators.Semicolon ∷ other),
+              (
+                punctuator punctuators.Semicolon ∷ other,
+                record {
+                  after_stars = _;
+                  after_name = _;
+                  stars = refl;
+                  name = refl;
+                  initialiser = refl;
+                },
+                (0, (0, refl)),
+              ),
+            );
         within = record { expressions = λ k. omega arith; statements = λ k. omega arith; count = λ k. absurd (omega arith) };
       });
     }

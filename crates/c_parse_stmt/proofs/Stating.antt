@@ -23,7 +23,13 @@ abbrev conditional : List Token → List Token
 conditional ts = punctuator punctuators.OpenParenthesis ∷ name ∷ punctuator punctuators.CloseParenthesis ∷ ts
 
 of_condition : (text : List ℕ) (other : List Token) → IsCondition text variable (conditional other) other
-of_condition text other = (_, _, (0, (0, refl)), record { fits = omega arith; spells = refl }, (0, (0, refl)))
+of_condition text other = record {
+  after_opening = _;
+  after_inner = _;
+  opening = (0, (0, refl));
+  inner = record { fits = omega arith; spells = refl };
+  closing = (0, (0, refl));
+}
 
 -- `;`
 empty : (text : List ℕ) (other : List Token) → IsBlockItem text (Evaluate None) (punctuator punctuators.Semicolon ∷ other) other
@@ -33,19 +39,101 @@ stated_by_keyword : (text : List ℕ) (k : Keyword) (at end : ℕ) → 2 ≤ key
 stated_by_keyword text keywords.Break at end h l = record { more = punctuator punctuators.Semicolon ∷ []; tree = Break at; is = λ other. (_, (end, refl), (0, (0, refl))); statement = refl }
 stated_by_keyword text keywords.Char at end h l = absurd (omega arith)
 stated_by_keyword text keywords.Continue at end h l = record { more = punctuator punctuators.Semicolon ∷ []; tree = Continue at; is = λ other. (_, (end, refl), (0, (0, refl))); statement = refl }
-stated_by_keyword text keywords.Do at end h l = record { more = punctuator punctuators.Semicolon ∷ keyword keywords.While ∷ conditional (punctuator punctuators.Semicolon ∷ []); tree = DoWhile (Evaluate None) 0 variable; is = λ other. (_, _, _, _, (at, (end, refl)), refl, empty text _, (0, refl), of_condition text _, (0, (0, refl))); statement = refl }
+stated_by_keyword text keywords.Do at end h l = record {
+  more =
+      punctuator punctuators.Semicolon ∷ keyword keywords.While
+      ∷ conditional (punctuator punctuators.Semicolon ∷ []);
+  tree = DoWhile (Evaluate None) 0 variable;
+  is = λ other. record {
+    after_do = _;
+    after_body = _;
+    after_while = _;
+    after_condition = _;
+    do_keyword = (at, (end, refl));
+    body = record { no_declaration = refl; item = empty text _ };
+    keyword = (0, refl);
+    condition = of_condition text _;
+    semicolon = (0, (0, refl));
+  };
+  statement = refl;
+}
 stated_by_keyword text keywords.Else at end h l = absurd (omega arith)
-stated_by_keyword text keywords.For at end h l = record { more = punctuator punctuators.OpenParenthesis ∷ punctuator punctuators.Semicolon ∷ punctuator punctuators.Semicolon ∷ punctuator punctuators.CloseParenthesis ∷ punctuator punctuators.Semicolon ∷ []; tree = For at (Evaluating None) None None (Evaluate None); is = λ other. (_, _, _, _, _, _, _, (end, refl), (0, (0, refl)), (_, refl, (0, (0, refl))), refl, (0, (0, refl)), refl, (0, (0, refl)), refl, empty text other); statement = refl }
-stated_by_keyword text keywords.If at end h l = record { more = conditional (punctuator punctuators.Semicolon ∷ []); tree = If at variable (Evaluate None); is = λ other. (_, _, (end, refl), of_condition text _, refl, empty text other); statement = refl }
+stated_by_keyword text keywords.For at end h l = record {
+  more =
+      punctuator punctuators.OpenParenthesis ∷ punctuator punctuators.Semicolon
+      ∷ punctuator punctuators.Semicolon
+      ∷ punctuator punctuators.CloseParenthesis ∷ punctuator punctuators.Semicolon ∷ [];
+  tree = For at (Evaluating None) None None (Evaluate None);
+  is = λ other. record {
+    after_head = _;
+    head = record {
+      after_keyword = _;
+      after_opening = _;
+      after_first = _;
+      after_condition = _;
+      keyword = (end, refl);
+      opening = (0, (0, refl));
+      first = (_, refl, (0, (0, refl)));
+      condition = (_, refl, (0, (0, refl)));
+      next = (_, refl, (0, (0, refl)));
+    };
+    body = record { no_declaration = refl; item = empty text other };
+  };
+  statement = refl;
+}
+stated_by_keyword text keywords.If at end h l = record {
+  more = conditional (punctuator punctuators.Semicolon ∷ []);
+  tree = If at variable (Evaluate None);
+  is = λ other. record {
+    after_keyword = _;
+    after_condition = _;
+    keyword = (end, refl);
+    condition = of_condition text _;
+    body = record { no_declaration = refl; item = empty text other };
+  };
+  statement = refl;
+}
 stated_by_keyword text keywords.Int at end h l = absurd (omega arith)
 stated_by_keyword text keywords.Long at end h l = absurd (omega arith)
-stated_by_keyword text keywords.Return at end h l = record { more = punctuator punctuators.Semicolon ∷ []; tree = Return at None; is = λ other. (_, _, (end, refl), refl, (0, (0, refl))); statement = refl }
+stated_by_keyword text keywords.Return at end h l = record {
+  more = punctuator punctuators.Semicolon ∷ [];
+  tree = Return at None;
+  is = λ other. (_, (end, refl), empty text other);
+  statement = refl;
+}
 stated_by_keyword text keywords.Short at end h l = absurd (omega arith)
 stated_by_keyword text keywords.Signed at end h l = absurd (omega arith)
 stated_by_keyword text keywords.Unsigned at end h l = absurd (omega arith)
 stated_by_keyword text keywords.Void at end h l = absurd (omega arith)
-stated_by_keyword text keywords.While at end h l = record { more = conditional (punctuator punctuators.Semicolon ∷ []); tree = While at variable (Evaluate None); is = λ other. (_, _, (end, refl), of_condition text _, refl, empty text other); statement = refl }
-stated_by_keyword text keywords.Try at end h l = record { more = punctuator punctuators.OpenBrace ∷ punctuator punctuators.CloseBrace ∷ keyword keywords.Finally ∷ punctuator punctuators.OpenBrace ∷ punctuator punctuators.CloseBrace ∷ []; tree = TryFinally Empty 0 Empty; is = λ other. (_, _, _, _, _, (at, (end, refl)), (0, (0, refl)), (0, (0, refl)), (0, refl), (0, (0, refl)), (0, (0, refl))); statement = refl }
+stated_by_keyword text keywords.While at end h l = record {
+  more = conditional (punctuator punctuators.Semicolon ∷ []);
+  tree = While at variable (Evaluate None);
+  is = λ other. record {
+    after_keyword = _;
+    after_condition = _;
+    keyword = (end, refl);
+    condition = of_condition text _;
+    body = record { no_declaration = refl; item = empty text other };
+  };
+  statement = refl;
+}
+stated_by_keyword text keywords.Try at end h l = record {
+  more =
+      punctuator punctuators.OpenBrace ∷ punctuator punctuators.CloseBrace
+      ∷ keyword keywords.Finally
+      ∷ punctuator punctuators.OpenBrace ∷ punctuator punctuators.CloseBrace ∷ [];
+  tree = TryFinally Empty 0 Empty;
+  is = λ other. record {
+    after_try = _;
+    after_body = _;
+    after_finally = _;
+    try_keyword = (at, (end, refl));
+    body = record { after_brace = _; brace = (0, (0, refl)); items = (0, (0, refl)) };
+    keyword = (0, refl);
+    last = record { after_brace = _; brace = (0, (0, refl)); items = (0, (0, refl)) };
+  };
+  statement = refl;
+}
 stated_by_keyword text keywords.Except at end h l = absurd (omega arith)
 stated_by_keyword text keywords.Finally at end h l = absurd (omega arith)
 stated_by_keyword text keywords.Leave at end h l = record { more = punctuator punctuators.Semicolon ∷ []; tree = Leave at; is = λ other. (_, (end, refl), (0, (0, refl))); statement = refl }
@@ -56,7 +144,12 @@ stated_by_punctuator text punctuators.OpenParenthesis at end h l = absurd (omega
 stated_by_punctuator text punctuators.CloseParenthesis at end h l = absurd (omega arith)
 stated_by_punctuator text punctuators.OpenBracket at end h l = absurd (omega arith)
 stated_by_punctuator text punctuators.CloseBracket at end h l = absurd (omega arith)
-stated_by_punctuator text punctuators.OpenBrace at end h l = record { more = punctuator punctuators.CloseBrace ∷ []; tree = Block Empty; is = λ other. (_, (at, (end, refl)), (0, (0, refl))); statement = refl }
+stated_by_punctuator text punctuators.OpenBrace at end h l = record {
+  more = punctuator punctuators.CloseBrace ∷ [];
+  tree = Block Empty;
+  is = λ other. record { after_brace = _; brace = (at, (end, refl)); items = (0, (0, refl)) };
+  statement = refl;
+}
 stated_by_punctuator text punctuators.CloseBrace at end h l = absurd (omega arith)
 stated_by_punctuator text punctuators.Semicolon at end h l = absurd (omega arith)
 stated_by_punctuator text punctuators.Comma at end h l = absurd (omega arith)

@@ -6,57 +6,139 @@ use Rattle.c_lex.specs.declared.punctuator.Punctuator.TheVariants as punctuators
 use Rattle.c_lex.specs.declared.token.Token.{Token}
 use Rattle.c_syntax.specs.Expression.{Expression}
 use Rattle.c_syntax.specs.Statement.{ForInitialiser, Statement, Declare, Block, Evaluate, If, IfElse, While, DoWhile, For, Return, Break, Continue, Leave, TryExcept, TryFinally, Statements}
-use Rattle.c_syntax.specs.Statements.{IsCondition, IsForInitialiser, is_declaration, dangles, IsBlockItem, AreBlockItems}
-use Rattle.c_syntax.specs.Tokens.{IsKeyword, HasPunctuator, HasKeyword}
+use Rattle.c_syntax.specs.Statements.{IsUpTo, IsCondition, IsForInitialiser, dangles, IsStatement, IsBlock, IsBlockItem, AreBlockItems}
+use Rattle.c_syntax.specs.Tokens.{Phrase, IsKeyword, HasPunctuator, HasKeyword}
 use Rattle.c_syntax.proofs.Fronts.{has_same}
 use Rattle.c_syntax.proofs.Blocks.{begins, item_begins, place, word}
-use Rattle.c_parse_stmt.specs.Parts.{IsUpTo}
 
 -- a block, with both braces
-abbrev pub IsBraced : List ℕ → Statements → List Token → List Token → Type 0
-IsBraced text ss ts rest = (a : List Token) × HasPunctuator punctuators.OpenBrace ts a × AreBlockItems text ss a rest
+abbrev pub IsBraced : List ℕ → Statements → Phrase
+IsBraced text ss = IsBlock (AreBlockItems text ss)
 
--- what is after each keyword, in some statement
-abbrev pub AfterIf : List ℕ → ℕ → Statement → List Token → List Token → Type 0
-AfterIf text at z ts end = (c : Expression) × (s : Statement) × (b : List Token) × (z ≡ If at c s) × IsCondition text c ts b × IsFalse (is_declaration s) × IsBlockItem text s b end
+-- ---- what is after each keyword, in some statement
 
-abbrev pub AfterIfElse : List ℕ → ℕ → Statement → List Token → List Token → Type 0
-AfterIfElse text at z ts end =
-    (c : Expression) × (s : Statement) × (t : Statement) × (b : List Token) × (d : List Token) × (e : List Token)
-    × (z ≡ IfElse at c s t) × IsCondition text c ts b × IsFalse (is_declaration s) × IsFalse (dangles s) × IsBlockItem text s b d × HasKeyword keywords.Else d e × IsFalse (is_declaration t) × IsBlockItem text t e end
+pub record AfterIf (text : List ℕ) (at : ℕ) (z : Statement) (ts end : List Token) : Type 0 where
+  pub condition : Expression
+  pub body : Statement
+  pub after_condition : List Token
+  pub same : z ≡ If at condition body
+  pub is_condition : IsCondition text condition ts after_condition
+  pub is_body : IsStatement body (IsBlockItem text body) after_condition end
 
-abbrev pub AfterWhile : List ℕ → ℕ → Statement → List Token → List Token → Type 0
-AfterWhile text at z ts end = (c : Expression) × (s : Statement) × (b : List Token) × (z ≡ While at c s) × IsCondition text c ts b × IsFalse (is_declaration s) × IsBlockItem text s b end
+pub record AfterIfElse (text : List ℕ) (at : ℕ) (z : Statement) (ts end : List Token) : Type 0 where
+  pub condition : Expression
+  pub body : Statement
+  pub else_body : Statement
+  pub after_condition : List Token
+  pub after_body : List Token
+  pub after_else : List Token
+  pub same : z ≡ IfElse at condition body else_body
+  pub is_condition : IsCondition text condition ts after_condition
+  pub complete : IsFalse (dangles body)
+  pub is_body : IsStatement body (IsBlockItem text body) after_condition after_body
+  pub else_keyword : HasKeyword keywords.Else after_body after_else
+  pub is_else_body : IsStatement else_body (IsBlockItem text else_body) after_else end
 
-abbrev pub AfterDo : List ℕ → Statement → List Token → List Token → Type 0
-AfterDo text z ts end =
-    (s : Statement) × (at : ℕ) × (c : Expression) × (b : List Token) × (d : List Token) × (e : List Token)
-    × (z ≡ DoWhile s at c) × IsFalse (is_declaration s) × IsBlockItem text s ts b × IsKeyword keywords.While at b d × IsCondition text c d e × HasPunctuator punctuators.Semicolon e end
+pub record AfterWhile (text : List ℕ) (at : ℕ) (z : Statement) (ts end : List Token) : Type 0 where
+  pub condition : Expression
+  pub body : Statement
+  pub after_condition : List Token
+  pub same : z ≡ While at condition body
+  pub is_condition : IsCondition text condition ts after_condition
+  pub is_body : IsStatement body (IsBlockItem text body) after_condition end
 
-abbrev pub AfterFor : List ℕ → ℕ → Statement → List Token → List Token → Type 0
-AfterFor text at z ts end =
-    (f : ForInitialiser) × (c : Option Expression) × (n : Option Expression) × (s : Statement) × (b : List Token) × (d : List Token) × (g : List Token) × (i : List Token)
-    × (z ≡ For at f c n s) × HasPunctuator punctuators.OpenParenthesis ts b × IsForInitialiser text f b d × IsUpTo text punctuators.Semicolon c d g × IsUpTo text punctuators.CloseParenthesis n g i × IsFalse (is_declaration s) × IsBlockItem text s i end
+pub record AfterDo (text : List ℕ) (z : Statement) (ts end : List Token) : Type 0 where
+  pub body : Statement
+  pub at : ℕ
+  pub condition : Expression
+  pub after_body : List Token
+  pub after_while : List Token
+  pub after_condition : List Token
+  pub same : z ≡ DoWhile body at condition
+  pub is_body : IsStatement body (IsBlockItem text body) ts after_body
+  pub keyword : IsKeyword keywords.While at after_body after_while
+  pub is_condition : IsCondition text condition after_while after_condition
+  pub semicolon : HasPunctuator punctuators.Semicolon after_condition end
 
-abbrev pub AfterReturn : List ℕ → ℕ → Statement → List Token → List Token → Type 0
-AfterReturn text at z ts end = (e : Option Expression) × (z ≡ Return at e) × IsUpTo text punctuators.Semicolon e ts end
+pub record AfterFor (text : List ℕ) (at : ℕ) (z : Statement) (ts end : List Token) : Type 0 where
+  pub first : ForInitialiser
+  pub condition : Option Expression
+  pub next : Option Expression
+  pub body : Statement
+  pub after_opening : List Token
+  pub after_first : List Token
+  pub after_condition : List Token
+  pub after_head : List Token
+  pub same : z ≡ For at first condition next body
+  pub opening : HasPunctuator punctuators.OpenParenthesis ts after_opening
+  pub is_first : IsForInitialiser text first after_opening after_first
+  pub is_condition : IsUpTo text punctuators.Semicolon condition after_first after_condition
+  pub is_next : IsUpTo text punctuators.CloseParenthesis next after_condition after_head
+  pub is_body : IsStatement body (IsBlockItem text body) after_head end
 
-abbrev pub AfterExcept : List ℕ → Statement → List Token → List Token → Type 0
-AfterExcept text z ts end =
-    (body : Statements) × (at : ℕ) × (f : Expression) × (handler : Statements) × (c : List Token) × (d : List Token) × (e : List Token)
-    × (z ≡ TryExcept body at f handler) × IsBraced text body ts c × IsKeyword keywords.Except at c d × IsCondition text f d e × IsBraced text handler e end
+abbrev pub AfterReturn : List ℕ → ℕ → Statement → Phrase
+AfterReturn text at z ts end =
+    (e : Option Expression) × (z ≡ Return at e) × IsUpTo text punctuators.Semicolon e ts end
 
-abbrev pub AfterFinally : List ℕ → Statement → List Token → List Token → Type 0
-AfterFinally text z ts end =
-    (body : Statements) × (at : ℕ) × (last : Statements) × (c : List Token) × (d : List Token)
-    × (z ≡ TryFinally body at last) × IsBraced text body ts c × IsKeyword keywords.Finally at c d × IsBraced text last d end
+pub record AfterExcept (text : List ℕ) (z : Statement) (ts end : List Token) : Type 0 where
+  pub body : Statements
+  pub at : ℕ
+  pub filter : Expression
+  pub handler : Statements
+  pub after_body : List Token
+  pub after_except : List Token
+  pub after_filter : List Token
+  pub same : z ≡ TryExcept body at filter handler
+  pub is_body : IsBraced text body ts after_body
+  pub keyword : IsKeyword keywords.Except at after_body after_except
+  pub is_filter : IsCondition text filter after_except after_filter
+  pub is_handler : IsBraced text handler after_filter end
+
+pub record AfterFinally (text : List ℕ) (z : Statement) (ts end : List Token) : Type 0 where
+  pub body : Statements
+  pub at : ℕ
+  pub last : Statements
+  pub after_body : List Token
+  pub after_finally : List Token
+  pub same : z ≡ TryFinally body at last
+  pub is_body : IsBraced text body ts after_body
+  pub keyword : IsKeyword keywords.Finally at after_body after_finally
+  pub is_last : IsBraced text last after_finally end
+
+-- ---- each statement that begins with the keyword
 
 pub after_if : (text : List ℕ) (at : ℕ) (z : Statement) (ts a end : List Token) → IsKeyword keywords.If at ts a → IsBlockItem text z ts end → AfterIf text at z a end ⊎ AfterIfElse text at z a end
 after_if text at (Declare b ls) ts a end k h = absurd (let p : begins ts ≡ 3 = ap begins k.1 in let q = item_begins text (Declare b ls) ts end h in omega arith)
 after_if text at (Block ss) ts a end k h = absurd (let p : begins ts ≡ 3 = ap begins k.1 in let q = item_begins text (Block ss) ts end h in omega arith)
 after_if text at (Evaluate e) ts a end k h = absurd (let p : begins ts ≡ 3 = ap begins k.1 in let q = item_begins text (Evaluate e) ts end h in omega arith)
-after_if text at (If at' c s) ts a end k h = let p = place keywords.If at at' ts ts a h.0 refl k h.2 in inl (c, s, h.1, ap (λ (x : ℕ). If x c s) (sym p.0), subst (λ (x : List Token). IsCondition text c x h.1) (sym p.1) h.3, h.4, h.5)
-after_if text at (IfElse at' c s t) ts a end k h = let p = place keywords.If at at' ts ts a h.0 refl k h.4 in inr (c, s, t, h.1, h.2, h.3, ap (λ (x : ℕ). IfElse x c s t) (sym p.0), subst (λ (x : List Token). IsCondition text c x h.1) (sym p.1) h.5, h.6, h.7, h.8, h.9, h.10, h.11)
+after_if text at (If at' c s) ts a end k h =
+    let p = place keywords.If at at' ts ts a h.after_keyword refl k h.keyword in
+    inl (record {
+      condition = c;
+      body = s;
+      after_condition = h.after_condition;
+      same = ap (λ (x : ℕ). If x c s) (sym p.0);
+      is_condition =
+          subst (λ (x : List Token). IsCondition text c x h.after_condition) (sym p.1) h.condition;
+      is_body = h.body;
+    })
+after_if text at (IfElse at' c s t) ts a end k h =
+    let p = place keywords.If at at' ts ts a h.after_if refl k h.keyword in
+    inr (record {
+      condition = c;
+      body = s;
+      else_body = t;
+      after_condition = h.after_condition;
+      after_body = h.after_body;
+      after_else = h.after_else;
+      same = ap (λ (x : ℕ). IfElse x c s t) (sym p.0);
+      is_condition =
+          subst (λ (x : List Token). IsCondition text c x h.after_condition) (sym p.1) h.condition;
+      complete = h.complete;
+      is_body = h.body;
+      else_keyword = h.else_keyword;
+      is_else_body = h.else_body;
+    })
 after_if text at (While at' c s) ts a end k h = absurd (let p : begins ts ≡ 3 = ap begins k.1 in let q = item_begins text (While at' c s) ts end h in omega arith)
 after_if text at (DoWhile s at' c) ts a end k h = absurd (let p : begins ts ≡ 3 = ap begins k.1 in let q = item_begins text (DoWhile s at' c) ts end h in omega arith)
 after_if text at (For at' f c n s) ts a end k h = absurd (let p : begins ts ≡ 3 = ap begins k.1 in let q = item_begins text (For at' f c n s) ts end h in omega arith)
@@ -73,7 +155,17 @@ after_while text at (Block ss) ts a end k h = absurd (let p : begins ts ≡ 4 = 
 after_while text at (Evaluate e) ts a end k h = absurd (let p : begins ts ≡ 4 = ap begins k.1 in let q = item_begins text (Evaluate e) ts end h in omega arith)
 after_while text at (If at' c s) ts a end k h = absurd (let p : begins ts ≡ 4 = ap begins k.1 in let q = item_begins text (If at' c s) ts end h in omega arith)
 after_while text at (IfElse at' c s t) ts a end k h = absurd (let p : begins ts ≡ 4 = ap begins k.1 in let q = item_begins text (IfElse at' c s t) ts end h in omega arith)
-after_while text at (While at' c s) ts a end k h = let p = place keywords.While at at' ts ts a h.0 refl k h.2 in (c, s, h.1, ap (λ (x : ℕ). While x c s) (sym p.0), subst (λ (x : List Token). IsCondition text c x h.1) (sym p.1) h.3, h.4, h.5)
+after_while text at (While at' c s) ts a end k h =
+    let p = place keywords.While at at' ts ts a h.after_keyword refl k h.keyword in
+    record {
+      condition = c;
+      body = s;
+      after_condition = h.after_condition;
+      same = ap (λ (x : ℕ). While x c s) (sym p.0);
+      is_condition =
+          subst (λ (x : List Token). IsCondition text c x h.after_condition) (sym p.1) h.condition;
+      is_body = h.body;
+    }
 after_while text at (DoWhile s at' c) ts a end k h = absurd (let p : begins ts ≡ 4 = ap begins k.1 in let q = item_begins text (DoWhile s at' c) ts end h in omega arith)
 after_while text at (For at' f c n s) ts a end k h = absurd (let p : begins ts ≡ 4 = ap begins k.1 in let q = item_begins text (For at' f c n s) ts end h in omega arith)
 after_while text at (Return at' e) ts a end k h = absurd (let p : begins ts ≡ 4 = ap begins k.1 in let q = item_begins text (Return at' e) ts end h in omega arith)
@@ -90,7 +182,23 @@ after_do text at (Evaluate e) ts a end k h = absurd (let p : begins ts ≡ 5 = a
 after_do text at (If at' c s) ts a end k h = absurd (let p : begins ts ≡ 5 = ap begins k.1 in let q = item_begins text (If at' c s) ts end h in omega arith)
 after_do text at (IfElse at' c s t) ts a end k h = absurd (let p : begins ts ≡ 5 = ap begins k.1 in let q = item_begins text (IfElse at' c s t) ts end h in omega arith)
 after_do text at (While at' c s) ts a end k h = absurd (let p : begins ts ≡ 5 = ap begins k.1 in let q = item_begins text (While at' c s) ts end h in omega arith)
-after_do text at (DoWhile s at' c) ts a end k h = let p = word keywords.Do ts ts a h.0 refl (at, k) h.4 in (s, at', c, h.1, h.2, h.3, refl, h.5, subst (λ (x : List Token). IsBlockItem text s x h.1) (sym p) h.6, h.7, h.8, h.9)
+after_do text at (DoWhile s at' c) ts a end k h =
+    let p = word keywords.Do ts ts a h.after_do refl (at, k) h.do_keyword in
+    record {
+      body = s;
+      at = at';
+      condition = c;
+      after_body = h.after_body;
+      after_while = h.after_while;
+      after_condition = h.after_condition;
+      same = refl;
+      is_body =
+          subst (λ (x : List Token). IsStatement s (IsBlockItem text s) x h.after_body)
+          (sym p) h.body;
+      keyword = h.keyword;
+      is_condition = h.condition;
+      semicolon = h.semicolon;
+    }
 after_do text at (For at' f c n s) ts a end k h = absurd (let p : begins ts ≡ 5 = ap begins k.1 in let q = item_begins text (For at' f c n s) ts end h in omega arith)
 after_do text at (Return at' e) ts a end k h = absurd (let p : begins ts ≡ 5 = ap begins k.1 in let q = item_begins text (Return at' e) ts end h in omega arith)
 after_do text at (Break at') ts a end k h = absurd (let p : begins ts ≡ 5 = ap begins k.1 in let q = item_begins text (Break at') ts end h in omega arith)
@@ -107,7 +215,26 @@ after_for text at (If at' c s) ts a end k h = absurd (let p : begins ts ≡ 6 = 
 after_for text at (IfElse at' c s t) ts a end k h = absurd (let p : begins ts ≡ 6 = ap begins k.1 in let q = item_begins text (IfElse at' c s t) ts end h in omega arith)
 after_for text at (While at' c s) ts a end k h = absurd (let p : begins ts ≡ 6 = ap begins k.1 in let q = item_begins text (While at' c s) ts end h in omega arith)
 after_for text at (DoWhile s at' c) ts a end k h = absurd (let p : begins ts ≡ 6 = ap begins k.1 in let q = item_begins text (DoWhile s at' c) ts end h in omega arith)
-after_for text at (For at' f c n s) ts a end k h = let p = place keywords.For at at' ts ts a h.0 refl k h.7 in (f, c, n, s, h.1, h.2, h.4, h.6, ap (λ (x : ℕ). For x f c n s) (sym p.0), subst (λ (x : List Token). HasPunctuator punctuators.OpenParenthesis x h.1) (sym p.1) h.8, h.9, (h.3, h.10, h.11), (h.5, h.12, h.13), h.14, h.15)
+after_for text at (For at' f c n s) ts a end k h =
+    let p = place keywords.For at at' ts ts a h.after_keyword refl k h.keyword in
+    record {
+      first = f;
+      condition = c;
+      next = n;
+      body = s;
+      after_opening = h.after_opening;
+      after_first = h.after_first;
+      after_condition = h.after_condition;
+      after_head = h.after_head;
+      same = ap (λ (x : ℕ). For x f c n s) (sym p.0);
+      opening =
+          subst (λ (x : List Token). HasPunctuator punctuators.OpenParenthesis x h.after_opening)
+          (sym p.1) h.opening;
+      is_first = h.first;
+      is_condition = h.condition;
+      is_next = h.next;
+      is_body = h.body;
+    }
 after_for text at (Return at' e) ts a end k h = absurd (let p : begins ts ≡ 6 = ap begins k.1 in let q = item_begins text (Return at' e) ts end h in omega arith)
 after_for text at (Break at') ts a end k h = absurd (let p : begins ts ≡ 6 = ap begins k.1 in let q = item_begins text (Break at') ts end h in omega arith)
 after_for text at (Continue at') ts a end k h = absurd (let p : begins ts ≡ 6 = ap begins k.1 in let q = item_begins text (Continue at') ts end h in omega arith)
@@ -124,7 +251,12 @@ after_return text at (IfElse at' c s t) ts a end k h = absurd (let p : begins ts
 after_return text at (While at' c s) ts a end k h = absurd (let p : begins ts ≡ 7 = ap begins k.1 in let q = item_begins text (While at' c s) ts end h in omega arith)
 after_return text at (DoWhile s at' c) ts a end k h = absurd (let p : begins ts ≡ 7 = ap begins k.1 in let q = item_begins text (DoWhile s at' c) ts end h in omega arith)
 after_return text at (For at' f c n s) ts a end k h = absurd (let p : begins ts ≡ 7 = ap begins k.1 in let q = item_begins text (For at' f c n s) ts end h in omega arith)
-after_return text at (Return at' e) ts a end k h = let p = place keywords.Return at at' ts ts a h.0 refl k h.2 in (e, ap (λ (x : ℕ). Return x e) (sym p.0), subst (λ (x : List Token). IsUpTo text punctuators.Semicolon e x end) (sym p.1) (h.1, h.3, h.4))
+after_return text at (Return at' e) ts a end k h =
+    let p = place keywords.Return at at' ts ts a h.0 refl k h.1 in (
+      e,
+      ap (λ (x : ℕ). Return x e) (sym p.0),
+      subst (λ (x : List Token). IsUpTo text punctuators.Semicolon e x end) (sym p.1) h.2,
+    )
 after_return text at (Break at') ts a end k h = absurd (let p : begins ts ≡ 7 = ap begins k.1 in let q = item_begins text (Break at') ts end h in omega arith)
 after_return text at (Continue at') ts a end k h = absurd (let p : begins ts ≡ 7 = ap begins k.1 in let q = item_begins text (Continue at') ts end h in omega arith)
 after_return text at (Leave at') ts a end k h = absurd (let p : begins ts ≡ 7 = ap begins k.1 in let q = item_begins text (Leave at') ts end h in omega arith)
@@ -192,15 +324,44 @@ after_try text at (Return at' e) ts a end k h = absurd (let p : begins ts ≡ 11
 after_try text at (Break at') ts a end k h = absurd (let p : begins ts ≡ 11 = ap begins k.1 in let q = item_begins text (Break at') ts end h in omega arith)
 after_try text at (Continue at') ts a end k h = absurd (let p : begins ts ≡ 11 = ap begins k.1 in let q = item_begins text (Continue at') ts end h in omega arith)
 after_try text at (Leave at') ts a end k h = absurd (let p : begins ts ≡ 11 = ap begins k.1 in let q = item_begins text (Leave at') ts end h in omega arith)
-after_try text at (TryExcept body at' f handler) ts a end k h = let p = word keywords.Try ts ts a h.0 refl (at, k) h.6 in inl (body, at', f, handler, h.2, h.3, h.4, refl, subst (λ (x : List Token). IsBraced text body x h.2) (sym p) (h.1, h.7, h.8), h.9, h.10, (h.5, h.11, h.12))
-after_try text at (TryFinally body at' last) ts a end k h = let p = word keywords.Try ts ts a h.0 refl (at, k) h.5 in inr (body, at', last, h.2, h.3, refl, subst (λ (x : List Token). IsBraced text body x h.2) (sym p) (h.1, h.6, h.7), h.8, (h.4, h.9, h.10))
+after_try text at (TryExcept body at' f handler) ts a end k h =
+    let p = word keywords.Try ts ts a h.after_try refl (at, k) h.try_keyword in
+    inl (record {
+      body = body;
+      at = at';
+      filter = f;
+      handler = handler;
+      after_body = h.after_body;
+      after_except = h.after_except;
+      after_filter = h.after_filter;
+      same = refl;
+      is_body = subst (λ (x : List Token). IsBraced text body x h.after_body) (sym p) h.body;
+      keyword = h.keyword;
+      is_filter = h.filter;
+      is_handler = h.handler;
+    })
+after_try text at (TryFinally body at' last) ts a end k h =
+    let p = word keywords.Try ts ts a h.after_try refl (at, k) h.try_keyword in
+    inr (record {
+      body = body;
+      at = at';
+      last = last;
+      after_body = h.after_body;
+      after_finally = h.after_finally;
+      same = refl;
+      is_body = subst (λ (x : List Token). IsBraced text body x h.after_body) (sym p) h.body;
+      keyword = h.keyword;
+      is_last = h.last;
+    })
 
 abbrev pub AfterBrace : List ℕ → Statement → List Token → List Token → Type 0
 AfterBrace text z ts end = (ss : Statements) × (z ≡ Block ss) × AreBlockItems text ss ts end
 
 pub after_brace : (text : List ℕ) (z : Statement) (ts a end : List Token) → HasPunctuator punctuators.OpenBrace ts a → IsBlockItem text z ts end → AfterBrace text z a end
 after_brace text (Declare b ls) ts a end k h = absurd (let p : begins ts ≡ 2 = ap begins k.1.1 in let q = item_begins text (Declare b ls) ts end h in omega arith)
-after_brace text (Block ss) ts a end k h = let p = has_same punctuators.OpenBrace ts ts h.0 a refl h.1 k in (ss, refl, subst (λ (x : List Token). AreBlockItems text ss x end) p h.2)
+after_brace text (Block ss) ts a end k h =
+    let p = has_same punctuators.OpenBrace ts ts h.after_brace a refl h.brace k in
+    (ss, refl, subst (λ (x : List Token). AreBlockItems text ss x end) p h.items)
 after_brace text (Evaluate e) ts a end k h = absurd (let p : begins ts ≡ 2 = ap begins k.1.1 in let q = item_begins text (Evaluate e) ts end h in omega arith)
 after_brace text (If at' c s) ts a end k h = absurd (let p : begins ts ≡ 2 = ap begins k.1.1 in let q = item_begins text (If at' c s) ts end h in omega arith)
 after_brace text (IfElse at' c s t) ts a end k h = absurd (let p : begins ts ≡ 2 = ap begins k.1.1 in let q = item_begins text (IfElse at' c s t) ts end h in omega arith)

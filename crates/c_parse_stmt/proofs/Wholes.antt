@@ -10,13 +10,13 @@ use Rattle.c_syntax.specs.Expression.{Expression, height}
 use Rattle.c_syntax.specs.Follow.{punctuator_follows, NoElse, Closed}
 use Rattle.c_syntax.specs.Limits.{height_of, one_over, height_of_for_initialiser, statements_over, locals, locals_of_all, locals_of_for_initialiser, accepts, numbered, funclets_of_all}
 use Rattle.c_syntax.specs.Statement.{ForInitialiser, Statement, Declare, Block, Evaluate, If, IfElse, While, DoWhile, For, Return, Break, Continue, Leave, TryExcept, TryFinally, Statements}
-use Rattle.c_syntax.specs.Statements.{IsCondition, IsForInitialiser, dangles, IsBlockItem, AreBlockItems}
+use Rattle.c_syntax.specs.Statements.{IsUpTo, IsCondition, IsForInitialiser, dangles, IsBlockItem, AreBlockItems}
 use Rattle.c_syntax.specs.Tokens.{IsKeyword, HasPunctuator, HasKeyword}
 use Rattle.c_syntax.proofs.Fronts.{keyword_same, has_same, punctuator_class}
 use Rattle.c_syntax.proofs.Blocks.{condition, optional, first, place, word, absent, while_else, same_items, one_statement}
 use Rattle.c_parse_stmt.specs.declared.left.Left.{Left}
 use Rattle.c_parse_stmt.specs.Filters.{numbers_of, NoFilter}
-use Rattle.c_parse_stmt.specs.Parts.{IsUpTo, NoCondition, NoneUpTo, NoForInitialiser}
+use Rattle.c_parse_stmt.specs.Parts.{NoCondition, NoneUpTo, NoForInitialiser}
 use Rattle.c_parse_stmt.specs.Within.{AllWithin, AllTaken, NoBlockItems, Within, Reads, NoStatement, NoEvaluation, AfterKeyword}
 use Rattle.c_parse_stmt.proofs.Tails.{IsBraced, AfterIf, AfterIfElse, AfterExcept, AfterFinally, after_if, after_while, after_do, after_for, after_return, after_break, after_continue, after_leave, after_try, after_brace}
 
@@ -45,25 +45,51 @@ after_condition text c d a b e h g = (condition text c d a a b e refl h g).1
 pub while_found : (text : List ℕ) (room less at : ℕ) (left after : Left) (c : Expression) (z : Statement) (a b rest : List Token) → less + 1 ≡ room → IsCondition text c a b → height c ≤ 64 → Reads text less left after z b rest → AfterKeyword keywords.While at a (λ ts. Reads text room left after (While at c z) ts rest)
 while_found text room less at left after c z a b rest n is low r ts k =
     let t = r.taken in let o = t.statements in let x = t.expressions in
-    record { is = (a, b, k, is, r.statement, r.is); statement = refl; closed = r.closed; taken = record { statements = omega arith; expressions = omega arith; locals = t.locals; funclets = t.funclets } }
+    record {
+      is = record {
+        after_keyword = a;
+        after_condition = b;
+        keyword = k;
+        condition = is;
+        body = record { no_declaration = r.statement; item = r.is };
+      };
+      statement = refl;
+      closed = r.closed;
+      taken = record {
+        statements = omega arith;
+        expressions = omega arith;
+        locals = t.locals;
+        funclets = t.funclets;
+      };
+    }
 
 pub no_while_room : (limits : ℕ) (text : List ℕ) (room at : ℕ) (left : Left) (a : List Token) → 1 ≤ limits → room ≡ 0 → AfterKeyword keywords.While at a (NoStatement room left limits text)
 no_while_room limits text room at left a i n ts k s end h d c w =
     let t = after_while text at s ts a end k h in
-    let v = fits limits text room left s (While at t.0 t.1) t.3 w in let o = v.statements (omega arith) in absurd (omega arith)
+    let v = fits limits text room left s (While at t.condition t.body) t.same w in
+    let o = v.statements (omega arith) in
+    absurd (omega arith)
 
 pub no_while_condition : (limits : ℕ) (text : List ℕ) (room at : ℕ) (left : Left) (a : List Token) → NoCondition limits text a → AfterKeyword keywords.While at a (NoStatement room left limits text)
 no_while_condition limits text room at left a none ts k s end h d c w =
     let t = after_while text at s ts a end k h in
-    let v = fits limits text room left s (While at t.0 t.1) t.3 w in
-    none t.0 t.2 t.4 (λ lim. let o = v.expressions lim in omega arith)
+    let v = fits limits text room left s (While at t.condition t.body) t.same w in
+    none t.condition t.after_condition t.is_condition
+    (λ lim. let o = v.expressions lim in omega arith)
 
 pub no_while_body : (limits : ℕ) (text : List ℕ) (room less at : ℕ) (left : Left) (e : Expression) (a b : List Token) → less + 1 ≡ room → IsCondition text e a b → NoStatement less left limits text b → AfterKeyword keywords.While at a (NoStatement room left limits text)
 no_while_body limits text room less at left e a b n is none ts k s end h d c w =
     let t = after_while text at s ts a end k h in
-    let v = fits limits text room left s (While at t.0 t.1) t.3 w in
-    let p = after_condition text e t.0 a b t.2 is t.4 in
-    none t.1 end (subst (λ (y : List Token). IsBlockItem text t.1 y end) (sym p) t.6) t.5 (closed_as s (While at t.0 t.1) end t.3 c) (record { statements = λ lim. let o = v.statements lim in omega arith; expressions = λ lim. let o = v.expressions lim in omega arith; locals = v.locals; funclets = v.funclets })
+    let v = fits limits text room left s (While at t.condition t.body) t.same w in
+    let p = after_condition text e t.condition a b t.after_condition is t.is_condition in
+    none t.body end (subst (λ (y : List Token). IsBlockItem text t.body y end)
+    (sym p) t.is_body.item) t.is_body.no_declaration
+    (closed_as s (While at t.condition t.body) end t.same c) (record {
+      statements = λ lim. let o = v.statements lim in omega arith;
+      expressions = λ lim. let o = v.expressions lim in omega arith;
+      locals = v.locals;
+      funclets = v.funclets;
+    })
 
 -- ---- `if`
 
@@ -71,53 +97,105 @@ pub no_if_room : (limits : ℕ) (text : List ℕ) (room at : ℕ) (left : Left) 
 no_if_room limits text room at left a i n ts k s end h d c w = by (after_if text at s ts a end k h)
   where
     by : (AfterIf text at s a end ⊎ AfterIfElse text at s a end) → ⊥
-    by (inl t) = let v = fits limits text room left s (If at t.0 t.1) t.3 w in let o = v.statements (omega arith) in absurd (omega arith)
-    by (inr t) = let v = fits limits text room left s (IfElse at t.0 t.1 t.2) t.6 w in let o = v.statements (omega arith) in absurd (omega arith)
+    by (inl t) =
+        let v = fits limits text room left s (If at t.condition t.body) t.same w in
+        let o = v.statements (omega arith) in
+        absurd (omega arith)
+    by (inr t) =
+        let v = fits limits text room left s (IfElse at t.condition t.body t.else_body) t.same w in
+        let o = v.statements (omega arith) in
+        absurd (omega arith)
 
 pub no_if_condition : (limits : ℕ) (text : List ℕ) (room at : ℕ) (left : Left) (a : List Token) → NoCondition limits text a → AfterKeyword keywords.If at a (NoStatement room left limits text)
 no_if_condition limits text room at left a none ts k s end h d c w = by (after_if text at s ts a end k h)
   where
     by : (AfterIf text at s a end ⊎ AfterIfElse text at s a end) → ⊥
-    by (inl t) = let v = fits limits text room left s (If at t.0 t.1) t.3 w in none t.0 t.2 t.4 (λ lim. let o = v.expressions lim in omega arith)
-    by (inr t) = let v = fits limits text room left s (IfElse at t.0 t.1 t.2) t.6 w in none t.0 t.3 t.7 (λ lim. let o = v.expressions lim in omega arith)
+    by (inl t) =
+        let v = fits limits text room left s (If at t.condition t.body) t.same w in
+        none t.condition t.after_condition t.is_condition
+        (λ lim. let o = v.expressions lim in omega arith)
+    by (inr t) =
+        let v = fits limits text room left s (IfElse at t.condition t.body t.else_body) t.same w in
+        none t.condition t.after_condition t.is_condition
+        (λ lim. let o = v.expressions lim in omega arith)
 
 pub no_then : (limits : ℕ) (text : List ℕ) (room less at : ℕ) (left : Left) (e : Expression) (a b : List Token) → less + 1 ≡ room → IsCondition text e a b → NoStatement less left limits text b → AfterKeyword keywords.If at a (NoStatement room left limits text)
 no_then limits text room less at left e a b n is none ts k s end h d c w = by (after_if text at s ts a end k h)
   where
     by : (AfterIf text at s a end ⊎ AfterIfElse text at s a end) → ⊥
     by (inl t) =
-        let v = fits limits text room left s (If at t.0 t.1) t.3 w in
-        let p = after_condition text e t.0 a b t.2 is t.4 in
-        let f : NoElse end = closed_as s (If at t.0 t.1) end t.3 c refl in
-        none t.1 end (subst (λ (y : List Token). IsBlockItem text t.1 y end) (sym p) t.6) t.5 (λ i. f) (record { statements = λ lim. let o = v.statements lim in omega arith; expressions = λ lim. let o = v.expressions lim in omega arith; locals = v.locals; funclets = v.funclets })
+        let v = fits limits text room left s (If at t.condition t.body) t.same w in
+        let p = after_condition text e t.condition a b t.after_condition is t.is_condition in
+        let f : NoElse end = closed_as s (If at t.condition t.body) end t.same c refl in
+        none t.body end (subst (λ (y : List Token). IsBlockItem text t.body y end)
+        (sym p) t.is_body.item) t.is_body.no_declaration (λ i. f) (record {
+          statements = λ lim. let o = v.statements lim in omega arith;
+          expressions = λ lim. let o = v.expressions lim in omega arith;
+          locals = v.locals;
+          funclets = v.funclets;
+        })
     by (inr t) =
-        let v = fits limits text room left s (IfElse at t.0 t.1 t.2) t.6 w in
-        let p = after_condition text e t.0 a b t.3 is t.7 in
-        none t.1 t.4 (subst (λ (y : List Token). IsBlockItem text t.1 y t.4) (sym p) t.10) t.8 (absent t.1 t.4 t.9) (record { statements = λ lim. let o = v.statements lim in omega arith; expressions = λ lim. let o = v.expressions lim in omega arith; locals = λ lim. let o = v.locals lim in omega arith; funclets = λ lim. let o = v.funclets lim in omega (arith, length-append {A = ℕ}) })
+        let v = fits limits text room left s (IfElse at t.condition t.body t.else_body) t.same w in
+        let p = after_condition text e t.condition a b t.after_condition is t.is_condition in
+        none t.body t.after_body (subst (λ (y : List Token). IsBlockItem text t.body y t.after_body)
+        (sym p) t.is_body.item) t.is_body.no_declaration (absent t.body t.after_body t.complete)
+        (record {
+          statements = λ lim. let o = v.statements lim in omega arith;
+          expressions = λ lim. let o = v.expressions lim in omega arith;
+          locals = λ lim. let o = v.locals lim in omega arith;
+          funclets = λ lim. let o = v.funclets lim in omega (arith, length-append {A = ℕ});
+        })
 
 pub no_otherwise : (limits : ℕ) (text : List ℕ) (room less at : ℕ) (left mid : Left) (e : Expression) (z : Statement) (a b j g : List Token) → less + 1 ≡ room → IsCondition text e a b → Reads text less left mid z b j → HasKeyword keywords.Else j g → NoStatement less mid limits text g → AfterKeyword keywords.If at a (NoStatement room left limits text)
 no_otherwise limits text room less at left mid e z a b j g n is r els none ts k s end h d c w = by (after_if text at s ts a end k h)
   where
     by : (AfterIf text at s a end ⊎ AfterIfElse text at s a end) → ⊥
     by (inl t) =
-        let p = after_condition text e t.0 a b t.2 is t.4 in
-        let f : NoElse end = closed_as s (If at t.0 t.1) end t.3 c refl in
-        let u = one_statement text z t.1 b j end r.is (subst (λ (y : List Token). IsBlockItem text t.1 y end) (sym p) t.6) r.closed (λ i. f) in
+        let p = after_condition text e t.condition a b t.after_condition is t.is_condition in
+        let f : NoElse end = closed_as s (If at t.condition t.body) end t.same c refl in
+        let u = one_statement text z t.body b j end r.is
+        (subst (λ (y : List Token). IsBlockItem text t.body y end) (sym p) t.is_body.item) r.closed
+        (λ i. f) in
         f g (subst (λ (y : List Token). HasKeyword keywords.Else y g) u.1 els)
     by (inr t) =
-        let v = fits limits text room left s (IfElse at t.0 t.1 t.2) t.6 w in
-        let p = after_condition text e t.0 a b t.3 is t.7 in
-        let u = one_statement text z t.1 b j t.4 r.is (subst (λ (y : List Token). IsBlockItem text t.1 y t.4) (sym p) t.10) r.closed (absent t.1 t.4 t.9) in
-        let q = word keywords.Else j t.4 g t.5 u.1 els t.11 in
+        let v = fits limits text room left s (IfElse at t.condition t.body t.else_body) t.same w in
+        let p = after_condition text e t.condition a b t.after_condition is t.is_condition in
+        let u = one_statement text z t.body b j t.after_body r.is
+        (subst (λ (y : List Token). IsBlockItem text t.body y t.after_body) (sym p) t.is_body.item)
+        r.closed (absent t.body t.after_body t.complete) in
+        let q = word keywords.Else j t.after_body g t.after_else u.1 els t.else_keyword in
         let i = r.taken in let i0 = i.locals in let i1 = i.funclets in
         let m0 = ap locals u.0 in
         let m1 = ap (λ (y : Statement). length (numbered text y)) u.0 in
-        none t.2 end (subst (λ (y : List Token). IsBlockItem text t.2 y end) (sym q) t.13) t.12 (closed_as s (IfElse at t.0 t.1 t.2) end t.6 c) (record { statements = λ lim. let o = v.statements lim in omega arith; expressions = λ lim. let o = v.expressions lim in omega arith; locals = λ lim. let o = v.locals lim in omega arith; funclets = λ lim. let o = v.funclets lim in omega (arith, length-append {A = ℕ}) })
+        none t.else_body end (subst (λ (y : List Token). IsBlockItem text t.else_body y end)
+        (sym q) t.is_else_body.item) t.is_else_body.no_declaration
+        (closed_as s (IfElse at t.condition t.body t.else_body) end t.same c) (record {
+          statements = λ lim. let o = v.statements lim in omega arith;
+          expressions = λ lim. let o = v.expressions lim in omega arith;
+          locals = λ lim. let o = v.locals lim in omega arith;
+          funclets = λ lim. let o = v.funclets lim in omega (arith, length-append {A = ℕ});
+        })
 
 pub if_found : (text : List ℕ) (room less at : ℕ) (left after : Left) (c : Expression) (z : Statement) (a b rest : List Token) → less + 1 ≡ room → IsCondition text c a b → height c ≤ 64 → Reads text less left after z b rest → NoElse rest → AfterKeyword keywords.If at a (λ ts. Reads text room left after (If at c z) ts rest)
 if_found text room less at left after c z a b rest n is low r f ts k =
     let t = r.taken in let o = t.statements in let x = t.expressions in
-    record { is = (a, b, k, is, r.statement, r.is); statement = refl; closed = λ i. f; taken = record { statements = omega arith; expressions = omega arith; locals = t.locals; funclets = t.funclets } }
+    record {
+      is = record {
+        after_keyword = a;
+        after_condition = b;
+        keyword = k;
+        condition = is;
+        body = record { no_declaration = r.statement; item = r.is };
+      };
+      statement = refl;
+      closed = λ i. f;
+      taken = record {
+        statements = omega arith;
+        expressions = omega arith;
+        locals = t.locals;
+        funclets = t.funclets;
+      };
+    }
 
 pub not_dangling : (b : Bool) → (IsTrue b → ⊥) → IsFalse b
 not_dangling true h = absurd (h refl)
@@ -128,7 +206,18 @@ if_else_found text room less at left mid after c z y a b d e rest n is low r els
     let t = r.taken in let o = t.statements in let x = t.expressions in let l = t.locals in let m = t.funclets in
     let u = q.taken in let o' = u.statements in let x' = u.expressions in let l' = u.locals in let m' = u.funclets in
     record {
-      is = (a, b, d, e, k, is, r.statement, not_dangling (dangles z) (λ i. r.closed i e els), r.is, els, q.statement, q.is);
+      is = record {
+        after_if = a;
+        after_condition = b;
+        after_body = d;
+        after_else = e;
+        keyword = k;
+        condition = is;
+        complete = not_dangling (dangles z) (λ i. r.closed i e els);
+        body = record { no_declaration = r.statement; item = r.is };
+        else_keyword = els;
+        else_body = record { no_declaration = q.statement; item = q.is };
+      };
       statement = refl;
       closed = q.closed;
       taken = record { statements = omega arith; expressions = omega arith; locals = omega arith; funclets = omega (arith, length-append {A = ℕ}) };
@@ -139,40 +228,76 @@ if_else_found text room less at left mid after c z y a b d e rest n is low r els
 pub no_do_room : (limits : ℕ) (text : List ℕ) (room at : ℕ) (left : Left) (a : List Token) → 1 ≤ limits → room ≡ 0 → AfterKeyword keywords.Do at a (NoStatement room left limits text)
 no_do_room limits text room at left a i n ts k s end h d c w =
     let t = after_do text at s ts a end k h in
-    let v = fits limits text room left s (DoWhile t.0 t.1 t.2) t.6 w in let o = v.statements (omega arith) in absurd (omega arith)
+    let v = fits limits text room left s (DoWhile t.body t.at t.condition) t.same w in
+    let o = v.statements (omega arith) in
+    absurd (omega arith)
 
 pub no_do_body : (limits : ℕ) (text : List ℕ) (room less at : ℕ) (left : Left) (a : List Token) → less + 1 ≡ room → NoStatement less left limits text a → AfterKeyword keywords.Do at a (NoStatement room left limits text)
 no_do_body limits text room less at left a n none ts k s end h d c w =
     let t = after_do text at s ts a end k h in
-    let v = fits limits text room left s (DoWhile t.0 t.1 t.2) t.6 w in
-    none t.0 t.3 t.8 t.7 (λ i. while_else t.1 t.3 t.4 t.9) (record { statements = λ lim. let o = v.statements lim in omega arith; expressions = λ lim. let o = v.expressions lim in omega arith; locals = v.locals; funclets = v.funclets })
+    let v = fits limits text room left s (DoWhile t.body t.at t.condition) t.same w in
+    none t.body t.after_body t.is_body.item t.is_body.no_declaration
+    (λ i. while_else t.at t.after_body t.after_while t.keyword) (record {
+      statements = λ lim. let o = v.statements lim in omega arith;
+      expressions = λ lim. let o = v.expressions lim in omega arith;
+      locals = v.locals;
+      funclets = v.funclets;
+    })
 
 pub no_do_while : (limits : ℕ) (text : List ℕ) (room less at : ℕ) (left mid : Left) (z : Statement) (a b : List Token) → Reads text less left mid z a b → ((rest : List Token) → HasKeyword keywords.While b rest → ⊥) → AfterKeyword keywords.Do at a (NoStatement room left limits text)
 no_do_while limits text room less at left mid z a b r none ts k s end h d c w =
     let t = after_do text at s ts a end k h in
-    let p = (one_statement text z t.0 a b t.3 r.is t.8 r.closed (λ i. while_else t.1 t.3 t.4 t.9)).1 in
-    none t.4 (subst (λ (y : List Token). HasKeyword keywords.While y t.4) (sym p) (t.1, t.9))
+    let p = (one_statement text z t.body a b t.after_body r.is t.is_body.item r.closed
+    (λ i. while_else t.at t.after_body t.after_while t.keyword)).1 in
+    none t.after_while (subst (λ (y : List Token). HasKeyword keywords.While y t.after_while)
+    (sym p) (t.at, t.keyword))
 
 pub no_do_condition : (limits : ℕ) (text : List ℕ) (room less at p : ℕ) (left mid : Left) (z : Statement) (a b j : List Token) → Reads text less left mid z a b → IsKeyword keywords.While p b j → NoCondition limits text j → AfterKeyword keywords.Do at a (NoStatement room left limits text)
 no_do_condition limits text room less at p left mid z a b j r kw none ts k s end h d c w =
     let t = after_do text at s ts a end k h in
-    let v = fits limits text room left s (DoWhile t.0 t.1 t.2) t.6 w in
-    let q = (one_statement text z t.0 a b t.3 r.is t.8 r.closed (λ i. while_else t.1 t.3 t.4 t.9)).1 in
-    let u = place keywords.While p t.1 b t.3 j t.4 q kw t.9 in
-    none t.2 t.5 (subst (λ (y : List Token). IsCondition text t.2 y t.5) (sym u.1) t.10) (λ lim. let o = v.expressions lim in omega arith)
+    let v = fits limits text room left s (DoWhile t.body t.at t.condition) t.same w in
+    let q = (one_statement text z t.body a b t.after_body r.is t.is_body.item r.closed
+    (λ i. while_else t.at t.after_body t.after_while t.keyword)).1 in
+    let u = place keywords.While p t.at b t.after_body j t.after_while q kw t.keyword in
+    none t.condition t.after_condition
+    (subst (λ (y : List Token). IsCondition text t.condition y t.after_condition)
+    (sym u.1) t.is_condition) (λ lim. let o = v.expressions lim in omega arith)
 
 pub no_do_end : (limits : ℕ) (text : List ℕ) (room less at p : ℕ) (left mid : Left) (z : Statement) (e : Expression) (a b j g : List Token) → Reads text less left mid z a b → IsKeyword keywords.While p b j → IsCondition text e j g → Lacks punctuators.Semicolon g → AfterKeyword keywords.Do at a (NoStatement room left limits text)
 no_do_end limits text room less at p left mid z e a b j g r kw is none ts k s end h d c w =
     let t = after_do text at s ts a end k h in
-    let q = (one_statement text z t.0 a b t.3 r.is t.8 r.closed (λ i. while_else t.1 t.3 t.4 t.9)).1 in
-    let u = place keywords.While p t.1 b t.3 j t.4 q kw t.9 in
-    let v = condition text e t.2 j t.4 g t.5 u.1 is t.10 in
-    none end (subst (λ (y : List Token). HasPunctuator punctuators.Semicolon y end) (sym v.1) t.11)
+    let q = (one_statement text z t.body a b t.after_body r.is t.is_body.item r.closed
+    (λ i. while_else t.at t.after_body t.after_while t.keyword)).1 in
+    let u = place keywords.While p t.at b t.after_body j t.after_while q kw t.keyword in
+    let v = condition text e t.condition j t.after_while g t.after_condition u.1 is
+    t.is_condition in
+    none end (subst (λ (y : List Token). HasPunctuator punctuators.Semicolon y end)
+    (sym v.1) t.semicolon)
 
 pub do_found : (text : List ℕ) (room less at p : ℕ) (left after : Left) (z : Statement) (c : Expression) (a b d e rest : List Token) → less + 1 ≡ room → Reads text less left after z a b → IsKeyword keywords.While p b d → IsCondition text c d e → height c ≤ 64 → HasPunctuator punctuators.Semicolon e rest → AfterKeyword keywords.Do at a (λ ts. Reads text room left after (DoWhile z p c) ts rest)
 do_found text room less at p left after z c a b d e rest n r kw is low semi ts k =
     let t = r.taken in let o = t.statements in let x = t.expressions in
-    record { is = (a, b, d, e, (at, k), r.statement, r.is, kw, is, semi); statement = refl; closed = λ i. absurd cc; taken = record { statements = omega arith; expressions = omega arith; locals = t.locals; funclets = t.funclets } }
+    record {
+      is = record {
+        after_do = a;
+        after_body = b;
+        after_while = d;
+        after_condition = e;
+        do_keyword = (at, k);
+        body = record { no_declaration = r.statement; item = r.is };
+        keyword = kw;
+        condition = is;
+        semicolon = semi;
+      };
+      statement = refl;
+      closed = λ i. absurd cc;
+      taken = record {
+        statements = omega arith;
+        expressions = omega arith;
+        locals = t.locals;
+        funclets = t.funclets;
+      };
+    }
 
 -- ---- expressions, `return` and jumps
 
@@ -186,7 +311,17 @@ pub no_evaluation : (limits : ℕ) (text : List ℕ) (room : ℕ) (left : Left) 
 no_evaluation limits text room left ts none e end h w = none e end h w.expressions w.statements
 
 pub returned : (text : List ℕ) (room at : ℕ) (left : Left) (e : Option Expression) (a rest : List Token) → IsUpTo text punctuators.Semicolon e a rest → height_of e ≤ 64 → one_over e ≤ room → AfterKeyword keywords.Return at a (λ ts. Reads text room left left (Return at e) ts rest)
-returned text room at left e a rest is low over ts k = record { is = (a, is.0, k, is.1, is.2); statement = refl; closed = λ i. absurd cc; taken = record { statements = over; expressions = low; locals = omega arith; funclets = omega arith } }
+returned text room at left e a rest is low over ts k = record {
+  is = (a, k, is);
+  statement = refl;
+  closed = λ i. absurd cc;
+  taken = record {
+    statements = over;
+    expressions = low;
+    locals = omega arith;
+    funclets = omega arith;
+  };
+}
 
 pub no_return : (limits : ℕ) (text : List ℕ) (room at : ℕ) (left : Left) (a : List Token) → NoneUpTo punctuators.Semicolon room limits text a → AfterKeyword keywords.Return at a (NoStatement room left limits text)
 no_return limits text room at left a none ts k s end h d c w =
@@ -217,17 +352,23 @@ no_leave limits text room at left ts a k none s end h d c w = none end (after_le
 pub no_for_room : (limits : ℕ) (text : List ℕ) (room at : ℕ) (left : Left) (a : List Token) → 1 ≤ limits → room ≡ 0 → AfterKeyword keywords.For at a (NoStatement room left limits text)
 no_for_room limits text room at left a i n ts k s end h d c w =
     let t = after_for text at s ts a end k h in
-    let v = fits limits text room left s (For at t.0 t.1 t.2 t.3) t.8 w in let o = v.statements (omega arith) in absurd (omega arith)
+    let v = fits limits text room left s (For at t.first t.condition t.next t.body) t.same w in
+    let o = v.statements (omega arith) in
+    absurd (omega arith)
 
 pub no_for_open : (limits : ℕ) (text : List ℕ) (room at : ℕ) (left : Left) (a : List Token) → Lacks punctuators.OpenParenthesis a → AfterKeyword keywords.For at a (NoStatement room left limits text)
-no_for_open limits text room at left a none ts k s end h d c w = let t = after_for text at s ts a end k h in none t.4 t.9
+no_for_open limits text room at left a none ts k s end h d c w =
+    let t = after_for text at s ts a end k h in
+    none t.after_opening t.opening
 
 pub no_for_initialiser : (limits : ℕ) (text : List ℕ) (room at : ℕ) (left : Left) (a b : List Token) → HasPunctuator punctuators.OpenParenthesis a b → NoForInitialiser left.locals limits text b → AfterKeyword keywords.For at a (NoStatement room left limits text)
 no_for_initialiser limits text room at left a b o none ts k s end h d c w =
     let t = after_for text at s ts a end k h in
-    let v = fits limits text room left s (For at t.0 t.1 t.2 t.3) t.8 w in
-    let p = has_same punctuators.OpenParenthesis a a b t.4 refl o t.9 in
-    none t.0 t.5 (subst (λ (y : List Token). IsForInitialiser text t.0 y t.5) (sym p) t.10) (λ lim. let o = v.expressions lim in omega arith) (λ lim. let o = v.locals lim in omega arith)
+    let v = fits limits text room left s (For at t.first t.condition t.next t.body) t.same w in
+    let p = has_same punctuators.OpenParenthesis a a b t.after_opening refl o t.opening in
+    none t.first t.after_first (subst (λ (y : List Token). IsForInitialiser text t.first y
+    t.after_first) (sym p) t.is_first) (λ lim. let o = v.expressions lim in omega arith)
+    (λ lim. let o = v.locals lim in omega arith)
 
 -- what was read after `for`
 pub record Started (text : List ℕ) (left mid : Left) (f : ForInitialiser) (a b e : List Token) : Type 0 where
@@ -247,35 +388,67 @@ some_over (Some e) = omega arith
 pub no_for_condition : (limits : ℕ) (text : List ℕ) (room at : ℕ) (left mid : Left) (f : ForInitialiser) (a b e : List Token) → Started text left mid f a b e → NoneUpTo punctuators.Semicolon 1 limits text e → AfterKeyword keywords.For at a (NoStatement room left limits text)
 no_for_condition limits text room at left mid f a b e st none ts k s end h d c w =
     let t = after_for text at s ts a end k h in
-    let v = fits limits text room left s (For at t.0 t.1 t.2 t.3) t.8 w in
-    let p = after_first text left mid f t.0 a b e t.4 t.5 st t.9 t.10 in
-    none t.1 t.6 (subst (λ (y : List Token). IsUpTo text punctuators.Semicolon t.1 y t.6) (sym p.1) t.11) (λ lim. let o = v.expressions lim in omega arith) (λ i. some_over t.1)
+    let v = fits limits text room left s (For at t.first t.condition t.next t.body) t.same w in
+    let p = after_first text left mid f t.first a b e t.after_opening t.after_first st t.opening
+    t.is_first in
+    none t.condition t.after_condition
+    (subst (λ (y : List Token). IsUpTo text punctuators.Semicolon t.condition y t.after_condition)
+    (sym p.1) t.is_condition) (λ lim. let o = v.expressions lim in omega arith)
+    (λ i. some_over t.condition)
 
 pub no_for_next : (limits : ℕ) (text : List ℕ) (room at : ℕ) (left mid : Left) (f : ForInitialiser) (m : Option Expression) (a b e g : List Token) → Started text left mid f a b e → IsUpTo text punctuators.Semicolon m e g → NoneUpTo punctuators.CloseParenthesis 1 limits text g → AfterKeyword keywords.For at a (NoStatement room left limits text)
 no_for_next limits text room at left mid f m a b e g st is none ts k s end h d c w =
     let t = after_for text at s ts a end k h in
-    let v = fits limits text room left s (For at t.0 t.1 t.2 t.3) t.8 w in
-    let p = after_first text left mid f t.0 a b e t.4 t.5 st t.9 t.10 in
-    let q = up_to text punctuators.Semicolon m t.1 e t.5 g t.6 p.1 (omega arith) refl is t.11 in
-    none t.2 t.7 (subst (λ (y : List Token). IsUpTo text punctuators.CloseParenthesis t.2 y t.7) (sym q) t.12) (λ lim. let o = v.expressions lim in omega arith) (λ i. some_over t.2)
+    let v = fits limits text room left s (For at t.first t.condition t.next t.body) t.same w in
+    let p = after_first text left mid f t.first a b e t.after_opening t.after_first st t.opening
+    t.is_first in
+    let q = up_to text punctuators.Semicolon m t.condition e t.after_first g t.after_condition p.1
+    (omega arith) refl is t.is_condition in
+    none t.next t.after_head (subst (λ (y : List Token). IsUpTo text punctuators.CloseParenthesis
+    t.next y t.after_head) (sym q) t.is_next) (λ lim. let o = v.expressions lim in omega arith)
+    (λ i. some_over t.next)
 
 pub no_for_body : (limits : ℕ) (text : List ℕ) (room less at : ℕ) (left mid : Left) (f : ForInitialiser) (m n : Option Expression) (a b e g j : List Token) → less + 1 ≡ room → Started text left mid f a b e → IsUpTo text punctuators.Semicolon m e g → IsUpTo text punctuators.CloseParenthesis n g j → NoStatement less mid limits text j → AfterKeyword keywords.For at a (NoStatement room left limits text)
 no_for_body limits text room less at left mid f m n a b e g j i st is is' none ts k s end h d c w =
     let t = after_for text at s ts a end k h in
-    let v = fits limits text room left s (For at t.0 t.1 t.2 t.3) t.8 w in
-    let p = after_first text left mid f t.0 a b e t.4 t.5 st t.9 t.10 in
-    let q = up_to text punctuators.Semicolon m t.1 e t.5 g t.6 p.1 (omega arith) refl is t.11 in
-    let r = up_to text punctuators.CloseParenthesis n t.2 g t.6 j t.7 q (omega arith) refl is' t.12 in
+    let v = fits limits text room left s (For at t.first t.condition t.next t.body) t.same w in
+    let p = after_first text left mid f t.first a b e t.after_opening t.after_first st t.opening
+    t.is_first in
+    let q = up_to text punctuators.Semicolon m t.condition e t.after_first g t.after_condition p.1
+    (omega arith) refl is t.is_condition in
+    let r = up_to text punctuators.CloseParenthesis n t.next g t.after_condition j t.after_head q
+    (omega arith) refl is' t.is_next in
     let y = ap locals_of_for_initialiser p.0 in
     let z = st.locals in let z' = st.funclets in
-    none t.3 end (subst (λ (y : List Token). IsBlockItem text t.3 y end) (sym r) t.14) t.13 (closed_as s (For at t.0 t.1 t.2 t.3) end t.8 c) (record { statements = λ lim. let o = v.statements lim in omega arith; expressions = λ lim. let o = v.expressions lim in omega arith; locals = λ lim. let o = v.locals lim in omega arith; funclets = λ lim. let o = v.funclets lim in omega (arith, length-append {A = ℕ}) })
+    none t.body end (subst (λ (y : List Token). IsBlockItem text t.body y end)
+    (sym r) t.is_body.item) t.is_body.no_declaration
+    (closed_as s (For at t.first t.condition t.next t.body) end t.same c) (record {
+      statements = λ lim. let o = v.statements lim in omega arith;
+      expressions = λ lim. let o = v.expressions lim in omega arith;
+      locals = λ lim. let o = v.locals lim in omega arith;
+      funclets = λ lim. let o = v.funclets lim in omega (arith, length-append {A = ℕ});
+    })
 
 pub for_found : (text : List ℕ) (room less at : ℕ) (left mid after : Left) (f : ForInitialiser) (m n : Option Expression) (z : Statement) (a b e g j rest : List Token) → less + 1 ≡ room → Started text left mid f a b e → IsUpTo text punctuators.Semicolon m e g → height_of m ≤ 64 → IsUpTo text punctuators.CloseParenthesis n g j → height_of n ≤ 64 → Reads text less mid after z j rest → AfterKeyword keywords.For at a (λ ts. Reads text room left after (For at f m n z) ts rest)
 for_found text room less at left mid after f m n z a b e g j rest i st is low is' low' r ts k =
     let t = r.taken in let o = t.statements in let x = t.expressions in let l = t.locals in let u = t.funclets in
     let y = st.low in let v = st.locals in let v' = st.funclets in
     record {
-      is = (a, b, e, is.0, g, is'.0, j, k, st.opens, st.is, is.1, is.2, is'.1, is'.2, r.statement, r.is);
+      is = record {
+        after_head = j;
+        head = record {
+          after_keyword = a;
+          after_opening = b;
+          after_first = e;
+          after_condition = g;
+          keyword = k;
+          opening = st.opens;
+          first = st.is;
+          condition = is;
+          next = is';
+        };
+        body = record { no_declaration = r.statement; item = r.is };
+      };
       statement = refl;
       closed = r.closed;
       taken = record { statements = omega arith; expressions = omega arith; locals = omega arith; funclets = omega arith };
@@ -284,7 +457,17 @@ for_found text room less at left mid after f m n z a b e g j rest i st is low is
 -- ---- blocks and `__try`
 
 pub block_found : (text : List ℕ) (room : ℕ) (left after : Left) (ss : Statements) (ts a rest : List Token) → HasPunctuator punctuators.OpenBrace ts a → AreBlockItems text ss a rest → AllTaken text room left after ss → Reads text room left after (Block ss) ts rest
-block_found text room left after ss ts a rest o is t = record { is = (a, o, is); statement = refl; closed = λ i. absurd cc; taken = record { statements = t.statements; expressions = t.expressions; locals = t.locals; funclets = t.funclets } }
+block_found text room left after ss ts a rest o is t = record {
+  is = record { after_brace = a; brace = o; items = is };
+  statement = refl;
+  closed = λ i. absurd cc;
+  taken = record {
+    statements = t.statements;
+    expressions = t.expressions;
+    locals = t.locals;
+    funclets = t.funclets;
+  };
+}
 
 pub no_block : (limits : ℕ) (text : List ℕ) (room : ℕ) (left : Left) (ts a : List Token) → HasPunctuator punctuators.OpenBrace ts a → NoBlockItems room left limits text a → NoStatement room left limits text ts
 no_block limits text room left ts a o none s end h d c w =
@@ -293,7 +476,10 @@ no_block limits text room left ts a o none s end h d c w =
     none t.0 end t.2 (record { statements = v.statements; expressions = v.expressions; locals = v.locals; funclets = v.funclets })
 
 after_braces : (text : List ℕ) (ss zs : Statements) (ts rest end : List Token) → IsBraced text ss ts rest → IsBraced text zs ts end → (ss ≡ zs) × (rest ≡ end)
-after_braces text ss zs ts rest end h g = same_items text ss zs h.0 g.0 rest end (has_same punctuators.OpenBrace ts ts h.0 g.0 refl h.1 g.1) h.2 g.2
+after_braces text ss zs ts rest end h g =
+    same_items text ss zs h.after_brace g.after_brace rest end
+    (has_same punctuators.OpenBrace ts ts h.after_brace g.after_brace refl h.brace g.brace) h.items
+    g.items
 
 pub number_length : (b : Bool) (at : ℕ) → length (cond b [] (at ∷ [])) ≡ numbers_of b
 number_length true at = refl
@@ -303,35 +489,58 @@ pub no_try : (limits : ℕ) (text : List ℕ) (room at : ℕ) (left : Left) (a :
 no_try limits text room at left a i n m ts k s end h d c w = by (after_try text at s ts a end k h)
   where
     by : (AfterExcept text s a end ⊎ AfterFinally text s a end) → ⊥
-    by (inl t) = let v = fits limits text room left s (TryExcept t.0 t.1 t.2 t.3) t.7 w in let o = v.statements (omega arith) in absurd (omega arith)
-    by (inr t) = let v = fits limits text room left s (TryFinally t.0 t.1 t.2) t.5 w in let o = v.funclets i in absurd (omega (arith, length-append {A = ℕ}))
+    by (inl t) =
+        let v = fits limits text room left s (TryExcept t.body t.at t.filter t.handler) t.same w in
+        let o = v.statements (omega arith) in
+        absurd (omega arith)
+    by (inr t) =
+        let v = fits limits text room left s (TryFinally t.body t.at t.last) t.same w in
+        let o = v.funclets i in
+        absurd (omega (arith, length-append {A = ℕ}))
 
 pub no_try_body : (limits : ℕ) (text : List ℕ) (room at : ℕ) (left : Left) (a : List Token) → NoneBraced room left limits text a → AfterKeyword keywords.Try at a (NoStatement room left limits text)
 no_try_body limits text room at left a none ts k s end h d c w = by (after_try text at s ts a end k h)
   where
     by : (AfterExcept text s a end ⊎ AfterFinally text s a end) → ⊥
     by (inl t) =
-        let v = fits limits text room left s (TryExcept t.0 t.1 t.2 t.3) t.7 w in
-        none t.0 t.4 t.8 (record { statements = λ lim. let o = v.statements lim in omega arith; expressions = λ lim. let o = v.expressions lim in omega arith; locals = λ lim. let o = v.locals lim in omega arith; funclets = λ lim. let o = v.funclets lim in omega (arith, length-append {A = ℕ}) })
+        let v = fits limits text room left s (TryExcept t.body t.at t.filter t.handler) t.same w in
+        none t.body t.after_body t.is_body (record {
+          statements = λ lim. let o = v.statements lim in omega arith;
+          expressions = λ lim. let o = v.expressions lim in omega arith;
+          locals = λ lim. let o = v.locals lim in omega arith;
+          funclets = λ lim. let o = v.funclets lim in omega (arith, length-append {A = ℕ});
+        })
     by (inr t) =
-        let v = fits limits text room left s (TryFinally t.0 t.1 t.2) t.5 w in
-        none t.0 t.3 t.6 (record { statements = λ lim. let o = v.statements lim in omega arith; expressions = λ lim. let o = v.expressions lim in omega arith; locals = λ lim. let o = v.locals lim in omega arith; funclets = λ lim. let o = v.funclets lim in omega (arith, length-append {A = ℕ}) })
+        let v = fits limits text room left s (TryFinally t.body t.at t.last) t.same w in
+        none t.body t.after_body t.is_body (record {
+          statements = λ lim. let o = v.statements lim in omega arith;
+          expressions = λ lim. let o = v.expressions lim in omega arith;
+          locals = λ lim. let o = v.locals lim in omega arith;
+          funclets = λ lim. let o = v.funclets lim in omega (arith, length-append {A = ℕ});
+        })
 
 not_finally : (text : List ℕ) (body : Statements) (p : ℕ) (s : Statement) (a b j end : List Token) → IsBraced text body a b → IsKeyword keywords.Except p b j → AfterFinally text s a end → ⊥
 not_finally text body p s a b j end is kw t =
-    let u = after_braces text body t.0 a b t.3 is t.6 in
-    let e : keywords.Except ≡ keywords.Finally = (keyword_same keywords.Except keywords.Finally b t.3 j t.4 u.1 (p, kw) (t.1, t.7)).0 in cc
+    let u = after_braces text body t.body a b t.after_body is t.is_body in
+    let e : keywords.Except ≡ keywords.Finally = (keyword_same keywords.Except keywords.Finally b
+    t.after_body j t.after_finally u.1 (p, kw) (t.at, t.keyword)).0 in
+    cc
 
 not_except : (text : List ℕ) (body : Statements) (p : ℕ) (s : Statement) (a b j end : List Token) → IsBraced text body a b → IsKeyword keywords.Finally p b j → AfterExcept text s a end → ⊥
 not_except text body p s a b j end is kw t =
-    let u = after_braces text body t.0 a b t.4 is t.8 in
-    let e : keywords.Finally ≡ keywords.Except = (keyword_same keywords.Finally keywords.Except b t.4 j t.5 u.1 (p, kw) (t.1, t.9)).0 in cc
+    let u = after_braces text body t.body a b t.after_body is t.is_body in
+    let e : keywords.Finally ≡ keywords.Except = (keyword_same keywords.Finally keywords.Except b
+    t.after_body j t.after_except u.1 (p, kw) (t.at, t.keyword)).0 in
+    cc
 
 pub no_except_room : (limits : ℕ) (text : List ℕ) (room at p : ℕ) (left : Left) (body : Statements) (a b j : List Token) → 1 ≤ limits → room ≡ 0 → IsBraced text body a b → IsKeyword keywords.Except p b j → AfterKeyword keywords.Try at a (NoStatement room left limits text)
 no_except_room limits text room at p left body a b j i n is kw ts k s end h d c w = by (after_try text at s ts a end k h)
   where
     by : (AfterExcept text s a end ⊎ AfterFinally text s a end) → ⊥
-    by (inl t) = let v = fits limits text room left s (TryExcept t.0 t.1 t.2 t.3) t.7 w in let o = v.statements (omega arith) in absurd (omega arith)
+    by (inl t) =
+        let v = fits limits text room left s (TryExcept t.body t.at t.filter t.handler) t.same w in
+        let o = v.statements (omega arith) in
+        absurd (omega arith)
     by (inr t) = not_finally text body p s a b j end is kw t
 
 pub no_filter : (limits : ℕ) (text : List ℕ) (room at p : ℕ) (left mid : Left) (body : Statements) (a b j : List Token) → IsBraced text body a b → AllTaken text room left mid body → IsKeyword keywords.Except p b j → NoFilter mid.funclets limits text j → AfterKeyword keywords.Try at a (NoStatement room left limits text)
@@ -339,13 +548,15 @@ no_filter limits text room at p left mid body a b j is tk kw none ts k s end h d
   where
     by : (AfterExcept text s a end ⊎ AfterFinally text s a end) → ⊥
     by (inl t) =
-        let v = fits limits text room left s (TryExcept t.0 t.1 t.2 t.3) t.7 w in
-        let u = after_braces text body t.0 a b t.4 is t.8 in
-        let q = place keywords.Except p t.1 b t.4 j t.5 u.1 kw t.9 in
-        let y = number_length (accepts text t.2) t.1 in
+        let v = fits limits text room left s (TryExcept t.body t.at t.filter t.handler) t.same w in
+        let u = after_braces text body t.body a b t.after_body is t.is_body in
+        let q = place keywords.Except p t.at b t.after_body j t.after_except u.1 kw t.keyword in
+        let y = number_length (accepts text t.filter) t.at in
         let z = tk.funclets in
         let e = ap (λ (i : Statements). length (funclets_of_all text i)) u.0 in
-        none t.2 t.6 (subst (λ (i : List Token). IsCondition text t.2 i t.6) (sym q.1) t.10) (λ lim. let o = v.expressions lim in omega arith) (λ lim. let o = v.funclets lim in omega (arith, length-append {A = ℕ}))
+        none t.filter t.after_filter (subst (λ (i : List Token). IsCondition text t.filter i
+        t.after_filter) (sym q.1) t.is_filter) (λ lim. let o = v.expressions lim in omega arith)
+        (λ lim. let o = v.funclets lim in omega (arith, length-append {A = ℕ}))
     by (inr t) = not_finally text body p s a b j end is kw t
 
 pub no_handler : (limits : ℕ) (text : List ℕ) (room at p : ℕ) (left mid next : Left) (body : Statements) (f : Expression) (a b j g : List Token) → IsBraced text body a b → AllTaken text room left mid body → IsKeyword keywords.Except p b j → IsCondition text f j g → next.funclets + numbers_of (accepts text f) ≡ mid.funclets → next.locals ≡ mid.locals → NoneBraced room next limits text g → AfterKeyword keywords.Try at a (NoStatement room left limits text)
@@ -353,16 +564,22 @@ no_handler limits text room at p left mid next body f a b j g is tk kw cn nx ny 
   where
     by : (AfterExcept text s a end ⊎ AfterFinally text s a end) → ⊥
     by (inl t) =
-        let v = fits limits text room left s (TryExcept t.0 t.1 t.2 t.3) t.7 w in
-        let u = after_braces text body t.0 a b t.4 is t.8 in
-        let q = place keywords.Except p t.1 b t.4 j t.5 u.1 kw t.9 in
-        let r = condition text f t.2 j t.5 g t.6 q.1 cn t.10 in
-        let y = number_length (accepts text t.2) t.1 in
+        let v = fits limits text room left s (TryExcept t.body t.at t.filter t.handler) t.same w in
+        let u = after_braces text body t.body a b t.after_body is t.is_body in
+        let q = place keywords.Except p t.at b t.after_body j t.after_except u.1 kw t.keyword in
+        let r = condition text f t.filter j t.after_except g t.after_filter q.1 cn t.is_filter in
+        let y = number_length (accepts text t.filter) t.at in
         let z = tk.funclets in let z' = tk.locals in
         let e = ap (λ (i : Statements). length (funclets_of_all text i)) u.0 in
         let e' = ap locals_of_all u.0 in
         let i = ap (λ (i : Expression). numbers_of (accepts text i)) r.0 in
-        none t.3 end (subst (λ (i : List Token). IsBraced text t.3 i end) (sym r.1) t.11) (record { statements = λ lim. let o = v.statements lim in omega arith; expressions = λ lim. let o = v.expressions lim in omega arith; locals = λ lim. let o = v.locals lim in omega arith; funclets = λ lim. let o = v.funclets lim in omega (arith, length-append {A = ℕ}) })
+        none t.handler end (subst (λ (i : List Token). IsBraced text t.handler i end)
+        (sym r.1) t.is_handler) (record {
+          statements = λ lim. let o = v.statements lim in omega arith;
+          expressions = λ lim. let o = v.expressions lim in omega arith;
+          locals = λ lim. let o = v.locals lim in omega arith;
+          funclets = λ lim. let o = v.funclets lim in omega (arith, length-append {A = ℕ});
+        })
     by (inr t) = not_finally text body p s a b j end is kw t
 
 pub except_found : (text : List ℕ) (room at p : ℕ) (left mid next after : Left) (body handler : Statements) (f : Expression) (a b j g rest : List Token) → 1 ≤ room → IsBraced text body a b → AllTaken text room left mid body → IsKeyword keywords.Except p b j → IsCondition text f j g → height f ≤ 64 → next.funclets + numbers_of (accepts text f) ≡ mid.funclets → next.locals ≡ mid.locals → IsBraced text handler g rest → AllTaken text room next after handler → AfterKeyword keywords.Try at a (λ ts. Reads text room left after (TryExcept body p f handler) ts rest)
@@ -371,7 +588,17 @@ except_found text room at p left mid next after body handler f a b j g rest n is
     let o' = tk'.statements in let x' = tk'.expressions in let l' = tk'.locals in let m' = tk'.funclets in
     let y = number_length (accepts text f) p in
     record {
-      is = (a, is.0, b, j, g, is'.0, (at, k), is.1, is.2, kw, cn, is'.1, is'.2);
+      is = record {
+        after_try = a;
+        after_body = b;
+        after_except = j;
+        after_filter = g;
+        try_keyword = (at, k);
+        body = is;
+        keyword = kw;
+        filter = cn;
+        handler = is';
+      };
       statement = refl;
       closed = λ i. absurd cc;
       taken = record { statements = omega arith; expressions = omega arith; locals = omega arith; funclets = omega (arith, length-append {A = ℕ}) };
@@ -381,8 +608,14 @@ pub unguarded : (limits : ℕ) (text : List ℕ) (room at : ℕ) (left : Left) (
 unguarded limits text room at left body a b is x y ts k s end h d c w = by (after_try text at s ts a end k h)
   where
     by : (AfterExcept text s a end ⊎ AfterFinally text s a end) → ⊥
-    by (inl t) = let u = after_braces text body t.0 a b t.4 is t.8 in x t.5 (subst (λ (i : List Token). HasKeyword keywords.Except i t.5) (sym u.1) (t.1, t.9))
-    by (inr t) = let u = after_braces text body t.0 a b t.3 is t.6 in y t.4 (subst (λ (i : List Token). HasKeyword keywords.Finally i t.4) (sym u.1) (t.1, t.7))
+    by (inl t) =
+        let u = after_braces text body t.body a b t.after_body is t.is_body in
+        x t.after_except (subst (λ (i : List Token). HasKeyword keywords.Except i t.after_except)
+        (sym u.1) (t.at, t.keyword))
+    by (inr t) =
+        let u = after_braces text body t.body a b t.after_body is t.is_body in
+        y t.after_finally (subst (λ (i : List Token). HasKeyword keywords.Finally i t.after_finally)
+        (sym u.1) (t.at, t.keyword))
 
 pub no_finally_left : (limits : ℕ) (text : List ℕ) (room at p : ℕ) (left mid : Left) (body : Statements) (a b j : List Token) → IsBraced text body a b → AllTaken text room left mid body → IsKeyword keywords.Finally p b j → 6 ≤ limits → mid.funclets ≡ 0 → AfterKeyword keywords.Try at a (NoStatement room left limits text)
 no_finally_left limits text room at p left mid body a b j is tk kw i n ts k s end h d c w = by (after_try text at s ts a end k h)
@@ -390,8 +623,8 @@ no_finally_left limits text room at p left mid body a b j is tk kw i n ts k s en
     by : (AfterExcept text s a end ⊎ AfterFinally text s a end) → ⊥
     by (inl t) = not_except text body p s a b j end is kw t
     by (inr t) =
-        let v = fits limits text room left s (TryFinally t.0 t.1 t.2) t.5 w in
-        let u = after_braces text body t.0 a b t.3 is t.6 in
+        let v = fits limits text room left s (TryFinally t.body t.at t.last) t.same w in
+        let u = after_braces text body t.body a b t.after_body is t.is_body in
         let e = ap (λ (i : Statements). length (funclets_of_all text i)) u.0 in
         let z = tk.funclets in
         let o = v.funclets i in absurd (omega (arith, length-append {A = ℕ}))
@@ -402,20 +635,34 @@ no_last limits text room at p left mid next body a b j is tk kw nx ny none ts k 
     by : (AfterExcept text s a end ⊎ AfterFinally text s a end) → ⊥
     by (inl t) = not_except text body p s a b j end is kw t
     by (inr t) =
-        let v = fits limits text room left s (TryFinally t.0 t.1 t.2) t.5 w in
-        let u = after_braces text body t.0 a b t.3 is t.6 in
-        let q = place keywords.Finally p t.1 b t.3 j t.4 u.1 kw t.7 in
+        let v = fits limits text room left s (TryFinally t.body t.at t.last) t.same w in
+        let u = after_braces text body t.body a b t.after_body is t.is_body in
+        let q = place keywords.Finally p t.at b t.after_body j t.after_finally u.1 kw t.keyword in
         let z = tk.funclets in let z' = tk.locals in
         let e = ap (λ (i : Statements). length (funclets_of_all text i)) u.0 in
         let e' = ap locals_of_all u.0 in
-        none t.2 end (subst (λ (i : List Token). IsBraced text t.2 i end) (sym q.1) t.8) (record { statements = λ lim. let o = v.statements lim in omega arith; expressions = λ lim. let o = v.expressions lim in omega arith; locals = λ lim. let o = v.locals lim in omega arith; funclets = λ lim. let o = v.funclets lim in omega (arith, length-append {A = ℕ}) })
+        none t.last end (subst (λ (i : List Token). IsBraced text t.last i end) (sym q.1) t.is_last)
+        (record {
+          statements = λ lim. let o = v.statements lim in omega arith;
+          expressions = λ lim. let o = v.expressions lim in omega arith;
+          locals = λ lim. let o = v.locals lim in omega arith;
+          funclets = λ lim. let o = v.funclets lim in omega (arith, length-append {A = ℕ});
+        })
 
 pub finally_found : (text : List ℕ) (room at p : ℕ) (left mid next after : Left) (body last : Statements) (a b j rest : List Token) → IsBraced text body a b → AllTaken text room left mid body → IsKeyword keywords.Finally p b j → next.funclets + 1 ≡ mid.funclets → next.locals ≡ mid.locals → IsBraced text last j rest → AllTaken text room next after last → AfterKeyword keywords.Try at a (λ ts. Reads text room left after (TryFinally body p last) ts rest)
 finally_found text room at p left mid next after body last a b j rest is tk kw nx ny is' tk' ts k =
     let o = tk.statements in let x = tk.expressions in let l = tk.locals in let m = tk.funclets in
     let o' = tk'.statements in let x' = tk'.expressions in let l' = tk'.locals in let m' = tk'.funclets in
     record {
-      is = (a, is.0, b, j, is'.0, (at, k), is.1, is.2, kw, is'.1, is'.2);
+      is = record {
+        after_try = a;
+        after_body = b;
+        after_finally = j;
+        try_keyword = (at, k);
+        body = is;
+        keyword = kw;
+        last = is';
+      };
       statement = refl;
       closed = λ i. absurd cc;
       taken = record { statements = omega arith; expressions = omega arith; locals = omega arith; funclets = omega (arith, length-append {A = ℕ}) };
@@ -448,19 +695,27 @@ Plain keywords.GetExceptionInformation = Unit {0}
 
 pub only_evaluations : (limits : ℕ) (text : List ℕ) (room : ℕ) (left : Left) (ts : List Token) → Lacks punctuators.OpenBrace ts → ((k : Keyword) (rest : List Token) → HasKeyword k ts rest → Plain k) → NoEvaluation room left limits text ts → NoStatement room left limits text ts
 only_evaluations limits text room left ts o p none (Declare b ls) end h d c w = cc
-only_evaluations limits text room left ts o p none (Block ss) end h d c w = o h.0 h.1
+only_evaluations limits text room left ts o p none (Block ss) end h d c w = o h.after_brace h.brace
 only_evaluations limits text room left ts o p none (Evaluate e) end h d c w = none e end h w
-only_evaluations limits text room left ts o p none (If at e s) end h d c w = p keywords.If h.0 (at, h.2)
-only_evaluations limits text room left ts o p none (IfElse at e s t) end h d c w = p keywords.If h.0 (at, h.4)
-only_evaluations limits text room left ts o p none (While at e s) end h d c w = p keywords.While h.0 (at, h.2)
-only_evaluations limits text room left ts o p none (DoWhile s at e) end h d c w = p keywords.Do h.0 h.4
-only_evaluations limits text room left ts o p none (For at f e n s) end h d c w = p keywords.For h.0 (at, h.7)
-only_evaluations limits text room left ts o p none (Return at e) end h d c w = p keywords.Return h.0 (at, h.2)
+only_evaluations limits text room left ts o p none (If at e s) end h d c w =
+    p keywords.If h.after_keyword (at, h.keyword)
+only_evaluations limits text room left ts o p none (IfElse at e s t) end h d c w =
+    p keywords.If h.after_if (at, h.keyword)
+only_evaluations limits text room left ts o p none (While at e s) end h d c w =
+    p keywords.While h.after_keyword (at, h.keyword)
+only_evaluations limits text room left ts o p none (DoWhile s at e) end h d c w =
+    p keywords.Do h.after_do h.do_keyword
+only_evaluations limits text room left ts o p none (For at f e n s) end h d c w =
+    p keywords.For h.after_keyword (at, h.keyword)
+only_evaluations limits text room left ts o p none (Return at e) end h d c w =
+    p keywords.Return h.0 (at, h.1)
 only_evaluations limits text room left ts o p none (Break at) end h d c w = p keywords.Break h.0 (at, h.1)
 only_evaluations limits text room left ts o p none (Continue at) end h d c w = p keywords.Continue h.0 (at, h.1)
 only_evaluations limits text room left ts o p none (Leave at) end h d c w = p keywords.Leave h.0 (at, h.1)
-only_evaluations limits text room left ts o p none (TryExcept body at f l) end h d c w = p keywords.Try h.0 h.6
-only_evaluations limits text room left ts o p none (TryFinally body at l) end h d c w = p keywords.Try h.0 h.5
+only_evaluations limits text room left ts o p none (TryExcept body at f l) end h d c w =
+    p keywords.Try h.after_try h.try_keyword
+only_evaluations limits text room left ts o p none (TryFinally body at l) end h d c w =
+    p keywords.Try h.after_try h.try_keyword
 
 pub plain_by : (k : Keyword) → (k ≡ keywords.If → ⊥) → (k ≡ keywords.While → ⊥) → (k ≡ keywords.Do → ⊥) → (k ≡ keywords.For → ⊥) → (k ≡ keywords.Try → ⊥) → (k ≡ keywords.Return → ⊥) → (k ≡ keywords.Break → ⊥) → (k ≡ keywords.Continue → ⊥) → (k ≡ keywords.Leave → ⊥) → Plain k
 plain_by keywords.Break i w d f t r b c l = b refl
@@ -491,4 +746,6 @@ abbrev pub left_of : ℕ → ℕ → Left
 left_of locals funclets = record { locals = locals; funclets = funclets }
 
 pub no_braced : (limits : ℕ) (text : List ℕ) (room : ℕ) (left : Left) (ts a : List Token) → HasPunctuator punctuators.OpenBrace ts a → NoBlockItems room left limits text a → NoneBraced room left limits text ts
-no_braced limits text room left ts a o none ss end h w = none ss end (subst (λ (y : List Token). AreBlockItems text ss y end) (has_same punctuators.OpenBrace ts ts h.0 a refl h.1 o) h.2) w
+no_braced limits text room left ts a o none ss end h w =
+    none ss end (subst (λ (y : List Token). AreBlockItems text ss y end)
+    (has_same punctuators.OpenBrace ts ts h.after_brace a refl h.brace o) h.items) w

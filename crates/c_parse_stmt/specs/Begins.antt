@@ -6,6 +6,7 @@ use Rattle.c_lex.specs.declared.token.Token.{Token}
 use Rattle.c_syntax.specs.Expression.{Expression, height}
 use Rattle.c_syntax.specs.Expressions.{Derives}
 use Rattle.c_syntax.specs.Faults.{SameFirst, Speaks}
+use Rattle.c_syntax.specs.Operators.{comma}
 use Rattle.c_syntax.specs.Statement.{Statement}
 use Rattle.c_syntax.specs.Statements.{is_declaration, IsBlockItem}
 
@@ -26,14 +27,16 @@ first_over (t ∷ ts) = over_first t.kind
 pub record Expressed (text : List ℕ) (t : Token) : Type 0 where
   pub more : List Token
   pub tree : Expression
-  pub derives : (other : List Token) → Derives text 16 tree (t ∷ more ++ other) other
+  pub derives : (other : List Token) → Derives text comma tree (t ∷ more ++ other) other
   pub over : height tree ≡ over_first t.kind
 
 abbrev pub BeginsExpression : List Token → Type 0
 BeginsExpression ts = (t : Token) × (rest : List Token) × (ts ≡ t ∷ rest) × ((text : List ℕ) → Speaks text → Expressed text t)
 
 abbrev pub BeginsNoExpression : List Token → Type 0
-BeginsNoExpression ts = (text : List ℕ) (other : List Token) → SameFirst ts other → (e : Expression) (rest : List Token) → Derives text 16 e other rest → ⊥
+BeginsNoExpression ts =
+    (text : List ℕ) (other : List Token) → SameFirst ts other → (e : Expression) (rest : List Token)
+    → Derives text comma e other rest → ⊥
 
 -- a statement that begins with a token, and isn't a declaration
 pub record Stated (text : List ℕ) (t : Token) : Type 0 where

@@ -8,9 +8,10 @@ use Rattle.c_syntax.specs.declared.limit.TheConstants.{MOST_EXPRESSIONS}
 use Rattle.c_syntax.specs.Expression as trees
 use Rattle.c_syntax.specs.Expression.{expression}
 use Rattle.c_syntax.specs.Limits.{accepts}
+use Rattle.c_syntax.specs.Phrases.{InTurn}
 use Rattle.c_syntax.specs.Statement.{Statement, TryExcept, TryFinally, Statements, statement}
 use Rattle.c_syntax.specs.Statements.{IsCondition}
-use Rattle.c_syntax.specs.Tokens.{IsKeyword, HasPunctuator, HasKeyword}
+use Rattle.c_syntax.specs.Tokens.{Phrase, IsKeyword, HasPunctuator, HasKeyword}
 use Rattle.c_parse_stmt.specs.declared.endings.Clause.{Clause}
 use Rattle.c_parse_stmt.specs.declared.endings.Clause.TheVariants as clauses
 use Rattle.c_parse_stmt.specs.declared.endings.Ending.{Ending}
@@ -29,9 +30,17 @@ Ends text h s (endings.Else at c t) ts rest = (h ≡ heads.If at c) × (statemen
 
 -- ---- after the block of a `__try`, up to the brace of the second one
 
-abbrev pub IsClause : List ℕ → Clause → List Token → List Token → Type 0
-IsClause text (clauses.Except at f) ts rest = (a : List Token) × (b : List Token) × IsKeyword keywords.Except at ts a × IsCondition text (expression f) a b × HasPunctuator punctuators.OpenBrace b rest
-IsClause text (clauses.Finally at) ts rest = (a : List Token) × IsKeyword keywords.Finally at ts a × HasPunctuator punctuators.OpenBrace a rest
+pub record IsExceptClause (at : ℕ) (Filter : Phrase) (ts rest : List Token) : Type 0 where
+  pub after_keyword : List Token
+  pub after_filter : List Token
+  pub keyword : IsKeyword keywords.Except at ts after_keyword
+  pub filter : Filter after_keyword after_filter
+  pub brace : HasPunctuator punctuators.OpenBrace after_filter rest
+
+abbrev pub IsClause : List ℕ → Clause → Phrase
+IsClause text (clauses.Except at f) = IsExceptClause at (IsCondition text (expression f))
+IsClause text (clauses.Finally at) =
+    InTurn (IsKeyword keywords.Finally at) (HasPunctuator punctuators.OpenBrace)
 
 -- how many statements stand around its filter
 abbrev pub statements_over : Clause → ℕ

@@ -7,26 +7,28 @@ use Rattle.c_lex.specs.declared.token.Token.{Token}
 use Rattle.c_syntax.specs.declared.limit.TheConstants.{MOST_EXPRESSIONS}
 use Rattle.c_syntax.specs.Expression.{expression, height}
 use Rattle.c_syntax.specs.Limits.{height_of, height_of_for_initialiser, locals_of_for_initialiser}
+use Rattle.c_syntax.specs.Phrases.{InTurn}
 use Rattle.c_syntax.specs.Statement.{Statement, Statements, first, statement}
-use Rattle.c_syntax.specs.Statements.{IsCondition, IsForInitialiser, AreBlockItems}
-use Rattle.c_syntax.specs.Tokens.{IsKeyword, HasPunctuator, HasKeyword}
+use Rattle.c_syntax.specs.Statements.{IsUpTo, IsCondition, IsForInitialiser, IsForHead, AreBlockItems}
+use Rattle.c_syntax.specs.Tokens.{Phrase, IsKeyword, HasPunctuator, HasKeyword}
 use Rattle.c_parse_stmt.specs.declared.left.Left.{Left}
 use Rattle.c_parse_stmt.specs.declared.openings.Head.{Head}
 use Rattle.c_parse_stmt.specs.declared.openings.Head.TheVariants as heads
 use Rattle.c_parse_stmt.specs.declared.openings.Opening.{Opening}
 use Rattle.c_parse_stmt.specs.declared.openings.Opening.TheVariants as openings
-use Rattle.c_parse_stmt.specs.Parts.{IsUpTo}
 use Rattle.c_parse_stmt.specs.Within.{AllTaken, Reads, AfterKeyword}
 
 -- ---- what is before the first statement
 
-abbrev pub IsHead : List ℕ → Head → List Token → List Token → Type 0
-IsHead text (heads.If at c) ts rest = (a : List Token) × IsKeyword keywords.If at ts a × IsCondition text (expression c) a rest
-IsHead text (heads.While at c) ts rest = (a : List Token) × IsKeyword keywords.While at ts a × IsCondition text (expression c) a rest
-IsHead text heads.Do ts rest = HasKeyword keywords.Do ts rest
-IsHead text (heads.For at f c n) ts rest =
-    (a : List Token) × (b : List Token) × (d : List Token) × (g : List Token)
-    × IsKeyword keywords.For at ts a × HasPunctuator punctuators.OpenParenthesis a b × IsForInitialiser text (first f) b d × IsUpTo text punctuators.Semicolon (option_map expression c) d g × IsUpTo text punctuators.CloseParenthesis (option_map expression n) g rest
+abbrev pub IsHead : List ℕ → Head → Phrase
+IsHead text (heads.If at c) = InTurn (IsKeyword keywords.If at) (IsCondition text (expression c))
+IsHead text (heads.While at c) =
+    InTurn (IsKeyword keywords.While at) (IsCondition text (expression c))
+IsHead text heads.Do = HasKeyword keywords.Do
+IsHead text (heads.For at f c n) =
+    IsForHead at (IsForInitialiser text (first f))
+    (IsUpTo text punctuators.Semicolon (option_map expression c))
+    (IsUpTo text punctuators.CloseParenthesis (option_map expression n))
 
 abbrev pub expressions_over : Head → ℕ
 expressions_over (heads.If at c) = height (expression c)
@@ -48,8 +50,8 @@ pub record Heads (text : List ℕ) (room : ℕ) (left after : Left) (h : Head) (
   pub locals : after.locals + locals h ≡ left.locals
   pub funclets : after.funclets ≡ left.funclets
 
-abbrev pub IsTry : List Token → List Token → Type 0
-IsTry ts rest = (a : List Token) × HasKeyword keywords.Try ts a × HasPunctuator punctuators.OpenBrace a rest
+abbrev pub IsTry : Phrase
+IsTry = InTurn (HasKeyword keywords.Try) (HasPunctuator punctuators.OpenBrace)
 
 abbrev pub Opens : List ℕ → ℕ → Left → Left → Opening → List Token → List Token → Type 0
 Opens text room left after (openings.Whole s) ts rest = Reads text room left after (statement s) ts rest

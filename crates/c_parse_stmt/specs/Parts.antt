@@ -8,13 +8,10 @@ use Rattle.c_syntax.specs.declared.limit.TheConstants.{MOST_EXPRESSIONS}
 use Rattle.c_syntax.specs.Expression.{Expression, height}
 use Rattle.c_syntax.specs.Follow.{Stops}
 use Rattle.c_syntax.specs.Limits.{Nesting, Number, IsInForce, height_of, one_over, height_of_locals, one_over_locals, height_of_for_initialiser, locals_of_for_initialiser}
+use Rattle.c_syntax.specs.Operators.{assignment}
 use Rattle.c_syntax.specs.Statement.{Local, ForInitialiser}
-use Rattle.c_syntax.specs.Statements.{IsInitialiser, IsLocal, AreMoreLocals, AreLocals, IsDeclaration, IsOptional, IsCondition, IsForInitialiser}
+use Rattle.c_syntax.specs.Statements.{IsInitialiser, IsLocal, AreMoreLocals, AreLocals, IsDeclaration, IsUpTo, IsCondition, IsForInitialiser}
 use Rattle.c_syntax.specs.Tokens.{HasPunctuator}
-
--- an expression or nothing, and the punctuator after it
-abbrev pub IsUpTo : List ℕ → Punctuator → Option Expression → List Token → List Token → Type 0
-IsUpTo text punctuator e ts rest = (a : List Token) × IsOptional text e ts a × HasPunctuator punctuator a rest
 
 -- ---- a punctuator
 
@@ -46,7 +43,10 @@ pub record HasUpTo (punctuator : Punctuator) (room n : ℕ) (text : List ℕ) (t
 -- ---- locals
 
 abbrev pub NoInitialiser : ℕ → ℕ → List ℕ → List Token → Type 0
-NoInitialiser room n text ts = (e : Option Expression) (end : List Token) → IsInitialiser text e ts end → Stops 15 end → (IsInForce Nesting n → height_of e ≤ MOST_EXPRESSIONS) → (IsInForce Nesting n → one_over e ≤ room) → ⊥
+NoInitialiser room n text ts =
+    (e : Option Expression) (end : List Token) → IsInitialiser text e ts end → Stops assignment end
+    → (IsInForce Nesting n → height_of e ≤ MOST_EXPRESSIONS)
+    → (IsInForce Nesting n → one_over e ≤ room) → ⊥
 
 pub record HasInitialiser (room n : ℕ) (text : List ℕ) (ts : List Token) : Type 0 where
   pub tree : Option Expression
@@ -55,7 +55,10 @@ pub record HasInitialiser (room n : ℕ) (text : List ℕ) (ts : List Token) : T
   pub over : IsInForce Nesting n → one_over tree ≤ room
 
 abbrev pub NoLocal : ℕ → ℕ → List ℕ → List Token → Type 0
-NoLocal room n text ts = (l : Local) (end : List Token) → IsLocal text l ts end → Stops 15 end → (IsInForce Nesting n → height_of l.initialiser ≤ MOST_EXPRESSIONS) → (IsInForce Nesting n → one_over l.initialiser ≤ room) → ⊥
+NoLocal room n text ts =
+    (l : Local) (end : List Token) → IsLocal text l ts end → Stops assignment end
+    → (IsInForce Nesting n → height_of l.initialiser ≤ MOST_EXPRESSIONS)
+    → (IsInForce Nesting n → one_over l.initialiser ≤ room) → ⊥
 
 pub record HasLocal (room n : ℕ) (text : List ℕ) (ts : List Token) : Type 0 where
   pub tree : Local

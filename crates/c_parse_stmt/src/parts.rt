@@ -8,12 +8,11 @@ ghost use Rattle.c_lex.specs.declared.token.Token.{Token};
 ghost use Rattle.c_syntax.specs.Expression.{expression, height};
 ghost use Rattle.c_syntax.specs.Follow.{punctuator_follows};
 ghost use Rattle.c_syntax.specs.Limits.{height_of, one_over};
-ghost use Rattle.c_syntax.specs.Statements.{IsCondition};
+ghost use Rattle.c_syntax.specs.Statements.{IsUpTo, IsCondition};
 ghost use Rattle.c_syntax.specs.Tokens.{IsKeyword, HasKeyword, HasPunctuator};
 ghost use Rattle.c_parse_type.specs.Bases.{NoBase};
 ghost use Rattle.c_parse_stmt.specs.declared.left.Left.{Left};
 ghost use Rattle.c_parse_stmt.specs.Begins.{BeginsExpression, BeginsNoExpression, BeginsStatement, BeginsNoStatement};
-ghost use Rattle.c_parse_stmt.specs.Parts.{IsUpTo};
 ghost use Rattle.c_parse_stmt.specs.Refused.{RefusesPunctuator, RefusesCondition, RefusesUpTo, RefusesBlockItem};
 
 use c_lex::keyword::Keyword;

@@ -37,7 +37,7 @@ use Rattle.c_resolved.specs.declared.fault.Fault.{Fault}
 use Rattle.c_resolved.specs.declared.fault.Fault.TheVariants.{NotLvalue, TypeClash, ArgCount, CodeOutsideFilter, InfoOutsideFilter, AbnormalOutsideFinally}
 use Rattle.c_resolved.specs.Types.{plain, pointer_to, pointed, is_integer, is_scalar, is_sized_pointer, access_of, width_of, size_of}
 use Rattle.c_resolved.specs.Operators.{TypedNode, typed, only_if, int, as_is, as_index, unary_of, binary_of, cast_of, element_of, assigned, compound_assigned, incremented, conditional_of, comma_of, lvalue_of}
-use Rattle.c_resolved.specs.Expressions.{Entity, LocalVariable, GlobalVariable, GlobalArray, UserFunction, BuiltInFunction, CodeFunction, AbnormalFunction, BuiltInConstant, Names, FaultAt, fault_at, ResolvedExpression, ruled, rule_1, rule_2, rule_3, unless, integer_base, constant, literal, name, is_lvalue, is_global, is_addressable, operand_is_lvalue, unsigned, field, Wanted, OfType, ZeroLiteral, built_in_wants, built_in_result, fits, passed, Argument, Passed, before, spoiled, pass, pass_all, faults_of, called, call_with, only_where, call, changed, resolve_expression, resolve_arguments}
+use Rattle.c_resolved.specs.Expressions.{Entity, LocalVariable, GlobalVariable, GlobalArray, UserFunction, BuiltInFunction, CodeFunction, AbnormalFunction, BuiltInConstant, Names, FaultAt, fault_at, ResolvedExpression, ruled, rule_1, rule_2, rule_3, given_that, integer_base, constant, literal, name, is_lvalue, is_global, is_addressable, operand_is_lvalue, unsigned, field, Wanted, OfType, ZeroLiteral, built_in_wants, built_in_result, fits, passed, Argument, Passed, before, spoiled, pass, pass_all, faults_of, called, call_with, only_where, call, changed, resolve_expression, resolve_arguments}
 use Rattle.c_resolved.specs.Program.{result_size}
 use Rattle.c_resolved.proofs.TypeFacts.{pointer_scalar, size_in_memory_is, pointer_to_pointer, can_become_scalar}
 use Rattle.c_resolved.proofs.Operands.{IsGood, GoodIf, HasSize, and_true, typed_good, as_type_has, has_size}
@@ -96,9 +96,9 @@ rule_3_settled : (S : Scope) (at : ℕ) (rule : TypedNode → TypedNode → Type
 rule_3_settled S at rule fs None p q h k l r = h
 rule_3_settled S at rule fs (Some a) p q h k l r = rule_2_settled S at (rule a) fs p q k l (λ b c g i. r a b c h g i)
 
-unless_settled : (S : Scope) (b : Bool) (at : ℕ) (f : Fault) (fs : List FaultAt) (j : ResolvedExpression) → (b ≡ true → IsSettled S j) → IsSettled S (unless b at f fs j)
-unless_settled S true at f fs j h = h refl
-unless_settled S false at f fs j h = fault_after fs (fault_at at f) tt
+given_that_settled : (S : Scope) (b : Bool) (at : ℕ) (f : Fault) (fs : List FaultAt) (j : ResolvedExpression) → (b ≡ true → IsSettled S j) → IsSettled S (given_that b at f fs j)
+given_that_settled S true at f fs j h = h refl
+given_that_settled S false at f fs j h = fault_after fs (fault_at at f) tt
 
 -- two expressions, under one rule
 rule_of_two : (S : Scope) (at : ℕ) (rule : TypedNode → TypedNode → Option TypedNode) (a b : ResolvedExpression) → IsSettled S a → IsSettled S b → ((x y : TypedNode) → IsGood S x → IsGood S y → GoodIf S (rule x y))
@@ -169,7 +169,7 @@ field_settled S record_fields.Code h = typed_good S unsigned (nodes.Information 
 field_settled S record_fields.Flags h = typed_good S unsigned (nodes.Information fields.ExceptionFlags) refl h refl
 field_settled S record_fields.Count h = typed_good S unsigned (nodes.Information fields.NumberParameters) refl h refl
 field_settled S (record_fields.Information k at) h =
-    unless_settled S (nat_le k 14) at TypeClash [] _ (λ e. typed_good S (plain UnsignedLongLong) (nodes.Information (fields.ExceptionInformation k)) refl h refl)
+    given_that_settled S (nat_le k 14) at TypeClash [] _ (λ e. typed_good S (plain UnsignedLongLong) (nodes.Information (fields.ExceptionInformation k)) refl h refl)
 
 -- ---- what `&` is applied to
 
@@ -277,7 +277,7 @@ called_settled S t make zs (Some es) fs p h = h es p.0 p.1
 call_with_settled : (S : Scope) (at : ℕ) (ws : List Wanted) (t : CType) (make : Arguments → nodes.Node) (args : List Argument) → AllSettled S args
     → ((es : Arguments) → arguments_sound S es ≡ true → are_sizes (map wanted_size ws) (argument_sizes S es) ≡ true → IsGood S (typed t (make es))) → IsSettled S (call_with at ws t make args)
 call_with_settled S at ws t make args g h =
-    unless_settled S (nat_eq (length ws) (length args)) at ArgCount (faults_of args) (called t make (pass_all ws args)) λ e.
+    given_that_settled S (nat_eq (length ws) (length args)) at ArgCount (faults_of args) (called t make (pass_all ws args)) λ e.
     let passed_all = pass_all ws args in
     called_settled S t make (map wanted_size ws) passed_all.found passed_all.faults (pass_all_settled S ws args (eqb-true (length ws) (length args) e) g) h
 
@@ -306,7 +306,7 @@ only_where_settled : (S : Scope) (b : Bool) (at : ℕ) (f : Fault) (ws : List Wa
     → IsSettled S (only_where b at f (call_with at ws t (λ es. n) args))
 only_where_settled S b at f ws t n args g h =
     let r = call_with at ws t (λ es. n) args in
-    unless_settled S b at f r.faults r λ e. call_with_settled S at ws t (λ es. n) args g (λ es p q. h e)
+    given_that_settled S b at f r.faults r λ e. call_with_settled S at ws t (λ es. n) args g (λ es p q. h e)
 
 call_settled : (S : Scope) (s : Names) → NamesFit S s → (at : ℕ) (e : Option Entity) (args : List Argument) → MeaningFits S.functions S.sizes e → AllSettled S args → IsSettled S (call s at e args)
 call_settled S s fit at (Some (UserFunction f t ps)) args h g = call_with_settled S at (map OfType ps) t (nodes.Call f) args g (λ es p q. user_good S f t ps es h p q)
@@ -324,9 +324,9 @@ changed_settled S None at value_at a b g h = rule_of_two S value_at assigned a b
 changed_settled S (Some o) at value_at a b g h = rule_of_two S at (compound_assigned o) a b g h (compound_assigned_good S o)
 
 incremented_settled : (S : Scope) (lvalue : Bool) (first at : ℕ) (m : Fixity) (o : Increment) (j : ResolvedExpression) → IsSettled S j
-    → IsSettled S (unless lvalue first NotLvalue j.faults (rule_1 at (incremented m o) j.faults j.found))
+    → IsSettled S (given_that lvalue first NotLvalue j.faults (rule_1 at (incremented m o) j.faults j.found))
 incremented_settled S lvalue first at m o j g =
-    unless_settled S lvalue first NotLvalue j.faults (rule_1 at (incremented m o) j.faults j.found) λ e. rule_1_settled S at (incremented m o) j.faults j.found g (incremented_good S m o)
+    given_that_settled S lvalue first NotLvalue j.faults (rule_1 at (incremented m o) j.faults j.found) λ e. rule_1_settled S at (incremented m o) j.faults j.found g (incremented_good S m o)
 
 conditional_settled : (S : Scope) (at : ℕ) (c a b : ResolvedExpression) → IsSettled S c → IsSettled S a → IsSettled S b
     → IsSettled S (rule_3 at conditional_of (c.faults ++ a.faults ++ b.faults) c.found a.found b.found)
@@ -340,7 +340,7 @@ mutual
   pub settled : (S : Scope) (s : Names) → NamesFit S s → (e : Expression) → IsSettled S (resolve_expression s e)
   settled S s fit (trees.Constant at l) = literal_good S l
   settled S s fit (trees.Variable n) = name_settled S n.start (s.entity n) (fit.entities n)
-  settled S s fit (trees.Information at f) = unless_settled S s.information at InfoOutsideFilter [] (field f) (λ e. field_settled S f (fit.information e))
+  settled S s fit (trees.Information at f) = given_that_settled S s.information at InfoOutsideFilter [] (field f) (λ e. field_settled S f (fit.information e))
   settled S s fit (trees.Call n es) = call_settled S s fit n.start (s.entity n) (resolve_arguments s es) (fit.entities n) (all_settled S s fit es)
   settled S s fit (trees.Parentheses at e) = settled S s fit e
   settled S s fit (trees.Index a at i) = rule_of_two S at element_of (resolve_expression s a) (resolve_expression s i) (settled S s fit a) (settled S s fit i) (element_good S)
@@ -348,7 +348,7 @@ mutual
   settled S s fit (trees.Prefix at o e) = incremented_settled S (is_lvalue s e) (start e) at Prefix o (resolve_expression s e) (settled S s fit e)
   settled S s fit (trees.Unary at o e) =
       let j = resolve_expression s e in
-      unless_settled S (operand_is_lvalue o s e) (start e) NotLvalue j.faults (rule_1 at (unary_of o) j.faults j.found)
+      given_that_settled S (operand_is_lvalue o s e) (start e) NotLvalue j.faults (rule_1 at (unary_of o) j.faults j.found)
       (λ h. unary_settled S at o j.faults j.found (settled S s fit e) (addressable s o e h))
   settled S s fit (trees.Cast at t e) = rule_1_settled S at (cast_of t) (resolve_expression s e).faults (resolve_expression s e).found (settled S s fit e) (cast_good S t)
   settled S s fit (trees.Binary a at o b) = rule_of_two S at (binary_of o) (resolve_expression s a) (resolve_expression s b) (settled S s fit a) (settled S s fit b) (binary_good S o)
@@ -357,7 +357,7 @@ mutual
   settled S s fit (trees.Assign a at o b) =
       let x = resolve_expression s a in
       let y = resolve_expression s b in
-      unless_settled S (is_lvalue s a) (start a) NotLvalue (x.faults ++ y.faults) (changed o at (start b) x y)
+      given_that_settled S (is_lvalue s a) (start a) NotLvalue (x.faults ++ y.faults) (changed o at (start b) x y)
       (λ h. changed_settled S o at (start b) x y (settled S s fit a) (settled S s fit b))
   settled S s fit (trees.Comma a at b) = rule_of_two S at comma_of (resolve_expression s a) (resolve_expression s b) (settled S s fit a) (settled S s fit b) (comma_good S)
 

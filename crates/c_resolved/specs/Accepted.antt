@@ -1,4 +1,5 @@
--- Which programs are accepted, and which fault is reported for one that isn't: the least by place, and at one place the earliest rule.
+-- Which programs are accepted, and which fault is reported for one that isn't: the least by place,
+-- and at one place the earliest rule.
 use Rattle.std.specs.Prelude.{◌≡◌, ℕ, Bool, ◌&&◌, ◌||◌, nat_eq, nat_lt, if◌then◌else◌, List, [], ◌∷◌, Option, Some, None}
 use Rattle.c_syntax.specs.Program.{ExternalDeclaration}
 use Rattle.c_resolved.specs.declared.fault.Fault.{Fault}

@@ -1,7 +1,10 @@
--- Expressions: the type and the node of each, or the rules that it breaks (C11, 6.5; Microsoft C reference, "try-except statement"). An expression that holds a fault has no type, and no rule on types fails for it.
-use Rattle.std.specs.Prelude.{ℕ, Bool, true, false, nat_eq, nat_le, if◌then◌else◌, List, [], ◌∷◌, ◌++◌, length, map, Option, Some, None}
+-- Expressions: the type and the node of each, or the rules that it breaks (C11, 6.5; Microsoft C
+-- reference, "try-except statement"). An expression that holds a fault has no type, and no rule on
+-- types fails for it.
+use Rattle.std.specs.Prelude.{ℕ, Bool, true, false, nat_eq, nat_le, if◌then◌else◌, List, [], ◌∷◌, ◌++◌, length, map, Option, Some, None, ◌-◌}
 use Rattle.seh_num.specs.declared.width.Width.TheVariants.{W32}
 use Rattle.seh_num.specs.Widths.{low, wrapped}
+use Rattle.seh_num.specs.declared.size.TheConstants.{EXCEPTION_MAXIMUM_PARAMETERS}
 use Rattle.c_lex.specs.declared.token.IntegerType.{IntegerType}
 use Rattle.c_lex.specs.declared.token.IntegerType.TheVariants as integers
 use Rattle.c_operations.specs.declared.field.Field.TheVariants as fields
@@ -45,7 +48,8 @@ pub data Entity : Type 0 where
   -- as a number of 32 bits
   BuiltInConstant : ℕ → Entity
 
--- what the names mean where an expression stands, and whether it stands where an exception's code and fields, and AbnormalTermination, mean something
+-- what the names mean where an expression stands, and whether it stands where an exception's code
+-- and fields, and AbnormalTermination, mean something
 pub record Names : Type 0 where
   pub entity : Identifier → Option Entity
   pub code : Bool
@@ -76,22 +80,25 @@ abbrev pub ruled : ℕ → Fault → List FaultAt → Option TypedNode → Resol
 ruled at f fs None = bad (fs ++ fault_at at f)
 ruled at f fs (Some t) = record { found = Some t; faults = fs }
 
-abbrev pub rule_1 : ℕ → (TypedNode → Option TypedNode) → List FaultAt → Option TypedNode → ResolvedExpression
+abbrev pub rule_1 : ℕ → (TypedNode → Option TypedNode) → List FaultAt → Option TypedNode
+    → ResolvedExpression
 rule_1 at rule fs None = bad fs
 rule_1 at rule fs (Some a) = ruled at TypeClash fs (rule a)
 
-abbrev pub rule_2 : ℕ → (TypedNode → TypedNode → Option TypedNode) → List FaultAt → Option TypedNode → Option TypedNode → ResolvedExpression
+abbrev pub rule_2 : ℕ → (TypedNode → TypedNode → Option TypedNode) → List FaultAt → Option TypedNode
+    → Option TypedNode → ResolvedExpression
 rule_2 at rule fs None b = bad fs
 rule_2 at rule fs (Some a) b = rule_1 at (rule a) fs b
 
-abbrev pub rule_3 : ℕ → (TypedNode → TypedNode → TypedNode → Option TypedNode) → List FaultAt → Option TypedNode → Option TypedNode → Option TypedNode → ResolvedExpression
+abbrev pub rule_3 : ℕ → (TypedNode → TypedNode → TypedNode → Option TypedNode) → List FaultAt
+    → Option TypedNode → Option TypedNode → Option TypedNode → ResolvedExpression
 rule_3 at rule fs None b c = bad fs
 rule_3 at rule fs (Some a) b c = rule_2 at (rule a) fs b c
 
 -- a rule that stands before the rules on types
-abbrev pub unless : Bool → ℕ → Fault → List FaultAt → ResolvedExpression → ResolvedExpression
-unless true at f fs j = j
-unless false at f fs j = bad (fs ++ fault_at at f)
+abbrev pub given_that : Bool → ℕ → Fault → List FaultAt → ResolvedExpression → ResolvedExpression
+given_that true at f fs j = j
+given_that false at f fs j = bad (fs ++ fault_at at f)
 
 -- ---- literals and names
 
@@ -107,7 +114,8 @@ constant t n = typed t (nodes.Constant (size_of t) (low (width (size_of t)) n))
 
 -- an integer literal of value 0 is one in any base and with any suffix; a character is none
 abbrev pub literal : Literal → TypedNode
-literal (literals.Integer n of) = record (constant (plain (integer_base of)) n) { zero = nat_eq n 0 }
+literal (literals.Integer n of) =
+    record (constant (plain (integer_base of)) n) { zero = nat_eq n 0 }
 literal (literals.CharacterConstant c) = constant int (wrapped W32 c)
 
 abbrev pub variable : CType → nodes.Lvalue → TypedNode
@@ -166,7 +174,8 @@ field record_fields.Code = good (typed unsigned (nodes.Information fields.Except
 field record_fields.Flags = good (typed unsigned (nodes.Information fields.ExceptionFlags))
 field record_fields.Count = good (typed unsigned (nodes.Information fields.NumberParameters))
 field (record_fields.Information k at) =
-    unless (nat_le k 14) at TypeClash [] (good (typed (plain UnsignedLongLong) (nodes.Information (fields.ExceptionInformation k))))
+    given_that (nat_le k (EXCEPTION_MAXIMUM_PARAMETERS - 1)) at TypeClash []
+    (good (typed (plain UnsignedLongLong) (nodes.Information (fields.ExceptionInformation k))))
 
 -- ---- calls
 
@@ -203,14 +212,19 @@ pub record Passed : Type 0 where
   pub faults : List FaultAt
 
 abbrev pub before : List FaultAt → nodes.Expression → Passed → Passed
-before fs e rest = record { found = elim rest.found [ Some es ↦ Some (Next e es) | None ↦ None ]; faults = fs ++ rest.faults }
+before fs e rest =
+    record {
+      found = elim rest.found [ Some es ↦ Some (Next e es) | None ↦ None ];
+      faults = fs ++ rest.faults;
+    }
 
 abbrev pub spoiled : List FaultAt → Passed → Passed
 spoiled fs rest = record { found = None; faults = fs ++ rest.faults }
 
 abbrev pub pass : Wanted → ℕ → List FaultAt → Option TypedNode → Passed → Passed
 pass w at fs None rest = spoiled fs rest
-pass w at fs (Some a) rest = if fits w a then before fs (passed w a) rest else spoiled (fs ++ fault_at at TypeClash) rest
+pass w at fs (Some a) rest =
+    if fits w a then before fs (passed w a) rest else spoiled (fs ++ fault_at at TypeClash) rest
 
 abbrev pub pass_all : List Wanted → List Argument → Passed
 pass_all (w ∷ ws) (a ∷ more) = pass w a.at a.resolved.faults a.resolved.found (pass_all ws more)
@@ -221,47 +235,82 @@ faults_of [] = []
 faults_of (a ∷ more) = a.resolved.faults ++ faults_of more
 
 abbrev pub called : CType → (Arguments → nodes.Node) → Passed → ResolvedExpression
-called t make p = record { found = elim p.found [ Some es ↦ Some (typed t (make es)) | None ↦ None ]; faults = p.faults }
+called t make p =
+    record {
+      found = elim p.found [ Some es ↦ Some (typed t (make es)) | None ↦ None ];
+      faults = p.faults;
+    }
 
-abbrev pub call_with : ℕ → List Wanted → CType → (Arguments → nodes.Node) → List Argument → ResolvedExpression
-call_with at ws t make args = unless (nat_eq (length ws) (length args)) at ArgCount (faults_of args) (called t make (pass_all ws args))
+abbrev pub call_with : ℕ → List Wanted → CType → (Arguments → nodes.Node) → List Argument
+    → ResolvedExpression
+call_with at ws t make args =
+    given_that (nat_eq (length ws) (length args)) at ArgCount (faults_of args)
+    (called t make (pass_all ws args))
 
 -- a call that is right in itself, but has a meaning in some places alone
 abbrev pub only_where : Bool → ℕ → Fault → ResolvedExpression → ResolvedExpression
-only_where allowed at fault r = unless allowed at fault r.faults r
+only_where allowed at fault r = given_that allowed at fault r.faults r
 
 abbrev pub call : Names → ℕ → Option Entity → List Argument → ResolvedExpression
 call s at (Some (UserFunction f t ps)) args = call_with at (map OfType ps) t (nodes.Call f) args
-call s at (Some (BuiltInFunction k)) args = call_with at (built_in_wants k) (built_in_result k) (nodes.CallBuiltIn k) args
-call s at (Some CodeFunction) args = only_where s.code at CodeOutsideFilter (call_with at [] unsigned (λ es. nodes.ExceptionCode) args)
-call s at (Some AbnormalFunction) args = only_where s.abnormal at AbnormalOutsideFinally (call_with at [] int (λ es. nodes.AbnormalTermination) args)
+call s at (Some (BuiltInFunction k)) args =
+    call_with at (built_in_wants k) (built_in_result k) (nodes.CallBuiltIn k) args
+call s at (Some CodeFunction) args =
+    only_where s.code at CodeOutsideFilter
+    (call_with at [] unsigned (λ es. nodes.ExceptionCode) args)
+call s at (Some AbnormalFunction) args =
+    only_where s.abnormal at AbnormalOutsideFinally
+    (call_with at [] int (λ es. nodes.AbnormalTermination) args)
 call s at other args = bad (fault_at at UnknownName ++ faults_of args)
 
 -- ---- expressions
 
-abbrev pub changed : Option Arithmetic → ℕ → ℕ → ResolvedExpression → ResolvedExpression → ResolvedExpression
+abbrev pub changed : Option Arithmetic → ℕ → ℕ → ResolvedExpression → ResolvedExpression
+    → ResolvedExpression
 changed None at value_at a b = rule_2 value_at assigned (a.faults ++ b.faults) a.found b.found
-changed (Some o) at value_at a b = rule_2 at (compound_assigned o) (a.faults ++ b.faults) a.found b.found
+changed (Some o) at value_at a b =
+    rule_2 at (compound_assigned o) (a.faults ++ b.faults) a.found b.found
 
 abbrev mutual
   pub resolve_expression : Names → Expression → ResolvedExpression
   resolve_expression s (trees.Constant at l) = good (literal l)
   resolve_expression s (trees.Variable n) = name n.start (s.entity n)
-  resolve_expression s (trees.Information at f) = unless s.information at InfoOutsideFilter [] (field f)
+  resolve_expression s (trees.Information at f) =
+      given_that s.information at InfoOutsideFilter [] (field f)
   resolve_expression s (trees.Call n es) = call s n.start (s.entity n) (resolve_arguments s es)
   resolve_expression s (trees.Parentheses at e) = resolve_expression s e
-  resolve_expression s (trees.Index a at i) = rule_2 at element_of ((resolve_expression s a).faults ++ (resolve_expression s i).faults) (resolve_expression s a).found (resolve_expression s i).found
-  resolve_expression s (trees.Postfix e o at) = unless (is_lvalue s e) (start e) NotLvalue (resolve_expression s e).faults (rule_1 at (incremented Postfix o) (resolve_expression s e).faults (resolve_expression s e).found)
-  resolve_expression s (trees.Prefix at o e) = unless (is_lvalue s e) (start e) NotLvalue (resolve_expression s e).faults (rule_1 at (incremented Prefix o) (resolve_expression s e).faults (resolve_expression s e).found)
-  resolve_expression s (trees.Unary at o e) = unless (operand_is_lvalue o s e) (start e) NotLvalue (resolve_expression s e).faults (rule_1 at (unary_of o) (resolve_expression s e).faults (resolve_expression s e).found)
-  resolve_expression s (trees.Cast at t e) = rule_1 at (cast_of t) (resolve_expression s e).faults (resolve_expression s e).found
-  resolve_expression s (trees.Binary a at o b) = rule_2 at (binary_of o) ((resolve_expression s a).faults ++ (resolve_expression s b).faults) (resolve_expression s a).found (resolve_expression s b).found
+  resolve_expression s (trees.Index a at i) =
+      rule_2 at element_of ((resolve_expression s a).faults ++ (resolve_expression s i).faults)
+      (resolve_expression s a).found (resolve_expression s i).found
+  resolve_expression s (trees.Postfix e o at) =
+      given_that (is_lvalue s e) (start e) NotLvalue (resolve_expression s e).faults
+      (rule_1 at (incremented Postfix o) (resolve_expression s e).faults
+      (resolve_expression s e).found)
+  resolve_expression s (trees.Prefix at o e) =
+      given_that (is_lvalue s e) (start e) NotLvalue (resolve_expression s e).faults
+      (rule_1 at (incremented Prefix o) (resolve_expression s e).faults
+      (resolve_expression s e).found)
+  resolve_expression s (trees.Unary at o e) =
+      given_that (operand_is_lvalue o s e) (start e) NotLvalue (resolve_expression s e).faults
+      (rule_1 at (unary_of o) (resolve_expression s e).faults (resolve_expression s e).found)
+  resolve_expression s (trees.Cast at t e) =
+      rule_1 at (cast_of t) (resolve_expression s e).faults (resolve_expression s e).found
+  resolve_expression s (trees.Binary a at o b) =
+      rule_2 at (binary_of o) ((resolve_expression s a).faults ++ (resolve_expression s b).faults)
+      (resolve_expression s a).found (resolve_expression s b).found
   resolve_expression s (trees.Conditional c at a b) =
-      rule_3 at conditional_of ((resolve_expression s c).faults ++ (resolve_expression s a).faults ++ (resolve_expression s b).faults) (resolve_expression s c).found (resolve_expression s a).found (resolve_expression s b).found
+      rule_3 at conditional_of ((resolve_expression s c).faults ++ (resolve_expression s a).faults
+      ++ (resolve_expression s b).faults) (resolve_expression s c).found
+      (resolve_expression s a).found (resolve_expression s b).found
   resolve_expression s (trees.Assign a at o b) =
-      unless (is_lvalue s a) (start a) NotLvalue ((resolve_expression s a).faults ++ (resolve_expression s b).faults) (changed o at (start b) (resolve_expression s a) (resolve_expression s b))
-  resolve_expression s (trees.Comma a at b) = rule_2 at comma_of ((resolve_expression s a).faults ++ (resolve_expression s b).faults) (resolve_expression s a).found (resolve_expression s b).found
+      given_that (is_lvalue s a) (start a) NotLvalue
+      ((resolve_expression s a).faults ++ (resolve_expression s b).faults)
+      (changed o at (start b) (resolve_expression s a) (resolve_expression s b))
+  resolve_expression s (trees.Comma a at b) =
+      rule_2 at comma_of ((resolve_expression s a).faults ++ (resolve_expression s b).faults)
+      (resolve_expression s a).found (resolve_expression s b).found
 
   pub resolve_arguments : Names → trees.Arguments → List Argument
   resolve_arguments s trees.Done = []
-  resolve_arguments s (trees.Next e es) = record { at = start e; resolved = resolve_expression s e } ∷ resolve_arguments s es
+  resolve_arguments s (trees.Next e es) =
+      record { at = start e; resolved = resolve_expression s e } ∷ resolve_arguments s es

@@ -9,7 +9,9 @@ use Rattle.c_resolved.specs.Program.{resolve}
 
 -- what an accepted text within the limits is resolved to is sound
 abbrev pub AcceptedIsSound : Type 0
-AcceptedIsSound = (text : List ℕ) (program : List ExternalDeclaration) → Within text program → Accepted text program → IsSound (resolve text program).program
+AcceptedIsSound =
+    (text : List ℕ) (program : List ExternalDeclaration) → Within text program
+    → Accepted text program → IsSound (resolve text program).program
 
 -- its place is earlier, or its rule is no later at one place
 abbrev pub IsNoLater : FaultAt → FaultAt → Type 0

@@ -1,4 +1,5 @@
--- What operators make of operands with types: the type and the node of the whole, where the rules on types hold (C11, 6.5).
+-- What operators make of operands with types: the type and the node of the whole, where the rules
+-- on types hold (C11, 6.5).
 use Rattle.std.specs.Prelude.{Bool, true, false, ◌&&◌, ◌||◌, if◌then◌else◌, Option, Some, None}
 use Rattle.c_operations.specs.declared.operation.Operation.{Operation}
 use Rattle.c_operations.specs.declared.operation.Operation.TheVariants as operations
@@ -59,7 +60,8 @@ abbrev pub can_become : CType → TypedNode → Bool
 can_become t a =
     (is_integer a.type && is_integer t)
     || (is_pointer t && a.zero)
-    || (is_pointer a.type && is_pointer t && (same_type a.type t || is_void_pointer a.type || is_void_pointer t))
+    || (is_pointer a.type && is_pointer t &&
+    (same_type a.type t || is_void_pointer a.type || is_void_pointer t))
 
 -- ---- operators on numbers
 
@@ -94,7 +96,8 @@ right_operand o t b = if is_shift o then as_is b else as_type t b
 abbrev pub on_integers : Arithmetic → TypedNode → TypedNode → Option TypedNode
 on_integers o a b =
     let t = working_type o a.type b.type in
-    only_if (is_integer a.type && is_integer b.type) (typed t (nodes.Binary (operation_in o t) (as_type t a) (right_operand o t b)))
+    only_if (is_integer a.type && is_integer b.type)
+    (typed t (nodes.Binary (operation_in o t) (as_type t a) (right_operand o t b)))
 
 -- ---- operators on pointers
 
@@ -106,15 +109,21 @@ moved o p i = typed p.type (nodes.Binary (long_operation o) (as_is p) (as_index 
 
 abbrev pub sum : TypedNode → TypedNode → Option TypedNode
 sum a b =
-    if is_pointer a.type then only_if (is_sized_pointer a.type && is_integer b.type) (moved arithmetic.Add a b)
-    else if is_pointer b.type then only_if (is_sized_pointer b.type && is_integer a.type) (typed b.type (nodes.Binary (long_operation arithmetic.Add) (as_index b.type a) (as_is b)))
+    if is_pointer a.type then only_if (is_sized_pointer a.type && is_integer b.type)
+    (moved arithmetic.Add a b)
+    else if is_pointer b.type then only_if (is_sized_pointer b.type && is_integer a.type)
+    (typed b.type (nodes.Binary (long_operation arithmetic.Add) (as_index b.type a)
+    (as_is b)))
     else on_integers arithmetic.Add a b
 
 abbrev pub difference : TypedNode → TypedNode → Option TypedNode
 difference a b =
     if is_pointer a.type && is_pointer b.type
-    then only_if (is_sized_pointer a.type && same_type a.type b.type) (typed (plain LongLong) (nodes.PointerDifference (bytes_in (pointed a.type)) (as_is a) (as_is b)))
-    else if is_pointer a.type then only_if (is_sized_pointer a.type && is_integer b.type) (moved arithmetic.Subtract a b)
+    then only_if (is_sized_pointer a.type && same_type a.type b.type)
+    (typed (plain LongLong) (nodes.PointerDifference (bytes_in (pointed a.type)) (as_is a)
+    (as_is b)))
+    else if is_pointer a.type then only_if (is_sized_pointer a.type && is_integer b.type)
+    (moved arithmetic.Subtract a b)
     else on_integers arithmetic.Subtract a b
 
 abbrev pub arithmetic_of : Arithmetic → TypedNode → TypedNode → Option TypedNode
@@ -133,12 +142,15 @@ relation_of comparisons.Equal = relations.Equal
 relation_of comparisons.NotEqual = relations.NotEqual
 
 abbrev pub compared : Comparison → CType → TypedNode → TypedNode → TypedNode
-compared c t a b = typed int (nodes.Binary (operations.Pure (pures.Compare (relation_of c) (sort_of t) (size_of t))) (as_type t a) (as_type t b))
+compared c t a b =
+    typed int (nodes.Binary (operations.Pure (pures.Compare (relation_of c) (sort_of t)
+    (size_of t))) (as_type t a) (as_type t b))
 
 -- pointers of one type, one to void, or one and a literal 0
 abbrev pub are_comparable : TypedNode → TypedNode → Bool
 are_comparable a b =
-    (is_pointer a.type && is_pointer b.type && (same_type a.type b.type || is_void_pointer a.type || is_void_pointer b.type))
+    (is_pointer a.type && is_pointer b.type &&
+    (same_type a.type b.type || is_void_pointer a.type || is_void_pointer b.type))
     || (is_pointer a.type && b.zero) || (is_pointer b.type && a.zero)
 
 abbrev pub void_pointer : CType
@@ -146,14 +158,17 @@ void_pointer = pointer_to (plain Void)
 
 abbrev pub comparison_of : Comparison → TypedNode → TypedNode → Option TypedNode
 comparison_of c a b =
-    if is_pointer a.type || is_pointer b.type then only_if (are_comparable a b) (compared c void_pointer a b)
+    if is_pointer a.type || is_pointer b.type
+    then only_if (are_comparable a b) (compared c void_pointer a b)
     else only_if (is_integer a.type && is_integer b.type) (compared c (common a.type b.type) a b)
 
 abbrev pub binary_of : BinaryOperator → TypedNode → TypedNode → Option TypedNode
 binary_of (binary.Arithmetic o) a b = arithmetic_of o a b
 binary_of (binary.Comparison c) a b = comparison_of c a b
-binary_of binary.LogicalAnd a b = only_if (is_scalar a.type && is_scalar b.type) (typed int (nodes.And (as_is a) (as_is b)))
-binary_of binary.LogicalOr a b = only_if (is_scalar a.type && is_scalar b.type) (typed int (nodes.Or (as_is a) (as_is b)))
+binary_of binary.LogicalAnd a b =
+    only_if (is_scalar a.type && is_scalar b.type) (typed int (nodes.And (as_is a) (as_is b)))
+binary_of binary.LogicalOr a b =
+    only_if (is_scalar a.type && is_scalar b.type) (typed int (nodes.Or (as_is a) (as_is b)))
 
 -- ---- one operand
 
@@ -166,19 +181,30 @@ address t None = None
 address t (Some p) = Some (typed (pointer_to t) (nodes.AddressOf p))
 
 abbrev pub unary_of : UnaryOperator → TypedNode → Option TypedNode
-unary_of unary.Plus a = only_if (is_integer a.type) (typed (promoted a.type) (nodes.Unary pures.First (as_is a)))
-unary_of unary.Minus a = only_if (is_integer a.type) (typed (promoted a.type) (nodes.Unary (pures.Negate (size_of (promoted a.type))) (as_is a)))
-unary_of unary.Complement a = only_if (is_integer a.type) (typed (promoted a.type) (nodes.Unary (pures.Not (size_of (promoted a.type))) (as_is a)))
+unary_of unary.Plus a =
+    only_if (is_integer a.type) (typed (promoted a.type) (nodes.Unary pures.First (as_is a)))
+unary_of unary.Minus a =
+    only_if (is_integer a.type) (typed (promoted a.type)
+    (nodes.Unary (pures.Negate (size_of (promoted a.type))) (as_is a)))
+unary_of unary.Complement a =
+    only_if (is_integer a.type) (typed (promoted a.type)
+    (nodes.Unary (pures.Not (size_of (promoted a.type))) (as_is a)))
 unary_of unary.LogicalNot a = only_if (is_scalar a.type) (typed int (nodes.Not (as_is a)))
-unary_of unary.Indirection a = only_if (is_sized_pointer a.type) (typed (pointed a.type) (nodes.Read (nodes.Indirection (access_of (pointed a.type)) (as_is a))))
+unary_of unary.Indirection a =
+    only_if (is_sized_pointer a.type)
+    (typed (pointed a.type) (nodes.Read (nodes.Indirection (access_of (pointed a.type))
+    (as_is a))))
 unary_of unary.AddressOf a = address a.type (lvalue_of a.node)
 
 abbrev pub cast_of : CType → TypedNode → Option TypedNode
-cast_of t a = only_if (is_scalar t && is_scalar a.type) (typed t (nodes.Unary pures.First (as_type t a)))
+cast_of t a =
+    only_if (is_scalar t && is_scalar a.type) (typed t (nodes.Unary pures.First (as_type t a)))
 
 abbrev pub element_of : TypedNode → TypedNode → Option TypedNode
 element_of a i =
-    only_if (is_sized_pointer a.type && is_integer i.type) (typed (pointed a.type) (nodes.Read (nodes.Element (access_of (pointed a.type)) (as_is a) (as_index a.type i))))
+    only_if (is_sized_pointer a.type && is_integer i.type)
+    (typed (pointed a.type) (nodes.Read (nodes.Element (access_of (pointed a.type)) (as_is a)
+    (as_index a.type i))))
 
 -- ---- changes of a place
 
@@ -187,7 +213,9 @@ with_lvalue None go = None
 with_lvalue (Some p) go = Some (go p)
 
 abbrev pub assigned : TypedNode → TypedNode → Option TypedNode
-assigned a b = if can_become a.type b then with_lvalue (lvalue_of a.node) (λ p. typed a.type (nodes.Assign p (as_type a.type b))) else None
+assigned a b =
+    if can_become a.type b then with_lvalue (lvalue_of a.node)
+    (λ p. typed a.type (nodes.Assign p (as_type a.type b))) else None
 
 abbrev pub is_additive : Arithmetic → Bool
 is_additive arithmetic.Add = true
@@ -197,11 +225,16 @@ is_additive other = false
 abbrev pub compound_assigned : Arithmetic → TypedNode → TypedNode → Option TypedNode
 compound_assigned o a b =
     if is_pointer a.type
-    then (if is_additive o && is_sized_pointer a.type && is_integer b.type then with_lvalue (lvalue_of a.node) (λ p. typed a.type (nodes.CompoundAssign p Kept (long_operation o) (as_index a.type b) Kept)) else None)
+    then (if is_additive o && is_sized_pointer a.type && is_integer b.type
+    then with_lvalue (lvalue_of a.node)
+    (λ p. typed a.type (nodes.CompoundAssign p Kept (long_operation o)
+    (as_index a.type b) Kept)) else None)
     else (
     let t = working_type o a.type b.type in
     if is_integer a.type && is_integer b.type
-    then with_lvalue (lvalue_of a.node) (λ p. typed a.type (nodes.CompoundAssign p (conversion a.type t) (operation_in o t) (right_operand o t b) (conversion t a.type)))
+    then with_lvalue (lvalue_of a.node)
+    (λ p. typed a.type (nodes.CompoundAssign p (conversion a.type t) (operation_in o t)
+    (right_operand o t b) (conversion t a.type)))
     else None)
 
 abbrev pub increment_operator : Increment → Arithmetic
@@ -212,8 +245,12 @@ increment_operator increments.Decrement = arithmetic.Subtract
 abbrev pub incremented : Fixity → Increment → TypedNode → Option TypedNode
 incremented m i a =
     if is_pointer a.type
-    then (if is_sized_pointer a.type then with_lvalue (lvalue_of a.node) (λ p. typed a.type (nodes.Increment m p Kept (long_operation (increment_operator i)) (bytes_in (pointed a.type)) Kept)) else None)
-    else (if is_integer a.type then with_lvalue (lvalue_of a.node) (λ p. typed a.type (nodes.Increment m p Kept (operation_in (increment_operator i) (promoted a.type)) 1 (conversion (promoted a.type) a.type))) else None)
+    then (if is_sized_pointer a.type then with_lvalue (lvalue_of a.node)
+    (λ p. typed a.type (nodes.Increment m p Kept (long_operation (increment_operator i))
+    (bytes_in (pointed a.type)) Kept)) else None)
+    else (if is_integer a.type then with_lvalue (lvalue_of a.node)
+    (λ p. typed a.type (nodes.Increment m p Kept (operation_in (increment_operator i)
+    (promoted a.type)) 1 (conversion (promoted a.type) a.type))) else None)
 
 -- ---- conditional and comma
 
@@ -223,7 +260,8 @@ branch_type a b =
     else if is_void a.type && is_void b.type then Some (plain Void)
     else if is_pointer a.type && (same_type a.type b.type || b.zero) then Some a.type
     else if is_pointer b.type && a.zero then Some b.type
-    else if is_pointer a.type && is_pointer b.type && (is_void_pointer a.type || is_void_pointer b.type) then Some void_pointer
+    else if is_pointer a.type && is_pointer b.type &&
+    (is_void_pointer a.type || is_void_pointer b.type) then Some void_pointer
     else None
 
 abbrev pub as_branch : CType → TypedNode → Expression

@@ -1,7 +1,9 @@
--- Programs: what each is resolved to, and all rules that it breaks (C11, 6.9). Every function and global is visible in the whole text.
+-- Programs: what each is resolved to, and all rules that it breaks (C11, 6.9). Every function and
+-- global is visible in the whole text.
 use Rattle.std.specs.Prelude.{ℕ, zero, suc, ◌+◌, ◌-◌, ◌*◌, ◌/◌, ◌%◌, ◌^◌, Bool, true, false, not, ◌&&◌, nat_lt, if◌then◌else◌, List, [], ◌∷◌, ◌++◌, length, map, take, drop, replicate, Option, Some, None}
 use Rattle.seh_num.specs.declared.width.Width.TheVariants.{W64}
 use Rattle.seh_num.specs.Widths.{wrapped}
+use Rattle.host_layout.specs.declared.range.TheConstants.{FIRST_DATA}
 use Rattle.c_operations.specs.declared.operation.Size.{Size}
 use Rattle.c_checked.specs.Statement as checked
 use Rattle.c_checked.specs.Program as checked_program
@@ -27,7 +29,7 @@ use Rattle.c_resolved.specs.Statements.{Nowhere, Near, Environment, unless_holds
 
 -- the address of the first byte of the globals
 abbrev pub first_data : ℕ
-first_data = 0x140001000
+first_data = FIRST_DATA
 
 abbrev pub literal_value : Literal → ℕ
 literal_value (literals.Integer n of) = n
@@ -35,7 +37,8 @@ literal_value (literals.CharacterConstant c) = wrapped W64 c
 
 -- modulo 2^64
 abbrev pub constant_value : Constant → ℕ
-constant_value c = if c.negative then (2 ^ 64 - literal_value c.literal) % 2 ^ 64 else literal_value c.literal
+constant_value c =
+    if c.negative then (2 ^ 64 - literal_value c.literal) % 2 ^ 64 else literal_value c.literal
 
 -- the n lowest bytes of a number, the lowest first
 abbrev pub bytes_of_number : ℕ → ℕ → List ℕ
@@ -62,11 +65,18 @@ too_many (c ∷ cs) = fault_at c.at BadInitialiser
 
 abbrev pub initial_value : CType → Option Length → Option Initialiser → InitialValue
 initial_value t None None = record { bytes = replicate (bytes_in t) 0; faults = [] }
-initial_value t None (Some (Single c)) = record { bytes = bytes_of_number (bytes_in t) (constant_value c); faults = [] }
-initial_value t None (Some (Several at cs)) = record { bytes = replicate (bytes_in t) 0; faults = fault_at at BadInitialiser }
+initial_value t None (Some (Single c)) =
+    record { bytes = bytes_of_number (bytes_in t) (constant_value c); faults = [] }
+initial_value t None (Some (Several at cs)) =
+    record { bytes = replicate (bytes_in t) 0; faults = fault_at at BadInitialiser }
 initial_value t (Some l) None = record { bytes = replicate (l.value * bytes_in t) 0; faults = [] }
-initial_value t (Some l) (Some (Single c)) = record { bytes = replicate (l.value * bytes_in t) 0; faults = fault_at c.at BadInitialiser }
-initial_value t (Some l) (Some (Several at cs)) = record { bytes = filled (l.value * bytes_in t) (bytes_of_all (bytes_in t) cs); faults = too_many (drop l.value cs) }
+initial_value t (Some l) (Some (Single c)) =
+    record { bytes = replicate (l.value * bytes_in t) 0; faults = fault_at c.at BadInitialiser }
+initial_value t (Some l) (Some (Several at cs)) =
+    record {
+      bytes = filled (l.value * bytes_in t) (bytes_of_all (bytes_in t) cs);
+      faults = too_many (drop l.value cs);
+    }
 
 abbrev pub length_faults : Option Length → List FaultAt
 length_faults None = []
@@ -93,7 +103,8 @@ named text n e bytes functions faults file =
       scope = with_name file.scope name e;
       bytes = bytes;
       functions = functions;
-      faults = file.faults ++ unless_holds (not (is_taken file.scope name)) n.start Duplicate ++ faults;
+      faults =
+          file.faults ++ unless_holds (not (is_taken file.scope name)) n.start Duplicate ++ faults;
     }
 
 -- at natural alignment
@@ -105,7 +116,8 @@ with_global text base g file =
     let t : CType = record { base = base; pointers = g.pointers } in
     let before = padded (bytes_in t) file.bytes in
     let b = initial_value t g.length g.initialiser in
-    named text g.name (global_entity t (first_data + length before) g.length) (before ++ b.bytes) file.functions
+    named text g.name (global_entity t (first_data + length before) g.length)
+    (before ++ b.bytes) file.functions
     (unless_holds (is_scalar t) g.name.start TypeClash ++ length_faults g.length ++ b.faults) file
 
 abbrev pub with_globals : List ℕ → Base → List Global → File → File
@@ -117,7 +129,9 @@ parameter_types ps = map (λ p. p.of) ps
 
 abbrev pub with_external_declaration : List ℕ → ExternalDeclaration → File → File
 with_external_declaration text (Globals base gs) file = with_globals text base gs file
-with_external_declaration text (Function t n ps body) file = named text n (UserFunction file.functions t (parameter_types ps)) file.bytes (file.functions + 1) [] file
+with_external_declaration text (Function t n ps body) file =
+    named text n (UserFunction file.functions t (parameter_types ps)) file.bytes
+    (file.functions + 1) [] file
 
 abbrev pub file_of : List ℕ → List ExternalDeclaration → File → File
 file_of text [] file = file
@@ -131,12 +145,14 @@ empty_file = record { scope = []; bytes = []; functions = 0; faults = [] }
 -- parameters are in the outermost block of the body
 abbrev pub with_parameters : List ℕ → List Parameter → Scope → ℕ → Scope
 with_parameters text [] block n = block
-with_parameters text (p ∷ ps) block n = with_parameters text ps (with_name block (spelled text p.name) (LocalVariable n p.of)) (n + 1)
+with_parameters text (p ∷ ps) block n =
+    with_parameters text ps (with_name block (spelled text p.name) (LocalVariable n p.of)) (n + 1)
 
 abbrev pub parameter_faults : List ℕ → List Parameter → Scope → List FaultAt
 parameter_faults text [] block = []
 parameter_faults text (p ∷ ps) block =
-    unless_holds (not (is_taken block (spelled text p.name))) p.name.start Duplicate ++ unless_holds (is_scalar p.of) p.name.start TypeClash
+    unless_holds (not (is_taken block (spelled text p.name))) p.name.start Duplicate
+    ++ unless_holds (is_scalar p.of) p.name.start TypeClash
     ++ parameter_faults text ps (with_name block (spelled text p.name) (LocalVariable 0 p.of))
 
 abbrev pub result_size : CType → Option Size
@@ -148,14 +164,33 @@ pub record Functions : Type 0 where
   pub faults : List FaultAt
 
 abbrev pub around : List ℕ → Scope → CType → Environment
-around text file t = record { text = text; outer = file; returns = t; loop = Nowhere; body = Nowhere; function = Near; code = false; abnormal = false }
+around text file t =
+    record {
+      text = text;
+      outer = file;
+      returns = t;
+      loop = Nowhere;
+      body = Nowhere;
+      function = Near;
+      code = false;
+      abnormal = false;
+    }
 
-abbrev pub function_of : List ℕ → Scope → CType → Identifier → List Parameter → Statements → ℕ → Functions
+abbrev pub function_of : List ℕ → Scope → CType → Identifier → List Parameter → Statements → ℕ
+    → Functions
 function_of text file t n ps body number =
     let sizes = map (λ p. size_of p.of) ps in
-    let m = resolve_statements body (around text file t) (with_parameters text ps [] 0) (record { sizes = sizes; number = number }) in
+    let m =
+    resolve_statements body (around text file t) (with_parameters text ps [] 0)
+    (record { sizes = sizes; number = number }) in
     record {
-      done = record { name = spelled text n; parameters = sizes; locals = drop (length ps) m.counts.sizes; returns = result_size t; body = checked.statements m.done } ∷ [];
+      done = record {
+        name = spelled text n;
+        parameters = sizes;
+        locals = drop (length ps) m.counts.sizes;
+        returns = result_size t;
+        body = checked.statements m.done;
+      } ∷ [];
       number = m.counts.number;
       faults = parameter_faults text ps [] ++ m.faults;
     }
@@ -191,7 +226,12 @@ pub record Main : Type 0 where
   pub faults : List FaultAt
 
 abbrev pub main_of : List ExternalDeclaration → Option Entity → Main
-main_of xs (Some (UserFunction k t ps)) = record { number = k; faults = unless_holds (same_type t int && are_main_parameters ps) (place_of_function xs k) TypeClash }
+main_of xs (Some (UserFunction k t ps)) =
+    record {
+      number = k;
+      faults = unless_holds (same_type t int && are_main_parameters ps)
+          (place_of_function xs k) TypeClash;
+    }
 main_of xs other = record { number = 0; faults = fault_at 0 NoMain }
 
 -- ---- programs

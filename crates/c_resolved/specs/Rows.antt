@@ -27,7 +27,8 @@ use Rattle.c_resolved.specs.Types.{plain, pointer_to}
 use Rattle.c_resolved.specs.Expressions.{Names, LocalVariable, GlobalVariable, UserFunction, ResolvedExpression, resolve_expression}
 use Rattle.c_resolved.specs.Scopes.{Scope, names_in}
 
--- the text `c p i f q`, in which the names stand: a char, an int *, a char, a function int f(char *), and nothing
+-- the text `c p i f q`, in which the names stand: a char, an int *, a char, a function int f(char
+-- *), and nothing
 abbrev pub text : List ℕ
 text = 99 ∷ 32 ∷ 112 ∷ 32 ∷ 105 ∷ 32 ∷ 102 ∷ 32 ∷ 113 ∷ []
 
@@ -39,7 +40,8 @@ int_pointer = pointer_to (plain Int)
 
 abbrev pub scope : Scope
 scope =
-    ((99 ∷ []), LocalVariable 0 char) ∷ ((112 ∷ []), LocalVariable 1 int_pointer) ∷ ((105 ∷ []), GlobalVariable 0x140001000 char)
+    ((99 ∷ []), LocalVariable 0 char) ∷ ((112 ∷ []), LocalVariable 1 int_pointer)
+    ∷ ((105 ∷ []), GlobalVariable 0x140001000 char)
     ∷ ((102 ∷ []), UserFunction 3 (plain Int) (pointer_to char ∷ [])) ∷ []
 
 abbrev pub names : Names
@@ -80,38 +82,67 @@ read_p = nodes.Read (nodes.Local 1)
 
 -- `c + 1` is an int, and a char needs no conversion to be one
 abbrev pub CharAndInt : Type 0
-CharAndInt = resolve_expression names (add c (number 1)) ≡ found (plain Int) (nodes.Binary (operations.Pure (pures.Add sizes.Int)) (On read_c Kept) (On (nodes.Constant sizes.Int 1) Kept))
+CharAndInt =
+    resolve_expression names (add c (number 1))
+    ≡ found (plain Int) (nodes.Binary (operations.Pure (pures.Add sizes.Int)) (On read_c Kept)
+    (On (nodes.Constant sizes.Int 1) Kept))
 
 -- `p + i` scales a char, and `i + p` is the same in the other order
 abbrev pub PointerAndIndex : Type 0
 PointerAndIndex =
-    (resolve_expression names (add p c) ≡ found int_pointer (nodes.Binary (operations.Pure (pures.Add sizes.Long)) (On read_p Kept) (On read_c (Scale sorts.Signed W32 4))))
-    × (resolve_expression names (add c p) ≡ found int_pointer (nodes.Binary (operations.Pure (pures.Add sizes.Long)) (On read_c (Scale sorts.Signed W32 4)) (On read_p Kept)))
+    (resolve_expression names (add p c)
+    ≡ found int_pointer (nodes.Binary (operations.Pure (pures.Add sizes.Long)) (On read_p Kept)
+    (On read_c (Scale sorts.Signed W32 4))))
+    × (resolve_expression names (add c p)
+    ≡ found int_pointer (nodes.Binary (operations.Pure (pures.Add sizes.Long))
+    (On read_c (Scale sorts.Signed W32 4)) (On read_p Kept)))
 
 -- `p == 0` has the literal as an address; `p == 1` breaks a rule at its operator
 abbrev pub PointerAndZero : Type 0
 PointerAndZero =
     (resolve_expression names (is_equal p (number 0))
-    ≡ found (plain Int) (nodes.Binary (operations.Pure (pures.Compare relations.Equal sorts.Unsigned sizes.Long)) (On read_p Kept) (On (nodes.Constant sizes.Int 0) (Extend sorts.Signed W32 sizes.Long))))
-    × (resolve_expression names (is_equal p (number 1)) ≡ record { found = None; faults = record { at = 20; fault = TypeClash } ∷ [] })
+    ≡ found (plain Int) (nodes.Binary (operations.Pure (pures.Compare relations.Equal sorts.Unsigned
+    sizes.Long)) (On read_p Kept) (On (nodes.Constant sizes.Int 0)
+    (Extend sorts.Signed W32 sizes.Long))))
+    × (resolve_expression names (is_equal p (number 1))
+    ≡ record { found = None; faults = record { at = 20; fault = TypeClash } ∷ [] })
 
 -- `i += 300` works on ints and is cut to a char; `p++` goes on by 4 bytes
 abbrev pub Changes : Type 0
 Changes =
     (resolve_expression names (trees.Assign i 20 (Some arithmetic.Add) (number 300))
     ≡ found char
-    (nodes.CompoundAssign (nodes.Global (record { width = W8; signedness = sorts.Signed }) 0x140001000) Kept (operations.Pure (pures.Add sizes.Int)) (On (nodes.Constant sizes.Int 300) Kept) (Extend sorts.Signed W8 sizes.Int)))
-    × (resolve_expression names (trees.Postfix p increments.Increment 20) ≡ found int_pointer (nodes.Increment Postfix (nodes.Local 1) Kept (operations.Pure (pures.Add sizes.Long)) 4 Kept))
+    (nodes.CompoundAssign (nodes.Global (record { width = W8; signedness = sorts.Signed })
+    0x140001000) Kept (operations.Pure (pures.Add sizes.Int))
+    (On (nodes.Constant sizes.Int 300) Kept) (Extend sorts.Signed W8 sizes.Int)))
+    × (resolve_expression names (trees.Postfix p increments.Increment 20)
+    ≡ found int_pointer (nodes.Increment Postfix (nodes.Local 1) Kept
+    (operations.Pure (pures.Add sizes.Long)) 4 Kept))
 
--- `f(0)`, `f(p)` and `f()`: a literal 0 is passed as an address, another pointer isn't, and each argument has to be there
+-- `f(0)`, `f(p)` and `f()`: a literal 0 is passed as an address, another pointer isn't, and each
+-- argument has to be there
 abbrev pub Calls : Type 0
 Calls =
-    (resolve_expression names (trees.Call (at 6 7) (trees.Next (number 0) trees.Done)) ≡ found (plain Int) (nodes.Call 3 (Next (On (nodes.Constant sizes.Int 0) (Extend sorts.Signed W32 sizes.Long)) Done)))
-    × (resolve_expression names (trees.Call (at 6 7) (trees.Next p trees.Done)) ≡ record { found = None; faults = record { at = 2; fault = TypeClash } ∷ [] })
-    × (resolve_expression names (trees.Call (at 6 7) trees.Done) ≡ record { found = None; faults = record { at = 6; fault = ArgCount } ∷ [] })
+    (resolve_expression names (trees.Call (at 6 7) (trees.Next (number 0) trees.Done))
+    ≡ found (plain Int) (nodes.Call 3 (Next (On (nodes.Constant sizes.Int 0)
+    (Extend sorts.Signed W32 sizes.Long)) Done)))
+    × (resolve_expression names (trees.Call (at 6 7) (trees.Next p trees.Done))
+    ≡ record { found = None; faults = record { at = 2; fault = TypeClash } ∷ [] })
+    × (resolve_expression names (trees.Call (at 6 7) trees.Done)
+    ≡ record { found = None; faults = record { at = 6; fault = ArgCount } ∷ [] })
 
 -- `q + &c`: an unknown name, and a place of a local; `(c + 1) = q`
 abbrev pub Faults : Type 0
 Faults =
-    (resolve_expression names (add q (trees.Unary 21 unary.AddressOf c)) ≡ record { found = None; faults = record { at = 8; fault = UnknownName } ∷ record { at = 0; fault = NotLvalue } ∷ [] })
-    × (resolve_expression names (trees.Assign (trees.Parentheses 0 (add c (number 1))) 30 None q) ≡ record { found = None; faults = record { at = 8; fault = UnknownName } ∷ record { at = 0; fault = NotLvalue } ∷ [] })
+    (resolve_expression names (add q (trees.Unary 21 unary.AddressOf c))
+    ≡ record {
+      found = None;
+      faults = record { at = 8; fault = UnknownName }
+          ∷ record { at = 0; fault = NotLvalue } ∷ [];
+    })
+    × (resolve_expression names (trees.Assign (trees.Parentheses 0 (add c (number 1))) 30 None q)
+    ≡ record {
+      found = None;
+      faults = record { at = 8; fault = UnknownName }
+          ∷ record { at = 0; fault = NotLvalue } ∷ [];
+    })

@@ -21,16 +21,46 @@ meaning_in [] name = None
 meaning_in (x ∷ rest) name = if same_bytes x.0 name then Some x.1 else meaning_in rest name
 
 abbrev pub names_in : List ℕ → Scope → Names
-names_in text scope = record { entity = λ n. meaning_in scope (spelled text n); code = false; information = false; abnormal = false }
+names_in text scope =
+    record {
+      entity = λ n. meaning_in scope (spelled text n);
+      code = false;
+      information = false;
+      abnormal = false;
+    }
 
--- put, protect, RaiseException, GetExceptionCode, AbnormalTermination, and the three constants of filters, the accepting one first
+-- put, protect, RaiseException, GetExceptionCode, AbnormalTermination, and the three constants of
+-- filters, the accepting one first
 abbrev pub built_ins : Scope
 built_ins =
     ((112 ∷ 117 ∷ 116 ∷ []), BuiltInFunction Put)
     ∷ ((112 ∷ 114 ∷ 111 ∷ 116 ∷ 101 ∷ 99 ∷ 116 ∷ []), BuiltInFunction Protect)
-    ∷ ((82 ∷ 97 ∷ 105 ∷ 115 ∷ 101 ∷ 69 ∷ 120 ∷ 99 ∷ 101 ∷ 112 ∷ 116 ∷ 105 ∷ 111 ∷ 110 ∷ []), BuiltInFunction RaiseException)
-    ∷ ((71 ∷ 101 ∷ 116 ∷ 69 ∷ 120 ∷ 99 ∷ 101 ∷ 112 ∷ 116 ∷ 105 ∷ 111 ∷ 110 ∷ 67 ∷ 111 ∷ 100 ∷ 101 ∷ []), CodeFunction)
-    ∷ ((65 ∷ 98 ∷ 110 ∷ 111 ∷ 114 ∷ 109 ∷ 97 ∷ 108 ∷ 84 ∷ 101 ∷ 114 ∷ 109 ∷ 105 ∷ 110 ∷ 97 ∷ 116 ∷ 105 ∷ 111 ∷ 110 ∷ []), AbnormalFunction)
-    ∷ ((69 ∷ 88 ∷ 67 ∷ 69 ∷ 80 ∷ 84 ∷ 73 ∷ 79 ∷ 78 ∷ 95 ∷ 69 ∷ 88 ∷ 69 ∷ 67 ∷ 85 ∷ 84 ∷ 69 ∷ 95 ∷ 72 ∷ 65 ∷ 78 ∷ 68 ∷ 76 ∷ 69 ∷ 82 ∷ []), BuiltInConstant 1)
-    ∷ ((69 ∷ 88 ∷ 67 ∷ 69 ∷ 80 ∷ 84 ∷ 73 ∷ 79 ∷ 78 ∷ 95 ∷ 67 ∷ 79 ∷ 78 ∷ 84 ∷ 73 ∷ 78 ∷ 85 ∷ 69 ∷ 95 ∷ 83 ∷ 69 ∷ 65 ∷ 82 ∷ 67 ∷ 72 ∷ []), BuiltInConstant 0)
-    ∷ ((69 ∷ 88 ∷ 67 ∷ 69 ∷ 80 ∷ 84 ∷ 73 ∷ 79 ∷ 78 ∷ 95 ∷ 67 ∷ 79 ∷ 78 ∷ 84 ∷ 73 ∷ 78 ∷ 85 ∷ 69 ∷ 95 ∷ 69 ∷ 88 ∷ 69 ∷ 67 ∷ 85 ∷ 84 ∷ 73 ∷ 79 ∷ 78 ∷ []), BuiltInConstant 0xFFFFFFFF) ∷ []
+    ∷ (
+      (82 ∷ 97 ∷ 105 ∷ 115 ∷ 101 ∷ 69 ∷ 120 ∷ 99 ∷ 101 ∷ 112 ∷ 116 ∷ 105 ∷ 111 ∷ 110 ∷ []),
+      BuiltInFunction RaiseException,
+    )
+    ∷ (
+      (71 ∷ 101 ∷ 116 ∷ 69 ∷ 120 ∷ 99 ∷ 101 ∷ 112 ∷ 116 ∷ 105 ∷ 111 ∷ 110 ∷ 67 ∷ 111 ∷ 100 ∷ 101
+          ∷ []),
+      CodeFunction,
+    )
+    ∷ (
+      (65 ∷ 98 ∷ 110 ∷ 111 ∷ 114 ∷ 109 ∷ 97 ∷ 108 ∷ 84 ∷ 101 ∷ 114 ∷ 109 ∷ 105 ∷ 110 ∷ 97 ∷ 116
+          ∷ 105 ∷ 111 ∷ 110 ∷ []),
+      AbnormalFunction,
+    )
+    ∷ (
+      (69 ∷ 88 ∷ 67 ∷ 69 ∷ 80 ∷ 84 ∷ 73 ∷ 79 ∷ 78 ∷ 95 ∷ 69 ∷ 88 ∷ 69 ∷ 67 ∷ 85 ∷ 84 ∷ 69 ∷ 95 ∷ 72
+          ∷ 65 ∷ 78 ∷ 68 ∷ 76 ∷ 69 ∷ 82 ∷ []),
+      BuiltInConstant 1,
+    )
+    ∷ (
+      (69 ∷ 88 ∷ 67 ∷ 69 ∷ 80 ∷ 84 ∷ 73 ∷ 79 ∷ 78 ∷ 95 ∷ 67 ∷ 79 ∷ 78 ∷ 84 ∷ 73 ∷ 78 ∷ 85 ∷ 69 ∷ 95
+          ∷ 83 ∷ 69 ∷ 65 ∷ 82 ∷ 67 ∷ 72 ∷ []),
+      BuiltInConstant 0,
+    )
+    ∷ (
+      (69 ∷ 88 ∷ 67 ∷ 69 ∷ 80 ∷ 84 ∷ 73 ∷ 79 ∷ 78 ∷ 95 ∷ 67 ∷ 79 ∷ 78 ∷ 84 ∷ 73 ∷ 78 ∷ 85 ∷ 69 ∷ 95
+          ∷ 69 ∷ 88 ∷ 69 ∷ 67 ∷ 85 ∷ 84 ∷ 73 ∷ 79 ∷ 78 ∷ []),
+      BuiltInConstant 0xFFFFFFFF,
+    ) ∷ []

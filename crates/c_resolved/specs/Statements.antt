@@ -1,4 +1,6 @@
--- Statements: what each is resolved to, and the rules that it breaks (C11, 6.8; Microsoft C reference, "try-except statement", "try-finally statement"). Where there is a fault, what it is resolved to means nothing.
+-- Statements: what each is resolved to, and the rules that it breaks (C11, 6.8; Microsoft C
+-- reference, "try-except statement", "try-finally statement"). Where there is a fault, what it is
+-- resolved to means nothing.
 use Rattle.std.specs.Prelude.{ℕ, ◌+◌, Bool, true, false, not, nat_eq, if◌then◌else◌, List, [], ◌∷◌, ◌++◌, length, Option, Some, None}
 use Rattle.c_operations.specs.declared.operation.Size.{Size}
 use Rattle.c_operations.specs.declared.operation.Size.TheVariants as sizes
@@ -24,7 +26,8 @@ use Rattle.c_resolved.specs.Scopes.{Scope, spelled, meaning_in, built_ins}
 
 -- ---- where a statement stands
 
--- what a jump finds: nothing, something beyond a `__finally` block around it, or something that it can reach
+-- what a jump finds: nothing, something beyond a `__finally` block around it, or something that it
+-- can reach
 pub data Reach : Type 0 where
   Nowhere : Reach
   Beyond : Reach
@@ -34,7 +37,9 @@ abbrev pub past_finally : Reach → Reach
 past_finally Near = Beyond
 past_finally r = r
 
--- the text; the names of the blocks around this one and of the file; the function's result; loops and `__try` bodies around; whether a `return`, GetExceptionCode and AbnormalTermination may stand here
+-- the text; the names of the blocks around this one and of the file; the function's result; loops
+-- and `__try` bodies around; whether a `return`, GetExceptionCode and AbnormalTermination may stand
+-- here
 pub record Environment : Type 0 where
   pub text : List ℕ
   pub outer : Scope
@@ -45,12 +50,14 @@ pub record Environment : Type 0 where
   pub code : Bool
   pub abnormal : Bool
 
--- the sizes of the function's locals so far, parameters first, and the number of the next filter or `__finally` block
+-- the sizes of the function's locals so far, parameters first, and the number of the next filter or
+-- `__finally` block
 pub record Numbering : Type 0 where
   pub sizes : List Size
   pub number : ℕ
 
--- what a statement is resolved to, the numbering after it, the names of its block after it, and its faults
+-- what a statement is resolved to, the numbering after it, the names of its block after it, and its
+-- faults
 pub record ResolvedStatements : Type 0 where
   pub done : List checked.Statement
   pub counts : Numbering
@@ -61,10 +68,12 @@ abbrev pub entity_at : Environment → Scope → Identifier → Option Entity
 entity_at a block n = meaning_in (built_ins ++ block ++ a.outer) (spelled a.text n)
 
 abbrev pub names_at : Environment → Scope → Names
-names_at a block = record { entity = entity_at a block; code = a.code; information = false; abnormal = a.abnormal }
+names_at a block =
+    record { entity = entity_at a block; code = a.code; information = false; abnormal = a.abnormal }
 
 abbrev pub filter_names : Environment → Scope → Names
-filter_names a block = record { entity = entity_at a block; code = true; information = true; abnormal = a.abnormal }
+filter_names a block =
+    record { entity = entity_at a block; code = true; information = true; abnormal = a.abnormal }
 
 abbrev pub inside : Environment → Scope → Environment
 inside a block = record a { outer = block ++ a.outer }
@@ -83,13 +92,22 @@ unless_holds true at f = []
 unless_holds false at f = fault_at at f
 
 abbrev pub any : ResolvedExpression → Value
-any j = elim j.found [ Some t ↦ record { value = as_is t; faults = j.faults } | None ↦ record { value = nothing; faults = j.faults } ]
+any j =
+    elim j.found [
+      | Some t ↦ record { value = as_is t; faults = j.faults }
+      | None ↦ record
+          { value = nothing; faults = j.faults }
+    ]
 
 -- an integer or a pointer, else a fault at the keyword
 abbrev pub condition : ℕ → ResolvedExpression → Value
 condition at j =
     elim j.found [
-      | Some t ↦ record { value = as_is t; faults = j.faults ++ unless_holds (is_scalar t.type) at TypeClash }
+      | Some t ↦ record {
+        value = as_is t;
+        faults = j.faults
+            ++ unless_holds (is_scalar t.type) at TypeClash;
+      }
       | None ↦ record { value = nothing; faults = j.faults }
     ]
 
@@ -97,7 +115,11 @@ condition at j =
 abbrev pub to_type : CType → ℕ → ResolvedExpression → Value
 to_type type at j =
     elim j.found [
-      | Some t ↦ record { value = as_type type t; faults = j.faults ++ unless_holds (can_become type t) at TypeClash }
+      | Some t ↦ record {
+        value = as_type type t;
+        faults = j.faults
+            ++ unless_holds (can_become type t) at TypeClash;
+      }
       | None ↦ record { value = nothing; faults = j.faults }
     ]
 
@@ -105,7 +127,11 @@ to_type type at j =
 abbrev pub to_answer : ℕ → ResolvedExpression → Value
 to_answer at j =
     elim j.found [
-      | Some t ↦ record { value = as_type int t; faults = j.faults ++ unless_holds (is_integer t.type) at TypeClash }
+      | Some t ↦ record {
+        value = as_type int t;
+        faults = j.faults
+            ++ unless_holds (is_integer t.type) at TypeClash;
+      }
       | None ↦ record { value = nothing; faults = j.faults }
     ]
 
@@ -137,23 +163,34 @@ declare a base l block n =
     let name = spelled a.text l.name in
     let number = length n.sizes in
     let after = with_name block name (LocalVariable number type) in
-    let value = optional (λ e. to_type type (start e) (resolve_expression (names_at a after) e)) l.initialiser in
+    let value =
+    optional (λ e. to_type type (start e) (resolve_expression (names_at a after) e))
+    l.initialiser in
     record {
       done = checked.Declare (record { local = number; value = value.value }) ∷ [];
       counts = record { sizes = n.sizes ++ size_of type ∷ []; number = n.number };
       block = after;
-      faults = unless_holds (not (is_taken block name)) l.name.start Duplicate ++ unless_holds (is_scalar type) l.name.start TypeClash ++ value.faults;
+      faults =
+          unless_holds (not (is_taken block name)) l.name.start Duplicate
+          ++ unless_holds (is_scalar type) l.name.start TypeClash ++ value.faults;
     }
 
 abbrev pub follow : ResolvedStatements → ResolvedStatements → ResolvedStatements
-follow m next = record { done = m.done ++ next.done; counts = next.counts; block = next.block; faults = m.faults ++ next.faults }
+follow m next =
+    record {
+      done = m.done ++ next.done;
+      counts = next.counts;
+      block = next.block;
+      faults = m.faults ++ next.faults;
+    }
 
 abbrev pub none : Scope → Numbering → ResolvedStatements
 none block n = record { done = []; counts = n; block = block; faults = [] }
 
 abbrev pub declare_all : Environment → Base → List Local → Scope → Numbering → ResolvedStatements
 declare_all a base [] block n = none block n
-declare_all a base (l ∷ ls) block n = let m = declare a base l block n in follow m (declare_all a base ls m.block m.counts)
+declare_all a base (l ∷ ls) block n =
+    let m = declare a base l block n in follow m (declare_all a base ls m.block m.counts)
 
 -- ---- statements
 
@@ -161,8 +198,10 @@ abbrev pub simple : checked.Statement → List FaultAt → Scope → Numbering �
 simple s faults block n = record { done = s ∷ []; counts = n; block = block; faults = faults }
 
 -- a statement that encloses resolved ones, in a block of its own
-abbrev pub enclosed : Scope → ResolvedStatements → checked.Statement → List FaultAt → ResolvedStatements
-enclosed block m s faults = record { done = s ∷ []; counts = m.counts; block = block; faults = faults ++ m.faults }
+abbrev pub enclosed : Scope → ResolvedStatements → checked.Statement → List FaultAt
+    → ResolvedStatements
+enclosed block m s faults =
+    record { done = s ∷ []; counts = m.counts; block = block; faults = faults ++ m.faults }
 
 abbrev pub only : List checked.Statement → checked.Statement
 only [] = checked.Evaluate None
@@ -174,11 +213,15 @@ jump Beyond f at = fault_at at JumpOutOfFinally
 jump Near f at = []
 
 abbrev pub returned : Environment → Scope → ℕ → Option Expression → Optional
-returned a block at None = record { value = None; faults = unless_holds (is_void a.returns) at TypeClash }
+returned a block at None =
+    record { value = None; faults = unless_holds (is_void a.returns) at TypeClash }
 returned a block at (Some e) =
     let j = resolve_expression (names_at a block) e in
     if is_void a.returns then record { value = None; faults = j.faults ++ fault_at at TypeClash }
-    else record { value = Some (to_type a.returns (start e) j).value; faults = (to_type a.returns (start e) j).faults }
+    else record {
+      value = Some (to_type a.returns (start e) j).value;
+      faults = (to_type a.returns (start e) j).faults;
+    }
 
 -- a literal 1 or the name of the accepting constant, parentheses aside
 abbrev pub is_accepting : Option Entity → Bool
@@ -221,16 +264,32 @@ names_only (checked.Declare d ∷ ss) = d ∷ names_only ss
 names_only (s ∷ ss) = names_only ss
 
 -- what a `for` does first, in a block of its own
-abbrev pub resolve_for_initialiser : Environment → ForInitialiser → Numbering → ResolvedForInitialiser
-resolve_for_initialiser a (Declaring base ls) n = let m = declare_all a base ls [] n in record { declared = names_only m.done; first = record { value = None; faults = [] }; resolved = m }
-resolve_for_initialiser a (Evaluating e) n = record { declared = []; first = optional (λ e. any (resolve_expression (names_at a []) e)) e; resolved = none [] n }
+abbrev pub resolve_for_initialiser : Environment → ForInitialiser → Numbering
+    → ResolvedForInitialiser
+resolve_for_initialiser a (Declaring base ls) n =
+    let m = declare_all a base ls [] n in record {
+      declared = names_only m.done;
+      first = record { value = None; faults = [] };
+      resolved = m;
+    }
+resolve_for_initialiser a (Evaluating e) n =
+    record {
+      declared = [];
+      first = optional (λ e. any (resolve_expression (names_at a []) e)) e;
+      resolved = none [] n;
+    }
 
--- A statement that is a part of another is a block of its own, whose names end with it (C11, 6.8.4 p3 and 6.8.5 p5).
+-- A statement that is a part of another is a block of its own, whose names end with it (C11, 6.8.4
+-- p3 and 6.8.5 p5).
 abbrev mutual
   pub resolve_statement : Statement → Environment → Scope → Numbering → ResolvedStatements
   resolve_statement (statements.Declare base ls) a block n = declare_all a base ls block n
-  resolve_statement (statements.Block ss) a block n = let m = resolve_statements ss (inside a block) [] n in enclosed block m (checked.Block (checked.statements m.done)) []
-  resolve_statement (statements.Evaluate e) a block n = let v = optional (λ e. any (resolve_expression (names_at a block) e)) e in simple (checked.Evaluate v.value) v.faults block n
+  resolve_statement (statements.Block ss) a block n =
+      let m = resolve_statements ss (inside a block) [] n
+      in enclosed block m (checked.Block (checked.statements m.done)) []
+  resolve_statement (statements.Evaluate e) a block n =
+      let v = optional (λ e. any (resolve_expression (names_at a block) e)) e
+      in simple (checked.Evaluate v.value) v.faults block n
   resolve_statement (statements.If at c s) a block n =
       let v = condition at (resolve_expression (names_at a block) c) in
       let m = resolve_statement s (inside a block) [] n in
@@ -251,29 +310,48 @@ abbrev mutual
   resolve_statement (statements.For at f c next s) a block n =
       let b = resolve_for_initialiser (inside a block) f n in
       let here = inside a block in
-      let v = optional (λ e. condition at (resolve_expression (names_at here b.resolved.block) e)) c in
+      let v =
+      optional (λ e. condition at (resolve_expression (names_at here b.resolved.block) e)) c in
       let w = optional (λ e. any (resolve_expression (names_at here b.resolved.block) e)) next in
-      let m = resolve_statement s (record (inside here b.resolved.block) { loop = Near }) [] b.resolved.counts in
-      enclosed block m (checked.For b.declared b.first.value v.value w.value (only m.done)) (b.resolved.faults ++ b.first.faults ++ v.faults ++ w.faults)
+      let m =
+      resolve_statement s (record (inside here b.resolved.block) { loop = Near }) []
+      b.resolved.counts in
+      enclosed block m (checked.For b.declared b.first.value v.value w.value (only m.done))
+      (b.resolved.faults ++ b.first.faults ++ v.faults ++ w.faults)
   resolve_statement (statements.Return at e) a block n =
       let v = returned a block at e in
       simple (checked.Return v.value) (jump a.function JumpOutOfFinally at ++ v.faults) block n
-  resolve_statement (statements.Break at) a block n = simple checked.Break (jump a.loop JumpOutsideLoop at) block n
-  resolve_statement (statements.Continue at) a block n = simple checked.Continue (jump a.loop JumpOutsideLoop at) block n
-  resolve_statement (statements.Leave at) a block n = simple checked.Leave (jump a.body LeaveOutsideTry at) block n
+  resolve_statement (statements.Break at) a block n =
+      simple checked.Break (jump a.loop JumpOutsideLoop at) block n
+  resolve_statement (statements.Continue at) a block n =
+      simple checked.Continue (jump a.loop JumpOutsideLoop at) block n
+  resolve_statement (statements.Leave at) a block n =
+      simple checked.Leave (jump a.body LeaveOutsideTry at) block n
   resolve_statement (statements.TryExcept body at f handler) a block n =
       let here = inside a block in
       let m = resolve_statements body (record here { body = Near }) [] n in
       let q = resolve_filter a block f m.counts.number in
-      let k = resolve_statements handler (record here { code = true }) [] (with_number m.counts q.number) in
-      enclosed block (follow m k) (checked.TryExcept (checked.statements m.done) q.filter (checked.statements k.done)) q.faults
+      let k =
+      resolve_statements handler (record here { code = true }) []
+      (with_number m.counts q.number) in
+      enclosed block (follow m k) (checked.TryExcept (checked.statements m.done) q.filter
+      (checked.statements k.done)) q.faults
   resolve_statement (statements.TryFinally body at last) a block n =
       let here = inside a block in
       let m = resolve_statements body (record here { body = Near }) [] n in
       let number = m.counts.number in
-      let k = resolve_statements last (record here { loop = past_finally a.loop; body = past_finally a.body; function = Beyond; abnormal = true }) [] (with_number m.counts (number + 1)) in
-      enclosed block (follow m k) (checked.TryFinally (checked.statements m.done) number (checked.statements k.done)) []
+      let k =
+      resolve_statements last (record here {
+        loop = past_finally a.loop;
+        body = past_finally a.body;
+        function = Beyond;
+        abnormal = true;
+      }) []
+      (with_number m.counts (number + 1)) in
+      enclosed block (follow m k) (checked.TryFinally (checked.statements m.done) number
+      (checked.statements k.done)) []
 
   pub resolve_statements : Statements → Environment → Scope → Numbering → ResolvedStatements
   resolve_statements statements.Empty a block n = none block n
-  resolve_statements (statements.Then s ss) a block n = let m = resolve_statement s a block n in follow m (resolve_statements ss a m.block m.counts)
+  resolve_statements (statements.Then s ss) a block n =
+      let m = resolve_statement s a block n in follow m (resolve_statements ss a m.block m.counts)

@@ -151,7 +151,9 @@ to_width from s W64 t = Extend s W32 sizes.Long
 
 -- between integers and pointers
 abbrev pub conversion : CType → CType → Conversion
-conversion from to = if same_type from to then Kept else to_width (width_of from) (sort_of from) (width_of to) (sort_of to)
+conversion from to =
+    if same_type from to then Kept else to_width (width_of from) (sort_of from) (width_of to)
+    (sort_of to)
 
 abbrev pub index_width : Width → Width
 index_width W64 = W64

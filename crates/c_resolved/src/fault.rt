@@ -1,7 +1,7 @@
 //! Rules that a program can break.
 
-/// A rule of names, types and jumps. Where several are broken at one place, the first in this order is
-/// reported.
+/// A rule of names, types and jumps. Where several are broken at one place, the first in this order
+/// is reported.
 #[derive(Clone, Copy, Debug, PartialEq, Eq)]
 pub enum Fault {
     /// No function is named `main` (C11, 5.1.2.2.1).

@@ -13,15 +13,15 @@ pub fn rows()
     ensures faults { Faults }
 {}
 
-/// What an accepted text within the limits is resolved to is sound: numbers name what is there, each
-/// operand has the size that its operator takes, jumps reach what they leave, and filters and
+/// What an accepted text within the limits is resolved to is sound: numbers name what is there,
+/// each operand has the size that its operator takes, jumps reach what they leave, and filters and
 /// `__finally` blocks are numbered in their order.
 pub fn accepted_is_sound()
     ensures is_sound { AcceptedIsSound }
 {}
 
-/// A fault is reported where there is one: the least by place, and at one place that of the earliest
-/// rule.
+/// A fault is reported where there is one: the least by place, and at one place that of the
+/// earliest rule.
 pub fn least_is_reported()
     ensures least { LeastIsReported }
 {}

@@ -18,10 +18,12 @@ use Rattle.c_syntax.specs.Statement as trees
 
 -- a statement of the text, in a block with these entries
 abbrev pub resolved : Read → Environment → List (Bor (List ℕ) × Entity) → Walk → ResolvedStatements
-resolved s env entries walk = resolve_statement (trees.statement s) (environment env) (block_of entries) (numbering walk)
+resolved s env entries walk =
+    resolve_statement (trees.statement s) (environment env) (block_of entries) (numbering walk)
 
 -- one statement, in a block whose names stay the same
-pub record MakesOne (b : Scope) (before after : Walk) (made : Stmt) (r : ResolvedStatements) : Type 0 where
+pub record MakesOne (b : Scope) (before after : Walk) (made : Stmt)
+    (r : ResolvedStatements) : Type 0 where
   pub done : statement made ∷ [] ≡ r.done
   pub counts : numbering after ≡ r.counts
   pub block : b ≡ r.block
@@ -34,13 +36,15 @@ pub record MakesPart (before after : Walk) (made : Stmt) (r : ResolvedStatements
   pub faults : least_of after.worst ≡ kept (least_of before.worst) r.faults
 
 -- the statements of a block within another statement
-pub record MakesBlock (before after : Walk) (made : List Stmt) (r : ResolvedStatements) : Type 0 where
+pub record MakesBlock (before after : Walk) (made : List Stmt)
+    (r : ResolvedStatements) : Type 0 where
   pub done : map statement made ≡ r.done
   pub counts : numbering after ≡ r.counts
   pub faults : least_of after.worst ≡ kept (least_of before.worst) r.faults
 
 -- a condition, and then the statement that it governs
-pub record MakesGoverned (before after : Walk) (e : Expr) (made : Stmt) (v : Value) (r : ResolvedStatements) : Type 0 where
+pub record MakesGoverned (before after : Walk) (e : Expr) (made : Stmt) (v : Value)
+    (r : ResolvedStatements) : Type 0 where
   pub condition : expression e ≡ v.value
   pub done : statement made ≡ only r.done
   pub counts : numbering after ≡ r.counts

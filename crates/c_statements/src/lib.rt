@@ -5,6 +5,8 @@
 //! within another. `simple` has the statements that hold no other, and `build` puts checked
 //! statements together. What is made equals the definition in `c_resolved`, and the least fault is
 //! kept.
+//!
+//! Begin with `statements`.
 #![tactic(auto)]
 
 pub mod build;

@@ -15,9 +15,10 @@ use Rattle.c_syntax.specs.Follow.{punctuator_follows, follows, Stops, NoElse, Cl
 use Rattle.c_syntax.specs.Statement.{Local, ForInitialiser, Declaring, Evaluating, Statement, Declare, Block, Evaluate, If, IfElse, While, DoWhile, For, Return, Break, Continue, Leave, TryExcept, TryFinally, Statements, Empty, Then}
 use Rattle.c_syntax.specs.Statements.{IsInitialiser, IsLocal, AreMoreLocals, AreLocals, IsDeclaration, IsOptional, IsCondition, IsForInitialiser, dangles, IsBlockItem, AreBlockItems}
 use Rattle.c_syntax.specs.Tokens.{IsKeyword, IsIdentifier, HasPunctuator, HasKeyword}
-use Rattle.c_syntax.proofs.Fronts.{kind_same, punctuator_same, has_same, keyword_same, name_same, punctuator_class, kind_class, front, base_front, base_once, NoType, NoStar, stars_once, stars_front}
+use Rattle.c_syntax.proofs.Fronts.{kind_same, has_same, keyword_same, name_same, punctuator_class, kind_class, front, base_front, base_once, NoType, NoStar, stars_once, stars_front}
 use Rattle.c_syntax.proofs.Spine.{follows_punctuator}
 use Rattle.c_syntax.proofs.Once.{one_expression, has_stops, expression_front, has_front}
+use Rattle.c_syntax.proofs.Separated.{more_stop, separated_once}
 
 -- ---- what the first token begins: 0 an expression statement, 1 a declaration, 2 to 11 another statement
 
@@ -283,8 +284,8 @@ optional text s (Some e) (Some f) ts us rest end r q p l c h g x y = let a = up_
 
 pub condition : (text : List ℕ) (e f : Expression) (ts us rest end : List Token) → ts ≡ us → IsCondition text e ts rest → IsCondition text f us end → (e ≡ f) × (rest ≡ end)
 condition text e f ts us rest end p h g =
-    let a = has_same punctuators.OpenParenthesis ts us h.0 g.0 p h.2 g.2 in
-    up_to text punctuators.CloseParenthesis e f h.0 g.0 h.1 g.1 rest end a (omega arith) h.3 g.3 h.4 g.4
+    let a = has_same punctuators.OpenParenthesis ts us h.after_opening g.after_opening p h.opening g.opening in
+    up_to text punctuators.CloseParenthesis e f h.after_opening g.after_opening h.after_inner g.after_inner rest end a (omega arith) h.inner g.inner h.closing g.closing
 
 -- ---- declarations
 
@@ -314,38 +315,20 @@ make n name e = record { pointers = n; name = name; initialiser = e }
 
 pub local : (text : List ℕ) (l m : Local) (ts us rest end : List Token) → ts ≡ us → Stops 15 rest → Stops 15 end → IsLocal text l ts rest → IsLocal text m us end → (l ≡ m) × (rest ≡ end)
 local text l m ts us rest end p s z h g =
-    let a = stars_once l.pointers m.pointers ts us h.0 g.0 p (name_star l.name h.0 h.1 h.3) (name_star m.name g.0 g.1 g.3) h.2 g.2 in
-    let b = name_same l.name m.name h.0 g.0 h.1 g.1 a.1 h.3 g.3 in
-    let c = initialiser text l.initialiser m.initialiser h.1 g.1 rest end b.1 s z h.4 g.4 in
+    let a = stars_once l.pointers m.pointers ts us h.after_stars g.after_stars p (name_star l.name h.after_stars h.after_name h.name) (name_star m.name g.after_stars g.after_name g.name) h.stars g.stars in
+    let b = name_same l.name m.name h.after_stars g.after_stars h.after_name g.after_name a.1 h.name g.name in
+    let c = initialiser text l.initialiser m.initialiser h.after_name g.after_name rest end b.1 s z h.initialiser g.initialiser in
     (ap (λ (n : ℕ). make n l.name l.initialiser) a.0 ∙ ap (λ (n : Identifier). make m.pointers n l.initialiser) b.0 ∙ ap (λ (e : Option Expression). make m.pointers m.name e) c.0, c.1)
 
 pub locals_stop : (text : List ℕ) (ls : List Local) (ts rest : List Token) → AreMoreLocals text ls ts rest → Stops 15 ts
-locals_stop text [] ts rest h = has_stops punctuators.Semicolon ts rest 15 h (omega arith)
-locals_stop text (l ∷ ls) ts rest h = has_stops punctuators.Comma ts h.0 15 h.2 (omega arith)
-
-other_punctuator : (s z : Punctuator) (ts us rest end : List Token) → ts ≡ us → HasPunctuator s ts rest → HasPunctuator z us end → s ≡ z
-other_punctuator s z ts us rest end p h g = (punctuator_same s z h.0 g.0 ts us rest end p h.1 g.1).0
-
-pub more_locals : (text : List ℕ) (ls ms : List Local) (ts us rest end : List Token) → ts ≡ us → AreMoreLocals text ls ts rest → AreMoreLocals text ms us end → (ls ≡ ms) × (rest ≡ end)
-more_locals text [] [] ts us rest end p h g = (refl, has_same punctuators.Semicolon ts us rest end p h g)
-more_locals text [] (m ∷ ms) ts us rest end p h g = let e : punctuators.Semicolon ≡ punctuators.Comma = other_punctuator punctuators.Semicolon punctuators.Comma ts us rest g.0 p h g.2 in absurd cc
-more_locals text (l ∷ ls) [] ts us rest end p h g = let e : punctuators.Comma ≡ punctuators.Semicolon = other_punctuator punctuators.Comma punctuators.Semicolon ts us h.0 end p h.2 g in absurd cc
-more_locals text (l ∷ ls) (m ∷ ms) ts us rest end p h g =
-    let a = has_same punctuators.Comma ts us h.0 g.0 p h.2 g.2 in
-    let b = local text l m h.0 g.0 h.1 g.1 a (locals_stop text ls h.1 rest h.4) (locals_stop text ms g.1 end g.4) h.3 g.3 in
-    let c = more_locals text ls ms h.1 g.1 rest end b.1 h.4 g.4 in
-    (ap (λ (x : Local). x ∷ ls) b.0 ∙ ap (λ (x : List Local). m ∷ x) c.0, c.1)
+locals_stop text ls ts rest h = more_stop (IsLocal text) punctuators.Semicolon ls ts rest (omega arith) h
 
 pub locals : (text : List ℕ) (ls ms : List Local) (ts us rest end : List Token) → ts ≡ us → AreLocals text ls ts rest → AreLocals text ms us end → (ls ≡ ms) × (rest ≡ end)
-locals text [] ms ts us rest end p h g = absurd h
-locals text (l ∷ ls) [] ts us rest end p h g = absurd g
-locals text (l ∷ ls) (m ∷ ms) ts us rest end p h g =
-    let b = local text l m ts us h.0 g.0 p (locals_stop text ls h.0 rest h.2) (locals_stop text ms g.0 end g.2) h.1 g.1 in
-    let c = more_locals text ls ms h.0 g.0 rest end b.1 h.2 g.2 in
-    (ap (λ (x : Local). x ∷ ls) b.0 ∙ ap (λ (x : List Local). m ∷ x) c.0, c.1)
+locals text ls ms ts us rest end p h g =
+    separated_once (IsLocal text) punctuators.Semicolon ls ms ts us rest end (local text) (omega arith) (λ e. cc) p h g
 
 pub local_type : (text : List ℕ) (l : Local) (ts rest : List Token) → IsLocal text l ts rest → NoType ts
-local_type text l ts rest h = stars_front l.pointers ts h.0 (name_type l.name h.0 h.1 h.3) h.2
+local_type text l ts rest h = stars_front l.pointers ts h.after_stars (name_type l.name h.after_stars h.after_name h.name) h.stars
 
 pub locals_type : (text : List ℕ) (ls : List Local) (ts rest : List Token) → AreLocals text ls ts rest → NoType ts
 locals_type text [] ts rest h = absurd h
@@ -397,19 +380,19 @@ optional_begins text (Some e) ts rest r h x = low_begins ts (expression_front te
 
 pub item_begins : (text : List ℕ) (s : Statement) (ts rest : List Token) → IsBlockItem text s ts rest → begins ts ≡ item_class s
 item_begins text (Declare base ls) ts rest h = typed_begins ts (base_front base ts h.0 h.1)
-item_begins text (Block ss) ts rest h = ap begins h.1.1.1
+item_begins text (Block ss) ts rest h = ap begins h.brace.1.1
 item_begins text (Evaluate e) ts rest h = optional_begins text e ts h.0 rest h.1 h.2
-item_begins text (If at c s) ts rest h = ap begins h.2.1
-item_begins text (IfElse at c s t) ts rest h = ap begins h.4.1
-item_begins text (While at c s) ts rest h = ap begins h.2.1
-item_begins text (DoWhile s at c) ts rest h = ap begins h.4.1.1
-item_begins text (For at f c n s) ts rest h = ap begins h.7.1
-item_begins text (Return at e) ts rest h = ap begins h.2.1
+item_begins text (If at c s) ts rest h = ap begins h.keyword.1
+item_begins text (IfElse at c s t) ts rest h = ap begins h.keyword.1
+item_begins text (While at c s) ts rest h = ap begins h.keyword.1
+item_begins text (DoWhile s at c) ts rest h = ap begins h.do_keyword.1.1
+item_begins text (For at f c n s) ts rest h = ap begins h.keyword.1
+item_begins text (Return at e) ts rest h = ap begins h.1.1
 item_begins text (Break at) ts rest h = ap begins h.1.1
 item_begins text (Continue at) ts rest h = ap begins h.1.1
 item_begins text (Leave at) ts rest h = ap begins h.1.1
-item_begins text (TryExcept body at f handler) ts rest h = ap begins h.6.1.1
-item_begins text (TryFinally body at last) ts rest h = ap begins h.5.1.1
+item_begins text (TryExcept body at f handler) ts rest h = ap begins h.try_keyword.1.1
+item_begins text (TryFinally body at last) ts rest h = ap begins h.try_keyword.1.1
 
 pub class_low : (s : Statement) → item_class s ≤ 11
 class_low (Declare base ls) = omega arith
@@ -485,8 +468,8 @@ mutual
   same_item text (Declare base ls) (TryFinally body' at' last') ts us rest end p h g x y = absurd (apart text (Declare base ls) (TryFinally body' at' last') ts us rest end p h g (λ e. absurd (omega arith)))
   same_item text (Block ss) (Declare base' ls') ts us rest end p h g x y = absurd (apart text (Block ss) (Declare base' ls') ts us rest end p h g (λ e. absurd (omega arith)))
   same_item text (Block ss) (Block ss') ts us rest end p h g x y =
-      let a = has_same punctuators.OpenBrace ts us h.0 g.0 p h.1 g.1 in
-      let b = same_items text ss ss' h.0 g.0 rest end a h.2 g.2 in
+      let a = has_same punctuators.OpenBrace ts us h.after_brace g.after_brace p h.brace g.brace in
+      let b = same_items text ss ss' h.after_brace g.after_brace rest end a h.items g.items in
       (ap (λ (x : Statements). Block x) b.0, b.1)
   same_item text (Block ss) (Evaluate e') ts us rest end p h g x y = absurd (apart text (Block ss) (Evaluate e') ts us rest end p h g (λ e. absurd (omega arith)))
   same_item text (Block ss) (If at' c' s') ts us rest end p h g x y = absurd (apart text (Block ss) (If at' c' s') ts us rest end p h g (λ e. absurd (omega arith)))
@@ -520,15 +503,15 @@ mutual
   same_item text (If at c s) (Block ss') ts us rest end p h g x y = absurd (apart text (If at c s) (Block ss') ts us rest end p h g (λ e. absurd (omega arith)))
   same_item text (If at c s) (Evaluate e') ts us rest end p h g x y = absurd (apart text (If at c s) (Evaluate e') ts us rest end p h g (λ e. absurd (omega arith)))
   same_item text (If at c s) (If at' c' s') ts us rest end p h g x y =
-      let a = place keywords.If at at' ts us h.0 g.0 p h.2 g.2 in
-      let b = condition text c c' h.0 g.0 h.1 g.1 a.1 h.3 g.3 in
-      let d = same_item text s s' h.1 g.1 rest end b.1 h.5 g.5 (λ t. x refl) (λ t. y refl) in
+      let a = place keywords.If at at' ts us h.after_keyword g.after_keyword p h.keyword g.keyword in
+      let b = condition text c c' h.after_keyword g.after_keyword h.after_condition g.after_condition a.1 h.condition g.condition in
+      let d = same_item text s s' h.after_condition g.after_condition rest end b.1 h.body.item g.body.item (λ t. x refl) (λ t. y refl) in
       (ap (λ (v : ℕ). If v c s) a.0 ∙ ap (λ (v : Expression). If at' v s) b.0 ∙ ap (λ (v : Statement). If at' c' v) d.0, d.1)
   same_item text (If at c s) (IfElse at' c' s' t') ts us rest end p h g x y =
-      let a = place keywords.If at at' ts us h.0 g.0 p h.2 g.4 in
-      let b = condition text c c' h.0 g.0 h.1 g.1 a.1 h.3 g.5 in
-      let d = same_item text s s' h.1 g.1 rest g.2 b.1 h.5 g.8 (λ v. x refl) (absent s' g.2 g.7) in
-      absurd (x refl g.3 (else_at rest g.2 g.3 d.1 g.9))
+      let a = place keywords.If at at' ts us h.after_keyword g.after_if p h.keyword g.keyword in
+      let b = condition text c c' h.after_keyword g.after_if h.after_condition g.after_condition a.1 h.condition g.condition in
+      let d = same_item text s s' h.after_condition g.after_condition rest g.after_body b.1 h.body.item g.body.item (λ v. x refl) (absent s' g.after_body g.complete) in
+      absurd (x refl g.after_else (else_at rest g.after_body g.after_else d.1 g.else_keyword))
   same_item text (If at c s) (While at' c' s') ts us rest end p h g x y = absurd (apart text (If at c s) (While at' c' s') ts us rest end p h g (λ e. absurd (omega arith)))
   same_item text (If at c s) (DoWhile s' at' c') ts us rest end p h g x y = absurd (apart text (If at c s) (DoWhile s' at' c') ts us rest end p h g (λ e. absurd (omega arith)))
   same_item text (If at c s) (For at' f' c' n' s') ts us rest end p h g x y = absurd (apart text (If at c s) (For at' f' c' n' s') ts us rest end p h g (λ e. absurd (omega arith)))
@@ -542,16 +525,16 @@ mutual
   same_item text (IfElse at c s t) (Block ss') ts us rest end p h g x y = absurd (apart text (IfElse at c s t) (Block ss') ts us rest end p h g (λ e. absurd (omega arith)))
   same_item text (IfElse at c s t) (Evaluate e') ts us rest end p h g x y = absurd (apart text (IfElse at c s t) (Evaluate e') ts us rest end p h g (λ e. absurd (omega arith)))
   same_item text (IfElse at c s t) (If at' c' s') ts us rest end p h g x y =
-      let a = place keywords.If at at' ts us h.0 g.0 p h.4 g.2 in
-      let b = condition text c c' h.0 g.0 h.1 g.1 a.1 h.5 g.3 in
-      let d = same_item text s s' h.1 g.1 h.2 end b.1 h.8 g.5 (absent s h.2 h.7) (λ v. y refl) in
-      absurd (y refl h.3 (else_at end h.2 h.3 (sym d.1) h.9))
+      let a = place keywords.If at at' ts us h.after_if g.after_keyword p h.keyword g.keyword in
+      let b = condition text c c' h.after_if g.after_keyword h.after_condition g.after_condition a.1 h.condition g.condition in
+      let d = same_item text s s' h.after_condition g.after_condition h.after_body end b.1 h.body.item g.body.item (absent s h.after_body h.complete) (λ v. y refl) in
+      absurd (y refl h.after_else (else_at end h.after_body h.after_else (sym d.1) h.else_keyword))
   same_item text (IfElse at c s t) (IfElse at' c' s' t') ts us rest end p h g x y =
-      let a = place keywords.If at at' ts us h.0 g.0 p h.4 g.4 in
-      let b = condition text c c' h.0 g.0 h.1 g.1 a.1 h.5 g.5 in
-      let d = same_item text s s' h.1 g.1 h.2 g.2 b.1 h.8 g.8 (absent s h.2 h.7) (absent s' g.2 g.7) in
-      let w = word keywords.Else h.2 g.2 h.3 g.3 d.1 h.9 g.9 in
-      let e = same_item text t t' h.3 g.3 rest end w h.11 g.11 x y in
+      let a = place keywords.If at at' ts us h.after_if g.after_if p h.keyword g.keyword in
+      let b = condition text c c' h.after_if g.after_if h.after_condition g.after_condition a.1 h.condition g.condition in
+      let d = same_item text s s' h.after_condition g.after_condition h.after_body g.after_body b.1 h.body.item g.body.item (absent s h.after_body h.complete) (absent s' g.after_body g.complete) in
+      let w = word keywords.Else h.after_body g.after_body h.after_else g.after_else d.1 h.else_keyword g.else_keyword in
+      let e = same_item text t t' h.after_else g.after_else rest end w h.else_body.item g.else_body.item x y in
       (ap (λ (v : ℕ). IfElse v c s t) a.0 ∙ ap (λ (v : Expression). IfElse at' v s t) b.0 ∙ ap (λ (v : Statement). IfElse at' c' v t) d.0 ∙ ap (λ (v : Statement). IfElse at' c' s' v) e.0, e.1)
   same_item text (IfElse at c s t) (While at' c' s') ts us rest end p h g x y = absurd (apart text (IfElse at c s t) (While at' c' s') ts us rest end p h g (λ e. absurd (omega arith)))
   same_item text (IfElse at c s t) (DoWhile s' at' c') ts us rest end p h g x y = absurd (apart text (IfElse at c s t) (DoWhile s' at' c') ts us rest end p h g (λ e. absurd (omega arith)))
@@ -568,9 +551,9 @@ mutual
   same_item text (While at c s) (If at' c' s') ts us rest end p h g x y = absurd (apart text (While at c s) (If at' c' s') ts us rest end p h g (λ e. absurd (omega arith)))
   same_item text (While at c s) (IfElse at' c' s' t') ts us rest end p h g x y = absurd (apart text (While at c s) (IfElse at' c' s' t') ts us rest end p h g (λ e. absurd (omega arith)))
   same_item text (While at c s) (While at' c' s') ts us rest end p h g x y =
-      let a = place keywords.While at at' ts us h.0 g.0 p h.2 g.2 in
-      let b = condition text c c' h.0 g.0 h.1 g.1 a.1 h.3 g.3 in
-      let d = same_item text s s' h.1 g.1 rest end b.1 h.5 g.5 x y in
+      let a = place keywords.While at at' ts us h.after_keyword g.after_keyword p h.keyword g.keyword in
+      let b = condition text c c' h.after_keyword g.after_keyword h.after_condition g.after_condition a.1 h.condition g.condition in
+      let d = same_item text s s' h.after_condition g.after_condition rest end b.1 h.body.item g.body.item x y in
       (ap (λ (v : ℕ). While v c s) a.0 ∙ ap (λ (v : Expression). While at' v s) b.0 ∙ ap (λ (v : Statement). While at' c' v) d.0, d.1)
   same_item text (While at c s) (DoWhile s' at' c') ts us rest end p h g x y = absurd (apart text (While at c s) (DoWhile s' at' c') ts us rest end p h g (λ e. absurd (omega arith)))
   same_item text (While at c s) (For at' f' c' n' s') ts us rest end p h g x y = absurd (apart text (While at c s) (For at' f' c' n' s') ts us rest end p h g (λ e. absurd (omega arith)))
@@ -587,11 +570,11 @@ mutual
   same_item text (DoWhile s at c) (IfElse at' c' s' t') ts us rest end p h g x y = absurd (apart text (DoWhile s at c) (IfElse at' c' s' t') ts us rest end p h g (λ e. absurd (omega arith)))
   same_item text (DoWhile s at c) (While at' c' s') ts us rest end p h g x y = absurd (apart text (DoWhile s at c) (While at' c' s') ts us rest end p h g (λ e. absurd (omega arith)))
   same_item text (DoWhile s at c) (DoWhile s' at' c') ts us rest end p h g x y =
-      let a = word keywords.Do ts us h.0 g.0 p h.4 g.4 in
-      let d = same_item text s s' h.0 g.0 h.1 g.1 a h.6 g.6 (λ t. while_else at h.1 h.2 h.7) (λ t. while_else at' g.1 g.2 g.7) in
-      let b = place keywords.While at at' h.1 g.1 h.2 g.2 d.1 h.7 g.7 in
-      let e = condition text c c' h.2 g.2 h.3 g.3 b.1 h.8 g.8 in
-      (ap (λ (v : Statement). DoWhile v at c) d.0 ∙ ap (λ (v : ℕ). DoWhile s' v c) b.0 ∙ ap (λ (v : Expression). DoWhile s' at' v) e.0, has_same punctuators.Semicolon h.3 g.3 rest end e.1 h.9 g.9)
+      let a = word keywords.Do ts us h.after_do g.after_do p h.do_keyword g.do_keyword in
+      let d = same_item text s s' h.after_do g.after_do h.after_body g.after_body a h.body.item g.body.item (λ t. while_else at h.after_body h.after_while h.keyword) (λ t. while_else at' g.after_body g.after_while g.keyword) in
+      let b = place keywords.While at at' h.after_body g.after_body h.after_while g.after_while d.1 h.keyword g.keyword in
+      let e = condition text c c' h.after_while g.after_while h.after_condition g.after_condition b.1 h.condition g.condition in
+      (ap (λ (v : Statement). DoWhile v at c) d.0 ∙ ap (λ (v : ℕ). DoWhile s' v c) b.0 ∙ ap (λ (v : Expression). DoWhile s' at' v) e.0, has_same punctuators.Semicolon h.after_condition g.after_condition rest end e.1 h.semicolon g.semicolon)
   same_item text (DoWhile s at c) (For at' f' c' n' s') ts us rest end p h g x y = absurd (apart text (DoWhile s at c) (For at' f' c' n' s') ts us rest end p h g (λ e. absurd (omega arith)))
   same_item text (DoWhile s at c) (Return at' e') ts us rest end p h g x y = absurd (apart text (DoWhile s at c) (Return at' e') ts us rest end p h g (λ e. absurd (omega arith)))
   same_item text (DoWhile s at c) (Break at') ts us rest end p h g x y = absurd (apart text (DoWhile s at c) (Break at') ts us rest end p h g (λ e. absurd (omega arith)))
@@ -607,12 +590,12 @@ mutual
   same_item text (For at f c n s) (While at' c' s') ts us rest end p h g x y = absurd (apart text (For at f c n s) (While at' c' s') ts us rest end p h g (λ e. absurd (omega arith)))
   same_item text (For at f c n s) (DoWhile s' at' c') ts us rest end p h g x y = absurd (apart text (For at f c n s) (DoWhile s' at' c') ts us rest end p h g (λ e. absurd (omega arith)))
   same_item text (For at f c n s) (For at' f' c' n' s') ts us rest end p h g x y =
-      let a = place keywords.For at at' ts us h.0 g.0 p h.7 g.7 in
-      let b = has_same punctuators.OpenParenthesis h.0 g.0 h.1 g.1 a.1 h.8 g.8 in
-      let d = first text f f' h.1 g.1 h.2 g.2 b h.9 g.9 in
-      let e = optional text punctuators.Semicolon c c' h.2 g.2 h.3 g.3 h.4 g.4 d.1 (omega arith) refl h.10 g.10 h.11 g.11 in
-      let i = optional text punctuators.CloseParenthesis n n' h.4 g.4 h.5 g.5 h.6 g.6 e.1 (omega arith) refl h.12 g.12 h.13 g.13 in
-      let j = same_item text s s' h.6 g.6 rest end i.1 h.15 g.15 x y in
+      let a = place keywords.For at at' ts us h.after_keyword g.after_keyword p h.keyword g.keyword in
+      let b = has_same punctuators.OpenParenthesis h.after_keyword g.after_keyword h.after_opening g.after_opening a.1 h.opening g.opening in
+      let d = first text f f' h.after_opening g.after_opening h.after_first g.after_first b h.first g.first in
+      let e = optional text punctuators.Semicolon c c' h.after_first g.after_first h.condition.0 g.condition.0 h.after_condition g.after_condition d.1 (omega arith) refl h.condition.1 g.condition.1 h.condition.2 g.condition.2 in
+      let i = optional text punctuators.CloseParenthesis n n' h.after_condition g.after_condition h.next.0 g.next.0 h.after_head g.after_head e.1 (omega arith) refl h.next.1 g.next.1 h.next.2 g.next.2 in
+      let j = same_item text s s' h.after_head g.after_head rest end i.1 h.body.item g.body.item x y in
       (ap (λ (v : ℕ). For v f c n s) a.0 ∙ ap (λ (v : ForInitialiser). For at' v c n s) d.0 ∙ ap (λ (v : Option Expression). For at' f' v n s) e.0 ∙ ap (λ (v : Option Expression). For at' f' c' v s) i.0 ∙ ap (λ (v : Statement). For at' f' c' n' v) j.0, j.1)
   same_item text (For at f c n s) (Return at' e') ts us rest end p h g x y = absurd (apart text (For at f c n s) (Return at' e') ts us rest end p h g (λ e. absurd (omega arith)))
   same_item text (For at f c n s) (Break at') ts us rest end p h g x y = absurd (apart text (For at f c n s) (Break at') ts us rest end p h g (λ e. absurd (omega arith)))
@@ -629,8 +612,8 @@ mutual
   same_item text (Return at e) (DoWhile s' at' c') ts us rest end p h g x y = absurd (apart text (Return at e) (DoWhile s' at' c') ts us rest end p h g (λ e. absurd (omega arith)))
   same_item text (Return at e) (For at' f' c' n' s') ts us rest end p h g x y = absurd (apart text (Return at e) (For at' f' c' n' s') ts us rest end p h g (λ e. absurd (omega arith)))
   same_item text (Return at e) (Return at' e') ts us rest end p h g x y =
-      let a = place keywords.Return at at' ts us h.0 g.0 p h.2 g.2 in
-      let b = optional text punctuators.Semicolon e e' h.0 g.0 h.1 g.1 rest end a.1 (omega arith) refl h.3 g.3 h.4 g.4 in
+      let a = place keywords.Return at at' ts us h.0 g.0 p h.1 g.1 in
+      let b = optional text punctuators.Semicolon e e' h.0 g.0 h.2.0 g.2.0 rest end a.1 (omega arith) refl h.2.1 g.2.1 h.2.2 g.2.2 in
       (ap (λ (v : ℕ). Return v e) a.0 ∙ ap (λ (v : Option Expression). Return at' v) b.0, b.1)
   same_item text (Return at e) (Break at') ts us rest end p h g x y = absurd (apart text (Return at e) (Break at') ts us rest end p h g (λ e. absurd (omega arith)))
   same_item text (Return at e) (Continue at') ts us rest end p h g x y = absurd (apart text (Return at e) (Continue at') ts us rest end p h g (λ e. absurd (omega arith)))
@@ -698,19 +681,19 @@ mutual
   same_item text (TryExcept body at f handler) (Continue at') ts us rest end p h g x y = absurd (apart text (TryExcept body at f handler) (Continue at') ts us rest end p h g (λ e. absurd (omega arith)))
   same_item text (TryExcept body at f handler) (Leave at') ts us rest end p h g x y = absurd (apart text (TryExcept body at f handler) (Leave at') ts us rest end p h g (λ e. absurd (omega arith)))
   same_item text (TryExcept body at f handler) (TryExcept body' at' f' handler') ts us rest end p h g x y =
-      let a = word keywords.Try ts us h.0 g.0 p h.6 g.6 in
-      let b = has_same punctuators.OpenBrace h.0 g.0 h.1 g.1 a h.7 g.7 in
-      let c = same_items text body body' h.1 g.1 h.2 g.2 b h.8 g.8 in
-      let d = place keywords.Except at at' h.2 g.2 h.3 g.3 c.1 h.9 g.9 in
-      let e = condition text f f' h.3 g.3 h.4 g.4 d.1 h.10 g.10 in
-      let i = has_same punctuators.OpenBrace h.4 g.4 h.5 g.5 e.1 h.11 g.11 in
-      let j = same_items text handler handler' h.5 g.5 rest end i h.12 g.12 in
+      let a = word keywords.Try ts us h.after_try g.after_try p h.try_keyword g.try_keyword in
+      let b = has_same punctuators.OpenBrace h.after_try g.after_try h.body.after_brace g.body.after_brace a h.body.brace g.body.brace in
+      let c = same_items text body body' h.body.after_brace g.body.after_brace h.after_body g.after_body b h.body.items g.body.items in
+      let d = place keywords.Except at at' h.after_body g.after_body h.after_except g.after_except c.1 h.keyword g.keyword in
+      let e = condition text f f' h.after_except g.after_except h.after_filter g.after_filter d.1 h.filter g.filter in
+      let i = has_same punctuators.OpenBrace h.after_filter g.after_filter h.handler.after_brace g.handler.after_brace e.1 h.handler.brace g.handler.brace in
+      let j = same_items text handler handler' h.handler.after_brace g.handler.after_brace rest end i h.handler.items g.handler.items in
       (ap (λ (v : Statements). TryExcept v at f handler) c.0 ∙ ap (λ (v : ℕ). TryExcept body' v f handler) d.0 ∙ ap (λ (v : Expression). TryExcept body' at' v handler) e.0 ∙ ap (λ (v : Statements). TryExcept body' at' f' v) j.0, j.1)
   same_item text (TryExcept body at f handler) (TryFinally body' at' last') ts us rest end p h g x y =
-      let a = word keywords.Try ts us h.0 g.0 p h.6 g.5 in
-      let b = has_same punctuators.OpenBrace h.0 g.0 h.1 g.1 a h.7 g.6 in
-      let c = same_items text body body' h.1 g.1 h.2 g.2 b h.8 g.7 in
-      let e : keywords.Except ≡ keywords.Finally = (keyword_same keywords.Except keywords.Finally h.2 g.2 h.3 g.3 c.1 (at, h.9) (at', g.8)).0 in absurd cc
+      let a = word keywords.Try ts us h.after_try g.after_try p h.try_keyword g.try_keyword in
+      let b = has_same punctuators.OpenBrace h.after_try g.after_try h.body.after_brace g.body.after_brace a h.body.brace g.body.brace in
+      let c = same_items text body body' h.body.after_brace g.body.after_brace h.after_body g.after_body b h.body.items g.body.items in
+      let e : keywords.Except ≡ keywords.Finally = (keyword_same keywords.Except keywords.Finally h.after_body g.after_body h.after_except g.after_finally c.1 (at, h.keyword) (at', g.keyword)).0 in absurd cc
   same_item text (TryFinally body at last) (Declare base' ls') ts us rest end p h g x y = absurd (apart text (TryFinally body at last) (Declare base' ls') ts us rest end p h g (λ e. absurd (omega arith)))
   same_item text (TryFinally body at last) (Block ss') ts us rest end p h g x y = absurd (apart text (TryFinally body at last) (Block ss') ts us rest end p h g (λ e. absurd (omega arith)))
   same_item text (TryFinally body at last) (Evaluate e') ts us rest end p h g x y = absurd (apart text (TryFinally body at last) (Evaluate e') ts us rest end p h g (λ e. absurd (omega arith)))
@@ -724,17 +707,17 @@ mutual
   same_item text (TryFinally body at last) (Continue at') ts us rest end p h g x y = absurd (apart text (TryFinally body at last) (Continue at') ts us rest end p h g (λ e. absurd (omega arith)))
   same_item text (TryFinally body at last) (Leave at') ts us rest end p h g x y = absurd (apart text (TryFinally body at last) (Leave at') ts us rest end p h g (λ e. absurd (omega arith)))
   same_item text (TryFinally body at last) (TryExcept body' at' f' handler') ts us rest end p h g x y =
-      let a = word keywords.Try ts us h.0 g.0 p h.5 g.6 in
-      let b = has_same punctuators.OpenBrace h.0 g.0 h.1 g.1 a h.6 g.7 in
-      let c = same_items text body body' h.1 g.1 h.2 g.2 b h.7 g.8 in
-      let e : keywords.Finally ≡ keywords.Except = (keyword_same keywords.Finally keywords.Except h.2 g.2 h.3 g.3 c.1 (at, h.8) (at', g.9)).0 in absurd cc
+      let a = word keywords.Try ts us h.after_try g.after_try p h.try_keyword g.try_keyword in
+      let b = has_same punctuators.OpenBrace h.after_try g.after_try h.body.after_brace g.body.after_brace a h.body.brace g.body.brace in
+      let c = same_items text body body' h.body.after_brace g.body.after_brace h.after_body g.after_body b h.body.items g.body.items in
+      let e : keywords.Finally ≡ keywords.Except = (keyword_same keywords.Finally keywords.Except h.after_body g.after_body h.after_finally g.after_except c.1 (at, h.keyword) (at', g.keyword)).0 in absurd cc
   same_item text (TryFinally body at last) (TryFinally body' at' last') ts us rest end p h g x y =
-      let a = word keywords.Try ts us h.0 g.0 p h.5 g.5 in
-      let b = has_same punctuators.OpenBrace h.0 g.0 h.1 g.1 a h.6 g.6 in
-      let c = same_items text body body' h.1 g.1 h.2 g.2 b h.7 g.7 in
-      let d = place keywords.Finally at at' h.2 g.2 h.3 g.3 c.1 h.8 g.8 in
-      let i = has_same punctuators.OpenBrace h.3 g.3 h.4 g.4 d.1 h.9 g.9 in
-      let j = same_items text last last' h.4 g.4 rest end i h.10 g.10 in
+      let a = word keywords.Try ts us h.after_try g.after_try p h.try_keyword g.try_keyword in
+      let b = has_same punctuators.OpenBrace h.after_try g.after_try h.body.after_brace g.body.after_brace a h.body.brace g.body.brace in
+      let c = same_items text body body' h.body.after_brace g.body.after_brace h.after_body g.after_body b h.body.items g.body.items in
+      let d = place keywords.Finally at at' h.after_body g.after_body h.after_finally g.after_finally c.1 h.keyword g.keyword in
+      let i = has_same punctuators.OpenBrace h.after_finally g.after_finally h.last.after_brace g.last.after_brace d.1 h.last.brace g.last.brace in
+      let j = same_items text last last' h.last.after_brace g.last.after_brace rest end i h.last.items g.last.items in
       (ap (λ (v : Statements). TryFinally v at last) c.0 ∙ ap (λ (v : ℕ). TryFinally body' v last) d.0 ∙ ap (λ (v : Statements). TryFinally body' at' v) j.0, j.1)
 
   pub same_items : (text : List ℕ) (ss zs : Statements) (ts us rest end : List Token) → ts ≡ us → AreBlockItems text ss ts rest → AreBlockItems text zs us end → (ss ≡ zs) × (rest ≡ end)

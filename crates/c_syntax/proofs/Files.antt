@@ -18,13 +18,15 @@ use Rattle.c_syntax.specs.declared.expression.Identifier.{Identifier}
 use Rattle.c_syntax.specs.Expressions.{literal_kind}
 use Rattle.c_syntax.specs.Follow.{follows, Stops}
 use Rattle.c_syntax.specs.Program.{Initialiser, Single, Several, Global, ExternalDeclaration, Globals, Function}
-use Rattle.c_syntax.specs.Programs.{IsLiteral, IsConstant, AreMoreConstants, AreConstants, IsInitialiser, IsLength, IsGlobal, AreMoreGlobals, AreGlobals, IsParameter, AreMoreParameters, AreParameters, IsExternalDeclaration, IsProgram, OneProgram}
+use Rattle.c_syntax.specs.Programs.{IsLiteral, IsConstant, AreConstants, IsInitialiser, IsLength, IsGlobal, AreMoreGlobals, AreGlobals, IsParameter, AreParameters, IsExternalDeclaration, IsProgram, OneProgram}
 use Rattle.c_syntax.specs.Statement.{Statements}
 use Rattle.c_syntax.specs.Tokens.{IsPunctuator, IsIdentifier, HasPunctuator, HasKeyword}
 use Rattle.c_syntax.specs.Types.{IsBase, AreStars, IsType}
 use Rattle.c_syntax.proofs.Fronts.{kind_same, punctuator_same, has_same, name_same, kind_class, front, base_front, base_once, NoType, stars_once, stars_front, type_once, close_type, close_star}
 use Rattle.c_syntax.proofs.Spine.{follows_punctuator}
 use Rattle.c_syntax.proofs.Once.{has_stops, has_front, literal_same, integer_same}
+use Rattle.c_syntax.proofs.Separated.{more_stop, separated_once}
+pub use Rattle.c_syntax.proofs.Separated.{other_punctuator}
 use Rattle.c_syntax.proofs.Blocks.{name_star, name_type, same_items}
 
 -- ---- constants
@@ -35,17 +37,17 @@ literal_class (literals.CharacterConstant value) = refl
 
 pub literal_front : (negative : Bool) (at : ℕ) (literal : Literal) (ts rest : List Token) → IsLiteral negative at literal ts rest → front ts ≤ 5
 literal_front false at literal ts rest h = let a = ap front h.1 in let b = literal_class literal in omega arith
-literal_front true at literal ts rest h = let a = ap front h.2.1 in omega arith
+literal_front true at literal ts rest h = let a = ap front h.minus.1 in omega arith
 
 literal_once : (n m : Bool) (at to : ℕ) (a b : Literal) (ts us rest end : List Token) → ts ≡ us → IsLiteral n at a ts rest → IsLiteral m to b us end → (n ≡ m) × (at ≡ to) × (a ≡ b) × (rest ≡ end)
 literal_once false false at to a b ts us rest end p h g =
     let q = kind_same (literal_kind a) (literal_kind b) at to ts us rest end p h g in
     (refl, q.1, literal_same a b q.0, q.2)
-literal_once false true at to a b ts us rest end p h g = let x = ap front h.1 in let y = literal_class a in let z = ap front g.2.1 in let w = ap front p in absurd (omega arith)
-literal_once true false at to a b ts us rest end p h g = let x = ap front g.1 in let y = literal_class b in let z = ap front h.2.1 in let w = ap front p in absurd (omega arith)
+literal_once false true at to a b ts us rest end p h g = let x = ap front h.1 in let y = literal_class a in let z = ap front g.minus.1 in let w = ap front p in absurd (omega arith)
+literal_once true false at to a b ts us rest end p h g = let x = ap front g.1 in let y = literal_class b in let z = ap front h.minus.1 in let w = ap front p in absurd (omega arith)
 literal_once true true at to a b ts us rest end p h g =
-    let q = punctuator_same punctuators.Minus punctuators.Minus at to ts us h.0 g.0 p h.2 g.2 in
-    let r = kind_same (literal_kind a) (literal_kind b) h.1 g.1 h.0 g.0 rest end q.2 h.3 g.3 in
+    let q = punctuator_same punctuators.Minus punctuators.Minus at to ts us h.after_minus g.after_minus p h.minus g.minus in
+    let r = kind_same (literal_kind a) (literal_kind b) h.place g.place h.after_minus g.after_minus rest end q.2 h.literal g.literal in
     (refl, q.1, literal_same a b r.0, r.2)
 
 abbrev made : ℕ → Bool → Literal → Constant
@@ -56,26 +58,10 @@ constant_once c d ts us rest end p h g =
     let q = literal_once c.negative d.negative c.at d.at c.literal d.literal ts us rest end p h g in
     (ap (λ (x : ℕ). made x c.negative c.literal) q.1 ∙ ap (λ (x : Bool). made d.at x c.literal) q.0 ∙ ap (λ (x : Literal). made d.at d.negative x) q.2, q.3)
 
-pub other_punctuator : (s z : Punctuator) (ts us rest end : List Token) → ts ≡ us → HasPunctuator s ts rest → HasPunctuator z us end → s ≡ z
-other_punctuator s z ts us rest end p h g = (punctuator_same s z h.0 g.0 ts us rest end p h.1 g.1).0
-
-more_constants : (cs ds : List Constant) (ts us rest end : List Token) → ts ≡ us → AreMoreConstants cs ts rest → AreMoreConstants ds us end → (cs ≡ ds) × (rest ≡ end)
-more_constants [] [] ts us rest end p h g = (refl, has_same punctuators.CloseBrace ts us rest end p h g)
-more_constants [] (d ∷ ds) ts us rest end p h g = let e : punctuators.CloseBrace ≡ punctuators.Comma = other_punctuator punctuators.CloseBrace punctuators.Comma ts us rest g.0 p h g.2 in absurd cc
-more_constants (c ∷ cs) [] ts us rest end p h g = let e : punctuators.Comma ≡ punctuators.CloseBrace = other_punctuator punctuators.Comma punctuators.CloseBrace ts us h.0 end p h.2 g in absurd cc
-more_constants (c ∷ cs) (d ∷ ds) ts us rest end p h g =
-    let a = has_same punctuators.Comma ts us h.0 g.0 p h.2 g.2 in
-    let b = constant_once c d h.0 g.0 h.1 g.1 a h.3 g.3 in
-    let e = more_constants cs ds h.1 g.1 rest end b.1 h.4 g.4 in
-    (ap (λ (x : Constant). x ∷ cs) b.0 ∙ ap (λ (x : List Constant). d ∷ x) e.0, e.1)
-
 pub constants : (cs ds : List Constant) (ts us rest end : List Token) → ts ≡ us → AreConstants cs ts rest → AreConstants ds us end → (cs ≡ ds) × (rest ≡ end)
-constants [] ds ts us rest end p h g = absurd h
-constants (c ∷ cs) [] ts us rest end p h g = absurd g
-constants (c ∷ cs) (d ∷ ds) ts us rest end p h g =
-    let b = constant_once c d ts us h.0 g.0 p h.1 g.1 in
-    let e = more_constants cs ds h.0 g.0 rest end b.1 h.2 g.2 in
-    (ap (λ (x : Constant). x ∷ cs) b.0 ∙ ap (λ (x : List Constant). d ∷ x) e.0, e.1)
+constants cs ds ts us rest end p h g =
+    separated_once IsConstant punctuators.CloseBrace cs ds ts us rest end
+    (λ c d ts' us' rest' end' q s z. constant_once c d ts' us' rest' end' q) (omega arith) (λ e. cc) p h g
 
 -- ---- globals
 
@@ -91,25 +77,25 @@ begun i = Some i
 pub initialiser_once : (i j : Option Initialiser) (ts us rest end : List Token) → ts ≡ us → Stops 15 rest → Stops 15 end → IsInitialiser i ts rest → IsInitialiser j us end → (i ≡ j) × (rest ≡ end)
 initialiser_once None None ts us rest end p s z h g = (refl, sym h ∙ p ∙ g)
 initialiser_once None (Some (Single d)) ts us rest end p s z h g = absurd (assign_not ts us rest g.0 p h s g.1)
-initialiser_once None (Some (Several to ds)) ts us rest end p s z h g = absurd (assign_not ts us rest g.0 p h s g.2)
+initialiser_once None (Some (Several to ds)) ts us rest end p s z h g = absurd (assign_not ts us rest g.after_assign p h s g.assign)
 initialiser_once (Some (Single c)) None ts us rest end p s z h g = absurd (assign_not us ts end h.0 (sym p) g z h.1)
 initialiser_once (Some (Single c)) (Some (Single d)) ts us rest end p s z h g =
     let a = has_same punctuators.Assign ts us h.0 g.0 p h.1 g.1 in
     let b = constant_once c d h.0 g.0 rest end a h.2 g.2 in
     (ap (λ (x : Constant). begun (Single x)) b.0, b.1)
-initialiser_once (Some (Single c)) (Some (Several to ds)) ts us rest end p s z h g = let a = has_same punctuators.Assign ts us h.0 g.0 p h.1 g.2 in absurd (brace_not c to h.0 g.0 rest g.1 a h.2 g.3)
-initialiser_once (Some (Several at cs)) None ts us rest end p s z h g = absurd (assign_not us ts end h.0 (sym p) g z h.2)
-initialiser_once (Some (Several at cs)) (Some (Single d)) ts us rest end p s z h g = let a = has_same punctuators.Assign ts us h.0 g.0 p h.2 g.1 in absurd (brace_not d at g.0 h.0 end h.1 (sym a) g.2 h.3)
+initialiser_once (Some (Single c)) (Some (Several to ds)) ts us rest end p s z h g = let a = has_same punctuators.Assign ts us h.0 g.after_assign p h.1 g.assign in absurd (brace_not c to h.0 g.after_assign rest g.after_brace a h.2 g.brace)
+initialiser_once (Some (Several at cs)) None ts us rest end p s z h g = absurd (assign_not us ts end h.after_assign (sym p) g z h.assign)
+initialiser_once (Some (Several at cs)) (Some (Single d)) ts us rest end p s z h g = let a = has_same punctuators.Assign ts us h.after_assign g.0 p h.assign g.1 in absurd (brace_not d at g.0 h.after_assign end h.after_brace (sym a) g.2 h.brace)
 initialiser_once (Some (Several at cs)) (Some (Several to ds)) ts us rest end p s z h g =
-    let a = has_same punctuators.Assign ts us h.0 g.0 p h.2 g.2 in
-    let b = punctuator_same punctuators.OpenBrace punctuators.OpenBrace at to h.0 g.0 h.1 g.1 a h.3 g.3 in
-    let c = constants cs ds h.1 g.1 rest end b.2 h.4 g.4 in
+    let a = has_same punctuators.Assign ts us h.after_assign g.after_assign p h.assign g.assign in
+    let b = punctuator_same punctuators.OpenBrace punctuators.OpenBrace at to h.after_assign g.after_assign h.after_brace g.after_brace a h.brace g.brace in
+    let c = constants cs ds h.after_brace g.after_brace rest end b.2 h.constants g.constants in
     (ap (λ (x : ℕ). begun (Several x cs)) b.1 ∙ ap (λ (x : List Constant). begun (Several to x)) c.0, c.1)
 
 pub initialiser_stops : (i : Option Initialiser) (ts rest : List Token) → Stops 15 rest → IsInitialiser i ts rest → Stops 1 ts
 initialiser_stops None ts rest s h = let a = ap follows h in omega arith
 initialiser_stops (Some (Single c)) ts rest s h = has_stops punctuators.Assign ts h.0 1 h.1 (omega arith)
-initialiser_stops (Some (Several at cs)) ts rest s h = has_stops punctuators.Assign ts h.0 1 h.2 (omega arith)
+initialiser_stops (Some (Several at cs)) ts rest s h = has_stops punctuators.Assign ts h.after_assign 1 h.assign (omega arith)
 
 abbrev sized : ℕ → ℕ → Option Length
 sized at value = Some (record { at = at; value = value })
@@ -119,53 +105,38 @@ bracket_not ts us rest end p q s h = let a = follows_punctuator punctuators.Open
 
 pub length_once : (i j : Option Length) (ts us rest end : List Token) → ts ≡ us → Stops 1 rest → Stops 1 end → IsLength i ts rest → IsLength j us end → (i ≡ j) × (rest ≡ end)
 length_once None None ts us rest end p s z h g = (refl, sym h ∙ p ∙ g)
-length_once None (Some m) ts us rest end p s z h g = absurd (bracket_not ts us rest g.0 p h s g.2)
-length_once (Some n) None ts us rest end p s z h g = absurd (bracket_not us ts end h.0 (sym p) g z h.2)
+length_once None (Some m) ts us rest end p s z h g = absurd (bracket_not ts us rest g.after_opening p h s g.opening)
+length_once (Some n) None ts us rest end p s z h g = absurd (bracket_not us ts end h.after_opening (sym p) g z h.opening)
 length_once (Some n) (Some m) ts us rest end p s z h g =
-    let a = has_same punctuators.OpenBracket ts us h.0 g.0 p h.2 g.2 in
-    let b = integer_same n.value m.value n.at m.at h.0 g.0 h.1 g.1 a h.3 g.3 in
-    (ap (λ (x : ℕ). sized n.at x) b.0 ∙ ap (λ (x : ℕ). sized x m.value) b.1, has_same punctuators.CloseBracket h.1 g.1 rest end b.2 h.4 g.4)
+    let a = has_same punctuators.OpenBracket ts us h.after_opening g.after_opening p h.opening g.opening in
+    let b = integer_same n.value m.value n.at m.at h.after_opening g.after_opening h.after_inner g.after_inner a h.inner g.inner in
+    (ap (λ (x : ℕ). sized n.at x) b.0 ∙ ap (λ (x : ℕ). sized x m.value) b.1, has_same punctuators.CloseBracket h.after_inner g.after_inner rest end b.2 h.closing g.closing)
 
 pub length_stops : (i : Option Length) (ts rest : List Token) → Stops 1 rest → IsLength i ts rest → Stops 0 ts
 length_stops None ts rest s h = let a = ap follows h in omega arith
-length_stops (Some n) ts rest s h = has_stops punctuators.OpenBracket ts h.0 0 h.2 (omega arith)
+length_stops (Some n) ts rest s h = has_stops punctuators.OpenBracket ts h.after_opening 0 h.opening (omega arith)
 
 abbrev make : ℕ → Identifier → Option Length → Option Initialiser → Global
 make n name l i = record { pointers = n; name = name; length = l; initialiser = i }
 
 pub global_once : (k m : Global) (ts us rest end : List Token) → ts ≡ us → Stops 15 rest → Stops 15 end → IsGlobal k ts rest → IsGlobal m us end → (k ≡ m) × (rest ≡ end)
 global_once k m ts us rest end p s z h g =
-    let a = stars_once k.pointers m.pointers ts us h.0 g.0 p (name_star k.name h.0 h.1 h.4) (name_star m.name g.0 g.1 g.4) h.3 g.3 in
-    let b = name_same k.name m.name h.0 g.0 h.1 g.1 a.1 h.4 g.4 in
-    let c = length_once k.length m.length h.1 g.1 h.2 g.2 b.1 (initialiser_stops k.initialiser h.2 rest s h.6) (initialiser_stops m.initialiser g.2 end z g.6) h.5 g.5 in
-    let d = initialiser_once k.initialiser m.initialiser h.2 g.2 rest end c.1 s z h.6 g.6 in
+    let a = stars_once k.pointers m.pointers ts us h.after_stars g.after_stars p (name_star k.name h.after_stars h.after_name h.name) (name_star m.name g.after_stars g.after_name g.name) h.stars g.stars in
+    let b = name_same k.name m.name h.after_stars g.after_stars h.after_name g.after_name a.1 h.name g.name in
+    let c = length_once k.length m.length h.after_name g.after_name h.after_length g.after_length b.1 (initialiser_stops k.initialiser h.after_length rest s h.initialiser) (initialiser_stops m.initialiser g.after_length end z g.initialiser) h.length g.length in
+    let d = initialiser_once k.initialiser m.initialiser h.after_length g.after_length rest end c.1 s z h.initialiser g.initialiser in
     (ap (λ (x : ℕ). make x k.name k.length k.initialiser) a.0 ∙ ap (λ (x : Identifier). make m.pointers x k.length k.initialiser) b.0 ∙ ap (λ (x : Option Length). make m.pointers m.name x k.initialiser) c.0 ∙ ap (λ (x : Option Initialiser). make m.pointers m.name m.length x) d.0, d.1)
 
 pub globals_stop : (gs : List Global) (ts rest : List Token) → AreMoreGlobals gs ts rest → Stops 15 ts
-globals_stop [] ts rest h = has_stops punctuators.Semicolon ts rest 15 h (omega arith)
-globals_stop (k ∷ gs) ts rest h = has_stops punctuators.Comma ts h.0 15 h.2 (omega arith)
-
-more_globals : (ks ms : List Global) (ts us rest end : List Token) → ts ≡ us → AreMoreGlobals ks ts rest → AreMoreGlobals ms us end → (ks ≡ ms) × (rest ≡ end)
-more_globals [] [] ts us rest end p h g = (refl, has_same punctuators.Semicolon ts us rest end p h g)
-more_globals [] (m ∷ ms) ts us rest end p h g = let e : punctuators.Semicolon ≡ punctuators.Comma = other_punctuator punctuators.Semicolon punctuators.Comma ts us rest g.0 p h g.2 in absurd cc
-more_globals (k ∷ ks) [] ts us rest end p h g = let e : punctuators.Comma ≡ punctuators.Semicolon = other_punctuator punctuators.Comma punctuators.Semicolon ts us h.0 end p h.2 g in absurd cc
-more_globals (k ∷ ks) (m ∷ ms) ts us rest end p h g =
-    let a = has_same punctuators.Comma ts us h.0 g.0 p h.2 g.2 in
-    let b = global_once k m h.0 g.0 h.1 g.1 a (globals_stop ks h.1 rest h.4) (globals_stop ms g.1 end g.4) h.3 g.3 in
-    let c = more_globals ks ms h.1 g.1 rest end b.1 h.4 g.4 in
-    (ap (λ (x : Global). x ∷ ks) b.0 ∙ ap (λ (x : List Global). m ∷ x) c.0, c.1)
+globals_stop gs ts rest h = more_stop IsGlobal punctuators.Semicolon gs ts rest (omega arith) h
 
 globals : (ks ms : List Global) (ts us rest end : List Token) → ts ≡ us → AreGlobals ks ts rest → AreGlobals ms us end → (ks ≡ ms) × (rest ≡ end)
-globals [] ms ts us rest end p h g = absurd h
-globals (k ∷ ks) [] ts us rest end p h g = absurd g
-globals (k ∷ ks) (m ∷ ms) ts us rest end p h g =
-    let b = global_once k m ts us h.0 g.0 p (globals_stop ks h.0 rest h.2) (globals_stop ms g.0 end g.2) h.1 g.1 in
-    let c = more_globals ks ms h.0 g.0 rest end b.1 h.2 g.2 in
-    (ap (λ (x : Global). x ∷ ks) b.0 ∙ ap (λ (x : List Global). m ∷ x) c.0, c.1)
+globals ks ms ts us rest end p h g =
+    separated_once IsGlobal punctuators.Semicolon ks ms ts us rest end global_once (omega arith) (λ e. cc) p h g
 
 pub globals_type : (gs : List Global) (ts rest : List Token) → AreGlobals gs ts rest → NoType ts
 globals_type [] ts rest h = absurd h
-globals_type (k ∷ gs) ts rest h = stars_front k.pointers ts h.1.0 (name_type k.name h.1.0 h.1.1 h.1.4) h.1.3
+globals_type (k ∷ gs) ts rest h = stars_front k.pointers ts h.1.after_stars (name_type k.name h.1.after_stars h.1.after_name h.1.name) h.1.stars
 
 -- ---- parameters
 
@@ -177,16 +148,6 @@ parameter_once a b ts us rest end p h g =
     let t = type_once a.«of» b.«of» ts us h.0 g.0 p (name_type a.name h.0 rest h.2) (name_type b.name g.0 end g.2) (name_star a.name h.0 rest h.2) (name_star b.name g.0 end g.2) h.1 g.1 in
     let n = name_same a.name b.name h.0 g.0 rest end t.1 h.2 g.2 in
     (ap (λ (x : CType). parameter x a.name) t.0 ∙ ap (λ (x : Identifier). parameter b.«of» x) n.0, n.1)
-
-more_parameters : (ks ms : List Parameter) (ts us rest end : List Token) → ts ≡ us → AreMoreParameters ks ts rest → AreMoreParameters ms us end → (ks ≡ ms) × (rest ≡ end)
-more_parameters [] [] ts us rest end p h g = (refl, has_same punctuators.CloseParenthesis ts us rest end p h g)
-more_parameters [] (m ∷ ms) ts us rest end p h g = let e : punctuators.CloseParenthesis ≡ punctuators.Comma = other_punctuator punctuators.CloseParenthesis punctuators.Comma ts us rest g.0 p h g.2 in absurd cc
-more_parameters (k ∷ ks) [] ts us rest end p h g = let e : punctuators.Comma ≡ punctuators.CloseParenthesis = other_punctuator punctuators.Comma punctuators.CloseParenthesis ts us h.0 end p h.2 g in absurd cc
-more_parameters (k ∷ ks) (m ∷ ms) ts us rest end p h g =
-    let a = has_same punctuators.Comma ts us h.0 g.0 p h.2 g.2 in
-    let b = parameter_once k m h.0 g.0 h.1 g.1 a h.3 g.3 in
-    let c = more_parameters ks ms h.1 g.1 rest end b.1 h.4 g.4 in
-    (ap (λ (x : Parameter). x ∷ ks) b.0 ∙ ap (λ (x : List Parameter). m ∷ x) c.0, c.1)
 
 pub parameter_front : (k : Parameter) (ts rest : List Token) → IsParameter k ts rest → front ts ≡ 7
 parameter_front k ts rest h = base_front k.«of».base ts h.1.0 h.1.1
@@ -219,9 +180,8 @@ parameters (k ∷ ks) [] ts us rest end p h (inl g) =
     let a = has_front punctuators.CloseParenthesis us end g in let b = parameter_front k ts h.0 h.1 in let c = ap front p in absurd (omega arith)
 parameters (k ∷ ks) [] ts us rest end p h (inr g) = absurd (void_not k us ts g.0 end h.0 (sym p) g.1 g.2 h.1)
 parameters (k ∷ ks) (m ∷ ms) ts us rest end p h g =
-    let b = parameter_once k m ts us h.0 g.0 p h.1 g.1 in
-    let c = more_parameters ks ms h.0 g.0 rest end b.1 h.2 g.2 in
-    (ap (λ (x : Parameter). x ∷ ks) b.0 ∙ ap (λ (x : List Parameter). m ∷ x) c.0, c.1)
+    separated_once IsParameter punctuators.CloseParenthesis (k ∷ ks) (m ∷ ms) ts us rest end
+    (λ a b ts' us' rest' end' q s z. parameter_once a b ts' us' rest' end' q) (omega arith) (λ e. cc) p h g
 
 -- ---- external_declarations
 
@@ -230,9 +190,9 @@ pub open_not : (gs : List Global) (t : CType) (name : Identifier) (ts us a b c r
 open_not [] t name ts us a b c rest p h x n s = absurd h
 open_not (k ∷ gs) t name ts us a b c rest p h x n s =
     let g = h.1 in
-    let d = stars_once k.pointers t.pointers ts us g.0 a p (name_star k.name g.0 g.1 g.4) (name_star name a b n) g.3 x in
-    let e = name_same k.name name g.0 a g.1 b d.1 g.4 n in
-    let f = length_stops k.length g.1 g.2 (initialiser_stops k.initialiser g.2 h.0 (globals_stop gs h.0 rest h.2) g.6) g.5 in
+    let d = stars_once k.pointers t.pointers ts us g.after_stars a p (name_star k.name g.after_stars g.after_name g.name) (name_star name a b n) g.stars x in
+    let e = name_same k.name name g.after_stars a g.after_name b d.1 g.name n in
+    let f = length_stops k.length g.after_name g.after_length (initialiser_stops k.initialiser g.after_length h.0 (globals_stop gs h.0 rest h.2) g.initialiser) g.length in
     let o = follows_punctuator punctuators.OpenParenthesis s.0 b c 0 s.1 refl in
     let q = ap follows e.1 in absurd (omega arith)
 
@@ -246,20 +206,20 @@ external_declaration_once text (Globals b ks) (Globals d ms) ts us rest end p h 
     let a = base_once b d ts us h.0 g.0 p (globals_type ks h.0 rest h.2) (globals_type ms g.0 end g.2) h.1 g.1 in
     let c = globals ks ms h.0 g.0 rest end a.1 h.2 g.2 in
     (ap (λ (v : Base). Globals v ks) a.0 ∙ ap (λ (v : List Global). Globals d v) c.0, c.1)
-external_declaration_once text (Globals b ks) (Function t name ps body) ts us rest end p h g = absurd (apart b ks t name ts us g.0 g.1 g.2 rest p h g.5 g.6 g.7)
-external_declaration_once text (Function t name ps body) (Globals d ms) ts us rest end p h g = absurd (apart d ms t name us ts h.0 h.1 h.2 end (sym p) g h.5 h.6 h.7)
+external_declaration_once text (Globals b ks) (Function t name ps body) ts us rest end p h g = absurd (apart b ks t name ts us g.after_type g.after_name g.after_parenthesis rest p h g.returns g.name g.parenthesis)
+external_declaration_once text (Function t name ps body) (Globals d ms) ts us rest end p h g = absurd (apart d ms t name us ts h.after_type h.after_name h.after_parenthesis end (sym p) g h.returns h.name h.parenthesis)
 external_declaration_once text (Function t name ps body) (Function t' name' ps' body') ts us rest end p h g =
-    let a = type_once t t' ts us h.0 g.0 p (name_type name h.0 h.1 h.6) (name_type name' g.0 g.1 g.6) (name_star name h.0 h.1 h.6) (name_star name' g.0 g.1 g.6) h.5 g.5 in
-    let b = name_same name name' h.0 g.0 h.1 g.1 a.1 h.6 g.6 in
-    let c = has_same punctuators.OpenParenthesis h.1 g.1 h.2 g.2 b.1 h.7 g.7 in
-    let d = parameters ps ps' h.2 g.2 h.3 g.3 c h.8 g.8 in
-    let e = has_same punctuators.OpenBrace h.3 g.3 h.4 g.4 d.1 h.9 g.9 in
-    let f = same_items text body body' h.4 g.4 rest end e h.10 g.10 in
+    let a = type_once t t' ts us h.after_type g.after_type p (name_type name h.after_type h.after_name h.name) (name_type name' g.after_type g.after_name g.name) (name_star name h.after_type h.after_name h.name) (name_star name' g.after_type g.after_name g.name) h.returns g.returns in
+    let b = name_same name name' h.after_type g.after_type h.after_name g.after_name a.1 h.name g.name in
+    let c = has_same punctuators.OpenParenthesis h.after_name g.after_name h.after_parenthesis g.after_parenthesis b.1 h.parenthesis g.parenthesis in
+    let d = parameters ps ps' h.after_parenthesis g.after_parenthesis h.after_parameters g.after_parameters c h.parameters g.parameters in
+    let e = has_same punctuators.OpenBrace h.after_parameters g.after_parameters h.body.after_brace g.body.after_brace d.1 h.body.brace g.body.brace in
+    let f = same_items text body body' h.body.after_brace g.body.after_brace rest end e h.body.items g.body.items in
     (ap (λ (v : CType). Function v name ps body) a.0 ∙ ap (λ (v : Identifier). Function t' v ps body) b.0 ∙ ap (λ (v : List Parameter). Function t' name' v body) d.0 ∙ ap (λ (v : Statements). Function t' name' ps' v) f.0, f.1)
 
 pub external_declaration_front : (text : List ℕ) (x : ExternalDeclaration) (ts rest : List Token) → IsExternalDeclaration text x ts rest → front ts ≡ 7
 external_declaration_front text (Globals b ks) ts rest h = base_front b ts h.0 h.1
-external_declaration_front text (Function t name ps body) ts rest h = base_front t.base ts h.5.0 h.5.1
+external_declaration_front text (Function t name ps body) ts rest h = base_front t.base ts h.returns.0 h.returns.1
 
 pub program_once : (text : List ℕ) (xs ys : List ExternalDeclaration) (ts us : List Token) → ts ≡ us → IsProgram text xs ts → IsProgram text ys us → xs ≡ ys
 program_once text [] [] ts us p h g = refl

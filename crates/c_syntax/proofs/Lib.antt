@@ -1,8 +1,10 @@
 pub mod Spine
 pub mod Fronts
+pub mod OneStep
 pub mod Once
 pub mod Starts
 pub mod Rows
+pub mod Separated
 pub mod Blocks
 pub mod Files
 pub mod Passing
@@ -11,5 +13,6 @@ pub mod Failing
 pub mod Moves
 pub mod FirstFault
 pub mod Firsts
+pub mod MovesPhrases
 pub mod MovesStatements
 pub mod MovesPrograms

@@ -1,5 +1,5 @@
 -- What spells a phrase before a rest spells it before any other rest, and in any text that spells its names alike.
-use Rattle.std.proofs.Common.{◌≡◌, ℕ, zero, suc, List, [], ◌∷◌, ◌++◌, codes, slice_range, refl, sym, ap, ◌∙◌, subst, append_assoc, inl, inr}
+use Rattle.std.proofs.Common.{◌≡◌, ◌≤◌, ◌<◌, ℕ, zero, suc, List, [], ◌∷◌, ◌++◌, codes, slice_range, refl, sym, ap, ◌∙◌, subst, append_assoc, inl, inr}
 use Rattle.std.specs.Str.{bytes_eq}
 use Rattle.c_lex.specs.declared.keyword.Keyword.{Keyword}
 use Rattle.c_lex.specs.declared.keyword.Keyword.TheVariants as keywords
@@ -15,10 +15,10 @@ use Rattle.c_syntax.specs.declared.expression.Field.TheVariants as fields
 use Rattle.c_syntax.specs.declared.expression.Literal.TheVariants as literals
 use Rattle.c_syntax.specs.declared.expression.Identifier.{Identifier}
 use Rattle.c_syntax.specs.Expression.{Expression, Constant, Variable, Information, Call, Parentheses, Index, Postfix, Prefix, Unary, Cast, Binary, Conditional, Assign, Comma, Arguments, Done, Next}
-use Rattle.c_syntax.specs.Expressions.{literal_kind, IsInteger, IsField, SpellsExpression, SpellsArguments, SpellsMoreArguments, Derives}
+use Rattle.c_syntax.specs.Expressions.{rank, literal_kind, IsInteger, OfLevel, TighterThan, IsEnclosed, IsApplied, IsContinued, IsIntroduced, IsElement, IsField, SpellsExpression, SpellsArguments, SpellsMoreArguments, Derives}
 use Rattle.c_syntax.specs.Faults.{Alike}
 use Rattle.c_syntax.specs.Limits as limits
-use Rattle.c_syntax.specs.Operators.{binary_punctuator, unary_punctuator, increment_punctuator, assignment_punctuator}
+use Rattle.c_syntax.specs.Operators.{postfix, unary, cast, logical_or, conditional, assignment, comma, level, binary_punctuator, unary_punctuator, increment_punctuator, assignment_punctuator}
 use Rattle.c_syntax.specs.Steps.{Step, At, After, With, Choose, Set, And, Tail}
 use Rattle.c_syntax.specs.Tokens.{token, IsKind, IsPunctuator, IsIdentifier, HasPunctuator, HasKeyword, HasWord}
 use Rattle.c_syntax.specs.Types.{spellings, AreKeywords, IsOneOf, IsBase, AreStars, IsType}
@@ -106,70 +106,239 @@ type c text ts rest h = map (both (base c.base text ts h.0 h.1) (stars c.pointer
 
 -- ---- expressions
 
-pub field : (f : Field) (text : List ℕ) (ts rest : List Token) → IsField text f ts rest → Moves (λ t. IsField t f) text ts rest
+pub punctuator : (s : Punctuator) (at : ℕ) (text : List ℕ) (ts rest : List Token)
+    → IsPunctuator s at ts rest → Moves (λ t. IsPunctuator s at) text ts rest
+punctuator s at text ts rest h = kind (kinds.Punctuator s) at text ts rest h
+
+of_level : {R : Phrase} {text : List ℕ} {ts rest : List Token} (l : ℕ) (e : Expression)
+    → rank e ≤ l → Moves R text ts rest → Moves (λ t. OfLevel l e (R t)) text ts rest
+of_level l e f m = map m (λ t us vs g. record { fits = f; spells = g })
+
+tighter_than : {R : Phrase} {text : List ℕ} {ts rest : List Token} (l : ℕ) (e : Expression)
+    → rank e < l → Moves R text ts rest → Moves (λ t. TighterThan l e (R t)) text ts rest
+tighter_than l e f m = map m (λ t us vs g. record { fits = f; spells = g })
+
+enclosed : {R : Phrase} {text : List ℕ} {ts a b rest : List Token} (left right : Punctuator)
+    (at : ℕ)
+    → IsPunctuator left at ts a → Moves R text a b → HasPunctuator right b rest
+    → Moves (λ t. IsEnclosed left right at (R t)) text ts rest
+enclosed {text = text} {ts = ts} {a = a} {b = b} {rest = rest} left right at opening m closing =
+    map (both (punctuator left at text ts a opening)
+    (both m (has_punctuator right text b rest closing)))
+    (λ t us vs g. record {
+      after_opening = g.0;
+      after_inner = g.2.0;
+      opening = g.1;
+      inner = g.2.1;
+      closing = g.2.2;
+    })
+
+applied : {R S : Phrase} {text : List ℕ} {ts mid rest : List Token} → Moves R text ts mid
+    → Moves S text mid rest → Moves (λ t. IsApplied (R t) (S t)) text ts rest
+applied m n =
+    map (both m n) (λ t us vs g. record { after_operator = g.0; operator = g.1; operand = g.2 })
+
+continued : {R S : Phrase} {text : List ℕ} {ts mid rest : List Token} → Moves R text ts mid
+    → Moves S text mid rest → Moves (λ t. IsContinued (R t) (S t)) text ts rest
+continued m n =
+    map (both m n) (λ t us vs g. record { after_operand = g.0; operand = g.1; step = g.2 })
+
+introduced : (at : ℕ) (text : List ℕ) (ts rest : List Token) → IsIntroduced text at ts rest
+    → Moves (λ t. IsIntroduced t at) text ts rest
+introduced at text ts rest h =
+    map
+    (both
+    (kind (kinds.Keyword keywords.GetExceptionInformation) at text ts h.after_keyword h.keyword)
+    (both
+    (has_punctuator punctuators.OpenParenthesis text h.after_keyword h.after_opening h.opening)
+    (both
+    (has_punctuator punctuators.CloseParenthesis text h.after_opening h.after_closing h.closing)
+    (both (has_punctuator punctuators.Arrow text h.after_closing h.after_arrow h.arrow)
+    (both (has_word (codes "ExceptionRecord") text h.after_arrow h.after_record h.of_record)
+    (has_punctuator punctuators.Arrow text h.after_record rest h.last_arrow))))))
+    (λ t us vs g.
+    let from_opening = g.2 in
+    let from_closing = from_opening.2 in
+    let from_arrow = from_closing.2 in
+    let from_record = from_arrow.2 in
+    record {
+      after_keyword = g.0;
+      after_opening = from_opening.0;
+      after_closing = from_closing.0;
+      after_arrow = from_arrow.0;
+      after_record = from_record.0;
+      keyword = g.1;
+      opening = from_opening.1;
+      closing = from_closing.1;
+      arrow = from_arrow.1;
+      of_record = from_record.1;
+      last_arrow = from_record.2;
+    })
+
+element : (n at : ℕ) (text : List ℕ) (ts rest : List Token) → IsElement text n at ts rest
+    → Moves (λ t. IsElement t n at) text ts rest
+element n at text ts rest h =
+    map
+    (both (has_word (codes "ExceptionInformation") text ts h.after_word h.word)
+    (both (has_punctuator punctuators.OpenBracket text h.after_word h.after_opening h.opening)
+    (both (integer n at text h.after_opening h.after_index h.index)
+    (has_punctuator punctuators.CloseBracket text h.after_index rest h.closing))))
+    (λ t us vs g.
+    let from_opening = g.2 in
+    let from_index = from_opening.2 in
+    record {
+      after_word = g.0;
+      after_opening = from_opening.0;
+      after_index = from_index.0;
+      word = g.1;
+      opening = from_opening.1;
+      index = from_index.1;
+      closing = from_index.2;
+    })
+
+pub field : (f : Field) (text : List ℕ) (ts rest : List Token) → IsField text f ts rest
+    → Moves (λ t. IsField t f) text ts rest
 field fields.Code text ts rest h = has_word (codes "ExceptionCode") text ts rest h
 field fields.Flags text ts rest h = has_word (codes "ExceptionFlags") text ts rest h
 field fields.Count text ts rest h = has_word (codes "NumberParameters") text ts rest h
-field (fields.Information index at) text ts rest h =
-    map (both (has_word (codes "ExceptionInformation") text ts h.0 h.3) (both (has_punctuator punctuators.OpenBracket text h.0 h.1 h.4) (both (integer index at text h.1 h.2 h.5) (has_punctuator punctuators.CloseBracket text h.2 rest h.6))))
-    (λ t us vs g. (g.0, g.2.0, g.2.2.0, g.1, g.2.1, g.2.2.1, g.2.2.2))
-
-pub punctuator : (s : Punctuator) (at : ℕ) (text : List ℕ) (ts rest : List Token) → IsPunctuator s at ts rest → Moves (λ t. IsPunctuator s at) text ts rest
-punctuator s at text ts rest h = kind (kinds.Punctuator s) at text ts rest h
+field (fields.Information n at) text ts rest h = element n at text ts rest h
 
 mutual
-  pub expression : (e : Expression) (text : List ℕ) (ts rest : List Token) → SpellsExpression text e ts rest → Moves (λ t. SpellsExpression t e) text ts rest
+  pub expression : (e : Expression) (text : List ℕ) (ts rest : List Token)
+      → SpellsExpression text e ts rest → Moves (λ t. SpellsExpression t e) text ts rest
   expression (Constant at literal) text ts rest h = kind (literal_kind literal) at text ts rest h
   expression (Variable n) text ts rest h = name n text ts rest h
   expression (Information at f) text ts rest h =
-      map (both (kind (kinds.Keyword keywords.GetExceptionInformation) at text ts h.0 h.6) (both (has_punctuator punctuators.OpenParenthesis text h.0 h.1 h.7) (both (has_punctuator punctuators.CloseParenthesis text h.1 h.2 h.8)
-      (both (has_punctuator punctuators.Arrow text h.2 h.3 h.9) (both (has_word (codes "ExceptionRecord") text h.3 h.4 h.10) (both (has_punctuator punctuators.Arrow text h.4 h.5 h.11) (field f text h.5 rest h.12)))))))
-      (λ t us vs g. (g.0, g.2.0, g.2.2.0, g.2.2.2.0, g.2.2.2.2.0, g.2.2.2.2.2.0, g.1, g.2.1, g.2.2.1, g.2.2.2.1, g.2.2.2.2.1, g.2.2.2.2.2.1, g.2.2.2.2.2.2))
+      map
+      (both (introduced at text ts h.after_introduction h.introduction)
+      (field f text h.after_introduction rest h.field))
+      (λ t us vs g. record { after_introduction = g.0; introduction = g.1; field = g.2 })
   expression (Call n es) text ts rest h =
-      map (both (name n text ts h.0 h.2) (both (has_punctuator punctuators.OpenParenthesis text h.0 h.1 h.3) (arguments es text h.1 rest h.4))) (λ t us vs g. (g.0, g.2.0, g.1, g.2.1, g.2.2))
+      map
+      (both (name n text ts h.after_name h.called)
+      (both
+      (has_punctuator punctuators.OpenParenthesis text h.after_name h.after_opening h.opening)
+      (arguments es text h.after_opening rest h.arguments)))
+      (λ t us vs g. record {
+        after_name = g.0;
+        after_opening = g.2.0;
+        called = g.1;
+        opening = g.2.1;
+        arguments = g.2.2;
+      })
   expression (Parentheses at e) text ts rest h =
-      map (both (punctuator punctuators.OpenParenthesis at text ts h.0 h.2) (both (expression e text h.0 h.1 h.3) (has_punctuator punctuators.CloseParenthesis text h.1 rest h.4))) (λ t us vs g. (g.0, g.2.0, g.1, g.2.1, g.2.2))
+      enclosed punctuators.OpenParenthesis punctuators.CloseParenthesis at h.opening
+      (expression e text h.after_opening h.after_inner h.inner) h.closing
   expression (Index e at i) text ts rest h =
-      map (both (expression e text ts h.0 h.4) (both (punctuator punctuators.OpenBracket at text h.0 h.1 h.5) (both (expression i text h.1 h.2 h.6) (has_punctuator punctuators.CloseBracket text h.2 rest h.7))))
-      (λ t us vs g. (g.0, g.2.0, g.2.2.0, h.3, g.1, g.2.1, g.2.2.1, g.2.2.2))
-  expression (Postfix e op at) text ts rest h = map (both (expression e text ts h.0 h.2) (punctuator (increment_punctuator op) at text h.0 rest h.3)) (λ t us vs g. (g.0, h.1, g.1, g.2))
-  expression (Prefix at op e) text ts rest h = map (both (punctuator (increment_punctuator op) at text ts h.0 h.1) (expression e text h.0 rest h.3)) (λ t us vs g. (g.0, g.1, h.2, g.2))
-  expression (Unary at op e) text ts rest h = map (both (punctuator (unary_punctuator op) at text ts h.0 h.1) (expression e text h.0 rest h.3)) (λ t us vs g. (g.0, g.1, h.2, g.2))
+      continued
+      (of_level postfix e h.operand.fits (expression e text ts h.after_operand h.operand.spells))
+      (enclosed punctuators.OpenBracket punctuators.CloseBracket at h.step.opening
+      (expression i text h.step.after_opening h.step.after_inner h.step.inner) h.step.closing)
+  expression (Postfix e op at) text ts rest h =
+      continued
+      (of_level postfix e h.operand.fits (expression e text ts h.after_operand h.operand.spells))
+      (punctuator (increment_punctuator op) at text h.after_operand rest h.step)
+  expression (Prefix at op e) text ts rest h =
+      applied (punctuator (increment_punctuator op) at text ts h.after_operator h.operator)
+      (of_level unary e h.operand.fits (expression e text h.after_operator rest h.operand.spells))
+  expression (Unary at op e) text ts rest h =
+      applied (punctuator (unary_punctuator op) at text ts h.after_operator h.operator)
+      (of_level cast e h.operand.fits (expression e text h.after_operator rest h.operand.spells))
   expression (Cast at to e) text ts rest h =
-      map (both (punctuator punctuators.OpenParenthesis at text ts h.0 h.3) (both (type to text h.0 h.1 h.4) (both (has_punctuator punctuators.CloseParenthesis text h.1 h.2 h.5) (expression e text h.2 rest h.7))))
-      (λ t us vs g. (g.0, g.2.0, g.2.2.0, g.1, g.2.1, g.2.2.1, h.6, g.2.2.2))
+      applied
+      (enclosed punctuators.OpenParenthesis punctuators.CloseParenthesis at h.operator.opening
+      (type to text h.operator.after_opening h.operator.after_inner h.operator.inner)
+      h.operator.closing)
+      (of_level cast e h.operand.fits (expression e text h.after_operator rest h.operand.spells))
   expression (Binary e at op f) text ts rest h =
-      map (both (expression e text ts h.0 h.3) (both (punctuator (binary_punctuator op) at text h.0 h.1 h.4) (expression f text h.1 rest h.6))) (λ t us vs g. (g.0, g.2.0, h.2, g.1, g.2.1, h.5, g.2.2))
+      continued
+      (of_level (level op) e h.operand.fits
+      (expression e text ts h.after_operand h.operand.spells))
+      (applied
+      (punctuator (binary_punctuator op) at text h.after_operand h.step.after_operator
+      h.step.operator)
+      (tighter_than (level op) f h.step.operand.fits
+      (expression f text h.step.after_operator rest h.step.operand.spells)))
   expression (Conditional e at f i) text ts rest h =
-      map (both (expression e text ts h.0 h.5) (both (punctuator punctuators.Question at text h.0 h.1 h.6) (both (expression f text h.1 h.2 h.7) (both (has_punctuator punctuators.Colon text h.2 h.3 h.8) (expression i text h.3 rest h.10)))))
-      (λ t us vs g. (g.0, g.2.0, g.2.2.0, g.2.2.2.0, h.4, g.1, g.2.1, g.2.2.1, g.2.2.2.1, h.9, g.2.2.2.2))
+      continued
+      (of_level logical_or e h.operand.fits
+      (expression e text ts h.after_operand h.operand.spells))
+      (applied
+      (enclosed punctuators.Question punctuators.Colon at h.step.operator.opening
+      (expression f text h.step.operator.after_opening h.step.operator.after_inner
+      h.step.operator.inner) h.step.operator.closing)
+      (of_level conditional i h.step.operand.fits
+      (expression i text h.step.after_operator rest h.step.operand.spells)))
   expression (Assign e at op f) text ts rest h =
-      map (both (expression e text ts h.0 h.3) (both (punctuator (assignment_punctuator op) at text h.0 h.1 h.4) (expression f text h.1 rest h.6))) (λ t us vs g. (g.0, g.2.0, h.2, g.1, g.2.1, h.5, g.2.2))
+      continued
+      (of_level unary e h.operand.fits (expression e text ts h.after_operand h.operand.spells))
+      (applied
+      (punctuator (assignment_punctuator op) at text h.after_operand h.step.after_operator
+      h.step.operator)
+      (of_level assignment f h.step.operand.fits
+      (expression f text h.step.after_operator rest h.step.operand.spells)))
   expression (Comma e at f) text ts rest h =
-      map (both (expression e text ts h.0 h.3) (both (punctuator punctuators.Comma at text h.0 h.1 h.4) (expression f text h.1 rest h.6))) (λ t us vs g. (g.0, g.2.0, h.2, g.1, g.2.1, h.5, g.2.2))
+      continued
+      (of_level comma e h.operand.fits (expression e text ts h.after_operand h.operand.spells))
+      (applied
+      (punctuator punctuators.Comma at text h.after_operand h.step.after_operator h.step.operator)
+      (of_level assignment f h.step.operand.fits
+      (expression f text h.step.after_operator rest h.step.operand.spells)))
 
-  pub arguments : (es : Arguments) (text : List ℕ) (ts rest : List Token) → SpellsArguments text es ts rest → Moves (λ t. SpellsArguments t es) text ts rest
+  pub arguments : (es : Arguments) (text : List ℕ) (ts rest : List Token)
+      → SpellsArguments text es ts rest → Moves (λ t. SpellsArguments t es) text ts rest
   arguments Done text ts rest h = has_punctuator punctuators.CloseParenthesis text ts rest h
-  arguments (Next e es) text ts rest h = map (both (expression e text ts h.0 h.2) (more_arguments es text h.0 rest h.3)) (λ t us vs g. (g.0, h.1, g.1, g.2))
+  arguments (Next e es) text ts rest h =
+      map
+      (both
+      (of_level assignment e h.first.fits (expression e text ts h.after_first h.first.spells))
+      (more_arguments es text h.after_first rest h.others))
+      (λ t us vs g. record { after_first = g.0; first = g.1; others = g.2 })
 
-  pub more_arguments : (es : Arguments) (text : List ℕ) (ts rest : List Token) → SpellsMoreArguments text es ts rest → Moves (λ t. SpellsMoreArguments t es) text ts rest
+  pub more_arguments : (es : Arguments) (text : List ℕ) (ts rest : List Token)
+      → SpellsMoreArguments text es ts rest → Moves (λ t. SpellsMoreArguments t es) text ts rest
   more_arguments Done text ts rest h = has_punctuator punctuators.CloseParenthesis text ts rest h
   more_arguments (Next e es) text ts rest h =
-      map (both (has_punctuator punctuators.Comma text ts h.0 h.2) (both (expression e text h.0 h.1 h.4) (more_arguments es text h.1 rest h.5))) (λ t us vs g. (g.0, g.2.0, g.1, h.3, g.2.1, g.2.2))
+      map
+      (both (has_punctuator punctuators.Comma text ts h.after_comma h.comma)
+      (both
+      (of_level assignment e h.next.fits
+      (expression e text h.after_comma h.after_next h.next.spells))
+      (more_arguments es text h.after_next rest h.others)))
+      (λ t us vs g. record {
+        after_comma = g.0;
+        after_next = g.2.0;
+        comma = g.1;
+        next = g.2.1;
+        others = g.2.2;
+      })
 
-pub derives : (l : ℕ) (e : Expression) (text : List ℕ) (ts rest : List Token) → Derives text l e ts rest → Moves (λ t. Derives t l e) text ts rest
-derives l e text ts rest h = map (expression e text ts rest h.spells) (λ t us vs g. record { fits = h.fits; spells = g })
+pub derives : (l : ℕ) (e : Expression) (text : List ℕ) (ts rest : List Token)
+    → Derives text l e ts rest → Moves (λ t. Derives t l e) text ts rest
+derives l e text ts rest h = of_level l e h.fits (expression e text ts rest h.spells)
 
-pub tail : (s : Step) (text : List ℕ) (ts rest : List Token) → Tail text s ts rest → Moves (λ t. Tail t s) text ts rest
+pub tail : (s : Step) (text : List ℕ) (ts rest : List Token) → Tail text s ts rest
+    → Moves (λ t. Tail t s) text ts rest
 tail (At at i) text ts rest h =
-    map (both (punctuator punctuators.OpenBracket at text ts h.0 h.2) (both (expression i text h.0 h.1 h.3) (has_punctuator punctuators.CloseBracket text h.1 rest h.4))) (λ t us vs g. (g.0, g.2.0, g.1, g.2.1, g.2.2))
+    enclosed punctuators.OpenBracket punctuators.CloseBracket at h.opening
+    (expression i text h.after_opening h.after_inner h.inner) h.closing
 tail (After op at) text ts rest h = punctuator (increment_punctuator op) at text ts rest h
-tail (With at op f) text ts rest h = map (both (punctuator (binary_punctuator op) at text ts h.0 h.1) (expression f text h.0 rest h.3)) (λ t us vs g. (g.0, g.1, h.2, g.2))
+tail (With at op f) text ts rest h =
+    applied (punctuator (binary_punctuator op) at text ts h.after_operator h.operator)
+    (tighter_than (level op) f h.operand.fits
+    (expression f text h.after_operator rest h.operand.spells))
 tail (Choose at f i) text ts rest h =
-    map (both (punctuator punctuators.Question at text ts h.0 h.3) (both (expression f text h.0 h.1 h.4) (both (has_punctuator punctuators.Colon text h.1 h.2 h.5) (expression i text h.2 rest h.7))))
-    (λ t us vs g. (g.0, g.2.0, g.2.2.0, g.1, g.2.1, g.2.2.1, h.6, g.2.2.2))
-tail (Set at op f) text ts rest h = map (both (punctuator (assignment_punctuator op) at text ts h.0 h.1) (expression f text h.0 rest h.3)) (λ t us vs g. (g.0, g.1, h.2, g.2))
-tail (And at f) text ts rest h = map (both (punctuator punctuators.Comma at text ts h.0 h.1) (expression f text h.0 rest h.3)) (λ t us vs g. (g.0, g.1, h.2, g.2))
+    applied
+    (enclosed punctuators.Question punctuators.Colon at h.operator.opening
+    (expression f text h.operator.after_opening h.operator.after_inner h.operator.inner)
+    h.operator.closing)
+    (derives conditional i text h.after_operator rest h.operand)
+tail (Set at op f) text ts rest h =
+    applied (punctuator (assignment_punctuator op) at text ts h.after_operator h.operator)
+    (derives assignment f text h.after_operator rest h.operand)
+tail (And at f) text ts rest h =
+    applied (punctuator punctuators.Comma at text ts h.after_operator h.operator)
+    (derives assignment f text h.after_operator rest h.operand)
 
 -- ---- filters
 
@@ -179,7 +348,9 @@ accepts (Constant at (literals.CharacterConstant value)) text text' ts rest h a 
 accepts (Variable n) text text' ts rest h a = ap (λ z. bytes_eq z (codes "EXCEPTION_EXECUTE_HANDLER")) (sym (subst (λ z. Alike text text' z) h a).0)
 accepts (Information at f) text text' ts rest h a = refl
 accepts (Call n es) text text' ts rest h a = refl
-accepts (Parentheses at e) text text' ts rest h a = accepts e text text' h.0 h.1 h.3 (subst (λ z. Alike text text' z) h.2.1 a).1
+accepts (Parentheses at e) text text' ts rest h a =
+    accepts e text text' h.after_opening h.after_inner h.inner
+    (subst (λ z. Alike text text' z) h.opening.1 a).1
 accepts (Index e at i) text text' ts rest h a = refl
 accepts (Postfix e op at) text text' ts rest h a = refl
 accepts (Prefix at op e) text text' ts rest h a = refl

@@ -1,15 +1,12 @@
 -- There is one tree at most for an expression that stops.
-use Rattle.std.proofs.Common.{◌≡◌, ◌≤◌, ◌<◌, ◌-◌, ℕ, zero, suc, List, [], ◌∷◌, Option, codes, slice_range, length, refl, sym, ap, ◌∙◌, subst, arith}
+use Rattle.std.proofs.Common.{◌≡◌, ◌≤◌, ℕ, zero, suc, List, codes, slice_range, length, refl, sym, ap, ◌∙◌, subst, arith}
 use Rattle.c_lex.specs.declared.keyword.Keyword.TheVariants as keywords
 use Rattle.c_lex.specs.declared.punctuator.Punctuator.{Punctuator}
 use Rattle.c_lex.specs.declared.punctuator.Punctuator.TheVariants as punctuators
 use Rattle.c_lex.specs.declared.token.Kind.TheVariants as kinds
 use Rattle.c_lex.specs.declared.token.Token.{Token}
-use Rattle.c_syntax.specs.declared.operator.Arithmetic.{Arithmetic}
-use Rattle.c_syntax.specs.declared.operator.BinaryOperator.{BinaryOperator}
 use Rattle.c_syntax.specs.declared.operator.UnaryOperator.{UnaryOperator}
 use Rattle.c_syntax.specs.declared.operator.Increment.{Increment}
-use Rattle.c_syntax.specs.declared.operator.Increment.TheVariants as increments
 use Rattle.c_syntax.specs.declared.expression.CType.{CType}
 use Rattle.c_syntax.specs.declared.expression.Field.{Field}
 use Rattle.c_syntax.specs.declared.expression.Field.TheVariants as fields
@@ -17,132 +14,15 @@ use Rattle.c_syntax.specs.declared.expression.Literal.{Literal}
 use Rattle.c_syntax.specs.declared.expression.Literal.TheVariants as literals
 use Rattle.c_syntax.specs.declared.expression.Identifier.{Identifier}
 use Rattle.c_syntax.specs.Expression.{Expression, Constant, Variable, Information, Call, Parentheses, Index, Postfix, Prefix, Unary, Cast, Binary, Conditional, Assign, Comma, Arguments, Done, Next, height, heights}
-use Rattle.c_syntax.specs.Expressions.{rank, literal_kind, IsInteger, IsField, SpellsExpression, SpellsArguments, SpellsMoreArguments, Derives}
-use Rattle.c_syntax.specs.Follow.{punctuator_follows, follows, Stops, OneExpression}
-use Rattle.c_syntax.specs.Operators.{level, binary_punctuator, unary_punctuator, increment_punctuator, assignment_punctuator}
+use Rattle.c_syntax.specs.Expressions.{literal_kind, IsInteger, IsField, SpellsExpression, SpellsArguments, SpellsMoreArguments, Derives}
+use Rattle.c_syntax.specs.Follow.{follows, Stops, OneExpression}
+use Rattle.c_syntax.specs.Operators.{primary, unary, cast, assignment, comma, unary_punctuator, increment_punctuator}
 use Rattle.c_syntax.specs.Tokens.{HasPunctuator, HasWord}
-use Rattle.c_syntax.specs.Steps.{Step, At, After, With, Choose, Set, And, apply, Tail, Run, IsHead, Closes}
-use Rattle.c_syntax.proofs.Spine.{spine, levels, follows_punctuator, step_follows, closes, run_reach, run_rank, run_height}
-use Rattle.c_syntax.proofs.Fronts.{kind_same, punctuator_same, has_same, name_same, same_binary, same_unary, same_increment, same_assignment, punctuator_class, kind_class, front, increment_class, unary_class, base_front, type_once, close_type, close_star}
-
--- ---- of lower expressions
-
-abbrev pub Below : List ℕ → ℕ → Type 0
-Below text n = (l : ℕ) (e f : Expression) (ts rest end : List Token) → height e < n → Derives text l e ts rest → Derives text l f ts end → Stops l rest → Stops l end → (e ≡ f) × (rest ≡ end)
-
-pub rank_low : (e : Expression) → rank e ≤ 16
-rank_low (Constant at literal) = omega arith
-rank_low (Variable name) = omega arith
-rank_low (Information at field) = omega arith
-rank_low (Call name es) = omega arith
-rank_low (Parentheses at e) = omega arith
-rank_low (Index a at i) = omega arith
-rank_low (Postfix e op at) = omega arith
-rank_low (Prefix at op e) = omega arith
-rank_low (Unary at op e) = omega arith
-rank_low (Cast at to e) = omega arith
-rank_low (Binary a at op b) = let x = (levels op).1 in omega arith
-rank_low (Conditional c at a b) = omega arith
-rank_low (Assign a at op b) = omega arith
-rank_low (Comma a at b) = omega arith
-
-part : (text : List ℕ) (n l : ℕ) (e f : Expression) (ts us rest end : List Token) → Below text n → ts ≡ us → height e < n → rank e ≤ l → rank f ≤ l → SpellsExpression text e ts rest → SpellsExpression text f us end → Stops l rest → Stops l end → (e ≡ f) × (rest ≡ end)
-part text n l e f ts us rest end u p low a b h g s z =
-    let k : SpellsExpression text f ts end = subst (λ (x : List Token). SpellsExpression text f x end) (sym p) g in
-    u l e f ts rest end low (record { fits = a; spells = h }) (record { fits = b; spells = k }) s z
-
-whole : (text : List ℕ) (n : ℕ) (e f : Expression) (ts us rest end : List Token) → Below text n → ts ≡ us → height e < n → SpellsExpression text e ts rest → SpellsExpression text f us end → Stops 16 rest → Stops 16 end → (e ≡ f) × (rest ≡ end)
-whole text n e f ts us rest end u p low h g s z = part text n 16 e f ts us rest end u p low (rank_low e) (rank_low f) h g s z
-
-pub has_stops : (s : Punctuator) (ts rest : List Token) (l : ℕ) → HasPunctuator s ts rest → l < punctuator_follows s → Stops l ts
-has_stops s ts rest l h q = let p = follows_punctuator s h.0 ts rest (punctuator_follows s) h.1 refl in omega arith
-
--- ---- steps
-
-bracket_not : (op : Increment) → increment_punctuator op ≡ punctuators.OpenBracket → ⊥
-bracket_not increments.Increment e = cc
-bracket_not increments.Decrement e = cc
-
--- a step and what follows it are found by where it begins
-pub same_tail : (text : List ℕ) (n : ℕ) (left left' : Expression) (s s' : Step) (ts rest end : List Token) → Below text n → height (apply left s) ≤ n → Closes (apply left s) rest → Closes (apply left s') end → Tail text s ts rest → Tail text s' ts end → (s ≡ s') × (rest ≡ end)
-same_tail text n left left' (At at i) (At to j) ts rest end u low r z h g =
-    let a = punctuator_same punctuators.OpenBracket punctuators.OpenBracket at to ts ts h.0 g.0 refl h.2 g.2 in
-    let b = whole text n i j h.0 g.0 h.1 g.1 u a.2 (omega arith) h.3 g.3 (has_stops punctuators.CloseBracket h.1 rest 16 h.4 (omega arith)) (has_stops punctuators.CloseBracket g.1 end 16 g.4 (omega arith)) in
-    (ap (λ (x : ℕ). At x i) a.1 ∙ ap (λ (x : Expression). At to x) b.0, has_same punctuators.CloseBracket h.1 g.1 rest end b.1 h.4 g.4)
-same_tail text n left left' (At at i) (After op' to) ts rest end u low r z h g = absurd (bracket_not op' (punctuator_same (increment_punctuator op') punctuators.OpenBracket to at ts ts end h.0 refl g h.2).0)
-same_tail text n left left' (At at i) (With to op' f') ts rest end u low r z h g = let p = step_follows text left (At at i) ts rest h in let q = step_follows text left' (With to op' f') ts end g in let x' = (levels op').0 in let y' = (levels op').1 in absurd (omega arith)
-same_tail text n left left' (At at i) (Choose to f' g'') ts rest end u low r z h g = let p = step_follows text left (At at i) ts rest h in let q = step_follows text left' (Choose to f' g'') ts end g in absurd (omega arith)
-same_tail text n left left' (At at i) (Set to op' f') ts rest end u low r z h g = let p = step_follows text left (At at i) ts rest h in let q = step_follows text left' (Set to op' f') ts end g in absurd (omega arith)
-same_tail text n left left' (At at i) (And to f') ts rest end u low r z h g = let p = step_follows text left (At at i) ts rest h in let q = step_follows text left' (And to f') ts end g in absurd (omega arith)
-same_tail text n left left' (After op at) (At to j) ts rest end u low r z h g = absurd (bracket_not op (punctuator_same (increment_punctuator op) punctuators.OpenBracket at to ts ts rest g.0 refl h g.2).0)
-same_tail text n left left' (After op at) (After op' to) ts rest end u low r z h g =
-    let a = punctuator_same (increment_punctuator op) (increment_punctuator op') at to ts ts rest end refl h g in
-    (ap (λ (x : Increment). After x at) (same_increment op op' a.0) ∙ ap (λ (x : ℕ). After op' x) a.1, a.2)
-same_tail text n left left' (After op at) (With to op' f') ts rest end u low r z h g = let p = step_follows text left (After op at) ts rest h in let q = step_follows text left' (With to op' f') ts end g in let x' = (levels op').0 in let y' = (levels op').1 in absurd (omega arith)
-same_tail text n left left' (After op at) (Choose to f' g'') ts rest end u low r z h g = let p = step_follows text left (After op at) ts rest h in let q = step_follows text left' (Choose to f' g'') ts end g in absurd (omega arith)
-same_tail text n left left' (After op at) (Set to op' f') ts rest end u low r z h g = let p = step_follows text left (After op at) ts rest h in let q = step_follows text left' (Set to op' f') ts end g in absurd (omega arith)
-same_tail text n left left' (After op at) (And to f') ts rest end u low r z h g = let p = step_follows text left (After op at) ts rest h in let q = step_follows text left' (And to f') ts end g in absurd (omega arith)
-same_tail text n left left' (With at op f) (At to j) ts rest end u low r z h g = let p = step_follows text left (With at op f) ts rest h in let q = step_follows text left' (At to j) ts end g in let x = (levels op).0 in let y = (levels op).1 in absurd (omega arith)
-same_tail text n left left' (With at op f) (After op' to) ts rest end u low r z h g = let p = step_follows text left (With at op f) ts rest h in let q = step_follows text left' (After op' to) ts end g in let x = (levels op).0 in let y = (levels op).1 in absurd (omega arith)
-same_tail text n left left' (With at op f) (With to op' f') ts rest end u low r z h g =
-    let a = punctuator_same (binary_punctuator op) (binary_punctuator op') at to ts ts h.0 g.0 refl h.1 g.1 in
-    let q = same_binary op op' a.0 in
-    let v : level op ≡ level op' = ap level q in
-    let x = (levels op).0 in
-    let b = part text n (level op - 1) f f' h.0 g.0 rest end u a.2 (omega arith) (omega (arith, h.2)) (omega (arith, g.2)) h.3 g.3 (omega arith) (omega arith) in
-    (ap (λ (y : ℕ). With y op f) a.1 ∙ ap (λ (y : BinaryOperator). With to y f) q ∙ ap (λ (y : Expression). With to op' y) b.0, b.1)
-same_tail text n left left' (With at op f) (Choose to f' g'') ts rest end u low r z h g = let p = step_follows text left (With at op f) ts rest h in let q = step_follows text left' (Choose to f' g'') ts end g in let x = (levels op).0 in let y = (levels op).1 in absurd (omega arith)
-same_tail text n left left' (With at op f) (Set to op' f') ts rest end u low r z h g = let p = step_follows text left (With at op f) ts rest h in let q = step_follows text left' (Set to op' f') ts end g in let x = (levels op).0 in let y = (levels op).1 in absurd (omega arith)
-same_tail text n left left' (With at op f) (And to f') ts rest end u low r z h g = let p = step_follows text left (With at op f) ts rest h in let q = step_follows text left' (And to f') ts end g in let x = (levels op).0 in let y = (levels op).1 in absurd (omega arith)
-same_tail text n left left' (Choose at f g') (At to j) ts rest end u low r z h g = let p = step_follows text left (Choose at f g') ts rest h in let q = step_follows text left' (At to j) ts end g in absurd (omega arith)
-same_tail text n left left' (Choose at f g') (After op' to) ts rest end u low r z h g = let p = step_follows text left (Choose at f g') ts rest h in let q = step_follows text left' (After op' to) ts end g in absurd (omega arith)
-same_tail text n left left' (Choose at f g') (With to op' f') ts rest end u low r z h g = let p = step_follows text left (Choose at f g') ts rest h in let q = step_follows text left' (With to op' f') ts end g in let x' = (levels op').0 in let y' = (levels op').1 in absurd (omega arith)
-same_tail text n left left' (Choose at f g') (Choose to f' g'') ts rest end u low r z h g =
-    let a = punctuator_same punctuators.Question punctuators.Question at to ts ts h.0 g.0 refl h.3 g.3 in
-    let b = whole text n f f' h.0 g.0 h.1 g.1 u a.2 (omega arith) h.4 g.4 (has_stops punctuators.Colon h.1 h.2 16 h.5 (omega arith)) (has_stops punctuators.Colon g.1 g.2 16 g.5 (omega arith)) in
-    let c = has_same punctuators.Colon h.1 g.1 h.2 g.2 b.1 h.5 g.5 in
-    let d = part text n 14 g' g'' h.2 g.2 rest end u c (omega arith) h.6 g.6 h.7 g.7 r z in
-    (ap (λ (x : ℕ). Choose x f g') a.1 ∙ ap (λ (x : Expression). Choose to x g') b.0 ∙ ap (λ (x : Expression). Choose to f' x) d.0, d.1)
-same_tail text n left left' (Choose at f g') (Set to op' f') ts rest end u low r z h g = let p = step_follows text left (Choose at f g') ts rest h in let q = step_follows text left' (Set to op' f') ts end g in absurd (omega arith)
-same_tail text n left left' (Choose at f g') (And to f') ts rest end u low r z h g = let p = step_follows text left (Choose at f g') ts rest h in let q = step_follows text left' (And to f') ts end g in absurd (omega arith)
-same_tail text n left left' (Set at op f) (At to j) ts rest end u low r z h g = let p = step_follows text left (Set at op f) ts rest h in let q = step_follows text left' (At to j) ts end g in absurd (omega arith)
-same_tail text n left left' (Set at op f) (After op' to) ts rest end u low r z h g = let p = step_follows text left (Set at op f) ts rest h in let q = step_follows text left' (After op' to) ts end g in absurd (omega arith)
-same_tail text n left left' (Set at op f) (With to op' f') ts rest end u low r z h g = let p = step_follows text left (Set at op f) ts rest h in let q = step_follows text left' (With to op' f') ts end g in let x' = (levels op').0 in let y' = (levels op').1 in absurd (omega arith)
-same_tail text n left left' (Set at op f) (Choose to f' g'') ts rest end u low r z h g = let p = step_follows text left (Set at op f) ts rest h in let q = step_follows text left' (Choose to f' g'') ts end g in absurd (omega arith)
-same_tail text n left left' (Set at op f) (Set to op' f') ts rest end u low r z h g =
-    let a = punctuator_same (assignment_punctuator op) (assignment_punctuator op') at to ts ts h.0 g.0 refl h.1 g.1 in
-    let q = same_assignment op op' a.0 in
-    let b = part text n 15 f f' h.0 g.0 rest end u a.2 (omega arith) h.2 g.2 h.3 g.3 r z in
-    (ap (λ (y : ℕ). Set y op f) a.1 ∙ ap (λ (y : Option Arithmetic). Set to y f) q ∙ ap (λ (y : Expression). Set to op' y) b.0, b.1)
-same_tail text n left left' (Set at op f) (And to f') ts rest end u low r z h g = let p = step_follows text left (Set at op f) ts rest h in let q = step_follows text left' (And to f') ts end g in absurd (omega arith)
-same_tail text n left left' (And at f) (At to j) ts rest end u low r z h g = let p = step_follows text left (And at f) ts rest h in let q = step_follows text left' (At to j) ts end g in absurd (omega arith)
-same_tail text n left left' (And at f) (After op' to) ts rest end u low r z h g = let p = step_follows text left (And at f) ts rest h in let q = step_follows text left' (After op' to) ts end g in absurd (omega arith)
-same_tail text n left left' (And at f) (With to op' f') ts rest end u low r z h g = let p = step_follows text left (And at f) ts rest h in let q = step_follows text left' (With to op' f') ts end g in let x' = (levels op').0 in let y' = (levels op').1 in absurd (omega arith)
-same_tail text n left left' (And at f) (Choose to f' g'') ts rest end u low r z h g = let p = step_follows text left (And at f) ts rest h in let q = step_follows text left' (Choose to f' g'') ts end g in absurd (omega arith)
-same_tail text n left left' (And at f) (Set to op' f') ts rest end u low r z h g = let p = step_follows text left (And at f) ts rest h in let q = step_follows text left' (Set to op' f') ts end g in absurd (omega arith)
-same_tail text n left left' (And at f) (And to f') ts rest end u low r z h g =
-    let a = punctuator_same punctuators.Comma punctuators.Comma at to ts ts h.0 g.0 refl h.1 g.1 in
-    let b = part text n 15 f f' h.0 g.0 rest end u a.2 (omega arith) h.2 g.2 h.3 g.3 r z in
-    (ap (λ (y : ℕ). And y f) a.1 ∙ ap (λ (y : Expression). And to y) b.0, b.1)
-
-same_run : (text : List ℕ) (n l : ℕ) (left : Expression) (steps steps' : List Step) (ts : List Token) (e f : Expression) (rest end : List Token) → Below text n → height e ≤ n → rank e ≤ l → rank f ≤ l → Stops l rest → Stops l end → Run text left steps ts e rest → Run text left steps' ts f end → (e ≡ f) × (rest ≡ end)
-same_run text n l left [] [] ts e f rest end u low a b s z h g = (sym h.0 ∙ g.0, sym h.1 ∙ g.1)
-same_run text n l left [] (y ∷ steps') ts e f rest end u low a b s z h g =
-    let p = ap follows h.1 in
-    let q = step_follows text left y ts g.0 g.2 in
-    let r = run_rank text (apply left y) steps' g.0 f end g.3 in
-    absurd (omega arith)
-same_run text n l left (x ∷ steps) [] ts e f rest end u low a b s z h g =
-    let p = ap follows g.1 in
-    let q = step_follows text left x ts h.0 h.2 in
-    let r = run_rank text (apply left x) steps h.0 e rest h.3 in
-    absurd (omega arith)
-same_run text n l left (x ∷ steps) (y ∷ steps') ts e f rest end u low a b s z h g =
-    let k = run_height text (apply left x) steps h.0 e rest h.3 in
-    let p = same_tail text n left left x y ts h.0 g.0 u (omega arith) (closes (apply left x) h.0 (run_reach text (apply left x) steps h.0 e rest l h.3 a s)) (closes (apply left y) g.0 (run_reach text (apply left y) steps' g.0 f end l g.3 b z)) h.2 g.2 in
-    let v : Run text (apply left x) steps' g.0 f end = subst (λ (w : Step). Run text (apply left w) steps' g.0 f end) (sym p.0) g.3 in
-    let w : Run text (apply left x) steps' h.0 f end = subst (λ (w : List Token). Run text (apply left x) steps' w f end) (sym p.1) v in
-    same_run text n l (apply left x) steps steps' h.0 e f rest end u low a b s z h.3 w
+use Rattle.c_syntax.specs.Steps.{Run, IsHead, Closes}
+use Rattle.c_syntax.proofs.Spine.{spine, follows_punctuator, closes, run_reach, run_height}
+use Rattle.c_syntax.proofs.Fronts.{kind_same, punctuator_same, has_same, name_same, same_unary, same_increment, punctuator_class, kind_class, front, increment_class, unary_class, base_front, type_once, close_type, close_star}
+pub use Rattle.c_syntax.proofs.OneStep.{Below, rank_low, has_stops, same_tail}
+use Rattle.c_syntax.proofs.OneStep.{part, whole, same_run}
 
 -- ---- the first token
 
@@ -169,14 +49,14 @@ literal_class (literals.CharacterConstant value) = refl
 pub head_front : (text : List ℕ) (e : Expression) (ts rest : List Token) → IsHead e → SpellsExpression text e ts rest → front ts ≡ head_class e
 head_front text (Constant at literal) ts rest i h = ap front h.1 ∙ literal_class literal
 head_front text (Variable name) ts rest i h = ap front h
-head_front text (Information at field) ts rest i h = ap front h.6.1
-head_front text (Call name es) ts rest i h = ap front h.2
-head_front text (Parentheses at e) ts rest i h = ap front h.2.1
+head_front text (Information at field) ts rest i h = ap front h.introduction.keyword.1
+head_front text (Call name es) ts rest i h = ap front h.called
+head_front text (Parentheses at e) ts rest i h = ap front h.opening.1
 head_front text (Index a at j) ts rest i h = absurd i
 head_front text (Postfix e op at) ts rest i h = absurd i
-head_front text (Prefix at op e) ts rest i h = ap front h.1.1 ∙ increment_class op
-head_front text (Unary at op e) ts rest i h = ap front h.1.1 ∙ unary_class op
-head_front text (Cast at to e) ts rest i h = ap front h.3.1
+head_front text (Prefix at op e) ts rest i h = ap front h.operator.1 ∙ increment_class op
+head_front text (Unary at op e) ts rest i h = ap front h.operator.1 ∙ unary_class op
+head_front text (Cast at to e) ts rest i h = ap front h.operator.opening.1
 head_front text (Binary a at op b) ts rest i h = absurd i
 head_front text (Conditional c at a b) ts rest i h = absurd i
 head_front text (Assign a at op b) ts rest i h = absurd i
@@ -209,36 +89,51 @@ has_front s ts rest h = ap front h.1.1
 
 -- ---- arguments
 
-more_stops : (text : List ℕ) (es : Arguments) (ts rest : List Token) → SpellsMoreArguments text es ts rest → Stops 15 ts
-more_stops text Done ts rest h = has_stops punctuators.CloseParenthesis ts rest 15 h (omega arith)
-more_stops text (Next e es) ts rest h = has_stops punctuators.Comma ts h.0 15 h.2 (omega arith)
+more_stops : (text : List ℕ) (es : Arguments) (ts rest : List Token)
+    → SpellsMoreArguments text es ts rest → Stops assignment ts
+more_stops text Done ts rest h =
+    has_stops punctuators.CloseParenthesis ts rest assignment h (omega arith)
+more_stops text (Next e es) ts rest h =
+    has_stops punctuators.Comma ts h.after_comma assignment h.comma (omega arith)
 
 other_punctuator : (s z : Punctuator) (ts us rest end : List Token) → ts ≡ us → HasPunctuator s ts rest → HasPunctuator z us end → s ≡ z
 other_punctuator s z ts us rest end p h g = (punctuator_same s z h.0 g.0 ts us rest end p h.1 g.1).0
 
 more_once : (text : List ℕ) (n : ℕ) (es fs : Arguments) (ts us rest end : List Token) → Below text n → ts ≡ us → heights es ≤ n → SpellsMoreArguments text es ts rest → SpellsMoreArguments text fs us end → (es ≡ fs) × (rest ≡ end)
 more_once text n Done Done ts us rest end u p low h g = (refl, has_same punctuators.CloseParenthesis ts us rest end p h g)
-more_once text n Done (Next f fs) ts us rest end u p low h g = let e : punctuators.CloseParenthesis ≡ punctuators.Comma = other_punctuator punctuators.CloseParenthesis punctuators.Comma ts us rest g.0 p h g.2 in absurd cc
-more_once text n (Next e es) Done ts us rest end u p low h g = let e : punctuators.Comma ≡ punctuators.CloseParenthesis = other_punctuator punctuators.Comma punctuators.CloseParenthesis ts us h.0 end p h.2 g in absurd cc
+more_once text n Done (Next f fs) ts us rest end u p low h g =
+    let e : punctuators.CloseParenthesis ≡ punctuators.Comma = other_punctuator
+    punctuators.CloseParenthesis punctuators.Comma ts us rest g.after_comma p h g.comma in
+    absurd cc
+more_once text n (Next e es) Done ts us rest end u p low h g =
+    let e : punctuators.Comma ≡ punctuators.CloseParenthesis = other_punctuator punctuators.Comma
+    punctuators.CloseParenthesis ts us h.after_comma end p h.comma g in
+    absurd cc
 more_once text n (Next e es) (Next f fs) ts us rest end u p low h g =
-    let a = has_same punctuators.Comma ts us h.0 g.0 p h.2 g.2 in
-    let b = part text n 15 e f h.0 g.0 h.1 g.1 u a (omega arith) h.3 g.3 h.4 g.4 (more_stops text es h.1 rest h.5) (more_stops text fs g.1 end g.5) in
-    let c = more_once text n es fs h.1 g.1 rest end u b.1 (omega arith) h.5 g.5 in
+    let a = has_same punctuators.Comma ts us h.after_comma g.after_comma p h.comma g.comma in
+    let b = part text n assignment e f h.after_comma g.after_comma h.after_next g.after_next u a
+    (omega arith) h.next g.next (more_stops text es h.after_next rest h.others)
+    (more_stops text fs g.after_next end g.others) in
+    let c = more_once text n es fs h.after_next g.after_next rest end u b.1 (omega arith) h.others
+    g.others in
     (ap (λ (x : Expression). Next x es) b.0 ∙ ap (λ (x : Arguments). Next f x) c.0, c.1)
 
 arguments_once : (text : List ℕ) (n : ℕ) (es fs : Arguments) (ts us rest end : List Token) → Below text n → ts ≡ us → heights es ≤ n → SpellsArguments text es ts rest → SpellsArguments text fs us end → (es ≡ fs) × (rest ≡ end)
 arguments_once text n Done Done ts us rest end u p low h g = (refl, has_same punctuators.CloseParenthesis ts us rest end p h g)
 arguments_once text n Done (Next f fs) ts us rest end u p low h g =
     let a = has_front punctuators.CloseParenthesis ts rest h in
-    let b = expression_front text f us g.0 g.2 in
+    let b = expression_front text f us g.after_first g.first.spells in
     let c = ap front p in absurd (omega arith)
 arguments_once text n (Next e es) Done ts us rest end u p low h g =
     let a = has_front punctuators.CloseParenthesis us end g in
-    let b = expression_front text e ts h.0 h.2 in
+    let b = expression_front text e ts h.after_first h.first.spells in
     let c = ap front p in absurd (omega arith)
 arguments_once text n (Next e es) (Next f fs) ts us rest end u p low h g =
-    let b = part text n 15 e f ts us h.0 g.0 u p (omega arith) h.1 g.1 h.2 g.2 (more_stops text es h.0 rest h.3) (more_stops text fs g.0 end g.3) in
-    let c = more_once text n es fs h.0 g.0 rest end u b.1 (omega arith) h.3 g.3 in
+    let b = part text n assignment e f ts us h.after_first g.after_first u p (omega arith) h.first
+    g.first (more_stops text es h.after_first rest h.others)
+    (more_stops text fs g.after_first end g.others) in
+    let c = more_once text n es fs h.after_first g.after_first rest end u b.1 (omega arith) h.others
+    g.others in
     (ap (λ (x : Expression). Next x es) b.0 ∙ ap (λ (x : Arguments). Next f x) c.0, c.1)
 
 -- ---- fields and literals
@@ -265,23 +160,58 @@ field_once : (text : List ℕ) (a b : Field) (ts us rest end : List Token) → t
 field_once text fields.Code fields.Code ts us rest end p h g = (refl, (word_same text (codes "ExceptionCode") (codes "ExceptionCode") ts us rest end p h g).1)
 field_once text fields.Code fields.Flags ts us rest end p h g = let e : codes "ExceptionCode" ≡ codes "ExceptionFlags" = (word_same text (codes "ExceptionCode") (codes "ExceptionFlags") ts us rest end p h g).0 in let q = ap length e in absurd (omega arith)
 field_once text fields.Code fields.Count ts us rest end p h g = let e : codes "ExceptionCode" ≡ codes "NumberParameters" = (word_same text (codes "ExceptionCode") (codes "NumberParameters") ts us rest end p h g).0 in let q = ap length e in absurd (omega arith)
-field_once text fields.Code (fields.Information number to) ts us rest end p h g = let e : codes "ExceptionCode" ≡ codes "ExceptionInformation" = (word_same text (codes "ExceptionCode") (codes "ExceptionInformation") ts us rest g.0 p h g.3).0 in let q = ap length e in absurd (omega arith)
+field_once text fields.Code (fields.Information number to) ts us rest end p h g =
+    let e : codes "ExceptionCode" ≡ codes "ExceptionInformation" =
+    (word_same text (codes "ExceptionCode") (codes "ExceptionInformation") ts us rest
+    g.after_word p h g.word).0 in
+    let q = ap length e in
+    absurd (omega arith)
 field_once text fields.Flags fields.Code ts us rest end p h g = let e : codes "ExceptionFlags" ≡ codes "ExceptionCode" = (word_same text (codes "ExceptionFlags") (codes "ExceptionCode") ts us rest end p h g).0 in let q = ap length e in absurd (omega arith)
 field_once text fields.Flags fields.Flags ts us rest end p h g = (refl, (word_same text (codes "ExceptionFlags") (codes "ExceptionFlags") ts us rest end p h g).1)
 field_once text fields.Flags fields.Count ts us rest end p h g = let e : codes "ExceptionFlags" ≡ codes "NumberParameters" = (word_same text (codes "ExceptionFlags") (codes "NumberParameters") ts us rest end p h g).0 in let q = ap length e in absurd (omega arith)
-field_once text fields.Flags (fields.Information number to) ts us rest end p h g = let e : codes "ExceptionFlags" ≡ codes "ExceptionInformation" = (word_same text (codes "ExceptionFlags") (codes "ExceptionInformation") ts us rest g.0 p h g.3).0 in let q = ap length e in absurd (omega arith)
+field_once text fields.Flags (fields.Information number to) ts us rest end p h g =
+    let e : codes "ExceptionFlags" ≡ codes "ExceptionInformation" =
+    (word_same text (codes "ExceptionFlags") (codes "ExceptionInformation") ts us rest
+    g.after_word p h g.word).0 in
+    let q = ap length e in
+    absurd (omega arith)
 field_once text fields.Count fields.Code ts us rest end p h g = let e : codes "NumberParameters" ≡ codes "ExceptionCode" = (word_same text (codes "NumberParameters") (codes "ExceptionCode") ts us rest end p h g).0 in let q = ap length e in absurd (omega arith)
 field_once text fields.Count fields.Flags ts us rest end p h g = let e : codes "NumberParameters" ≡ codes "ExceptionFlags" = (word_same text (codes "NumberParameters") (codes "ExceptionFlags") ts us rest end p h g).0 in let q = ap length e in absurd (omega arith)
 field_once text fields.Count fields.Count ts us rest end p h g = (refl, (word_same text (codes "NumberParameters") (codes "NumberParameters") ts us rest end p h g).1)
-field_once text fields.Count (fields.Information number to) ts us rest end p h g = let e : codes "NumberParameters" ≡ codes "ExceptionInformation" = (word_same text (codes "NumberParameters") (codes "ExceptionInformation") ts us rest g.0 p h g.3).0 in let q = ap length e in absurd (omega arith)
-field_once text (fields.Information index at) fields.Code ts us rest end p h g = let e : codes "ExceptionInformation" ≡ codes "ExceptionCode" = (word_same text (codes "ExceptionInformation") (codes "ExceptionCode") ts us h.0 end p h.3 g).0 in let q = ap length e in absurd (omega arith)
-field_once text (fields.Information index at) fields.Flags ts us rest end p h g = let e : codes "ExceptionInformation" ≡ codes "ExceptionFlags" = (word_same text (codes "ExceptionInformation") (codes "ExceptionFlags") ts us h.0 end p h.3 g).0 in let q = ap length e in absurd (omega arith)
-field_once text (fields.Information index at) fields.Count ts us rest end p h g = let e : codes "ExceptionInformation" ≡ codes "NumberParameters" = (word_same text (codes "ExceptionInformation") (codes "NumberParameters") ts us h.0 end p h.3 g).0 in let q = ap length e in absurd (omega arith)
+field_once text fields.Count (fields.Information number to) ts us rest end p h g =
+    let e : codes "NumberParameters" ≡ codes "ExceptionInformation" =
+    (word_same text (codes "NumberParameters") (codes "ExceptionInformation") ts us rest
+    g.after_word p h g.word).0 in
+    let q = ap length e in
+    absurd (omega arith)
+field_once text (fields.Information index at) fields.Code ts us rest end p h g =
+    let e : codes "ExceptionInformation" ≡ codes "ExceptionCode" =
+    (word_same text (codes "ExceptionInformation") (codes "ExceptionCode") ts us h.after_word
+    end p h.word g).0 in
+    let q = ap length e in
+    absurd (omega arith)
+field_once text (fields.Information index at) fields.Flags ts us rest end p h g =
+    let e : codes "ExceptionInformation" ≡ codes "ExceptionFlags" =
+    (word_same text (codes "ExceptionInformation") (codes "ExceptionFlags") ts us h.after_word
+    end p h.word g).0 in
+    let q = ap length e in
+    absurd (omega arith)
+field_once text (fields.Information index at) fields.Count ts us rest end p h g =
+    let e : codes "ExceptionInformation" ≡ codes "NumberParameters" =
+    (word_same text (codes "ExceptionInformation") (codes "NumberParameters") ts us h.after_word
+    end p h.word g).0 in
+    let q = ap length e in
+    absurd (omega arith)
 field_once text (fields.Information index at) (fields.Information number to) ts us rest end p h g =
-    let a = word_same text (codes "ExceptionInformation") (codes "ExceptionInformation") ts us h.0 g.0 p h.3 g.3 in
-    let b = has_same punctuators.OpenBracket h.0 g.0 h.1 g.1 a.1 h.4 g.4 in
-    let c = integer_same index number at to h.1 g.1 h.2 g.2 b h.5 g.5 in
-    (ap (λ (x : ℕ). fields.Information x at) c.0 ∙ ap (λ (x : ℕ). fields.Information number x) c.1, has_same punctuators.CloseBracket h.2 g.2 rest end c.2 h.6 g.6)
+    let a = word_same text (codes "ExceptionInformation") (codes "ExceptionInformation") ts us
+    h.after_word g.after_word p h.word g.word in
+    let b = has_same punctuators.OpenBracket h.after_word g.after_word h.after_opening
+    g.after_opening a.1 h.opening g.opening in
+    let c = integer_same index number at to h.after_opening g.after_opening h.after_index
+    g.after_index b h.index g.index in (
+      ap (λ (x : ℕ). fields.Information x at) c.0 ∙ ap (λ (x : ℕ). fields.Information number x) c.1,
+      has_same punctuators.CloseBracket h.after_index g.after_index rest end c.2 h.closing g.closing,
+    )
 
 -- ---- first operands
 
@@ -307,7 +237,12 @@ same_head text n (Variable name) (Variable name') ts rest end u low k m r z h g 
     let a = name_same name name' ts ts rest end refl h g in
     (ap (λ (x : Identifier). Variable x) a.0, a.1)
 same_head text n (Variable name) (Information at' field') ts rest end u low k m r z h g = let a = head_front text (Variable name) ts rest k h in let b = head_front text (Information at' field') ts end m g in absurd (omega arith)
-same_head text n (Variable name) (Call name' es') ts rest end u low k m r z h g = let a = name_same name name' ts ts rest g.0 refl h g.2 in let b = follows_punctuator punctuators.OpenParenthesis g.3.0 g.0 g.1 0 g.3.1 refl in let c = ap follows a.1 in absurd (omega arith)
+same_head text n (Variable name) (Call name' es') ts rest end u low k m r z h g =
+    let a = name_same name name' ts ts rest g.after_name refl h g.called in
+    let b = follows_punctuator punctuators.OpenParenthesis g.opening.0 g.after_name g.after_opening
+    primary g.opening.1 refl in
+    let c = ap follows a.1 in
+    absurd (omega arith)
 same_head text n (Variable name) (Parentheses at' e') ts rest end u low k m r z h g = let a = head_front text (Variable name) ts rest k h in let b = head_front text (Parentheses at' e') ts end m g in absurd (omega arith)
 same_head text n (Variable name) (Prefix at' op' e') ts rest end u low k m r z h g = let a = head_front text (Variable name) ts rest k h in let b = head_front text (Prefix at' op' e') ts end m g in absurd (omega arith)
 same_head text n (Variable name) (Unary at' op' e') ts rest end u low k m r z h g = let a = head_front text (Variable name) ts rest k h in let b = head_front text (Unary at' op' e') ts end m g in absurd (omega arith)
@@ -321,13 +256,26 @@ same_head text n (Variable name) (Comma v vt w) ts rest end u low k m r z h g = 
 same_head text n (Information at field) (Constant at' literal') ts rest end u low k m r z h g = let a = head_front text (Information at field) ts rest k h in let b = head_front text (Constant at' literal') ts end m g in absurd (omega arith)
 same_head text n (Information at field) (Variable name') ts rest end u low k m r z h g = let a = head_front text (Information at field) ts rest k h in let b = head_front text (Variable name') ts end m g in absurd (omega arith)
 same_head text n (Information at field) (Information at' field') ts rest end u low k m r z h g =
-    let k = kind_same (kinds.Keyword keywords.GetExceptionInformation) (kinds.Keyword keywords.GetExceptionInformation) at at' ts ts h.0 g.0 refl h.6 g.6 in
-    let b = has_same punctuators.OpenParenthesis h.0 g.0 h.1 g.1 k.2 h.7 g.7 in
-    let c = has_same punctuators.CloseParenthesis h.1 g.1 h.2 g.2 b h.8 g.8 in
-    let d = has_same punctuators.Arrow h.2 g.2 h.3 g.3 c h.9 g.9 in
-    let w = word_same text (codes "ExceptionRecord") (codes "ExceptionRecord") h.3 g.3 h.4 g.4 d h.10 g.10 in
-    let v = has_same punctuators.Arrow h.4 g.4 h.5 g.5 w.1 h.11 g.11 in
-    let q = field_once text field field' h.5 g.5 rest end v h.12 g.12 in
+    let k = kind_same (kinds.Keyword keywords.GetExceptionInformation)
+    (kinds.Keyword keywords.GetExceptionInformation) at at' ts ts h.introduction.after_keyword
+    g.introduction.after_keyword refl h.introduction.keyword g.introduction.keyword in
+    let b = has_same punctuators.OpenParenthesis h.introduction.after_keyword
+    g.introduction.after_keyword h.introduction.after_opening g.introduction.after_opening k.2
+    h.introduction.opening g.introduction.opening in
+    let c = has_same punctuators.CloseParenthesis h.introduction.after_opening
+    g.introduction.after_opening h.introduction.after_closing g.introduction.after_closing b
+    h.introduction.closing g.introduction.closing in
+    let d = has_same punctuators.Arrow h.introduction.after_closing g.introduction.after_closing
+    h.introduction.after_arrow g.introduction.after_arrow c h.introduction.arrow
+    g.introduction.arrow in
+    let w = word_same text (codes "ExceptionRecord") (codes "ExceptionRecord")
+    h.introduction.after_arrow g.introduction.after_arrow h.introduction.after_record
+    g.introduction.after_record d h.introduction.of_record g.introduction.of_record in
+    let v = has_same punctuators.Arrow h.introduction.after_record g.introduction.after_record
+    h.after_introduction g.after_introduction w.1 h.introduction.last_arrow
+    g.introduction.last_arrow in
+    let q = field_once text field field' h.after_introduction g.after_introduction rest end v
+    h.field g.field in
     (ap (λ (x : ℕ). Information x field) k.1 ∙ ap (λ (x : Field). Information at' x) q.0, q.1)
 same_head text n (Information at field) (Call name' es') ts rest end u low k m r z h g = let a = head_front text (Information at field) ts rest k h in let b = head_front text (Call name' es') ts end m g in absurd (omega arith)
 same_head text n (Information at field) (Parentheses at' e') ts rest end u low k m r z h g = let a = head_front text (Information at field) ts rest k h in let b = head_front text (Parentheses at' e') ts end m g in absurd (omega arith)
@@ -341,12 +289,19 @@ same_head text n (Information at field) (Conditional y vt v w) ts rest end u low
 same_head text n (Information at field) (Assign v vt op2 w) ts rest end u low k m r z h g = absurd m
 same_head text n (Information at field) (Comma v vt w) ts rest end u low k m r z h g = absurd m
 same_head text n (Call name es) (Constant at' literal') ts rest end u low k m r z h g = let a = head_front text (Call name es) ts rest k h in let b = head_front text (Constant at' literal') ts end m g in absurd (omega arith)
-same_head text n (Call name es) (Variable name') ts rest end u low k m r z h g = let a = name_same name name' ts ts h.0 end refl h.2 g in let b = follows_punctuator punctuators.OpenParenthesis h.3.0 h.0 h.1 0 h.3.1 refl in let c = ap follows a.1 in absurd (omega arith)
+same_head text n (Call name es) (Variable name') ts rest end u low k m r z h g =
+    let a = name_same name name' ts ts h.after_name end refl h.called g in
+    let b = follows_punctuator punctuators.OpenParenthesis h.opening.0 h.after_name h.after_opening
+    primary h.opening.1 refl in
+    let c = ap follows a.1 in
+    absurd (omega arith)
 same_head text n (Call name es) (Information at' field') ts rest end u low k m r z h g = let a = head_front text (Call name es) ts rest k h in let b = head_front text (Information at' field') ts end m g in absurd (omega arith)
 same_head text n (Call name es) (Call name' es') ts rest end u low k m r z h g =
-    let a = name_same name name' ts ts h.0 g.0 refl h.2 g.2 in
-    let b = has_same punctuators.OpenParenthesis h.0 g.0 h.1 g.1 a.1 h.3 g.3 in
-    let c = arguments_once text n es es' h.1 g.1 rest end u b low h.4 g.4 in
+    let a = name_same name name' ts ts h.after_name g.after_name refl h.called g.called in
+    let b = has_same punctuators.OpenParenthesis h.after_name g.after_name h.after_opening
+    g.after_opening a.1 h.opening g.opening in
+    let c = arguments_once text n es es' h.after_opening g.after_opening rest end u b low
+    h.arguments g.arguments in
     (ap (λ (x : Identifier). Call x es) a.0 ∙ ap (λ (x : Arguments). Call name' x) c.0, c.1)
 same_head text n (Call name es) (Parentheses at' e') ts rest end u low k m r z h g = let a = head_front text (Call name es) ts rest k h in let b = head_front text (Parentheses at' e') ts end m g in absurd (omega arith)
 same_head text n (Call name es) (Prefix at' op' e') ts rest end u low k m r z h g = let a = head_front text (Call name es) ts rest k h in let b = head_front text (Prefix at' op' e') ts end m g in absurd (omega arith)
@@ -363,12 +318,25 @@ same_head text n (Parentheses at e) (Variable name') ts rest end u low k m r z h
 same_head text n (Parentheses at e) (Information at' field') ts rest end u low k m r z h g = let a = head_front text (Parentheses at e) ts rest k h in let b = head_front text (Information at' field') ts end m g in absurd (omega arith)
 same_head text n (Parentheses at e) (Call name' es') ts rest end u low k m r z h g = let a = head_front text (Parentheses at e) ts rest k h in let b = head_front text (Call name' es') ts end m g in absurd (omega arith)
 same_head text n (Parentheses at e) (Parentheses at' e') ts rest end u low k m r z h g =
-    let a = punctuator_same punctuators.OpenParenthesis punctuators.OpenParenthesis at at' ts ts h.0 g.0 refl h.2 g.2 in
-    let b = whole text n e e' h.0 g.0 h.1 g.1 u a.2 (omega arith) h.3 g.3 (has_stops punctuators.CloseParenthesis h.1 rest 16 h.4 (omega arith)) (has_stops punctuators.CloseParenthesis g.1 end 16 g.4 (omega arith)) in
-    (ap (λ (x : ℕ). Parentheses x e) a.1 ∙ ap (λ (x : Expression). Parentheses at' x) b.0, has_same punctuators.CloseParenthesis h.1 g.1 rest end b.1 h.4 g.4)
+    let a = punctuator_same punctuators.OpenParenthesis punctuators.OpenParenthesis at at' ts ts
+    h.after_opening g.after_opening refl h.opening g.opening in
+    let b = whole text n e e' h.after_opening g.after_opening h.after_inner g.after_inner u a.2
+    (omega arith) h.inner g.inner
+    (has_stops punctuators.CloseParenthesis h.after_inner rest comma h.closing (omega arith))
+    (has_stops punctuators.CloseParenthesis g.after_inner end comma g.closing (omega arith)) in (
+      ap (λ (x : ℕ). Parentheses x e) a.1 ∙ ap (λ (x : Expression). Parentheses at' x) b.0,
+      has_same punctuators.CloseParenthesis h.after_inner g.after_inner rest end b.1 h.closing
+          g.closing,
+    )
 same_head text n (Parentheses at e) (Prefix at' op' e') ts rest end u low k m r z h g = let a = head_front text (Parentheses at e) ts rest k h in let b = head_front text (Prefix at' op' e') ts end m g in absurd (omega arith)
 same_head text n (Parentheses at e) (Unary at' op' e') ts rest end u low k m r z h g = let a = head_front text (Parentheses at e) ts rest k h in let b = head_front text (Unary at' op' e') ts end m g in absurd (omega arith)
-same_head text n (Parentheses at e) (Cast at' to' e') ts rest end u low k m r z h g = let a = punctuator_same punctuators.OpenParenthesis punctuators.OpenParenthesis at at' ts ts h.0 g.0 refl h.2 g.3 in let b = expression_front text e h.0 h.1 h.3 in let c = base_front to'.base g.0 g.4.0 g.4.1 in let d = ap front a.2 in absurd (omega arith)
+same_head text n (Parentheses at e) (Cast at' to' e') ts rest end u low k m r z h g =
+    let a = punctuator_same punctuators.OpenParenthesis punctuators.OpenParenthesis at at' ts ts
+    h.after_opening g.operator.after_opening refl h.opening g.operator.opening in
+    let b = expression_front text e h.after_opening h.after_inner h.inner in
+    let c = base_front to'.base g.operator.after_opening g.operator.inner.0 g.operator.inner.1 in
+    let d = ap front a.2 in
+    absurd (omega arith)
 same_head text n (Parentheses at e) (Index v vt w) ts rest end u low k m r z h g = absurd m
 same_head text n (Parentheses at e) (Postfix v op2 vt) ts rest end u low k m r z h g = absurd m
 same_head text n (Parentheses at e) (Binary v vt op2 w) ts rest end u low k m r z h g = absurd m
@@ -381,8 +349,10 @@ same_head text n (Prefix at op e) (Information at' field') ts rest end u low k m
 same_head text n (Prefix at op e) (Call name' es') ts rest end u low k m r z h g = let a = head_front text (Prefix at op e) ts rest k h in let b = head_front text (Call name' es') ts end m g in absurd (omega arith)
 same_head text n (Prefix at op e) (Parentheses at' e') ts rest end u low k m r z h g = let a = head_front text (Prefix at op e) ts rest k h in let b = head_front text (Parentheses at' e') ts end m g in absurd (omega arith)
 same_head text n (Prefix at op e) (Prefix at' op' e') ts rest end u low k m r z h g =
-    let a = punctuator_same (increment_punctuator op) (increment_punctuator op') at at' ts ts h.0 g.0 refl h.1 g.1 in
-    let b = part text n 2 e e' h.0 g.0 rest end u a.2 (omega arith) h.2 g.2 h.3 g.3 r z in
+    let a = punctuator_same (increment_punctuator op) (increment_punctuator op') at at' ts ts
+    h.after_operator g.after_operator refl h.operator g.operator in
+    let b = part text n unary e e' h.after_operator g.after_operator rest end u a.2 (omega arith)
+    h.operand g.operand r z in
     (ap (λ (x : ℕ). Prefix x op e) a.1 ∙ ap (λ (x : Increment). Prefix at' x e) (same_increment op op' a.0) ∙ ap (λ (x : Expression). Prefix at' op' x) b.0, b.1)
 same_head text n (Prefix at op e) (Unary at' op' e') ts rest end u low k m r z h g = let a = head_front text (Prefix at op e) ts rest k h in let b = head_front text (Unary at' op' e') ts end m g in absurd (omega arith)
 same_head text n (Prefix at op e) (Cast at' to' e') ts rest end u low k m r z h g = let a = head_front text (Prefix at op e) ts rest k h in let b = head_front text (Cast at' to' e') ts end m g in absurd (omega arith)
@@ -399,8 +369,10 @@ same_head text n (Unary at op e) (Call name' es') ts rest end u low k m r z h g 
 same_head text n (Unary at op e) (Parentheses at' e') ts rest end u low k m r z h g = let a = head_front text (Unary at op e) ts rest k h in let b = head_front text (Parentheses at' e') ts end m g in absurd (omega arith)
 same_head text n (Unary at op e) (Prefix at' op' e') ts rest end u low k m r z h g = let a = head_front text (Unary at op e) ts rest k h in let b = head_front text (Prefix at' op' e') ts end m g in absurd (omega arith)
 same_head text n (Unary at op e) (Unary at' op' e') ts rest end u low k m r z h g =
-    let a = punctuator_same (unary_punctuator op) (unary_punctuator op') at at' ts ts h.0 g.0 refl h.1 g.1 in
-    let b = part text n 3 e e' h.0 g.0 rest end u a.2 (omega arith) h.2 g.2 h.3 g.3 r z in
+    let a = punctuator_same (unary_punctuator op) (unary_punctuator op') at at' ts ts
+    h.after_operator g.after_operator refl h.operator g.operator in
+    let b = part text n cast e e' h.after_operator g.after_operator rest end u a.2 (omega arith)
+    h.operand g.operand r z in
     (ap (λ (x : ℕ). Unary x op e) a.1 ∙ ap (λ (x : UnaryOperator). Unary at' x e) (same_unary op op' a.0) ∙ ap (λ (x : Expression). Unary at' op' x) b.0, b.1)
 same_head text n (Unary at op e) (Cast at' to' e') ts rest end u low k m r z h g = let a = head_front text (Unary at op e) ts rest k h in let b = head_front text (Cast at' to' e') ts end m g in absurd (omega arith)
 same_head text n (Unary at op e) (Index v vt w) ts rest end u low k m r z h g = absurd m
@@ -413,14 +385,30 @@ same_head text n (Cast at to e) (Constant at' literal') ts rest end u low k m r 
 same_head text n (Cast at to e) (Variable name') ts rest end u low k m r z h g = let a = head_front text (Cast at to e) ts rest k h in let b = head_front text (Variable name') ts end m g in absurd (omega arith)
 same_head text n (Cast at to e) (Information at' field') ts rest end u low k m r z h g = let a = head_front text (Cast at to e) ts rest k h in let b = head_front text (Information at' field') ts end m g in absurd (omega arith)
 same_head text n (Cast at to e) (Call name' es') ts rest end u low k m r z h g = let a = head_front text (Cast at to e) ts rest k h in let b = head_front text (Call name' es') ts end m g in absurd (omega arith)
-same_head text n (Cast at to e) (Parentheses at' e') ts rest end u low k m r z h g = let a = punctuator_same punctuators.OpenParenthesis punctuators.OpenParenthesis at at' ts ts h.0 g.0 refl h.3 g.2 in let b = expression_front text e' g.0 g.1 g.3 in let c = base_front to.base h.0 h.4.0 h.4.1 in let d = ap front a.2 in absurd (omega arith)
+same_head text n (Cast at to e) (Parentheses at' e') ts rest end u low k m r z h g =
+    let a = punctuator_same punctuators.OpenParenthesis punctuators.OpenParenthesis at at' ts ts
+    h.operator.after_opening g.after_opening refl h.operator.opening g.opening in
+    let b = expression_front text e' g.after_opening g.after_inner g.inner in
+    let c = base_front to.base h.operator.after_opening h.operator.inner.0 h.operator.inner.1 in
+    let d = ap front a.2 in
+    absurd (omega arith)
 same_head text n (Cast at to e) (Prefix at' op' e') ts rest end u low k m r z h g = let a = head_front text (Cast at to e) ts rest k h in let b = head_front text (Prefix at' op' e') ts end m g in absurd (omega arith)
 same_head text n (Cast at to e) (Unary at' op' e') ts rest end u low k m r z h g = let a = head_front text (Cast at to e) ts rest k h in let b = head_front text (Unary at' op' e') ts end m g in absurd (omega arith)
 same_head text n (Cast at to e) (Cast at' to' e') ts rest end u low k m r z h g =
-    let a = punctuator_same punctuators.OpenParenthesis punctuators.OpenParenthesis at at' ts ts h.0 g.0 refl h.3 g.3 in
-    let t = type_once to to' h.0 g.0 h.1 g.1 a.2 (close_type h.1 h.2 h.5) (close_type g.1 g.2 g.5) (close_star h.1 h.2 h.5) (close_star g.1 g.2 g.5) h.4 g.4 in
-    let c = has_same punctuators.CloseParenthesis h.1 g.1 h.2 g.2 t.1 h.5 g.5 in
-    let b = part text n 3 e e' h.2 g.2 rest end u c (omega arith) h.6 g.6 h.7 g.7 r z in
+    let a = punctuator_same punctuators.OpenParenthesis punctuators.OpenParenthesis at at' ts ts
+    h.operator.after_opening g.operator.after_opening refl h.operator.opening
+    g.operator.opening in
+    let t = type_once to to' h.operator.after_opening g.operator.after_opening
+    h.operator.after_inner g.operator.after_inner a.2
+    (close_type h.operator.after_inner h.after_operator h.operator.closing)
+    (close_type g.operator.after_inner g.after_operator g.operator.closing)
+    (close_star h.operator.after_inner h.after_operator h.operator.closing)
+    (close_star g.operator.after_inner g.after_operator g.operator.closing) h.operator.inner
+    g.operator.inner in
+    let c = has_same punctuators.CloseParenthesis h.operator.after_inner g.operator.after_inner
+    h.after_operator g.after_operator t.1 h.operator.closing g.operator.closing in
+    let b = part text n cast e e' h.after_operator g.after_operator rest end u c (omega arith)
+    h.operand g.operand r z in
     (ap (λ (x : ℕ). Cast x to e) a.1 ∙ ap (λ (x : CType). Cast at' x e) t.0 ∙ ap (λ (x : Expression). Cast at' to' x) b.0, b.1)
 same_head text n (Cast at to e) (Index v vt w) ts rest end u low k m r z h g = absurd m
 same_head text n (Cast at to e) (Postfix v op2 vt) ts rest end u low k m r z h g = absurd m

@@ -22,26 +22,44 @@ pub record Goes (text : List ℕ) (left : Expression) (rest : List Token) (e : E
 pub run_ends : (text : List ℕ) (p : Expression) (steps : List Step) (ts : List Token) (left : Expression) (rest : List Token) → Run text p steps ts left rest → Closes left rest → Closes p ts
 run_ends text p [] ts left rest r s = subst (λ (x : Expression). Closes x ts) (sym r.0) (subst (λ (z : List Token). Closes left z) (sym r.1) s)
 run_ends text p (x ∷ steps) ts left rest r s =
-    let q : follows ts ≡ rank (apply p x) = step_follows text p x ts r.0 r.2 in
-    let y : reach p < rank (apply p x) = reaches p (bound x) (rank (apply p x)) r.1 (wide_step x p) in closes p ts (omega arith)
+    let q : follows ts ≡ rank (apply p x) = step_follows text p x ts r.after_step r.step in
+    let y : reach p < rank (apply p x) =
+    reaches p (bound x) (rank (apply p x)) r.fits (wide_step x p) in
+    closes p ts (omega arith)
 
 at_once : (text : List ℕ) (l : ℕ) (p left : Expression) (y : Step) (steps : List Step) (ts rest : List Token) (e : Expression) (end : List Token) → p ≡ left → ts ≡ rest → rank e ≤ l → Stops l end → Run text p (y ∷ steps) ts e end → Goes text left rest e end
 at_once text l p left y steps ts rest e end a b h s r =
-    subst (λ (x : Expression). Goes text x rest e end) a (subst (λ (z : List Token). Goes text p z e end) b (record { step = y; mid = r.0; steps = steps; fits = r.1; tail = r.2; ends = closes (apply p y) r.0 (run_reach text (apply p y) steps r.0 e end l r.3 h s); run = r.3 }))
+    let reached = run_reach text (apply p y) steps r.after_step e end l r.others h s in
+    let goes : Goes text p ts e end = record {
+      step = y;
+      mid = r.after_step;
+      steps = steps;
+      fits = r.fits;
+      tail = r.step;
+      ends = closes (apply p y) r.after_step reached;
+      run = r.others;
+    } in
+    subst (λ (x : Expression). Goes text x rest e end) a
+    (subst (λ (z : List Token). Goes text p z e end) b goes)
 
 along : (text : List ℕ) (n l : ℕ) (p : Expression) (steps steps' : List Step) (ts : List Token) (left : Expression) (rest : List Token) (e : Expression) (end : List Token) → Below text n → height e ≤ n → rank left ≤ l → rank e ≤ l → Stops l end → Closes left rest → follows rest ≤ l → Run text p steps ts left rest → Run text p steps' ts e end → Goes text left rest e end
 along text n l p [] [] ts left rest e end u low a b s c d r g = let q = ap follows r.1 in let w = ap follows g.1 in absurd (omega arith)
 along text n l p [] (y ∷ steps') ts left rest e end u low a b s c d r g = at_once text l p left y steps' ts rest e end r.0 r.1 b s g
 along text n l p (x ∷ steps) [] ts left rest e end u low a b s c d r g =
-    let q = step_follows text p x ts r.0 r.2 in
-    let k = run_rank text (apply p x) steps r.0 left rest r.3 in
+    let q = step_follows text p x ts r.after_step r.step in
+    let k = run_rank text (apply p x) steps r.after_step left rest r.others in
     let w = ap follows g.1 in absurd (omega arith)
 along text n l p (x ∷ steps) (y ∷ steps') ts left rest e end u low a b s c d r g =
-    let k = run_height text (apply p y) steps' g.0 e end g.3 in
-    let q = same_tail text n p p y x ts g.0 r.0 u (omega arith) (closes (apply p y) g.0 (run_reach text (apply p y) steps' g.0 e end l g.3 b s)) (run_ends text (apply p x) steps r.0 left rest r.3 c) g.2 r.2 in
-    let v : Run text (apply p x) steps' g.0 e end = subst (λ (w : Step). Run text (apply p w) steps' g.0 e end) q.0 g.3 in
-    let w : Run text (apply p x) steps' r.0 e end = subst (λ (z : List Token). Run text (apply p x) steps' z e end) q.1 v in
-    along text n l (apply p x) steps steps' r.0 left rest e end u low a b s c d r.3 w
+    let k = run_height text (apply p y) steps' g.after_step e end g.others in
+    let q = same_tail text n p p y x ts g.after_step r.after_step u (omega arith)
+    (closes (apply p y) g.after_step
+    (run_reach text (apply p y) steps' g.after_step e end l g.others b s))
+    (run_ends text (apply p x) steps r.after_step left rest r.others c) g.step r.step in
+    let v : Run text (apply p x) steps' g.after_step e end =
+    subst (λ (w : Step). Run text (apply p w) steps' g.after_step e end) q.0 g.others in
+    let w : Run text (apply p x) steps' r.after_step e end =
+    subst (λ (z : List Token). Run text (apply p x) steps' z e end) q.1 v in
+    along text n l (apply p x) steps steps' r.after_step left rest e end u low a b s c d r.others w
 
 -- A left part was read, and the next token continues: whatever is at the front at all goes through it.
 pub passes : (text : List ℕ) (l : ℕ) (left : Expression) (ts rest : List Token) (e : Expression) (end : List Token) → SpellsExpression text left ts rest → rank left ≤ l → Closes left rest → follows rest ≤ l → Derives text l e ts end → Stops l end → Goes text left rest e end

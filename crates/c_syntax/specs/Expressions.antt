@@ -9,6 +9,7 @@
 --     comma := assignment | comma ',' assignment
 use Rattle.std.specs.Prelude.{◌≤◌, ◌<◌, ℕ, List, codes}
 use Rattle.c_lex.specs.declared.keyword.Keyword.TheVariants as keywords
+use Rattle.c_lex.specs.declared.punctuator.Punctuator.{Punctuator}
 use Rattle.c_lex.specs.declared.punctuator.Punctuator.TheVariants as punctuators
 use Rattle.c_lex.specs.declared.token.IntegerType.{IntegerType}
 use Rattle.c_lex.specs.declared.token.Kind.{Kind}
@@ -16,11 +17,12 @@ use Rattle.c_lex.specs.declared.token.Kind.TheVariants as kinds
 use Rattle.c_lex.specs.declared.token.Token.{Token}
 use Rattle.c_syntax.specs.declared.expression.Field.{Field}
 use Rattle.c_syntax.specs.declared.expression.Field.TheVariants as fields
+use Rattle.c_syntax.specs.declared.expression.Identifier.{Identifier}
 use Rattle.c_syntax.specs.declared.expression.Literal.{Literal}
 use Rattle.c_syntax.specs.declared.expression.Literal.TheVariants as literals
 use Rattle.c_syntax.specs.Expression.{Expression, Constant, Variable, Information, Call, Parentheses, Index, Postfix, Prefix, Unary, Cast, Binary, Conditional, Assign, Comma, Arguments, Done, Next}
 use Rattle.c_syntax.specs.Operators.{primary, postfix, unary, cast, logical_or, conditional, assignment, comma, level, binary_punctuator, unary_punctuator, increment_punctuator, assignment_punctuator}
-use Rattle.c_syntax.specs.Tokens.{IsKind, IsPunctuator, IsKeyword, IsIdentifier, HasPunctuator, HasWord}
+use Rattle.c_syntax.specs.Tokens.{Phrase, IsKind, IsPunctuator, IsKeyword, IsIdentifier, HasPunctuator, HasWord}
 use Rattle.c_syntax.specs.Types.{IsType}
 
 -- the level of the production at the top
@@ -45,53 +47,160 @@ literal_kind (literals.Integer value type) = kinds.Integer value type
 literal_kind (literals.CharacterConstant value) = kinds.CharacterConstant value
 
 -- an integer literal of any type
-abbrev pub IsInteger : ℕ → ℕ → List Token → List Token → Type 0
+abbrev pub IsInteger : ℕ → ℕ → Phrase
 IsInteger value at ts rest = (type : IntegerType) × IsKind (kinds.Integer value type) at ts rest
 
-abbrev pub IsField : List ℕ → Field → List Token → List Token → Type 0
-IsField text fields.Code ts rest = HasWord text (codes "ExceptionCode") ts rest
-IsField text fields.Flags ts rest = HasWord text (codes "ExceptionFlags") ts rest
-IsField text fields.Count ts rest = HasWord text (codes "NumberParameters") ts rest
-IsField text (fields.Information index at) ts rest =
-    (a : List Token) × (b : List Token) × (c : List Token) × HasWord text (codes "ExceptionInformation") ts a × HasPunctuator punctuators.OpenBracket a b × IsInteger index at b c × HasPunctuator punctuators.CloseBracket c rest
+-- ---- forms of productions, by the phrases that are their parts
+
+-- an expression of a level or a tighter one
+pub record OfLevel (l : ℕ) (e : Expression) (Spelled : Phrase) (ts rest : List Token) : Type 0 where
+  pub fits : rank e ≤ l
+  pub spells : Spelled ts rest
+
+-- an expression that is tighter than a level
+pub record TighterThan (l : ℕ) (e : Expression) (Spelled : Phrase) (ts rest : List Token)
+    : Type 0 where
+  pub fits : rank e < l
+  pub spells : Spelled ts rest
+
+-- a phrase between two punctuators, of which the left one is at a place
+pub record IsEnclosed (left right : Punctuator) (at : ℕ) (Inner : Phrase) (ts rest : List Token)
+    : Type 0 where
+  pub after_opening : List Token
+  pub after_inner : List Token
+  pub opening : IsPunctuator left at ts after_opening
+  pub inner : Inner after_opening after_inner
+  pub closing : HasPunctuator right after_inner rest
+
+-- an operator and the operand after it
+pub record IsApplied (Operator Operand : Phrase) (ts rest : List Token) : Type 0 where
+  pub after_operator : List Token
+  pub operator : Operator ts after_operator
+  pub operand : Operand after_operator rest
+
+-- an operand and the step after it: an operator, with the operand after that if it has one
+pub record IsContinued (Operand Step : Phrase) (ts rest : List Token) : Type 0 where
+  pub after_operand : List Token
+  pub operand : Operand ts after_operand
+  pub step : Step after_operand rest
+
+-- ---- the exception's record
+
+-- GetExceptionInformation()->ExceptionRecord->
+pub record IsIntroduced (text : List ℕ) (at : ℕ) (ts rest : List Token) : Type 0 where
+  pub after_keyword : List Token
+  pub after_opening : List Token
+  pub after_closing : List Token
+  pub after_arrow : List Token
+  pub after_record : List Token
+  pub keyword : IsKeyword keywords.GetExceptionInformation at ts after_keyword
+  pub opening : HasPunctuator punctuators.OpenParenthesis after_keyword after_opening
+  pub closing : HasPunctuator punctuators.CloseParenthesis after_opening after_closing
+  pub arrow : HasPunctuator punctuators.Arrow after_closing after_arrow
+  pub of_record : HasWord text (codes "ExceptionRecord") after_arrow after_record
+  pub last_arrow : HasPunctuator punctuators.Arrow after_record rest
+
+-- ExceptionInformation[index]
+pub record IsElement (text : List ℕ) (n at : ℕ) (ts rest : List Token) : Type 0 where
+  pub after_word : List Token
+  pub after_opening : List Token
+  pub after_index : List Token
+  pub word : HasWord text (codes "ExceptionInformation") ts after_word
+  pub opening : HasPunctuator punctuators.OpenBracket after_word after_opening
+  pub index : IsInteger n at after_opening after_index
+  pub closing : HasPunctuator punctuators.CloseBracket after_index rest
+
+abbrev pub IsField : List ℕ → Field → Phrase
+IsField text fields.Code = HasWord text (codes "ExceptionCode")
+IsField text fields.Flags = HasWord text (codes "ExceptionFlags")
+IsField text fields.Count = HasWord text (codes "NumberParameters")
+IsField text (fields.Information n at) = IsElement text n at
+
+pub record IsInformation (text : List ℕ) (at : ℕ) (f : Field) (ts rest : List Token) : Type 0 where
+  pub after_introduction : List Token
+  pub introduction : IsIntroduced text at ts after_introduction
+  pub field : IsField text f after_introduction rest
+
+-- ---- calls
+
+-- a name, and arguments with the parentheses around them
+pub record IsCall (name : Identifier) (Arguing : Phrase) (ts rest : List Token) : Type 0 where
+  pub after_name : List Token
+  pub after_opening : List Token
+  pub called : IsIdentifier name ts after_name
+  pub opening : HasPunctuator punctuators.OpenParenthesis after_name after_opening
+  pub arguments : Arguing after_opening rest
+
+-- an argument and the others
+pub record AreArguments (First Others : Phrase) (ts rest : List Token) : Type 0 where
+  pub after_first : List Token
+  pub first : First ts after_first
+  pub others : Others after_first rest
+
+-- a comma, the next argument and the others
+pub record AreMoreArguments (Next Others : Phrase) (ts rest : List Token) : Type 0 where
+  pub after_comma : List Token
+  pub after_next : List Token
+  pub comma : HasPunctuator punctuators.Comma ts after_comma
+  pub next : Next after_comma after_next
+  pub others : Others after_next rest
+
+-- ---- the productions
 
 -- The tokens before the rest spell the expression; each operand is of the level that the production asks.
 abbrev mutual
-  pub SpellsExpression : List ℕ → Expression → List Token → List Token → Type 0
-  SpellsExpression text (Constant at literal) ts rest = IsKind (literal_kind literal) at ts rest
-  SpellsExpression text (Variable name) ts rest = IsIdentifier name ts rest
-  SpellsExpression text (Information at field) ts rest =
-      (a : List Token) × (b : List Token) × (c : List Token) × (d : List Token) × (f : List Token) × (g : List Token)
-      × IsKeyword keywords.GetExceptionInformation at ts a × HasPunctuator punctuators.OpenParenthesis a b × HasPunctuator punctuators.CloseParenthesis b c × HasPunctuator punctuators.Arrow c d
-      × HasWord text (codes "ExceptionRecord") d f × HasPunctuator punctuators.Arrow f g × IsField text field g rest
-  SpellsExpression text (Call name es) ts rest = (a : List Token) × (b : List Token) × IsIdentifier name ts a × HasPunctuator punctuators.OpenParenthesis a b × SpellsArguments text es b rest
-  SpellsExpression text (Parentheses at e) ts rest = (a : List Token) × (b : List Token) × IsPunctuator punctuators.OpenParenthesis at ts a × SpellsExpression text e a b × HasPunctuator punctuators.CloseParenthesis b rest
-  SpellsExpression text (Index e at i) ts rest =
-      (a : List Token) × (b : List Token) × (c : List Token) × (rank e ≤ postfix) × SpellsExpression text e ts a × IsPunctuator punctuators.OpenBracket at a b × SpellsExpression text i b c × HasPunctuator punctuators.CloseBracket c rest
-  SpellsExpression text (Postfix e op at) ts rest = (a : List Token) × (rank e ≤ postfix) × SpellsExpression text e ts a × IsPunctuator (increment_punctuator op) at a rest
-  SpellsExpression text (Prefix at op e) ts rest = (a : List Token) × IsPunctuator (increment_punctuator op) at ts a × (rank e ≤ unary) × SpellsExpression text e a rest
-  SpellsExpression text (Unary at op e) ts rest = (a : List Token) × IsPunctuator (unary_punctuator op) at ts a × (rank e ≤ cast) × SpellsExpression text e a rest
-  SpellsExpression text (Cast at to e) ts rest =
-      (a : List Token) × (b : List Token) × (c : List Token) × IsPunctuator punctuators.OpenParenthesis at ts a × IsType to a b × HasPunctuator punctuators.CloseParenthesis b c × (rank e ≤ cast) × SpellsExpression text e c rest
-  SpellsExpression text (Binary e at op f) ts rest =
-      (a : List Token) × (b : List Token) × (rank e ≤ level op) × SpellsExpression text e ts a × IsPunctuator (binary_punctuator op) at a b × (rank f < level op) × SpellsExpression text f b rest
-  SpellsExpression text (Conditional e at f g) ts rest =
-      (a : List Token) × (b : List Token) × (c : List Token) × (d : List Token)
-      × (rank e ≤ logical_or) × SpellsExpression text e ts a × IsPunctuator punctuators.Question at a b × SpellsExpression text f b c × HasPunctuator punctuators.Colon c d × (rank g ≤ conditional) × SpellsExpression text g d rest
-  SpellsExpression text (Assign e at op f) ts rest =
-      (a : List Token) × (b : List Token) × (rank e ≤ unary) × SpellsExpression text e ts a × IsPunctuator (assignment_punctuator op) at a b × (rank f ≤ assignment) × SpellsExpression text f b rest
-  SpellsExpression text (Comma e at f) ts rest = (a : List Token) × (b : List Token) × (rank e ≤ comma) × SpellsExpression text e ts a × IsPunctuator punctuators.Comma at a b × (rank f ≤ assignment) × SpellsExpression text f b rest
+  pub SpellsExpression : List ℕ → Expression → Phrase
+  SpellsExpression text (Constant at literal) = IsKind (literal_kind literal) at
+  SpellsExpression text (Variable name) = IsIdentifier name
+  SpellsExpression text (Information at field) = IsInformation text at field
+  SpellsExpression text (Call name es) = IsCall name (SpellsArguments text es)
+  SpellsExpression text (Parentheses at e) =
+      IsEnclosed punctuators.OpenParenthesis punctuators.CloseParenthesis at
+      (SpellsExpression text e)
+  SpellsExpression text (Index e at i) =
+      IsContinued (OfLevel postfix e (SpellsExpression text e))
+      (IsEnclosed punctuators.OpenBracket punctuators.CloseBracket at (SpellsExpression text i))
+  SpellsExpression text (Postfix e op at) =
+      IsContinued (OfLevel postfix e (SpellsExpression text e))
+      (IsPunctuator (increment_punctuator op) at)
+  SpellsExpression text (Prefix at op e) =
+      IsApplied (IsPunctuator (increment_punctuator op) at)
+      (OfLevel unary e (SpellsExpression text e))
+  SpellsExpression text (Unary at op e) =
+      IsApplied (IsPunctuator (unary_punctuator op) at) (OfLevel cast e (SpellsExpression text e))
+  SpellsExpression text (Cast at to e) =
+      IsApplied
+      (IsEnclosed punctuators.OpenParenthesis punctuators.CloseParenthesis at (IsType to))
+      (OfLevel cast e (SpellsExpression text e))
+  SpellsExpression text (Binary e at op f) =
+      IsContinued (OfLevel (level op) e (SpellsExpression text e))
+      (IsApplied (IsPunctuator (binary_punctuator op) at)
+      (TighterThan (level op) f (SpellsExpression text f)))
+  SpellsExpression text (Conditional e at f g) =
+      IsContinued (OfLevel logical_or e (SpellsExpression text e))
+      (IsApplied (IsEnclosed punctuators.Question punctuators.Colon at (SpellsExpression text f))
+      (OfLevel conditional g (SpellsExpression text g)))
+  SpellsExpression text (Assign e at op f) =
+      IsContinued (OfLevel unary e (SpellsExpression text e))
+      (IsApplied (IsPunctuator (assignment_punctuator op) at)
+      (OfLevel assignment f (SpellsExpression text f)))
+  SpellsExpression text (Comma e at f) =
+      IsContinued (OfLevel comma e (SpellsExpression text e))
+      (IsApplied (IsPunctuator punctuators.Comma at)
+      (OfLevel assignment f (SpellsExpression text f)))
 
   -- arguments and the parenthesis that ends them
-  pub SpellsArguments : List ℕ → Arguments → List Token → List Token → Type 0
-  SpellsArguments text Done ts rest = HasPunctuator punctuators.CloseParenthesis ts rest
-  SpellsArguments text (Next e es) ts rest = (a : List Token) × (rank e ≤ assignment) × SpellsExpression text e ts a × SpellsMoreArguments text es a rest
+  pub SpellsArguments : List ℕ → Arguments → Phrase
+  SpellsArguments text Done = HasPunctuator punctuators.CloseParenthesis
+  SpellsArguments text (Next e es) =
+      AreArguments (OfLevel assignment e (SpellsExpression text e)) (SpellsMoreArguments text es)
 
-  pub SpellsMoreArguments : List ℕ → Arguments → List Token → List Token → Type 0
-  SpellsMoreArguments text Done ts rest = HasPunctuator punctuators.CloseParenthesis ts rest
-  SpellsMoreArguments text (Next e es) ts rest = (a : List Token) × (b : List Token) × HasPunctuator punctuators.Comma ts a × (rank e ≤ assignment) × SpellsExpression text e a b × SpellsMoreArguments text es b rest
+  pub SpellsMoreArguments : List ℕ → Arguments → Phrase
+  SpellsMoreArguments text Done = HasPunctuator punctuators.CloseParenthesis
+  SpellsMoreArguments text (Next e es) =
+      AreMoreArguments (OfLevel assignment e (SpellsExpression text e))
+      (SpellsMoreArguments text es)
 
 -- The tokens before the rest are an expression of a level.
-pub record Derives (text : List ℕ) (l : ℕ) (e : Expression) (ts rest : List Token) : Type 0 where
-  pub fits : rank e ≤ l
-  pub spells : SpellsExpression text e ts rest
+abbrev pub Derives : List ℕ → ℕ → Expression → Phrase
+Derives text l e = OfLevel l e (SpellsExpression text e)

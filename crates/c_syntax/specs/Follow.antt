@@ -8,35 +8,36 @@ use Rattle.c_lex.specs.declared.token.Token.{Token}
 use Rattle.c_syntax.specs.Expression.{Expression, start}
 use Rattle.c_lex.specs.declared.keyword.Keyword.TheVariants as keywords
 use Rattle.c_syntax.specs.Expressions.{Derives}
+use Rattle.c_syntax.specs.Operators.{primary, postfix, logical_or, conditional, assignment, comma}
 use Rattle.c_syntax.specs.Statement.{Statement}
 use Rattle.c_syntax.specs.Statements.{dangles, IsBlockItem}
 use Rattle.c_syntax.specs.Tokens.{HasKeyword}
 
 -- the level of the production in which a punctuator is after an operand, `(` after the name of a call; 17 where it never does
 abbrev pub punctuator_follows : Punctuator → ℕ
-punctuator_follows punctuators.OpenParenthesis = 0
+punctuator_follows punctuators.OpenParenthesis = primary
 punctuator_follows punctuators.CloseParenthesis = 17
-punctuator_follows punctuators.OpenBracket = 1
+punctuator_follows punctuators.OpenBracket = postfix
 punctuator_follows punctuators.CloseBracket = 17
 punctuator_follows punctuators.OpenBrace = 17
 punctuator_follows punctuators.CloseBrace = 17
 punctuator_follows punctuators.Semicolon = 17
-punctuator_follows punctuators.Comma = 16
-punctuator_follows punctuators.Question = 14
+punctuator_follows punctuators.Comma = comma
+punctuator_follows punctuators.Question = conditional
 punctuator_follows punctuators.Colon = 17
 punctuator_follows punctuators.Arrow = 17
-punctuator_follows punctuators.Assign = 15
-punctuator_follows punctuators.PlusAssign = 15
-punctuator_follows punctuators.MinusAssign = 15
-punctuator_follows punctuators.StarAssign = 15
-punctuator_follows punctuators.SlashAssign = 15
-punctuator_follows punctuators.PercentAssign = 15
-punctuator_follows punctuators.AmpersandAssign = 15
-punctuator_follows punctuators.BarAssign = 15
-punctuator_follows punctuators.CaretAssign = 15
-punctuator_follows punctuators.ShiftLeftAssign = 15
-punctuator_follows punctuators.ShiftRightAssign = 15
-punctuator_follows punctuators.BarBar = 13
+punctuator_follows punctuators.Assign = assignment
+punctuator_follows punctuators.PlusAssign = assignment
+punctuator_follows punctuators.MinusAssign = assignment
+punctuator_follows punctuators.StarAssign = assignment
+punctuator_follows punctuators.SlashAssign = assignment
+punctuator_follows punctuators.PercentAssign = assignment
+punctuator_follows punctuators.AmpersandAssign = assignment
+punctuator_follows punctuators.BarAssign = assignment
+punctuator_follows punctuators.CaretAssign = assignment
+punctuator_follows punctuators.ShiftLeftAssign = assignment
+punctuator_follows punctuators.ShiftRightAssign = assignment
+punctuator_follows punctuators.BarBar = logical_or
 punctuator_follows punctuators.AmpersandAmpersand = 12
 punctuator_follows punctuators.Bar = 11
 punctuator_follows punctuators.Caret = 10
@@ -56,8 +57,8 @@ punctuator_follows punctuators.Slash = 4
 punctuator_follows punctuators.Percent = 4
 punctuator_follows punctuators.Exclamation = 17
 punctuator_follows punctuators.Tilde = 17
-punctuator_follows punctuators.PlusPlus = 1
-punctuator_follows punctuators.MinusMinus = 1
+punctuator_follows punctuators.PlusPlus = postfix
+punctuator_follows punctuators.MinusMinus = postfix
 
 abbrev pub kind_follows : Kind → ℕ
 kind_follows kinds.Identifier = 17
@@ -79,9 +80,18 @@ Stops l ts = l < follows ts
 abbrev pub OneExpression : Type 0
 OneExpression = (text : List ℕ) (l : ℕ) (e f : Expression) (ts rest end : List Token) → Derives text l e ts rest → Derives text l f ts end → Stops l rest → Stops l end → (e ≡ f) × (rest ≡ end)
 
+-- there is a first token, and it is at a place
+pub record StartsAt (at : ℕ) (ts : List Token) : Type 0 where
+  pub first : Token
+  pub more : List Token
+  pub split : ts ≡ first ∷ more
+  pub starts : first.start ≡ at
+
 -- The start of an expression is the place of its first token.
 abbrev pub Begins : Type 0
-Begins = (text : List ℕ) (l : ℕ) (e : Expression) (ts rest : List Token) → Derives text l e ts rest → (t : Token) × (more : List Token) × (ts ≡ t ∷ more) × (t.start ≡ start e)
+Begins =
+    (text : List ℕ) (l : ℕ) (e : Expression) (ts rest : List Token) → Derives text l e ts rest
+    → StartsAt (start e) ts
 
 -- no `else` is at the front
 abbrev pub NoElse : List Token → Type 0

@@ -8,6 +8,7 @@ pub mod Types
 pub mod Expressions
 pub mod Follow
 pub mod Steps
+pub mod Phrases
 pub mod Statements
 pub mod Programs
 pub mod Limits

@@ -7,81 +7,114 @@ use Rattle.c_lex.specs.Text.{IsTokens}
 use Rattle.c_syntax.specs.declared.declaration.Constant.{Constant}
 use Rattle.c_syntax.specs.declared.declaration.Length.{Length}
 use Rattle.c_syntax.specs.declared.declaration.Parameter.{Parameter}
+use Rattle.c_syntax.specs.declared.expression.CType.{CType}
+use Rattle.c_syntax.specs.declared.expression.Identifier.{Identifier}
 use Rattle.c_syntax.specs.declared.expression.Literal.{Literal}
 use Rattle.c_syntax.specs.Expressions.{literal_kind, IsInteger}
+use Rattle.c_syntax.specs.Phrases.{InTurn, Between, AreMore, AreSeparated}
 use Rattle.c_syntax.specs.Program.{Initialiser, Single, Several, Global, ExternalDeclaration, Globals, Function}
-use Rattle.c_syntax.specs.Statements.{AreBlockItems}
-use Rattle.c_syntax.specs.Tokens.{IsKind, IsPunctuator, IsIdentifier, HasPunctuator, HasKeyword}
+use Rattle.c_syntax.specs.Statement.{Statements}
+use Rattle.c_syntax.specs.Statements.{IsBlock, AreBlockItems}
+use Rattle.c_syntax.specs.Tokens.{Phrase, IsKind, IsPunctuator, IsIdentifier, HasPunctuator, HasKeyword}
 use Rattle.c_syntax.specs.Types.{IsBase, AreStars, IsType}
 
 -- ---- globals
 
--- a literal, or `-` and a literal
-abbrev pub IsLiteral : Bool → ℕ → Literal → List Token → List Token → Type 0
-IsLiteral false at literal ts rest = IsKind (literal_kind literal) at ts rest
-IsLiteral true at literal ts rest = (a : List Token) × (place : ℕ) × IsPunctuator punctuators.Minus at ts a × IsKind (literal_kind literal) place a rest
+pub record IsNegative (at : ℕ) (l : Literal) (ts rest : List Token) : Type 0 where
+  pub after_minus : List Token
+  pub place : ℕ
+  pub minus : IsPunctuator punctuators.Minus at ts after_minus
+  pub literal : IsKind (literal_kind l) place after_minus rest
 
-abbrev pub IsConstant : Constant → List Token → List Token → Type 0
-IsConstant c ts rest = IsLiteral c.negative c.at c.literal ts rest
+-- a literal, or `-` and a literal
+abbrev pub IsLiteral : Bool → ℕ → Literal → Phrase
+IsLiteral false at literal = IsKind (literal_kind literal) at
+IsLiteral true at literal = IsNegative at literal
+
+abbrev pub IsConstant : Constant → Phrase
+IsConstant c = IsLiteral c.negative c.at c.literal
 
 -- further constants, and the brace
-abbrev pub AreMoreConstants : List Constant → List Token → List Token → Type 0
-AreMoreConstants [] ts rest = HasPunctuator punctuators.CloseBrace ts rest
-AreMoreConstants (c ∷ cs) ts rest = (a : List Token) × (b : List Token) × HasPunctuator punctuators.Comma ts a × IsConstant c a b × AreMoreConstants cs b rest
+abbrev pub AreMoreConstants : List Constant → Phrase
+AreMoreConstants = AreMore IsConstant punctuators.CloseBrace
 
-abbrev pub AreConstants : List Constant → List Token → List Token → Type 0
-AreConstants [] ts rest = ⊥
-AreConstants (c ∷ cs) ts rest = (a : List Token) × IsConstant c ts a × AreMoreConstants cs a rest
+abbrev pub AreConstants : List Constant → Phrase
+AreConstants = AreSeparated IsConstant punctuators.CloseBrace
 
-abbrev pub IsInitialiser : Option Initialiser → List Token → List Token → Type 0
+pub record IsInitialiserList (at : ℕ) (cs : List Constant) (ts rest : List Token) : Type 0 where
+  pub after_assign : List Token
+  pub after_brace : List Token
+  pub assign : HasPunctuator punctuators.Assign ts after_assign
+  pub brace : IsPunctuator punctuators.OpenBrace at after_assign after_brace
+  pub constants : AreConstants cs after_brace rest
+
+abbrev pub IsInitialiser : Option Initialiser → Phrase
 IsInitialiser None ts rest = ts ≡ rest
-IsInitialiser (Some (Single c)) ts rest = (a : List Token) × HasPunctuator punctuators.Assign ts a × IsConstant c a rest
-IsInitialiser (Some (Several at cs)) ts rest = (a : List Token) × (b : List Token) × HasPunctuator punctuators.Assign ts a × IsPunctuator punctuators.OpenBrace at a b × AreConstants cs b rest
+IsInitialiser (Some (Single c)) ts rest =
+    InTurn (HasPunctuator punctuators.Assign) (IsConstant c) ts rest
+IsInitialiser (Some (Several at cs)) ts rest = IsInitialiserList at cs ts rest
 
-abbrev pub IsLength : Option Length → List Token → List Token → Type 0
+abbrev pub IsLength : Option Length → Phrase
 IsLength None ts rest = ts ≡ rest
-IsLength (Some n) ts rest = (a : List Token) × (b : List Token) × HasPunctuator punctuators.OpenBracket ts a × IsInteger n.value n.at a b × HasPunctuator punctuators.CloseBracket b rest
+IsLength (Some n) ts rest =
+    Between punctuators.OpenBracket (IsInteger n.value n.at) punctuators.CloseBracket ts rest
 
-abbrev pub IsGlobal : Global → List Token → List Token → Type 0
-IsGlobal g ts rest =
-    (a : List Token) × (b : List Token) × (c : List Token) × AreStars g.pointers ts a × IsIdentifier g.name a b × IsLength g.length b c × IsInitialiser g.initialiser c rest
+pub record IsGlobal (g : Global) (ts rest : List Token) : Type 0 where
+  pub after_stars : List Token
+  pub after_name : List Token
+  pub after_length : List Token
+  pub stars : AreStars g.pointers ts after_stars
+  pub name : IsIdentifier g.name after_stars after_name
+  pub length : IsLength g.length after_name after_length
+  pub initialiser : IsInitialiser g.initialiser after_length rest
 
 -- further globals, and the semicolon
-abbrev pub AreMoreGlobals : List Global → List Token → List Token → Type 0
-AreMoreGlobals [] ts rest = HasPunctuator punctuators.Semicolon ts rest
-AreMoreGlobals (g ∷ gs) ts rest = (a : List Token) × (b : List Token) × HasPunctuator punctuators.Comma ts a × IsGlobal g a b × AreMoreGlobals gs b rest
+abbrev pub AreMoreGlobals : List Global → Phrase
+AreMoreGlobals = AreMore IsGlobal punctuators.Semicolon
 
-abbrev pub AreGlobals : List Global → List Token → List Token → Type 0
-AreGlobals [] ts rest = ⊥
-AreGlobals (g ∷ gs) ts rest = (a : List Token) × IsGlobal g ts a × AreMoreGlobals gs a rest
+abbrev pub AreGlobals : List Global → Phrase
+AreGlobals = AreSeparated IsGlobal punctuators.Semicolon
 
 -- ---- functions
 
-abbrev pub IsParameter : Parameter → List Token → List Token → Type 0
-IsParameter p ts rest = (a : List Token) × IsType p.«of» ts a × IsIdentifier p.name a rest
+abbrev pub IsParameter : Parameter → Phrase
+IsParameter p = InTurn (IsType p.«of») (IsIdentifier p.name)
 
 -- further parameters, and the parenthesis
-abbrev pub AreMoreParameters : List Parameter → List Token → List Token → Type 0
-AreMoreParameters [] ts rest = HasPunctuator punctuators.CloseParenthesis ts rest
-AreMoreParameters (p ∷ ps) ts rest = (a : List Token) × (b : List Token) × HasPunctuator punctuators.Comma ts a × IsParameter p a b × AreMoreParameters ps b rest
+abbrev pub AreMoreParameters : List Parameter → Phrase
+AreMoreParameters = AreMore IsParameter punctuators.CloseParenthesis
 
 -- no parameters are written as nothing or as `void`
-abbrev pub AreParameters : List Parameter → List Token → List Token → Type 0
-AreParameters [] ts rest = HasPunctuator punctuators.CloseParenthesis ts rest ⊎ ((a : List Token) × HasKeyword keywords.Void ts a × HasPunctuator punctuators.CloseParenthesis a rest)
-AreParameters (p ∷ ps) ts rest = (a : List Token) × IsParameter p ts a × AreMoreParameters ps a rest
+abbrev pub AreParameters : List Parameter → Phrase
+AreParameters [] ts rest =
+    HasPunctuator punctuators.CloseParenthesis ts rest
+    ⊎ InTurn (HasKeyword keywords.Void) (HasPunctuator punctuators.CloseParenthesis) ts rest
+AreParameters (p ∷ ps) ts rest =
+    AreSeparated IsParameter punctuators.CloseParenthesis (p ∷ ps) ts rest
+
+pub record IsFunction (text : List ℕ) (type : CType) (identifier : Identifier)
+    (ps : List Parameter) (items : Statements) (ts rest : List Token) : Type 0 where
+  pub after_type : List Token
+  pub after_name : List Token
+  pub after_parenthesis : List Token
+  pub after_parameters : List Token
+  pub returns : IsType type ts after_type
+  pub name : IsIdentifier identifier after_type after_name
+  pub parenthesis : HasPunctuator punctuators.OpenParenthesis after_name after_parenthesis
+  pub parameters : AreParameters ps after_parenthesis after_parameters
+  pub body : IsBlock (AreBlockItems text items) after_parameters rest
 
 -- ---- programs
 
-abbrev pub IsExternalDeclaration : List ℕ → ExternalDeclaration → List Token → List Token → Type 0
-IsExternalDeclaration text (Globals base gs) ts rest = (a : List Token) × IsBase base ts a × AreGlobals gs a rest
-IsExternalDeclaration text (Function returns name ps body) ts rest =
-    (a : List Token) × (b : List Token) × (c : List Token) × (d : List Token) × (e : List Token)
-    × IsType returns ts a × IsIdentifier name a b × HasPunctuator punctuators.OpenParenthesis b c × AreParameters ps c d × HasPunctuator punctuators.OpenBrace d e × AreBlockItems text body e rest
+abbrev pub IsExternalDeclaration : List ℕ → ExternalDeclaration → Phrase
+IsExternalDeclaration text (Globals base gs) = InTurn (IsBase base) (AreGlobals gs)
+IsExternalDeclaration text (Function returns name ps body) = IsFunction text returns name ps body
 
 -- all tokens are the program
 abbrev pub IsProgram : List ℕ → List ExternalDeclaration → List Token → Type 0
 IsProgram text [] ts = ts ≡ []
-IsProgram text (x ∷ xs) ts = (a : List Token) × IsExternalDeclaration text x ts a × IsProgram text xs a
+IsProgram text (x ∷ xs) ts =
+    (mid : List Token) × IsExternalDeclaration text x ts mid × IsProgram text xs mid
 
 -- the text's tokens are the program
 abbrev pub ParsesAs : List ℕ → List ExternalDeclaration → Type 0
@@ -89,4 +122,6 @@ ParsesAs text xs = (ts : List Token) × IsTokens text ts × IsProgram text xs ts
 
 -- A text is one program at most.
 abbrev pub OneProgram : Type 0
-OneProgram = (text : List ℕ) (xs ys : List ExternalDeclaration) → ParsesAs text xs → ParsesAs text ys → xs ≡ ys
+OneProgram =
+    (text : List ℕ) (xs ys : List ExternalDeclaration)
+    → ParsesAs text xs → ParsesAs text ys → xs ≡ ys

@@ -6,10 +6,10 @@ use Rattle.c_syntax.specs.declared.operator.Arithmetic.{Arithmetic}
 use Rattle.c_syntax.specs.declared.operator.BinaryOperator.{BinaryOperator}
 use Rattle.c_syntax.specs.declared.operator.Increment.{Increment}
 use Rattle.c_syntax.specs.Expression.{Expression, Constant, Variable, Information, Call, Parentheses, Index, Postfix, Prefix, Unary, Cast, Binary, Conditional, Assign, Comma}
-use Rattle.c_syntax.specs.Expressions.{rank, SpellsExpression}
+use Rattle.c_syntax.specs.Expressions.{rank, TighterThan, IsEnclosed, IsApplied, SpellsExpression, Derives}
 use Rattle.c_syntax.specs.Follow.{follows}
-use Rattle.c_syntax.specs.Operators.{level, binary_punctuator, increment_punctuator, assignment_punctuator}
-use Rattle.c_syntax.specs.Tokens.{IsPunctuator, HasPunctuator}
+use Rattle.c_syntax.specs.Operators.{primary, postfix, unary, cast, logical_or, conditional, assignment, comma, level, binary_punctuator, increment_punctuator, assignment_punctuator}
+use Rattle.c_syntax.specs.Tokens.{Phrase, IsPunctuator}
 
 -- ---- what is after an operand
 
@@ -31,24 +31,41 @@ apply e (And at f) = Comma e at f
 
 -- the loosest level of the operand
 abbrev pub bound : Step → ℕ
-bound (At at i) = 1
-bound (After op at) = 1
+bound (At at i) = postfix
+bound (After op at) = postfix
 bound (With at op f) = level op
-bound (Choose at f g) = 13
-bound (Set at op f) = 2
-bound (And at f) = 16
+bound (Choose at f g) = logical_or
+bound (Set at op f) = unary
+bound (And at f) = comma
 
-abbrev pub Tail : List ℕ → Step → List Token → List Token → Type 0
-Tail text (At at i) ts rest = (b : List Token) × (c : List Token) × IsPunctuator punctuators.OpenBracket at ts b × SpellsExpression text i b c × HasPunctuator punctuators.CloseBracket c rest
-Tail text (After op at) ts rest = IsPunctuator (increment_punctuator op) at ts rest
-Tail text (With at op f) ts rest = (b : List Token) × IsPunctuator (binary_punctuator op) at ts b × (rank f < level op) × SpellsExpression text f b rest
-Tail text (Choose at f g) ts rest = (b : List Token) × (c : List Token) × (d : List Token) × IsPunctuator punctuators.Question at ts b × SpellsExpression text f b c × HasPunctuator punctuators.Colon c d × (rank g ≤ 14) × SpellsExpression text g d rest
-Tail text (Set at op f) ts rest = (b : List Token) × IsPunctuator (assignment_punctuator op) at ts b × (rank f ≤ 15) × SpellsExpression text f b rest
-Tail text (And at f) ts rest = (b : List Token) × IsPunctuator punctuators.Comma at ts b × (rank f ≤ 15) × SpellsExpression text f b rest
+-- the tokens of a step
+abbrev pub Tail : List ℕ → Step → Phrase
+Tail text (At at i) =
+    IsEnclosed punctuators.OpenBracket punctuators.CloseBracket at (SpellsExpression text i)
+Tail text (After op at) = IsPunctuator (increment_punctuator op) at
+Tail text (With at op f) =
+    IsApplied (IsPunctuator (binary_punctuator op) at)
+    (TighterThan (level op) f (SpellsExpression text f))
+Tail text (Choose at f g) =
+    IsApplied (IsEnclosed punctuators.Question punctuators.Colon at (SpellsExpression text f))
+    (Derives text conditional g)
+Tail text (Set at op f) =
+    IsApplied (IsPunctuator (assignment_punctuator op) at) (Derives text assignment f)
+Tail text (And at f) = IsApplied (IsPunctuator punctuators.Comma at) (Derives text assignment f)
 
+-- a step after the operand on its left, and the others after it
+pub record RunsOn (text : List ℕ) (left : Expression) (s : Step) (Others : List Token → Type 0)
+    (ts : List Token) : Type 0 where
+  pub after_step : List Token
+  pub fits : rank left ≤ bound s
+  pub step : Tail text s ts after_step
+  pub others : Others after_step
+
+-- steps from the operand on the left to the whole expression and its end
 abbrev pub Run : List ℕ → Expression → List Step → List Token → Expression → List Token → Type 0
 Run text left [] ts e end = (left ≡ e) × (ts ≡ end)
-Run text left (s ∷ steps) ts e end = (mid : List Token) × (rank left ≤ bound s) × Tail text s ts mid × Run text (apply left s) steps mid e end
+Run text left (s ∷ steps) ts e end =
+    RunsOn text left s (λ mid. Run text (apply left s) steps mid e end) ts
 
 abbrev pub IsHead : Expression → Type 0
 IsHead (Constant at literal) = Unit {0}
@@ -69,16 +86,16 @@ IsHead (Comma a at b) = ⊥
 -- what follows doesn't continue with the last operand, nor make a call of a name
 abbrev pub Closes : Expression → List Token → Type 0
 Closes (Constant at literal) ts = Unit {0}
-Closes (Variable name) ts = 0 < follows ts
+Closes (Variable name) ts = primary < follows ts
 Closes (Information at field) ts = Unit {0}
 Closes (Call name es) ts = Unit {0}
 Closes (Parentheses at e) ts = Unit {0}
 Closes (Index a at i) ts = Unit {0}
 Closes (Postfix e op at) ts = Unit {0}
-Closes (Prefix at op e) ts = 2 < follows ts
-Closes (Unary at op e) ts = 3 < follows ts
-Closes (Cast at to e) ts = 3 < follows ts
+Closes (Prefix at op e) ts = unary < follows ts
+Closes (Unary at op e) ts = cast < follows ts
+Closes (Cast at to e) ts = cast < follows ts
 Closes (Binary a at op b) ts = level op - 1 < follows ts
-Closes (Conditional c at a b) ts = 14 < follows ts
-Closes (Assign a at op b) ts = 15 < follows ts
-Closes (Comma a at b) ts = 15 < follows ts
+Closes (Conditional c at a b) ts = conditional < follows ts
+Closes (Assign a at op b) ts = assignment < follows ts
+Closes (Comma a at b) ts = assignment < follows ts

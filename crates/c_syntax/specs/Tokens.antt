@@ -7,6 +7,10 @@ use Rattle.c_lex.specs.declared.token.Kind.TheVariants as kinds
 use Rattle.c_lex.specs.declared.token.Token.{Token}
 use Rattle.c_syntax.specs.declared.expression.Identifier.{Identifier}
 
+-- which tokens spell a phrase, up to the rest after it
+abbrev pub Phrase : Type 1
+Phrase = List Token → List Token → Type 0
+
 abbrev pub token : Kind → ℕ → ℕ → Token
 token kind start end = record { kind = kind; start = start; end = end }
 

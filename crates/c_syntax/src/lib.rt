@@ -4,6 +4,9 @@
 //! reference, "try-except statement" and "try-finally statement"). Each node holds the places in
 //! the text where its faults are reported. Parentheses are nodes: they mean nothing, but nesting
 //! counts them. The grammar itself is in `specs/`: `Expressions`, `Statements` and `Programs`.
+//!
+//! Proved: a text is one program at most; its tokens have one first fault at most (`laws`). Begin
+//! with `specs/Programs.antt`, and for faults with `specs/Viable.antt`.
 #![tactic(auto)]
 
 pub mod declaration;

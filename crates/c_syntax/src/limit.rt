@@ -1,5 +1,7 @@
 //! The limits of a program (own).
 
+use seh_num::limit;
+
 /// What has a limit of number, in the order in which refusals name them.
 #[derive(Clone, Copy, Debug, PartialEq, Eq)]
 pub enum Count {
@@ -23,16 +25,16 @@ pub const MOST_EXPRESSIONS: u64 = 64;
 pub const MOST_STATEMENTS: u64 = 65;
 
 /// The most locals of a function.
-pub const MOST_LOCALS: u64 = 256;
+pub const MOST_LOCALS: u64 = limit::MOST_LOCALS;
 
 /// The most parameters of a function.
-pub const MOST_PARAMETERS: u64 = 8;
+pub const MOST_PARAMETERS: u64 = limit::MOST_PARAMETERS;
 
 /// The most functions of a program.
-pub const MOST_FUNCTIONS: u64 = 4_096;
+pub const MOST_FUNCTIONS: u64 = limit::MOST_FUNCTIONS;
 
 /// The most bytes of a program's globals.
-pub const MOST_GLOBALS: u64 = 1_048_576;
+pub const MOST_GLOBALS: u64 = limit::MOST_GLOBALS;
 
 /// The most filters and `__finally` blocks of a program that have a number.
-pub const MOST_FUNCLETS: u64 = 16_384;
+pub const MOST_FUNCLETS: u64 = limit::MOST_FUNCLETS;

@@ -5,3 +5,4 @@
 #![tactic(auto)]
 
 pub mod accepting;
+pub mod laws;

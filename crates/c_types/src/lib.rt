@@ -4,6 +4,8 @@
 //! 6.2.5 and 6.3). `operators`, `pointers`, `comparisons`, `unary` and `changes` have the
 //! operators: each answers the type and the node of the whole, or none where a rule on types is
 //! broken (C11, 6.5). Each function equals its definition in `c_resolved`.
+//!
+//! Begin with `types` and `typed`.
 #![tactic(auto)]
 
 pub mod changes;

@@ -15,7 +15,7 @@ use Rattle.c_parse.specs.Nodes as counted
 use Rattle.c_parse.specs.Nodes.{nodes_of_arguments}
 use Rattle.c_resolved.specs.declared.fault.Fault.{Fault}
 use Rattle.c_resolved.specs.Operators.{TypedNode, int, compound_assigned, assigned, comma_of}
-use Rattle.c_resolved.specs.Expressions.{Entity, LocalVariable, GlobalVariable, GlobalArray, UserFunction, BuiltInFunction, CodeFunction, AbnormalFunction, BuiltInConstant, Names, FaultAt, ResolvedExpression, ruled, rule_1, rule_2, rule_3, unless, literal, name, field, Wanted, built_in_wants, fits, passed, Argument, Passed, before, spoiled, pass, pass_all, called, call_with, only_where, call, changed, resolve_expression, resolve_arguments, OfType, ZeroLiteral}
+use Rattle.c_resolved.specs.Expressions.{Entity, LocalVariable, GlobalVariable, GlobalArray, UserFunction, BuiltInFunction, CodeFunction, AbnormalFunction, BuiltInConstant, Names, FaultAt, ResolvedExpression, ruled, rule_1, rule_2, rule_3, given_that, literal, name, field, Wanted, built_in_wants, fits, passed, Argument, Passed, before, spoiled, pass, pass_all, called, call_with, only_where, call, changed, resolve_expression, resolve_arguments, OfType, ZeroLiteral}
 use Rattle.code_bounds.specs.Rooms.{expression_room, node_room, arguments_room}
 use Rattle.code_bounds.proofs.BoundOperators.{weight, LightIf, lighter, typed_weight, binary_light, element_light, incremented_light, assigned_light, compound_light, unary_light, cast_light, conditional_light, comma_light}
 
@@ -25,12 +25,12 @@ ruled_light : (n at : ℕ) (f : Fault) (fs : List FaultAt) (o : Option TypedNode
 ruled_light n at f fs None h = tt
 ruled_light n at f fs (Some t) h = h
 
-unless_light : (n : ℕ) (b : Bool) (at : ℕ) (f : Fault) (fs : List FaultAt) (j : ResolvedExpression) → LightIf n j.found → LightIf n (unless b at f fs j).found
-unless_light n true at f fs j h = h
-unless_light n false at f fs j h = tt
+given_that_light : (n : ℕ) (b : Bool) (at : ℕ) (f : Fault) (fs : List FaultAt) (j : ResolvedExpression) → LightIf n j.found → LightIf n (given_that b at f fs j).found
+given_that_light n true at f fs j h = h
+given_that_light n false at f fs j h = tt
 
 only_where_light : (n : ℕ) (b : Bool) (at : ℕ) (f : Fault) (r : ResolvedExpression) → LightIf n r.found → LightIf n (only_where b at f r).found
-only_where_light n b at f r h = unless_light n b at f r.faults r h
+only_where_light n b at f r h = given_that_light n b at f r.faults r h
 
 rule_1_light : (m n at : ℕ) (rule : TypedNode → Option TypedNode) (fs : List FaultAt) (o : Option TypedNode) → LightIf m o → ((a : TypedNode) → weight a ≤ m → LightIf n (rule a)) → LightIf n (rule_1 at rule fs o).found
 rule_1_light m n at rule fs None h go = tt
@@ -63,7 +63,7 @@ field_light : (f : Field) → LightIf 220 (field f).found
 field_light record_fields.Code = omega arith
 field_light record_fields.Flags = omega arith
 field_light record_fields.Count = omega arith
-field_light (record_fields.Information k at) = unless_light 220 (nat_le k 14) at _ [] _ (omega arith)
+field_light (record_fields.Information k at) = given_that_light 220 (nat_le k 14) at _ [] _ (omega arith)
 
 -- ---- calls
 
@@ -104,7 +104,7 @@ called_light n t make None fs h go = tt
 called_light n t make (Some es) fs h go = let g = go es in omega arith
 
 with_light : (n at : ℕ) (ws : List Wanted) (t : CType) (make : nodes.Arguments → Node) (args : List Argument) → ArgumentsLight args n → ((es : nodes.Arguments) → node_room (make es) ≤ 109 + arguments_room es) → LightIf (220 + n) (call_with at ws t make args).found
-with_light n at ws t make args h go = unless_light (220 + n) (nat_eq (length ws) (length args)) at _ _ _ (called_light n t make (pass_all ws args).found (pass_all ws args).faults (pass_all_light ws args n h) go)
+with_light n at ws t make args h go = given_that_light (220 + n) (nat_eq (length ws) (length args)) at _ _ _ (called_light n t make (pass_all ws args).found (pass_all ws args).faults (pass_all_light ws args n h) go)
 
 call_light : (s : Names) (n at : ℕ) (e : Option Entity) (args : List Argument) → ArgumentsLight args n → LightIf (220 + n) (call s at e args).found
 call_light s n at (Some (UserFunction f t ps)) args h = with_light n at (map OfType ps) t (nodes.Call f) args h (λ es. omega arith)
@@ -125,7 +125,7 @@ mutual
   pub resolved_light : (s : Names) (e : Expression) → LightIf (220 * counted.nodes e) (resolve_expression s e).found
   resolved_light s (trees.Constant at l) = literal_light l
   resolved_light s (trees.Variable n) = name_light n.start (s.entity n)
-  resolved_light s (trees.Information at f) = unless_light 220 s.information at _ [] (field f) (field_light f)
+  resolved_light s (trees.Information at f) = given_that_light 220 s.information at _ [] (field f) (field_light f)
   resolved_light s (trees.Call n es) =
       lighter (220 + 220 * nodes_of_arguments es) (220 * counted.nodes (trees.Call n es)) (resolve_expression s (trees.Call n es)).found (omega arith) (call_light s (220 * nodes_of_arguments es) n.start (s.entity n) (resolve_arguments s es) (arguments_light s es))
   resolved_light s (trees.Parentheses at e) = lighter (220 * counted.nodes e) (220 * (1 + counted.nodes e)) (resolve_expression s e).found (omega arith) (resolved_light s e)
@@ -138,15 +138,15 @@ mutual
   resolved_light s (trees.Postfix e o at) =
       let n = 220 * counted.nodes e in
       lighter (220 + n) (220 * counted.nodes (trees.Postfix e o at)) (resolve_expression s (trees.Postfix e o at)).found (omega arith)
-      (unless_light (220 + n) _ (start e) _ _ _ (rule_1_light n (220 + n) at _ _ (resolve_expression s e).found (resolved_light s e) (λ x p. lighter (220 + weight x) (220 + n) _ (omega arith) (incremented_light _ o x))))
+      (given_that_light (220 + n) _ (start e) _ _ _ (rule_1_light n (220 + n) at _ _ (resolve_expression s e).found (resolved_light s e) (λ x p. lighter (220 + weight x) (220 + n) _ (omega arith) (incremented_light _ o x))))
   resolved_light s (trees.Prefix at o e) =
       let n = 220 * counted.nodes e in
       lighter (220 + n) (220 * counted.nodes (trees.Prefix at o e)) (resolve_expression s (trees.Prefix at o e)).found (omega arith)
-      (unless_light (220 + n) _ (start e) _ _ _ (rule_1_light n (220 + n) at _ _ (resolve_expression s e).found (resolved_light s e) (λ x p. lighter (220 + weight x) (220 + n) _ (omega arith) (incremented_light _ o x))))
+      (given_that_light (220 + n) _ (start e) _ _ _ (rule_1_light n (220 + n) at _ _ (resolve_expression s e).found (resolved_light s e) (λ x p. lighter (220 + weight x) (220 + n) _ (omega arith) (incremented_light _ o x))))
   resolved_light s (trees.Unary at o e) =
       let n = 220 * counted.nodes e in
       lighter (220 + n) (220 * counted.nodes (trees.Unary at o e)) (resolve_expression s (trees.Unary at o e)).found (omega arith)
-      (unless_light (220 + n) _ (start e) _ _ _ (rule_1_light n (220 + n) at _ _ (resolve_expression s e).found (resolved_light s e) (λ x p. lighter (220 + weight x) (220 + n) _ (omega arith) (unary_light o x))))
+      (given_that_light (220 + n) _ (start e) _ _ _ (rule_1_light n (220 + n) at _ _ (resolve_expression s e).found (resolved_light s e) (λ x p. lighter (220 + weight x) (220 + n) _ (omega arith) (unary_light o x))))
   resolved_light s (trees.Cast at t e) =
       let n = 220 * counted.nodes e in
       lighter (220 + n) (220 * counted.nodes (trees.Cast at t e)) (resolve_expression s (trees.Cast at t e)).found (omega arith)
@@ -168,7 +168,7 @@ mutual
       let k = 220 * counted.nodes a in
       let m = 220 * counted.nodes b in
       lighter (220 + (k + m)) (220 * counted.nodes (trees.Assign a at o b)) (resolve_expression s (trees.Assign a at o b)).found (omega arith)
-      (unless_light (220 + (k + m)) _ (start a) _ _ _ (changed_light o at (start b) k m (resolve_expression s a) (resolve_expression s b) (resolved_light s a) (resolved_light s b)))
+      (given_that_light (220 + (k + m)) _ (start a) _ _ _ (changed_light o at (start b) k m (resolve_expression s a) (resolve_expression s b) (resolved_light s a) (resolved_light s b)))
   resolved_light s (trees.Comma a at b) =
       let k = 220 * counted.nodes a in
       let m = 220 * counted.nodes b in

@@ -7,7 +7,7 @@ use Rattle.linear_code.specs.declared.slot.Slot.TheVariants.{Temporary}
 use Rattle.linear_code.specs.declared.instruction.Instruction.TheVariants.{Return}
 use Rattle.linear_code.specs.Program.{LinearFunclet}
 use Rattle.seh_ir.specs.declared.funclets.Owner.{Owner}
-use Rattle.seh_ir.specs.Expressions.{constant}
+use Rattle.ir_expressions.specs.Expressions.{constant}
 use Rattle.seh_ir.specs.Statements.{statements_code}
 use Rattle.seh_ir.specs.Lowered.{all_locals, scope_of, lowered_function, lowered_funclets, all_funclets}
 use Rattle.ir_linked.proofs.Numbers.{statements_count}

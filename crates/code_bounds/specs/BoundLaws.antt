@@ -1,5 +1,6 @@
 -- What is claimed of every accepted text within the limits and the linear code of its program.
 use Rattle.std.specs.Prelude.{◌≤◌, ℕ, ◌*◌, ◌^◌, List, length}
+use Rattle.host_layout.specs.declared.limit.TheConstants.{MOST_TEXT}
 use Rattle.c_lex.specs.declared.token.Token.{Token}
 use Rattle.c_lex.specs.Text.{IsTokens}
 use Rattle.c_syntax.specs.Limits.{Within}
@@ -14,14 +15,19 @@ use Rattle.code_bounds.specs.Rooms.{functions_room}
 
 -- no text's code takes more than 220 bytes for each of its nodes
 abbrev pub CodeIsBounded : Type 0
-CodeIsBounded = (text : List ℕ) (xs : List ExternalDeclaration) → functions_room (resolve text xs).program.functions ≤ 220 * nodes_of xs
+CodeIsBounded =
+    (text : List ℕ) (xs : List ExternalDeclaration)
+    → functions_room (resolve text xs).program.functions ≤ 220 * nodes_of xs
 
 -- each accepted text within the limits of at most 2 to the 20 nodes can be linked
 abbrev pub AcceptedFits : Type 0
-AcceptedFits = (text : List ℕ) (xs : List ExternalDeclaration) → Within text xs → Accepted text xs → nodes_of xs ≤ 2 ^ 20 → FitsProgram (lowered (resolve text xs).program)
+AcceptedFits =
+    (text : List ℕ) (xs : List ExternalDeclaration) → Within text xs → Accepted text xs
+    → nodes_of xs ≤ 2 ^ 20 → FitsProgram (lowered (resolve text xs).program)
 
--- the program of tokens of a text of at most 1 MiB
+-- the program of tokens of a text
 abbrev pub TextsFit : Type 0
 TextsFit =
-    (text : List ℕ) (tokens : List Token) (xs : List ExternalDeclaration) → IsTokens text tokens → IsProgram text xs tokens → Within text xs → Accepted text xs
-    → length text ≤ 1048576 → FitsProgram (lowered (resolve text xs).program)
+    (text : List ℕ) (tokens : List Token) (xs : List ExternalDeclaration) → IsTokens text tokens
+    → IsProgram text xs tokens → Within text xs → Accepted text xs
+    → length text ≤ MOST_TEXT → FitsProgram (lowered (resolve text xs).program)

@@ -56,16 +56,19 @@ abbrev mutual
   node_room (nodes.AddressOf p) = address_room p (locate_room p)
   node_room (nodes.Assign p e) = locate_room p + (expression_room e + write_room p)
   node_room (nodes.CompoundAssign p before o e after) =
-      locate_room p + (read_room p + (conversion_room before + (expression_room e + (35 + (conversion_room after + write_room p)))))
+      locate_room p + (read_room p + (conversion_room before
+      + (expression_room e + (35 + (conversion_room after + write_room p)))))
   node_room (nodes.Increment m p before o n after) =
-      locate_room p + (read_room p + (35 + (conversion_room before + (70 + (conversion_room after + (write_room p + 35))))))
+      locate_room p + (read_room p + (35 + (conversion_room before
+      + (70 + (conversion_room after + (write_room p + 35))))))
   node_room (nodes.Unary o e) = expression_room e + 70
   node_room (nodes.Binary o e f) = expression_room e + (expression_room f + 35)
   node_room (nodes.PointerDifference n e f) = expression_room e + (expression_room f + 105)
   node_room (nodes.Not e) = expression_room e + 93
   node_room (nodes.And e f) = expression_room e + (18 + (expression_room f + 93))
   node_room (nodes.Or e f) = expression_room e + (58 + (expression_room f + 93))
-  node_room (nodes.Conditional c e f) = expression_room c + (18 + (expression_room e + (5 + expression_room f)))
+  node_room (nodes.Conditional c e f) =
+      expression_room c + (18 + (expression_room e + (5 + expression_room f)))
   node_room (nodes.Comma e f) = expression_room e + (expression_room f + 35)
   node_room (nodes.Call f es) = arguments_room es + 109
   node_room (nodes.CallBuiltIn k es) = arguments_room es + 50
@@ -105,23 +108,28 @@ abbrev pub filter_room : Filter → ℕ
 filter_room Always = 0
 filter_room (Funclet k e) = expression_room e + 16
 
--- of a statement and of the filters and `__finally` blocks in it, with 16 bytes for the scope record of each `__try`
+-- of a statement and of the filters and `__finally` blocks in it, with 16 bytes for the scope
+-- record of each `__try`
 abbrev mutual
   pub statement_room : Statement → ℕ
   statement_room (Declare d) = declared_room d
   statement_room (Block ss) = statements_room ss
   statement_room (Evaluate e) = discarded_room e
   statement_room (If c s) = expression_room c + (18 + statement_room s)
-  statement_room (IfElse c s t) = expression_room c + (18 + (statement_room s + (5 + statement_room t)))
+  statement_room (IfElse c s t) =
+      expression_room c + (18 + (statement_room s + (5 + statement_room t)))
   statement_room (For ds first c next s) =
-      all_declared_room ds + (discarded_room first + (condition_room c + (statement_room s + (1 + (discarded_room next + 5)))))
+      all_declared_room ds + (discarded_room first + (condition_room c
+      + (statement_room s + (1 + (discarded_room next + 5)))))
   statement_room (DoWhile s c) = statement_room s + (1 + (expression_room c + 23))
   statement_room (Return e) = returned_room e + 17
   statement_room Break = 16
   statement_room Continue = 16
   statement_room Leave = 5
-  statement_room (TryExcept body filter block) = statements_room body + (21 + (statements_room block + (filter_room filter + 16)))
-  statement_room (TryFinally body k last) = statements_room body + (15 + (statements_room last + (24 + 16)))
+  statement_room (TryExcept body filter block) =
+      statements_room body + (21 + (statements_room block + (filter_room filter + 16)))
+  statement_room (TryFinally body k last) =
+      statements_room body + (15 + (statements_room last + (24 + 16)))
 
   pub statements_room : Statements → ℕ
   statements_room Empty = 0

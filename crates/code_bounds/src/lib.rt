@@ -1,5 +1,5 @@
-//! How many bytes the code and the tables of a text's program take: every accepted text of at most 1 MiB
-//! is within the limits of linking. Begin reading with the laws.
+//! How many bytes the code and the tables of a text's program take: every accepted text of at most
+//! 1 MiB is within the limits of linking. Begin reading with the laws.
 #![tactic(auto)]
 
 pub mod bound_laws;

@@ -9,6 +9,7 @@ use Rattle.clap.specs.declared.builder.action.ArgAction.TheVariants.{Set, SetTru
 use Rattle.command_line.specs.declared.command.Command.{Command}
 use Rattle.command_line.specs.declared.command.Command.TheVariants.{Compile, Exec, Run, Meaning, Show}
 use Rattle.command_line.specs.declared.command.RunOptions.{RunOptions}
+use Rattle.command_line.specs.declared.reading.TheConstants.{DEFAULT_TURNS}
 
 -- ---- the commands as `clap` reads them: `compile`, `show`, and `exec`, `run` and `meaning` with `--turns N`, `--arg N` and `--trace`, each at most once and in any order
 
@@ -26,7 +27,9 @@ show_app = new_app (codes "show")
 
 -- a command that takes the options of a run
 abbrev pub run_app_named : Text → App
-run_app_named name = with_rule (with_rule (with_rule (new_app name) (number_option (codes "turns"))) (number_option (codes "arg"))) (flag (codes "trace"))
+run_app_named name =
+    with_rule (with_rule (with_rule (new_app name) (number_option (codes "turns")))
+    (number_option (codes "arg"))) (flag (codes "trace"))
 
 abbrev pub exec_app : App
 exec_app = run_app_named (codes "exec")
@@ -40,23 +43,34 @@ meaning_app = run_app_named (codes "meaning")
 -- the words after the program's name are a command, and none of them asks for help or a version
 abbrev pub bare_app : App
 bare_app =
-    on_top (λ s. record s { no_binary_name = true; disable_help_flag = true; disable_help_subcommand = true; disable_version_flag = true; subcommand_required = true })
+    on_top (λ s. record s {
+      no_binary_name = true;
+      disable_help_flag = true;
+      disable_help_subcommand = true;
+      disable_version_flag = true;
+      subcommand_required = true;
+    })
     (new_app (codes "seh"))
 
 abbrev pub seh_app : App
-seh_app = with_subcommand (with_subcommand (with_subcommand (with_subcommand (with_subcommand bare_app compile_app.top) show_app.top) exec_app.top) run_app.top) meaning_app.top
+seh_app =
+    with_subcommand (with_subcommand (with_subcommand (with_subcommand
+    (with_subcommand bare_app compile_app.top) show_app.top) exec_app.top) run_app.top)
+    meaning_app.top
 
 -- ---- what a line means
 
--- the number that an option gives, as it is written in decimal digits with no sign and no leading zero; another one where the option isn't there
+-- the number that an option gives, as it is written in decimal digits with no sign and no leading
+-- zero; another one where the option isn't there
 abbrev pub IsNumber : ℕ → Option Text → ℕ → Type 0
 IsNumber other None n = n ≡ other
 IsNumber other (Some text) n = (text ≡ decimal n) × (n < 2 ^ 63)
 
 pub record HasOptions (options : RunOptions) (rows : List Row) : Type 0 where
-  pub turns : IsNumber 10000000 (first_of (codes "turns") rows) options.turns
+  pub turns : IsNumber DEFAULT_TURNS (first_of (codes "turns") rows) options.turns
   pub argument : (n : ℕ) × IsNumber 0 (first_of (codes "arg") rows) n × (options.argument ≡ pos n)
-  pub trace : options.trace ≡ option_map_or (λ t. bytes_eq t (codes "true")) (first_of (codes "trace") rows) false
+  pub trace : options.trace ≡ option_map_or (λ t. bytes_eq t (codes "true"))
+      (first_of (codes "trace") rows) false
 
 abbrev pub Names : Command → Text × List Row → Type 0
 Names Compile x = x.0 ≡ codes "compile"
@@ -67,7 +81,9 @@ Names (Meaning options) x = (x.0 ≡ codes "meaning") × HasOptions options x.1
 
 -- the words are a line of the command set, which means the command
 abbrev pub IsLine : List Text → Command → Type 0
-IsLine words command = (fault_of seh_app words ≡ []) × ((x : Text × List Row) × (subcommand_of seh_app words ≡ Some x) × Names command x)
+IsLine words command =
+    (fault_of seh_app words ≡ []) × ((x : Text × List Row) × (subcommand_of seh_app words ≡ Some x)
+    × Names command x)
 
 abbrev pub IsNoLine : List Text → Type 0
 IsNoLine words = (command : Command) → IsLine words command → ⊥

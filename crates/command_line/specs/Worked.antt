@@ -11,13 +11,20 @@ abbrev pub ShowAlone : Type 0
 ShowAlone = IsLine (codes "show" ∷ []) Show
 
 abbrev pub ExecAlone : Type 0
-ExecAlone = IsLine (codes "exec" ∷ []) (Exec (record { turns = 10000000; argument = pos 0; trace = false }))
+ExecAlone =
+    IsLine (codes "exec" ∷ []) (Exec (record { turns = 10000000; argument = pos 0; trace = false }))
 
 abbrev pub ExecWithAll : Type 0
-ExecWithAll = IsLine (codes "exec" ∷ codes "--trace" ∷ codes "--arg" ∷ codes "9" ∷ codes "--turns" ∷ codes "0" ∷ []) (Exec (record { turns = 0; argument = pos 9; trace = true }))
+ExecWithAll =
+    IsLine (codes "exec" ∷ codes "--trace" ∷ codes "--arg" ∷ codes "9" ∷ codes "--turns" ∷ codes "0"
+    ∷ []) (Exec (record { turns = 0; argument = pos 9; trace = true }))
 
 abbrev pub RunWithTurns : Type 0
-RunWithTurns = IsLine (codes "run" ∷ codes "--turns" ∷ codes "7" ∷ []) (Run (record { turns = 7; argument = pos 0; trace = false }))
+RunWithTurns =
+    IsLine (codes "run" ∷ codes "--turns" ∷ codes "7" ∷ [])
+    (Run (record { turns = 7; argument = pos 0; trace = false }))
 
 abbrev pub MeaningWithTrace : Type 0
-MeaningWithTrace = IsLine (codes "meaning" ∷ codes "--trace" ∷ []) (Meaning (record { turns = 10000000; argument = pos 0; trace = true }))
+MeaningWithTrace =
+    IsLine (codes "meaning" ∷ codes "--trace" ∷ [])
+    (Meaning (record { turns = 10000000; argument = pos 0; trace = true }))

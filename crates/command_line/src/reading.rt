@@ -175,8 +175,8 @@ fn command_named(name: &str, matches: &ArgMatches<'_>) -> Result<Command, WordsE
 /// The command that the words after the program's name are.
 ///
 /// `exec`, `run` and `meaning` take `--turns N`, `--arg N` and `--trace`, each at most once and in
-/// any order; a number is written in decimal digits with no sign and no leading zero, and is at most
-/// 2^63 - 1. Words that ask for help or a version are no line of the command set.
+/// any order; a number is written in decimal digits with no sign and no leading zero, and is at
+/// most 2^63 - 1. Words that ask for help or a version are no line of the command set.
 pub fn command_of(alloc: Global, words: &[String]) -> Result<Command, WordsErr>
     ensures found { IfOk result (IsLine (map string_bytes words.now)) }
     ensures usage { result ≡ Err WordsErr.Usage → IsNoLine (map string_bytes words.now) }

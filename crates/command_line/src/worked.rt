@@ -2,8 +2,8 @@
 
 ghost use Rattle.command_line.specs.Worked.{CompileAlone, ShowAlone, ExecAlone, ExecWithAll, RunWithTurns, MeaningWithTrace};
 
-/// `compile`; `show`; `exec`, with 10,000,000 turns, the argument 0 and no trace; `exec` with all options;
-/// `run` for 7 turns; `meaning` with a trace.
+/// `compile`; `show`; `exec`, with 10,000,000 turns, the argument 0 and no trace; `exec` with all
+/// options; `run` for 7 turns; `meaning` with a trace.
 pub fn worked_lines()
     ensures compile { CompileAlone }
     ensures show { ShowAlone }

@@ -23,7 +23,8 @@ pace = 16
 abbrev pub most_before_main : ℕ
 most_before_main = 224
 
--- in 256 n + 256 turns the machine shows what the program shows within n steps, and has ended as it ends
+-- in 256 n + 256 turns the machine shows what the program shows within n steps, and has ended as it
+-- ends
 abbrev pub MatchedRunsShowAll : Type 0
 MatchedRunsShowAll =
     (t : Functions) (fs : List Funclet) (program : Program) → IsSound program
@@ -31,7 +32,8 @@ MatchedRunsShowAll =
     → Begins t fs (lowered program) pace credit arg first s (16 * n + 2) → first ≤ most_before_main
     → ShowsAll (meaning program arg n) (run t fs (256 * n + 256) (host s) [])
 
--- in m turns it shows no more than the program shows within (m + 1) * K steps, where these are calm, and ends only as it ends
+-- in m turns it shows no more than the program shows within (m + 1) * K steps, where these are
+-- calm, and ends only as it ends
 abbrev pub MatchedRunsShowNoMore : Type 0
 MatchedRunsShowNoMore =
     (t : Functions) (fs : List Funclet) (program : Program) → IsSound program
@@ -40,7 +42,8 @@ MatchedRunsShowNoMore =
     → Calm program arg n ≡ true
     → ShowsNoMore (meaning program arg n) (run t fs m (host s) [])
 
--- after m turns, where the run has not ended by then, the walk gives the shadow, if it does in the first state
+-- after m turns, where the run has not ended by then, the walk gives the shadow, if it does in the
+-- first state
 abbrev pub MatchedRunsWalkTheShadow : Type 0
 MatchedRunsWalkTheShadow =
     (t : Functions) (fs : List Funclet) (program : Program) → IsSound program

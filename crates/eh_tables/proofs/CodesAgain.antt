@@ -3,6 +3,7 @@ use Rattle.std.proofs.Common.{◌≡◌, ℕ, ◌+◌, ◌-◌, ◌*◌, ◌/◌
 use Rattle.std.proofs.lemmas.Bool.{cond_both, and_parts, eqb-true, ltb-true, lt-ltb, le-ltb}
 use Rattle.std.specs.List.{AllByRecursion}
 use Rattle.std.specs.Prelude.{◌&&◌, ◌==◌, nat_lt, nat_le}
+use Rattle.eh_tables.specs.declared.layout.TheConstants.{UWOP_PUSH_NONVOL, UWOP_ALLOC_LARGE, UWOP_ALLOC_SMALL, UWOP_SET_FPREG, UWOP_SAVE_NONVOL, UWOP_SAVE_NONVOL_FAR, UWOP_SAVE_XMM128, UWOP_SAVE_XMM128_FAR, UWOP_PUSH_MACHFRAME}
 use Rattle.eh_tables.specs.declared.code.UnwindOperation.{UnwindOperation}
 use Rattle.eh_tables.specs.declared.code.UnwindOperation.TheVariants.{Push, Allocate, SetFrame, Save, SaveVector, MachineFrame}
 use Rattle.eh_tables.specs.declared.code.UnwindCode.{UnwindCode}
@@ -10,6 +11,7 @@ use Rattle.eh_tables.specs.Codes.{operation, code_before, codes, code_checked, i
 use Rattle.pe_image.specs.Numbers.{u16, u32}
 use Rattle.eh_tables.specs.Written.{slot, is_short, is_small, allocation, saving, operation_bytes, code_bytes, codes_bytes, Fits, AreFalling}
 use Rattle.eh_tables.specs.ReadAgain.{IsOperation}
+use Rattle.eh_tables.proofs.TablesAgain.{four_is}
 
 -- ---- a code's first slot, and its operands
 
@@ -23,16 +25,10 @@ operation_is : (framed : Bool) (op info : ℕ) (rest : List ℕ) → op < 16 →
 operation_is framed op info rest lt = ap (λ n. operation framed n ((op + 16 * info) / 16) rest) (first_is op info lt) ∙ ap (λ n. operation framed op n rest) (second_is op info lt)
 
 abbrev two : ℕ → ℕ
-two n = n % 256 + 256 * (n / 256 % 256)
-
-abbrev four : ℕ → ℕ
-four n = n % 256 + 256 * (n / 256 % 256) + 65536 * (n / 65536 % 256) + 16777216 * (n / 16777216 % 256)
+two n = n % 256 + 256 * (n / 256 % 256 + 256 * 0)
 
 two_is : (n : ℕ) → n < 65536 → two n ≡ n
 two_is n lt = omega arith
-
-four_is : (n : ℕ) → n < 2 ^ 32 → four n ≡ n
-four_is n lt = omega arith
 
 -- ---- what one code's bytes are read as, whatever follows
 
@@ -97,40 +93,40 @@ small_is n is =
     omega (arith, whole, some)
 
 module _ (framed : Bool) (offset : ℕ) where
-  pushed : (r : ℕ) → IsReadAs framed offset (Push r) (slot offset 0 r)
+  pushed : (r : ℕ) → IsReadAs framed offset (Push r) (slot offset UWOP_PUSH_NONVOL r)
   unfolding operation
-  pushed r = bare framed offset 0 r (Push r) (omega arith) (λ rest. refl)
+  pushed r = bare framed offset UWOP_PUSH_NONVOL r (Push r) (omega arith) (λ rest. refl)
 
-  frame_set : framed ≡ true → IsReadAs framed offset SetFrame (slot offset 3 0)
+  frame_set : framed ≡ true → IsReadAs framed offset SetFrame (slot offset UWOP_SET_FPREG 0)
   unfolding operation
-  frame_set is = bare framed offset 3 0 SetFrame (omega arith) (λ rest. ap (λ b. cond b (Some (SetFrame, 0)) None) is)
+  frame_set is = bare framed offset UWOP_SET_FPREG 0 SetFrame (omega arith) (λ rest. ap (λ b. cond b (Some (SetFrame, 0)) None) is)
 
-  machine : (i : ℕ) → i < 2 → IsReadAs framed offset (MachineFrame i) (slot offset 10 i)
+  machine : (i : ℕ) → i < 2 → IsReadAs framed offset (MachineFrame i) (slot offset UWOP_PUSH_MACHFRAME i)
   unfolding operation
-  machine i lt = bare framed offset 10 i (MachineFrame i) (omega arith) (λ rest. ap (λ b. cond b (Some (MachineFrame i, 0)) None) (lt-ltb i 2 lt))
+  machine i lt = bare framed offset UWOP_PUSH_MACHFRAME i (MachineFrame i) (omega arith) (λ rest. ap (λ b. cond b (Some (MachineFrame i, 0)) None) (lt-ltb i 2 lt))
 
   allocated : (n : ℕ) → n < 2 ^ 32 → IsReadAs framed offset (Allocate n) (allocation offset n)
   unfolding operation u16 u32
   allocated n lt =
-      cond_both (is_small n) (slot offset 2 (n / 8 - 1)) (cond (is_short 8 n) (slot offset 1 0 ++ u16 (n / 8)) (slot offset 1 1 ++ u32 n)) (IsReadAs framed offset (Allocate n))
-      (λ is. bare framed offset 2 (n / 8 - 1) (Allocate n) (omega arith) (λ rest. ap (λ m. Some (Allocate m, 0)) (small_is n is)))
-      (λ more. cond_both (is_short 8 n) (slot offset 1 0 ++ u16 (n / 8)) (slot offset 1 1 ++ u32 n) (IsReadAs framed offset (Allocate n))
-      (λ is. short framed offset 1 0 (Allocate n) (omega arith) (n / 8) (λ rest. ap (λ m. Some (Allocate m, 1)) (eight_is n is)))
-      (λ far. long framed offset 1 1 (Allocate n) (omega arith) n (λ rest. ap (λ m. Some (Allocate m, 2)) (four_is n lt))))
+      cond_both (is_small n) (slot offset UWOP_ALLOC_SMALL (n / 8 - 1)) (cond (is_short 8 n) (slot offset UWOP_ALLOC_LARGE 0 ++ u16 (n / 8)) (slot offset UWOP_ALLOC_LARGE 1 ++ u32 n)) (IsReadAs framed offset (Allocate n))
+      (λ is. bare framed offset UWOP_ALLOC_SMALL (n / 8 - 1) (Allocate n) (omega arith) (λ rest. ap (λ m. Some (Allocate m, 0)) (small_is n is)))
+      (λ more. cond_both (is_short 8 n) (slot offset UWOP_ALLOC_LARGE 0 ++ u16 (n / 8)) (slot offset UWOP_ALLOC_LARGE 1 ++ u32 n) (IsReadAs framed offset (Allocate n))
+      (λ is. short framed offset UWOP_ALLOC_LARGE 0 (Allocate n) (omega arith) (n / 8) (λ rest. ap (λ m. Some (Allocate m, 1)) (eight_is n is)))
+      (λ far. long framed offset UWOP_ALLOC_LARGE 1 (Allocate n) (omega arith) n (λ rest. ap (λ m. Some (Allocate m, 2)) (four_is n lt))))
 
-  saved : (r n : ℕ) → n < 2 ^ 32 → IsReadAs framed offset (Save r n) (saving offset 4 8 r n)
+  saved : (r n : ℕ) → n < 2 ^ 32 → IsReadAs framed offset (Save r n) (saving offset UWOP_SAVE_NONVOL UWOP_SAVE_NONVOL_FAR 8 r n)
   unfolding operation u16 u32
   saved r n lt =
-      cond_both (is_short 8 n) (slot offset 4 r ++ u16 (n / 8)) (slot offset 5 r ++ u32 n) (IsReadAs framed offset (Save r n))
-      (λ is. short framed offset 4 r (Save r n) (omega arith) (n / 8) (λ rest. ap (λ m. Some (Save r m, 1)) (eight_is n is)))
-      (λ far. long framed offset 5 r (Save r n) (omega arith) n (λ rest. ap (λ m. Some (Save r m, 2)) (four_is n lt)))
+      cond_both (is_short 8 n) (slot offset UWOP_SAVE_NONVOL r ++ u16 (n / 8)) (slot offset UWOP_SAVE_NONVOL_FAR r ++ u32 n) (IsReadAs framed offset (Save r n))
+      (λ is. short framed offset UWOP_SAVE_NONVOL r (Save r n) (omega arith) (n / 8) (λ rest. ap (λ m. Some (Save r m, 1)) (eight_is n is)))
+      (λ far. long framed offset UWOP_SAVE_NONVOL_FAR r (Save r n) (omega arith) n (λ rest. ap (λ m. Some (Save r m, 2)) (four_is n lt)))
 
-  vector_saved : (r n : ℕ) → n < 2 ^ 32 → IsReadAs framed offset (SaveVector r n) (saving offset 8 16 r n)
+  vector_saved : (r n : ℕ) → n < 2 ^ 32 → IsReadAs framed offset (SaveVector r n) (saving offset UWOP_SAVE_XMM128 UWOP_SAVE_XMM128_FAR 16 r n)
   unfolding operation u16 u32
   vector_saved r n lt =
-      cond_both (is_short 16 n) (slot offset 8 r ++ u16 (n / 16)) (slot offset 9 r ++ u32 n) (IsReadAs framed offset (SaveVector r n))
-      (λ is. short framed offset 8 r (SaveVector r n) (omega arith) (n / 16) (λ rest. ap (λ m. Some (SaveVector r m, 1)) (sixteen_is n is)))
-      (λ far. long framed offset 9 r (SaveVector r n) (omega arith) n (λ rest. ap (λ m. Some (SaveVector r m, 2)) (four_is n lt)))
+      cond_both (is_short 16 n) (slot offset UWOP_SAVE_XMM128 r ++ u16 (n / 16)) (slot offset UWOP_SAVE_XMM128_FAR r ++ u32 n) (IsReadAs framed offset (SaveVector r n))
+      (λ is. short framed offset UWOP_SAVE_XMM128 r (SaveVector r n) (omega arith) (n / 16) (λ rest. ap (λ m. Some (SaveVector r m, 1)) (sixteen_is n is)))
+      (λ far. long framed offset UWOP_SAVE_XMM128_FAR r (SaveVector r n) (omega arith) n (λ rest. ap (λ m. Some (SaveVector r m, 2)) (four_is n lt)))
 
   one_again : (o : UnwindOperation) → Fits framed o → IsOperation o → IsReadAs framed offset o (operation_bytes offset o)
   one_again (Push r) fits is = pushed r

@@ -3,10 +3,11 @@ use Rattle.std.proofs.Common.{◌≡◌, ℕ, zero, suc, ◌+◌, ◌*◌, ◌/�
 use Rattle.std.proofs.lemmas.Bool.{eq-eqb, ne_eqb, lt-ltb}
 use Rattle.std.proofs.lemmas.List.{append-nil, length-replicate, take_at, drop_at, drop-drop}
 use Rattle.std.specs.List.{flat_map}
-use Rattle.std.specs.Prelude.{◌&&◌, ◌==◌, nat_lt}
+use Rattle.std.specs.Prelude.{◌&&◌, ◌==◌, nat_lt, nat_le}
 use Rattle.byteorder.specs.Endian.{little_number}
 use Rattle.pe_image.specs.Field.{field}
 use Rattle.pe_image.specs.Image.{Image, stored}
+use Rattle.eh_tables.specs.declared.layout.TheConstants.{UNWIND_CODES, HANDLER_SIZE, RUNTIME_FUNCTION_SIZE, UNWIND_VERSION, UNW_FLAG_EHANDLER, UNW_FLAG_UHANDLER, UNW_FLAG_CHAININFO}
 use Rattle.eh_tables.specs.declared.range.RuntimeFunction.{RuntimeFunction}
 use Rattle.eh_tables.specs.declared.scope.ScopeRecord.{ScopeRecord}
 use Rattle.eh_tables.specs.declared.refusal.TableErr.{TableErr}
@@ -29,22 +30,22 @@ use Rattle.eh_tables.proofs.TablesAgain.{front_stands, four_is, range_again, ran
 
 -- ---- the first byte: version and flags
 
-version_is : (f : ℕ) → (1 + 8 * f) % 8 ≡ 1
+version_is : (f : ℕ) → (UNWIND_VERSION + 8 * f) % 8 ≡ UNWIND_VERSION
 version_is f = omega arith
 
-flags_is : (f : ℕ) → (1 + 8 * f) / 8 ≡ f
+flags_is : (f : ℕ) → (UNWIND_VERSION + 8 * f) / 8 ≡ f
 flags_is f = omega arith
 
 -- ---- what the flags say of the trailer
 
 abbrev handled : ℕ → Bool
-handled f = nat_lt 0 f && nat_lt f 4
+handled f = nat_lt 0 f && nat_lt f UNW_FLAG_CHAININFO
 
 record TrailerAgain (t : Trailer) : Type 0 where
-  known : nat_lt (trailer_flags t) 5 ≡ true
-  size : cond (handled (trailer_flags t)) 4 (cond (trailer_flags t == 4) 12 0) ≡ length (trailer_bytes t)
+  known : nat_le (trailer_flags t) UNW_FLAG_CHAININFO ≡ true
+  size : cond (handled (trailer_flags t)) HANDLER_SIZE (cond (trailer_flags t == UNW_FLAG_CHAININFO) RUNTIME_FUNCTION_SIZE 0) ≡ length (trailer_bytes t)
   handler : cond (handled (trailer_flags t)) (Some (field 4 (trailer_bytes t) 0)) None ≡ handler_of t
-  parent : cond (trailer_flags t == 4) (Some (range_at (trailer_bytes t) 0)) None ≡ parent_of t
+  parent : cond (trailer_flags t == UNW_FLAG_CHAININFO) (Some (range_at (trailer_bytes t) 0)) None ≡ parent_of t
   c : (image : Image) → (handled (trailer_flags t) && is_c_handler image (field 4 (trailer_bytes t) 0)) ≡ is_c image (handler_of t)
 
 handler_field : (rva : ℕ) → rva < 2 ^ 32 → field 4 (u32 rva) 0 ≡ rva
@@ -55,10 +56,14 @@ handler_size : (rva : ℕ) → length (u32 rva) ≡ 4
 unfolding u32
 handler_size rva = refl
 
-handler_again : (s u : Bool) (rva : ℕ) → handled (bit s 1 + bit u 2) ≡ true → nat_lt (bit s 1 + bit u 2) 5 ≡ true → (bit s 1 + bit u 2 == 4) ≡ false → rva < 2 ^ 32 → TrailerAgain (Handler s u rva)
+-- the flags of a handler
+abbrev handler_flags : Bool → Bool → ℕ
+handler_flags s u = bit s UNW_FLAG_EHANDLER + bit u UNW_FLAG_UHANDLER
+
+handler_again : (s u : Bool) (rva : ℕ) → handled (handler_flags s u) ≡ true → nat_le (handler_flags s u) UNW_FLAG_CHAININFO ≡ true → (handler_flags s u == UNW_FLAG_CHAININFO) ≡ false → rva < 2 ^ 32 → TrailerAgain (Handler s u rva)
 handler_again s u rva is known other lt = record {
   known = known;
-  size = ap (λ b. cond b 4 (cond (bit s 1 + bit u 2 == 4) 12 0)) is ∙ sym (handler_size rva);
+  size = ap (λ b. cond b HANDLER_SIZE (cond (handler_flags s u == UNW_FLAG_CHAININFO) RUNTIME_FUNCTION_SIZE 0)) is ∙ sym (handler_size rva);
   handler = ap (λ b. cond b (Some (field 4 (u32 rva) 0)) None) is ∙ ap (λ (n : ℕ). Some n) (handler_field rva lt);
   parent = ap (λ b. cond b (Some (range_at (u32 rva) 0)) None) other;
   c = λ image. ap (λ b. b && is_c_handler image (field 4 (u32 rva) 0)) is ∙ ap (is_c_handler image) (handler_field rva lt);
@@ -132,12 +137,12 @@ module _ (i : UnwindInfo) (is : IsUnwindInfo i) (can : CanBeWritten i) where
   trailer : TrailerAgain i.trailer
   trailer = trailer_again i.trailer can.trailer is.trailer
 
-  end_is : 4 + 4 * ((length sl / 2 + 1) / 2) ≡ length front
+  end_is : UNWIND_CODES + 4 * ((length sl / 2 + 1) / 2) ≡ length front
   end_is = omega (arith, padded_length sl (length sl / 2) whole, length-append (header i (length sl)) (padded sl))
 
   size_is : infos.slots_end (header i (length sl)) + infos.trailer_size (header i (length sl)) ≡ length all
   size_is =
-      let e = ap (λ f. cond (handled f) 4 (cond (f == 4) 12 0)) (flags_is (trailer_flags i.trailer)) ∙ trailer.size in
+      let e = ap (λ f. cond (handled f) HANDLER_SIZE (cond (f == UNW_FLAG_CHAININFO) RUNTIME_FUNCTION_SIZE 0)) (flags_is (trailer_flags i.trailer)) ∙ trailer.size in
       omega (arith, end_is, e, length-append front tail)
 
   stored_again : (image : Image) (index rva : ℕ) (rest : List ℕ) → rva % 4 ≡ 0 → IsStoredAt image rva (all ++ rest) → stored_info image index rva ≡ Ok all
@@ -145,17 +150,17 @@ module _ (i : UnwindInfo) (is : IsUnwindInfo i) (can : CanBeWritten i) where
   stored_again image index rva rest aligned stands =
       let total = all ++ rest in
       let long = length-append all rest in
-      let first : stored image.sections rva 4 ≡ Some (header i (length sl)) = front_stands image.sections rva (length total) 4 total (omega (arith, long, length-append front tail, end_is)) stands in
+      let first : stored image.sections rva UNWIND_CODES ≡ Some (header i (length sl)) = front_stands image.sections rva (length total) UNWIND_CODES total (omega (arith, long, length-append front tail, end_is)) stands in
       let second : stored image.sections rva (length all) ≡ Some all =
       front_stands image.sections rva (length total) (length all) total (omega (arith, long)) stands ∙ ap (λ (l : List ℕ). Some l) (take_at all rest (length all) refl) in
       let head = header i (length sl) in
-      opened (rva % 4 == 0) (stored image.sections rva 4) head (refusals.Misaligned rva) (refusals.Truncated rva)
-      (λ h. unless (infos.version h == 1) (refusals.Version index (infos.version h)) >>= λ _. unless (infos.are_flags (infos.flags h)) (refusals.Flags index) >>= λ _. or_refused (stored image.sections rva (infos.slots_end h + infos.trailer_size h)) (refusals.Truncated rva))
+      opened (rva % 4 == 0) (stored image.sections rva UNWIND_CODES) head (refusals.Misaligned rva) (refusals.Truncated rva)
+      (λ h. unless (infos.version h == UNWIND_VERSION) (refusals.Version index (infos.version h)) >>= λ _. unless (infos.are_flags (infos.flags h)) (refusals.Flags index) >>= λ _. or_refused (stored image.sections rva (infos.slots_end h + infos.trailer_size h)) (refusals.Truncated rva))
       (eq-eqb (rva % 4) 0 aligned) first
-      ∙ known (infos.version head == 1) (infos.are_flags (infos.flags head)) (stored image.sections rva (infos.slots_end head + infos.trailer_size head)) all
+      ∙ known (infos.version head == UNWIND_VERSION) (infos.are_flags (infos.flags head)) (stored image.sections rva (infos.slots_end head + infos.trailer_size head)) all
       (refusals.Version index (infos.version head)) (refusals.Flags index) (refusals.Truncated rva)
-      (eq-eqb (infos.version head) 1 (version_is (trailer_flags i.trailer)))
-      (ap (λ f. nat_lt f 5) (flags_is (trailer_flags i.trailer)) ∙ trailer.known)
+      (eq-eqb (infos.version head) UNWIND_VERSION (version_is (trailer_flags i.trailer)))
+      (ap (λ f. nat_le f UNW_FLAG_CHAININFO) (flags_is (trailer_flags i.trailer)) ∙ trailer.known)
       (ap (stored image.sections rva) size_is ∙ second)
 
   -- ---- the fields of what is stored
@@ -191,7 +196,7 @@ module _ (i : UnwindInfo) (is : IsUnwindInfo i) (can : CanBeWritten i) where
   handler_at_again = ap (little_number 4) tail_again
 
   range_at_again : range_at all (infos.slots_end all) ≡ range_at tail 0
-  range_at_again = λ j. record { begin = handler_at_again j; end = field_again 4 j; unwind_info = field_again 8 j }
+  range_at_again = λ j. record { begin = field_again 0 j; end = field_again 4 j; unwind_info = field_again 8 j }
 
   handler_read : infos.handler all ≡ handler_of i.trailer
   handler_read =
@@ -201,8 +206,8 @@ module _ (i : UnwindInfo) (is : IsUnwindInfo i) (can : CanBeWritten i) where
 
   parent_read : infos.parent all ≡ parent_of i.trailer
   parent_read =
-      ap (λ (f : ℕ). cond (f == 4) (Some (range_at all (infos.slots_end all))) None) flags_again
-      ∙ ap (λ (r : RuntimeFunction). cond (trailer_flags i.trailer == 4) (Some r) None) range_at_again
+      ap (λ (f : ℕ). cond (f == UNW_FLAG_CHAININFO) (Some (range_at all (infos.slots_end all))) None) flags_again
+      ∙ ap (λ (r : RuntimeFunction). cond (trailer_flags i.trailer == UNW_FLAG_CHAININFO) (Some r) None) range_at_again
       ∙ trailer.parent
 
   c_again : (image : Image) → infos.is_c image all ≡ has_c_handler image i
@@ -254,7 +259,7 @@ module _ (i : UnwindInfo) (is : IsUnwindInfo i) (can : CanBeWritten i) where
 
   no_rows : (image : Image) (rva : ℕ) → has_c_handler image i ≡ false → stored_scope_records image rva all ≡ Ok []
   unfolding stored_scope_records
-  no_rows image rva none = ap (scope_records_if (scope_records_at image rva (infos.slots_end all + 4))) (c_again image ∙ none)
+  no_rows image rva none = ap (scope_records_if (scope_records_at image rva (infos.slots_end all + HANDLER_SIZE))) (c_again image ∙ none)
 
   handler_length : (image : Image) (t : Trailer) → is_c image (handler_of t) ≡ true → length (trailer_bytes t) ≡ 4
   handler_length image Nothing h = absurd cc
@@ -291,8 +296,8 @@ module _ (i : UnwindInfo) (is : IsUnwindInfo i) (can : CanBeWritten i) where
   c_rows : (image : Image) (rva : ℕ) (rs : List ScopeRecord) → length rs < 2 ^ 32 → has_c_handler image i ≡ true → IsStoredAt image rva (all ++ scope_bytes rs) → stored_scope_records image rva all ≡ Ok (flat_map scope_record_bytes rs)
   unfolding stored_scope_records
   c_rows image rva rs few some stands =
-      let after : infos.slots_end all + 4 ≡ length all = omega (arith, end_is, handler_length image i.trailer some, length-append front tail) in
-      ap (scope_records_if (scope_records_at image rva (infos.slots_end all + 4))) (c_again image ∙ some)
+      let after : infos.slots_end all + HANDLER_SIZE ≡ length all = omega (arith, end_is, handler_length image i.trailer some, length-append front tail) in
+      ap (scope_records_if (scope_records_at image rva (infos.slots_end all + HANDLER_SIZE))) (c_again image ∙ some)
       ∙ ap (scope_records_at image rva) after
       ∙ rows_after image rva rs few stands
 

@@ -26,7 +26,7 @@ further xs at k e = ap (little_number 4) (drop-drop at 12 xs ∙ ap (λ n. drop 
 
 range_further : (xs : List ℕ) (at : ℕ) → range_at (drop 12 xs) at ≡ range_at xs (at + 12)
 range_further xs at =
-    let first = further xs at (at + 12) refl in
+    let first = further xs (at + 0) (at + 12 + 0) (omega arith) in
     let second = further xs (at + 4) (at + 12 + 4) (omega arith) in
     let third = further xs (at + 8) (at + 12 + 8) (omega arith) in
     λ i. record { begin = first i; end = second i; unwind_info = third i }

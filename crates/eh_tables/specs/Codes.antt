@@ -1,5 +1,7 @@
 -- Unwind codes, as cases on a list of slots. A slot has two bytes.
 use Rattle.std.specs.Prelude.{ℕ, zero, suc, ◌+◌, ◌*◌, ◌/◌, ◌%◌, Bool, true, false, ◌==◌, nat_lt, if◌then◌else◌, List, [], ◌∷◌, Option, Some, None, Ok, Err}
+use Rattle.pe_image.specs.Field.{field}
+use Rattle.eh_tables.specs.declared.layout.TheConstants.{UWOP_PUSH_NONVOL, UWOP_ALLOC_LARGE, UWOP_ALLOC_SMALL, UWOP_SET_FPREG, UWOP_SAVE_NONVOL, UWOP_SAVE_NONVOL_FAR, UWOP_SAVE_XMM128, UWOP_SAVE_XMM128_FAR, UWOP_PUSH_MACHFRAME}
 use Rattle.eh_tables.specs.declared.code.UnwindOperation.{UnwindOperation}
 use Rattle.eh_tables.specs.declared.code.UnwindOperation.TheVariants.{Push, Allocate, SetFrame, Save, SaveVector, MachineFrame}
 use Rattle.eh_tables.specs.declared.code.UnwindCode.{UnwindCode}
@@ -14,12 +16,12 @@ Taken = Option (UnwindOperation × ℕ)
 
 -- one slot of operands, a number of 16 bits, or two, a number of 32 bits
 abbrev pub one_slot : List ℕ → Option ℕ
-one_slot (a ∷ b ∷ rest) = Some (a + 256 * b)
+one_slot (a ∷ b ∷ rest) = Some (field 2 (a ∷ b ∷ rest) 0)
 one_slot (a ∷ []) = None
 one_slot [] = None
 
 abbrev pub two_slots : List ℕ → Option ℕ
-two_slots (a ∷ b ∷ c ∷ d ∷ rest) = Some (a + 256 * b + 65536 * c + 16777216 * d)
+two_slots (a ∷ b ∷ c ∷ d ∷ rest) = Some (field 4 (a ∷ b ∷ c ∷ d ∷ rest) 0)
 two_slots (a ∷ b ∷ c ∷ []) = None
 two_slots (a ∷ b ∷ []) = None
 two_slots (a ∷ []) = None
@@ -38,15 +40,15 @@ large info rest =
 -- the table of unwind operation codes. None where the operation isn't listed, its info isn't allowed, there is no frame register to set, or its operands aren't there
 unfoldable pub operation : Bool → ℕ → ℕ → List ℕ → Taken
 operation framed op info rest =
-    if op == 0 then Some (Push info, 0)
-    else (if op == 1 then large info rest
-    else (if op == 2 then Some (Allocate (8 * info + 8), 0)
-    else (if op == 3 then (if framed then Some (SetFrame, 0) else None)
-    else (if op == 4 then taken (λ n. Save info (8 * n)) 1 (one_slot rest)
-    else (if op == 5 then taken (λ n. Save info n) 2 (two_slots rest)
-    else (if op == 8 then taken (λ n. SaveVector info (16 * n)) 1 (one_slot rest)
-    else (if op == 9 then taken (λ n. SaveVector info n) 2 (two_slots rest)
-    else (if op == 10 then (if nat_lt info 2 then Some (MachineFrame info, 0) else None)
+    if op == UWOP_PUSH_NONVOL then Some (Push info, 0)
+    else (if op == UWOP_ALLOC_LARGE then large info rest
+    else (if op == UWOP_ALLOC_SMALL then Some (Allocate (8 * info + 8), 0)
+    else (if op == UWOP_SET_FPREG then (if framed then Some (SetFrame, 0) else None)
+    else (if op == UWOP_SAVE_NONVOL then taken (λ n. Save info (8 * n)) 1 (one_slot rest)
+    else (if op == UWOP_SAVE_NONVOL_FAR then taken (λ n. Save info n) 2 (two_slots rest)
+    else (if op == UWOP_SAVE_XMM128 then taken (λ n. SaveVector info (16 * n)) 1 (one_slot rest)
+    else (if op == UWOP_SAVE_XMM128_FAR then taken (λ n. SaveVector info n) 2 (two_slots rest)
+    else (if op == UWOP_PUSH_MACHFRAME then (if nat_lt info 2 then Some (MachineFrame info, 0) else None)
     else None))))))))
 
 -- ---- the codes of the slots, of which the first `skip` are still operands

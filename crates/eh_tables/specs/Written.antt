@@ -3,6 +3,7 @@ use Rattle.std.specs.Prelude.{◌≡◌, ℕ, ◌+◌, ◌-◌, ◌*◌, ◌/◌
 use Rattle.std.specs.List.{flat_map, AllByRecursion}
 pub use Rattle.pe_image.specs.Numbers.{u16, u32}
 use Rattle.byteorder.specs.Endian.{little_bytes}
+use Rattle.eh_tables.specs.declared.layout.TheConstants.{UWOP_PUSH_NONVOL, UWOP_ALLOC_LARGE, UWOP_ALLOC_SMALL, UWOP_SET_FPREG, UWOP_SAVE_NONVOL, UWOP_SAVE_NONVOL_FAR, UWOP_SAVE_XMM128, UWOP_SAVE_XMM128_FAR, UWOP_PUSH_MACHFRAME, UNWIND_VERSION, UNW_FLAG_EHANDLER, UNW_FLAG_UHANDLER, UNW_FLAG_CHAININFO}
 use Rattle.eh_tables.specs.declared.code.UnwindOperation.{UnwindOperation}
 use Rattle.eh_tables.specs.declared.code.UnwindOperation.TheVariants.{Push, Allocate, SetFrame, Save, SaveVector, MachineFrame}
 use Rattle.eh_tables.specs.declared.code.UnwindCode.{UnwindCode}
@@ -28,19 +29,19 @@ is_small n = (n % 8 == 0) && nat_lt 0 n && nat_le n 128
 
 -- the shortest code of each operation
 abbrev pub allocation : ℕ → ℕ → List ℕ
-allocation offset n = if is_small n then slot offset 2 (n / 8 - 1) else (if is_short 8 n then slot offset 1 0 ++ u16 (n / 8) else slot offset 1 1 ++ u32 n)
+allocation offset n = if is_small n then slot offset UWOP_ALLOC_SMALL (n / 8 - 1) else (if is_short 8 n then slot offset UWOP_ALLOC_LARGE 0 ++ u16 (n / 8) else slot offset UWOP_ALLOC_LARGE 1 ++ u32 n)
 
--- in a unit by one operation, or unscaled by the next
-abbrev pub saving : ℕ → ℕ → ℕ → ℕ → ℕ → List ℕ
-saving offset op unit register n = if is_short unit n then slot offset op register ++ u16 (n / unit) else slot offset (op + 1) register ++ u32 n
+-- in a unit by one operation, or unscaled by the other
+abbrev pub saving : ℕ → ℕ → ℕ → ℕ → ℕ → ℕ → List ℕ
+saving offset op far unit register n = if is_short unit n then slot offset op register ++ u16 (n / unit) else slot offset far register ++ u32 n
 
 abbrev pub operation_bytes : ℕ → UnwindOperation → List ℕ
-operation_bytes offset (Push r) = slot offset 0 r
+operation_bytes offset (Push r) = slot offset UWOP_PUSH_NONVOL r
 operation_bytes offset (Allocate n) = allocation offset n
-operation_bytes offset SetFrame = slot offset 3 0
-operation_bytes offset (Save r n) = saving offset 4 8 r n
-operation_bytes offset (SaveVector r n) = saving offset 8 16 r n
-operation_bytes offset (MachineFrame i) = slot offset 10 i
+operation_bytes offset SetFrame = slot offset UWOP_SET_FPREG 0
+operation_bytes offset (Save r n) = saving offset UWOP_SAVE_NONVOL UWOP_SAVE_NONVOL_FAR 8 r n
+operation_bytes offset (SaveVector r n) = saving offset UWOP_SAVE_XMM128 UWOP_SAVE_XMM128_FAR 16 r n
+operation_bytes offset (MachineFrame i) = slot offset UWOP_PUSH_MACHFRAME i
 
 abbrev pub code_bytes : UnwindCode → List ℕ
 code_bytes c = operation_bytes c.offset c.operation
@@ -56,8 +57,8 @@ bit false n = 0
 
 abbrev pub trailer_flags : Trailer → ℕ
 trailer_flags Nothing = 0
-trailer_flags (Handler s u rva) = bit s 1 + bit u 2
-trailer_flags (Parent r) = 4
+trailer_flags (Handler s u rva) = bit s UNW_FLAG_EHANDLER + bit u UNW_FLAG_UHANDLER
+trailer_flags (Parent r) = UNW_FLAG_CHAININFO
 
 abbrev pub range_bytes : RuntimeFunction → List ℕ
 range_bytes r = u32 r.begin ++ u32 r.end ++ u32 r.unwind_info
@@ -72,7 +73,7 @@ abbrev pub padded : List ℕ → List ℕ
 padded slots = slots ++ replicate (length slots % 4) 0
 
 abbrev pub header : UnwindInfo → ℕ → List ℕ
-header i size = (1 + 8 * trailer_flags i.trailer) ∷ i.prologue_size ∷ (size / 2) ∷ (i.frame_register + i.frame_offset) ∷ []
+header i size = (UNWIND_VERSION + 8 * trailer_flags i.trailer) ∷ i.prologue_size ∷ (size / 2) ∷ (i.frame_register + i.frame_offset) ∷ []
 
 unfoldable pub unwind_bytes : UnwindInfo → List ℕ
 unwind_bytes i =

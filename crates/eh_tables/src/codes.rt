@@ -5,6 +5,11 @@ ghost use Rattle.eh_tables.specs.declared.code.UnwindOperation.TheVariants.{Allo
 ghost use Rattle.eh_tables.specs.Codes as spec;
 
 use crate::code::{UnwindCode, UnwindOperation};
+use crate::fields::u32_at;
+use crate::layout::{
+    UWOP_ALLOC_LARGE, UWOP_ALLOC_SMALL, UWOP_PUSH_MACHFRAME, UWOP_PUSH_NONVOL, UWOP_SAVE_NONVOL,
+    UWOP_SAVE_NONVOL_FAR, UWOP_SAVE_XMM128, UWOP_SAVE_XMM128_FAR, UWOP_SET_FPREG,
+};
 use crate::refusal::TableErr;
 use std::marker::Model;
 
@@ -76,9 +81,7 @@ fn two_slots(rest: &[u8]) -> Option<u32>
     ensures fits { IfSome result (λ n. 4 ≤ length rest.now) }
 {
     match rest {
-        [a, b, c, d, ..] => {
-            Some(*a as u32 + 256 * *b as u32 + 65536 * *c as u32 + 16777216 * *d as u32)
-        }
+        [_, _, _, _, ..] => Some(u32_at(rest, 0)),
         _ => None,
     }
 }
@@ -121,15 +124,15 @@ fn operation(framed: bool, op: u8, info: u8, rest: &[u8]) -> Option<(UnwindOpera
     ensures fits { IfSome result (λ x. 2 * x.1 ≤ length rest.now) }
 {
     match op {
-        0 => Some((UnwindOperation::Push { register: info }, 0)),
-        1 => large(info, rest),
-        2 => Some((allocate(8 * info as u32 + 8), 0)),
-        3 if framed => Some((UnwindOperation::SetFrame, 0)),
-        4 => Some((save(info, 8 * one_slot(rest)?), 1)),
-        5 => Some((save(info, two_slots(rest)?), 2)),
-        8 => Some((save_vector(info, 16 * one_slot(rest)?), 1)),
-        9 => Some((save_vector(info, two_slots(rest)?), 2)),
-        10 if info < 2 => Some((UnwindOperation::MachineFrame { info }, 0)),
+        UWOP_PUSH_NONVOL => Some((UnwindOperation::Push { register: info }, 0)),
+        UWOP_ALLOC_LARGE => large(info, rest),
+        UWOP_ALLOC_SMALL => Some((allocate(8 * info as u32 + 8), 0)),
+        UWOP_SET_FPREG if framed => Some((UnwindOperation::SetFrame, 0)),
+        UWOP_SAVE_NONVOL => Some((save(info, 8 * one_slot(rest)?), 1)),
+        UWOP_SAVE_NONVOL_FAR => Some((save(info, two_slots(rest)?), 2)),
+        UWOP_SAVE_XMM128 => Some((save_vector(info, 16 * one_slot(rest)?), 1)),
+        UWOP_SAVE_XMM128_FAR => Some((save_vector(info, two_slots(rest)?), 2)),
+        UWOP_PUSH_MACHFRAME if info < 2 => Some((UnwindOperation::MachineFrame { info }, 0)),
         _ => None,
     }
 }

@@ -1,19 +1,21 @@
 //! Unwind infos.
 
 ghost use Rattle.std.specs.Prelude.{◌≡◌, ◌≤◌, ◌+◌, ◌*◌, ◌<◌, ◌^◌, length, take, option_map, IfOk};
+ghost use Rattle.eh_tables.specs.declared.layout.TheConstants.{UNW_FLAG_CHAININFO};
 ghost use Rattle.eh_tables.specs.Infos as spec;
 
 use crate::codes::{Codes, check_codes};
 use crate::fields::u32_at;
 use crate::handler::is_c_handler;
+use crate::layout::{
+    COUNT_OF_CODES, FRAME_REGISTER_AND_OFFSET, HANDLER_SIZE, RUNTIME_FUNCTION_SIZE, SIZE_OF_PROLOG,
+    UNW_FLAG_CHAININFO, UNWIND_CODES, UNWIND_VERSION, VERSION_AND_FLAGS,
+};
 use crate::range::{RuntimeFunction, read_range};
 use crate::refusal::TableErr;
 use crate::scope::{Scopes, check_scope_records};
 use pe_image::ImageView;
 use std::marker::Model;
-
-/// UNW_FLAG_CHAININFO: the parent's entry follows the codes.
-const CHAINED: u8 = 4;
 
 /// An unwind info, UNWIND_INFO, in an image.
 #[derive(Drop)]
@@ -39,7 +41,7 @@ impl<'a> Default for Info<'a> {
     /// One that says nothing.
     fn default() -> Info<'a> {
         Info {
-            bytes: &[1, 0, 0, 0],
+            bytes: &[UNWIND_VERSION, 0, 0, 0],
             rows: &[],
             has_c_handler: false,
         }
@@ -55,40 +57,43 @@ impl<'a> Info<'a> {
         &self.bytes[..slots_end(self.bytes)]
     }
 
-    /// Its flags: UNW_FLAG_EHANDLER 1, UNW_FLAG_UHANDLER 2, UNW_FLAG_CHAININFO 4.
+    /// Its flags: UNW_FLAG_EHANDLER, UNW_FLAG_UHANDLER, both, UNW_FLAG_CHAININFO, or none of them.
     pub fn flags(&self) -> u8
         ensures value { result ≡ self.now.flags }
-        ensures known { result ≤ 4 }
+        ensures known { result ≤ UNW_FLAG_CHAININFO }
     {
-        self.bytes[0] / 8
+        self.bytes[VERSION_AND_FLAGS] / 8
     }
 
     /// How many bytes the prologue has.
     pub fn prologue_size(&self) -> u8
         ensures { result ≡ self.now.prologue_size }
     {
-        self.bytes[1]
+        self.bytes[SIZE_OF_PROLOG]
     }
 
     /// The number of the frame register, where 0 means none.
     pub fn frame_register(&self) -> u8
         ensures { result ≡ self.now.frame_register }
     {
-        self.bytes[3] % 16
+        self.bytes[FRAME_REGISTER_AND_OFFSET] % 16
     }
 
     /// How many bytes the frame register lies above the base of the frame.
     pub fn frame_offset(&self) -> u8
         ensures { result ≡ self.now.frame_offset }
     {
-        16 * (self.bytes[3] / 16)
+        16 * (self.bytes[FRAME_REGISTER_AND_OFFSET] / 16)
     }
 
     /// Its codes, in their order.
     pub fn codes(&self) -> Codes<'a>
         ensures { result ≡ self.now.codes }
     {
-        Codes::new(self.bytes[3] % 16 != 0, slots_of(self.bytes))
+        Codes::new(
+            self.bytes[FRAME_REGISTER_AND_OFFSET] % 16 != 0,
+            slots_of(self.bytes),
+        )
     }
 
     /// The address of its handler, where a flag says that it has one.
@@ -96,7 +101,7 @@ impl<'a> Info<'a> {
         ensures { result ≡ self.now.handler }
     {
         let flags = self.flags();
-        if 0 < flags && flags < CHAINED {
+        if 0 < flags && flags < UNW_FLAG_CHAININFO {
             Some(u32_at(self.bytes, slots_end(self.bytes)))
         } else {
             None
@@ -107,7 +112,7 @@ impl<'a> Info<'a> {
     pub fn parent(&self) -> Option<RuntimeFunction>
         ensures { result ≡ self.now.parent }
     {
-        if self.flags() == CHAINED {
+        if self.flags() == UNW_FLAG_CHAININFO {
             Some(read_range(self.bytes, slots_end(self.bytes)))
         } else {
             None
@@ -137,7 +142,7 @@ fn slots_end(bytes: &[u8]) -> usize
     ensures value { result ≡ spec.slots_end bytes.now }
     ensures fits { result ≤ 516 }
 {
-    4 + 4 * (bytes[2] as usize).div_ceil(2)
+    UNWIND_CODES + 4 * (bytes[COUNT_OF_CODES] as usize).div_ceil(2)
 }
 
 /// The slots of the codes.
@@ -146,7 +151,7 @@ fn slots_of<'a>(bytes: &'a [u8]) -> &'a [u8]
     ensures value { result.now ≡ spec.slots_of bytes.now }
     ensures fits { length result.now ≤ 510 }
 {
-    &bytes[4..4 + 2 * bytes[2] as usize]
+    &bytes[UNWIND_CODES..UNWIND_CODES + 2 * bytes[COUNT_OF_CODES] as usize]
 }
 
 /// Header, slots and what follows them, where they are stored.
@@ -159,23 +164,23 @@ fn stored_info<'a>(image: &ImageView<'a>, index: u64, rva: u32) -> Result<&'a [u
     if rva % 4 != 0 {
         return Err(TableErr::Misaligned { rva: at });
     }
-    let Some(head) = image.bytes(at, 4) else {
+    let Some(head) = image.bytes(at, UNWIND_CODES as u64) else {
         return Err(TableErr::Truncated { rva: at });
     };
-    let found = head[0] % 8;
-    if found != 1 {
+    let found = head[VERSION_AND_FLAGS] % 8;
+    if found != UNWIND_VERSION {
         return Err(TableErr::Version { index, found });
     }
-    let flags = head[0] / 8;
-    if flags > CHAINED {
+    let flags = head[VERSION_AND_FLAGS] / 8;
+    if flags > UNW_FLAG_CHAININFO {
         return Err(TableErr::Flags { index });
     }
     let trailer_size = match flags {
         0 => 0,
-        CHAINED => 12,
-        _ => 4,
+        UNW_FLAG_CHAININFO => RUNTIME_FUNCTION_SIZE,
+        _ => HANDLER_SIZE,
     };
-    match image.bytes(at, slots_end(head) as u64 + trailer_size) {
+    match image.bytes(at, (slots_end(head) + trailer_size) as u64) {
         Some(bytes) => Ok(bytes),
         None => Err(TableErr::Truncated { rva: at }),
     }
@@ -197,7 +202,7 @@ fn stored_scope_records<'a>(
         return Ok(&[]);
     }
     let refusal = TableErr::Truncated { rva: rva as u64 };
-    let at = slots_end(bytes) + 4;
+    let at = slots_end(bytes) + HANDLER_SIZE;
     let Some(counted) = image.bytes(rva as u64, at as u64 + 4) else {
         return Err(refusal);
     };
@@ -213,8 +218,8 @@ fn is_c(image: &ImageView<'_>, bytes: &[u8]) -> bool
     requires { spec.HasParts bytes.now }
     ensures { result ≡ spec.is_c image.now bytes.now }
 {
-    let flags = bytes[0] / 8;
-    0 < flags && flags < CHAINED && is_c_handler(image, u32_at(bytes, slots_end(bytes)))
+    let flags = bytes[VERSION_AND_FLAGS] / 8;
+    0 < flags && flags < UNW_FLAG_CHAININFO && is_c_handler(image, u32_at(bytes, slots_end(bytes)))
 }
 
 /// Reads the unwind info at an address, for the entry of an index.
@@ -225,7 +230,11 @@ pub fn read_info<'a>(image: &ImageView<'a>, index: u64, rva: u32) -> Result<Info
     let bytes = stored_info(image, index, rva)?;
     let has_c_handler = is_c(image, bytes);
     let rows = stored_scope_records(image, rva, bytes, has_c_handler)?;
-    check_codes(index, bytes[3] % 16 != 0, slots_of(bytes))?;
+    check_codes(
+        index,
+        bytes[FRAME_REGISTER_AND_OFFSET] % 16 != 0,
+        slots_of(bytes),
+    )?;
     check_scope_records(index, image.size(), rows)?;
     Ok(Info {
         bytes,

@@ -1,5 +1,10 @@
-//! The function tables of images for x64 (Microsoft x64 ABI, "Exception handling": `RUNTIME_FUNCTION`,
-//! `UNWIND_INFO` version 1 and the scope tables of the C handler), read in place and written.
+//! The function tables of images for x64 (Microsoft x64 ABI, "Exception handling":
+//! `RUNTIME_FUNCTION`, `UNWIND_INFO` version 1 and the scope tables of the C handler), read in
+//! place and written.
+//!
+//! Proved: [`Tables`] reads a table, an entry or a look-up as `specs/Tables.antt` says, or refuses
+//! by the first check that fails; the writers append the bytes of `specs/Written.antt`, which are
+//! read again as the same values (`specs/ReadAgain.antt`). Begin with `specs/Tables.antt`.
 #![tactic(auto)]
 
 mod code;
@@ -10,6 +15,7 @@ mod fields;
 mod handler;
 mod info;
 mod laws;
+mod layout;
 mod lookup;
 mod range;
 mod refusal;

@@ -4,6 +4,7 @@ ghost use Rattle.std.specs.Prelude.{◌≡◌, ◌≤◌, ◌+◌, length};
 ghost use Rattle.eh_tables.specs.Infos.{range_at};
 
 use crate::fields::u32_at;
+use crate::layout::{BEGIN_ADDRESS, END_ADDRESS, UNWIND_INFO_ADDRESS};
 
 /// An entry of a function table, RUNTIME_FUNCTION: the code from `begin` to before `end`, and where
 /// its unwind info lies. All addresses are relative to the image base.
@@ -20,8 +21,8 @@ pub fn read_range(bytes: &[u8], at: usize) -> RuntimeFunction
     ensures { result ≡ range_at bytes.now at }
 {
     RuntimeFunction {
-        begin: u32_at(bytes, at),
-        end: u32_at(bytes, at + 4),
-        unwind_info: u32_at(bytes, at + 8),
+        begin: u32_at(bytes, at + BEGIN_ADDRESS),
+        end: u32_at(bytes, at + END_ADDRESS),
+        unwind_info: u32_at(bytes, at + UNWIND_INFO_ADDRESS),
     }
 }

@@ -3,9 +3,15 @@
 ghost use Rattle.std.specs.Prelude.{◌≡◌, ◌+◌, ◌*◌, ◌≤◌, ◌<◌, ◌^◌, ◌++◌, length, replicate, OnOk, OnErr};
 ghost use Rattle.std.specs.List.{AllByRecursion};
 ghost use Rattle.arrayvec.specs.ArrayVec.{array_vec_len};
+ghost use Rattle.eh_tables.specs.declared.layout.TheConstants.{UNW_FLAG_CHAININFO};
 ghost use Rattle.eh_tables.specs.Written as spec;
 
 use crate::code::{UnwindCode, UnwindOperation};
+use crate::layout::{
+    UNW_FLAG_CHAININFO, UNW_FLAG_EHANDLER, UNW_FLAG_UHANDLER, UNWIND_VERSION, UWOP_ALLOC_LARGE,
+    UWOP_ALLOC_SMALL, UWOP_PUSH_MACHFRAME, UWOP_PUSH_NONVOL, UWOP_SAVE_NONVOL,
+    UWOP_SAVE_NONVOL_FAR, UWOP_SAVE_XMM128, UWOP_SAVE_XMM128_FAR, UWOP_SET_FPREG,
+};
 use crate::range::RuntimeFunction;
 use crate::scope::ScopeRecord;
 use crate::unwind_info::{Trailer, UnwindInfo};
@@ -57,30 +63,31 @@ fn allocation(offset: u8, size: u32) -> CodeBytes
 {
     let mut out = CodeBytes::new();
     if size % 8 == 0 && 0 < size && size <= 128 {
-        put_slot(&mut out, offset, 2, (size / 8 - 1) as u8);
+        put_slot(&mut out, offset, UWOP_ALLOC_SMALL, (size / 8 - 1) as u8);
     } else if is_short(8, size) {
-        put_slot(&mut out, offset, 1, 0);
+        put_slot(&mut out, offset, UWOP_ALLOC_LARGE, 0);
         put_u16(&mut out, (size / 8) as u16);
     } else {
-        put_slot(&mut out, offset, 1, 1);
+        put_slot(&mut out, offset, UWOP_ALLOC_LARGE, 1);
         put_u32(&mut out, size);
     }
     out
 }
 
-/// A register saved at an offset, in a unit by the one operation or unscaled by the next.
-fn saving(offset: u8, op: u8, unit: u32, register: u8, at: u32) -> CodeBytes
-    requires op { op < 15 }
+/// A register saved at an offset, in a unit by the one operation or unscaled by the other.
+fn saving(offset: u8, op: u8, far: u8, unit: u32, register: u8, at: u32) -> CodeBytes
+    requires op { op < 16 }
+    requires far { far < 16 }
     requires unit { 0 < unit }
     requires register { register < 16 }
-    ensures { result.items ≡ spec.saving offset op unit register at }
+    ensures { result.items ≡ spec.saving offset op far unit register at }
 {
     let mut out = CodeBytes::new();
     if is_short(unit, at) {
         put_slot(&mut out, offset, op, register);
         put_u16(&mut out, (at / unit) as u16);
     } else {
-        put_slot(&mut out, offset, op + 1, register);
+        put_slot(&mut out, offset, far, register);
         put_u32(&mut out, at);
     }
     out
@@ -103,18 +110,32 @@ fn code_bytes(framed: bool, code: &UnwindCode) -> CodeBytes
 {
     let offset = code.offset;
     match code.operation {
-        UnwindOperation::Push { register } => one_slot(offset, 0, register),
+        UnwindOperation::Push { register } => one_slot(offset, UWOP_PUSH_NONVOL, register),
         UnwindOperation::Allocate { size } => allocation(offset, size),
-        UnwindOperation::SetFrame => one_slot(offset, 3, 0),
+        UnwindOperation::SetFrame => one_slot(offset, UWOP_SET_FPREG, 0),
         UnwindOperation::Save {
             register,
             offset: at,
-        } => saving(offset, 4, 8, register, at),
+        } => saving(
+            offset,
+            UWOP_SAVE_NONVOL,
+            UWOP_SAVE_NONVOL_FAR,
+            8,
+            register,
+            at,
+        ),
         UnwindOperation::SaveVector {
             register,
             offset: at,
-        } => saving(offset, 8, 16, register, at),
-        UnwindOperation::MachineFrame { info } => one_slot(offset, 10, info),
+        } => saving(
+            offset,
+            UWOP_SAVE_XMM128,
+            UWOP_SAVE_XMM128_FAR,
+            16,
+            register,
+            at,
+        ),
+        UnwindOperation::MachineFrame { info } => one_slot(offset, UWOP_PUSH_MACHFRAME, info),
     }
 }
 
@@ -167,7 +188,7 @@ fn codes_bytes(framed: bool, codes: &[UnwindCode]) -> ArrayVec<u8, 510>
 
 fn flags(trailer: Trailer) -> u8
     ensures value { result ≡ spec.trailer_flags trailer }
-    ensures fits { result ≤ 4 }
+    ensures fits { result ≤ UNW_FLAG_CHAININFO }
 {
     match trailer {
         Trailer::Nothing => 0,
@@ -175,8 +196,8 @@ fn flags(trailer: Trailer) -> u8
             searching,
             unwinding,
             ..
-        } => searching as u8 + 2 * unwinding as u8,
-        Trailer::Parent(_) => 4,
+        } => UNW_FLAG_EHANDLER * searching as u8 + UNW_FLAG_UHANDLER * unwinding as u8,
+        Trailer::Parent(_) => UNW_FLAG_CHAININFO,
     }
 }
 
@@ -213,7 +234,7 @@ fn info_bytes(info: &UnwindInfo) -> InfoBytes
 {
     let slots = codes_bytes(0 < info.frame_register, &info.codes);
     let mut out = InfoBytes::new();
-    out.push(1 + 8 * flags(info.trailer));
+    out.push(UNWIND_VERSION + 8 * flags(info.trailer));
     out.push(info.prologue_size);
     out.push((slots.len() / 2) as u8);
     out.push(info.frame_register + info.frame_offset);

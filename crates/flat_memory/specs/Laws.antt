@@ -19,11 +19,14 @@ LoadsWhatWasStored =
 abbrev pub LeavesOthers : Type 0
 LeavesOthers =
     (byte : ℕ → ℕ) (n at v m to : ℕ) → at < 2 ^ 64 → to < 2 ^ 64
-    → ((i : ℕ) → i < m → IsApart ((to + i) % 2 ^ 64) at n) → number_at (with_number byte n at v) m to ≡ number_at byte m to
+    → ((i : ℕ) → i < m → IsApart ((to + i) % 2 ^ 64) at n)
+    → number_at (with_number byte n at v) m to ≡ number_at byte m to
 
 -- what may be done where stays as it was
 abbrev pub KeepsModes : Type 0
 KeepsModes = (m : Memory) (at v : ℕ) (w : Width) → (after_store m at w v).protection ≡ m.protection
 
 abbrev pub RefusalsChangeNothing : Type 0
-RefusalsChangeNothing = (m : Memory) (at v : ℕ) (w : Width) (a : RefusedAccess) → stored m at w ≡ Err a → after_store m at w v ≡ m
+RefusalsChangeNothing =
+    (m : Memory) (at v : ℕ) (w : Width) (a : RefusedAccess) → stored m at w ≡ Err a
+    → after_store m at w v ≡ m

@@ -3,6 +3,7 @@ use Rattle.std.specs.Prelude.{ℕ, zero, suc, ◌+◌, ◌-◌, ◌*◌, ◌/◌
 use Rattle.seh_num.specs.declared.width.Width.{Width}
 use Rattle.seh_num.specs.Widths.{bytes_of}
 use Rattle.host_layout.specs.Ranges.{in_guard, in_arena}
+use Rattle.host_layout.specs.declared.range.TheConstants.{PAGE}
 use Rattle.flat_memory.specs.declared.protection.Protection.{Protection}
 use Rattle.flat_memory.specs.declared.protection.Rights.{Rights}
 use Rattle.flat_memory.specs.declared.access.RefusedAccess.{RefusedAccess}
@@ -59,7 +60,8 @@ may_write m a = is_writable (m.protection a).rights
 
 -- what a load answers
 abbrev pub loaded : Memory → ℕ → Width → Result ℕ RefusedAccess
-loaded m at w = access false (first_refused (may_read m) (bytes_of w) at) (number_at m.byte (bytes_of w) at)
+loaded m at w =
+    access false (first_refused (may_read m) (bytes_of w) at) (number_at m.byte (bytes_of w) at)
 
 -- what a store answers, and the memory after it
 abbrev pub stored : Memory → ℕ → Width → Result Unit RefusedAccess
@@ -73,12 +75,15 @@ abbrev pub with_bytes : Memory → (ℕ → ℕ) → Memory
 with_bytes m byte = record { protection = m.protection; byte = byte }
 
 abbrev pub after_store : Memory → ℕ → Width → ℕ → Memory
-after_store m at w v = unless_refused (first_refused (may_write m) (bytes_of w) at) (with_bytes m (with_number m.byte (bytes_of w) at v)) m
+after_store m at w v =
+    unless_refused (first_refused (may_write m) (bytes_of w) at)
+    (with_bytes m (with_number m.byte (bytes_of w) at v)) m
 
 -- the executable bytes at an address, at most n
 unfoldable pub executable : Memory → ℕ → ℕ → List ℕ
 executable m zero at = []
-executable m (suc n) at = if (m.protection at).execute then m.byte at ∷ executable m n (next at) else []
+executable m (suc n) at =
+    if (m.protection at).execute then m.byte at ∷ executable m n (next at) else []
 
 -- ---- the arena, whose pages a program may protect
 
@@ -88,7 +93,12 @@ rights_asked at number = if in_arena at then rights_numbered number else None
 
 abbrev pub with_rights : Memory → ℕ → Option Rights → Memory
 with_rights m at None = m
-with_rights m at (Some r) = record { protection = λ a. if a / 4096 == at / 4096 then record (m.protection a) { rights = r } else m.protection a; byte = m.byte }
+with_rights m at (Some r) =
+    record {
+      protection = λ a. if a / PAGE == at / PAGE then record (m.protection a) { rights = r }
+          else m.protection a;
+      byte = m.byte;
+    }
 
 abbrev pub protected : Memory → ℕ → ℤ → Memory
 protected m at number = with_rights m at (rights_asked at number)

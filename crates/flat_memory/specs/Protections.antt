@@ -15,5 +15,7 @@ is_writable ReadWrite = true
 
 -- the rights that a number asks for
 abbrev pub rights_numbered : ℤ → Option Rights
-rights_numbered (pos n) = if n == 0 then Some Nothing else (if n == 1 then Some Read else (if n == 2 then Some ReadWrite else None))
+rights_numbered (pos n) =
+    if n == 0 then Some Nothing else (if n == 1 then Some Read
+    else (if n == 2 then Some ReadWrite else None))
 rights_numbered (negsuc n) = None

@@ -4,6 +4,9 @@
 //! is a number below 2^64, sums of addresses go round, an access takes 1, 2, 4 or 8 bytes, the
 //! lowest first (Intel manual, volume 1, "Bit and Byte Order"), and is refused by its first byte
 //! that may not be accessed.
+//!
+//! Proved: a load after a store gives its low bits, a store leaves all else, a refused one changes
+//! nothing. Begin with `specs/Memory.antt`.
 #![tactic(auto)]
 
 pub mod access;

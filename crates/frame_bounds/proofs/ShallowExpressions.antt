@@ -18,7 +18,7 @@ use Rattle.c_resolved.specs.Types.{plain}
 use Rattle.c_resolved.specs.declared.fault.Fault.{Fault}
 use Rattle.c_resolved.specs.declared.fault.Fault.TheVariants.{TypeClash}
 use Rattle.c_resolved.specs.Operators.{TypedNode, typed, compound_assigned, assigned, comma_of}
-use Rattle.c_resolved.specs.Expressions.{Entity, LocalVariable, GlobalVariable, GlobalArray, UserFunction, BuiltInFunction, CodeFunction, AbnormalFunction, BuiltInConstant, Names, FaultAt, ResolvedExpression, good, ruled, rule_1, rule_2, rule_3, unless, literal, name, field, Wanted, built_in_wants, fits, passed, Argument, Passed, before, spoiled, pass, pass_all, called, call_with, only_where, call, changed, resolve_expression, resolve_arguments, OfType, ZeroLiteral}
+use Rattle.c_resolved.specs.Expressions.{Entity, LocalVariable, GlobalVariable, GlobalArray, UserFunction, BuiltInFunction, CodeFunction, AbnormalFunction, BuiltInConstant, Names, FaultAt, ResolvedExpression, good, ruled, rule_1, rule_2, rule_3, given_that, literal, name, field, Wanted, built_in_wants, fits, passed, Argument, Passed, before, spoiled, pass, pass_all, called, call_with, only_where, call, changed, resolve_expression, resolve_arguments, OfType, ZeroLiteral}
 use Rattle.ir_bounds.specs.Nesting.{expression_nesting, arguments_nesting, node_nesting, expression_reads, arguments_read, node_reads}
 use Rattle.frame_bounds.proofs.ShallowOperators.{nesting, reads, IsShallowIn, ShallowIf, deeper, binary_shallow, element_shallow, assigned_shallow, compound_shallow, comma_shallow, incremented_shallow, unary_shallow, cast_shallow, conditional_shallow}
 
@@ -28,15 +28,15 @@ ruled_shallow : (n at : ℕ) (f : Fault) (fs : List FaultAt) (o : Option TypedNo
 ruled_shallow n at f fs None h = tt
 ruled_shallow n at f fs (Some t) h = h
 
-unless_shallow : (n : ℕ) (b : Bool) (at : ℕ) (f : Fault) (fs : List FaultAt) (j : ResolvedExpression) → ShallowIf n j.found → ShallowIf n (unless b at f fs j).found
-unless_shallow n true at f fs j h = h
-unless_shallow n false at f fs j h = tt
+given_that_shallow : (n : ℕ) (b : Bool) (at : ℕ) (f : Fault) (fs : List FaultAt) (j : ResolvedExpression) → ShallowIf n j.found → ShallowIf n (given_that b at f fs j).found
+given_that_shallow n true at f fs j h = h
+given_that_shallow n false at f fs j h = tt
 
 only_where_shallow : (n : ℕ) (b : Bool) (at : ℕ) (f : Fault) (r : ResolvedExpression) → ShallowIf n r.found → ShallowIf n (only_where b at f r).found
-only_where_shallow n b at f r h = unless_shallow n b at f r.faults r h
+only_where_shallow n b at f r h = given_that_shallow n b at f r.faults r h
 
 -- where it holds only where the test does
-where_shallow : (n : ℕ) (b : Bool) (at : ℕ) (f : Fault) (fs : List FaultAt) (j : ResolvedExpression) → (b ≡ true → ShallowIf n j.found) → ShallowIf n (unless b at f fs j).found
+where_shallow : (n : ℕ) (b : Bool) (at : ℕ) (f : Fault) (fs : List FaultAt) (j : ResolvedExpression) → (b ≡ true → ShallowIf n j.found) → ShallowIf n (given_that b at f fs j).found
 where_shallow n true at f fs j h = h refl
 where_shallow n false at f fs j h = tt
 
@@ -122,7 +122,7 @@ called_shallow n t make (Some es) fs h go = let g = (go es).0 in let k = (go es)
 
 with_shallow : (n at : ℕ) (ws : List Wanted) (t : CType) (make : nodes.Arguments → Node) (args : List Argument) → ArgumentsShallow args n
     → ((es : nodes.Arguments) → (node_nesting (make es) ≤ arguments_nesting es) × (node_reads (make es) ≤ arguments_read es)) → ShallowIf n (call_with at ws t make args).found
-with_shallow n at ws t make args h go = unless_shallow n (nat_eq (length ws) (length args)) at _ _ _ (called_shallow n t make (pass_all ws args).found (pass_all ws args).faults (pass_all_shallow ws args n h) go)
+with_shallow n at ws t make args h go = given_that_shallow n (nat_eq (length ws) (length args)) at _ _ _ (called_shallow n t make (pass_all ws args).found (pass_all ws args).faults (pass_all_shallow ws args n h) go)
 
 call_shallow : (s : Names) (n at : ℕ) (e : Option Entity) (args : List Argument) → ArgumentsShallow args n → ShallowIf n (call s at e args).found
 call_shallow s n at (Some (UserFunction f t ps)) args h = with_shallow n at (map OfType ps) t (nodes.Call f) args h (λ es. (omega arith, omega arith))
@@ -147,7 +147,7 @@ mutual
   pub resolved_shallow : (s : Names) (e : Expression) → ShallowIf (height e) (resolve_expression s e).found
   resolved_shallow s (trees.Constant at l) = literal_shallow l
   resolved_shallow s (trees.Variable n) = name_shallow n.start (s.entity n)
-  resolved_shallow s (trees.Information at f) = unless_shallow 0 s.information at _ [] (field f) (field_shallow f)
+  resolved_shallow s (trees.Information at f) = given_that_shallow 0 s.information at _ [] (field f) (field_shallow f)
   resolved_shallow s (trees.Call n es) = call_shallow s (heights es) n.start (s.entity n) (resolve_arguments s es) (arguments_shallow s es)
   resolved_shallow s (trees.Parentheses at e) = deeper (height e) (1 + height e) (resolve_expression s e).found (omega arith) (resolved_shallow s e)
   resolved_shallow s (trees.Index a at i) =
@@ -157,13 +157,13 @@ mutual
       (λ x y p q. let u = p.0 in let v = q.0 in element_shallow (1 + max k m) x y (omega arith) (omega arith) p.1 q.1)
   resolved_shallow s (trees.Postfix e o at) =
       let n = height e in
-      unless_shallow (1 + n) _ (start e) _ _ _ (rule_1_shallow n (1 + n) at _ _ (resolve_expression s e).found (resolved_shallow s e) (λ x p. let u = p.0 in incremented_shallow (1 + n) x (omega arith) p.1 _ o))
+      given_that_shallow (1 + n) _ (start e) _ _ _ (rule_1_shallow n (1 + n) at _ _ (resolve_expression s e).found (resolved_shallow s e) (λ x p. let u = p.0 in incremented_shallow (1 + n) x (omega arith) p.1 _ o))
   resolved_shallow s (trees.Prefix at o e) =
       let n = height e in
-      unless_shallow (1 + n) _ (start e) _ _ _ (rule_1_shallow n (1 + n) at _ _ (resolve_expression s e).found (resolved_shallow s e) (λ x p. let u = p.0 in incremented_shallow (1 + n) x (omega arith) p.1 _ o))
+      given_that_shallow (1 + n) _ (start e) _ _ _ (rule_1_shallow n (1 + n) at _ _ (resolve_expression s e).found (resolved_shallow s e) (λ x p. let u = p.0 in incremented_shallow (1 + n) x (omega arith) p.1 _ o))
   resolved_shallow s (trees.Unary at o e) =
       let n = height e in
-      unless_shallow (1 + n) _ (start e) _ _ _ (rule_1_shallow n (1 + n) at _ _ (resolve_expression s e).found (resolved_shallow s e) (λ x p. let u = p.0 in unary_shallow (1 + n) x (omega arith) p.1 o))
+      given_that_shallow (1 + n) _ (start e) _ _ _ (rule_1_shallow n (1 + n) at _ _ (resolve_expression s e).found (resolved_shallow s e) (λ x p. let u = p.0 in unary_shallow (1 + n) x (omega arith) p.1 o))
   resolved_shallow s (trees.Cast at t e) =
       let n = height e in
       rule_1_shallow n (1 + n) at _ _ (resolve_expression s e).found (resolved_shallow s e) (λ x p. let u = p.0 in cast_shallow (1 + n) x (omega arith) p.1 t)
@@ -181,7 +181,7 @@ mutual
   resolved_shallow s (trees.Assign a at o b) =
       let k = height a in
       let m = height b in
-      unless_shallow (1 + max k m) _ (start a) _ _ _ (changed_shallow o at (start b) k m (resolve_expression s a) (resolve_expression s b) (resolved_shallow s a) (resolved_shallow s b))
+      given_that_shallow (1 + max k m) _ (start a) _ _ _ (changed_shallow o at (start b) k m (resolve_expression s a) (resolve_expression s b) (resolved_shallow s a) (resolved_shallow s b))
   resolved_shallow s (trees.Comma a at b) =
       let k = height a in
       let m = height b in

@@ -10,8 +10,12 @@ use Rattle.ir_bounds.specs.Slots.{IsSmall}
 
 -- a program is nested no deeper than its text
 abbrev pub ResolvedIsShallow : Type 0
-ResolvedIsShallow = (text : List ℕ) (xs : List ExternalDeclaration) → Within text xs → AreShallow (resolve text xs).program.functions
+ResolvedIsShallow =
+    (text : List ℕ) (xs : List ExternalDeclaration) → Within text xs
+    → AreShallow (resolve text xs).program.functions
 
 -- no frame has more than 1,000 words, and one without locals no more than 460
 abbrev pub AcceptedIsSmall : Type 0
-AcceptedIsSmall = (text : List ℕ) (xs : List ExternalDeclaration) → Within text xs → Accepted text xs → IsSmall (lowered (resolve text xs).program)
+AcceptedIsSmall =
+    (text : List ℕ) (xs : List ExternalDeclaration) → Within text xs → Accepted text xs
+    → IsSmall (lowered (resolve text xs).program)

@@ -2,14 +2,14 @@
 
 ghost use Rattle.frame_bounds.specs.Laws.{ResolvedIsShallow, AcceptedIsSmall};
 
-/// What a text within the limits is resolved to is nested no deeper than the text, and names no parameter
-/// of an exception after the fifteenth.
+/// What a text within the limits is resolved to is nested no deeper than the text, and names no
+/// parameter of an exception after the fifteenth.
 pub fn resolved_is_shallow()
     ensures shallow { ResolvedIsShallow }
 {}
 
-/// No body of an accepted text's program uses more than 1,000 words of 8 bytes, 460 of them beside the
-/// locals, and each slot, function and funclet that its linear code names is there.
+/// No body of an accepted text's program uses more than 1,000 words of 8 bytes, 460 of them beside
+/// the locals, and each slot, function and funclet that its linear code names is there.
 pub fn accepted_is_small()
     ensures small { AcceptedIsSmall }
 {}

@@ -31,7 +31,8 @@ frame_of f = record {
   size = allocation (4 + f.passed + f.kept + f.temporaries + f.locals);
 }
 
--- what a frame is to be: home space and the parts one after another below its end, and RSP a multiple of 16 where it is so before the return address is pushed
+-- what a frame is to be: home space and the parts one after another below its end, and RSP a
+-- multiple of 16 where it is so before the return address is pushed
 pub record IsLaidOut (f : Facts) (frame : Frame) : Type 0 where
   pub passed : 32 + 8 * f.passed ≤ frame.kept
   pub kept : frame.kept + 8 * f.kept ≤ frame.temporaries
@@ -39,13 +40,17 @@ pub record IsLaidOut (f : Facts) (frame : Frame) : Type 0 where
   pub locals : frame.locals + 8 * f.locals ≤ frame.size
   pub aligned : (frame.size + 8) % 16 ≡ 0
 
--- a frame without saved registers and without a frame register, with the displacement of the call of `__chkstk`
+-- a frame without saved registers and without a frame register, with the displacement of the call
+-- of `__chkstk`
 abbrev pub plan_of : Frame → ℕ → Plan
-plan_of frame probe = record { pushes = []; size = frame.size; frame = 0; distance = 0; saves = []; probe = probe }
+plan_of frame probe =
+    record { pushes = []; size = frame.size; frame = 0; distance = 0; saves = []; probe = probe }
 
 -- the bytes of the prologue
 unfoldable pub taking_size : ℕ → ℕ
-taking_size size = bytes (rules.spelled_by spell (prologue_code (plan_of (record { kept = 0; temporaries = 0; locals = 0; size = size }) 0)))
+taking_size size =
+    bytes (rules.spelled_by spell (prologue_code (plan_of
+    (record { kept = 0; temporaries = 0; locals = 0; size = size }) 0)))
 
 -- an unwind info that is to be written says the same as one that is read
 pub record Describes (u : UnwindInfo) (i : Info) : Type 0 where
@@ -61,6 +66,7 @@ info_of f trailer = record {
   prologue_size = taking_size f.size;
   frame_register = 0;
   frame_offset = 0;
-  codes = record { items = record { offset = taking_size f.size; operation = Allocate f.size } ∷ [] };
+  codes =
+      record { items = record { offset = taking_size f.size; operation = Allocate f.size } ∷ [] };
   trailer = trailer;
 }

@@ -21,9 +21,9 @@ pub struct Facts {
     pub locals: u64,
 }
 
-/// A frame. From RSP up it has the home space of what is called, further arguments of calls, what is
-/// kept, the temporaries, the locals, and where RSP wouldn't be a multiple of 16 at a call, one word
-/// more; the return address is above it. Distances are from RSP, in bytes.
+/// A frame. From RSP up it has the home space of what is called, further arguments of calls, what
+/// is kept, the temporaries, the locals, and where RSP wouldn't be a multiple of 16 at a call, one
+/// word more; the return address is above it. Distances are from RSP, in bytes.
 #[derive(Clone, Copy, Debug, PartialEq, Eq)]
 pub struct Frame {
     pub kept: u64,

@@ -11,13 +11,14 @@ ghost use Rattle.frame_layout.specs.Layout.{plan_of, info_of, Describes, taking_
 use crate::frame::Frame;
 use arrayvec::ArrayVec;
 use eh_tables::{Trailer, UnwindCode, UnwindInfo, UnwindOperation};
+use host_layout::range::PAGE;
 use seh_num::width::Width;
 use x64_instr::instruction::{Instr, Operation, Target};
 use x64_instr::operand::{Operand, RegisterOrMemory};
 use x64_instr::register::Reg;
 
 /// The largest allocation that needs no probe of its pages: one page.
-const PROBE_FREE: u64 = 4096;
+const PROBE_FREE: u64 = PAGE;
 
 /// RSP changed by an operation with an operand.
 fn change_rsp(operation: Operation, from: Operand) -> Instr

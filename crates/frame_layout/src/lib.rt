@@ -1,8 +1,12 @@
-//! The frames of compiled functions (Microsoft x64 ABI, "x64 stack usage" and "Prolog and epilog").
+//! The frames of compiled functions (Microsoft x64 ABI, "x64 stack usage" and "Prolog and
+//! epilog").
 //!
-//! [`plan`] lays out a [`Frame`] by what a function needs of it; [`prologue`] and [`epilogue`] are the
-//! instructions that take it and give it back, and [`unwind_of`] what unwinding needs to know of them.
-//! No call takes memory.
+//! [`plan`] lays out a [`Frame`] by what a function needs of it; [`prologue`] and [`epilogue`] are
+//! the instructions that take it and give it back, and [`unwind_of`] what unwinding needs to know
+//! of them. No call takes memory.
+//!
+//! Proved: they keep the rules of `frame_rules`, and no frame has more than 8,192 bytes. Begin
+//! with `specs/Layout.antt`.
 #![tactic(auto)]
 
 mod frame;

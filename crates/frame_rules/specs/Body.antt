@@ -60,7 +60,8 @@ has r (q ∷ qs) = (q == r) || has r qs
 
 -- neither RSP nor the frame register, and no nonvolatile register that isn't saved
 abbrev pub may_write : ℕ → List UnwindOperation → ℕ → Bool
-may_write f ops r = not (r == 4) && (((f == 0) || not (r == f)) && (not (is_nonvolatile r) || is_saved r ops))
+may_write f ops r =
+    not (r == 4) && (((f == 0) || not (r == f)) && (not (is_nonvolatile r) || is_saved r ops))
 
 abbrev pub may_write_all : ℕ → List UnwindOperation → List ℕ → Bool
 may_write_all f ops [] = true
@@ -79,7 +80,8 @@ saved_at r (x ∷ xs) = saved_by r (saved_at r xs) x
 
 -- the place n bytes above the base, by RSP or by the frame register
 abbrev pub is_place : ℕ → ℕ → ℕ → MemRef → Bool
-is_place f offset n a = is_stack n a || (is_of f a.base a.index && ((offset + a.displacement) % 2 ^ 64 == n))
+is_place f offset n a =
+    is_stack n a || (is_of f a.base a.index && ((offset + a.displacement) % 2 ^ 64 == n))
 
 abbrev pub if_place : ℕ → ℕ → MemRef → ℕ → Option ℕ → Option ℕ
 if_place f offset a r None = None
@@ -87,7 +89,8 @@ if_place f offset a r (Some n) = if is_place f offset n a then Some r else None
 
 -- the register that an instruction loads from its place
 abbrev pub restored_by : ℕ → ℕ → List UnwindOperation → Instr → Option ℕ
-restored_by f offset ops (instrs.Move W64 (places.Register q) (operands.Memory a)) = if_place f offset a (number q) (saved_at (number q) ops)
+restored_by f offset ops (instrs.Move W64 (places.Register q) (operands.Memory a)) =
+    if_place f offset a (number q) (saved_at (number q) ops)
 restored_by f offset ops x = None
 
 -- those that the instructions straight before have loaded
@@ -105,7 +108,8 @@ are_restored rs (x ∷ xs) = is_restored rs x && are_restored rs xs
 
 -- ---- modes
 
--- in the body, after the loads of these registers; or in an epilogue, with these registers still to be popped
+-- in the body, after the loads of these registers; or in an epilogue, with these registers still to
+-- be popped
 pub data Mode : Type 0 where
   Body : List ℕ → Mode
   Leaving : List ℕ → Mode
@@ -124,9 +128,14 @@ leaving f (r ∷ rs) x = only_if (Some (Leaving rs)) (is_pop r x.instr)
 
 -- the mode after an instruction of the body, by what it is to an epilogue
 abbrev pub from_body : ℕ → ℕ → List UnwindOperation → List ℕ → FetchedInstr → Role → Option Mode
-from_body f offset ops rs x Other = only_if (Some (Body (with_restored rs (restored_by f offset ops x.instr)))) (may_write_all f ops (written x.instr))
-from_body f offset ops rs x Opens = only_if (Some (Leaving (pushes ops))) (are_restored rs ops && gives_back f offset (allocation ops) x.instr)
-from_body f offset ops rs x r = only_if (leaving f (pushes ops) x) (are_restored rs ops && (allocation ops == 0))
+from_body f offset ops rs x Other =
+    only_if (Some (Body (with_restored rs (restored_by f offset ops x.instr))))
+    (may_write_all f ops (written x.instr))
+from_body f offset ops rs x Opens =
+    only_if (Some (Leaving (pushes ops)))
+    (are_restored rs ops && gives_back f offset (allocation ops) x.instr)
+from_body f offset ops rs x r =
+    only_if (leaving f (pushes ops) x) (are_restored rs ops && (allocation ops == 0))
 
 abbrev pub next : ℕ → ℕ → List UnwindOperation → FetchedInstr → Mode → Option Mode
 next f offset ops x (Body rs) = from_body f offset ops rs x (role_of f x.plain x.instr)

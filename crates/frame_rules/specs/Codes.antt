@@ -1,4 +1,6 @@
--- What the unwind codes of an info are to be. They stand from the prologue's last instruction to its first: saves, before them at most one SET_FPREG, before it at most one allocation, before that pushes (Microsoft x64 ABI, "Prolog").
+-- What the unwind codes of an info are to be. They stand from the prologue's last instruction to
+-- its first: saves, before them at most one SET_FPREG, before it at most one allocation, before
+-- that pushes (Microsoft x64 ABI, "Prolog").
 use Rattle.std.specs.Prelude.{ℕ, ◌+◌, Bool, true, false, not, ◌==◌, ◌&&◌, ◌||◌, nat_le, List, [], ◌∷◌}
 use Rattle.eh_tables.specs.declared.code.UnwindOperation.{UnwindOperation}
 use Rattle.eh_tables.specs.declared.code.UnwindOperation.TheVariants.{Push, Allocate, SetFrame, Save, SaveVector, MachineFrame}

@@ -1,4 +1,5 @@
--- What an epilogue is to be by the codes: it gives back the allocation, pops what was pushed, and ends (Microsoft x64 ABI, "Epilog").
+-- What an epilogue is to be by the codes: it gives back the allocation, pops what was pushed, and
+-- ends (Microsoft x64 ABI, "Epilog").
 use Rattle.std.specs.Prelude.{ℕ, ◌+◌, ◌%◌, ◌^◌, Bool, true, false, ◌==◌, ◌&&◌, ◌||◌, List, [], ◌∷◌}
 use Rattle.seh_num.specs.declared.width.Width.TheVariants.{W64}
 use Rattle.x64_instr.specs.declared.register.Reg.TheVariants.{Rsp}
@@ -33,11 +34,15 @@ pops (r ∷ rs) (x ∷ is) = is_pop r x && pops rs is
 
 -- n bytes given back, from RSP or from the frame register, which stands so far above it
 abbrev pub gives_back : ℕ → ℕ → ℕ → Instr → Bool
-gives_back f offset n (instrs.Arithmetic Add W64 (places.Register Rsp) (operands.Immediate v)) = v == n
-gives_back f offset n (instrs.LoadAddress W64 Rsp a) = is_of f a.base a.index && ((offset + a.displacement) % 2 ^ 64 == n)
+gives_back f offset n (instrs.Arithmetic Add W64 (places.Register Rsp) (operands.Immediate v)) =
+    v == n
+gives_back f offset n (instrs.LoadAddress W64 Rsp a) =
+    is_of f a.base a.index && ((offset + a.displacement) % 2 ^ 64 == n)
 gives_back f offset n x = false
 
 -- where nothing is allocated, nothing need be given back
 abbrev pub is_epilogue : ℕ → ℕ → List UnwindOperation → List Instr → Bool
 is_epilogue f offset ops [] = false
-is_epilogue f offset ops (x ∷ is) = (gives_back f offset (allocation ops) x && pops (pushes ops) is) || ((allocation ops == 0) && pops (pushes ops) (x ∷ is))
+is_epilogue f offset ops (x ∷ is) =
+    (gives_back f offset (allocation ops) x && pops (pushes ops) is) ||
+    ((allocation ops == 0) && pops (pushes ops) (x ∷ is))

@@ -27,33 +27,47 @@ use Rattle.frame_rules.specs.Frame.{Stack, Framed, Others, left_to}
 -- undoing codes gives the caller
 abbrev pub UndoingRestores : Type 0
 UndoingRestores =
-    (i : Info) (m : Memory) (c : Context) (base : ℕ) (old : ℕ → ℕ) (back : ℕ) (ops : List UnwindOperation)
-    → length c.kept ≡ 9 → old 4 + 8 < 2 ^ 64 → i.frame_offset ≤ 2 ^ 64 → are_allowed i.frame_register ops ≡ true
-    → Stack m old back base (get c 4) ops → Framed i.frame_register i.frame_offset (get c) (get c 4) ops → Others old (get c) ops
+    (i : Info) (m : Memory) (c : Context) (base : ℕ) (old : ℕ → ℕ) (back : ℕ)
+    (ops : List UnwindOperation)
+    → length c.kept ≡ 9 → old 4 + 8 < 2 ^ 64 → i.frame_offset ≤ 2 ^ 64
+    → are_allowed i.frame_register ops ≡ true
+    → Stack m old back base (get c 4) ops
+    → Framed i.frame_register i.frame_offset (get c) (get c 4) ops → Others old (get c) ops
     → unwound m base i [] ops c ≡ Ok (left_to old back)
 
--- the instructions of an epilogue that are left give the caller, where the saves have been restored: with the registers rs still to be popped; and the whole of it
+-- the instructions of an epilogue that are left give the caller, where the saves have been
+-- restored: with the registers rs still to be popped; and the whole of it
 abbrev pub PopsRestore : Type 0
 PopsRestore =
-    (f : ℕ) (m : Memory) (c : Context) (base : ℕ) (old : ℕ → ℕ) (back : ℕ) (rs : List ℕ) (is : List Instr)
+    (f : ℕ) (m : Memory) (c : Context) (base : ℕ) (old : ℕ → ℕ) (back : ℕ) (rs : List ℕ)
+    (is : List Instr)
     → length c.kept ≡ 9 → old 4 + 8 < 2 ^ 64 → are_allowed f (pushed rs) ≡ true
-    → Stack m old back base (get c 4) (pushed rs) → Others old (get c) (pushed rs) → pops rs is ≡ true
+    → Stack m old back base (get c 4) (pushed rs) → Others old (get c) (pushed rs)
+    → pops rs is ≡ true
     → left m is c ≡ Ok (left_to old back)
 
 abbrev pub EpilogueRestores : Type 0
 EpilogueRestores =
-    (i : Info) (m : Memory) (c : Context) (base : ℕ) (old : ℕ → ℕ) (back : ℕ) (ops : List UnwindOperation) (is : List Instr)
-    → length c.kept ≡ 9 → old 4 + 8 < 2 ^ 64 → is_ordered ops ≡ true → are_allowed i.frame_register ops ≡ true → (i.frame_register ≢ 0 → sets_frame ops ≡ true)
-    → Stack m old back base (get c 4) ops → Framed i.frame_register i.frame_offset (get c) (get c 4) ops → Others old (get c) (pushed (pushes ops)) → is_epilogue i.frame_register i.frame_offset ops is ≡ true
+    (i : Info) (m : Memory) (c : Context) (base : ℕ) (old : ℕ → ℕ) (back : ℕ)
+    (ops : List UnwindOperation) (is : List Instr)
+    → length c.kept ≡ 9 → old 4 + 8 < 2 ^ 64 → is_ordered ops ≡ true
+    → are_allowed i.frame_register ops ≡ true → (i.frame_register ≢ 0 → sets_frame ops ≡ true)
+    → Stack m old back base (get c 4) ops
+    → Framed i.frame_register i.frame_offset (get c) (get c 4) ops
+    → Others old (get c) (pushed (pushes ops))
+    → is_epilogue i.frame_register i.frame_offset ops is ≡ true
     → left m is c ≡ Ok (left_to old back)
 
--- a function that is right, and stands from an address on: in each of its states the caller is found, as it was at its first byte
+-- a function that is right, and stands from an address on: in each of its states the caller is
+-- found, as it was at its first byte
 abbrev pub FramesAreRight : Type 0
 FramesAreRight =
     (f : Function) (e s : State) (begin distance to : ℕ)
-    → IsRight f → IsEntry (depth (ops f)) e → HasItems s.memory begin (items f.steps ++ f.rest) to → to < 2 ^ 63 → s.cpu.rip ≡ begin + distance
+    → IsRight f → IsEntry (depth (ops f)) e → HasItems s.memory begin (items f.steps ++ f.rest) to
+    → to < 2 ^ 63 → s.cpu.rip ≡ begin + distance
     → Stands f e s distance
-    → Finds (in_entry s.memory f.info [] (context_of s.cpu) distance) (left_to (registers e) (return_address e)) (registers s 4)
+    → Finds (in_entry s.memory f.info [] (context_of s.cpu) distance)
+    (left_to (registers e) (return_address e)) (registers s 4)
 
 -- ---- with the function tables
 
@@ -61,8 +75,10 @@ FramesAreRight =
 abbrev pub EntriesAreFound : Type 0
 EntriesAreFound =
     (t : Tables) (entry : Entry) (f : Function) (e s : State) (begin d to : ℕ)
-    → holding (distance t.image.base s.cpu.rip) (entries_of t) ≡ Some entry → entry.info ≡ f.info → entry.parents ≡ [] → distance t.image.base s.cpu.rip ≡ entry.range.begin + d
-    → IsRight f → IsEntry (depth (ops f)) e → HasItems s.memory begin (items f.steps ++ f.rest) to → to < 2 ^ 63 → s.cpu.rip ≡ begin + d → Stands f e s d
+    → holding (distance t.image.base s.cpu.rip) (entries_of t) ≡ Some entry → entry.info ≡ f.info
+    → entry.parents ≡ [] → distance t.image.base s.cpu.rip ≡ entry.range.begin + d
+    → IsRight f → IsEntry (depth (ops f)) e → HasItems s.memory begin (items f.steps ++ f.rest) to
+    → to < 2 ^ 63 → s.cpu.rip ≡ begin + d → Stands f e s d
     → IsFound (caller_of t s.memory (context_of s.cpu)) (left_to (registers e) (return_address e))
 
 -- where none does: a leaf or a thunk, which changes neither RSP nor a nonvolatile register
@@ -77,14 +93,16 @@ LeavesAreFound =
 
 -- what passes them has the form of a function that is right
 abbrev pub RulesAreRight : Type 0
-RulesAreRight = (i : Info) (xs ys : List FetchedInstr) → keeps_rules i xs ys ≡ true → HasForm i xs ys
+RulesAreRight =
+    (i : Info) (xs ys : List FetchedInstr) → keeps_rules i xs ys ≡ true → HasForm i xs ys
 
 -- ---- emission
 
 -- prologue, bodies and epilogues of a plan are a function that is right
 abbrev pub PlansAreRight : Type 0
 PlansAreRight =
-    (spell : Instr → FetchedInstr) (p : Plan) (parts : List (List FetchedInstr)) (last : List FetchedInstr)
+    (spell : Instr → FetchedInstr) (p : Plan) (parts : List (List FetchedInstr))
+    (last : List FetchedInstr)
     → IsSpelling spell → IsPlan p → all_inner p parts ≡ true → are_inner p last ≡ true
     → IsRight (function_of spell p parts last)
 
@@ -92,11 +110,14 @@ PlansAreRight =
 
 -- an instruction that is run, other than a call, leaves each register that it doesn't write
 abbrev pub WritesNoOther : Type 0
-WritesNoOther = (s t : State) (i : Instr) (r : ℕ) → is_a_call i ≡ false → effect s i ≡ Ok t → has r (written i) ≡ false → registers t r ≡ registers s r
+WritesNoOther =
+    (s t : State) (i : Instr) (r : ℕ) → is_a_call i ≡ false → effect s i ≡ Ok t
+    → has r (written i) ≡ false → registers t r ≡ registers s r
 
 -- ---- a function returns
 
--- RIP is the return address, RSP stands above it, and the other nonvolatile registers and the memory are as they were
+-- RIP is the return address, RSP stands above it, and the other nonvolatile registers and the
+-- memory are as they were
 pub record Returned (e s t : State) : Type 0 where
   pub rip : t.cpu.rip ≡ return_address e
   pub stack : registers t 4 ≡ registers e 4 + 8
@@ -108,7 +129,8 @@ pub record Returned (e s t : State) : Type 0 where
 abbrev pub EpiloguesReturn : Type 0
 EpiloguesReturn =
     (f : Function) (e s t : State) (distance a : ℕ) (x : FetchedInstr) (xs : List FetchedInstr)
-    → IsRight f → IsEntry (depth (ops f)) e → (h : IsLeaving f e s distance) → h.left ≡ x ∷ xs → x.instr ≡ instrs.Return → x.plain ≡ true
+    → IsRight f → IsEntry (depth (ops f)) e → (h : IsLeaving f e s distance) → h.left ≡ x ∷ xs
+    → x.instr ≡ instrs.Return → x.plain ≡ true
     → effect (with_rip s a) instrs.Return ≡ Ok t
     → Returned e s t
 
@@ -135,7 +157,9 @@ pub record Enters (f : Function) (e : State) : Type 0 where
 
 -- where it has no call: from each state with room for its frame
 abbrev pub ProloguesRun : Type 0
-ProloguesRun = (f : Function) (e : State) → IsRight f → IsEntry (depth (ops f)) e → are_single f.steps ≡ true → e.cpu.rip + bytes (items f.steps) < 2 ^ 64 → Enters f e
+ProloguesRun =
+    (f : Function) (e : State) → IsRight f → IsEntry (depth (ops f)) e → are_single f.steps ≡ true
+    → e.cpu.rip + bytes (items f.steps) < 2 ^ 64 → Enters f e
 
 -- ---- the states of the body
 
@@ -145,13 +169,18 @@ BodyBegins =
     (f : Function) (e p : State) → IsRight f → IsEntry (depth (ops f)) e → Runs e (items f.steps) p
     → InBody f.info.frame_register (ops f) f.rest e p p
 
--- an instruction of the body other than a call, which leaves the frame's words, leads from one to another
+-- an instruction of the body other than a call, which leaves the frame's words, leads from one to
+-- another
 abbrev pub BodyGoesOn : Type 0
 BodyGoesOn =
     (f : Function) (e p s t : State) (a : ℕ) (x : FetchedInstr) (done left : List FetchedInstr)
-    → f.rest ≡ done ++ (x ∷ left) → role_of f.info.frame_register x.plain x.instr ≡ Other → may_write_all f.info.frame_register (ops f) (written x.instr) ≡ true → is_a_call x.instr ≡ false
-    → effect (with_rip s a) x.instr ≡ Ok t → length t.cpu.registers ≡ 16 → KeepsWords p.memory t.memory (registers p 4) (registers p 4) (ops f)
-    → InBody f.info.frame_register (ops f) f.rest e p s → InBody f.info.frame_register (ops f) f.rest e p t
+    → f.rest ≡ done ++ (x ∷ left) → role_of f.info.frame_register x.plain x.instr ≡ Other
+    → may_write_all f.info.frame_register (ops f) (written x.instr) ≡ true
+    → is_a_call x.instr ≡ false
+    → effect (with_rip s a) x.instr ≡ Ok t → length t.cpu.registers ≡ 16
+    → KeepsWords p.memory t.memory (registers p 4) (registers p 4) (ops f)
+    → InBody f.info.frame_register (ops f) f.rest e p s
+    → InBody f.info.frame_register (ops f) f.rest e p t
 
 -- ---- chained fragments
 
@@ -159,9 +188,11 @@ abbrev pub context_found : Answer CallerFrame → Answer Context
 context_found (Ok f) = Ok f.context
 context_found (Err e) = Err e
 
--- a fragment without codes and prologue, of the same frame register, unwinds as its parent does past its prologue
+-- a fragment without codes and prologue, of the same frame register, unwinds as its parent does
+-- past its prologue
 abbrev pub FragmentsUnwindAsParents : Type 0
 FragmentsUnwindAsParents =
     (m : Memory) (i p : Info) (c : Context) (d : ℕ)
-    → i.codes ≡ [] → i.prologue_size ≡ 0 → i.frame_register ≡ p.frame_register → i.frame_offset ≡ p.frame_offset
+    → i.codes ≡ [] → i.prologue_size ≡ 0 → i.frame_register ≡ p.frame_register
+    → i.frame_offset ≡ p.frame_offset
     → context_found (in_entry m i (p ∷ []) c d) ≡ context_found (past m p [] c)

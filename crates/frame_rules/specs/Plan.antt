@@ -1,6 +1,7 @@
 -- The prologue, the epilogue and the unwind info of a planned frame.
 use Rattle.std.specs.Prelude.{◌≡◌, ℕ, ◌+◌, ◌-◌, ◌*◌, ◌%◌, ◌^◌, ◌<◌, Bool, true, false, not, ◌==◌, ◌&&◌, nat_le, List, [], ◌∷◌, ◌++◌, length, None}
 use Rattle.seh_num.specs.declared.width.Width.TheVariants.{W32, W64}
+use Rattle.host_layout.specs.declared.range.TheConstants.{PAGE}
 use Rattle.x64_instr.specs.declared.register.Reg.TheVariants.{Rax, Rsp}
 use Rattle.x64_instr.specs.declared.operand.MemRef.{MemRef}
 use Rattle.x64_instr.specs.declared.operand.Base.TheVariants as bases
@@ -50,7 +51,9 @@ allocation_then false n xs = xs
 
 -- the operations of the codes
 abbrev pub operations_of : Plan → List UnwindOperation
-operations_of p = saves_then p.saves (frame_then (not (p.frame == 0)) (allocation_then (not (p.size == 0)) p.size (pushed p.pushes)))
+operations_of p =
+    saves_then p.saves (frame_then (not (p.frame == 0)) (allocation_then (not (p.size == 0)) p.size
+    (pushed p.pushes)))
 
 -- a plan that fits
 pub record IsPlan (p : Plan) : Type 0 where
@@ -71,14 +74,18 @@ stack_place n = record { base = bases.Register Rsp; index = None; displacement =
 
 -- a page more than is guarded has to be probed
 abbrev pub allocating : ℕ → ℕ → Bool → List Instr
-allocating probe n true = instrs.Arithmetic Sub W64 (places.Register Rsp) (operands.Immediate n) ∷ []
-allocating probe n false = instrs.Move W32 (places.Register Rax) (operands.Immediate n) ∷ instrs.Call (Relative probe) ∷ instrs.Arithmetic Sub W64 (places.Register Rsp) (operands.Register Rax) ∷ []
+allocating probe n true =
+    instrs.Arithmetic Sub W64 (places.Register Rsp) (operands.Immediate n) ∷ []
+allocating probe n false =
+    instrs.Move W32 (places.Register Rax) (operands.Immediate n) ∷ instrs.Call (Relative probe)
+    ∷ instrs.Arithmetic Sub W64 (places.Register Rsp) (operands.Register Rax) ∷ []
 
 abbrev pub instructions_of : Plan → UnwindOperation → List Instr
 instructions_of p (Push r) = instrs.Push (register r) ∷ []
-instructions_of p (Allocate n) = allocating p.probe n (nat_le n 4096)
+instructions_of p (Allocate n) = allocating p.probe n (nat_le n PAGE)
 instructions_of p SetFrame = instrs.LoadAddress W64 (register p.frame) (stack_place p.distance) ∷ []
-instructions_of p (Save r n) = instrs.Move W64 (places.Memory (stack_place n)) (operands.Register (register r)) ∷ []
+instructions_of p (Save r n) =
+    instrs.Move W64 (places.Memory (stack_place n)) (operands.Register (register r)) ∷ []
 instructions_of p x = []
 
 abbrev pub spelled_by : (Instr → FetchedInstr) → List Instr → List FetchedInstr
@@ -96,22 +103,40 @@ turned done [] = done
 turned done (x ∷ xs) = turned (x ∷ done) xs
 
 abbrev pub step_of : (Instr → FetchedInstr) → Plan → ℕ → UnwindOperation → Step
-step_of spell p at x = let is = spelled_by spell (instructions_of p x) in record { code = record { offset = at + bytes is; operation = x }; items = is }
+step_of spell p at x =
+    let is = spelled_by spell (instructions_of p x) in record
+    { code = record { offset = at + bytes is; operation = x }; items = is }
 
 abbrev pub steps_of : (Instr → FetchedInstr) → Plan → ℕ → List UnwindOperation → List Step
 steps_of spell p at [] = []
-steps_of spell p at (x ∷ xs) = step_of spell p at x ∷ steps_of spell p (at + bytes (spelled_by spell (instructions_of p x))) xs
+steps_of spell p at (x ∷ xs) =
+    step_of spell p at x ∷ steps_of spell p (at + bytes (spelled_by spell (instructions_of p x))) xs
 
 abbrev pub prologue : (Instr → FetchedInstr) → Plan → List Step
 prologue spell p = steps_of spell p 0 (turned [] (operations_of p))
 
 abbrev pub unwind_of : (Instr → FetchedInstr) → Plan → Info
-unwind_of spell p = record { bytes = []; flags = 0; prologue_size = bytes (items (prologue spell p)); frame_register = p.frame; frame_offset = p.distance; codes = codes_onto [] (prologue spell p); handler = None; parent = None; has_c_handler = false; scopes = [] }
+unwind_of spell p =
+    record {
+      bytes = [];
+      flags = 0;
+      prologue_size = bytes (items (prologue spell p));
+      frame_register = p.frame;
+      frame_offset = p.distance;
+      codes =
+          codes_onto [] (prologue spell p);
+      handler = None;
+      parent = None;
+      has_c_handler = false;
+      scopes =
+          [];
+    }
 
 -- ---- the epilogue, with the loads before it
 
 abbrev pub load_of : Saved → Instr
-load_of s = instrs.Move W64 (places.Register (register s.register)) (operands.Memory (stack_place s.offset))
+load_of s =
+    instrs.Move W64 (places.Register (register s.register)) (operands.Memory (stack_place s.offset))
 
 abbrev pub loads_then : List Saved → List Instr → List Instr
 loads_then [] is = is
@@ -119,7 +144,12 @@ loads_then (s ∷ ss) is = load_of s ∷ loads_then ss is
 
 abbrev pub opening_by : Plan → Bool → Instr
 opening_by p true = instrs.Arithmetic Add W64 (places.Register Rsp) (operands.Immediate p.size)
-opening_by p false = instrs.LoadAddress W64 Rsp (record { base = bases.Register (register p.frame); index = None; displacement = (p.size + (2 ^ 64 - p.distance)) % 2 ^ 64 })
+opening_by p false =
+    instrs.LoadAddress W64 Rsp (record {
+      base = bases.Register (register p.frame);
+      index = None;
+      displacement = (p.size + (2 ^ 64 - p.distance)) % 2 ^ 64;
+    })
 
 abbrev pub opening_then : Plan → Bool → List Instr → List Instr
 opening_then p true is = is
@@ -130,29 +160,41 @@ pops_then [] is = is
 pops_then (r ∷ rs) is = instrs.Pop (register r) ∷ pops_then rs is
 
 abbrev pub epilogue : Plan → List Instr
-epilogue p = loads_then p.saves (opening_then p (p.size == 0) (pops_then p.pushes (instrs.Return ∷ [])))
+epilogue p =
+    loads_then p.saves (opening_then p (p.size == 0) (pops_then p.pushes (instrs.Return ∷ [])))
 
 -- ---- a function
 
--- an instruction that keeps RSP and the frame register, writes no nonvolatile register that isn't saved, and begins no trailing part of an epilogue
+-- an instruction that keeps RSP and the frame register, writes no nonvolatile register that isn't
+-- saved, and begins no trailing part of an epilogue
 abbrev pub is_inner : Plan → FetchedInstr → Bool
-is_inner p x = is_other (role_of p.frame x.plain x.instr) && may_write_all p.frame (operations_of p) (written x.instr)
+is_inner p x =
+    is_other (role_of p.frame x.plain x.instr) && may_write_all p.frame (operations_of p)
+    (written x.instr)
 
 abbrev pub are_inner : Plan → List FetchedInstr → Bool
 are_inner p [] = true
 are_inner p (x ∷ xs) = is_inner p x && are_inner p xs
 
 -- parts of a body, an epilogue after each; after the last there may be more of the body
-abbrev pub with_epilogues : (Instr → FetchedInstr) → Plan → List (List FetchedInstr) → List FetchedInstr → List FetchedInstr
+abbrev pub with_epilogues : (Instr → FetchedInstr) → Plan → List (List FetchedInstr)
+    → List FetchedInstr → List FetchedInstr
 with_epilogues spell p [] last = last
-with_epilogues spell p (xs ∷ xss) last = xs ++ (spelled_by spell (epilogue p) ++ with_epilogues spell p xss last)
+with_epilogues spell p (xs ∷ xss) last =
+    xs ++ (spelled_by spell (epilogue p) ++ with_epilogues spell p xss last)
 
 abbrev pub all_inner : Plan → List (List FetchedInstr) → Bool
 all_inner p [] = true
 all_inner p (xs ∷ xss) = are_inner p xs && all_inner p xss
 
-abbrev pub function_of : (Instr → FetchedInstr) → Plan → List (List FetchedInstr) → List FetchedInstr → Function
-function_of spell p parts last = record { info = unwind_of spell p; steps = prologue spell p; rest = with_epilogues spell p parts last }
+abbrev pub function_of : (Instr → FetchedInstr) → Plan → List (List FetchedInstr)
+    → List FetchedInstr → Function
+function_of spell p parts last =
+    record {
+      info = unwind_of spell p;
+      steps = prologue spell p;
+      rest = with_epilogues spell p parts last;
+    }
 
 -- ---- the size of a frame, its return address counted
 

@@ -1,4 +1,5 @@
--- A prologue as a list of steps, each of them an unwind code with the instructions that it describes (Microsoft x64 ABI, "Prolog").
+-- A prologue as a list of steps, each of them an unwind code with the instructions that it
+-- describes (Microsoft x64 ABI, "Prolog").
 use Rattle.std.specs.Prelude.{◌≡◌, ℕ, ◌+◌, ◌^◌, Bool, true, false, ◌==◌, ◌&&◌, nat_lt, List, [], ◌∷◌, ◌++◌, Option, None}
 use Rattle.seh_num.specs.declared.width.Width.TheVariants.{W32, W64}
 use Rattle.x64_instr.specs.declared.register.Reg.TheVariants.{Rax, Rsp}
@@ -35,14 +36,17 @@ is_stack n a = is_stack_base a.base a.index && (a.displacement == n)
 
 abbrev pub does : ℕ → ℕ → UnwindOperation → Instr → Bool
 does f offset (Push r) (instrs.Push q) = number q == r
-does f offset (Allocate n) (instrs.Arithmetic Sub W64 (places.Register Rsp) (operands.Immediate v)) = v == n
+does f offset (Allocate n) (instrs.Arithmetic Sub W64 (places.Register Rsp) (operands.Immediate v))
+    = v == n
 does f offset SetFrame (instrs.LoadAddress W64 to a) = (number to == f) && is_stack offset a
-does f offset (Save r n) (instrs.Move W64 (places.Memory a) (operands.Register q)) = (number q == r) && is_stack n a
+does f offset (Save r n) (instrs.Move W64 (places.Memory a) (operands.Register q)) =
+    (number q == r) && is_stack n a
 does f offset op x = false
 
 -- a large allocation: its size to EAX, a call that probes the pages, and RAX subtracted from RSP
 abbrev pub sets_size : ℕ → Instr → Bool
-sets_size n (instrs.Move W32 (places.Register Rax) (operands.Immediate v)) = (v == n) && nat_lt n (2 ^ 32)
+sets_size n (instrs.Move W32 (places.Register Rax) (operands.Immediate v)) =
+    (v == n) && nat_lt n (2 ^ 32)
 sets_size n x = false
 
 abbrev pub is_call : Instr → Bool
@@ -87,7 +91,9 @@ are_sized (x ∷ xs) = nat_lt 0 x.size && are_sized xs
 -- each code has the offset of its instructions' end
 abbrev pub AreSteps : ℕ → ℕ → ℕ → List Step → Type 0
 AreSteps f offset at [] = Unit {0}
-AreSteps f offset at (s ∷ ss) = (is_step f offset s.code.operation s.items ≡ true) × (are_sized s.items ≡ true) × (s.code.offset ≡ at + bytes s.items) × AreSteps f offset (at + bytes s.items) ss
+AreSteps f offset at (s ∷ ss) =
+    (is_step f offset s.code.operation s.items ≡ true) × (are_sized s.items ≡ true)
+    × (s.code.offset ≡ at + bytes s.items) × AreSteps f offset (at + bytes s.items) ss
 
 -- a prologue without calls
 abbrev pub is_single : List FetchedInstr → Bool

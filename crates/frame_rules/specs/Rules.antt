@@ -34,11 +34,13 @@ pub record IsRight (f : Function) : Type 0 where
   pub ordered : is_ordered (ops f) ≡ true
   pub allowed : are_allowed f.info.frame_register (ops f) ≡ true
   pub frame : f.info.frame_register ≢ 0 → sets_frame (ops f) ≡ true
-  pub body : is_body (following f.info.frame_register f.info.frame_offset (ops f) f.rest (Body [])) ≡ true
+  pub body : is_body (following f.info.frame_register f.info.frame_offset (ops f) f.rest (Body []))
+      ≡ true
 
 -- the mode at a place
 abbrev pub mode_following : Function → List FetchedInstr → Mode → Mode → Type 0
-mode_following f xs from to = following f.info.frame_register f.info.frame_offset (ops f) xs from ≡ Some to
+mode_following f xs from to =
+    following f.info.frame_register f.info.frame_offset (ops f) xs from ≡ Some to
 
 -- ---- the states, e at the first byte, so far from it
 
@@ -65,7 +67,8 @@ pub record IsBody (f : Function) (e s : State) (distance : ℕ) : Type 0 where
   pub here : distance ≡ f.info.prologue_size + bytes done
   pub in_body : InBody f.info.frame_register (ops f) f.rest e following s
 
--- reached from a state of the body by the loads of saved registers and the epilogue's instructions before it
+-- reached from a state of the body by the loads of saved registers and the epilogue's instructions
+-- before it
 pub record IsLeaving (f : Function) (e s : State) (distance : ℕ) : Type 0 where
   pub following : State  -- the prologue
   pub runs : Runs e (items f.steps) following
@@ -84,7 +87,8 @@ pub record IsLeaving (f : Function) (e s : State) (distance : ℕ) : Type 0 wher
   pub goes_on : left ≢ []
 
 abbrev pub Stands : Function → State → State → ℕ → Type 0
-Stands f e s distance = InPrologue f e s distance ⊎ (IsBody f e s distance ⊎ IsLeaving f e s distance)
+Stands f e s distance =
+    InPrologue f e s distance ⊎ (IsBody f e s distance ⊎ IsLeaving f e s distance)
 
 -- ---- what is promised
 

@@ -40,7 +40,8 @@ pub record IsEntry (room : ℕ) (e : State) : Type 0 where
   pub fits : (r : ℕ) → registers e r < 2 ^ 64
   pub high : registers e 4 < 2 ^ 47
   pub low : room ≤ registers e 4
-  pub writable : (a : ℕ) → registers e 4 ≤ a + room → a < registers e 4 → may_write e.memory a ≡ true
+  pub writable : (a : ℕ) → registers e 4 ≤ a + room → a < registers e 4
+      → may_write e.memory a ≡ true
   pub readable : (a : ℕ) → registers e 4 ≤ a → a < registers e 4 + 8 → may_read e.memory a ≡ true
 
 abbrev pub return_address : State → ℕ
@@ -79,12 +80,14 @@ is_written f r [] = false
 is_written f r (x ∷ xs) = writes f r x || is_written f r xs
 
 -- p: the state after the prologue
-pub record InBody (f : ℕ) (ops : List UnwindOperation) (rest : List FetchedInstr) (e p s : State) : Type 0 where
+pub record InBody (f : ℕ) (ops : List UnwindOperation) (rest : List FetchedInstr)
+    (e p s : State) : Type 0 where
   pub length : length s.cpu.registers ≡ 16
   pub stack : registers s 4 ≡ registers p 4
   pub frame : f ≢ 0 → registers s f ≡ registers p f
   pub words : KeepsWords p.memory s.memory (registers p 4) (registers p 4) ops
-  pub others : (r : ℕ) → is_nonvolatile r ≡ true → r ≢ 4 → r ≢ f → is_written f r rest ≡ false → registers s r ≡ registers e r
+  pub others : (r : ℕ) → is_nonvolatile r ≡ true → r ≢ 4 → r ≢ f → is_written f r rest ≡ false
+      → registers s r ≡ registers e r
 
 -- ---- the epilogue
 
@@ -94,7 +97,8 @@ is_some o = false
 
 -- the loads of saved registers, and the instructions of epilogues before their ends
 abbrev pub leaves : ℕ → ℕ → List UnwindOperation → FetchedInstr → Bool
-leaves f offset ops x = is_some (restored_by f offset ops x.instr) || is_leaving (role_of f x.plain x.instr)
+leaves f offset ops x =
+    is_some (restored_by f offset ops x.instr) || is_leaving (role_of f x.plain x.instr)
 
 abbrev pub all_leave : ℕ → ℕ → List UnwindOperation → List FetchedInstr → Bool
 all_leave f offset ops [] = true
@@ -105,4 +109,5 @@ all_leave f offset ops (x ∷ xs) = leaves f offset ops x && all_leave f offset 
 -- from this address to that one stand these instructions
 abbrev pub HasItems : Memory → ℕ → List FetchedInstr → ℕ → Type 0
 HasItems m at [] to = at ≡ to
-HasItems m at (x ∷ xs) to = (fetched_at m at ≡ Some x) × (0 < x.size) × HasItems m (at + x.size) xs to
+HasItems m at (x ∷ xs) to =
+    (fetched_at m at ≡ Some x) × (0 < x.size) × HasItems m (at + x.size) xs to

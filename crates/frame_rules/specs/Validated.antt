@@ -1,4 +1,6 @@
--- The rules as a test on what is decoded: an unwind info, the instructions of its prologue, and those after it up to the entry's end. Decode is that these instructions stand there, and Chain that the info has no parent.
+-- The rules as a test on what is decoded: an unwind info, the instructions of its prologue, and
+-- those after it up to the entry's end. Decode is that these instructions stand there, and Chain
+-- that the info has no parent.
 use Rattle.std.specs.Prelude.{ℕ, ◌+◌, ◌^◌, Bool, true, false, not, ◌==◌, ◌&&◌, ◌||◌, nat_lt, List, [], ◌∷◌, Option, Some, None}
 use Rattle.eh_tables.specs.declared.code.UnwindCode.{UnwindCode}
 use Rattle.eh_tables.specs.Infos.{Info}
@@ -17,23 +19,30 @@ turned done (c ∷ cs) = turned (c ∷ done) cs
 -- ---- Prologue: each code has its instructions
 
 abbrev pub fits : ℕ → ℕ → ℕ → UnwindCode → List FetchedInstr → Bool
-fits f offset at c xs = is_step f offset c.operation xs && (are_sized xs && (c.offset == at + bytes xs))
+fits f offset at c xs =
+    is_step f offset c.operation xs && (are_sized xs && (c.offset == at + bytes xs))
 
 abbrev pub before : Step → Option (List Step) → Option (List Step)
 before s None = None
 before s (Some ss) = Some (s ∷ ss)
 
-abbrev pub with_step : UnwindCode → List FetchedInstr → Option (List Step) → Bool → Option (List Step) → Option (List Step)
+abbrev pub with_step : UnwindCode → List FetchedInstr → Option (List Step) → Bool
+    → Option (List Step) → Option (List Step)
 with_step c xs others true else' = before (record { code = c; items = xs }) others
 with_step c xs others false else' = else'
 
 -- a step of three instructions, of one
-abbrev pub three : ℕ → ℕ → ℕ → UnwindCode → (List FetchedInstr → Option (List Step)) → List FetchedInstr → Option (List Step)
-three f offset at c others (x ∷ y ∷ z ∷ xs) = with_step c (x ∷ y ∷ z ∷ []) (others xs) (fits f offset at c (x ∷ y ∷ z ∷ [])) None
+abbrev pub three : ℕ → ℕ → ℕ → UnwindCode → (List FetchedInstr → Option (List Step))
+    → List FetchedInstr → Option (List Step)
+three f offset at c others (x ∷ y ∷ z ∷ xs) =
+    with_step c (x ∷ y ∷ z ∷ []) (others xs) (fits f offset at c (x ∷ y ∷ z ∷ [])) None
 three f offset at c others xs = None
 
-abbrev pub one : ℕ → ℕ → ℕ → UnwindCode → (List FetchedInstr → Option (List Step)) → List FetchedInstr → Option (List Step)
-one f offset at c others (x ∷ xs) = with_step c (x ∷ []) (others xs) (fits f offset at c (x ∷ [])) (three f offset at c others (x ∷ xs))
+abbrev pub one : ℕ → ℕ → ℕ → UnwindCode → (List FetchedInstr → Option (List Step))
+    → List FetchedInstr → Option (List Step)
+one f offset at c others (x ∷ xs) =
+    with_step c (x ∷ []) (others xs) (fits f offset at c (x ∷ []))
+    (three f offset at c others (x ∷ xs))
 one f offset at c others [] = None
 
 abbrev pub none_left : List FetchedInstr → Option (List Step)
@@ -52,15 +61,22 @@ are_steps None = false
 
 -- Codes
 abbrev pub has_codes : Info → Bool
-has_codes i = are_allowed i.frame_register (operations i.codes) && (not (has_frame i) || sets_frame (operations i.codes))
+has_codes i =
+    are_allowed i.frame_register (operations i.codes) &&
+    (not (has_frame i) || sets_frame (operations i.codes))
 
 -- Prologue
 abbrev pub has_prologue : Info → List FetchedInstr → Bool
-has_prologue i xs = is_ordered (operations i.codes) && ((i.prologue_size == bytes xs) && are_steps (steps i.frame_register i.frame_offset 0 (turned [] i.codes) xs))
+has_prologue i xs =
+    is_ordered (operations i.codes) &&
+    ((i.prologue_size == bytes xs) && are_steps
+    (steps i.frame_register i.frame_offset 0 (turned [] i.codes) xs))
 
 -- StackWrite, Unsaved and Epilogue
 abbrev pub has_body : Info → List FetchedInstr → Bool
-has_body i xs = is_body (following i.frame_register i.frame_offset (operations i.codes) xs (Body []))
+has_body i xs =
+    is_body (following i.frame_register i.frame_offset (operations i.codes) xs (Body []))
 
 abbrev pub keeps_rules : Info → List FetchedInstr → List FetchedInstr → Bool
-keeps_rules i xs ys = nat_lt i.frame_offset (2 ^ 16) && (has_codes i && (has_prologue i xs && has_body i ys))
+keeps_rules i xs ys =
+    nat_lt i.frame_offset (2 ^ 16) && (has_codes i && (has_prologue i xs && has_body i ys))

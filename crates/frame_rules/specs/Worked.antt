@@ -24,7 +24,20 @@ instructions bytes = spelled (length bytes) bytes
 -- ---- infos
 
 abbrev pub info : ℕ → ℕ → ℕ → List UnwindCode → Info
-info prologue_size register offset codes = record { bytes = []; flags = 0; prologue_size = prologue_size; frame_register = register; frame_offset = offset; codes = codes; handler = None; parent = None; has_c_handler = false; scopes = [] }
+info prologue_size register offset codes =
+    record {
+      bytes = [];
+      flags = 0;
+      prologue_size = prologue_size;
+      frame_register = register;
+      frame_offset = offset;
+      codes = codes;
+      handler = None;
+      parent = None;
+      has_c_handler =
+          false;
+      scopes = [];
+    }
 
 abbrev pub keeps : Info → List ℕ → List ℕ → Bool
 keeps i prologue rest = keeps_rules i (instructions prologue) (instructions rest)
@@ -35,7 +48,9 @@ is_leaf bytes = is_body (following 0 0 [] (instructions bytes) (Body []))
 -- ---- push rbx, sub rsp,32
 
 abbrev pub pushing : Info
-pushing = info 5 0 0 (record { offset = 5; operation = Allocate 32 } ∷ record { offset = 1; operation = Push 3 } ∷ [])
+pushing =
+    info 5 0 0 (record { offset = 5; operation = Allocate 32 }
+    ∷ record { offset = 1; operation = Push 3 } ∷ [])
 
 abbrev pub push_rbx : List ℕ
 push_rbx = 0x53 ∷ 0x48 ∷ 0x83 ∷ 0xEC ∷ 0x20 ∷ []
@@ -55,7 +70,10 @@ forgets_rbx = 0x90 ∷ 0x48 ∷ 0x83 ∷ 0xC4 ∷ 0x28 ∷ 0xC3 ∷ []
 -- ---- push rbx, sub rsp,64, mov [rsp+40],r12
 
 abbrev pub saving : Info
-saving = info 10 0 0 (record { offset = 10; operation = Save 12 40 } ∷ record { offset = 5; operation = Allocate 64 } ∷ record { offset = 1; operation = Push 3 } ∷ [])
+saving =
+    info 10 0 0 (record { offset = 10; operation = Save 12 40 }
+    ∷ record { offset = 5; operation = Allocate 64 } ∷ record { offset = 1; operation = Push 3 }
+    ∷ [])
 
 abbrev pub save_r12 : List ℕ
 save_r12 = 0x53 ∷ 0x48 ∷ 0x83 ∷ 0xEC ∷ 0x40 ∷ 0x4C ∷ 0x89 ∷ 0x64 ∷ 0x24 ∷ 0x28 ∷ []
@@ -71,10 +89,15 @@ forgets_r12 = 0x90 ∷ 0x48 ∷ 0x83 ∷ 0xC4 ∷ 0x40 ∷ 0x5B ∷ 0xC3 ∷ []
 -- ---- push rbp, sub rsp,256, lea rbp,[rsp+128]
 
 abbrev pub framing : Info
-framing = info 16 5 128 (record { offset = 16; operation = SetFrame } ∷ record { offset = 8; operation = Allocate 256 } ∷ record { offset = 1; operation = Push 5 } ∷ [])
+framing =
+    info 16 5 128 (record { offset = 16; operation = SetFrame }
+    ∷ record { offset = 8; operation = Allocate 256 }
+    ∷ record { offset = 1; operation = Push 5 } ∷ [])
 
 abbrev pub set_rbp : List ℕ
-set_rbp = 0x55 ∷ 0x48 ∷ 0x81 ∷ 0xEC ∷ 0x00 ∷ 0x01 ∷ 0x00 ∷ 0x00 ∷ 0x48 ∷ 0x8D ∷ 0xAC ∷ 0x24 ∷ 0x80 ∷ 0x00 ∷ 0x00 ∷ 0x00 ∷ []
+set_rbp =
+    0x55 ∷ 0x48 ∷ 0x81 ∷ 0xEC ∷ 0x00 ∷ 0x01 ∷ 0x00 ∷ 0x00 ∷ 0x48 ∷ 0x8D ∷ 0xAC ∷ 0x24 ∷ 0x80 ∷ 0x00
+    ∷ 0x00 ∷ 0x00 ∷ []
 
 -- lea rsp,[rbp+128]; pop rbp; ret
 abbrev pub leaves_by_rbp : List ℕ
@@ -90,7 +113,8 @@ abbrev pub probing : Info
 probing = info 13 0 0 (record { offset = 13; operation = Allocate 0x1238 } ∷ [])
 
 abbrev pub probe : List ℕ
-probe = 0xB8 ∷ 0x38 ∷ 0x12 ∷ 0x00 ∷ 0x00 ∷ 0xE8 ∷ 0x00 ∷ 0x10 ∷ 0x00 ∷ 0x00 ∷ 0x48 ∷ 0x29 ∷ 0xC4 ∷ []
+probe =
+    0xB8 ∷ 0x38 ∷ 0x12 ∷ 0x00 ∷ 0x00 ∷ 0xE8 ∷ 0x00 ∷ 0x10 ∷ 0x00 ∷ 0x00 ∷ 0x48 ∷ 0x29 ∷ 0xC4 ∷ []
 
 -- add rsp,0x1238; ret
 abbrev pub gives_back_much : List ℕ
@@ -111,7 +135,13 @@ pushes_rcx = 0x51 ∷ 0xC3 ∷ []
 -- ---- what the rules say
 
 abbrev pub Keep : Type 0
-Keep = (keeps pushing push_rbx clears_eax ≡ true) × (keeps saving save_r12 loads_r12 ≡ true) × (keeps framing set_rbp leaves_by_rbp ≡ true) × (keeps probing probe gives_back_much ≡ true) × (is_leaf thunk ≡ true) × (is_leaf reads ≡ true)
+Keep =
+    (keeps pushing push_rbx clears_eax ≡ true) × (keeps saving save_r12 loads_r12 ≡ true)
+    × (keeps framing set_rbp leaves_by_rbp ≡ true) × (keeps probing probe gives_back_much ≡ true)
+    × (is_leaf thunk ≡ true) × (is_leaf reads ≡ true)
 
 abbrev pub Break : Type 0
-Break = (keeps pushing push_rbx clears_esi ≡ false) × (keeps pushing push_rbx forgets_rbx ≡ false) × (keeps saving save_r12 forgets_r12 ≡ false) × (keeps framing set_rbp leaves_too_low ≡ false) × (is_leaf pushes_rcx ≡ false)
+Break =
+    (keeps pushing push_rbx clears_esi ≡ false) × (keeps pushing push_rbx forgets_rbx ≡ false)
+    × (keeps saving save_r12 forgets_r12 ≡ false) × (keeps framing set_rbp leaves_too_low ≡ false)
+    × (is_leaf pushes_rcx ≡ false)

@@ -1,6 +1,6 @@
 -- The ranges of memory: which addresses lie in each.
-use Rattle.std.specs.Prelude.{ℕ, ◌+◌, ◌*◌, ◌/◌, Bool, ◌&&◌, nat_le, nat_lt}
-use Rattle.host_layout.specs.declared.range.TheConstants.{IMAGE_BASE, IMAGE_RANGE_END, STACK_START, STACK_END, GUARD_START, ARENA_START, ARENA_END}
+use Rattle.std.specs.Prelude.{ℕ, ◌+◌, ◌-◌, ◌*◌, ◌/◌, Bool, ◌&&◌, nat_le, nat_lt}
+use Rattle.host_layout.specs.declared.range.TheConstants.{PAGE, STACK_START, STACK_END, GUARD_START, ARENA_START, ARENA_END}
 
 abbrev pub in_stack : ℕ → Bool
 in_stack a = nat_le STACK_START a && nat_lt a STACK_END
@@ -13,4 +13,4 @@ in_arena a = nat_le ARENA_START a && nat_lt a ARENA_END
 
 -- a size in whole pages
 abbrev pub pages : ℕ → ℕ
-pages n = (n + 4095) / 4096 * 4096
+pages n = (n + (PAGE - 1)) / PAGE * PAGE

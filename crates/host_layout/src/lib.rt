@@ -5,6 +5,7 @@
 //! service at a service's address is that service.
 #![tactic(auto)]
 
+pub mod limit;
 pub mod name;
 pub mod range;
 pub mod service;

@@ -8,7 +8,7 @@ use Rattle.host_model.specs.declared.funclet.Funclet.{Funclet}
 use Rattle.host_model.specs.Turns.{shown_in}
 use Rattle.host_model.specs.HostStep.{Host, Live, Ended, next, shown_next, turn, after, end_of}
 use Rattle.host_model.specs.Machine.{Shown, or_turn, run}
-use Rattle.host_model.specs.Laws.{after_turns, shown_in_turns, RunsAreTurns, EndsStay}
+use Rattle.host_model.specs.Laws.{after_turns, shown_in_turns, RunsAreTurns, LaterTurnsGoOn, EndsStay}
 
 -- a turn more, at the end
 pub after_one_more : (f : Functions) (fs : List Funclet) (n : ℕ) (h : Host) → after_turns f fs (suc n) h ≡ next f fs (after_turns f fs n h)
@@ -39,6 +39,9 @@ shown_more f fs (suc n) m h =
     ap (λ k. shown_in_turns f fs k h) e
     ∙ ap (λ t. shown_next f fs h ++ t) (shown_more f fs n m (next f fs h))
     ∙ sym (append_assoc (shown_next f fs h) (shown_in_turns f fs n (next f fs h)) (shown_in_turns f fs m (after_turns f fs n (next f fs h))))
+
+pub later_turns : LaterTurnsGoOn
+later_turns f fs n m h = record { host = after_more f fs n m h; shown = shown_more f fs n m h }
 
 -- an end stays
 pub ends_stay : EndsStay

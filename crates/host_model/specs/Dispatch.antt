@@ -1,11 +1,14 @@
--- The dispatcher: what is done between two funclets. All suspended work stands in records in the machine's stack.
-use Rattle.std.specs.Prelude.{ℕ, zero, suc, ◌+◌, ◌%◌, ◌^◌, Bool, true, false, ◌==◌, nat_le, List, [], ◌∷◌, replicate, Option, Some, None, slice_index, slice_set}
+-- The dispatcher: what is done between two funclets. All suspended work stands in records in the
+-- machine's stack.
+use Rattle.std.specs.Prelude.{ℕ, zero, suc, ◌+◌, ◌%◌, ◌^◌, Bool, true, false, ◌==◌, nat_le, List, [], ◌∷◌, replicate, Option, Some, None, slice_index, slice_set, ◌-◌}
 use Rattle.seh_num.specs.declared.width.Width.TheVariants.{W32, W64}
 use Rattle.seh_num.specs.declared.event.Code.{Code}
 use Rattle.seh_num.specs.declared.event.Event.TheVariants as events
 use Rattle.seh_num.specs.declared.end.Reason.TheVariants as reasons
 use Rattle.seh_num.specs.declared.end.RunEnd.TheVariants as ends
 use Rattle.seh_num.specs.Widths.{half, low, signed}
+use Rattle.seh_num.specs.declared.code.TheConstants.{NONCONTINUABLE_EXCEPTION}
+use Rattle.seh_num.specs.declared.size.TheConstants.{EXCEPTION_MAXIMUM_PARAMETERS}
 use Rattle.flat_memory.specs.Memory.{after_store}
 use Rattle.x64_instr.specs.declared.register.Reg.TheVariants.{Rax, Rcx, Rdx, Rsp}
 use Rattle.x64_instr.specs.Registers.{number}
@@ -21,6 +24,7 @@ use Rattle.seh_records.specs.declared.dispatch.Kind.{Kind}
 use Rattle.seh_records.specs.declared.dispatch.Kind.TheVariants.{Search, ExceptionUnwind, LocalUnwind}
 use Rattle.seh_records.specs.declared.dispatch.DispatchRecord.{DispatchRecord}
 use Rattle.seh_records.specs.Record.{placed, misplaced, return_address_at, place_below}
+use Rattle.seh_records.specs.declared.layout.TheConstants.{POINTERS_AT}
 use Rattle.seh_walk.specs.Walk.{stop_cause, filter_return, finally_return, is_search, walk_in, steps}
 use Rattle.seh_search.specs.declared.search_result.SearchResult.{SearchResult}
 use Rattle.seh_search.specs.declared.search_result.SearchResult.TheVariants as searches
@@ -52,13 +56,19 @@ after_placing s at r go = if_placed s at r go (misplaced s.memory at)
 
 -- RCX, RDX and RSP of a funclet; its other registers and the flags stay
 abbrev pub called : List ℕ → ℕ → ℕ → ℕ → List ℕ
-called registers first frame rsp = slice_set (slice_set (slice_set registers (number Rcx) first) (number Rdx) frame) (number Rsp) rsp
+called registers first frame rsp =
+    slice_set (slice_set (slice_set registers (number Rcx) first) (number Rdx) frame)
+    (number Rsp) rsp
 
 -- the funclet is called, with its return address below the record
 abbrev pub entered : State → ℕ → ℕ → ℕ → ℕ → ℕ → State
 entered s at back handler first frame =
     record {
-      cpu = record { registers = called s.cpu.registers first frame (return_address_at at); rip = handler; flags = s.cpu.flags };
+      cpu = record {
+        registers = called s.cpu.registers first frame (return_address_at at);
+        rip = handler;
+        flags = s.cpu.flags;
+      };
       memory = after_store s.memory (return_address_at at) W64 back;
     }
 
@@ -73,7 +83,9 @@ kept c k = slice_index c.kept k
 -- RSP and the nonvolatile registers of the frame; the others are 0
 abbrev pub landed : Context → ℕ → ℕ → Cpu
 landed c rax target = record {
-  registers = rax ∷ 0 ∷ 0 ∷ kept c 1 ∷ kept c 0 ∷ kept c 2 ∷ kept c 3 ∷ kept c 4 ∷ 0 ∷ 0 ∷ 0 ∷ 0 ∷ kept c 5 ∷ kept c 6 ∷ kept c 7 ∷ kept c 8 ∷ [];
+  registers =
+      rax ∷ 0 ∷ 0 ∷ kept c 1 ∷ kept c 0 ∷ kept c 2 ∷ kept c 3 ∷ kept c 4 ∷ 0 ∷ 0 ∷ 0 ∷ 0 ∷ kept c 5
+      ∷ kept c 6 ∷ kept c 7 ∷ kept c 8 ∷ [];
   rip = target;
   flags = no_flags;
 }
@@ -83,7 +95,8 @@ at_landing s c rax target = record { cpu = landed c rax target; memory = s.memor
 
 abbrev pub by_purpose : State → DispatchRecord → Context → Kind → Turn
 by_purpose s r c Search = Continues (at_landing s c 0 r.target) []
-by_purpose s r c ExceptionUnwind = Continues (at_landing s c r.code.0 r.target) (events.Except r.code ∷ [])
+by_purpose s r c ExceptionUnwind =
+    Continues (at_landing s c r.code.0 r.target) (events.Except r.code ∷ [])
 by_purpose s r c LocalUnwind = Continues (at_landing s c 0 r.target) []
 
 abbrev pub land : State → DispatchRecord → Context → Turn
@@ -92,22 +105,30 @@ land s r c = by_purpose s r c r.kind
 -- ---- unwinding and searching, from a record that stands at its place
 
 abbrev pub after_unwind : State → ℕ → DispatchRecord → UnwindResult → Turn
-after_unwind s at r (unwinds.Finally handler frame row walk) = after_placing s at (in_hand r frame row walk) (λ u. Continues (entered u at finally_return handler 1 frame) [])
+after_unwind s at r (unwinds.Finally handler frame row walk) =
+    after_placing s at (in_hand r frame row walk)
+    (λ u. Continues (entered u at finally_return handler 1 frame) [])
 after_unwind s at r (unwinds.Land c) = land s r c
 after_unwind s at r (unwinds.Stop y) = stopped y
 
 abbrev pub unwinds_on : Functions → State → ℕ → DispatchRecord → Turn
-unwinds_on t s at r = after_unwind s at r (unwind steps t s.memory r.target_frame r.target (walk_in r))
+unwinds_on t s at r =
+    after_unwind s at r (unwind steps t s.memory r.target_frame r.target (walk_in r))
 
 -- an acceptance rewrites the record in place
 abbrev pub accepting : DispatchRecord → ℕ → ℕ → DispatchRecord
-accepting r frame target = begun (record r { kind = ExceptionUnwind; target_frame = frame; target = target })
+accepting r frame target =
+    begun (record r { kind = ExceptionUnwind; target_frame = frame; target = target })
 
 abbrev pub accepted : Functions → State → ℕ → DispatchRecord → ℕ → ℕ → Turn
-accepted t s at r frame target = after_placing s at (accepting r frame target) (λ u. unwinds_on t u at (accepting r frame target))
+accepted t s at r frame target =
+    after_placing s at (accepting r frame target)
+    (λ u. unwinds_on t u at (accepting r frame target))
 
 abbrev pub after_search : Functions → State → ℕ → DispatchRecord → SearchResult → Turn
-after_search t s at r (searches.Filter handler frame row walk) = after_placing s at (in_hand r frame row walk) (λ u. Continues (entered u at filter_return handler ((at + 80) % 2 ^ 64) frame) [])
+after_search t s at r (searches.Filter handler frame row walk) =
+    after_placing s at (in_hand r frame row walk)
+    (λ u. Continues (entered u at filter_return handler ((at + POINTERS_AT) % 2 ^ 64) frame) [])
 after_search t s at r (searches.Accept frame target) = accepted t s at r frame target
 after_search t s at r searches.Nobody = Ends [] (ends.Unhandled r.code)
 after_search t s at r (searches.Stop y) = stopped y
@@ -123,8 +144,8 @@ write_number true = 1
 write_number false = 0
 
 abbrev pub parameters : Option (Bool × ℕ) → List ℕ
-parameters None = replicate 15 0
-parameters (Some x) = write_number x.0 ∷ x.1 ∷ replicate 13 0
+parameters None = replicate EXCEPTION_MAXIMUM_PARAMETERS 0
+parameters (Some x) = write_number x.0 ∷ x.1 ∷ replicate (EXCEPTION_MAXIMUM_PARAMETERS - 2) 0
 
 abbrev pub count : Option (Bool × ℕ) → ℕ
 count None = 0
@@ -150,27 +171,42 @@ place_of saved = place_below (register saved Rsp)
 
 -- a new exception, of which the state is saved
 abbrev pub raising : Functions → State → Code → ℕ → Option (Bool × ℕ) → Cpu → Turn
-raising t s code flags access saved = after_placing s (place_of saved) (new_record Search code flags access saved) (λ u. searches_on t u (place_of saved) (new_record Search code flags access saved))
+raising t s code flags access saved =
+    after_placing s (place_of saved) (new_record Search code flags access saved)
+    (λ u. searches_on t u (place_of saved) (new_record Search code flags access saved))
 
 -- bit 0 of the flags makes it noncontinuable
 abbrev pub raised : Functions → State → Code → ℕ → Option (Bool × ℕ) → Cpu → Turn
-raised t s code flags access saved = with_event (events.Raise code (flags == 1) access) (raising t s code flags access saved)
+raised t s code flags access saved =
+    with_event (events.Raise code (flags == 1) access) (raising t s code flags access saved)
 
 -- a local unwind, to a target of a frame
 abbrev pub to_target : Cpu → ℕ → ℕ → DispatchRecord
-to_target saved frame target = record (new_record LocalUnwind (record { 0 = 0 }) 0 None saved) { target_frame = frame; target = target }
+to_target saved frame target =
+    record (new_record LocalUnwind (record { 0 = 0 }) 0 None saved)
+    { target_frame = frame; target = target }
 
 abbrev pub unwound_locally : Functions → State → ℕ → ℕ → Cpu → Turn
-unwound_locally t s frame target saved = after_placing s (place_of saved) (to_target saved frame target) (λ u. unwinds_on t u (place_of saved) (to_target saved frame target))
+unwound_locally t s frame target saved =
+    after_placing s (place_of saved) (to_target saved frame target)
+    (λ u. unwinds_on t u (place_of saved) (to_target saved frame target))
 
 -- ---- answers of filters
 
--- C0000025, EXCEPTION_NONCONTINUABLE_EXCEPTION, takes the place of an exception that can't be continued
+-- NONCONTINUABLE_EXCEPTION takes the place of an exception that can't be continued
 abbrev pub noncontinuable : Code
-noncontinuable = record { 0 = 0xC0000025 }
+noncontinuable = NONCONTINUABLE_EXCEPTION
 
 abbrev pub again : DispatchRecord → DispatchRecord
-again r = begun (record r { code = noncontinuable; flags = 1; count = 0; parameters = replicate 15 0; target_frame = 0; target = 0 })
+again r =
+    begun (record r {
+      code = noncontinuable;
+      flags = 1;
+      count = 0;
+      parameters = replicate EXCEPTION_MAXIMUM_PARAMETERS 0;
+      target_frame = 0;
+      target = 0;
+    })
 
 abbrev pub searched_again : Functions → State → ℕ → DispatchRecord → Turn
 searched_again t s at r = after_placing s at (again r) (λ u. searches_on t u at (again r))
@@ -230,7 +266,8 @@ abbrev pub eax : State → ℕ
 eax s = low W32 (register s.cpu Rax)
 
 abbrev pub if_searching : Functions → State → ℕ → DispatchRecord → Bool → Turn
-if_searching t s at r true = with_event (events.Answer (signed W32 (register s.cpu Rax))) (answered t s at r (eax s))
+if_searching t s at r true =
+    with_event (events.Answer (signed W32 (register s.cpu Rax))) (answered t s at r (eax s))
 if_searching t s at r false = stopped (stop_cause reasons.BadRecord at)
 
 abbrev pub filter_returned : Functions → State → ℕ → Option DispatchRecord → Turn

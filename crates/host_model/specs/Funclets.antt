@@ -57,7 +57,8 @@ if_here e others false = others
 -- RIP at a funclet's first byte
 abbrev pub arrivals : Cpu → ℕ → ℕ → List Funclet → List Event
 arrivals c rva k [] = []
-arrivals c rva k (f ∷ fs) = if_here (by_kind c k f.is_finally) (arrivals c rva (k + 1) fs) (rva == f.address)
+arrivals c rva k (f ∷ fs) =
+    if_here (by_kind c k f.is_finally) (arrivals c rva (k + 1) fs) (rva == f.address)
 
 abbrev pub arrived : Functions → List Funclet → Turn → Turn
 arrived t fs (Continues s es) = Continues s (es ++ arrivals s.cpu (distance t.base s.cpu.rip) 1 fs)

@@ -27,9 +27,11 @@ use Rattle.host_model.specs.Dispatch.{raised, unwound_locally, filter_returned, 
 
 -- the state after a service's return
 abbrev pub back : State → ℕ → State
-back s a = with_rip (record s { cpu = with_register W64 s.cpu Rsp ((register s.cpu Rsp + 8) % 2 ^ 64) }) a
+back s a =
+    with_rip (record s { cpu = with_register W64 s.cpu Rsp ((register s.cpu Rsp + 8) % 2 ^ 64) }) a
 
--- a service that returns reads its return address at [RSP] first; where it can't, it does nothing else
+-- a service that returns reads its return address at [RSP] first; where it can't, it does nothing
+-- else
 abbrev pub returned : State → Result ℕ RefusedAccess → (State → Turn) → Turn
 returned s (Ok a) go = go (back s a)
 returned s (Err refused) go = stopped (stop_cause reasons.Unreadable (register s.cpu Rsp))
@@ -49,7 +51,9 @@ answer_number false = 0
 abbrev pub protecting : State → State → Turn
 protecting s u =
     Continues (record {
-      cpu = with_register W64 u.cpu Rax (answer_number (is_some (rights_asked (register s.cpu Rcx) (signed W32 (register s.cpu Rdx)))));
+      cpu = with_register W64 u.cpu Rax
+          (answer_number (is_some (rights_asked (register s.cpu Rcx)
+          (signed W32 (register s.cpu Rdx)))));
       memory = protected u.memory (register s.cpu Rcx) (signed W32 (register s.cpu Rdx));
     }) []
 
@@ -59,10 +63,15 @@ illegal s = stopped (stop_cause reasons.Illegal s.cpu.rip)
 abbrev pub served : Functions → State → Option Service → Turn
 served t s (Some services.Put) = put s
 served t s (Some services.Protect) = returning s (protecting s)
-served t s (Some services.RaiseException) = returning s (λ u. raised t s (record { 0 = low W32 (register s.cpu Rcx) }) (register s.cpu Rdx % 2) None u.cpu)
-served t s (Some services.LocalUnwind) = returning s (λ u. unwound_locally t s (register s.cpu Rcx) (register s.cpu Rdx) u.cpu)
-served t s (Some services.FilterReturn) = filter_returned t s (register s.cpu Rsp) (fetched s.memory (register s.cpu Rsp))
-served t s (Some services.FinallyReturn) = finally_returned t s (register s.cpu Rsp) (fetched s.memory (register s.cpu Rsp))
+served t s (Some services.RaiseException) =
+    returning s (λ u. raised t s (record { 0 = low W32 (register s.cpu Rcx) })
+    (register s.cpu Rdx % 2) None u.cpu)
+served t s (Some services.LocalUnwind) =
+    returning s (λ u. unwound_locally t s (register s.cpu Rcx) (register s.cpu Rdx) u.cpu)
+served t s (Some services.FilterReturn) =
+    filter_returned t s (register s.cpu Rsp) (fetched s.memory (register s.cpu Rsp))
+served t s (Some services.FinallyReturn) =
+    finally_returned t s (register s.cpu Rsp) (fetched s.memory (register s.cpu Rsp))
 served t s (Some services.CSpecificHandler) = illegal s
 served t s None = illegal s
 

@@ -17,19 +17,27 @@ abbrev pub Begins : List Event → Shown → Type 0
 Begins out shown = (more : List Event) × (shown.events ≡ out ++ more)
 
 abbrev pub RunsShowWhatWasShown : Type 0
-RunsShowWhatWasShown = (f : Functions) (fs : List Funclet) (k : ℕ) (h : Host) (out : List Event) → Begins out (run f fs k h out)
+RunsShowWhatWasShown =
+    (f : Functions) (fs : List Funclet) (k : ℕ) (h : Host) (out : List Event)
+    → Begins out (run f fs k h out)
 
 -- with more turns a run shows at least as much, and an end stays with its events
 abbrev pub MoreTurnsCover : Type 0
-MoreTurnsCover = (f : Functions) (fs : List Funclet) (k j : ℕ) (h : Host) (out : List Event) → Covers (run f fs k h out).events (run f fs k h out).end (run f fs (k + j) h out)
+MoreTurnsCover =
+    (f : Functions) (fs : List Funclet) (k j : ℕ) (h : Host) (out : List Event)
+    → Covers (run f fs k h out).events (run f fs k h out).end (run f fs (k + j) h out)
 
 -- an image shows at least as much in more turns
 abbrev pub ImagesCover : Type 0
-ImagesCover = (bytes : List ℕ) (arg : ℤ) (k j : ℕ) → Covers (machine bytes arg k).events (machine bytes arg k).end (machine bytes arg (k + j))
+ImagesCover =
+    (bytes : List ℕ) (arg : ℤ) (k j : ℕ)
+    → Covers (machine bytes arg k).events (machine bytes arg k).end (machine bytes arg (k + j))
 
 -- what covers what covers these events covers them
 abbrev pub CoveringIsTransitive : Type 0
-CoveringIsTransitive = (events : List Event) (end : Option RunEnd) (x y : Shown) → Covers events end x → Covers x.events x.end y → Covers events end y
+CoveringIsTransitive =
+    (events : List Event) (end : Option RunEnd) (x y : Shown) → Covers events end x
+    → Covers x.events x.end y → Covers events end y
 
 -- ---- runs as turns one after another
 
@@ -47,7 +55,10 @@ shown_in_turns f fs (suc n) h = shown_next f fs h ++ shown_in_turns f fs n (next
 abbrev pub RunsAreTurns : Type 0
 RunsAreTurns =
     (f : Functions) (fs : List Funclet) (n : ℕ) (h : Host) (out : List Event)
-    → run f fs n h out ≡ record { events = out ++ shown_in_turns f fs n h; end = end_of (after_turns f fs n h) }
+    → run f fs n h out ≡ record {
+      events = out ++ shown_in_turns f fs n h;
+      end = end_of (after_turns f fs n h);
+    }
 
 -- a host that has ended stays so, and shows nothing
 pub record Stays (f : Functions) (fs : List Funclet) (n : ℕ) (e : RunEnd) : Type 0 where
@@ -56,3 +67,12 @@ pub record Stays (f : Functions) (fs : List Funclet) (n : ℕ) (e : RunEnd) : Ty
 
 abbrev pub EndsStay : Type 0
 EndsStay = (f : Functions) (fs : List Funclet) (n : ℕ) (e : RunEnd) → Stays f fs n e
+
+-- turns made later go on from the host that earlier ones leave
+pub record GoesOn (f : Functions) (fs : List Funclet) (n m : ℕ) (h : Host) : Type 0 where
+  pub host : after_turns f fs (n + m) h ≡ after_turns f fs m (after_turns f fs n h)
+  pub shown : shown_in_turns f fs (n + m) h
+      ≡ shown_in_turns f fs n h ++ shown_in_turns f fs m (after_turns f fs n h)
+
+abbrev pub LaterTurnsGoOn : Type 0
+LaterTurnsGoOn = (f : Functions) (fs : List Funclet) (n m : ℕ) (h : Host) → GoesOn f fs n m h

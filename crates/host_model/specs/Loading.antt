@@ -1,4 +1,5 @@
--- How an image stands in memory, and the state that a run starts from (PE format, "Section Table", "Import Address Table"; the stack, the arena, the services and their places are the host's own).
+-- How an image stands in memory, and the state that a run starts from (PE format, "Section Table",
+-- "Import Address Table"; the stack, the arena, the services and their places are the host's own).
 use Rattle.std.specs.Prelude.{ℕ, ◌+◌, ◌-◌, ◌*◌, ◌/◌, ◌%◌, ◌^◌, Bool, true, false, ◌&&◌, ◌==◌, nat_lt, nat_le, if◌then◌else◌, List, [], ◌∷◌, replicate, position, ℤ, codes, Option, Some, None, option_map, Ok, Err, slice_index}
 use Rattle.seh_num.specs.declared.width.Width.TheVariants.{W64}
 use Rattle.seh_num.specs.Widths.{wrapped}
@@ -16,6 +17,8 @@ use Rattle.eh_tables.specs.Tables.{tables}
 use Rattle.x64_machine.specs.declared.cpu.Cpu.{Cpu}
 use Rattle.host_layout.specs.declared.service.Service.{Service}
 use Rattle.host_layout.specs.Services.{address_of}
+use Rattle.host_layout.specs.declared.limit.TheConstants.{MOST_IMAGE, BASE_ALIGNMENT, LEAST_BASE, ADDRESSES_END}
+use Rattle.host_layout.specs.declared.range.TheConstants.{FIRST_STACK}
 use Rattle.x64_machine.specs.Effect.{State}
 use Rattle.host_model.specs.declared.refusal.LoadErr.{LoadErr}
 use Rattle.host_model.specs.declared.refusal.LoadErr.TheVariants as refusals
@@ -43,7 +46,8 @@ rights_of true false = Read
 rights_of false false = Nothing
 
 abbrev pub section_mode : Section → Protection
-section_mode s = record { rights = rights_of (is_readable s) (is_writable s); execute = is_executable s }
+section_mode s =
+    record { rights = rights_of (is_readable s) (is_writable s); execute = is_executable s }
 
 -- outside the image the stack alone may be accessed; the arena's pages begin with no rights
 abbrev pub stack_mode : Bool → Protection
@@ -69,7 +73,8 @@ with_address byte at (Some s) = with_number byte 8 at (address_of s)
 -- each slot holds the address of what it imports; a later one lies over those before it
 abbrev pub with_slots : ℕ → (ℕ → ℕ) → List Import → ℕ → ℕ
 with_slots base byte [] = byte
-with_slots base byte (i ∷ is) = with_slots base (with_address byte (base + i.slot) (service_named i.name)) is
+with_slots base byte (i ∷ is) =
+    with_slots base (with_address byte (base + i.slot) (service_named i.name)) is
 
 -- ---- the whole
 
@@ -80,12 +85,17 @@ abbrev pub stored_byte : Image → ℕ → ℕ
 stored_byte image a = byte_in image.base (section_of image.base a image.sections) a
 
 unfoldable pub mapped : Image → Memory
-mapped image = record { protection = mode_at image; byte = with_slots image.base (stored_byte image) (imports_of image) }
+mapped image =
+    record {
+      protection = mode_at image;
+      byte = with_slots image.base (stored_byte image) (imports_of image);
+    }
 
--- RIP is the entry point, RCX the argument; RSP points to a return address of 0 near the stack's top
+-- RIP is the entry point, RCX the argument; RSP points to a return address of 0 near the stack's
+-- top
 abbrev pub first_cpu : ℕ → ℤ → Cpu
 first_cpu entry arg = record {
-  registers = 0 ∷ wrapped W64 arg ∷ 0 ∷ 0 ∷ 0x707FFFD8 ∷ replicate 11 0;
+  registers = 0 ∷ wrapped W64 arg ∷ 0 ∷ 0 ∷ FIRST_STACK ∷ replicate 11 0;
   rip = entry;
   flags = record { carry = false; zero = false; sign = false; overflow = false };
 }
@@ -96,9 +106,9 @@ start image arg = record { cpu = first_cpu (image.base + image.entry) arg; memor
 -- ---- what isn't loaded
 
 -- a reason, where a test fails
-abbrev pub unless : Bool → LoadErr → Option LoadErr
-unless true e = None
-unless false e = Some e
+abbrev pub reason_unless : Bool → LoadErr → Option LoadErr
+reason_unless true e = None
+reason_unless false e = Some e
 
 abbrev pub first_of : List (Option LoadErr) → Option LoadErr
 first_of [] = None
@@ -115,10 +125,12 @@ table_refusal image = of_tables (tables image)
 
 -- the base is aligned and above 4 GiB, the image at most 256 MiB and its end at most 2^47
 abbrev pub has_place : Image → Bool
-has_place image = (image.base % 65536 == 0) && nat_le 0x100000000 image.base && nat_le image.size 0x10000000 && nat_le (image.base + image.size) (2 ^ 47)
+has_place image =
+    (image.base % BASE_ALIGNMENT == 0) && nat_le LEAST_BASE image.base && nat_le image.size
+    MOST_IMAGE && nat_le (image.base + image.size) ADDRESSES_END
 
 abbrev pub place_refusal : Image → Option LoadErr
-place_refusal image = unless (has_place image) (refusals.Place image.base)
+place_refusal image = reason_unless (has_place image) (refusals.Place image.base)
 
 -- the first import that names none of the services
 abbrev pub is_none : {A : Type 0} → Option A → Bool
@@ -139,12 +151,15 @@ abbrev pub has_entry : Image → Bool
 has_entry image = is_code (section_of 0 image.entry image.sections)
 
 abbrev pub entry_refusal : Image → Option LoadErr
-entry_refusal image = unless (has_entry image) (refusals.Entry image.entry)
+entry_refusal image = reason_unless (has_entry image) (refusals.Entry image.entry)
 
 -- after the function table's
 abbrev pub later_refusal : Image → Option LoadErr
-later_refusal image = first_of (place_refusal image ∷ import_refusal image ∷ entry_refusal image ∷ [])
+later_refusal image =
+    first_of (place_refusal image ∷ import_refusal image ∷ entry_refusal image ∷ [])
 
 -- the first reason that an image isn't loaded, if there is one
 abbrev pub load_refusal : Image → Option LoadErr
-load_refusal image = first_of (table_refusal image ∷ place_refusal image ∷ import_refusal image ∷ entry_refusal image ∷ [])
+load_refusal image =
+    first_of (table_refusal image ∷ place_refusal image ∷ import_refusal image ∷ entry_refusal image
+    ∷ [])

@@ -22,7 +22,8 @@ pub record Shown : Type 0 where
 abbrev pub continued_by : (Host → List Event → Shown) → List Event → Turn → Shown
 continued_by rest out t = rest (after t) (out ++ shown_in t)
 
-abbrev pub or_turn : Functions → List Funclet → (Host → List Event → Shown) → List Event → Host → Shown
+abbrev pub or_turn : Functions → List Funclet → (Host → List Event → Shown) → List Event → Host
+    → Shown
 or_turn t fs rest out (Ended e) = record { events = out; end = Some e }
 or_turn t fs rest out (Live s) = continued_by rest out (turn t fs s)
 

@@ -9,8 +9,8 @@ use Rattle.linear_code.specs.declared.slot.Slot.TheVariants.{Local, Temporary}
 use Rattle.linear_code.specs.Program.{LinearBody, LinearFunction, LinearProgram}
 use Rattle.linear_machine.specs.Frames.{FunctionBody, function_body, body_of}
 use Rattle.linear_machine.specs.Unwinding.{flag_in, flag_of}
-use Rattle.seh_ir.specs.Scope.{finally_scope}
-use Rattle.seh_ir.specs.Expressions.{constant, expression_code}
+use Rattle.ir_expressions.specs.Scope.{finally_scope}
+use Rattle.ir_expressions.specs.Expressions.{constant, expression_code}
 use Rattle.seh_ir.specs.Statements.{statements_code}
 use Rattle.seh_ir.specs.Lowered.{scope_of, lowered}
 use Rattle.program_link.specs.Routines.{nothing}

@@ -30,3 +30,4 @@ pub mod WalkedPassing
 pub mod Ending
 pub mod Texts
 pub mod Shadows
+pub mod FoundCallers

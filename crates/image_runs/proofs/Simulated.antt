@@ -24,8 +24,8 @@ use Rattle.unset_locals.proofs.Together.{twins_go_on}
 use Rattle.body_states.specs.Sites.{Sites}
 use Rattle.body_states.specs.Bodies.{turns_left, Begins}
 use Rattle.body_steps.specs.Known.{IsKnown, KnownNext}
-use Rattle.body_steps.specs.Laws.{pace, IsPlain}
-use Rattle.body_steps.proofs.Steps.{plain}
+use Rattle.body_steps.specs.Laws.{pace, IsWithinBody}
+use Rattle.body_steps.proofs.Steps.{within_body}
 use Rattle.turn_steps.proofs.CallSteps.{returns_are_matched, calls_begin}
 use Rattle.turn_steps.specs.Outcomes.{Stands}
 use Rattle.turn_steps.proofs.EndSteps.{funclet_returns_are_matched}
@@ -53,10 +53,10 @@ same_instruction i j e = cc
 -- a step within one body
 plainly : (t : Functions) (fs : List Funclet) (program : LinearProgram) (p : Plan) (q : Sites) → IsSoundImage t fs program p q
     → (s : State) (d : Configuration) (i : Instruction) → Begins t fs program p q s d → IsKnown program d → instruction_at program d ≡ Some i
-    → HasRule (act program i (exec program zero) d) → IsPlain program d i → StepMatches t fs program p q s d i
+    → HasRule (act program i (exec program zero) d) → IsWithinBody program d i → StepMatches t fs program p q s d i
 plainly t fs program p q image s d i b known at rule is_plain =
     inl (moves_as t fs program (Begins t fs program p q) (Stands t fs program p q) (λ u e h. inl h) s d i
-    (plain t fs program p q image.image image.made s d i b known at is_plain rule))
+    (within_body t fs program p q image.image image.made s d i b known at is_plain rule))
 
 -- from the beginning of an instruction to that of the next one
 moved : (t : Functions) (fs : List Funclet) (program : LinearProgram) (p : Plan) (q : Sites) (s : State) (d : Configuration) (i : Instruction)

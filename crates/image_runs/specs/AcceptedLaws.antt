@@ -14,18 +14,24 @@ use Rattle.program_link.specs.Fits.{FitsProgram}
 use Rattle.image_runs.specs.Realises.{Realises, IsWritten}
 
 abbrev pub AcceptedReadsNoUnset : Type 0
-AcceptedReadsNoUnset = (text : List ℕ) (xs : List ExternalDeclaration) → Within text xs → Accepted text xs → ReadsNoUnset (lowered (program_of text xs))
+AcceptedReadsNoUnset =
+    (text : List ℕ) (xs : List ExternalDeclaration) → Within text xs → Accepted text xs
+    → ReadsNoUnset (lowered (program_of text xs))
 
 -- the image of a text within the limits, where its linear code is within those of linking
 abbrev pub AcceptedRealise : Type 0
 AcceptedRealise =
-    (text : List ℕ) (xs : List ExternalDeclaration) (bytes : List ℕ) → Within text xs → Accepted text xs → FitsProgram (lowered (program_of text xs))
+    (text : List ℕ) (xs : List ExternalDeclaration) (bytes : List ℕ) → Within text xs
+    → Accepted text xs → FitsProgram (lowered (program_of text xs))
     → IsWritten bytes (program_of text xs) → Realises bytes (program_of text xs)
 
--- in m turns it shows no more than the text shows within (m + 1) (8 L + 256) steps, where these are calm, for a text of at most L nodes, and ends only as it ends
+-- in m turns it shows no more than the text shows within (m + 1) (8 L + 256) steps, where these are
+-- calm, for a text of at most L nodes, and ends only as it ends
 abbrev pub AcceptedShowNothingMore : Type 0
 AcceptedShowNothingMore =
-    (text : List ℕ) (xs : List ExternalDeclaration) (bytes : List ℕ) → Within text xs → Accepted text xs → FitsProgram (lowered (program_of text xs))
+    (text : List ℕ) (xs : List ExternalDeclaration) (bytes : List ℕ) → Within text xs
+    → Accepted text xs → FitsProgram (lowered (program_of text xs))
     → IsWritten bytes (program_of text xs) → (most : ℕ) → nodes_of xs ≤ most
-    → (arg m n : ℕ) → arg < 2 ^ 63 → (m + 1) * pace_in most ≤ n → Calm (program_of text xs) (pos arg) n ≡ true
+    → (arg m n : ℕ) → arg < 2 ^ 63 → (m + 1) * pace_in most ≤ n
+    → Calm (program_of text xs) (pos arg) n ≡ true
     → ShowsNoMore (meaning (program_of text xs) (pos arg) n) (machine bytes (pos arg) m)

@@ -16,11 +16,15 @@ use Rattle.image_runs.specs.Starts.{IsFirst, MainBegins}
 abbrev pub FirstStatesStart : Type 0
 FirstStatesStart =
     (program : LinearProgram) → IsCompiled program → HasBytes program → (arg : ℤ)
-    → IsFirst (functions_of program) (funclets_of program) program (plan_of program) (sites_of program) arg (start (image_of (linked program)) arg)
+    → IsFirst (functions_of program) (funclets_of program) program (plan_of program)
+    (sites_of program) arg (start (image_of (linked program)) arg)
 
 -- and begins in a few turns
 abbrev pub MainsBegin : Type 0
 MainsBegin =
-    (program : LinearProgram) → IsCompiled program → HasBytes program → IsWellMade program (plan_of program)
-    → (arg : ℤ) (main : LinearFunction) → slice_get program.functions program.main ≡ Some main → CanGoOn program (linear.start program arg main)
-    → MainBegins (functions_of program) (funclets_of program) program (plan_of program) (sites_of program) arg main (start (image_of (linked program)) arg)
+    (program : LinearProgram) → IsCompiled program → HasBytes program
+    → IsWellMade program (plan_of program)
+    → (arg : ℤ) (main : LinearFunction) → slice_get program.functions program.main ≡ Some main
+    → CanGoOn program (linear.start program arg main)
+    → MainBegins (functions_of program) (funclets_of program) program (plan_of program)
+    (sites_of program) arg main (start (image_of (linked program)) arg)

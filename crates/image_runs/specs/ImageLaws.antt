@@ -5,11 +5,13 @@ use Rattle.image_states.specs.Plans.{functions_of, funclets_of, plan_of, sites_o
 use Rattle.image_states.specs.Compiled.{IsCompiled}
 use Rattle.image_runs.specs.Sound.{IsLinkable, IsSoundImage}
 
--- regions are ranges and name each funclet once; the function of a funclet has a frame with the locals that the funclet works on
+-- regions are ranges and name each funclet once; the function of a funclet has a frame with the
+-- locals that the funclet works on
 abbrev pub LoweredIsCompiled : Type 0
 LoweredIsCompiled = (program : Program) → IsLinkable program → IsCompiled (lowered program)
 
 abbrev pub LoweredHasImage : Type 0
 LoweredHasImage =
     (program : Program) → IsLinkable program
-    → IsSoundImage (functions_of (lowered program)) (funclets_of (lowered program)) (lowered program) (plan_of (lowered program)) (sites_of (lowered program))
+    → IsSoundImage (functions_of (lowered program)) (funclets_of (lowered program))
+    (lowered program) (plan_of (lowered program)) (sites_of (lowered program))

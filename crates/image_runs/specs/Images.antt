@@ -13,15 +13,21 @@ use Rattle.program_link.specs.Linked.{linked}
 use Rattle.image_states.specs.StartLaws.{HasBytes}
 use Rattle.image_runs.specs.Sound.{IsLinkable}
 
--- in 256 n + 256 turns the image shows what the program shows within n steps, and has ended as it ends
+-- in 256 n + 256 turns the image shows what the program shows within n steps, and has ended as it
+-- ends
 abbrev pub LinkedImagesShowAll : Type 0
 LinkedImagesShowAll =
     (program : Program) → IsLinkable program → ReadsNoUnset (lowered program)
-    → (bytes : List ℕ) → IsImage bytes (image_of (linked (lowered program))) → HasBytes (lowered program) → (arg : ℤ) (n : ℕ) → ShowsAll (meaning program arg n) (machine bytes arg (256 * n + 256))
+    → (bytes : List ℕ) → IsImage bytes (image_of (linked (lowered program)))
+    → HasBytes (lowered program) → (arg : ℤ) (n : ℕ)
+    → ShowsAll (meaning program arg n) (machine bytes arg (256 * n + 256))
 
--- in m turns it shows no more than (m + 1) * K steps show, where these are calm, and ends only as they end
+-- in m turns it shows no more than (m + 1) * K steps show, where these are calm, and ends only as
+-- they end
 abbrev pub LinkedImagesShowNoMore : Type 0
 LinkedImagesShowNoMore =
     (program : Program) → IsLinkable program → ReadsNoUnset (lowered program)
-    → (bytes : List ℕ) → IsImage bytes (image_of (linked (lowered program))) → HasBytes (lowered program) → (arg : ℤ) (m n : ℕ) → (m + 1) * pace_of program ≤ n → Calm program arg n ≡ true
+    → (bytes : List ℕ) → IsImage bytes (image_of (linked (lowered program)))
+    → HasBytes (lowered program) → (arg : ℤ) (m n : ℕ) → (m + 1) * pace_of program ≤ n
+    → Calm program arg n ≡ true
     → ShowsNoMore (meaning program arg n) (machine bytes arg m)

@@ -19,3 +19,4 @@ pub mod Walks
 pub mod WalkedLaws
 pub mod Texts
 pub mod Shadows
+pub mod Frames

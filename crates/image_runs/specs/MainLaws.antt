@@ -18,5 +18,6 @@ MainIsBegun =
     (t : Functions) (fs : List Funclet) (program : LinearProgram) (p : Plan) (q : Sites)
     → IsProgramImage t fs program p q → IsWellMade program p
     → (arg : ℤ) (main : LinearFunction) (s : State)
-    → slice_get program.functions program.main ≡ Some main → CanGoOn program (start program arg main)
+    → slice_get program.functions program.main ≡ Some main
+    → CanGoOn program (start program arg main)
     → IsFirst t fs program p q arg s → MainBegins t fs program p q arg main s

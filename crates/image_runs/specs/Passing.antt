@@ -15,9 +15,11 @@ IsRunning (Running es) = Unit {0}
 IsRunning (Finished e es) = ⊥
 IsRunning (Stuck es) = ⊥
 
-module _ (t : Functions) (fs : List Funclet) (program : LinearProgram) (pace : ℕ) (credit : Configuration → ℕ) where
+module _ (t : Functions) (fs : List Funclet) (program : LinearProgram) (pace : ℕ)
+    (credit : Configuration → ℕ) where
   -- linear code goes on by a step, and the machine by some turns, which show the same events
-  pub record GoesOn (Rest : State → Configuration → Type 0) (s : State) (c : Configuration) : Type 0 where
+  pub record GoesOn (Rest : State → Configuration → Type 0) (s : State)
+      (c : Configuration) : Type 0 where
     pub turns : ℕ
     pub some : 1 ≤ turns
     pub configuration : Configuration

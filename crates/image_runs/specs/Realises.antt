@@ -1,6 +1,7 @@
 -- An image that does what a program means.
 use Rattle.std.specs.Prelude.{◌≡◌, ℕ, ◌+◌, ◌*◌, ◌^◌, ◌<◌, ◌≤◌, true, List, length, pos, None}
 use Rattle.std.specs.List.{AllByRecursion}
+use Rattle.host_layout.specs.declared.limit.TheConstants.{MOST_IMAGE}
 use Rattle.pe_image.specs.Image.{Image}
 use Rattle.pe_image.specs.Reading.{IsImage}
 use Rattle.pe_write.specs.Program.{parts_of, image_of}
@@ -18,17 +19,22 @@ use Rattle.whole_runs.specs.Laws.{ShowsNoMore}
 use Rattle.program_link.specs.Linked.{linked}
 use Rattle.image_runs.specs.Sound.{IsLinkable}
 
--- the bytes are an image of at most 256 MiB that loads. For every argument and every n, what the program shows within n steps the image shows in at most 256 n + 256 turns: its events are the first events of the run, and where the program ends within n steps the run has ended in the same way with no other event.
+-- the bytes are an image of at most 256 MiB that loads. For every argument and every n, what the
+-- program shows within n steps the image shows in at most 256 n + 256 turns: its events are the
+-- first events of the run, and where the program ends within n steps the run has ended in the same
+-- way with no other event.
 pub record Realises (bytes : List ℕ) (program : Program) : Type 0 where
   pub image : Image
   pub is : IsImage bytes image
-  pub fits : length bytes ≤ 268435456
+  pub fits : length bytes ≤ MOST_IMAGE
   pub loads : load_refusal image ≡ None
   pub shows :
       (arg n : ℕ) → arg < 2 ^ 63
-      → Covers (meaning program (pos arg) n).events (run_end_of (meaning program (pos arg) n).end) (machine bytes (pos arg) (256 * n + 256))
+      → Covers (meaning program (pos arg) n).events (run_end_of (meaning program (pos arg) n).end)
+      (machine bytes (pos arg) (256 * n + 256))
 
--- in m turns it shows no more than the program shows within (m + 1) * K steps, where these are calm, and ends only as they end
+-- in m turns it shows no more than the program shows within (m + 1) * K steps, where these are
+-- calm, and ends only as they end
 abbrev pub ShowsNothingMore : List ℕ → Program → Type 0
 ShowsNothingMore bytes program =
     (arg m n : ℕ) → arg < 2 ^ 63 → (m + 1) * pace_of program ≤ n → Calm program (pos arg) n ≡ true
@@ -41,7 +47,11 @@ pub record IsWritten (bytes : List ℕ) (program : Program) : Type 0 where
   pub read : IsImage bytes (image_of (linked (lowered program)))
 
 abbrev pub CompiledRealise : Type 0
-CompiledRealise = (program : Program) → IsLinkable program → ReadsNoUnset (lowered program) → (bytes : List ℕ) → IsWritten bytes program → Realises bytes program
+CompiledRealise =
+    (program : Program) → IsLinkable program → ReadsNoUnset (lowered program) → (bytes : List ℕ)
+    → IsWritten bytes program → Realises bytes program
 
 abbrev pub CompiledShowNothingMore : Type 0
-CompiledShowNothingMore = (program : Program) → IsLinkable program → ReadsNoUnset (lowered program) → (bytes : List ℕ) → IsWritten bytes program → ShowsNothingMore bytes program
+CompiledShowNothingMore =
+    (program : Program) → IsLinkable program → ReadsNoUnset (lowered program) → (bytes : List ℕ)
+    → IsWritten bytes program → ShowsNothingMore bytes program

@@ -25,8 +25,10 @@ module _ (t : Functions) (fs : List Funclet) (program : LinearProgram) (p : Plan
   abbrev pub FramesStandStill : Type 0
   FramesStandStill =
       (m : Memory) (name : BodyName) (b : LinearBody) (label : ℕ) (c : Context) (back : ℕ)
-      → body_of program name ≡ Some b → p.leaf name ≡ false → HasProgram t fs program p q m → IsReturning b name label c.rip
-      → length c.kept ≡ 9 → rsp c + (p.layout name).frame + 8 < 2 ^ 64 → word m (rsp c + (p.layout name).frame) ≡ Ok back
+      → body_of program name ≡ Some b → p.leaf name ≡ false → HasProgram t fs program p q m
+      → IsReturning b name label c.rip
+      → length c.kept ≡ 9 → rsp c + (p.layout name).frame + 8 < 2 ^ 64
+      → word m (rsp c + (p.layout name).frame) ≡ Ok back
       → IsFramed t fs program p q m name c back
 
   abbrev pub LeavesStandStill : Type 0

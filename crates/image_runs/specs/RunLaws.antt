@@ -30,7 +30,8 @@ use Rattle.image_runs.specs.Shown.{ShowsTwin}
 -- what the step laws ask of a configuration holds of a twin, and of the twin after each step
 pub record IsKnownTwin (program : Program) (d : Configuration) : Type 0 where
   pub known : IsKnown (lowered program) d
-  pub next : (i : Instruction) → instruction_at (lowered program) d ≡ Some i → KnownNext (lowered program) d i
+  pub next : (i : Instruction) → instruction_at (lowered program) d ≡ Some i
+      → KnownNext (lowered program) d i
 
 abbrev pub TwinsAreKnown : Type 0
 TwinsAreKnown =
@@ -44,19 +45,25 @@ TwinsSimulate =
     → IsSound program → ReadsNoUnset (lowered program) → IsSoundImage t fs (lowered program) p q
     → Simulates t fs (lowered program) pace turns_left (λ n. ShowsTwin t fs (lowered program) p q)
 
--- in 256 n + 256 turns the machine shows what the program shows within n steps, and has ended as it ends
+-- in 256 n + 256 turns the machine shows what the program shows within n steps, and has ended as it
+-- ends
 abbrev pub ImagesShowAll : Type 0
 ImagesShowAll =
     (t : Functions) (fs : List Funclet) (program : Program) (p : Plan) (q : Sites)
     → IsSound program → ReadsNoUnset (lowered program) → IsSoundImage t fs (lowered program) p q
-    → (arg : ℤ) (main : LinearFunction) (s : State) → slice_get (lowered program).functions (lowered program).main ≡ Some main → MainBegins t fs (lowered program) p q arg main s → (n : ℕ)
+    → (arg : ℤ) (main : LinearFunction) (s : State)
+    → slice_get (lowered program).functions (lowered program).main ≡ Some main
+    → MainBegins t fs (lowered program) p q arg main s → (n : ℕ)
     → ShowsAll (meaning program arg n) (run t fs (256 * n + 256) (host s) [])
 
--- in m turns it shows no more than (m + 1) * K steps show, where these are calm, and ends only as they end
+-- in m turns it shows no more than (m + 1) * K steps show, where these are calm, and ends only as
+-- they end
 abbrev pub ImagesShowNoMore : Type 0
 ImagesShowNoMore =
     (t : Functions) (fs : List Funclet) (program : Program) (p : Plan) (q : Sites)
     → IsSound program → ReadsNoUnset (lowered program) → IsSoundImage t fs (lowered program) p q
-    → (arg : ℤ) (main : LinearFunction) (s : State) → slice_get (lowered program).functions (lowered program).main ≡ Some main → MainBegins t fs (lowered program) p q arg main s
+    → (arg : ℤ) (main : LinearFunction) (s : State)
+    → slice_get (lowered program).functions (lowered program).main ≡ Some main
+    → MainBegins t fs (lowered program) p q arg main s
     → (m n : ℕ) → (m + 1) * pace_of program ≤ n → Calm program arg n ≡ true
     → ShowsNoMore (meaning program arg n) (run t fs m (host s) [])

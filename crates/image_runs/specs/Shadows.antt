@@ -30,34 +30,44 @@ use Rattle.image_runs.specs.Sound.{IsLinkable, IsSoundImage}
 use Rattle.image_runs.specs.Starts.{MainBegins}
 use Rattle.image_runs.specs.Realises.{IsWritten}
 
--- the bytes are an image; after m turns of its run the walk gives exactly the shadow, entry by entry, and then RIP 0
+-- the bytes are an image; after m turns of its run the walk gives exactly the shadow, entry by
+-- entry, and then RIP 0
 pub record WalksTheShadow (bytes : List ℕ) (arg : ℤ) (m : ℕ) : Type 0 where
   pub image : Image
   pub is : IsImage bytes image
-  pub gives : WalkGivesShadow (functions_in image) (funclets (functions_in image).entries) m (start image arg) (first_shadow (start image arg))
+  pub gives : WalkGivesShadow (functions_in image) (funclets (functions_in image).entries) m
+      (start image arg) (first_shadow (start image arg))
 
 -- ---- what is claimed
 
--- where it does so at the first byte of `main`, as long as (m + 1) * K steps of the program are calm
+-- where it does so at the first byte of `main`, as long as (m + 1) * K steps of the program are
+-- calm
 abbrev pub ImagesWalkTheShadow : Type 0
 ImagesWalkTheShadow =
     (t : Functions) (fs : List Funclet) (program : Program) (p : Plan) (q : Sites)
     → IsSound program → ReadsNoUnset (lowered program) → IsSoundImage t fs (lowered program) p q
-    → (arg : ℤ) (main : LinearFunction) (s : State) → slice_get (lowered program).functions (lowered program).main ≡ Some main → MainBegins t fs (lowered program) p q arg main s
-    → WalkGives t s (first_shadow s) → (m n : ℕ) → (m + 1) * pace_of program ≤ n → Calm program arg n ≡ true
+    → (arg : ℤ) (main : LinearFunction) (s : State)
+    → slice_get (lowered program).functions (lowered program).main ≡ Some main
+    → MainBegins t fs (lowered program) p q arg main s
+    → WalkGives t s (first_shadow s) → (m n : ℕ) → (m + 1) * pace_of program ≤ n
+    → Calm program arg n ≡ true
     → (run t fs m (host s) []).end ≡ None → WalkGivesShadow t fs m s (first_shadow s)
 
 -- in the run of the image that a sound program is linked to
 abbrev pub CompiledWalkTheShadow : Type 0
 CompiledWalkTheShadow =
-    (program : Program) → IsLinkable program → ReadsNoUnset (lowered program) → (bytes : List ℕ) → IsWritten bytes program
+    (program : Program) → IsLinkable program → ReadsNoUnset (lowered program) → (bytes : List ℕ)
+    → IsWritten bytes program
     → (arg m n : ℕ) → arg < 2 ^ 63 → (m + 1) * pace_of program ≤ n → Calm program (pos arg) n ≡ true
     → (machine bytes (pos arg) m).end ≡ None → WalksTheShadow bytes (pos arg) m
 
--- and of every accepted text within the limits, of at most L nodes, that is calm within (m + 1) (8 L + 256) steps
+-- and of every accepted text within the limits, of at most L nodes, that is calm within (m + 1) (8
+-- L + 256) steps
 abbrev pub AcceptedWalkTheShadow : Type 0
 AcceptedWalkTheShadow =
-    (text : List ℕ) (xs : List ExternalDeclaration) (bytes : List ℕ) → Within text xs → Accepted text xs → FitsProgram (lowered (program_of text xs))
+    (text : List ℕ) (xs : List ExternalDeclaration) (bytes : List ℕ) → Within text xs
+    → Accepted text xs → FitsProgram (lowered (program_of text xs))
     → IsWritten bytes (program_of text xs) → (most : ℕ) → nodes_of xs ≤ most
-    → (arg m n : ℕ) → arg < 2 ^ 63 → (m + 1) * pace_in most ≤ n → Calm (program_of text xs) (pos arg) n ≡ true
+    → (arg m n : ℕ) → arg < 2 ^ 63 → (m + 1) * pace_in most ≤ n
+    → Calm (program_of text xs) (pos arg) n ≡ true
     → (machine bytes (pos arg) m).end ≡ None → WalksTheShadow bytes (pos arg) m

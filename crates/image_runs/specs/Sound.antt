@@ -1,4 +1,5 @@
--- Sound programs whose linear code has an image, and what the steps of the machine ask of that image.
+-- Sound programs whose linear code has an image, and what the steps of the machine ask of that
+-- image.
 use Rattle.std.specs.Prelude.{◌≡◌, List, Some}
 use Rattle.c_checked.specs.Program.{Program}
 use Rattle.c_checked.specs.Sound.{IsSound}
@@ -26,7 +27,8 @@ pub record IsLinkable (program : Program) : Type 0 where
   pub fits : FitsProgram (lowered program)
 
 -- what never changes while a program's image runs
-pub record IsSoundImage (t : Functions) (fs : List Funclet) (program : LinearProgram) (p : Plan) (q : Sites) : Type 0 where
+pub record IsSoundImage (t : Functions) (fs : List Funclet) (program : LinearProgram) (p : Plan)
+    (q : Sites) : Type 0 where
   pub image : IsProgramImage t fs program p q
   pub made : IsWellMade program p
   pub apart : FunctionsApart program p q
@@ -35,4 +37,5 @@ pub record IsSoundImage (t : Functions) (fs : List Funclet) (program : LinearPro
   pub followed : AreFollowed program
   pub inside : StayInside program
   pub informs : FiltersReadInformation program
-  pub regions : (name : BodyName) (b : LinearBody) → body_of program name ≡ Some b → HasSameRegions b
+  pub regions : (name : BodyName) (b : LinearBody) → body_of program name ≡ Some b
+      → HasSameRegions b

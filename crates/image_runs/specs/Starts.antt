@@ -1,5 +1,6 @@
 -- The state that a run of a program's image starts with, and the beginning of `main`.
 use Rattle.std.specs.Prelude.{◌≡◌, ℕ, ◌-◌, ◌≤◌, List, [], length, ℤ, Ok}
+use Rattle.host_layout.specs.declared.range.TheConstants.{FIRST_STACK}
 use Rattle.x64_machine.specs.Effect.{State}
 use Rattle.virtual_unwind.specs.Undone.{word}
 use Rattle.virtual_unwind.specs.CallerOf.{Functions}
@@ -18,16 +19,18 @@ use Rattle.body_states.specs.Bodies.{Begins}
 
 -- where the first state has its return address
 abbrev pub first_stack : ℕ
-first_stack = 0x707FFFD8
+first_stack = FIRST_STACK
 
 module _ (t : Functions) (fs : List Funclet) (program : LinearProgram) (p : Plan) (q : Sites) where
-  -- RIP is at `main`, RCX is the argument of the run, and the return address is 0; memory agrees with what the program begins with
+  -- RIP is at `main`, RCX is the argument of the run, and the return address is 0; memory agrees
+  -- with what the program begins with
   pub record IsFirst (arg : ℤ) (s : State) : Type 0 where
     pub cpu : s.cpu ≡ first_cpu (q.function program.main) arg
     pub memory : IsMachineMemory t fs program p q s.memory (first_memory program.globals)
     pub returns : word s.memory first_stack ≡ Ok 0
 
-  -- a few turns that show nothing lead to the first instruction of `main`: its arguments are its first locals, and numbers that the stack held are in the others
+  -- a few turns that show nothing lead to the first instruction of `main`: its arguments are its
+  -- first locals, and numbers that the stack held are in the others
   pub record MainBegins (arg : ℤ) (main : LinearFunction) (s : State) : Type 0 where
     pub values : List ℕ
     pub as_many : length values ≡ main.body.locals - main.parameters

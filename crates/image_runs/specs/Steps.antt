@@ -13,5 +13,7 @@ use Rattle.body_states.specs.Bodies.{turns_left}
 use Rattle.body_steps.specs.Laws.{pace}
 use Rattle.turn_steps.specs.Outcomes.{Stands}
 
-abbrev pub StepMatches : Functions → List Funclet → LinearProgram → Plan → Sites → State → Configuration → Instruction → Type 0
-StepMatches t fs program p q s c i = IsMatched t fs program pace turns_left (Stands t fs program p q) s c i
+abbrev pub StepMatches : Functions → List Funclet → LinearProgram → Plan → Sites → State
+    → Configuration → Instruction → Type 0
+StepMatches t fs program p q s c i =
+    IsMatched t fs program pace turns_left (Stands t fs program p q) s c i

@@ -19,14 +19,18 @@ use Rattle.image_runs.specs.Walks.{PassesTheFrames, IsOfProgram}
 -- where its linear code is within the limits of linking, for each step of it that goes on
 abbrev pub AcceptedPassTheFrames : Type 0
 AcceptedPassTheFrames =
-    (text : List ℕ) (xs : List ExternalDeclaration) → Within text xs → Accepted text xs → FitsProgram (lowered (program_of text xs)) → HasBytes (lowered (program_of text xs))
+    (text : List ℕ) (xs : List ExternalDeclaration) → Within text xs → Accepted text xs
+    → FitsProgram (lowered (program_of text xs)) → HasBytes (lowered (program_of text xs))
     → (arg : ℤ) (n : ℕ) → IsRunning (seen (lowered (program_of text xs)) arg n)
     → PassesTheFrames (program_of text xs) arg n
 
--- in m turns of a text of at most L nodes that is calm within (m + 1) (8 L + 256) steps, the run comes to no end but the program's
+-- in m turns of a text of at most L nodes that is calm within (m + 1) (8 L + 256) steps, the run
+-- comes to no end but the program's
 abbrev pub AcceptedEndAsPrograms : Type 0
 AcceptedEndAsPrograms =
-    (text : List ℕ) (xs : List ExternalDeclaration) (bytes : List ℕ) → Within text xs → Accepted text xs → FitsProgram (lowered (program_of text xs))
+    (text : List ℕ) (xs : List ExternalDeclaration) (bytes : List ℕ) → Within text xs
+    → Accepted text xs → FitsProgram (lowered (program_of text xs))
     → IsWritten bytes (program_of text xs) → (most : ℕ) → nodes_of xs ≤ most
-    → (arg m n : ℕ) → arg < 2 ^ 63 → (m + 1) * pace_in most ≤ n → Calm (program_of text xs) (pos arg) n ≡ true
+    → (arg m n : ℕ) → arg < 2 ^ 63 → (m + 1) * pace_in most ≤ n
+    → Calm (program_of text xs) (pos arg) n ≡ true
     → (e : RunEnd) → (machine bytes (pos arg) m).end ≡ Some e → IsOfProgram e

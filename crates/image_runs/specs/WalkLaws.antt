@@ -33,7 +33,8 @@ abbrev pub WalksGiveTheFramesWithin : Type 0
 WalksGiveTheFramesWithin =
     (t : Functions) (fs : List Funclet) (program : LinearProgram) (p : Plan) (q : Sites)
     → IsProgramImage t fs program p q → StandStill t fs program p q
-    → (s u : State) (c : Configuration) → Stands t fs program p q s c → IsKnown program c → IsWithin t fs program p q s u c
+    → (s u : State) (c : Configuration) → Stands t fs program p q s c → IsKnown program c
+    → IsWithin t fs program p q s u c
     → WalkGives t fs program p u c
 
 -- an instruction that is no return begins so
@@ -41,17 +42,23 @@ abbrev pub BeginningsAreWithin : Type 0
 BeginningsAreWithin =
     (t : Functions) (fs : List Funclet) (program : LinearProgram) (p : Plan) (q : Sites)
     → IsProgramImage t fs program p q
-    → (s : State) (c : Configuration) (i : Instruction) → Begins t fs program p q s c → instruction_at program c ≡ Some i → (IsReturn i → ⊥)
+    → (s : State) (c : Configuration) (i : Instruction) → Begins t fs program p q s c
+    → instruction_at program c ≡ Some i → (IsReturn i → ⊥)
     → IsWithin t fs program p q s s c
 
--- it is so after each machine instruction that writes no memory, up to the last one of the instruction
+-- it is so after each machine instruction that writes no memory, up to the last one of the
+-- instruction
 abbrev pub QuietStepsStayWithin : Type 0
 QuietStepsStayWithin =
     (t : Functions) (fs : List Funclet) (program : LinearProgram) (p : Plan) (q : Sites)
     → IsProgramImage t fs program p q
-    → (s u v : State) (c : Configuration) (w : IsWithin t fs program p q s u c) → IsQuietHere t fs program p q s u c w → step u ≡ Ok v
+    → (s u v : State) (c : Configuration) (w : IsWithin t fs program p q s u c)
+    → IsQuietHere t fs program p q s u c w → step u ≡ Ok v
     → IsWithin t fs program p q s v c
 
 -- of an image that is linked, a body that is about to return stands as at any other instruction
 abbrev pub LinkedStandStill : Type 0
-LinkedStandStill = (program : LinearProgram) → IsCompiled program → StandStill (functions_of program) (funclets_of program) program (plan_of program) (sites_of program)
+LinkedStandStill =
+    (program : LinearProgram) → IsCompiled program
+    → StandStill (functions_of program) (funclets_of program) program (plan_of program)
+    (sites_of program)

@@ -17,13 +17,16 @@ use Rattle.image_runs.specs.Walks.{PassesTheFrames, IsOfProgram}
 -- as long as linear code goes on
 abbrev pub RunsPassTheFrames : Type 0
 RunsPassTheFrames =
-    (program : Program) → IsLinkable program → ReadsNoUnset (lowered program) → HasBytes (lowered program)
+    (program : Program) → IsLinkable program → ReadsNoUnset (lowered program)
+    → HasBytes (lowered program)
     → (arg : ℤ) (n : ℕ) → IsRunning (seen (lowered program) arg n)
     → PassesTheFrames program arg n
 
--- in m turns of a program that is calm within (m + 1) * K steps, the run comes to no end but the program's
+-- in m turns of a program that is calm within (m + 1) * K steps, the run comes to no end but the
+-- program's
 abbrev pub RunsEndAsPrograms : Type 0
 RunsEndAsPrograms =
-    (program : Program) → IsLinkable program → ReadsNoUnset (lowered program) → (bytes : List ℕ) → IsWritten bytes program
+    (program : Program) → IsLinkable program → ReadsNoUnset (lowered program) → (bytes : List ℕ)
+    → IsWritten bytes program
     → (arg m n : ℕ) → arg < 2 ^ 63 → (m + 1) * pace_of program ≤ n → Calm program (pos arg) n ≡ true
     → (e : RunEnd) → (machine bytes (pos arg) m).end ≡ Some e → IsOfProgram e

@@ -23,24 +23,32 @@ use Rattle.image_states.specs.Plans.{functions_of, funclets_of, plan_of}
 use Rattle.image_runs.specs.Live.{WalkGives}
 use Rattle.image_runs.specs.Passing.{Passes}
 
--- the walk gives the frames that are live in a configuration; a local that no instruction has set may hold another number than linear code has there
-pub record ShowsFrames (t : Functions) (fs : List Funclet) (program : LinearProgram) (p : Plan) (s : State) (c : Configuration) : Type 0 where
+-- the walk gives the frames that are live in a configuration; a local that no instruction has set
+-- may hold another number than linear code has there
+pub record ShowsFrames (t : Functions) (fs : List Funclet) (program : LinearProgram) (p : Plan)
+    (s : State) (c : Configuration) : Type 0 where
   pub twin : Configuration
   pub twins : AreTwins program c twin
   pub walk : WalkGives t fs program p s twin
 
 abbrev pub ShowsFramesOf : Program → State → Configuration → Type 0
-ShowsFramesOf program = ShowsFrames (functions_of (lowered program)) (funclets_of (lowered program)) (lowered program) (plan_of (lowered program))
+ShowsFramesOf program =
+    ShowsFrames (functions_of (lowered program)) (funclets_of (lowered program)) (lowered program)
+    (plan_of (lowered program))
 
--- a few turns from the first one of the image's run `main` begins; from there on, for each of so many steps of linear code, the run passes a state in which the walk gives the live frames
+-- a few turns from the first one of the image's run `main` begins; from there on, for each of so
+-- many steps of linear code, the run passes a state in which the walk gives the live frames
 pub record PassesTheFrames (program : Program) (arg : ℤ) (n : ℕ) : Type 0 where
   pub main : LinearFunction
   pub is_main : slice_get (lowered program).functions (lowered program).main ≡ Some main
   pub turns : ℕ
   pub few : turns ≤ most_before_main
   pub state : State
-  pub comes : Comes (functions_of (lowered program)) (funclets_of (lowered program)) turns (images.start (image_of (linked (lowered program))) arg) [] state
-  pub passes : Passes (functions_of (lowered program)) (funclets_of (lowered program)) (lowered program) pace turns_left (ShowsFramesOf program) n state (start (lowered program) arg main)
+  pub comes : Comes (functions_of (lowered program)) (funclets_of (lowered program)) turns
+      (images.start (image_of (linked (lowered program))) arg) [] state
+  pub passes : Passes (functions_of (lowered program)) (funclets_of (lowered program))
+      (lowered program) pace turns_left (ShowsFramesOf program) n state
+      (start (lowered program) arg main)
 
 -- a return of `main`, or an exception that nobody handles: not the stack's limit, and no stop
 abbrev pub IsOfProgram : RunEnd → Type 0

@@ -16,8 +16,11 @@ use Rattle.body_states.specs.Sites.{Sites}
 use Rattle.body_states.specs.Programs.{HasProgram, IsResumed}
 use Rattle.image_runs.specs.Quiet.{is_quiet}
 
--- RIP is at a machine instruction of the instruction that a configuration is at, which is no return; RSP and the nonvolatile registers, the stack from RSP up, and all code are as they were where it began
-pub record IsWithin (t : Functions) (fs : List Funclet) (program : LinearProgram) (p : Plan) (q : Sites) (s u : State) (c : Configuration) : Type 0 where
+-- RIP is at a machine instruction of the instruction that a configuration is at, which is no
+-- return; RSP and the nonvolatile registers, the stack from RSP up, and all code are as they were
+-- where it began
+pub record IsWithin (t : Functions) (fs : List Funclet) (program : LinearProgram) (p : Plan)
+    (q : Sites) (s u : State) (c : Configuration) : Type 0 where
   pub code : LinearBody
   pub body : body_of program c.frame.body ≡ Some code
   pub resumed : IsResumed t fs program p q c.frame.body code c.frame.next u.cpu.rip
@@ -27,8 +30,11 @@ pub record IsWithin (t : Functions) (fs : List Funclet) (program : LinearProgram
   pub program_there : HasProgram t fs program p q u.memory
   pub stack : KeepsStack s.memory u.memory (register s.cpu Rsp)
 
--- a machine instruction that writes no memory, and no register but RAX, RCX and RDX; another one of the instruction comes after it
-pub record IsQuietHere (t : Functions) (fs : List Funclet) (program : LinearProgram) (p : Plan) (q : Sites) (s u : State) (c : Configuration) (w : IsWithin t fs program p q s u c) : Type 0 where
+-- a machine instruction that writes no memory, and no register but RAX, RCX and RDX; another one of
+-- the instruction comes after it
+pub record IsQuietHere (t : Functions) (fs : List Funclet) (program : LinearProgram) (p : Plan)
+    (q : Sites) (s u : State) (c : Configuration)
+    (w : IsWithin t fs program p q s u c) : Type 0 where
   pub quiet : is_quiet w.resumed.item ≡ true
   pub spelling : is_encodable w.resumed.item ≡ true
   pub next : Instr

@@ -4,6 +4,7 @@
 
 pub mod accepted_laws;
 pub mod first_laws;
+pub mod frame_laws;
 pub mod image_laws;
 pub mod main_laws;
 pub mod run_laws;

@@ -4,9 +4,9 @@ ghost use Rattle.image_runs.specs.Images.{LinkedImagesShowAll, LinkedImagesShowN
 ghost use Rattle.image_runs.specs.Realises.{CompiledRealise, CompiledShowNothingMore};
 ghost use Rattle.image_runs.specs.RunLaws.{TwinsAreKnown, TwinsSimulate, ImagesShowAll, ImagesShowNoMore};
 
-/// What the step laws ask of a configuration holds of the twin that the machine shows, and of the twin
-/// after a step; so steps that are matched from twins keep the relation, and whole runs of the image show
-/// what the program means, and nothing more.
+/// What the step laws ask of a configuration holds of the twin that the machine shows, and of the
+/// twin after a step; so steps that are matched from twins keep the relation, and whole runs of the
+/// image show what the program means, and nothing more.
 pub fn laws()
     ensures known { TwinsAreKnown }
     ensures simulate { TwinsSimulate }

@@ -10,7 +10,7 @@ use Rattle.eh_tables.specs.Answer.{Table}
 use Rattle.eh_tables.specs.Tables.{Entry}
 use Rattle.host_model.specs.declared.refusal.LoadErr.{LoadErr}
 use Rattle.host_model.specs.declared.refusal.LoadErr.TheVariants as refusals
-use Rattle.host_model.specs.Loading.{section_of, unless, first_of, of_tables, table_refusal, has_place, place_refusal, first_unknown, import_refusal, is_code, has_entry, entry_refusal, load_refusal}
+use Rattle.host_model.specs.Loading.{section_of, reason_unless, first_of, of_tables, table_refusal, has_place, place_refusal, first_unknown, import_refusal, is_code, has_entry, entry_refusal, load_refusal}
 use Rattle.linear_code.specs.Program.{LinearProgram}
 use Rattle.program_link.specs.Linked.{linked}
 use Rattle.program_tables.proofs.Table.{is, tables_are_read}
@@ -58,9 +58,9 @@ module _ (program : LinearProgram) (c : IsCompiled program) where
   loads =
       none_of (table_refusal image) (place_refusal image) (import_refusal image) (entry_refusal image)
       (ap (λ (t : Table (List Entry)). of_tables t) (tables_are_read program c.fits c.ranges))
-      (ap (λ (b : Bool). unless b (refusals.Place image.base)) placed)
+      (ap (λ (b : Bool). reason_unless b (refusals.Place image.base)) placed)
       known
-      (ap (λ (b : Bool). unless b (refusals.Entry image.entry)) entered)
+      (ap (λ (b : Bool). reason_unless b (refusals.Entry image.entry)) entered)
 
 pub images_load : ImagesLoad
 images_load program c = loads program c

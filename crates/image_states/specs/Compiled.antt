@@ -14,7 +14,8 @@ abbrev pub IsIn : ℕ → List ℕ → Type 0
 IsIn k [] = ⊥
 IsIn k (x ∷ xs) = (k ≡ x) ⊎ IsIn k xs
 
--- a funclet's function has a frame, which has the locals that the funclet works on; its own is below a page
+-- a funclet's function has a frame, which has the locals that the funclet works on; its own is
+-- below a page
 pub record IsFuncletSized (program : LinearProgram) (f : LinearFunclet) : Type 0 where
   pub function : LinearBody
   pub there : body_of program (FunctionBody f.function) ≡ Some function
@@ -22,7 +23,8 @@ pub record IsFuncletSized (program : LinearProgram) (f : LinearFunclet) : Type 0
   pub locals : f.body.locals ≡ function.locals
   pub words : f.body.passed + f.body.temporaries ≤ 500
 
--- it can be linked, into an image of at most 256 MiB; its regions are ranges, which name each funclet once
+-- it can be linked, into an image of at most 256 MiB; its regions are ranges, which name each
+-- funclet once
 pub record IsCompiled (program : LinearProgram) : Type 0 where
   pub fits : FitsProgram program
   pub small : end_at (sizes_of (linked program)) ≤ 2 ^ 28
@@ -30,4 +32,5 @@ pub record IsCompiled (program : LinearProgram) : Type 0 where
   pub names : NamesFunclets program
   pub all_named : (k : ℕ) → k < length program.funclets → IsIn k (named (regions program))
   pub whole : IsWhole program
-  pub funclets : (k : ℕ) (f : LinearFunclet) → slice_get program.funclets k ≡ Some f → IsFuncletSized program f
+  pub funclets : (k : ℕ) (f : LinearFunclet) → slice_get program.funclets k ≡ Some f
+      → IsFuncletSized program f

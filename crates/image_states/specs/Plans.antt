@@ -55,7 +55,17 @@ abbrev pub no_layout : Layout
 no_layout = record { base = None; pointers = 0; locals = 0; temporaries = 0; frame = 0 }
 
 abbrev pub nowhere : Placed
-nowhere = record { routine = record { entry = entries.Function 0; frame = None; layout = no_layout; body = nothing }; begin = 0; info = 0 }
+nowhere =
+    record {
+      routine = record {
+        entry = entries.Function 0;
+        frame = None;
+        layout = no_layout;
+        body = nothing;
+      };
+      begin = 0;
+      info = 0;
+    }
 
 abbrev pub or_nowhere : Option Placed → Placed
 or_nowhere (Some x) = x
@@ -96,14 +106,18 @@ is_ready o v = true
 
 -- after a call of RaiseException, by the address of the call's code
 abbrev pub returns_there : Layout → ℕ → Cpu → Option Instruction → Bool
-returns_there y at saved (Some (instructions.CallBuiltIn RaiseException first)) = (saved.rip == return_at y first (at + 5)) && (register saved Rax == 0)
+returns_there y at saved (Some (instructions.CallBuiltIn RaiseException first)) =
+    (saved.rip == return_at y first (at + 5)) && (register saved Rax == 0)
 returns_there y at saved i = false
 
 -- at the machine instruction that faulted, with both operands in their registers
 abbrev pub works_again : Layout → ℕ → List ℕ → Cpu → Option Instruction → Bool
-works_again y at temporaries saved (Some (instructions.Compute to o (Temporary first) (Temporary second))) =
+works_again y at temporaries saved
+    (Some (instructions.Compute to o (Temporary first) (Temporary second))) =
     (saved.rip == at + sizes (operands_code y o (Temporary first) (Temporary second)))
-    && (is_some (slice_get temporaries first) (register saved Rax) && (is_some (slice_get temporaries second) (register saved Rcx) && is_ready o (view_of saved)))
+    && (is_some (slice_get temporaries first) (register saved Rax) &&
+    (is_some (slice_get temporaries second) (register saved Rcx) && is_ready o
+    (view_of saved)))
 works_again y at temporaries saved i = false
 
 abbrev pub resumes_by : Layout → ℕ → List ℕ → Cpu → Option Instruction → Resumption → Bool
@@ -115,7 +129,9 @@ address_of program name label = image_base + template_at (routine_of program nam
 
 abbrev pub resumes : LinearProgram → Resumption → linear.Frame → Cpu → Bool
 resumes program resumption b saved =
-    resumes_by (routine_of program b.body).routine.layout (address_of program b.body b.next) b.temporaries saved (instruction_in (body_of program b.body) b.next) resumption
+    resumes_by (routine_of program b.body).routine.layout
+    (address_of program b.body b.next) b.temporaries saved
+    (instruction_in (body_of program b.body) b.next) resumption
 
 -- ---- the plan
 
@@ -124,7 +140,9 @@ plan_of program = record {
   address = address_of program;
   funclet = λ k. image_base + funclet_begin program k;
   leaf = λ name. is_leaf (routine_of program name).routine.frame;
-  entry = λ name. tables.entry_of (site_of program) (routine_of program name) (or_none (routine_of program name).routine.frame);
+  entry =
+      λ name. tables.entry_of (site_of program) (routine_of program name)
+      (or_none (routine_of program name).routine.frame);
   layout = λ name. (routine_of program name).routine.layout;
   lands = λ name label. nat_lt label (length (routine_of program name).routine.body.code);
   resumes = resumes program;

@@ -15,11 +15,14 @@ use Rattle.image_states.specs.Compiled.{IsCompiled}
 abbrev pub HasBytes : LinearProgram → Type 0
 HasBytes program = AllByRecursion (λ b. b < 256) (written (parts_of (linked program)))
 
--- beside the source's first memory: the globals where the source may look, all else out of its reach
+-- beside the source's first memory: the globals where the source may look, all else out of its
+-- reach
 abbrev pub ImagesStart : Type 0
 ImagesStart =
     (program : LinearProgram) → IsCompiled program → HasBytes program
-    → IsMachineMemory (functions_of program) (funclets_of program) program (plan_of program) (sites_of program) (mapped (image_of (linked program))) (first_memory program.globals)
+    → IsMachineMemory (functions_of program) (funclets_of program) program (plan_of program)
+    (sites_of program) (mapped (image_of (linked program))) (first_memory program.globals)
 
 abbrev pub ImagesLoad : Type 0
-ImagesLoad = (program : LinearProgram) → IsCompiled program → load_refusal (image_of (linked program)) ≡ None
+ImagesLoad =
+    (program : LinearProgram) → IsCompiled program → load_refusal (image_of (linked program)) ≡ None

@@ -10,14 +10,18 @@ use Rattle.image_states.specs.Compiled.{IsCompiled}
 
 -- its tables, addresses and frames
 abbrev pub ImagesArePrograms : Type 0
-ImagesArePrograms = (program : LinearProgram) → IsCompiled program → IsProgramImage (functions_of program) (funclets_of program) program (plan_of program) (sites_of program)
+ImagesArePrograms =
+    (program : LinearProgram) → IsCompiled program
+    → IsProgramImage (functions_of program) (funclets_of program) program (plan_of program)
+    (sites_of program)
 
 -- a leaf function calls nothing (Microsoft x64 ABI, "Leaf functions")
 abbrev pub LeavesCallNothing : Type 0
 LeavesCallNothing =
     (program : LinearProgram) → IsCompiled program
     → (name : BodyName) (b : LinearBody) (label : ℕ) (i : Instruction)
-    → body_of program name ≡ Some b → (plan_of program).leaf name ≡ true → slice_get b.code label ≡ Some i → is_call i ≡ false
+    → body_of program name ≡ Some b → (plan_of program).leaf name ≡ true
+    → slice_get b.code label ≡ Some i → is_call i ≡ false
 
 -- a function that has code begins elsewhere than a funclet
 abbrev pub FunctionsApart : Type 0

@@ -2,8 +2,8 @@
 
 ghost use Rattle.image_states.specs.StateLaws.{ImagesArePrograms, LeavesCallNothing, FunctionsApart};
 
-/// The image of a program has the code of its bodies where its plan says, and each body has its entry,
-/// whose scope records are the body's regions.
+/// The image of a program has the code of its bodies where its plan says, and each body has its
+/// entry, whose scope records are the body's regions.
 pub fn images()
     ensures { ImagesArePrograms }
 {}

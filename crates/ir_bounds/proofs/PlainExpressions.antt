@@ -22,12 +22,12 @@ use Rattle.c_checked.specs.Program.{Program, Function}
 use Rattle.linear_code.specs.declared.slot.Slot.TheVariants.{Local, Temporary}
 use Rattle.linear_code.specs.declared.instruction.Instruction.{Instruction}
 use Rattle.linear_machine.specs.Instructions.{count_of}
-use Rattle.seh_ir.specs.declared.scope.ExceptionSource.{ExceptionSource}
-use Rattle.seh_ir.specs.declared.scope.ExceptionSource.TheVariants.{NoException, OfFilter, KeptIn}
-use Rattle.seh_ir.specs.declared.scope.Names.{Names}
+use Rattle.ir_expressions.specs.declared.scope.ExceptionSource.{ExceptionSource}
+use Rattle.ir_expressions.specs.declared.scope.ExceptionSource.TheVariants.{NoException, OfFilter, KeptIn}
+use Rattle.ir_expressions.specs.declared.scope.Names.{Names}
 use Rattle.ir_sizes.specs.Sizes.{address_count, locate_size, read_size, conversion_size, expression_size}
 use Rattle.seh_ir.specs.Slots.{instruction_temporaries, instruction_passes}
-use Rattle.seh_ir.specs.Expressions.{size_of, constant, copy, change, combine, conversion_code, unary_code, choice_code, code_code, abnormal_code, load_code, read_code, write_code, address_code, argument_count, chosen_of, expression_code, locate_code, arguments_code, node_code}
+use Rattle.ir_expressions.specs.Expressions.{size_of, constant, copy, change, combine, conversion_code, unary_code, choice_code, code_code, abnormal_code, load_code, read_code, write_code, address_code, argument_count, chosen_of, expression_code, locate_code, arguments_code, node_code}
 use Rattle.ir_follows.specs.Fits.{ExpressionFits, LvalueFits, ArgumentsFit, NodeFits}
 use Rattle.ir_bounds.specs.Nesting.{parameters_for, expression_nesting, lvalue_nesting, arguments_nesting, node_nesting, expression_reads, lvalue_reads, arguments_read, node_reads}
 use Rattle.ir_bounds.specs.Slots.{IsAmong, IsField, IsPlain}

@@ -5,6 +5,8 @@ use Rattle.seh_ir.specs.Lowered.{lowered}
 use Rattle.ir_bounds.specs.Nesting.{AreShallow}
 use Rattle.ir_bounds.specs.Slots.{IsSmall}
 
--- no frame has more than 1,000 words, one without locals no more than 460, and each slot, function and funclet that is named is there
+-- no frame has more than 1,000 words, one without locals no more than 460, and each slot, function
+-- and funclet that is named is there
 abbrev pub LoweredIsSmall : Type 0
-LoweredIsSmall = (program : Program) → IsSound program → AreShallow program.functions → IsSmall (lowered program)
+LoweredIsSmall =
+    (program : Program) → IsSound program → AreShallow program.functions → IsSmall (lowered program)

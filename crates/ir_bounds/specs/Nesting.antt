@@ -1,5 +1,7 @@
--- How deep expressions are nested in a checked program, and how many parameters of an exception it names.
+-- How deep expressions are nested in a checked program, and how many parameters of an exception it
+-- names.
 use Rattle.std.specs.Prelude.{ℕ, suc, ◌+◌, ◌≤◌, max, List, [], ◌∷◌, Option, Some, None}
+use Rattle.seh_num.specs.declared.size.TheConstants.{EXCEPTION_MAXIMUM_PARAMETERS}
 use Rattle.c_operations.specs.declared.field.Field.{Field}
 use Rattle.c_operations.specs.declared.field.Field.TheVariants.{ExceptionInformation}
 use Rattle.c_checked.specs.Expression as nodes
@@ -30,15 +32,18 @@ abbrev mutual
   node_nesting (nodes.Read p) = lvalue_nesting p
   node_nesting (nodes.AddressOf p) = 1 + lvalue_nesting p
   node_nesting (nodes.Assign p e) = 1 + max (lvalue_nesting p) (expression_nesting e)
-  node_nesting (nodes.CompoundAssign p before o e after) = 1 + max (lvalue_nesting p) (expression_nesting e)
+  node_nesting (nodes.CompoundAssign p before o e after) =
+      1 + max (lvalue_nesting p) (expression_nesting e)
   node_nesting (nodes.Increment m p before o n after) = 1 + lvalue_nesting p
   node_nesting (nodes.Unary o e) = 1 + expression_nesting e
   node_nesting (nodes.Binary o e f) = 1 + max (expression_nesting e) (expression_nesting f)
-  node_nesting (nodes.PointerDifference n e f) = 1 + max (expression_nesting e) (expression_nesting f)
+  node_nesting (nodes.PointerDifference n e f) =
+      1 + max (expression_nesting e) (expression_nesting f)
   node_nesting (nodes.Not e) = 1 + expression_nesting e
   node_nesting (nodes.And e f) = 1 + max (expression_nesting e) (expression_nesting f)
   node_nesting (nodes.Or e f) = 1 + max (expression_nesting e) (expression_nesting f)
-  node_nesting (nodes.Conditional c e f) = 1 + max (expression_nesting c) (max (expression_nesting e) (expression_nesting f))
+  node_nesting (nodes.Conditional c e f) =
+      1 + max (expression_nesting c) (max (expression_nesting e) (expression_nesting f))
   node_nesting (nodes.Comma e f) = 1 + max (expression_nesting e) (expression_nesting f)
   node_nesting (nodes.Call f es) = arguments_nesting es
   node_nesting (nodes.CallBuiltIn k es) = arguments_nesting es
@@ -79,7 +84,8 @@ abbrev mutual
   node_reads (nodes.Not e) = expression_reads e
   node_reads (nodes.And e f) = max (expression_reads e) (expression_reads f)
   node_reads (nodes.Or e f) = max (expression_reads e) (expression_reads f)
-  node_reads (nodes.Conditional c e f) = max (expression_reads c) (max (expression_reads e) (expression_reads f))
+  node_reads (nodes.Conditional c e f) =
+      max (expression_reads c) (max (expression_reads e) (expression_reads f))
   node_reads (nodes.Comma e f) = max (expression_reads e) (expression_reads f)
   node_reads (nodes.Call f es) = arguments_read es
   node_reads (nodes.CallBuiltIn k es) = arguments_read es
@@ -107,15 +113,18 @@ abbrev mutual
   most_of_statement f (Block ss) = most_of f ss
   most_of_statement f (Evaluate e) = most_of_optional f e
   most_of_statement f (If c s) = max (f c) (most_of_statement f s)
-  most_of_statement f (IfElse c s t) = max (f c) (max (most_of_statement f s) (most_of_statement f t))
+  most_of_statement f (IfElse c s t) =
+      max (f c) (max (most_of_statement f s) (most_of_statement f t))
   most_of_statement f (For ds first c next s) =
-      max (most_of_declared f ds) (max (most_of_optional f first) (max (most_of_optional f c) (max (most_of_optional f next) (most_of_statement f s))))
+      max (most_of_declared f ds) (max (most_of_optional f first)
+      (max (most_of_optional f c) (max (most_of_optional f next) (most_of_statement f s))))
   most_of_statement f (DoWhile s c) = max (most_of_statement f s) (f c)
   most_of_statement f (Return e) = most_of_optional f e
   most_of_statement f Break = 0
   most_of_statement f Continue = 0
   most_of_statement f Leave = 0
-  most_of_statement f (TryExcept body filter block) = max (most_of f body) (max (most_of_filter f filter) (most_of f block))
+  most_of_statement f (TryExcept body filter block) =
+      max (most_of f body) (max (most_of_filter f filter) (most_of f block))
   most_of_statement f (TryFinally body k last) = max (most_of f body) (most_of f last)
 
   pub most_of : (Expression → ℕ) → Statements → ℕ
@@ -124,10 +133,10 @@ abbrev mutual
 
 -- ---- programs
 
--- within the limits of nesting; an exception has 15 parameters at most (Windows headers, `winnt.h`)
+-- within the limits of nesting, and of the parameters of an exception
 pub record IsShallow (fn : Function) : Type 0 where
   pub expressions : most_of expression_nesting fn.body ≤ 64
-  pub parameters : most_of expression_reads fn.body ≤ 15
+  pub parameters : most_of expression_reads fn.body ≤ EXCEPTION_MAXIMUM_PARAMETERS
   pub blocks : statements_notes fn.body ≤ 65
 
 abbrev pub AreShallow : List Function → Type 0

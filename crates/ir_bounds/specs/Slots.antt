@@ -1,6 +1,8 @@
 -- Linear code whose slots and arguments are within bounds.
 use Rattle.std.specs.Prelude.{ℕ, ◌<◌, ◌≤◌, List, length, Option, Some, None}
 use Rattle.std.specs.List.{AllByRecursion}
+use Rattle.seh_num.specs.declared.limit.TheConstants.{MOST_PARAMETERS, MOST_GLOBALS}
+use Rattle.seh_num.specs.declared.size.TheConstants.{EXCEPTION_MAXIMUM_PARAMETERS}
 use Rattle.c_operations.specs.declared.field.Field.{Field}
 use Rattle.c_operations.specs.declared.field.Field.TheVariants.{ExceptionInformation}
 use Rattle.linear_code.specs.declared.slot.Slot.{Slot}
@@ -16,22 +18,25 @@ abbrev pub IsAmong : ℕ → Slot → Type 0
 IsAmong n (Local i) = i < n
 IsAmong n (Temporary i) = Unit {0}
 
--- a parameter of an exception is one of 15 (Windows headers, `winnt.h`)
+-- a parameter of an exception is one of those that it may have
 abbrev pub IsField : Field → Type 0
-IsField (ExceptionInformation k) = k < 15
+IsField (ExceptionInformation k) = k < EXCEPTION_MAXIMUM_PARAMETERS
 IsField f = Unit {0}
 
--- the locals of an instruction are among so many, its field is one, and it passes at most eight arguments
+-- the locals of an instruction are among so many, its field is one, and it passes at most as many
+-- arguments as a function takes
 abbrev pub IsPlain : ℕ → Instruction → Type 0
-IsPlain n (instructions.Compute to o first second) = IsAmong n to × IsAmong n first × IsAmong n second
+IsPlain n (instructions.Compute to o first second) =
+    IsAmong n to × IsAmong n first × IsAmong n second
 IsPlain n (instructions.Information to field) = IsAmong n to × IsField field
 IsPlain n (instructions.Landing to) = IsAmong n to
 IsPlain n (instructions.JumpIfZero slot label) = IsAmong n slot
-IsPlain n (instructions.Call function first count) = count ≤ 8
+IsPlain n (instructions.Call function first count) = count ≤ MOST_PARAMETERS
 IsPlain n (instructions.Return from) = IsAmong n from
 IsPlain n other = Unit {0}
 
--- a body uses at most 1,000 words, and beside the locals, which lie in the frame of a function alone, at most 460
+-- a body uses at most 1,000 words, and beside the locals, which lie in the frame of a function
+-- alone, at most 460
 pub record IsSmallBody (b : LinearBody) : Type 0 where
   pub passed : b.passed ≤ 4
   pub temporaries : b.temporaries ≤ 456
@@ -55,12 +60,12 @@ pub record IsSmallFunclet (p : LinearProgram) (f : LinearFunclet) : Type 0 where
   pub body : IsSmallBody f.body
 
 pub record IsSmallFunction (f : LinearFunction) : Type 0 where
-  pub parameters : f.parameters ≤ 8
+  pub parameters : f.parameters ≤ MOST_PARAMETERS
   pub body : IsSmallBody f.body
 
 -- within the limits of frames
 pub record IsSmall (p : LinearProgram) : Type 0 where
-  pub globals : length p.globals ≤ 1048576
+  pub globals : length p.globals ≤ MOST_GLOBALS
   pub main : p.main < length p.functions
   pub functions : AllByRecursion IsSmallFunction p.functions
   pub funclets : AllByRecursion (IsSmallFunclet p) p.funclets

@@ -21,13 +21,13 @@ use Rattle.linear_machine.specs.Instructions.{end_finally, end_body}
 use Rattle.linear_machine.specs.Run.{instruction_in}
 use Rattle.linear_runs.proofs.Stretch.{at, Site, conf, Way, Never, To, Out, Ways, Kept, Price, price, Join, unwound, Claim, value_ways, normal_ways, then_value, claim_kept}
 use Rattle.linear_runs.proofs.Walks.{Around, around_part, IsExcept, except_left, lands}
-use Rattle.seh_ir.specs.declared.scope.Names.{Names}
-use Rattle.seh_ir.specs.declared.scope.Scope.{Scope}
-use Rattle.seh_ir.specs.declared.scope.ExceptionSource.TheVariants.{OfFilter}
-use Rattle.seh_ir.specs.declared.scope.Way.TheVariants.{Nowhere, Jumps, Unwinds}
-use Rattle.seh_ir.specs.declared.scope.Way as jumps
+use Rattle.ir_expressions.specs.declared.scope.Names.{Names}
+use Rattle.ir_expressions.specs.declared.scope.Scope.{Scope}
+use Rattle.ir_expressions.specs.declared.scope.ExceptionSource.TheVariants.{OfFilter}
+use Rattle.ir_expressions.specs.declared.scope.Way.TheVariants.{Nowhere, Jumps, Unwinds}
+use Rattle.ir_expressions.specs.declared.scope.Way as jumps
 use Rattle.ir_sizes.specs.Sizes.{expression_size, statement_size, statements_size, statement_notes, statements_notes}
-use Rattle.seh_ir.specs.Expressions.{expression_code}
+use Rattle.ir_expressions.specs.Expressions.{expression_code}
 use Rattle.ir_follows.specs.Fits.{ExpressionFits}
 use Rattle.ir_follows.specs.Weights.{expression_weight, optional_weight, statement_weight, statements_weight}
 use Rattle.ir_follows.proofs.Stores.{Shape, NotesKept, everywhere, below_slot, kept_itself, kept_through, kept_fewer}

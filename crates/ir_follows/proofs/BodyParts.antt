@@ -18,12 +18,12 @@ use Rattle.linear_machine.specs.Frames.{Store, Finished, with_some, set_local}
 use Rattle.linear_machine.specs.Instructions.{end_body}
 use Rattle.linear_machine.specs.Run.{exec}
 use Rattle.linear_runs.proofs.Stretch.{Part, at, Site, conf, Ways, Price, price, Join, Passes, Joined, Arrives, Claim, first_ways, more, after, first, stepped, still, fetch, prefix_self, arrives_more, targets_more, finishes_more, stops_more}
-use Rattle.seh_ir.specs.declared.scope.Scope.{Scope}
-use Rattle.seh_ir.specs.declared.scope.Way.TheVariants.{Nowhere, Jumps, Unwinds}
-use Rattle.seh_ir.specs.declared.scope.Way as jumps
-use Rattle.seh_ir.specs.Scope as scopes
+use Rattle.ir_expressions.specs.declared.scope.Scope.{Scope}
+use Rattle.ir_expressions.specs.declared.scope.Way.TheVariants.{Nowhere, Jumps, Unwinds}
+use Rattle.ir_expressions.specs.declared.scope.Way as jumps
+use Rattle.ir_expressions.specs.Scope as scopes
 use Rattle.ir_sizes.specs.Sizes.{expression_size, discarded_size, declared_size}
-use Rattle.seh_ir.specs.Expressions.{copy, expression_code}
+use Rattle.ir_expressions.specs.Expressions.{copy, expression_code}
 use Rattle.seh_ir.specs.Statements.{jump_code, return_code, leave_code, discarded_code}
 use Rattle.ir_follows.specs.Weights.{expression_weight, optional_weight}
 use Rattle.ir_follows.proofs.Stores.{Shape, at_list, below_slot, local_set_alike, kept_set, kept_through}

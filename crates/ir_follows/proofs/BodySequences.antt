@@ -10,7 +10,7 @@ use Rattle.c_model.specs.Meaning.{within}
 use Rattle.linear_code.specs.Program.{LinearProgram}
 use Rattle.linear_machine.specs.Frames.{Store}
 use Rattle.linear_runs.proofs.Stretch.{at, Site, conf, Ways, Price, price, Claim, still, prefix_self, then_normal}
-use Rattle.seh_ir.specs.declared.scope.Scope.{Scope}
+use Rattle.ir_expressions.specs.declared.scope.Scope.{Scope}
 use Rattle.ir_sizes.specs.Sizes.{statement_size, statements_size, statements_notes, statement_notes}
 use Rattle.ir_follows.specs.Weights.{statement_weight, statements_weight}
 use Rattle.ir_follows.proofs.Stores.{Shape}

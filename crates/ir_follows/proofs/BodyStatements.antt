@@ -16,11 +16,11 @@ use Rattle.linear_code.specs.declared.program.RegionKind.TheVariants as regions
 use Rattle.linear_code.specs.Program.{LinearProgram}
 use Rattle.linear_machine.specs.Frames.{BodyName, Store, set_local}
 use Rattle.linear_runs.proofs.Stretch.{at, Site, conf, Ways, Price, price, found, more, chosen, then_normal}
-use Rattle.seh_ir.specs.declared.scope.Scope.{Scope}
-use Rattle.seh_ir.specs.Scope.{except_names, in_try, in_except, in_guarded}
+use Rattle.ir_expressions.specs.declared.scope.Scope.{Scope}
+use Rattle.ir_expressions.specs.Scope.{except_names, in_try, in_except, in_guarded}
 use Rattle.ir_sizes.specs.Sizes.{expression_size, discarded_size, declared_size, all_declared_size, returned_size, statement_size, statements_size, statement_notes, statements_notes}
 use Rattle.seh_ir.specs.Regions.{except_kind, region}
-use Rattle.seh_ir.specs.Expressions.{expression_code}
+use Rattle.ir_expressions.specs.Expressions.{expression_code}
 use Rattle.ir_follows.specs.Weights.{expression_weight, optional_weight, declared_weight, all_declared_weight, statement_weight, statements_weight}
 use Rattle.ir_follows.proofs.Stores.{Shape, Alike, below_slot}
 use Rattle.ir_follows.proofs.Places.{has_front, has_after}

@@ -15,11 +15,11 @@ use Rattle.linear_code.specs.Program.{LinearProgram}
 use Rattle.linear_machine.specs.Frames.{BodyName, Store}
 use Rattle.linear_runs.proofs.Stretch.{at, Site, conf, Ways, Price, price, more, chosen}
 use Rattle.linear_runs.proofs.Walks.{Around, around_part, holds_yes}
-use Rattle.seh_ir.specs.declared.scope.Scope.{Scope}
-use Rattle.seh_ir.specs.Scope.{except_names, in_try, in_except, in_guarded}
-use Rattle.seh_ir.specs.Scope as scopes
+use Rattle.ir_expressions.specs.declared.scope.Scope.{Scope}
+use Rattle.ir_expressions.specs.Scope.{except_names, in_try, in_except, in_guarded}
+use Rattle.ir_expressions.specs.Scope as scopes
 use Rattle.ir_sizes.specs.Sizes.{expression_size, discarded_size, condition_size, statement_size, statement_notes}
-use Rattle.seh_ir.specs.Expressions.{expression_code}
+use Rattle.ir_expressions.specs.Expressions.{expression_code}
 use Rattle.ir_follows.specs.Weights.{expression_weight, optional_weight, statement_weight}
 use Rattle.ir_follows.proofs.Stores.{Shape}
 use Rattle.ir_follows.proofs.Places.{has_front, has_after}

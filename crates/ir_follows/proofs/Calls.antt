@@ -16,9 +16,9 @@ use Rattle.linear_code.specs.Program.{LinearProgram}
 use Rattle.linear_machine.specs.Frames.{Store, Seen}
 use Rattle.linear_machine.specs.Run.{exec}
 use Rattle.linear_runs.proofs.Stretch.{Part, Site, conf, price, more}
-use Rattle.seh_ir.specs.declared.scope.Names.{Names}
+use Rattle.ir_expressions.specs.declared.scope.Names.{Names}
 use Rattle.ir_sizes.specs.Sizes.{expression_size}
-use Rattle.seh_ir.specs.Expressions.{expression_code, node_code}
+use Rattle.ir_expressions.specs.Expressions.{expression_code, node_code}
 use Rattle.ir_follows.specs.Fits.{NodeFits}
 use Rattle.ir_follows.specs.Weights.{expression_weight, node_weight}
 use Rattle.ir_follows.proofs.Stores.{Shape}
@@ -45,7 +45,7 @@ use Rattle.linear_machine.specs.Searching.{raise}
 use Rattle.linear_machine.specs.Instructions.{count_of, begin_function, waiting, built_in}
 use Rattle.linear_runs.proofs.Stretch.{frame_of, fetch, first, stepped, then_plain, prefix_self}
 use Rattle.ir_sizes.specs.Sizes.{arguments_size}
-use Rattle.seh_ir.specs.Expressions.{argument_count, arguments_code}
+use Rattle.ir_expressions.specs.Expressions.{argument_count, arguments_code}
 use Rattle.ir_follows.specs.Fits.{ArgumentsFit}
 use Rattle.ir_follows.specs.Weights.{arguments_weight}
 use Rattle.ir_follows.proofs.Stores.{memory_alike}

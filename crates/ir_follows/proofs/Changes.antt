@@ -19,9 +19,9 @@ use Rattle.linear_code.specs.declared.instruction.Instruction.{Instruction}
 use Rattle.linear_code.specs.Program.{LinearProgram}
 use Rattle.linear_machine.specs.Frames.{Store, with_temporary}
 use Rattle.linear_runs.proofs.Stretch.{Part, at, Site, conf, price, more, then_value}
-use Rattle.seh_ir.specs.declared.scope.Names.{Names}
+use Rattle.ir_expressions.specs.declared.scope.Names.{Names}
 use Rattle.ir_sizes.specs.Sizes.{address_count, read_size, conversion_size, expression_size, locate_size, node_size}
-use Rattle.seh_ir.specs.Expressions.{constant, combine, copy, chosen_of, conversion_code, expression_code, read_code, write_code, locate_code, node_code}
+use Rattle.ir_expressions.specs.Expressions.{constant, combine, copy, chosen_of, conversion_code, expression_code, read_code, write_code, locate_code, node_code}
 use Rattle.ir_follows.specs.Fits.{NodeFits}
 use Rattle.ir_follows.specs.Weights.{expression_weight, lvalue_weight, node_weight}
 use Rattle.ir_follows.proofs.Stores.{Shape}

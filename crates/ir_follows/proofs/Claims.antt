@@ -24,9 +24,9 @@ use Rattle.linear_machine.specs.Instructions.{begin_function, is_constant}
 use Rattle.linear_machine.specs.Run.{exec}
 use Rattle.linear_runs.proofs.Longer.{events_of, search_shows}
 use Rattle.linear_runs.proofs.Stretch.{Part, at, Site, frame_of, conf, Kept, value_ways, normal_ways, price, Claim}
-use Rattle.seh_ir.specs.declared.scope.Names.{Names}
+use Rattle.ir_expressions.specs.declared.scope.Names.{Names}
 use Rattle.ir_sizes.specs.Sizes.{expression_size, locate_size}
-use Rattle.seh_ir.specs.Expressions.{expression_code, locate_code}
+use Rattle.ir_expressions.specs.Expressions.{expression_code, locate_code}
 use Rattle.ir_follows.specs.Fits.{ExpressionFits, LvalueFits}
 use Rattle.ir_follows.specs.Weights.{expression_weight, lvalue_weight}
 use Rattle.ir_follows.proofs.Stores.{Shape, everywhere}

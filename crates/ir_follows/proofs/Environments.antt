@@ -14,10 +14,10 @@ use Rattle.linear_code.specs.Program.{LinearProgram, LinearFunclet}
 use Rattle.linear_machine.specs.Frames.{FuncletBody, Store}
 use Rattle.linear_machine.specs.Frames as machine
 use Rattle.linear_runs.proofs.Stretch.{Site, found}
-use Rattle.seh_ir.specs.declared.scope.ExceptionSource.{ExceptionSource}
-use Rattle.seh_ir.specs.declared.scope.Names.{Names}
-use Rattle.seh_ir.specs.declared.scope.ExceptionSource.TheVariants.{NoException, OfFilter, KeptIn}
-use Rattle.seh_ir.specs.Expressions.{expression_code}
+use Rattle.ir_expressions.specs.declared.scope.ExceptionSource.{ExceptionSource}
+use Rattle.ir_expressions.specs.declared.scope.Names.{Names}
+use Rattle.ir_expressions.specs.declared.scope.ExceptionSource.TheVariants.{NoException, OfFilter, KeptIn}
+use Rattle.ir_expressions.specs.Expressions.{expression_code}
 use Rattle.ir_follows.specs.Fits.{ExpressionFits}
 use Rattle.ir_follows.specs.Weights.{expression_weight}
 use Rattle.ir_follows.proofs.Stores.{at_list, Shape, Alike, Places, NotesKept}

@@ -23,13 +23,13 @@ use Rattle.linear_machine.specs.Instructions.{end_body}
 use Rattle.linear_machine.specs.Run.{instruction_in, exec}
 use Rattle.linear_runs.proofs.Stretch.{Part, at, Site, frame_of, conf, Way, Never, To, Out, Ways, Kept, Price, price, Join, found, Reaches, unwound, Arrives, Claim, normal_ways, onto, still, stepped, first, fetch, prefix_self, more, after, reaches_after, targets_more, finishes_more, stops_more, then_held}
 use Rattle.linear_runs.proofs.Walks.{Outward, starts}
-use Rattle.seh_ir.specs.declared.scope.Names.{Names}
-use Rattle.seh_ir.specs.declared.scope.Scope.{Scope}
-use Rattle.seh_ir.specs.declared.scope.Way.TheVariants.{Nowhere, Jumps}
-use Rattle.seh_ir.specs.declared.scope.Way.TheVariants.{Unwinds as UnwindsTo}
-use Rattle.seh_ir.specs.Scope.{finally_names, finally_scope, in_guarded}
-use Rattle.seh_ir.specs.declared.scope.Way as jumps
-use Rattle.seh_ir.specs.Scope as scopes
+use Rattle.ir_expressions.specs.declared.scope.Names.{Names}
+use Rattle.ir_expressions.specs.declared.scope.Scope.{Scope}
+use Rattle.ir_expressions.specs.declared.scope.Way.TheVariants.{Nowhere, Jumps}
+use Rattle.ir_expressions.specs.declared.scope.Way.TheVariants.{Unwinds as UnwindsTo}
+use Rattle.ir_expressions.specs.Scope.{finally_names, finally_scope, in_guarded}
+use Rattle.ir_expressions.specs.declared.scope.Way as jumps
+use Rattle.ir_expressions.specs.Scope as scopes
 use Rattle.seh_ir.specs.Regions.{region}
 use Rattle.ir_sizes.specs.Sizes.{statements_notes}
 use Rattle.ir_follows.specs.Weights.{statements_weight}

@@ -21,11 +21,11 @@ use Rattle.linear_machine.specs.Instructions.{begin_function}
 use Rattle.linear_machine.specs.Run.{exec}
 use Rattle.linear_runs.proofs.Stretch.{Part, at, Site, frame_of, conf, Picked, Ways, Kept, price, found, Reaches, Claim, value_ways, stepped, fetch, prefix_self, sooner, more, reaches_after, reaches_more, finishes_more, stops_more, deep_claim}
 use Rattle.linear_runs.proofs.Walks.{handlers_below, leaves}
-use Rattle.seh_ir.specs.declared.scope.Names.{Names}
-use Rattle.seh_ir.specs.declared.scope.Scope.{Scope}
-use Rattle.seh_ir.specs.declared.scope.Way.TheVariants.{Nowhere, Jumps}
+use Rattle.ir_expressions.specs.declared.scope.Names.{Names}
+use Rattle.ir_expressions.specs.declared.scope.Scope.{Scope}
+use Rattle.ir_expressions.specs.declared.scope.Way.TheVariants.{Nowhere, Jumps}
 use Rattle.ir_sizes.specs.Sizes.{statements_size, statements_notes}
-use Rattle.seh_ir.specs.Expressions.{constant}
+use Rattle.ir_expressions.specs.Expressions.{constant}
 use Rattle.seh_ir.specs.Lowered.{own_locals, scope_of}
 use Rattle.ir_follows.specs.Weights.{statements_weight}
 use Rattle.ir_follows.proofs.Stores.{at_push_old, Shape, FrameAlike, Places, NotesKept, everywhere, below_slot, kept_itself, kept_through, get_push_new, get_pushed, push_alike, take_alike, call_kept}

@@ -18,10 +18,10 @@ use Rattle.linear_machine.specs.Frames.{Store, Configuration, Seen, pick, with_t
 use Rattle.linear_machine.specs.Frames as machine
 use Rattle.linear_machine.specs.Run.{exec}
 use Rattle.linear_runs.proofs.Stretch.{Part, Site, conf}
-use Rattle.seh_ir.specs.declared.scope.Names.{Names}
-use Rattle.seh_ir.specs.declared.scope.ExceptionSource.{ExceptionSource}
-use Rattle.seh_ir.specs.declared.scope.ExceptionSource.TheVariants.{NoException, OfFilter, KeptIn}
-use Rattle.seh_ir.specs.Expressions.{constant, copy, code_code, abnormal_code, node_code}
+use Rattle.ir_expressions.specs.declared.scope.Names.{Names}
+use Rattle.ir_expressions.specs.declared.scope.ExceptionSource.{ExceptionSource}
+use Rattle.ir_expressions.specs.declared.scope.ExceptionSource.TheVariants.{NoException, OfFilter, KeptIn}
+use Rattle.ir_expressions.specs.Expressions.{constant, copy, code_code, abnormal_code, node_code}
 use Rattle.ir_follows.specs.Fits.{NodeFits}
 use Rattle.ir_follows.proofs.Stores.{Shape, everywhere}
 use Rattle.ir_follows.specs.Places.{HasAt}

@@ -7,9 +7,9 @@ use Rattle.c_checked.specs.declared.expression.Conversion.TheVariants.{Kept, Ext
 use Rattle.c_checked.specs.Expression as nodes
 use Rattle.c_checked.specs.Expression.{Expression, On, Node, Lvalue, Local, Global, Indirection, Element, Arguments, Done, Next}
 use Rattle.linear_code.specs.declared.instruction.Instruction.{Instruction}
-use Rattle.seh_ir.specs.declared.scope.Names.{Names}
+use Rattle.ir_expressions.specs.declared.scope.Names.{Names}
 use Rattle.ir_sizes.specs.Sizes.{conversion_size, unary_size, address_count, read_size, address_size, expression_size, locate_size, arguments_size, node_size}
-use Rattle.seh_ir.specs.Expressions.{conversion_code, unary_code, read_code, address_code, expression_code, locate_code, arguments_code, node_code}
+use Rattle.ir_expressions.specs.Expressions.{conversion_code, unary_code, read_code, address_code, expression_code, locate_code, arguments_code, node_code}
 
 pub conversion_length : (c : Conversion) (d : ℕ) → length (conversion_code c d) ≡ conversion_size c
 conversion_length Kept d = refl

@@ -24,9 +24,9 @@ use Rattle.linear_machine.specs.Frames.{Store, Seen, pick, with_some, with_tempo
 use Rattle.linear_machine.specs.Instructions.{is_constant}
 use Rattle.linear_machine.specs.Run.{exec}
 use Rattle.linear_runs.proofs.Stretch.{Part, at, Site, conf, Ways, price, Claim, value_ways, more, first, then_value, still, fetch, prefix_self}
-use Rattle.seh_ir.specs.declared.scope.Names.{Names}
+use Rattle.ir_expressions.specs.declared.scope.Names.{Names}
 use Rattle.ir_sizes.specs.Sizes.{read_size, conversion_size, expression_size, locate_size}
-use Rattle.seh_ir.specs.Expressions.{constant, choice_code, conversion_code, expression_code, read_code, locate_code}
+use Rattle.ir_expressions.specs.Expressions.{constant, choice_code, conversion_code, expression_code, read_code, locate_code}
 use Rattle.ir_follows.specs.Fits.{ExpressionFits, LvalueFits}
 use Rattle.ir_follows.specs.Weights.{expression_weight, lvalue_weight}
 use Rattle.ir_follows.proofs.Stores.{Shape}

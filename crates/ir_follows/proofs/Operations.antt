@@ -28,9 +28,9 @@ use Rattle.linear_machine.specs.Searching.{raise}
 use Rattle.linear_machine.specs.Instructions.{is_constant, computed}
 use Rattle.linear_machine.specs.Run.{exec}
 use Rattle.linear_runs.proofs.Stretch.{Part, at, Site, conf, Kept, Ways, Price, price, Claim, value_ways, more, first, then_value, then_plain, still, stepped, prefix_self}
-use Rattle.seh_ir.specs.declared.scope.Names.{Names}
+use Rattle.ir_expressions.specs.declared.scope.Names.{Names}
 use Rattle.ir_sizes.specs.Sizes.{address_count, read_size, expression_size, locate_size}
-use Rattle.seh_ir.specs.Expressions.{size_of, combine, expression_code, load_code, read_code, write_code, locate_code}
+use Rattle.ir_expressions.specs.Expressions.{size_of, combine, expression_code, load_code, read_code, write_code, locate_code}
 use Rattle.ir_follows.specs.Fits.{LvalueFits}
 use Rattle.ir_follows.specs.Weights.{expression_weight, lvalue_weight}
 use Rattle.ir_follows.proofs.Stores.{Shape, memory_alike, local_set_alike, everywhere, kept_through, kept_set}

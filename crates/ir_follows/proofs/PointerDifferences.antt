@@ -17,9 +17,9 @@ use Rattle.linear_code.specs.Program.{LinearProgram}
 use Rattle.linear_machine.specs.Frames.{Store, with_temporary}
 use Rattle.linear_machine.specs.Run.{exec}
 use Rattle.linear_runs.proofs.Stretch.{Site, conf}
-use Rattle.seh_ir.specs.declared.scope.Names.{Names}
+use Rattle.ir_expressions.specs.declared.scope.Names.{Names}
 use Rattle.ir_sizes.specs.Sizes.{expression_size}
-use Rattle.seh_ir.specs.Expressions.{constant, combine, node_code}
+use Rattle.ir_expressions.specs.Expressions.{constant, combine, node_code}
 use Rattle.ir_follows.specs.Fits.{NodeFits}
 use Rattle.ir_follows.specs.Weights.{expression_weight, node_weight}
 use Rattle.ir_follows.proofs.Stores.{Shape}

@@ -25,9 +25,9 @@ use Rattle.linear_machine.specs.Instructions.{end_funclet}
 use Rattle.linear_machine.specs.Run.{exec}
 use Rattle.linear_runs.proofs.Stretch.{Part, at, Site, frame_of, conf, Picked, Kept, price, Price, Join, Ways, found, Reaches, unwound, Targets, Claim, value_ways, normal_ways, more, after, then_value, targets_more, finishes_more, stops_more, prefix_self, still, stepped, fetch, sooner, deep_claim}
 use Rattle.linear_runs.proofs.Walks.{picked_at, handlers_below, leaves}
-use Rattle.seh_ir.specs.declared.scope.Names.{Names}
+use Rattle.ir_expressions.specs.declared.scope.Names.{Names}
 use Rattle.ir_sizes.specs.Sizes.{expression_size}
-use Rattle.seh_ir.specs.Expressions.{expression_code}
+use Rattle.ir_expressions.specs.Expressions.{expression_code}
 use Rattle.ir_follows.specs.Weights.{expression_weight}
 use Rattle.ir_follows.proofs.Stores.{Shape, everywhere}
 use Rattle.ir_follows.specs.Places.{HasAt}

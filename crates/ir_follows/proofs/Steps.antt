@@ -21,9 +21,9 @@ use Rattle.linear_machine.specs.Searching.{begin_filter, raise}
 use Rattle.linear_machine.specs.Instructions.{is_constant}
 use Rattle.linear_machine.specs.Run.{exec}
 use Rattle.linear_runs.proofs.Stretch.{at, Site, conf, price, Claim, normal_ways, more, then_value, counted_claim, shown_deep}
-use Rattle.seh_ir.specs.declared.scope.Names.{Names}
+use Rattle.ir_expressions.specs.declared.scope.Names.{Names}
 use Rattle.ir_sizes.specs.Sizes.{conversion_size, expression_size, locate_size, node_size}
-use Rattle.seh_ir.specs.Expressions.{conversion_code, expression_code, locate_code, node_code}
+use Rattle.ir_expressions.specs.Expressions.{conversion_code, expression_code, locate_code, node_code}
 use Rattle.ir_follows.specs.Fits.{ExpressionFits, LvalueFits, NodeFits}
 use Rattle.ir_follows.specs.Weights.{expression_weight, lvalue_weight, node_weight}
 use Rattle.ir_follows.proofs.Stores.{Shape, everywhere}

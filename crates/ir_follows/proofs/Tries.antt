@@ -15,14 +15,14 @@ use Rattle.linear_machine.specs.Frames as machine
 use Rattle.linear_machine.specs.Regions.{handlers_of}
 use Rattle.linear_runs.proofs.Stretch.{Part, Site, Picked, Kept, Price, found, Arrives, Claim}
 use Rattle.linear_runs.proofs.Walks.{BlockAt, IsExcept, around_part}
-use Rattle.seh_ir.specs.declared.scope.Names.{Names}
-use Rattle.seh_ir.specs.declared.scope.ExceptionSource.{ExceptionSource}
-use Rattle.seh_ir.specs.declared.scope.Scope.{Scope}
-use Rattle.seh_ir.specs.declared.scope.ExceptionSource.TheVariants.{NoException, OfFilter, KeptIn}
-use Rattle.seh_ir.specs.declared.scope.Way.TheVariants.{Nowhere, Jumps, Unwinds}
-use Rattle.seh_ir.specs.Scope.{except_names, filter_names, finally_names, finally_scope, in_try, in_except, in_guarded}
-use Rattle.seh_ir.specs.declared.scope.Way as jumps
-use Rattle.seh_ir.specs.Scope as scopes
+use Rattle.ir_expressions.specs.declared.scope.Names.{Names}
+use Rattle.ir_expressions.specs.declared.scope.ExceptionSource.{ExceptionSource}
+use Rattle.ir_expressions.specs.declared.scope.Scope.{Scope}
+use Rattle.ir_expressions.specs.declared.scope.ExceptionSource.TheVariants.{NoException, OfFilter, KeptIn}
+use Rattle.ir_expressions.specs.declared.scope.Way.TheVariants.{Nowhere, Jumps, Unwinds}
+use Rattle.ir_expressions.specs.Scope.{except_names, filter_names, finally_names, finally_scope, in_try, in_except, in_guarded}
+use Rattle.ir_expressions.specs.declared.scope.Way as jumps
+use Rattle.ir_expressions.specs.Scope as scopes
 use Rattle.seh_ir.specs.Regions.{except_kind, region}
 use Rattle.ir_follows.proofs.Stores.{Shape, NotesKept, below_slot, kept_set, kept_through, kept_fewer, kept_itself, note_read, note_set_alike}
 use Rattle.ir_follows.proofs.Environments.{CodeBound, code_kept, code_among, flag_kept, flag_among, Match, match_kept, match_among}

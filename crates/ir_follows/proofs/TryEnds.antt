@@ -20,11 +20,11 @@ use Rattle.linear_machine.specs.Searching.{target_of}
 use Rattle.linear_machine.specs.Run.{exec}
 use Rattle.linear_runs.proofs.Stretch.{Part, at, Site, conf, Picked, Kept, Price, price, found, Reaches, unwound, Arrives, Claim, onto, stepped, first, fetch, prefix_self, after, sooner, reaches_after, reaches_more, arrives_more, finishes_more, stops_more}
 use Rattle.linear_runs.proofs.Walks.{Around, Inside, Outward, Meets, meets_own, picked_less, picked_inside, skips, lands}
-use Rattle.seh_ir.specs.declared.scope.Names.{Names}
-use Rattle.seh_ir.specs.declared.scope.Scope.{Scope}
-use Rattle.seh_ir.specs.declared.scope.Way.TheVariants.{Nowhere, Jumps, Unwinds}
-use Rattle.seh_ir.specs.Scope.{in_try}
-use Rattle.seh_ir.specs.declared.scope.Way as jumps
+use Rattle.ir_expressions.specs.declared.scope.Names.{Names}
+use Rattle.ir_expressions.specs.declared.scope.Scope.{Scope}
+use Rattle.ir_expressions.specs.declared.scope.Way.TheVariants.{Nowhere, Jumps, Unwinds}
+use Rattle.ir_expressions.specs.Scope.{in_try}
+use Rattle.ir_expressions.specs.declared.scope.Way as jumps
 use Rattle.seh_ir.specs.Regions.{except_kind, region}
 use Rattle.ir_follows.proofs.Stores.{Shape}
 use Rattle.ir_follows.specs.Places.{HasAt}

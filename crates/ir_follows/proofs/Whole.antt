@@ -27,7 +27,7 @@ use Rattle.linear_machine.specs.Run.{main_arguments, start, seen, shown, exec}
 use Rattle.linear_runs.proofs.Longer.{events_of, More, longer}
 use Rattle.linear_runs.proofs.Stretch.{Part, at, Site, conf, Kept, price, Claim, Stops, Prefix, fetch}
 use Rattle.ir_sizes.specs.Sizes.{statements_size, statements_notes}
-use Rattle.seh_ir.specs.Expressions.{constant}
+use Rattle.ir_expressions.specs.Expressions.{constant}
 use Rattle.seh_ir.specs.Lowered.{own_locals, scope_of}
 use Rattle.ir_follows.specs.Laws.{Follows, NoMore, LinkedFollows}
 use Rattle.ir_follows.specs.Weights.{statements_weight}

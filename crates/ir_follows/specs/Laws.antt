@@ -14,15 +14,21 @@ use Rattle.ir_follows.specs.Placed.{IsLinked}
 abbrev pub Follows : Program → LinearProgram → Type 0
 Follows program linear =
     (arg : ℤ) (n turns : ℕ) → 16 * n + 2 ≤ turns
-    → IsPrefixOf (meaning program arg n).events (linear_meaning linear arg turns).events × ((e : Ended) → (meaning program arg n).end ≡ Some e → linear_meaning linear arg turns ≡ meaning program arg n)
+    → IsPrefixOf (meaning program arg n).events (linear_meaning linear arg turns).events
+    × ((e : Ended) → (meaning program arg n).end ≡ Some e
+    → linear_meaning linear arg turns ≡ meaning program arg n)
 
 -- m turns have shown no more than so many steps have, and end only as they end; no run is stuck
 abbrev pub NoMore : Program → LinearProgram → ℕ → Type 0
 NoMore program linear pace =
     (arg : ℤ) (m n : ℕ) → (m + 1) * pace ≤ n
-    → IsPrefixOf (linear_meaning linear arg m).events (meaning program arg n).events × ((e : Ended) → (linear_meaning linear arg m).end ≡ Some e → meaning program arg n ≡ linear_meaning linear arg m)
+    → IsPrefixOf (linear_meaning linear arg m).events (meaning program arg n).events
+    × ((e : Ended) → (linear_meaning linear arg m).end ≡ Some e
+    → meaning program arg n ≡ linear_meaning linear arg m)
     × ((es : List Event) → seen linear arg m ≡ Stuck es → ⊥)
 
 -- the linear code of a program does what the program means, and nothing more
 abbrev pub LinkedFollows : Type 0
-LinkedFollows = (program : Program) (linear : LinearProgram) (pace body : ℕ) → IsLinked program linear pace body → Follows program linear × NoMore program linear pace
+LinkedFollows =
+    (program : Program) (linear : LinearProgram) (pace body : ℕ) → IsLinked program linear pace body
+    → Follows program linear × NoMore program linear pace

@@ -10,4 +10,6 @@ use Rattle.linear_machine.specs.Run.{instruction_in}
 -- these instructions are at a place of a body, each inside these regions
 abbrev pub HasAt : LinearProgram → BodyName → List Region → ℕ → List Instruction → Type 0
 HasAt linear body regions pc [] = Unit {0}
-HasAt linear body regions pc (i ∷ is) = (instruction_in (body_of linear body) pc ≡ Some i) × (regions_at linear body pc ≡ regions) × HasAt linear body regions (pc + 1) is
+HasAt linear body regions pc (i ∷ is) =
+    (instruction_in (body_of linear body) pc ≡ Some i) × (regions_at linear body pc ≡ regions)
+    × HasAt linear body regions (pc + 1) is

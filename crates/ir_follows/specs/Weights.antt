@@ -1,4 +1,5 @@
--- How many steps of the meaning an expression or a statement may begin without a turn of its linear code.
+-- How many steps of the meaning an expression or a statement may begin without a turn of its linear
+-- code.
 use Rattle.std.specs.Prelude.{ℕ, ◌+◌, List, [], ◌∷◌, Option, None, Some}
 use Rattle.c_checked.specs.Expression as nodes
 use Rattle.c_checked.specs.Expression.{Expression, On, Node, Lvalue, Local, Global, Indirection, Element, Arguments, Done, Next}
@@ -32,7 +33,8 @@ abbrev mutual
   node_weight (nodes.Not e) = expression_weight e
   node_weight (nodes.And e f) = expression_weight e + expression_weight f
   node_weight (nodes.Or e f) = expression_weight e + expression_weight f
-  node_weight (nodes.Conditional c e f) = expression_weight c + expression_weight e + expression_weight f
+  node_weight (nodes.Conditional c e f) =
+      expression_weight c + expression_weight e + expression_weight f
   node_weight (nodes.Comma e f) = expression_weight e + expression_weight f
   node_weight (nodes.Call f es) = arguments_weight es
   node_weight (nodes.CallBuiltIn k es) = arguments_weight es
@@ -63,14 +65,18 @@ abbrev mutual
   statement_weight (Block ss) = 1 + statements_weight ss
   statement_weight (Evaluate e) = 1 + optional_weight e
   statement_weight (If c s) = 1 + expression_weight c + statement_weight s
-  statement_weight (IfElse c s t) = 1 + expression_weight c + statement_weight s + statement_weight t
-  statement_weight (For ds first c next s) = 2 + all_declared_weight ds + optional_weight first + optional_weight c + statement_weight s + optional_weight next
+  statement_weight (IfElse c s t) =
+      1 + expression_weight c + statement_weight s + statement_weight t
+  statement_weight (For ds first c next s) =
+      2 + all_declared_weight ds + optional_weight first + optional_weight c + statement_weight s
+      + optional_weight next
   statement_weight (DoWhile s c) = 2 + statement_weight s + expression_weight c
   statement_weight (Return e) = 1 + optional_weight e
   statement_weight Break = 1
   statement_weight Continue = 1
   statement_weight Leave = 1
-  statement_weight (TryExcept body filter block) = 2 + statements_weight body + filter_weight filter + statements_weight block
+  statement_weight (TryExcept body filter block) =
+      2 + statements_weight body + filter_weight filter + statements_weight block
   statement_weight (TryFinally body k last) = 3 + statements_weight body + statements_weight last
 
   pub statements_weight : Statements → ℕ

@@ -2,8 +2,9 @@
 
 ghost use Rattle.ir_follows.specs.Laws.{LinkedFollows};
 
-/// From so many turns on, linear code in which each function of a program stands has shown the events that the program's
-/// steps show, and has ended as they end; it shows nothing more, and is never stuck.
+/// From so many turns on, linear code in which each function of a program stands has shown the
+/// events that the program's steps show, and has ended as they end; it shows nothing more, and is
+/// never stuck.
 pub fn linked_follows()
     ensures follows { LinkedFollows }
 {}

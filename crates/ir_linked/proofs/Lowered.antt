@@ -12,7 +12,7 @@ use Rattle.linear_code.specs.declared.instruction.Instruction.TheVariants as ins
 use Rattle.linear_machine.specs.Frames.{FunctionBody, function_body, body_of}
 use Rattle.seh_ir.specs.declared.funclets.Owner.{Owner}
 use Rattle.ir_sizes.specs.Sizes.{statements_size}
-use Rattle.seh_ir.specs.Expressions.{constant}
+use Rattle.ir_expressions.specs.Expressions.{constant}
 use Rattle.seh_ir.specs.Statements.{statements_code}
 use Rattle.seh_ir.specs.Regions.{statements_regions}
 use Rattle.seh_ir.specs.Funclets.{statements_funclets}

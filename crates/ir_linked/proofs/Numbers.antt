@@ -5,8 +5,8 @@ use Rattle.std.specs.Prelude.{Bool, true, ◌&&◌}
 use Rattle.c_checked.specs.Sound.{funclets_in, funclets, filter_funclet, count_up}
 use Rattle.c_checked.specs.Statement.{Filter, Always, Funclet, Statement, Declare, Block, Evaluate, If, IfElse, For, DoWhile, Return, Break, Continue, Leave, TryExcept, TryFinally, Statements, Empty, Then}
 use Rattle.seh_ir.specs.declared.funclets.Owner.{Owner}
-use Rattle.seh_ir.specs.declared.scope.Names.{Names}
-use Rattle.seh_ir.specs.Scope.{except_names, filter_names, finally_names}
+use Rattle.ir_expressions.specs.declared.scope.Names.{Names}
+use Rattle.ir_expressions.specs.Scope.{except_names, filter_names, finally_names}
 use Rattle.seh_ir.specs.Funclets.{filter_funclets, finally_funclet, in_funclet, statement_funclets, statements_funclets}
 use Rattle.ir_linked.proofs.SoundExpressions.{both_left, both_right}
 

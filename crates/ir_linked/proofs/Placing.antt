@@ -19,18 +19,18 @@ use Rattle.linear_machine.specs.Frames.{BodyName, FuncletBody, funclet_body, bod
 use Rattle.linear_machine.specs.Regions.{regions_of, regions_at}
 use Rattle.linear_machine.specs.Run.{instruction_in}
 use Rattle.seh_ir.specs.declared.funclets.Owner.{Owner}
-use Rattle.seh_ir.specs.declared.scope.Names.{Names}
-use Rattle.seh_ir.specs.declared.scope.Way.{Way}
-use Rattle.seh_ir.specs.declared.scope.Way.TheVariants.{Nowhere, Jumps, Unwinds}
-use Rattle.seh_ir.specs.declared.scope.Scope.{Scope}
-use Rattle.seh_ir.specs.Scope.{except_names, filter_names, finally_names, unwound, finally_scope, in_loop, in_try, in_except, in_guarded}
+use Rattle.ir_expressions.specs.declared.scope.Names.{Names}
+use Rattle.ir_expressions.specs.declared.scope.Way.{Way}
+use Rattle.ir_expressions.specs.declared.scope.Way.TheVariants.{Nowhere, Jumps, Unwinds}
+use Rattle.ir_expressions.specs.declared.scope.Scope.{Scope}
+use Rattle.ir_expressions.specs.Scope.{except_names, filter_names, finally_names, unwound, finally_scope, in_loop, in_try, in_except, in_guarded}
 use Rattle.ir_sizes.specs.Sizes.{expression_size, discarded_size, condition_size, declared_size, all_declared_size, returned_size, statement_size, statements_size}
-use Rattle.seh_ir.specs.Expressions.{expression_code}
+use Rattle.ir_expressions.specs.Expressions.{expression_code}
 use Rattle.seh_ir.specs.Statements.{jump_code, return_code, leave_code, discarded_code, returned_code, condition_code, declared_code, all_declared_code, landed, repeated, statement_code, statements_code}
 use Rattle.seh_ir.specs.Regions.{except_kind, region, statement_regions, statements_regions}
 use Rattle.seh_ir.specs.Funclets as funclets_of
 use Rattle.seh_ir.specs.Funclets.{filter_funclets, finally_funclet, in_funclet, statement_funclets, statements_funclets}
-use Rattle.seh_ir.proofs.Codes.{expression_length}
+use Rattle.ir_expressions.proofs.Codes.{expression_length}
 use Rattle.seh_ir.proofs.StatementCodes.{jump_length, return_length, discarded_length, returned_length, condition_length, declared_length, all_declared_length, statement_length, statements_length}
 use Rattle.ir_follows.specs.Places.{HasAt}
 use Rattle.ir_follows.specs.Placed.{IsWay, IsPlace, OptionalFits, DeclaredPlaced, AllDeclaredPlaced, FilterPlaced, Placed, AllPlaced}

@@ -16,7 +16,7 @@ use Rattle.c_checked.specs.Expression.{Expression, On, Node, Lvalue, Local, Glob
 use Rattle.c_checked.specs.Program.{Program, Function}
 use Rattle.c_checked.specs.Sound.{Scope, is_number, are_sizes, size_after, unary_takes, takes, built_in_takes, constant_fits, amount_fits, change_fits, call_fits, expression_size, lvalue_size, argument_sizes, expression_sound, node_sound, lvalue_sound, arguments_sound}
 use Rattle.linear_machine.specs.Instructions.{is_constant, count_of}
-use Rattle.seh_ir.specs.Expressions.{argument_count}
+use Rattle.ir_expressions.specs.Expressions.{argument_count}
 use Rattle.ir_follows.specs.Fits.{IsCalled, ExpressionFits, LvalueFits, ArgumentsFit, NodeFits}
 
 -- ---- tests of several parts

@@ -8,7 +8,9 @@ use Rattle.ir_linked.specs.Pace.{weight_of, pace_of}
 
 -- each function stands in the code, and each funclet
 abbrev pub LoweredIsLinked : Type 0
-LoweredIsLinked = (program : Program) → IsSound program → IsLinked program (lowered program) (pace_of program) (weight_of program.functions)
+LoweredIsLinked =
+    (program : Program) → IsSound program
+    → IsLinked program (lowered program) (pace_of program) (weight_of program.functions)
 
 -- from 16 n + 2 turns on the code has shown what n steps show, and has ended as they end
 abbrev pub LoweredFollows : Type 0
@@ -16,4 +18,5 @@ LoweredFollows = (program : Program) → IsSound program → Follows program (lo
 
 -- m turns have shown no more than (m + 1) paces of steps, and no run is stuck
 abbrev pub LoweredShowsNoMore : Type 0
-LoweredShowsNoMore = (program : Program) → IsSound program → NoMore program (lowered program) (pace_of program)
+LoweredShowsNoMore =
+    (program : Program) → IsSound program → NoMore program (lowered program) (pace_of program)

@@ -7,14 +7,14 @@ pub fn is_linked()
     ensures linked { LoweredIsLinked }
 {}
 
-/// From 16 n + 2 turns on the linear code of a sound program has shown the events of n steps, and has
-/// ended as they end.
+/// From 16 n + 2 turns on the linear code of a sound program has shown the events of n steps, and
+/// has ended as they end.
 pub fn follows()
     ensures follows { LoweredFollows }
 {}
 
-/// The turns of the linear code show no more than the program's steps, at most a pace of steps for each
-/// turn and for one more; it ends only as they end, and is never stuck.
+/// The turns of the linear code show no more than the program's steps, at most a pace of steps for
+/// each turn and for one more; it ends only as they end, and is never stuck.
 pub fn no_more()
     ensures no_more { LoweredShowsNoMore }
 {}

@@ -14,11 +14,11 @@ use Rattle.c_checked.specs.Expression.{Expression, On, Node, Lvalue, Global, Ind
 use Rattle.c_checked.specs.Program.{Program}
 use Rattle.linear_code.specs.declared.slot.Slot.TheVariants.{Temporary}
 use Rattle.linear_code.specs.declared.instruction.Instruction.{Instruction}
-use Rattle.seh_ir.specs.declared.scope.ExceptionSource.{ExceptionSource}
-use Rattle.seh_ir.specs.declared.scope.ExceptionSource.TheVariants.{NoException, OfFilter, KeptIn}
-use Rattle.seh_ir.specs.declared.scope.Names.{Names}
+use Rattle.ir_expressions.specs.declared.scope.ExceptionSource.{ExceptionSource}
+use Rattle.ir_expressions.specs.declared.scope.ExceptionSource.TheVariants.{NoException, OfFilter, KeptIn}
+use Rattle.ir_expressions.specs.declared.scope.Names.{Names}
 use Rattle.ir_sizes.specs.Sizes.{address_count, locate_size, read_size, conversion_size, expression_size}
-use Rattle.seh_ir.specs.Expressions.{constant, copy, combine, conversion_code, unary_code, choice_code, code_code, abnormal_code, read_code, write_code, address_code, chosen_of, expression_code, locate_code, arguments_code, node_code}
+use Rattle.ir_expressions.specs.Expressions.{constant, copy, combine, conversion_code, unary_code, choice_code, code_code, abnormal_code, read_code, write_code, address_code, chosen_of, expression_code, locate_code, arguments_code, node_code}
 use Rattle.ir_follows.specs.Fits.{ExpressionFits, LvalueFits, ArgumentsFit, NodeFits}
 use Rattle.ir_bounds.proofs.PlainExpressions.{all_append}
 use Rattle.ir_places.specs.Blind.{IsBlind}

@@ -7,8 +7,8 @@ use Rattle.c_checked.specs.Statement.{Filter, Always, Funclet, Statement, Declar
 use Rattle.linear_code.specs.Program.{LinearFunclet}
 use Rattle.ir_sizes.specs.Sizes.{statement_notes, statements_notes}
 use Rattle.seh_ir.specs.declared.funclets.Owner.{Owner}
-use Rattle.seh_ir.specs.declared.scope.Names.{Names}
-use Rattle.seh_ir.specs.Scope.{except_names, filter_names, finally_names}
+use Rattle.ir_expressions.specs.declared.scope.Names.{Names}
+use Rattle.ir_expressions.specs.Scope.{except_names, filter_names, finally_names}
 use Rattle.seh_ir.specs.Funclets.{filter_funclets, in_funclet, statement_funclets, statements_funclets}
 use Rattle.seh_ir.specs.Lowered.{all_locals, scope_of, lowered_funclets, all_funclets, lowered}
 use Rattle.ir_bounds.specs.Slots.{HasFlag}

@@ -8,4 +8,6 @@ use Rattle.linear_machine.specs.Regions.{holds}
 use Rattle.ir_typed.specs.Apart.{is_call}
 
 abbrev pub HasSameRegions : LinearBody → Type 0
-HasSameRegions b = (label : ℕ) (i : Instruction) → slice_get b.code label ≡ Some i → is_call i ≡ true → AllByRecursion (λ (r : Region). holds (label + 1) r ≡ holds label r) b.regions
+HasSameRegions b =
+    (label : ℕ) (i : Instruction) → slice_get b.code label ≡ Some i → is_call i ≡ true
+    → AllByRecursion (λ (r : Region). holds (label + 1) r ≡ holds label r) b.regions

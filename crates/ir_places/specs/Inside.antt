@@ -5,4 +5,6 @@ use Rattle.linear_code.specs.Program.{LinearBody}
 
 -- to an instruction of their body
 abbrev pub StaysInside : LinearBody → Type 0
-StaysInside b = (label to : ℕ) → slice_get b.code label ≡ Some (instructions.LocalUnwind to) → to < length b.code
+StaysInside b =
+    (label to : ℕ) → slice_get b.code label ≡ Some (instructions.LocalUnwind to)
+    → to < length b.code

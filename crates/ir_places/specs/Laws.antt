@@ -15,20 +15,32 @@ use Rattle.ir_places.specs.Inside.{StaysInside}
 use Rattle.ir_places.specs.Blind.{IsFilter}
 
 abbrev pub LoweredIsFollowed : Type 0
-LoweredIsFollowed = (program : Program) (name : BodyName) (b : LinearBody) → body_of (lowered program) name ≡ Some b → IsFollowed b
+LoweredIsFollowed =
+    (program : Program) (name : BodyName) (b : LinearBody) → body_of (lowered program) name ≡ Some b
+    → IsFollowed b
 
 abbrev pub LoweredHasSameRegions : Type 0
-LoweredHasSameRegions = (program : Program) (name : BodyName) (b : LinearBody) → body_of (lowered program) name ≡ Some b → HasSameRegions b
+LoweredHasSameRegions =
+    (program : Program) (name : BodyName) (b : LinearBody) → body_of (lowered program) name ≡ Some b
+    → HasSameRegions b
 
 abbrev pub LoweredStaysInside : Type 0
-LoweredStaysInside = (program : Program) (name : BodyName) (b : LinearBody) → body_of (lowered program) name ≡ Some b → StaysInside b
+LoweredStaysInside =
+    (program : Program) (name : BodyName) (b : LinearBody) → body_of (lowered program) name ≡ Some b
+    → StaysInside b
 
--- the flag that says how a `__finally` block is run (Microsoft C language reference, `AbnormalTermination`) is a local of its body
+-- the flag that says how a `__finally` block is run (Microsoft C language reference,
+-- `AbnormalTermination`) is a local of its body
 abbrev pub LoweredHasFlags : Type 0
-LoweredHasFlags = (program : Program) (k flag : ℕ) (f : LinearFunclet) → slice_get (lowered program).funclets k ≡ Some f → f.kind ≡ Finally flag → flag < f.body.locals
+LoweredHasFlags =
+    (program : Program) (k flag : ℕ) (f : LinearFunclet)
+    → slice_get (lowered program).funclets k ≡ Some f → f.kind ≡ Finally flag → flag < f.body.locals
 
 -- only filters read their exception
 abbrev pub LoweredInformsFilters : Type 0
 LoweredInformsFilters =
-    (program : Program) → IsSound program → (name : BodyName) (b : LinearBody) (label : ℕ) (to : Slot) (field : Field)
-    → body_of (lowered program) name ≡ Some b → slice_get b.code label ≡ Some (instructions.Information to field) → IsFilter (lowered program) name
+    (program : Program) → IsSound program
+    → (name : BodyName) (b : LinearBody) (label : ℕ) (to : Slot) (field : Field)
+    → body_of (lowered program) name ≡ Some b
+    → slice_get b.code label ≡ Some (instructions.Information to field)
+    → IsFilter (lowered program) name

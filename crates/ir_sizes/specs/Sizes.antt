@@ -60,16 +60,19 @@ abbrev mutual
   node_size (nodes.AddressOf p) = address_size p (locate_size p)
   node_size (nodes.Assign p e) = locate_size p + (expression_size e + 1)
   node_size (nodes.CompoundAssign p before o e after) =
-      locate_size p + (read_size p + (conversion_size before + (expression_size e + (1 + (conversion_size after + 1)))))
+      locate_size p + (read_size p + (conversion_size before
+      + (expression_size e + (1 + (conversion_size after + 1)))))
   node_size (nodes.Increment m p before o n after) =
-      locate_size p + (read_size p + (1 + (conversion_size before + (2 + (conversion_size after + 2)))))
+      locate_size p + (read_size p + (1 + (conversion_size before
+      + (2 + (conversion_size after + 2)))))
   node_size (nodes.Unary o e) = expression_size e + unary_size o
   node_size (nodes.Binary o e f) = expression_size e + (expression_size f + 1)
   node_size (nodes.PointerDifference n e f) = expression_size e + (expression_size f + 3)
   node_size (nodes.Not e) = expression_size e + 4
   node_size (nodes.And e f) = expression_size e + (1 + (expression_size f + 4))
   node_size (nodes.Or e f) = expression_size e + (3 + (expression_size f + 4))
-  node_size (nodes.Conditional c e f) = expression_size c + (1 + (expression_size e + (1 + expression_size f)))
+  node_size (nodes.Conditional c e f) =
+      expression_size c + (1 + (expression_size e + (1 + expression_size f)))
   node_size (nodes.Comma e f) = expression_size e + (expression_size f + 1)
   node_size (nodes.Call f es) = arguments_size es + 1
   node_size (nodes.CallBuiltIn k es) = arguments_size es + 1
@@ -106,9 +109,11 @@ abbrev mutual
   statement_size (Block ss) = statements_size ss
   statement_size (Evaluate e) = discarded_size e
   statement_size (If c s) = expression_size c + (1 + statement_size s)
-  statement_size (IfElse c s t) = expression_size c + (1 + (statement_size s + (1 + statement_size t)))
+  statement_size (IfElse c s t) =
+      expression_size c + (1 + (statement_size s + (1 + statement_size t)))
   statement_size (For ds first c next s) =
-      all_declared_size ds + (discarded_size first + (condition_size c + (statement_size s + (1 + (discarded_size next + 1)))))
+      all_declared_size ds + (discarded_size first + (condition_size c
+      + (statement_size s + (1 + (discarded_size next + 1)))))
   statement_size (DoWhile s c) = statement_size s + (1 + (expression_size c + 2))
   statement_size (Return e) = returned_size e + 2
   statement_size Break = 2
@@ -136,7 +141,8 @@ abbrev mutual
   statement_notes Break = 0
   statement_notes Continue = 0
   statement_notes Leave = 0
-  statement_notes (TryExcept body filter block) = max (statements_notes body) (1 + statements_notes block)
+  statement_notes (TryExcept body filter block) =
+      max (statements_notes body) (1 + statements_notes block)
   statement_notes (TryFinally body k last) = max (statements_notes body) (1 + statements_notes last)
 
   pub statements_notes : Statements → ℕ

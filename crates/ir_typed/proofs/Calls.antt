@@ -15,11 +15,11 @@ use Rattle.linear_code.specs.declared.slot.Slot.TheVariants.{Temporary}
 use Rattle.linear_code.specs.declared.instruction.Instruction.{Instruction}
 use Rattle.linear_code.specs.Program.{LinearProgram}
 use Rattle.linear_machine.specs.Frames.{BodyName}
-use Rattle.seh_ir.specs.declared.scope.ExceptionSource.{ExceptionSource}
-use Rattle.seh_ir.specs.declared.scope.ExceptionSource.TheVariants.{NoException, OfFilter, KeptIn}
-use Rattle.seh_ir.specs.declared.scope.Names.{Names}
+use Rattle.ir_expressions.specs.declared.scope.ExceptionSource.{ExceptionSource}
+use Rattle.ir_expressions.specs.declared.scope.ExceptionSource.TheVariants.{NoException, OfFilter, KeptIn}
+use Rattle.ir_expressions.specs.declared.scope.Names.{Names}
 use Rattle.ir_sizes.specs.Sizes.{address_count, locate_size, read_size, conversion_size, expression_size}
-use Rattle.seh_ir.specs.Expressions.{conversion_code, unary_code, choice_code, code_code, abnormal_code, read_code, write_code, address_code, expression_code, locate_code, arguments_code, node_code}
+use Rattle.ir_expressions.specs.Expressions.{conversion_code, unary_code, choice_code, code_code, abnormal_code, read_code, write_code, address_code, expression_code, locate_code, arguments_code, node_code}
 use Rattle.ir_follows.specs.Fits.{IsCalled, ExpressionFits, LvalueFits, ArgumentsFit, NodeFits}
 use Rattle.ir_bounds.proofs.PlainExpressions.{all_append}
 use Rattle.ir_typed.specs.Bodies.{ReadsWell, IsCallee, IsInstructionOf}

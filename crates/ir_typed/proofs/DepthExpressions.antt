@@ -10,12 +10,12 @@ use Rattle.c_checked.specs.Expression.{Expression, On, Node, Lvalue, Global, Ind
 use Rattle.linear_code.specs.declared.slot.Slot.TheVariants.{Temporary}
 use Rattle.linear_code.specs.declared.instruction.Instruction.{Instruction}
 use Rattle.linear_code.specs.declared.instruction.Instruction.TheVariants as instructions
-use Rattle.seh_ir.specs.declared.scope.ExceptionSource.{ExceptionSource}
-use Rattle.seh_ir.specs.declared.scope.ExceptionSource.TheVariants.{NoException, OfFilter, KeptIn}
-use Rattle.seh_ir.specs.declared.scope.Names.{Names}
+use Rattle.ir_expressions.specs.declared.scope.ExceptionSource.{ExceptionSource}
+use Rattle.ir_expressions.specs.declared.scope.ExceptionSource.TheVariants.{NoException, OfFilter, KeptIn}
+use Rattle.ir_expressions.specs.declared.scope.Names.{Names}
 use Rattle.ir_sizes.specs.Sizes.{address_count, locate_size, read_size, conversion_size, expression_size}
-use Rattle.seh_ir.specs.Expressions.{constant, combine, conversion_code, unary_code, choice_code, code_code, abnormal_code, read_code, write_code, address_code, argument_count, expression_code, locate_code, arguments_code, node_code}
-use Rattle.seh_ir.proofs.Codes.{expression_length, locate_length, conversion_length, read_length}
+use Rattle.ir_expressions.specs.Expressions.{constant, combine, conversion_code, unary_code, choice_code, code_code, abnormal_code, read_code, write_code, address_code, argument_count, expression_code, locate_code, arguments_code, node_code}
+use Rattle.ir_expressions.proofs.Codes.{expression_length, locate_length, conversion_length, read_length}
 use Rattle.ir_typed.specs.Depths.{after}
 use Rattle.ir_typed.proofs.Scans.{past, past_to, past_both, Scans, scan_start, scan_moved, scan_front, scan_back, scan_end, Leads, AllLead, lead_both, lead_moved}
 

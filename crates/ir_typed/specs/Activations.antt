@@ -20,7 +20,9 @@ module _ (program : LinearProgram) where
   -- an activation of the function that a body works on; a function's own is the innermost
   abbrev pub WorksOn : Frame → BodyName → List ℕ → Type 0
   WorksOn f (FunctionBody k) owners = f.activation ≡ length owners
-  WorksOn f (FuncletBody k) owners = (function : ℕ) × (owner_of program (FuncletBody k) ≡ Some function) × (slice_get owners f.activation ≡ Some function)
+  WorksOn f (FuncletBody k) owners =
+      (function : ℕ) × (owner_of program (FuncletBody k) ≡ Some function)
+      × (slice_get owners f.activation ≡ Some function)
 
   abbrev pub AreWorking : List Item → Type 0
   AreWorking [] = Unit {0}

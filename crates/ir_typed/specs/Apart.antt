@@ -1,4 +1,5 @@
--- A call and the instruction after it are inside the same regions, so that the return address of a body that waits in a call is.
+-- A call and the instruction after it are inside the same regions, so that the return address of a
+-- body that waits in a call is.
 use Rattle.std.specs.Prelude.{◌≡◌, ℕ, ◌+◌, ◌<◌, Bool, true, false, length, filter, slice_get, Some}
 use Rattle.linear_code.specs.declared.instruction.Instruction.{Instruction}
 use Rattle.linear_code.specs.declared.instruction.Instruction.TheVariants as instructions
@@ -15,8 +16,10 @@ is_call (instructions.LocalUnwind label) = true
 is_call i = false
 
 pub record IsApart (b : LinearBody) : Type 0 where
-  pub within : (label : ℕ) (i : Instruction) → slice_get b.code label ≡ Some i → is_call i ≡ true → label + 1 < length b.code
-  pub regions : (label : ℕ) (i : Instruction) → slice_get b.code label ≡ Some i → is_call i ≡ true → filter (holds (label + 1)) b.regions ≡ filter (holds label) b.regions
+  pub within : (label : ℕ) (i : Instruction) → slice_get b.code label ≡ Some i → is_call i ≡ true
+      → label + 1 < length b.code
+  pub regions : (label : ℕ) (i : Instruction) → slice_get b.code label ≡ Some i → is_call i ≡ true
+      → filter (holds (label + 1)) b.regions ≡ filter (holds label) b.regions
 
 -- all bodies
 abbrev pub AreApart : LinearProgram → Type 0

@@ -57,12 +57,15 @@ module _ (program : LinearProgram) where
 
   -- an `__except` block begins at this label of a body
   abbrev pub IsLanding : BodyName → ℕ → Type 0
-  IsLanding name label = (slot : ℕ) × (instruction_in (body_of program name) label ≡ Some (instructions.Landing (Local slot)))
+  IsLanding name label =
+      (slot : ℕ) × (instruction_in (body_of program name) label
+      ≡ Some (instructions.Landing (Local slot)))
 
   -- its funclet is one of the body, and its block begins where it ends
   abbrev pub IsKindOf : BodyName → ℕ → RegionKind → Type 0
   IsKindOf name end (kinds.Finally k) = IsFuncletOf name IsFinally k
-  IsKindOf name end (kinds.Filter k target) = IsFuncletOf name IsFilter k × IsLanding name target × (target ≡ end)
+  IsKindOf name end (kinds.Filter k target) =
+      IsFuncletOf name IsFilter k × IsLanding name target × (target ≡ end)
   IsKindOf name end (kinds.Always target) = IsLanding name target × (target ≡ end)
 
   pub record IsRegionOf (name : BodyName) (r : Region) : Type 0 where
@@ -75,7 +78,8 @@ module _ (program : LinearProgram) where
     pub there : slice_get program.functions f ≡ Some function
     pub takes : count ≡ function.parameters
 
-  -- what an instruction of a body calls is there; an operation that may fault reads temporaries alone, which no filter changes
+  -- what an instruction of a body calls is there; an operation that may fault reads temporaries
+  -- alone, which no filter changes
   abbrev pub IsInstructionOf : BodyName → Instruction → Type 0
   IsInstructionOf name (instructions.Compute to o first second) = ReadsWell o first second
   IsInstructionOf name (instructions.Call f first count) = IsCallee f count
@@ -92,5 +96,7 @@ module _ (program : LinearProgram) where
   -- all bodies; parameters are locals, and `main` has one at most
   pub record IsWhole : Type 0 where
     pub bodies : AreBodies
-    pub parameters : (k : ℕ) (f : LinearFunction) → slice_get program.functions k ≡ Some f → f.parameters ≤ f.body.locals
-    pub few : (main : LinearFunction) → slice_get program.functions program.main ≡ Some main → main.parameters ≤ 1
+    pub parameters : (k : ℕ) (f : LinearFunction) → slice_get program.functions k ≡ Some f
+        → f.parameters ≤ f.body.locals
+    pub few : (main : LinearFunction) → slice_get program.functions program.main ≡ Some main
+        → main.parameters ≤ 1

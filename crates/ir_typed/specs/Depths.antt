@@ -18,7 +18,8 @@ abbrev pub with_tested : Slot → ℕ → ℕ
 with_tested (Local x) d = d
 with_tested (Temporary i) d = i
 
--- how many are held at the instruction after this one in the text; after a jump that is the other part of a choice, which has the temporary yet to write
+-- how many are held at the instruction after this one in the text; after a jump that is the other
+-- part of a choice, which has the temporary yet to write
 abbrev pub after : Instruction → ℕ → ℕ
 after (instructions.Compute to o first second) d = with_written to d
 after (instructions.Information to field) d = with_written to d
@@ -56,7 +57,9 @@ module _ (program : LinearProgram) where
 
   -- a body that waits
   abbrev pub WaitsDeep : Frame → Type 0
-  WaitsDeep f = length f.temporaries + taken (instruction_in (body_of program f.body) f.next) ≡ depth f.body f.next
+  WaitsDeep f =
+      length f.temporaries + taken (instruction_in (body_of program f.body) f.next)
+      ≡ depth f.body f.next
 
   abbrev pub AreDeep : List Item → Type 0
   AreDeep [] = Unit {0}

@@ -15,13 +15,17 @@ use Rattle.ir_typed.specs.Depths.{HasDepths}
 use Rattle.ir_typed.specs.Room.{HaveRoom}
 use Rattle.ir_typed.specs.Apart.{AreApart}
 
--- the funclets that bodies name are theirs, each call has as many arguments as its function takes, and what may fault reads temporaries alone
+-- the funclets that bodies name are theirs, each call has as many arguments as its function takes,
+-- and what may fault reads temporaries alone
 abbrev pub LoweredIsWhole : Type 0
 LoweredIsWhole = (program : Program) → IsSound program → IsWhole (lowered program)
 
--- where a program is nested within the limits, the slots of each body are enough for what its instructions do
+-- where a program is nested within the limits, the slots of each body are enough for what its
+-- instructions do
 abbrev pub LoweredHasRoom : Type 0
-LoweredHasRoom = (program : Program) → IsSound program → AreShallow program.functions → HaveRoom (lowered program)
+LoweredHasRoom =
+    (program : Program) → IsSound program → AreShallow program.functions
+    → HaveRoom (lowered program)
 
 -- a call and the instruction after it are inside the same regions
 abbrev pub LoweredIsApart : Type 0
@@ -29,19 +33,29 @@ LoweredIsApart = (program : Program) → AreApart (lowered program)
 
 -- it is at an instruction, and what that needs is there
 abbrev pub ReachedGoesOn : Type 0
-ReachedGoesOn = (program : Program) → IsSound program → (c : Configuration) → IsReached (lowered program) c → CanGoOn (lowered program) c
+ReachedGoesOn =
+    (program : Program) → IsSound program → (c : Configuration) → IsReached (lowered program) c
+    → CanGoOn (lowered program) c
 
 abbrev pub ReachedIsStacked : Type 0
-ReachedIsStacked = (program : Program) → IsSound program → (c : Configuration) → IsReached (lowered program) c → IsStacked (lowered program) c
+ReachedIsStacked =
+    (program : Program) → IsSound program → (c : Configuration) → IsReached (lowered program) c
+    → IsStacked (lowered program) c
 
 abbrev pub ReachedHasActivations : Type 0
-ReachedHasActivations = (program : Program) → IsSound program → (c : Configuration) → IsReached (lowered program) c → HasActivations (lowered program) c
+ReachedHasActivations =
+    (program : Program) → IsSound program → (c : Configuration) → IsReached (lowered program) c
+    → HasActivations (lowered program) c
 
 abbrev pub ReachedIsSmall : Type 0
-ReachedIsSmall = (program : Program) → IsSound program → (c : Configuration) → IsReached (lowered program) c → HasSmallNumbers c
+ReachedIsSmall =
+    (program : Program) → IsSound program → (c : Configuration) → IsReached (lowered program) c
+    → HasSmallNumbers c
 
 abbrev pub ReachedHasDepths : Type 0
-ReachedHasDepths = (program : Program) → IsSound program → (c : Configuration) → IsReached (lowered program) c → HasDepths (lowered program) c
+ReachedHasDepths =
+    (program : Program) → IsSound program → (c : Configuration) → IsReached (lowered program) c
+    → HasDepths (lowered program) c
 
 -- a configuration is determined by what may be seen from it on
 abbrev pub SeenAlikeIsSame : Type 0

@@ -37,9 +37,12 @@ module _ (program : LinearProgram) where
   abbrev pub HasLanded : Option ℕ → Type 0
   HasLanded landed = (code : ℕ) × (landed ≡ Some code)
 
-  -- a configuration that is at an instruction: operands are held, the arguments of a call are the last temporaries, what is called is there, and at a landing an exception has just been taken over
+  -- a configuration that is at an instruction: operands are held, the arguments of a call are the
+  -- last temporaries, what is called is there, and at a landing an exception has just been taken
+  -- over
   abbrev pub IsReady : Configuration → Instruction → Type 0
-  IsReady c (instructions.Compute to o first second) = IsRead (is_constant o) (held c) first × IsRead (is_constant o) (held c) second
+  IsReady c (instructions.Compute to o first second) =
+      IsRead (is_constant o) (held c) first × IsRead (is_constant o) (held c) second
   IsReady c (instructions.Information to field) = IsNext (held c) to
   IsReady c (instructions.Jump label) = Unit {0}
   IsReady c (instructions.JumpIfZero slot label) = IsHeld (held c) slot

@@ -1,6 +1,7 @@
 -- The slots of a body are enough for what its instructions do.
 use Rattle.std.specs.Prelude.{◌≡◌, ℕ, ◌+◌, ◌≤◌, Some}
 use Rattle.std.specs.List.{AllByRecursion}
+use Rattle.seh_num.specs.declared.limit.TheConstants.{MOST_PARAMETERS}
 use Rattle.linear_code.specs.declared.instruction.Instruction.{Instruction}
 use Rattle.linear_code.specs.declared.instruction.Instruction.TheVariants as instructions
 use Rattle.linear_code.specs.BodyState.{Counts}
@@ -14,7 +15,8 @@ counts_of b = record { locals = b.locals; temporaries = b.temporaries }
 
 -- at most eight arguments, of which those after the fourth have their places
 abbrev pub PassesWell : ℕ → Instruction → Type 0
-PassesWell passed (instructions.Call f first count) = (count ≤ 8) × (count ≤ 4 + passed)
+PassesWell passed (instructions.Call f first count) =
+    (count ≤ MOST_PARAMETERS) × (count ≤ 4 + passed)
 PassesWell passed other = Unit {0}
 
 pub record HasRoom (b : LinearBody) : Type 0 where

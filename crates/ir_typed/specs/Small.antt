@@ -28,7 +28,8 @@ pub record IsSmallFrame (f : Frame) : Type 0 where
 abbrev pub AreSmallItems : List Item → Type 0
 AreSmallItems [] = Unit {0}
 AreSmallItems (Waits f ∷ below) = IsSmallFrame f × AreSmallItems below
-AreSmallItems (Searches exception resumption asked rest ∷ below) = IsSmallException exception × AreSmallItems below
+AreSmallItems (Searches exception resumption asked rest ∷ below) =
+    IsSmallException exception × AreSmallItems below
 AreSmallItems (Unwinds rest target ∷ below) = IsSmallCode target.code × AreSmallItems below
 
 -- in temporaries, locals and exceptions

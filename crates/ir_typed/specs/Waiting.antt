@@ -58,7 +58,8 @@ module _ (program : LinearProgram) where
   IsHandler h (Searches exception resumption asked rest ∷ below) = IsHandler h below
   IsHandler h (Unwinds rest target ∷ below) = IsHandler h below
 
-  -- an exception lands at an `__except` block; a local unwind ends at the label that the body asked for
+  -- an exception lands at an `__except` block; a local unwind ends at the label that the body asked
+  -- for
   abbrev pub LandsAt : Frame → Option ℕ → ℕ → Type 0
   LandsAt f None label = IsAt f (instructions.LocalUnwind label)
   LandsAt f (Some code) label = IsLanding program f.body label
@@ -76,7 +77,8 @@ module _ (program : LinearProgram) where
   -- ---- what a body stands above, by its exception and its activation
 
   -- a filter runs for a handler that is asked
-  pub record IsAsked (k : ℕ) (own : Exception) (works_on : ℕ) (searched : Exception) (asked : Handler) : Type 0 where
+  pub record IsAsked (k : ℕ) (own : Exception) (works_on : ℕ) (searched : Exception)
+      (asked : Handler) : Type 0 where
     pub filter : asked.filter ≡ Some k
     pub exception : own ≡ searched
     pub activation : works_on ≡ asked.activation
@@ -88,13 +90,16 @@ module _ (program : LinearProgram) where
 
   abbrev pub IsCalledBy : ℕ → List Item → Type 0
   IsCalledBy k [] = k ≡ program.main
-  IsCalledBy k (Waits w ∷ below) = (first : ℕ) × (count : ℕ) × IsAt w (instructions.Call k first count)
+  IsCalledBy k (Waits w ∷ below) =
+      (first : ℕ) × (count : ℕ) × IsAt w (instructions.Call k first count)
   IsCalledBy k items = ⊥
 
   abbrev pub IsRunFor : ℕ → Exception → ℕ → List Item → Type 0
-  IsRunFor k own activation (Searches exception resumption asked rest ∷ below) = IsAsked k own activation exception asked
+  IsRunFor k own activation (Searches exception resumption asked rest ∷ below) =
+      IsAsked k own activation exception asked
   IsRunFor k own activation (Unwinds rest target ∷ Waits w ∷ below) = IsBlockOf k activation w
-  IsRunFor k own activation (Waits w ∷ below) = IsBlockOf k activation w × IsAt w (instructions.CallFinally k)
+  IsRunFor k own activation (Waits w ∷ below) =
+      IsBlockOf k activation w × IsAt w (instructions.CallFinally k)
   IsRunFor k own activation items = ⊥
 
   -- a function was called, or is `main`
@@ -106,8 +111,11 @@ module _ (program : LinearProgram) where
 
   -- the body that raised is at a call of RaiseException, or at an operation that faulted
   abbrev pub IsRaisedIn : Resumption → List Item → Type 0
-  IsRaisedIn AfterCall (Waits w ∷ below) = (first : ℕ) × IsAt w (instructions.CallBuiltIn RaiseException first)
-  IsRaisedIn SameOperation (Waits w ∷ below) = (to : Slot) × (o : Operation) × (first : Slot) × (second : Slot) × IsAt w (instructions.Compute to o first second)
+  IsRaisedIn AfterCall (Waits w ∷ below) =
+      (first : ℕ) × IsAt w (instructions.CallBuiltIn RaiseException first)
+  IsRaisedIn SameOperation (Waits w ∷ below) =
+      (to : Slot) × (o : Operation) × (first : Slot) × (second : Slot)
+      × IsAt w (instructions.Compute to o first second)
   IsRaisedIn resumption items = ⊥
 
   -- the regions that are left are those of the body below
@@ -120,9 +128,12 @@ module _ (program : LinearProgram) where
 
   abbrev pub AreWaiting : List Item → Type 0
   AreWaiting [] = Unit {0}
-  AreWaiting (Waits f ∷ below) = IsWaiting f × IsAbove f.exception f.activation f.body below × AreWaiting below
-  AreWaiting (Searches exception resumption asked rest ∷ below) = AreHandlers (asked ∷ rest) below × IsRaisedIn resumption below × AreWaiting below
-  AreWaiting (Unwinds rest target ∷ below) = AreLeft rest below × IsTarget target below × AreWaiting below
+  AreWaiting (Waits f ∷ below) =
+      IsWaiting f × IsAbove f.exception f.activation f.body below × AreWaiting below
+  AreWaiting (Searches exception resumption asked rest ∷ below) =
+      AreHandlers (asked ∷ rest) below × IsRaisedIn resumption below × AreWaiting below
+  AreWaiting (Unwinds rest target ∷ below) =
+      AreLeft rest below × IsTarget target below × AreWaiting below
 
   -- where an exception's code is kept, an `__except` block begins
   abbrev pub LandsWell : BodyName → ℕ → Option ℕ → Type 0

@@ -7,7 +7,8 @@ pub fn alike_is_same()
     ensures same { SeenAlikeIsSame }
 {}
 
-/// The funclets that bodies name are theirs, and each call has as many arguments as its function takes.
+/// The funclets that bodies name are theirs, and each call has as many arguments as its function
+/// takes.
 pub fn lowered_is_whole()
     ensures whole { LoweredIsWhole }
 {}

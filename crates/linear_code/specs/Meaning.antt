@@ -10,7 +10,8 @@ use Rattle.linear_code.specs.BodyState.{BodyState, Counts, with_slot}
 
 -- ---- instructions
 
--- what an instruction does without the dispatcher: the body after it, and where it continues (at a label, or at the instruction after); a fault; nothing is said; or it isn't one of these
+-- what an instruction does without the dispatcher: the body after it, and where it continues (at a
+-- label, or at the instruction after); a fault; nothing is said; or it isn't one of these
 pub data Step : Type 0 where
   Next : BodyState → Step
   JumpsTo : BodyState → ℕ → Step
@@ -24,9 +25,11 @@ kept to slots (Raises code access) = Faults code access
 kept to slots (Undefined a) = ReservedAccess a
 
 abbrev pub step : (ℕ → Bool) → Instruction → BodyState → Step
-step reserved (instructions.Compute to o first second) b = kept to b.slots (performed reserved o (b.slots first) (b.slots second) b.memory)
+step reserved (instructions.Compute to o first second) b =
+    kept to b.slots (performed reserved o (b.slots first) (b.slots second) b.memory)
 step reserved (instructions.Jump label) b = JumpsTo b label
-step reserved (instructions.JumpIfZero slot label) b = if nat_eq (b.slots slot) 0 then JumpsTo b label else Next b
+step reserved (instructions.JumpIfZero slot label) b =
+    if nat_eq (b.slots slot) 0 then JumpsTo b label else Next b
 step reserved instructions.Separator b = Next b
 step reserved other b = NeedsDispatcher
 
@@ -40,7 +43,8 @@ abbrev pub HasSlots : Counts → Instruction → Type 0
 HasSlots n (instructions.Compute to o first second) = IsSlot n to × IsSlot n first × IsSlot n second
 HasSlots n (instructions.Information to field) = IsSlot n to
 HasSlots n (instructions.JumpIfZero slot label) = IsSlot n slot
-HasSlots n (instructions.Call function first count) = (first + 4 ≤ n.temporaries) × (first + count ≤ n.temporaries)
+HasSlots n (instructions.Call function first count) =
+    (first + 4 ≤ n.temporaries) × (first + count ≤ n.temporaries)
 HasSlots n (instructions.CallBuiltIn function first) = first + 4 ≤ n.temporaries
 HasSlots n (instructions.Landing to) = IsSlot n to
 HasSlots n (instructions.Return from) = IsSlot n from
@@ -59,4 +63,6 @@ continued rest number _ = None
 
 unfoldable pub run : (ℕ → Bool) → List Instruction → ℕ → ℕ → BodyState → Option BodyPoint
 run reserved code zero number b = Some (number, b)
-run reserved code (suc n) number b = if nat_lt number (length code) then continued (run reserved code n) number (step reserved (get_or code number instructions.Separator) b) else None
+run reserved code (suc n) number b =
+    if nat_lt number (length code) then continued (run reserved code n) number
+    (step reserved (get_or code number instructions.Separator) b) else None

@@ -34,13 +34,28 @@ pub record LinearProgram : Type 0 where
 -- ---- the code's programs
 
 abbrev pub linear_body : IrBody → LinearBody
-linear_body b = record { locals = b.locals; temporaries = b.temporaries; passed = b.passed; code = b.code.items; regions = b.regions.items }
+linear_body b =
+    record {
+      locals = b.locals;
+      temporaries = b.temporaries;
+      passed = b.passed;
+      code = b.code.items;
+      regions = b.regions.items;
+    }
 
 abbrev pub linear_function : IrFunction → LinearFunction
 linear_function f = record { parameters = f.parameters; body = linear_body f.body }
 
 abbrev pub linear_funclet : IrFunclet → LinearFunclet
-linear_funclet f = record { kind = f.kind; function = f.function; parent = f.parent; body = linear_body f.body }
+linear_funclet f =
+    record { kind = f.kind; function = f.function; parent = f.parent; body = linear_body f.body }
 
 abbrev pub linear_program : IrProgram → LinearProgram
-linear_program p = record { globals = p.globals.items; main = p.main; functions = map linear_function p.functions.items; funclets = map linear_funclet p.funclets.items }
+linear_program p =
+    record {
+      globals = p.globals.items;
+      main = p.main;
+      functions = map linear_function p.functions.items;
+      funclets =
+          map linear_funclet p.funclets.items;
+    }

@@ -6,7 +6,8 @@ use c_operations::operation::Operation;
 /// An instruction of linear code. Labels are numbers of instructions in the same body, from 0 on.
 #[derive(Clone, Copy, Debug, PartialEq, Eq)]
 pub enum Instruction {
-    /// Two slots are read, and what the operation makes of them goes to a slot. A constant reads none.
+    /// Two slots are read, and what the operation makes of them goes to a slot. A constant reads
+    /// none.
     Compute {
         to: Slot,
         operation: Operation,
@@ -26,8 +27,8 @@ pub enum Instruction {
         slot: Slot,
         label: u64,
     },
-    /// A call of a function by its number. Its arguments are so many temporaries from `first` on, and its
-    /// result goes to the temporary `first`.
+    /// A call of a function by its number. Its arguments are so many temporaries from `first` on,
+    /// and its result goes to the temporary `first`.
     Call {
         function: u64,
         first: u64,
@@ -42,15 +43,18 @@ pub enum Instruction {
     CallFinally {
         funclet: u64,
     },
-    /// A jump out of a body with `__finally` blocks, which are run first: a local unwind to a label.
+    /// A jump out of a body with `__finally` blocks, which are run first: a local unwind to a
+    /// label.
     LocalUnwind {
         label: u64,
     },
-    /// The beginning of an `__except` block: the code of the exception that it takes over goes to a slot.
+    /// The beginning of an `__except` block: the code of the exception that it takes over goes to a
+    /// slot.
     Landing {
         to: Slot,
     },
-    /// Nothing, between a call and a place where a region begins or ends. No temporary is used after it.
+    /// Nothing, between a call and a place where a region begins or ends. No temporary is used
+    /// after it.
     Separator,
     /// The body is left: a function and a filter answer what the slot holds.
     Return {

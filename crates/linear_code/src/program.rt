@@ -2,7 +2,8 @@
 
 use crate::instruction::Instruction;
 
-/// What a region does with an exception. Funclets are numbered from 0 on, in the order of the program's.
+/// What a region does with an exception. Funclets are numbered from 0 on, in the order of the
+/// program's.
 #[derive(Clone, Copy, Debug, PartialEq, Eq)]
 pub enum RegionKind {
     /// A `__try` whose `__finally` block is this funclet.
@@ -24,8 +25,8 @@ pub struct Region {
 /// The code of a function or a funclet.
 #[derive(Drop)]
 pub struct IrBody {
-    /// How many slots the activation has: parameters, locals, and the codes and flags of `__except` and
-    /// `__finally` blocks. A funclet has those of its function.
+    /// How many slots the activation has: parameters, locals, and the codes and flags of `__except`
+    /// and `__finally` blocks. A funclet has those of its function.
     pub locals: u64,
     /// How many temporaries the body uses.
     pub temporaries: u64,

@@ -9,6 +9,7 @@ use Rattle.linear_code.specs.Program.{LinearProgram, LinearBody, LinearFunction,
 use Rattle.c_model.specs.declared.ended.Ended.{Ended}
 use Rattle.c_model.specs.declared.ended.Ended.TheVariants.{Deep}
 use Rattle.c_model.specs.State.{Exception}
+use Rattle.c_model.specs.declared.depth.TheConstants.{DEEPEST, TOO_DEEP}
 
 -- ---- bodies
 
@@ -30,7 +31,12 @@ body_of program (FuncletBody k) = funclet_body (slice_get program.funclets k)
 
 -- ---- what waits
 
--- a body that runs or waits: its name; the number of its next instruction, or of the one that it waits in; the activation whose locals it works on; in a filter, the exception that it is asked about; what is held here of the depth beside the live activations: 2 for each filter and `__finally` block that runs, or that an unwinding has left, and 1 for each activation that one has left, until it lands; its temporaries; and where it has just taken over for an exception, the exception's code
+-- a body that runs or waits: its name; the number of its next instruction, or of the one that it
+-- waits in; the activation whose locals it works on; in a filter, the exception that it is asked
+-- about; what is held here of the depth beside the live activations: 2 for each filter and
+-- `__finally` block that runs, or that an unwinding has left, and 1 for each activation that one
+-- has left, until it lands; its temporaries; and where it has just taken over for an exception, the
+-- exception's code
 pub record Frame : Type 0 where
   pub body : BodyName
   pub next : ℕ
@@ -40,26 +46,32 @@ pub record Frame : Type 0 where
   pub temporaries : List ℕ
   pub landed : Option ℕ
 
--- a handler that a search meets: its filter, if it has one, the activation that the filter works on, how many items wait below its frame, and where its block begins
+-- a handler that a search meets: its filter, if it has one, the activation that the filter works
+-- on, how many items wait below its frame, and where its block begins
 pub record Handler : Type 0 where
   pub filter : Option ℕ
   pub activation : ℕ
   pub depth : ℕ
   pub target : ℕ
 
--- where an unwinding goes: to a frame, by the number of items below it, and an instruction of its body; for an `__except` block with the exception's code; and what is held there so far, which grows by 1 for each activation that it leaves
+-- where an unwinding goes: to a frame, by the number of items below it, and an instruction of its
+-- body; for an `__except` block with the exception's code; and what is held there so far, which
+-- grows by 1 for each activation that it leaves
 pub record Target : Type 0 where
   pub depth : ℕ
   pub label : ℕ
   pub code : Option ℕ
   pub held : ℕ
 
--- how a body goes on where a filter continues its exception: after a call of RaiseException, with the result 0, or by the same operation again
+-- how a body goes on where a filter continues its exception: after a call of RaiseException, with
+-- the result 0, or by the same operation again
 pub data Resumption : Type 0 where
   AfterCall : Resumption
   SameOperation : Resumption
 
--- what waits: a body; a search, until the filter of a handler answers, with the handlers that it would meet next; an unwinding, until a `__finally` block ends, with the regions of the body below that it has yet to leave
+-- what waits: a body; a search, until the filter of a handler answers, with the handlers that it
+-- would meet next; an unwinding, until a `__finally` block ends, with the regions of the body below
+-- that it has yet to leave
 pub data Item : Type 0 where
   Waits : Frame → Item
   Searches : Exception → Resumption → Handler → List Handler → Item
@@ -95,9 +107,11 @@ unfoldable pub with_some : {A : Type 0} → List Event → Option A → (A → S
 with_some es None go = Stuck es
 with_some es (Some x) go = go x
 
--- goes on unless the depth would rise above 1,000: 1 for each live activation, and what is held
+-- goes on unless the depth would rise above the greatest: 1 for each live activation, and what is
+-- held
 abbrev pub deeper : ℕ → ℕ → Store → List Event → Seen → Seen
-deeper n held store es seen = pick (nat_lt 1000 (length store.activations + held + n)) (Finished (Deep 1001) es) seen
+deeper n held store es seen =
+    pick (nat_lt DEEPEST (length store.activations + held + n)) (Finished (Deep TOO_DEEP) es) seen
 
 -- ---- slots
 
@@ -108,7 +122,8 @@ abbrev pub local_of : Store → ℕ → ℕ → ℕ
 local_of s k x = slice_index (locals_of s k) x
 
 abbrev pub set_local : Store → ℕ → ℕ → ℕ → Store
-set_local s k x v = record s { activations = slice_set s.activations k (slice_set (locals_of s k) x v) }
+set_local s k x v =
+    record s { activations = slice_set s.activations k (slice_set (locals_of s k) x v) }
 
 -- the number in a slot, unless it is a temporary that isn't there
 abbrev pub read : Configuration → Slot → Option ℕ
@@ -129,7 +144,8 @@ write c (Temporary i) v = with_temporaries c (with_temporary c.frame.temporaries
 
 -- so many temporaries from one on, which are the last
 abbrev pub last_temporaries : List ℕ → ℕ → ℕ → Option (List ℕ)
-last_temporaries ts first count = if nat_eq (length ts) (first + count) then Some (drop first ts) else None
+last_temporaries ts first count =
+    if nat_eq (length ts) (first + count) then Some (drop first ts) else None
 
 -- ---- places
 

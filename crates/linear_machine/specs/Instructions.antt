@@ -41,8 +41,10 @@ written c to v next = with_some c.events (write c to v) (λ c. next (forth c))
 
 -- the result goes to its slot; a fault keeps the operands, since the operation may be made again
 abbrev pub computed : LinearProgram → Next → Slot → Configuration → Outcome → Seen
-computed program next to c (Gives v memory) = written (record c { store = record c.store { memory = memory } }) to v next
-computed program next to c (Raises code access) = raise program next (record { code = code.0; flag = false; access = access }) SameOperation c
+computed program next to c (Gives v memory) =
+    written (record c { store = record c.store { memory = memory } }) to v next
+computed program next to c (Raises code access) =
+    raise program next (record { code = code.0; flag = false; access = access }) SameOperation c
 computed program next to c (Undefined a) = Finished (ends.Undefined a) c.events
 
 abbrev pub compute : LinearProgram → Next → Slot → Operation → Slot → Slot → Configuration → Seen
@@ -60,7 +62,8 @@ tested (Temporary i) c = with_last (take i c.frame.temporaries) c
 
 abbrev pub jump_if_zero : Next → Slot → ℕ → Configuration → Seen
 jump_if_zero next slot label c =
-    with_some c.events (read c slot) (λ v. pick (nat_eq v 0) (next (at_label label (tested slot c))) (next (forth (tested slot c))))
+    with_some c.events (read c slot) (λ v. pick (nat_eq v 0) (next (at_label label (tested slot c)))
+    (next (forth (tested slot c))))
 
 -- ---- calls
 
@@ -69,11 +72,25 @@ abbrev pub waiting : Configuration → ℕ → Configuration
 waiting c first = with_last (take first c.frame.temporaries) c
 
 -- a function begins: its arguments are its first locals, and the others are 0
-abbrev pub begin_function : ℕ → LinearFunction → List ℕ → ℕ → List Item → Store → List Event → Configuration
+abbrev pub begin_function : ℕ → LinearFunction → List ℕ → ℕ → List Item → Store → List Event
+    → Configuration
 begin_function f function arguments held below store es = record {
-  frame = record { body = FunctionBody f; next = 0; activation = length store.activations; exception = no_exception; held = held; temporaries = []; landed = None };
+  frame =
+      record {
+        body = FunctionBody f;
+        next = 0;
+        activation = length store.activations;
+        exception = no_exception;
+        held = held;
+        temporaries = [];
+        landed = None;
+      };
   below = below;
-  store = record store { activations = store.activations ++ (arguments ++ replicate (function.body.locals - function.parameters) 0) ∷ [] };
+  store =
+      record store {
+        activations = store.activations ++ (arguments
+            ++ replicate (function.body.locals - function.parameters) 0) ∷ [];
+      };
   events = es;
 }
 
@@ -82,7 +99,8 @@ call program next f first count c =
     with_some c.events (last_temporaries c.frame.temporaries first count) (λ arguments.
     with_some c.events (slice_get program.functions f) (λ function.
     deeper 1 c.frame.held c.store c.events
-    (next (begin_function f function arguments c.frame.held (Waits (waiting c first).frame ∷ c.below) c.store c.events))))
+    (next (begin_function f function arguments c.frame.held
+    (Waits (waiting c first).frame ∷ c.below) c.store c.events))))
 
 abbrev pub count_of : BuiltIn → ℕ
 count_of Put = 1
@@ -94,29 +112,37 @@ abbrev pub answers : Next → ℕ → Configuration → Seen
 answers next v c = next (forth (with_last (c.frame.temporaries ++ v ∷ []) c))
 
 abbrev pub built_in : LinearProgram → Next → BuiltIn → List ℕ → Configuration → Seen
-built_in program next Put vs c = answers next 0 (record c { events = c.events ++ events.Put (signed W64 (get_or vs 0 0)) ∷ [] })
+built_in program next Put vs c =
+    answers next 0 (record c { events = c.events ++ events.Put (signed W64 (get_or vs 0 0)) ∷ [] })
 built_in program next Protect vs c =
     let a = get_or vs 0 0 in
     let number = signed W32 (get_or vs 1 0) in
-    answers next (of_test (is_some (rights_asked a number))) (record c { store = record c.store { memory = protected c.store.memory a number } })
-built_in program next RaiseException vs c = raise program next (raised (get_or vs 0 0) (get_or vs 1 0)) AfterCall c
+    answers next (of_test (is_some (rights_asked a number)))
+    (record c { store = record c.store { memory = protected c.store.memory a number } })
+built_in program next RaiseException vs c =
+    raise program next (raised (get_or vs 0 0) (get_or vs 1 0)) AfterCall c
 
 abbrev pub call_built_in : LinearProgram → Next → BuiltIn → ℕ → Configuration → Seen
 call_built_in program next f first c =
-    with_some c.events (last_temporaries c.frame.temporaries first (count_of f)) (λ vs. built_in program next f vs (waiting c first))
+    with_some c.events (last_temporaries c.frame.temporaries first (count_of f))
+    (λ vs. built_in program next f vs (waiting c first))
 
 -- ---- ends of bodies
 
--- the caller has the result after the temporaries that waited; where nothing waits, the program ends
+-- the caller has the result after the temporaries that waited; where nothing waits, the program
+-- ends
 abbrev pub return : Next → ℕ → List Item → List Event → Store → Seen
 return next v [] es store = Finished (ends.Exit (signed W32 v)) es
-return next v (Waits f ∷ below) es store = answers next v (record { frame = f; below = below; store = store; events = es })
+return next v (Waits f ∷ below) es store =
+    answers next v (record { frame = f; below = below; store = store; events = es })
 return next v items es store = Stuck es
 
 -- after a `__finally` block an unwinding goes on, or the body after its call
 abbrev pub end_finally : LinearProgram → Next → List Item → List Event → Store → Seen
-end_finally program next (Unwinds rest target ∷ Waits f ∷ below) es store = unwind program next target (Waits f ∷ below) (Some rest) es store
-end_finally program next (Waits f ∷ below) es store = next (forth (record { frame = f; below = below; store = store; events = es }))
+end_finally program next (Unwinds rest target ∷ Waits f ∷ below) es store =
+    unwind program next target (Waits f ∷ below) (Some rest) es store
+end_finally program next (Waits f ∷ below) es store =
+    next (forth (record { frame = f; below = below; store = store; events = es }))
 end_finally program next items es store = Stuck es
 
 abbrev pub end_funclet : LinearProgram → Next → FuncletKind → ℕ → Configuration → Seen
@@ -124,28 +150,40 @@ end_funclet program next Filter v c = answer program next v c.below c.events c.s
 end_funclet program next (Finally flag) v c = end_finally program next c.below c.events c.store
 
 abbrev pub end_body : LinearProgram → Next → BodyName → ℕ → Configuration → Seen
-end_body program next (FunctionBody f) v c = return next v c.below c.events (left_store c.frame.body c.frame.activation c.store)
-end_body program next (FuncletBody k) v c = with_some c.events (slice_get program.funclets k) (λ f. end_funclet program next f.kind v c)
+end_body program next (FunctionBody f) v c =
+    return next v c.below c.events (left_store c.frame.body c.frame.activation c.store)
+end_body program next (FuncletBody k) v c =
+    with_some c.events (slice_get program.funclets k) (λ f. end_funclet program next f.kind v c)
 
 -- ---- all of them
 
 -- a local unwind runs the `__finally` blocks between the instruction and its label
 abbrev pub local_unwind : LinearProgram → Next → ℕ → Configuration → Seen
 local_unwind program next label c =
-    unwind program next (record { depth = length c.below; label = label; code = None; held = c.frame.held }) (Waits c.frame ∷ c.below) None c.events c.store
+    unwind program next (record {
+      depth = length c.below;
+      label = label;
+      code = None;
+      held = c.frame.held;
+    }) (Waits c.frame ∷ c.below) None c.events c.store
 
 abbrev pub not_landed : Configuration → Configuration
 not_landed c = record c { frame = record c.frame { landed = None } }
 
 abbrev pub act : LinearProgram → Instruction → Next → Configuration → Seen
-act program (instructions.Compute to o first second) next c = compute program next to o first second c
-act program (instructions.Information to field) next c = written c to (field_of field c.frame.exception) next
+act program (instructions.Compute to o first second) next c =
+    compute program next to o first second c
+act program (instructions.Information to field) next c =
+    written c to (field_of field c.frame.exception) next
 act program (instructions.Jump label) next c = next (at_label label c)
 act program (instructions.JumpIfZero slot label) next c = jump_if_zero next slot label c
 act program (instructions.Call f first count) next c = call program next f first count c
 act program (instructions.CallBuiltIn f first) next c = call_built_in program next f first c
-act program (instructions.CallFinally k) next c = run_finally program k false c.frame.held (Waits c.frame ∷ c.below) next c
+act program (instructions.CallFinally k) next c =
+    run_finally program k false c.frame.held (Waits c.frame ∷ c.below) next c
 act program (instructions.LocalUnwind label) next c = local_unwind program next label c
-act program (instructions.Landing to) next c = with_some c.events c.frame.landed (λ code. written (not_landed c) to code next)
+act program (instructions.Landing to) next c =
+    with_some c.events c.frame.landed (λ code. written (not_landed c) to code next)
 act program instructions.Separator next c = next (forth (with_last [] c))
-act program (instructions.Return from) next c = with_some c.events (read c from) (λ v. end_body program next c.frame.body v c)
+act program (instructions.Return from) next c =
+    with_some c.events (read c from) (λ v. end_body program next c.frame.body v c)

@@ -1,4 +1,5 @@
--- The regions around an instruction, and the handlers that a search meets (Microsoft x64 ABI, "Language-specific handler").
+-- The regions around an instruction, and the handlers that a search meets (Microsoft x64 ABI,
+-- "Language-specific handler").
 use Rattle.std.specs.Prelude.{ℕ, Bool, ◌&&◌, ◌||◌, false, nat_eq, nat_le, nat_lt, List, [], ◌∷◌, ◌++◌, length, filter, Option, Some, None}
 use Rattle.linear_code.specs.declared.program.Region.{Region}
 use Rattle.linear_code.specs.declared.program.RegionKind.{RegionKind}
@@ -24,20 +25,26 @@ regions_left (Some rest) regions = rest
 
 abbrev pub handlers_of : RegionKind → ℕ → ℕ → List Handler
 handlers_of (kinds.Finally k) activation depth = []
-handlers_of (kinds.Filter k target) activation depth = record { filter = Some k; activation = activation; depth = depth; target = target } ∷ []
-handlers_of (kinds.Always target) activation depth = record { filter = None; activation = activation; depth = depth; target = target } ∷ []
+handlers_of (kinds.Filter k target) activation depth =
+    record { filter = Some k; activation = activation; depth = depth; target = target } ∷ []
+handlers_of (kinds.Always target) activation depth =
+    record { filter = None; activation = activation; depth = depth; target = target } ∷ []
 
 -- the handlers of a frame's regions
 abbrev pub handlers_in : List Region → ℕ → ℕ → List Handler
 handlers_in [] activation depth = []
-handlers_in (r ∷ regions) activation depth = handlers_of r.kind activation depth ++ handlers_in regions activation depth
+handlers_in (r ∷ regions) activation depth =
+    handlers_of r.kind activation depth ++ handlers_in regions activation depth
 
--- the handlers that a search meets, innermost first: below a search it goes on where the exception was raised, and below an unwinding with the regions that are left
+-- the handlers that a search meets, innermost first: below a search it goes on where the exception
+-- was raised, and below an unwinding with the regions that are left
 abbrev pub handlers : LinearProgram → List Item → Option (List Region) → List Handler
 handlers program [] left = []
 handlers program (Waits f ∷ below) left =
-    handlers_in (regions_left left (regions_at program f.body f.next)) f.activation (length below) ++ handlers program below None
-handlers program (Searches exception resumption asked rest ∷ below) left = handlers program below None
+    handlers_in (regions_left left (regions_at program f.body f.next)) f.activation (length below)
+    ++ handlers program below None
+handlers program (Searches exception resumption asked rest ∷ below) left =
+    handlers program below None
 handlers program (Unwinds rest target ∷ below) left = handlers program below (Some rest)
 
 -- ---- where an unwinding stops
@@ -49,4 +56,5 @@ leads_to (kinds.Always target) label = nat_eq target label
 
 -- in its own frame, at the first region that holds its target or whose block is its target
 abbrev pub stops : Target → Region → ℕ → Bool
-stops target r depth = nat_eq target.depth depth && (holds target.label r || leads_to r.kind target.label)
+stops target r depth =
+    nat_eq target.depth depth && (holds target.label r || leads_to r.kind target.label)

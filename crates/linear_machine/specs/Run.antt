@@ -21,7 +21,8 @@ instruction_at program c = instruction_in (body_of program c.frame.body) c.frame
 -- what is seen of at most n turns, an instruction each
 unfoldable pub exec : LinearProgram → ℕ → Next
 exec program zero c = Running c.events
-exec program (suc n) c = with_some c.events (instruction_at program c) (λ i. act program i (exec program n) c)
+exec program (suc n) c =
+    with_some c.events (instruction_at program c) (λ i. act program i (exec program n) c)
 
 -- ---- whole programs
 
@@ -31,11 +32,14 @@ main_arguments parameters arg = if nat_eq parameters 0 then [] else wrapped W64 
 
 abbrev pub start : LinearProgram → ℤ → LinearFunction → Configuration
 start program arg main =
-    begin_function program.main main (main_arguments main.parameters arg) 0 [] (record { memory = first_memory program.globals; activations = [] }) []
+    begin_function program.main main (main_arguments main.parameters arg) 0 []
+    (record { memory = first_memory program.globals; activations = [] }) []
 
 -- what is seen of a program within n turns
 abbrev pub seen : LinearProgram → ℤ → ℕ → Seen
-seen program arg n = with_some [] (slice_get program.functions program.main) (λ main. exec program n (start program arg main))
+seen program arg n =
+    with_some [] (slice_get program.functions program.main)
+    (λ main. exec program n (start program arg main))
 
 -- the events and the end; a run that is stuck has none
 abbrev pub shown : Seen → Shown

@@ -26,7 +26,16 @@ flag_of (Some f) = flag_in f.kind
 -- the block begins, for a frame: with its flag in the local of that, and 2 more held
 abbrev pub begin_finally : ℕ → ℕ → Bool → ℕ → List Item → Configuration → Configuration
 begin_finally k flag abnormal held below c = record {
-  frame = record { body = FuncletBody k; next = 0; activation = c.frame.activation; exception = no_exception; held = held + 2; temporaries = []; landed = None };
+  frame =
+      record {
+        body = FuncletBody k;
+        next = 0;
+        activation = c.frame.activation;
+        exception = no_exception;
+        held = held + 2;
+        temporaries = [];
+        landed = None;
+      };
   below = below;
   store = set_local c.store c.frame.activation flag (of_test abnormal);
   events = c.events ++ events.Finally (k + 1) abnormal ∷ [];
@@ -43,7 +52,14 @@ run_finally program k abnormal held below next c =
 abbrev pub arrive : Target → Option ℕ → Next → Configuration → Seen
 arrive target None next c = next (record c { frame = record c.frame { next = target.label } })
 arrive target (Some code) next c =
-    next (record c { frame = record c.frame { next = target.label; temporaries = []; landed = Some code }; events = c.events ++ events.Except (record { 0 = code }) ∷ [] })
+    next (record c {
+      frame = record c.frame {
+        next = target.label;
+        temporaries = [];
+        landed = Some code;
+      };
+      events = c.events ++ events.Except (record { 0 = code }) ∷ [];
+    })
 
 -- the activation of a function that is left is held
 abbrev pub target_past : BodyName → Target → Target
@@ -52,28 +68,40 @@ target_past (FuncletBody k) target = target
 
 -- the locals of a function end with it
 abbrev pub left_store : BodyName → ℕ → Store → Store
-left_store (FunctionBody f) activation store = record store { activations = take activation store.activations }
+left_store (FunctionBody f) activation store =
+    record store { activations = take activation store.activations }
 left_store (FuncletBody k) activation store = store
 
 -- ---- an unwinding within a body: its `__finally` blocks in order, up to the unwinding's end, or out of the body
 
-abbrev pub leave_region : LinearProgram → Next → Target → RegionKind → List Region → Seen → Configuration → Seen
-leave_region program next target (kinds.Finally k) rest further c = run_finally program k true target.held (Unwinds rest target ∷ Waits c.frame ∷ c.below) next c
+abbrev pub leave_region : LinearProgram → Next → Target → RegionKind → List Region → Seen
+    → Configuration → Seen
+leave_region program next target (kinds.Finally k) rest further c =
+    run_finally program k true target.held (Unwinds rest target ∷ Waits c.frame ∷ c.below) next c
 leave_region program next target (kinds.Filter k label) rest further c = further
 leave_region program next target (kinds.Always label) rest further c = further
 
-abbrev pub unwind_body : LinearProgram → Next → Target → (Store → Seen) → List Region → Configuration → Seen
+abbrev pub unwind_body : LinearProgram → Next → Target → (Store → Seen) → List Region
+    → Configuration → Seen
 unwind_body program next target out [] c =
-    pick (nat_eq target.depth (length c.below)) (arrive target target.code next c) (out (left_store c.frame.body c.frame.activation c.store))
+    pick (nat_eq target.depth (length c.below)) (arrive target target.code next c)
+    (out (left_store c.frame.body c.frame.activation c.store))
 unwind_body program next target out (r ∷ regions) c =
     pick (stops target r (length c.below)) (arrive target target.code next c)
-    (leave_region program next target r.kind regions (unwind_body program next target out regions c) c)
+    (leave_region program next target r.kind regions
+    (unwind_body program next target out regions c) c)
 
--- an unwinding over what waits: a search that it meets is over, and the regions that an older unwinding has left aren't left again
-abbrev pub unwind : LinearProgram → Next → Target → List Item → Option (List Region) → List Event → Store → Seen
+-- an unwinding over what waits: a search that it meets is over, and the regions that an older
+-- unwinding has left aren't left again
+abbrev pub unwind : LinearProgram → Next → Target → List Item → Option (List Region) → List Event
+    → Store → Seen
 unwind program next target [] left es store = Stuck es
 unwind program next target (Waits f ∷ below) left es store =
-    unwind_body program next target (λ store. unwind program next (target_past f.body target) below None es store)
-    (regions_left left (regions_at program f.body f.next)) (record { frame = f; below = below; store = store; events = es })
-unwind program next target (Searches exception resumption asked rest ∷ below) left es store = unwind program next target below None es store
-unwind program next target (Unwinds rest older ∷ below) left es store = unwind program next target below (Some rest) es store
+    unwind_body program next target (λ store. unwind program next
+    (target_past f.body target) below None es store)
+    (regions_left left (regions_at program f.body f.next))
+    (record { frame = f; below = below; store = store; events = es })
+unwind program next target (Searches exception resumption asked rest ∷ below) left es store =
+    unwind program next target below None es store
+unwind program next target (Unwinds rest older ∷ below) left es store =
+    unwind program next target below (Some rest) es store

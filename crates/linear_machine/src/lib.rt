@@ -1,3 +1,6 @@
-//! The machine of linear code: bodies that run and wait, suspended searches for handlers and suspended
-//! unwindings, in one stack in the order of time. Definitions alone.
+//! The machine of linear code: bodies that run and wait, suspended searches for handlers and
+//! suspended unwindings, in one stack in the order of time. Definitions alone.
+//!
+//! Begin with `specs/Frames.antt`, then `specs/Run.antt`; `specs/Searching.antt` and
+//! `specs/Unwinding.antt` have the passes of the dispatcher.
 #![tactic(auto)]

@@ -1,4 +1,7 @@
 //! What the linear code of worked programs shows.
+//!
+//! Proved by computation: each program shows the same by its meaning and by its linear code. Begin
+//! with `specs/Rows.antt`.
 #![tactic(auto)]
 
 ghost use Rattle.linear_rows.specs.LeftActivations.{LeftActivations};

@@ -7,8 +7,13 @@ use Rattle.linear_machine.specs.Run.{linear_meaning}
 
 -- what n turns show is the front of what more turns show
 abbrev pub ShowsMore : Type 0
-ShowsMore = (program : LinearProgram) (arg : ℤ) (n k : ℕ) → IsPrefixOf (linear_meaning program arg n).events (linear_meaning program arg (n + k)).events
+ShowsMore =
+    (program : LinearProgram) (arg : ℤ) (n k : ℕ)
+    → IsPrefixOf (linear_meaning program arg n).events (linear_meaning program arg (n + k)).events
 
 -- a run that has ended shows nothing more
 abbrev pub EndStays : Type 0
-EndStays = (program : LinearProgram) (arg : ℤ) (n k : ℕ) (e : Ended) → (linear_meaning program arg n).end ≡ Some e → linear_meaning program arg (n + k) ≡ linear_meaning program arg n
+EndStays =
+    (program : LinearProgram) (arg : ℤ) (n k : ℕ) (e : Ended)
+    → (linear_meaning program arg n).end ≡ Some e
+    → linear_meaning program arg (n + k) ≡ linear_meaning program arg n

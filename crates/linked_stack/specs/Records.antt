@@ -8,6 +8,7 @@ use Rattle.virtual_unwind.specs.CallerOf.{Functions}
 use Rattle.seh_records.specs.declared.dispatch.DispatchRecord.{DispatchRecord}
 use Rattle.seh_records.specs.Record.{misplaced, placed, return_address_at}
 use Rattle.seh_records.specs.Laws.{AreBytes, Fits}
+use Rattle.seh_records.specs.declared.layout.TheConstants.{RECORD_SIZE}
 use Rattle.host_model.specs.declared.funclet.Funclet.{Funclet}
 use Rattle.linear_code.specs.Program.{LinearProgram}
 use Rattle.linear_machine.specs.Frames.{Item}
@@ -32,7 +33,7 @@ laid m at r back = after_store (placed m at r) (return_address_at at) W64 back
 -- there is room for both, below a stack pointer
 pub record HasRoom (m : Memory) (at : ℕ) (r : DispatchRecord) (above : ℕ) : Type 0 where
   pub fits : Fits r
-  pub below : at + 1568 ≤ above
+  pub below : at + RECORD_SIZE ≤ above
   pub small : above < 2 ^ 64
   pub room : misplaced m at ≡ None
 

@@ -13,6 +13,7 @@ use Rattle.host_model.specs.Funclets.{arrivals, arrived}
 use Rattle.host_model.specs.Dispatch.{accepted}
 use Rattle.c_model.specs.declared.ended.Ended.TheVariants.{Unhandled}
 use Rattle.c_model.specs.State.{Exception}
+use Rattle.seh_records.specs.declared.layout.TheConstants.{POINTERS_AT}
 use Rattle.linear_code.specs.Program.{LinearProgram}
 use Rattle.linear_machine.specs.Frames.{Handler, Resumption, Waits, Searches, Configuration, Finished, Next, deeper}
 use Rattle.linear_machine.specs.Searching as linear
@@ -33,7 +34,7 @@ module _ (t : Functions) (fs : List Funclet) (program : LinearProgram) (p : Plan
     pub state : State
     pub turns : turn ≡ Continues state (events.Filter (filter + 1) ∷ [])
     pub goes : (next : Next) → linear.search program next found exception resumption c ≡ deeper 2 c.frame.held c.store c.events (next (begin_filter filter handler rest exception resumption c))
-    pub arrives : Arrives t fs program p state filter handler.activation ((at + 80) % 2 ^ 64) (Searches exception resumption handler rest ∷ Waits c.frame ∷ c.below) acts
+    pub arrives : Arrives t fs program p state filter handler.activation ((at + POINTERS_AT) % 2 ^ 64) (Searches exception resumption handler rest ∷ Waits c.frame ∷ c.below) acts
     pub named : arrivals state.cpu (distance t.base state.cpu.rip) 1 fs ≡ events.Filter (filter + 1) ∷ []
     pub hand : DispatchRecord
     pub same_saved : hand.saved ≡ r.saved

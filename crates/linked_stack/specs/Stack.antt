@@ -11,6 +11,7 @@ use Rattle.virtual_unwind.specs.Tail.{tail_at}
 use Rattle.virtual_unwind.specs.CallerOf.{Functions, CallerFrame, distance, entry_of}
 use Rattle.seh_records.specs.declared.dispatch.DispatchRecord.{DispatchRecord}
 use Rattle.seh_records.specs.Record.{fetched}
+use Rattle.seh_records.specs.declared.layout.TheConstants.{RECORD_SIZE, POINTERS_AT}
 use Rattle.seh_walk.specs.Walk.{filter_return, finally_return, is_search}
 
 -- a frame of a body: its entry in the function table, the size of its fixed allocation, the offset of that allocation's unwind code, and its return address
@@ -89,9 +90,9 @@ pub record LeafStands (t : Functions) (m : Memory) (c : Context) (back : ℕ) : 
 pub record RecordStands (m : Memory) (c : Context) (r : DispatchRecord) (address : ℕ) (searches : Bool) (next : Context) : Type 0 where
   pub at_host : c.rip ≡ address
   pub fetches : fetched m (rsp c) ≡ Some r
-  pub pointers : word m (rsp c + 80) ≡ Ok (rsp c + 96)
+  pub pointers : word m (rsp c + POINTERS_AT) ≡ Ok (rsp c + 96)
   pub kind : is_search r.kind ≡ searches
-  pub above : rsp c + 1568 ≤ rsp next
+  pub above : rsp c + RECORD_SIZE ≤ rsp next
   pub small : rsp next < 2 ^ 64
 
 abbrev pub Stands : Functions → Memory → Context → StackItem → Type 0
@@ -111,12 +112,15 @@ pub record IsWithin (a from to : ℕ) : Type 0 where
   pub low : from ≤ a
   pub high : a < to
 
--- of a function its return address, of a record all but its home space
+-- What a walk reads of each item's memory:
+-- of a body's frame the return address above it, of a leaf function the one at RSP;
+-- of a suspended search and a suspended unwinding the record, but for the home space at its begin.
+-- The slots of a waiting body are its own too, and no walk reads them: `BodyWaits` in Linked.antt.
 abbrev pub OwnedBy : Context → StackItem → ℕ → Type 0
 OwnedBy c (Framed f) a = IsWithin a (rsp c + f.size) (rsp c + f.size + 8)
 OwnedBy c (Leaf back) a = IsWithin a (rsp c) (rsp c + 8)
-OwnedBy c (Searching r) a = IsWithin a (rsp c + 32) (rsp c + 1568)
-OwnedBy c (Unwinding r) a = IsWithin a (rsp c + 32) (rsp c + 1568)
+OwnedBy c (Searching r) a = IsWithin a (rsp c + 32) (rsp c + RECORD_SIZE)
+OwnedBy c (Unwinding r) a = IsWithin a (rsp c + 32) (rsp c + RECORD_SIZE)
 
 abbrev pub Owned : Context → List StackItem → ℕ → Type 0
 Owned c [] a = ⊥

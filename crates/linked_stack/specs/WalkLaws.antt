@@ -8,6 +8,7 @@ use Rattle.virtual_unwind.specs.CallerOf.{Functions}
 use Rattle.seh_records.specs.declared.dispatch.DispatchRecord.{DispatchRecord}
 use Rattle.seh_records.specs.Record.{placed}
 use Rattle.seh_records.specs.Laws.{Fits, AreBytes}
+use Rattle.seh_records.specs.declared.layout.TheConstants.{RECORD_SIZE}
 use Rattle.seh_walk.specs.Walk as walk
 use Rattle.seh_walk.specs.Walk.{visited, saved_in, walk_in, is_search, filter_return, finally_return}
 use Rattle.seh_search.specs.Search.{search}
@@ -69,11 +70,11 @@ context_below address at others = record { rip = address; kept = at ∷ others }
 -- a record can be placed below a context
 pub record CanBePlaced (m : Memory) (at : ℕ) (r : DispatchRecord) (above : Context) : Type 0 where
   pub fits : Fits r
-  pub below : at + 1568 ≤ rsp above
+  pub below : at + RECORD_SIZE ≤ rsp above
   pub small : rsp above < 2 ^ 64
   pub bytes : AreBytes m.byte
-  pub readable : first_refused (may_read m) 1568 at ≡ None
-  pub not_code : (x : ℕ) → IsWithin x (at + 32) (at + 1568) → (m.protection x).execute ≡ false
+  pub readable : first_refused (may_read m) RECORD_SIZE at ≡ None
+  pub not_code : (x : ℕ) → IsWithin x (at + 32) (at + RECORD_SIZE) → (m.protection x).execute ≡ false
 
 pub record RecordsAreItems (t : Functions) (m : Memory) (is : List StackItem) (r : DispatchRecord) (at : ℕ) (others : List ℕ) : Type 0 where
   pub search :

@@ -11,9 +11,9 @@ use Rattle.linear_code.specs.declared.program.Region.{Region}
 use Rattle.linear_code.specs.declared.program.RegionKind.{RegionKind}
 use Rattle.linear_code.specs.declared.program.RegionKind.TheVariants as kinds
 use Rattle.linear_code.specs.Program.{LinearFunclet, LinearProgram}
-use Rattle.seh_ir.specs.declared.scope.Names.{Names}
+use Rattle.ir_expressions.specs.declared.scope.Names.{Names}
 use Rattle.seh_ir.specs.declared.funclets.Owner.{Owner}
-use Rattle.seh_ir.specs.Scope.{except_names, filter_names, finally_names}
+use Rattle.ir_expressions.specs.Scope.{except_names, filter_names, finally_names}
 use Rattle.seh_ir.specs.Funclets.{filter_funclets, finally_funclet, in_funclet, statement_funclets, statements_funclets}
 use Rattle.seh_ir.specs.Lowered.{all_locals, scope_of, lowered_funclets, all_funclets, lowered}
 use Rattle.program_shape.specs.Rows.{AreDifferent, funclet_in, named, regions, NamesFunclets}

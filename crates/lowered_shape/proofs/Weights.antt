@@ -7,9 +7,9 @@ use Rattle.linear_code.specs.declared.program.RegionKind.{RegionKind}
 use Rattle.linear_code.specs.declared.program.RegionKind.TheVariants as kinds
 use Rattle.linear_code.specs.Program.{LinearBody, LinearFunction, LinearFunclet, LinearProgram}
 use Rattle.ir_sizes.specs.Sizes.{expression_size, discarded_size, condition_size, all_declared_size, statement_size, statements_size}
-use Rattle.seh_ir.specs.declared.scope.Names.{Names}
+use Rattle.ir_expressions.specs.declared.scope.Names.{Names}
 use Rattle.seh_ir.specs.declared.funclets.Owner.{Owner}
-use Rattle.seh_ir.specs.Scope.{except_names, filter_names, finally_names}
+use Rattle.ir_expressions.specs.Scope.{except_names, filter_names, finally_names}
 use Rattle.seh_ir.specs.Regions.{except_kind, region, statement_regions, statements_regions}
 use Rattle.seh_ir.specs.Funclets.{filter_funclets, finally_funclet, in_funclet, statement_funclets, statements_funclets}
 use Rattle.seh_ir.specs.Lowered.{all_locals, scope_of, lowered_function, lowered_funclets, all_funclets, lowered}

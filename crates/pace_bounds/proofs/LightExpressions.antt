@@ -15,7 +15,7 @@ use Rattle.c_parse.specs.Nodes as counted
 use Rattle.c_parse.specs.Nodes.{nodes_of_arguments}
 use Rattle.c_resolved.specs.declared.fault.Fault.{Fault}
 use Rattle.c_resolved.specs.Operators.{TypedNode, compound_assigned, assigned, comma_of}
-use Rattle.c_resolved.specs.Expressions.{Entity, LocalVariable, GlobalVariable, GlobalArray, UserFunction, BuiltInFunction, CodeFunction, AbnormalFunction, BuiltInConstant, Names, FaultAt, ResolvedExpression, ruled, rule_1, rule_2, rule_3, unless, literal, name, field, Wanted, built_in_wants, fits, passed, Argument, Passed, before, spoiled, pass, pass_all, called, call_with, only_where, call, changed, resolve_expression, resolve_arguments, OfType, ZeroLiteral}
+use Rattle.c_resolved.specs.Expressions.{Entity, LocalVariable, GlobalVariable, GlobalArray, UserFunction, BuiltInFunction, CodeFunction, AbnormalFunction, BuiltInConstant, Names, FaultAt, ResolvedExpression, ruled, rule_1, rule_2, rule_3, given_that, literal, name, field, Wanted, built_in_wants, fits, passed, Argument, Passed, before, spoiled, pass, pass_all, called, call_with, only_where, call, changed, resolve_expression, resolve_arguments, OfType, ZeroLiteral}
 use Rattle.ir_follows.specs.Weights.{expression_weight, node_weight, arguments_weight}
 use Rattle.pace_bounds.proofs.LightOperators.{weight, LightIf, lighter, binary_light, element_light, incremented_light, assigned_light, compound_light, unary_light, cast_light, conditional_light, comma_light}
 
@@ -25,12 +25,12 @@ ruled_light : (n at : ℕ) (f : Fault) (fs : List FaultAt) (o : Option TypedNode
 ruled_light n at f fs None h = tt
 ruled_light n at f fs (Some t) h = h
 
-unless_light : (n : ℕ) (b : Bool) (at : ℕ) (f : Fault) (fs : List FaultAt) (j : ResolvedExpression) → LightIf n j.found → LightIf n (unless b at f fs j).found
-unless_light n true at f fs j h = h
-unless_light n false at f fs j h = tt
+given_that_light : (n : ℕ) (b : Bool) (at : ℕ) (f : Fault) (fs : List FaultAt) (j : ResolvedExpression) → LightIf n j.found → LightIf n (given_that b at f fs j).found
+given_that_light n true at f fs j h = h
+given_that_light n false at f fs j h = tt
 
 only_where_light : (n : ℕ) (b : Bool) (at : ℕ) (f : Fault) (r : ResolvedExpression) → LightIf n r.found → LightIf n (only_where b at f r).found
-only_where_light n b at f r h = unless_light n b at f r.faults r h
+only_where_light n b at f r h = given_that_light n b at f r.faults r h
 
 rule_1_light : (m n at : ℕ) (rule : TypedNode → Option TypedNode) (fs : List FaultAt) (o : Option TypedNode) → LightIf m o → ((a : TypedNode) → weight a ≤ m → LightIf n (rule a)) → LightIf n (rule_1 at rule fs o).found
 rule_1_light m n at rule fs None h go = tt
@@ -63,7 +63,7 @@ field_light : (f : Field) → LightIf 1 (field f).found
 field_light record_fields.Code = omega arith
 field_light record_fields.Flags = omega arith
 field_light record_fields.Count = omega arith
-field_light (record_fields.Information k at) = unless_light 1 (nat_le k 14) at _ [] _ (omega arith)
+field_light (record_fields.Information k at) = given_that_light 1 (nat_le k 14) at _ [] _ (omega arith)
 
 -- ---- calls
 
@@ -104,7 +104,7 @@ called_light n t make None fs h go = tt
 called_light n t make (Some es) fs h go = let g = go es in omega arith
 
 with_light : (n at : ℕ) (ws : List Wanted) (t : CType) (make : nodes.Arguments → Node) (args : List Argument) → ArgumentsLight args n → ((es : nodes.Arguments) → node_weight (make es) ≤ arguments_weight es) → LightIf (1 + n) (call_with at ws t make args).found
-with_light n at ws t make args h go = unless_light (1 + n) (nat_eq (length ws) (length args)) at _ _ _ (called_light n t make (pass_all ws args).found (pass_all ws args).faults (pass_all_light ws args n h) go)
+with_light n at ws t make args h go = given_that_light (1 + n) (nat_eq (length ws) (length args)) at _ _ _ (called_light n t make (pass_all ws args).found (pass_all ws args).faults (pass_all_light ws args n h) go)
 
 call_light : (s : Names) (n at : ℕ) (e : Option Entity) (args : List Argument) → ArgumentsLight args n → LightIf (1 + n) (call s at e args).found
 call_light s n at (Some (UserFunction f t ps)) args h = with_light n at (map OfType ps) t (nodes.Call f) args h (λ es. omega arith)
@@ -125,7 +125,7 @@ mutual
   pub resolved_light : (s : Names) (e : Expression) → LightIf (counted.nodes e) (resolve_expression s e).found
   resolved_light s (trees.Constant at l) = literal_light l
   resolved_light s (trees.Variable n) = name_light n.start (s.entity n)
-  resolved_light s (trees.Information at f) = unless_light 1 s.information at _ [] (field f) (field_light f)
+  resolved_light s (trees.Information at f) = given_that_light 1 s.information at _ [] (field f) (field_light f)
   resolved_light s (trees.Call n es) = call_light s (nodes_of_arguments es) n.start (s.entity n) (resolve_arguments s es) (arguments_light s es)
   resolved_light s (trees.Parentheses at e) = lighter (counted.nodes e) (1 + counted.nodes e) (resolve_expression s e).found (omega arith) (resolved_light s e)
   resolved_light s (trees.Index a at i) =
@@ -135,13 +135,13 @@ mutual
       (λ x y p q. lighter (1 + (weight x + weight y)) (1 + (k + m)) _ (omega arith) (element_light x y))
   resolved_light s (trees.Postfix e o at) =
       let n = counted.nodes e in
-      unless_light (1 + n) _ (start e) _ _ _ (rule_1_light n (1 + n) at _ _ (resolve_expression s e).found (resolved_light s e) (λ x p. lighter (1 + weight x) (1 + n) _ (omega arith) (incremented_light _ o x)))
+      given_that_light (1 + n) _ (start e) _ _ _ (rule_1_light n (1 + n) at _ _ (resolve_expression s e).found (resolved_light s e) (λ x p. lighter (1 + weight x) (1 + n) _ (omega arith) (incremented_light _ o x)))
   resolved_light s (trees.Prefix at o e) =
       let n = counted.nodes e in
-      unless_light (1 + n) _ (start e) _ _ _ (rule_1_light n (1 + n) at _ _ (resolve_expression s e).found (resolved_light s e) (λ x p. lighter (1 + weight x) (1 + n) _ (omega arith) (incremented_light _ o x)))
+      given_that_light (1 + n) _ (start e) _ _ _ (rule_1_light n (1 + n) at _ _ (resolve_expression s e).found (resolved_light s e) (λ x p. lighter (1 + weight x) (1 + n) _ (omega arith) (incremented_light _ o x)))
   resolved_light s (trees.Unary at o e) =
       let n = counted.nodes e in
-      unless_light (1 + n) _ (start e) _ _ _ (rule_1_light n (1 + n) at _ _ (resolve_expression s e).found (resolved_light s e) (λ x p. lighter (1 + weight x) (1 + n) _ (omega arith) (unary_light o x)))
+      given_that_light (1 + n) _ (start e) _ _ _ (rule_1_light n (1 + n) at _ _ (resolve_expression s e).found (resolved_light s e) (λ x p. lighter (1 + weight x) (1 + n) _ (omega arith) (unary_light o x)))
   resolved_light s (trees.Cast at t e) =
       let n = counted.nodes e in
       rule_1_light n (1 + n) at _ _ (resolve_expression s e).found (resolved_light s e) (λ x p. lighter (1 + weight x) (1 + n) _ (omega arith) (cast_light t x))
@@ -159,7 +159,7 @@ mutual
   resolved_light s (trees.Assign a at o b) =
       let k = counted.nodes a in
       let m = counted.nodes b in
-      unless_light (1 + (k + m)) _ (start a) _ _ _ (changed_light o at (start b) k m (resolve_expression s a) (resolve_expression s b) (resolved_light s a) (resolved_light s b))
+      given_that_light (1 + (k + m)) _ (start a) _ _ _ (changed_light o at (start b) k m (resolve_expression s a) (resolve_expression s b) (resolved_light s a) (resolved_light s b))
   resolved_light s (trees.Comma a at b) =
       let k = counted.nodes a in
       let m = counted.nodes b in

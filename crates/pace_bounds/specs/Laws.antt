@@ -15,16 +15,21 @@ abbrev pub pace_in : ℕ → ℕ
 pace_in bytes = 8 * bytes + 256
 
 abbrev pub PaceIsBounded : Type 0
-PaceIsBounded = (text : List ℕ) (xs : List ExternalDeclaration) (bytes : ℕ) → nodes_of xs ≤ bytes → pace_of (resolve text xs).program ≤ pace_in bytes
+PaceIsBounded =
+    (text : List ℕ) (xs : List ExternalDeclaration) (bytes : ℕ) → nodes_of xs ≤ bytes
+    → pace_of (resolve text xs).program ≤ pace_in bytes
 
 -- a text's program, by what it is resolved to
 abbrev pub program_of : List ℕ → List ExternalDeclaration → Program
 program_of text xs = (resolve text xs).program
 
 abbrev pub AcceptedFollows : Type 0
-AcceptedFollows = (text : List ℕ) (xs : List ExternalDeclaration) → Within text xs → Accepted text xs → Follows (program_of text xs) (lowered (program_of text xs))
+AcceptedFollows =
+    (text : List ℕ) (xs : List ExternalDeclaration) → Within text xs → Accepted text xs
+    → Follows (program_of text xs) (lowered (program_of text xs))
 
 abbrev pub AcceptedShowsNoMore : Type 0
 AcceptedShowsNoMore =
-    (text : List ℕ) (xs : List ExternalDeclaration) (bytes : ℕ) → Within text xs → Accepted text xs → nodes_of xs ≤ bytes
+    (text : List ℕ) (xs : List ExternalDeclaration) (bytes : ℕ) → Within text xs → Accepted text xs
+    → nodes_of xs ≤ bytes
     → NoMore (program_of text xs) (lowered (program_of text xs)) (pace_in bytes)

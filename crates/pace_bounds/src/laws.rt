@@ -7,14 +7,14 @@ pub fn pace_is_bounded()
     ensures bounded { PaceIsBounded }
 {}
 
-/// From 16 n + 2 turns on the linear code of an accepted text has shown the events of n steps, and has
-/// ended as they end.
+/// From 16 n + 2 turns on the linear code of an accepted text has shown the events of n steps, and
+/// has ended as they end.
 pub fn accepted_follows()
     ensures follows { AcceptedFollows }
 {}
 
-/// The turns of the linear code of an accepted text show no more than its steps, at most 8 for each byte
-/// and 256 for each turn and for one more; it ends only as they end, and is never stuck.
+/// The turns of the linear code of an accepted text show no more than its steps, at most 8 for each
+/// byte and 256 for each turn and for one more; it ends only as they end, and is never stuck.
 pub fn accepted_shows_no_more()
     ensures no_more { AcceptedShowsNoMore }
 {}

@@ -6,6 +6,8 @@
 //! will do, and raw data may be longer or shorter than a section's size.
 //!
 //! Addresses of sections, entries and directories are relative to the image base.
+//!
+//! Proved: the view is the image that the bytes are (`specs/Reading.antt`, where to begin).
 #![tactic(auto)]
 
 mod directory;

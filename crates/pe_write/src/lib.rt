@@ -1,9 +1,12 @@
 //! Images of programs for x64 (Microsoft's specification of the PE format), written.
 //!
-//! [`write`] gives the bytes of the [`Image`] of a program in one strict form, which is read again as
-//! the same image. It has five sections: `.data`, `.text`, `.rdata` with the tables by which it
-//! imports the services of its host ([`Service`]), `.xdata` and `.pdata`. [`Sizes`] says where they
-//! lie, relative to the image base, before their bytes are known.
+//! [`write`] gives the bytes of the [`Image`] of a program in one strict form, which is read again
+//! as the same image. It has five sections: `.data`, `.text`, `.rdata` with the tables by which it
+//! imports the services of its host ([`Service`]), `.xdata` and `.pdata`. [`Sizes`] says where
+//! they lie, relative to the image base, before their bytes are known.
+//!
+//! Proved: the bytes are those of `specs/Program.antt` and `specs/Written.antt`, and they are read
+//! again as the same image. Begin with `specs/Program.antt`.
 #![tactic(auto)]
 
 mod image;

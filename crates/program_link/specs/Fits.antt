@@ -1,6 +1,8 @@
--- Programs that can be linked: the limits that keep every frame within 8,192 bytes and the image within 256 MiB (own).
+-- Programs that can be linked: the limits that keep every frame within 8,192 bytes and the image
+-- within 256 MiB (own).
 use Rattle.std.specs.Prelude.{ℕ, ◌+◌, ◌-◌, ◌*◌, ◌^◌, ◌<◌, ◌≤◌, List, [], ◌∷◌, length}
 use Rattle.std.specs.List.{AllByRecursion}
+use Rattle.seh_num.specs.declared.limit.TheConstants.{MOST_PARAMETERS}
 use Rattle.linear_code.specs.declared.slot.Slot.{Slot}
 use Rattle.linear_code.specs.declared.slot.Slot.TheVariants.{Local, Temporary}
 use Rattle.linear_code.specs.declared.instruction.Instruction.{Instruction}
@@ -19,11 +21,13 @@ FitsSlot b (Local i) = i < b.locals
 FitsSlot b (Temporary i) = i < b.temporaries
 
 abbrev pub FitsInstruction : LinearBody → Instruction → Type 0
-FitsInstruction b (instructions.Compute to o first second) = FitsSlot b to × FitsSlot b first × FitsSlot b second
+FitsInstruction b (instructions.Compute to o first second) =
+    FitsSlot b to × FitsSlot b first × FitsSlot b second
 FitsInstruction b (instructions.Information to field) = FitsSlot b to × IsFieldNear field
 FitsInstruction b (instructions.Landing to) = FitsSlot b to
 FitsInstruction b (instructions.JumpIfZero slot label) = FitsSlot b slot
-FitsInstruction b (instructions.Call function first count) = (first < b.temporaries) × (count ≤ 8)
+FitsInstruction b (instructions.Call function first count) =
+    (first < b.temporaries) × (count ≤ MOST_PARAMETERS)
 FitsInstruction b (instructions.CallBuiltIn function first) = first < b.temporaries
 FitsInstruction b (instructions.Return from) = FitsSlot b from
 FitsInstruction b other = Unit {0}
@@ -36,7 +40,7 @@ pub record FitsBody (b : LinearBody) : Type 0 where
   pub regions : length b.regions ≤ 2 ^ 24
 
 pub record FitsFunction (f : LinearFunction) : Type 0 where
-  pub parameters : f.parameters ≤ 8
+  pub parameters : f.parameters ≤ MOST_PARAMETERS
   pub body : FitsBody f.body
 
 abbrev pub FitsKind : LinearBody → FuncletKind → Type 0
@@ -73,12 +77,14 @@ abbrev pub text_room : LinearProgram → ℕ
 text_room p = room (function_bodies p.functions) + room (funclet_bodies p.funclets)
 
 abbrev pub program_tables_room : LinearProgram → ℕ
-program_tables_room p = tables_room (function_bodies p.functions) + tables_room (funclet_bodies p.funclets)
+program_tables_room p =
+    tables_room (function_bodies p.functions) + tables_room (funclet_bodies p.funclets)
 
 pub record FitsProgram (p : LinearProgram) : Type 0 where
   pub globals : length p.globals ≤ 2 ^ 20
   pub main : p.main < length p.functions
   pub functions : AllByRecursion FitsFunction p.functions
   pub funclets : AllByRecursion (FitsFunclet p) p.funclets
-  -- what is left of the 256 MiB is for the globals, the headers and the rest of each section's last page
+  -- what is left of the 256 MiB is for the globals, the headers and the rest of each section's last
+  -- page
   pub small : text_room p + program_tables_room p ≤ 2 ^ 28 - 2 ^ 21

@@ -1,5 +1,6 @@
 -- The image of a program: its globals, its routines, and their tables.
 use Rattle.std.specs.Prelude.{ℕ, ◌+◌, ◌-◌, List, [], ◌∷◌, length, get_or, max, take, drop}
+use Rattle.host_layout.specs.declared.range.TheConstants.{DATA_AT}
 use Rattle.eh_tables.specs.Written.{table_bytes}
 use Rattle.pe_write.specs.declared.sizes.Sizes.{Sizes}
 use Rattle.pe_write.specs.Program.{Program, rdata_at, xdata_at}
@@ -20,7 +21,7 @@ data_size globals = pages_of (length globals)
 
 -- the text begins after the page of the headers and the data
 abbrev pub text_begin : List ℕ → ℕ
-text_begin globals = 0x1000 + data_size globals
+text_begin globals = DATA_AT + data_size globals
 
 abbrev pub first : List ℕ → ℕ
 first globals = first_routine_at (text_begin globals)
@@ -31,7 +32,13 @@ total (r ∷ rs) = routine_size r + total rs
 
 -- what the addresses of `.rdata` and `.xdata` rest on: the sizes of the sections before them
 abbrev pub front_sizes : List ℕ → List RoutineView → Sizes
-front_sizes globals rs = record { data_size = data_size globals; text_size = 51 + total rs; xdata_size = 0; pdata_size = 0 }
+front_sizes globals rs =
+    record {
+      data_size = data_size globals;
+      text_size = 51 + total rs;
+      xdata_size = 0;
+      pdata_size = 0;
+    }
 
 -- so many of the routines are functions
 abbrev pub site : List ℕ → List RoutineView → ℕ → SiteView
@@ -52,7 +59,9 @@ image_of globals rs functions main =
       text = text_bytes (site globals rs functions) rs;
       entry = get_or (bounds (first globals) rs) main 0 - text_begin globals;
       xdata = infos (site globals rs functions) (first globals) rs;
-      pdata = table_bytes (ranges (site globals rs functions) (xdata_at (front_sizes globals rs)) (first globals) rs);
+      pdata =
+          table_bytes (ranges (site globals rs functions) (xdata_at (front_sizes globals rs))
+          (first globals) rs);
     }
 
 abbrev pub linked : LinearProgram → Program

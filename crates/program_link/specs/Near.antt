@@ -1,6 +1,7 @@
 -- Routines whose slots and frames 32-bit displacements reach.
 use Rattle.std.specs.Prelude.{ℕ, ◌+◌, ◌^◌, ◌<◌, ◌≤◌, List, length, get_or, Option, Some, None}
 use Rattle.std.specs.List.{AllByRecursion}
+use Rattle.seh_num.specs.declared.limit.TheConstants.{MOST_PARAMETERS}
 use Rattle.linear_code.specs.declared.slot.Slot.TheVariants.{Local}
 use Rattle.frame_layout.specs.declared.frame.Frame.{Frame}
 use Rattle.template_code.specs.declared.layout.Layout.{Layout}
@@ -17,9 +18,10 @@ IsFrameNear None = Unit {0}
 IsFrameNear (Some f) = (0 < f.size) × (f.size ≤ 8184)
 
 abbrev pub IsEntryNear : Layout → Entry → Type 0
-IsEntryNear y (entries.Function count) = (count ≤ 8) × AreParametersNear y count
+IsEntryNear y (entries.Function count) = (count ≤ MOST_PARAMETERS) × AreParametersNear y count
 IsEntryNear y (entries.Filter parent) = IsKeptNear parent (base_of y y.base) × ArePointersNear y
-IsEntryNear y (entries.Finally parent flag) = IsKeptNear parent (base_of y y.base) × IsSlotNear y (Local flag)
+IsEntryNear y (entries.Finally parent flag) =
+    IsKeptNear parent (base_of y y.base) × IsSlotNear y (Local flag)
 
 pub record IsRoutineNear (r : RoutineView) : Type 0 where
   pub frame : IsFrameNear r.frame
@@ -34,7 +36,8 @@ pub record IsSiteNear (s : SiteView) : Type 0 where
   pub functions : AreNear s.functions
   pub funclets : AreNear s.funclets
 
--- all routines have room in an image, whose first routine is a function and which begins at one that isn't empty
+-- all routines have room in an image, whose first routine is a function and which begins at one
+-- that isn't empty
 pub record HasPlaces (rs : List RoutineView) (functions main : ℕ) : Type 0 where
   pub room : room rs < 2 ^ 29 + 2 ^ 28
   pub tables : infos_room rs < 2 ^ 29

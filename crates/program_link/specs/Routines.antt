@@ -1,4 +1,5 @@
--- What a program has in its text, one after another: its functions, and then its funclets by their numbers.
+-- What a program has in its text, one after another: its functions, and then its funclets by their
+-- numbers.
 use Rattle.std.specs.Prelude.{ℕ, suc, ◌+◌, ◌*◌, ◌<◌, Bool, true, false, not, ◌&&◌, ◌||◌, ◌==◌, nat_le, List, [], ◌∷◌, ◌++◌, length, get_or, map, Option, Some, None}
 use Rattle.linear_code.specs.declared.instruction.Instruction.{Instruction}
 use Rattle.linear_code.specs.declared.instruction.Instruction.TheVariants as instructions
@@ -32,25 +33,52 @@ has_call [] = false
 has_call (i ∷ is) = is_call i || has_call is
 
 abbrev pub is_leaf : LinearBody → Bool
-is_leaf b = nat_le (b.locals + b.temporaries) 4 && ((length b.regions == 0) && not (has_call b.code))
+is_leaf b =
+    nat_le (b.locals + b.temporaries) 4 && ((length b.regions == 0) && not (has_call b.code))
 
 -- ---- functions
 
 abbrev pub function_frame : LinearBody → Frame
-function_frame b = frame_of (record { passed = b.passed; kept = 0; temporaries = b.temporaries; locals = b.locals })
+function_frame b =
+    frame_of (record {
+      passed = b.passed;
+      kept = 0;
+      temporaries = b.temporaries;
+      locals = b.locals;
+    })
 
 -- the slots of a leaf are above its return address
 abbrev pub leaf_layout : LinearBody → Layout
-leaf_layout b = record { base = None; pointers = 0; locals = 8; temporaries = 8 + 8 * b.locals; frame = 0 }
+leaf_layout b =
+    record { base = None; pointers = 0; locals = 8; temporaries = 8 + 8 * b.locals; frame = 0 }
 
 abbrev pub function_layout : Frame → Layout
-function_layout f = record { base = None; pointers = 0; locals = f.locals; temporaries = f.temporaries; frame = f.size }
+function_layout f =
+    record {
+      base = None;
+      pointers = 0;
+      locals = f.locals;
+      temporaries = f.temporaries;
+      frame = f.size;
+    }
 
 abbrev pub leaf : LinearFunction → RoutineView
-leaf f = record { entry = entries.Function f.parameters; frame = None; layout = leaf_layout f.body; body = f.body }
+leaf f =
+    record {
+      entry = entries.Function f.parameters;
+      frame = None;
+      layout = leaf_layout f.body;
+      body = f.body;
+    }
 
 abbrev pub framed : LinearFunction → RoutineView
-framed f = let frame = function_frame f.body in record { entry = entries.Function f.parameters; frame = Some frame; layout = function_layout frame; body = f.body }
+framed f =
+    let frame = function_frame f.body in record {
+      entry = entries.Function f.parameters;
+      frame = Some frame;
+      layout = function_layout frame;
+      body = f.body;
+    }
 
 abbrev pub leaf_if : Bool → LinearFunction → RoutineView
 leaf_if true f = leaf f
@@ -59,12 +87,14 @@ leaf_if false f = framed f
 -- `main` has a frame always; the first function has this index
 abbrev pub functions_from : ℕ → ℕ → List LinearFunction → List RoutineView
 functions_from main index [] = []
-functions_from main index (f ∷ fs) = leaf_if (not (index == main) && is_leaf f.body) f ∷ functions_from main (suc index) fs
+functions_from main index (f ∷ fs) =
+    leaf_if (not (index == main) && is_leaf f.body) f ∷ functions_from main (suc index) fs
 
 -- ---- funclets: they keep the base of their function's frame, and the address of EXCEPTION_POINTERS
 
 abbrev pub funclet_frame : LinearBody → Frame
-funclet_frame b = frame_of (record { passed = b.passed; kept = 2; temporaries = b.temporaries; locals = 0 })
+funclet_frame b =
+    frame_of (record { passed = b.passed; kept = 2; temporaries = b.temporaries; locals = 0 })
 
 -- a body without any
 abbrev pub nothing : LinearBody
@@ -74,7 +104,13 @@ abbrev pub function_body : LinearProgram → ℕ → LinearBody
 function_body p index = (get_or p.functions index (record { parameters = 0; body = nothing })).body
 
 abbrev pub funclet_body : LinearProgram → ℕ → LinearBody
-funclet_body p index = (get_or p.funclets index (record { kind = Filter; function = 0; parent = None; body = nothing })).body
+funclet_body p index =
+    (get_or p.funclets index (record {
+      kind = Filter;
+      function = 0;
+      parent = None;
+      body = nothing;
+    })).body
 
 -- where the funclet's parent keeps the base, if that is a funclet too
 abbrev pub kept_by : LinearProgram → Option ℕ → Option ℕ
@@ -91,7 +127,14 @@ entry_of (Finally flag) parent = entries.Finally parent flag
 
 -- the locals are those of the function
 abbrev pub funclet_layout : Frame → Frame → Layout
-funclet_layout function own = record { base = Some own.kept; pointers = own.kept + 8; locals = function.locals; temporaries = own.temporaries; frame = own.size }
+funclet_layout function own =
+    record {
+      base = Some own.kept;
+      pointers = own.kept + 8;
+      locals = function.locals;
+      temporaries = own.temporaries;
+      frame = own.size;
+    }
 
 abbrev pub funclet : LinearProgram → LinearFunclet → RoutineView
 funclet p f =

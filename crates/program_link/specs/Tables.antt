@@ -1,4 +1,5 @@
--- The tables of a program: an unwind info for each routine with a frame, its scope table where it has regions, and its entry in the function table.
+-- The tables of a program: an unwind info for each routine with a frame, its scope table where it
+-- has regions, and its entry in the function table.
 use Rattle.std.specs.Prelude.{ℕ, ◌+◌, ◌*◌, Bool, true, false, not, ◌||◌, List, [], ◌∷◌, ◌++◌, length, map, Option, Some, None}
 use Rattle.eh_tables.specs.declared.range.RuntimeFunction.{RuntimeFunction}
 use Rattle.eh_tables.specs.declared.scope.ScopeRecord.{ScopeRecord}
@@ -29,7 +30,14 @@ jump_target labels end (kinds.Filter funclet target) = address_or labels target 
 jump_target labels end (kinds.Always target) = address_or labels target end
 
 abbrev pub scope_record : List ℕ → List ℕ → ℕ → Region → ScopeRecord
-scope_record funclets labels end r = record { begin = address_or labels r.begin end; end = address_or labels r.end end; handler_address = handler_address funclets r.kind; jump_target = jump_target labels end r.kind }
+scope_record funclets labels end r =
+    record {
+      begin = address_or labels r.begin end;
+      end = address_or labels r.end end;
+      handler_address = handler_address funclets r.kind;
+      jump_target =
+          jump_target labels end r.kind;
+    }
 
 abbrev pub scope_records : List ℕ → List ℕ → ℕ → List Region → List ScopeRecord
 scope_records funclets labels end rs = map (scope_record funclets labels end) rs
@@ -49,7 +57,8 @@ abbrev pub has_finally : List Region → Bool
 has_finally [] = false
 has_finally (r ∷ rs) = is_finally r.kind || has_finally rs
 
--- the language handler is asked in a search where there is an `__except`, and while unwinding where there is a `__finally`
+-- the language handler is asked in a search where there is an `__except`, and while unwinding where
+-- there is a `__finally`
 abbrev pub trailer : ℕ → List Region → Trailer
 trailer handler [] = Nothing
 trailer handler rs = Handler (has_except rs) (has_finally rs) handler
@@ -59,7 +68,9 @@ scope_table funclets labels end [] = []
 scope_table funclets labels end rs = scope_bytes (scope_records funclets labels end rs)
 
 abbrev pub info_bytes_of : SiteView → List ℕ → ℕ → RoutineView → Frame → List ℕ
-info_bytes_of s labels end r f = unwind_bytes (info_of f (trailer (thunk_at s.text CSpecificHandler) r.body.regions)) ++ scope_table s.funclets labels end r.body.regions
+info_bytes_of s labels end r f =
+    unwind_bytes (info_of f (trailer (thunk_at s.text CSpecificHandler) r.body.regions))
+    ++ scope_table s.funclets labels end r.body.regions
 
 abbrev pub info_if : SiteView → List ℕ → ℕ → RoutineView → Option Frame → List ℕ
 info_if s labels end r None = []
@@ -88,9 +99,11 @@ range_if (Some f) range = range ∷ []
 
 -- the entry of a routine with a frame, whose info is at an address
 abbrev pub range_of : ℕ → ℕ → RoutineView → List RuntimeFunction
-range_of info at r = range_if r.frame (record { begin = at; end = at + routine_size r; unwind_info = info })
+range_of info at r =
+    range_if r.frame (record { begin = at; end = at + routine_size r; unwind_info = info })
 
 -- the infos are at addresses from one on
 abbrev pub ranges : SiteView → ℕ → ℕ → List RoutineView → List RuntimeFunction
 ranges s info at [] = []
-ranges s info at (r ∷ rs) = range_of info at r ++ ranges s (info + length (info_bytes s at r)) (at + routine_size r) rs
+ranges s info at (r ∷ rs) =
+    range_of info at r ++ ranges s (info + length (info_bytes s at r)) (at + routine_size r) rs

@@ -40,8 +40,10 @@ base_of y (Some b) = b
 
 abbrev pub argument_code : Layout → Entry → List Instr
 argument_code y (entries.Function count) = parameters_code y 0 count
-argument_code y (entries.Filter parent) = keep_base parent (base_of y y.base) ++ (keep_register Rcx y.pointers ∷ [])
-argument_code y (entries.Finally parent flag) = keep_base parent (base_of y y.base) ++ (move W32 Rax Rcx ∷ keep y (Local flag))
+argument_code y (entries.Filter parent) =
+    keep_base parent (base_of y y.base) ++ (keep_register Rcx y.pointers ∷ [])
+argument_code y (entries.Finally parent flag) =
+    keep_base parent (base_of y y.base) ++ (move W32 Rax Rcx ∷ keep y (Local flag))
 
 abbrev pub entry_code : ℕ → ℕ → RoutineView → List Instr
 entry_code at check r = frame_code at check r.frame ++ argument_code r.layout r.entry
@@ -80,7 +82,13 @@ abbrev pub thunk_at : ℕ → Service → ℕ
 thunk_at text s = text + 6 * thunk_number s
 
 abbrev pub thunks_at : ℕ → Thunks
-thunks_at text = record { put = thunk_at text Put; protect = thunk_at text Protect; raise_exception = thunk_at text RaiseException; local_unwind = thunk_at text LocalUnwind }
+thunks_at text =
+    record {
+      put = thunk_at text Put;
+      protect = thunk_at text Protect;
+      raise_exception = thunk_at text RaiseException;
+      local_unwind = thunk_at text LocalUnwind;
+    }
 
 abbrev pub service_thunk : ℕ → ℕ → Service → Instr
 service_thunk text rdata s = thunk (distance (thunk_at text s + 6) (rdata + slot_of s))
@@ -108,7 +116,11 @@ pub record OwnAddresses : Type 0 where
   pub end : ℕ
 
 abbrev pub own_addresses : ℕ → RoutineView → OwnAddresses
-own_addresses at r = record { labels = label_list r.layout (at + entry_size r) r.body.code; end = at + routine_size r }
+own_addresses at r =
+    record {
+      labels = label_list r.layout (at + entry_size r) r.body.code;
+      end = at + routine_size r;
+    }
 
 -- what every routine refers to: the text's begin, and the addresses of functions and funclets
 pub record SiteView : Type 0 where
@@ -129,7 +141,8 @@ addresses s at r =
 
 -- a routine at an address, with `__chkstk` and all else where the links say
 abbrev pub code_at : ℕ → Links → ℕ → RoutineView → List Instr
-code_at check links at r = entry_code at check r ++ code_from links r.layout (at + entry_size r) r.body.code
+code_at check links at r =
+    entry_code at check r ++ code_from links r.layout (at + entry_size r) r.body.code
 
 abbrev pub routine_code : SiteView → ℕ → RoutineView → List Instr
 routine_code s at r = code_at (check_stack_at s.text) (links_of (addresses s at r)) at r
@@ -142,4 +155,5 @@ routines_bytes s at [] = []
 routines_bytes s at (r ∷ rs) = routine_bytes s at r ++ routines_bytes s (at + routine_size r) rs
 
 abbrev pub text_bytes : SiteView → List RoutineView → List ℕ
-text_bytes s rs = spelled (front_code s.text s.rdata) ++ routines_bytes s (first_routine_at s.text) rs
+text_bytes s rs =
+    spelled (front_code s.text s.rdata) ++ routines_bytes s (first_routine_at s.text) rs

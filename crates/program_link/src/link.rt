@@ -15,26 +15,25 @@ use crate::place::{FRONT_SIZE, bounds_of};
 use crate::routine::{Routine, routines};
 use crate::tables::{Tables, tables_of};
 use crate::text::{Site, text_of};
+use host_layout::range::{self, PAGE};
 use linear_code::program::IrProgram;
 use pe_write::{Image, Sizes, write};
 use std::alloc::{AllocError, Global};
 
-/// The bytes of a page.
-const PAGE: u64 = 4096;
-
-/// Where `.data` begins, after the page of the headers.
-const DATA_AT: u32 = 0x1000;
+/// Where `.data` begins.
+const DATA_AT: u32 = range::DATA_AT as u32;
 
 /// The whole pages of `.data`, at least one.
 fn data_pages(size: u64) -> u32
     requires { size ≤ 2 ^ 20 }
     ensures value { result ≡ spec.pages_of size }
-    ensures small { result ≤ 2 ^ 20 + 4096 }
+    ensures small { result ≤ 2 ^ 20 + PAGE }
 {
     (size.max(1).div_ceil(PAGE) * PAGE) as u32
 }
 
-/// The addresses that a text at `text` refers to, where the first `functions` routines are functions.
+/// The addresses that a text at `text` refers to, where the first `functions` routines are
+/// functions.
 fn site_of<'a>(text: u32, rdata: u32, bounds: &'a [u32], functions: usize) -> Site<'a>
     requires { functions ≤ length bounds.now }
     ensures { result ≡ record {
@@ -93,8 +92,8 @@ fn image_with(
     Ok(Image::new(data_size, data, code, entry, tables.xdata, tables.pdata))
 }
 
-/// The image of routines between bounds, of which the first so many are functions, and which begins at
-/// the one of the index `main`.
+/// The image of routines between bounds, of which the first so many are functions, and which begins
+/// at the one of the index `main`.
 fn linked(
     alloc: Global,
     globals: &[u8],
@@ -132,8 +131,8 @@ fn linked(
     )
 }
 
-/// The image of routines, of which the first so many are functions, and which begins at the one of the
-/// index `main`.
+/// The image of routines, of which the first so many are functions, and which begins at the one of
+/// the index `main`.
 fn image_of(
     alloc: Global,
     globals: &[u8],

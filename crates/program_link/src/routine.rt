@@ -24,8 +24,8 @@ const FUNCLET_WORDS: u64 = 2;
 pub enum Entry {
     /// Its parameters go to its first locals.
     Function { parameters: u64 },
-    /// It keeps the base of its function's frame, which is kept at `parent` in a funclet's frame, and
-    /// the address of its EXCEPTION_POINTERS.
+    /// It keeps the base of its function's frame, which is kept at `parent` in a funclet's frame,
+    /// and the address of its EXCEPTION_POINTERS.
     Filter { parent: Option<u64> },
     /// It keeps the base of its function's frame, and its flag goes to a local.
     Finally { parent: Option<u64>, flag: u64 },
@@ -95,8 +95,8 @@ fn has_call(code: &[Instruction]) -> bool
     false
 }
 
-/// Whether a function needs no stack of its own: it calls nothing, handles nothing, and its slots find
-/// place in the home space that its caller has made.
+/// Whether a function needs no stack of its own: it calls nothing, handles nothing, and its slots
+/// find place in the home space that its caller has made.
 fn is_leaf(body: &IrBody) -> bool
     requires { FitsBody (linear_body body.now) }
     ensures { result ≡ spec.is_leaf (linear_body body.now) }
@@ -225,8 +225,8 @@ fn funclet_routine<'a>(program: &IrProgram, funclet: &'a IrFunclet) -> Routine<'
     }
 }
 
-/// The routines of a program in the order in which they are placed: its functions, and then its filters
-/// and `__finally` blocks by their numbers.
+/// The routines of a program in the order in which they are placed: its functions, and then its
+/// filters and `__finally` blocks by their numbers.
 pub fn routines<'a>(alloc: Global, program: &'a IrProgram) -> Result<Vec<Routine<'a>>, AllocError>
     requires { FitsProgram (linear_program program.now) }
     ensures { IfOk result (λ v. v.items ≡ spec.routines (linear_program program.now)) }

@@ -203,8 +203,8 @@ fn put_tables(
     }
 }
 
-/// Adds the unwind info of a routine that begins at an address, and its entry, where it has a frame;
-/// answers where the routine ends.
+/// Adds the unwind info of a routine that begins at an address, and its entry, where it has a
+/// frame; answers where the routine ends.
 fn put_routine(
     alloc: Global,
     xdata: &mut Vec<u8>,
@@ -250,7 +250,8 @@ pub struct Tables {
     pub pdata: Vec<u8>,
 }
 
-/// The tables of routines, of which the first begins at `first`, with unwind infos from `xdata_at` on.
+/// The tables of routines, of which the first begins at `first`, with unwind infos from `xdata_at`
+/// on.
 pub fn tables_of(
     alloc: Global,
     site: &Site<'_>,

@@ -25,8 +25,10 @@ pub record HasShape (p : LinearProgram) : Type 0 where
   -- a row for each region, in their order
   pub rows : AreRows p (rows_of (entries p)) (regions p)
   pub count : length (rows_of (entries p)) ≡ length (regions p)
-  pub finally : count_by is_finally_row (rows_of (entries p)) ≡ count_by (λ r. is_finally r.kind) (regions p)
-  pub always : count_by is_always_row (rows_of (entries p)) ≡ count_by (λ r. is_always r.kind) (regions p)
+  pub finally : count_by is_finally_row (rows_of (entries p))
+      ≡ count_by (λ r. is_finally r.kind) (regions p)
+  pub always : count_by is_always_row (rows_of (entries p))
+      ≡ count_by (λ r. is_always r.kind) (regions p)
   pub handlers : handlers (rows_of (entries p)) ≡ map (funclet_begin p) (named (regions p))
   -- each funclet begins an entry
   pub funclets : (k : ℕ) → k < length p.funclets → BeginsEntry p (funclet_begin p k)
@@ -36,7 +38,9 @@ TablesHaveShape = (p : LinearProgram) → FitsProgram p → HasShape p
 
 -- where the regions name different funclets, the handler addresses are different
 abbrev pub HandlersDiffer : Type 0
-HandlersDiffer = (p : LinearProgram) → FitsProgram p → NamesFunclets p → AreDifferent (handlers (rows_of (entries p)))
+HandlersDiffer =
+    (p : LinearProgram) → FitsProgram p → NamesFunclets p
+    → AreDifferent (handlers (rows_of (entries p)))
 
 -- ---- the flags of its unwind infos
 
@@ -52,4 +56,6 @@ EntriesAreFlagged = (s : SiteView) (x : Placed) (f : Frame) → IsFlagged s x f
 
 -- none takes more than 8,192 bytes, its return address counted
 abbrev pub FramesAreSmall : Type 0
-FramesAreSmall = (p : LinearProgram) (index : ℕ) (x : Placed) (f : Frame) → FitsProgram p → slice_get (placed p) index ≡ Some x → x.routine.frame ≡ Some f → f.size + 8 ≤ 8192
+FramesAreSmall =
+    (p : LinearProgram) (index : ℕ) (x : Placed) (f : Frame) → FitsProgram p
+    → slice_get (placed p) index ≡ Some x → x.routine.frame ≡ Some f → f.size + 8 ≤ 8192

@@ -29,12 +29,14 @@ is_always_row row = row.handler_address == 1
 -- the other handler addresses
 abbrev pub handlers : List ScopeRecord → List ℕ
 handlers [] = []
-handlers (row ∷ rows) = if is_always_row row then handlers rows else row.handler_address ∷ handlers rows
+handlers (row ∷ rows) =
+    if is_always_row row then handlers rows else row.handler_address ∷ handlers rows
 
 -- entries one after another, none of them empty
 abbrev pub AreInOrder : ℕ → List Entry → Type 0
 AreInOrder last [] = Unit {0}
-AreInOrder last (e ∷ es) = (last ≤ e.range.begin) × (e.range.begin < e.range.end) × AreInOrder e.range.end es
+AreInOrder last (e ∷ es) =
+    (last ≤ e.range.begin) × (e.range.begin < e.range.end) × AreInOrder e.range.end es
 
 -- no number is there twice
 abbrev pub AreDifferent : List ℕ → Type 0

@@ -12,20 +12,27 @@ use Rattle.program_tables.specs.Entries.{entry_of, entries}
 
 -- the table of the image is that of its routines
 abbrev pub TablesAreRead : Type 0
-TablesAreRead = (p : LinearProgram) → FitsProgram p → HasRegions p → tables (image_of (linked p)) ≡ Ok (entries p)
+TablesAreRead =
+    (p : LinearProgram) → FitsProgram p → HasRegions p
+    → tables (image_of (linked p)) ≡ Ok (entries p)
 
--- in the code of a routine with a frame its entry is found; in that of one without, and before the first one, none
+-- in the code of a routine with a frame its entry is found; in that of one without, and before the
+-- first one, none
 abbrev pub EntriesAreHeld : Type 0
 EntriesAreHeld =
     (p : LinearProgram) (index : ℕ) (x : Placed) (f : Frame) (rva : ℕ)
-    → FitsProgram p → slice_get (placed p) index ≡ Some x → x.routine.frame ≡ Some f → x.begin ≤ rva → rva < end_of x
+    → FitsProgram p → slice_get (placed p) index ≡ Some x → x.routine.frame ≡ Some f → x.begin ≤ rva
+    → rva < end_of x
     → holding rva (entries p) ≡ Some (entry_of (site_of p) x f)
 
 abbrev pub LeavesAreHeldByNone : Type 0
 LeavesAreHeldByNone =
     (p : LinearProgram) (index : ℕ) (x : Placed) (rva : ℕ)
-    → FitsProgram p → slice_get (placed p) index ≡ Some x → x.routine.frame ≡ None → x.begin ≤ rva → rva < end_of x
+    → FitsProgram p → slice_get (placed p) index ≡ Some x → x.routine.frame ≡ None → x.begin ≤ rva
+    → rva < end_of x
     → holding rva (entries p) ≡ None
 
 abbrev pub ThunksAreHeldByNone : Type 0
-ThunksAreHeldByNone = (p : LinearProgram) (rva : ℕ) → FitsProgram p → rva < first p.globals → holding rva (entries p) ≡ None
+ThunksAreHeldByNone =
+    (p : LinearProgram) (rva : ℕ) → FitsProgram p → rva < first p.globals
+    → holding rva (entries p) ≡ None

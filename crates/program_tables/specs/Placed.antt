@@ -1,4 +1,5 @@
--- The routines of a program where they stand: its functions, and then its funclets, by their numbers.
+-- The routines of a program where they stand: its functions, and then its funclets, by their
+-- numbers.
 use Rattle.std.specs.Prelude.{ℕ, ◌+◌, List, [], ◌∷◌, length}
 use Rattle.pe_write.specs.Program.{xdata_at}
 use Rattle.linear_code.specs.Program.{LinearProgram}
@@ -23,7 +24,9 @@ end_of x = x.begin + routine_size x.routine
 -- one after another
 abbrev pub placed_from : SiteView → ℕ → ℕ → List RoutineView → List Placed
 placed_from s info at [] = []
-placed_from s info at (r ∷ rs) = record { routine = r; begin = at; info = info } ∷ placed_from s (info + length (info_bytes s at r)) (at + routine_size r) rs
+placed_from s info at (r ∷ rs) =
+    record { routine = r; begin = at; info = info }
+    ∷ placed_from s (info + length (info_bytes s at r)) (at + routine_size r) rs
 
 abbrev pub site_of : LinearProgram → SiteView
 site_of p = site p.globals (routines p) (length p.functions)

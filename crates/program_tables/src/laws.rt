@@ -2,8 +2,8 @@
 
 ghost use Rattle.program_tables.specs.Laws.{TablesAreRead, EntriesAreHeld, LeavesAreHeldByNone, ThunksAreHeldByNone};
 
-/// The function table of a program's image is that of its routines: each that has a frame has an entry,
-/// with its unwind info and its scope records.
+/// The function table of a program's image is that of its routines: each that has a frame has an
+/// entry, with its unwind info and its scope records.
 pub fn tables()
     ensures { TablesAreRead }
 {}

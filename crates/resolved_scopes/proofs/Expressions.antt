@@ -14,7 +14,7 @@ use Rattle.c_syntax.specs.Expression.{Expression, start}
 use Rattle.c_resolved.specs.declared.fault.Fault.{Fault}
 use Rattle.c_resolved.specs.declared.fault.Fault.TheVariants.{TypeClash}
 use Rattle.c_resolved.specs.Operators.{TypedNode, compound_assigned, assigned, comma_of}
-use Rattle.c_resolved.specs.Expressions.{Entity, LocalVariable, GlobalVariable, GlobalArray, UserFunction, BuiltInFunction, CodeFunction, AbnormalFunction, BuiltInConstant, Names, FaultAt, ResolvedExpression, ruled, rule_1, rule_2, rule_3, unless, literal, name, field, Wanted, built_in_wants, fits, passed, Argument, Passed, before, spoiled, pass, pass_all, called, call_with, call, changed, resolve_expression, resolve_arguments, OfType, ZeroLiteral}
+use Rattle.c_resolved.specs.Expressions.{Entity, LocalVariable, GlobalVariable, GlobalArray, UserFunction, BuiltInFunction, CodeFunction, AbnormalFunction, BuiltInConstant, Names, FaultAt, ResolvedExpression, ruled, rule_1, rule_2, rule_3, given_that, literal, name, field, Wanted, built_in_wants, fits, passed, Argument, Passed, before, spoiled, pass, pass_all, called, call_with, call, changed, resolve_expression, resolve_arguments, OfType, ZeroLiteral}
 use Rattle.c_resolved.proofs.Operands.{and_true}
 use Rattle.scoped_programs.specs.Scoped.{Seen, expression_within, node_within, arguments_within}
 use Rattle.resolved_scopes.proofs.Operators.{IsWithin, WithinIf, binary_within, element_within, assigned_within, compound_within, comma_within, incremented_within, unary_within, cast_within, conditional_within}
@@ -26,9 +26,9 @@ ruled_within : (seen : Seen) (at : ℕ) (f : Fault) (fs : List FaultAt) (o : Opt
 ruled_within seen at f fs None h = tt
 ruled_within seen at f fs (Some t) h = h
 
-unless_within : (seen : Seen) (b : Bool) (at : ℕ) (f : Fault) (fs : List FaultAt) (j : ResolvedExpression) → WithinIf seen j.found → WithinIf seen (unless b at f fs j).found
-unless_within seen true at f fs j h = h
-unless_within seen false at f fs j h = tt
+given_that_within : (seen : Seen) (b : Bool) (at : ℕ) (f : Fault) (fs : List FaultAt) (j : ResolvedExpression) → WithinIf seen j.found → WithinIf seen (given_that b at f fs j).found
+given_that_within seen true at f fs j h = h
+given_that_within seen false at f fs j h = tt
 
 rule_1_within : (seen : Seen) (at : ℕ) (rule : TypedNode → Option TypedNode) (fs : List FaultAt) (o : Option TypedNode) → WithinIf seen o → ((a : TypedNode) → IsWithin seen a → WithinIf seen (rule a)) → WithinIf seen (rule_1 at rule fs o).found
 rule_1_within seen at rule fs None h go = tt
@@ -61,7 +61,7 @@ field_within : (seen : Seen) (f : Field) → WithinIf seen (field f).found
 field_within seen record_fields.Code = refl
 field_within seen record_fields.Flags = refl
 field_within seen record_fields.Count = refl
-field_within seen (record_fields.Information k at) = unless_within seen (nat_le k 14) at TypeClash [] _ refl
+field_within seen (record_fields.Information k at) = given_that_within seen (nat_le k 14) at TypeClash [] _ refl
 
 -- ---- calls
 
@@ -103,13 +103,13 @@ called_within seen t make (Some es) fs h go = go es h
 with_within : (seen : Seen) (at : ℕ) (ws : List Wanted) (t : CType) (make : nodes.Arguments → Node) (args : List Argument) → EachWithin seen args
     → ((es : nodes.Arguments) → arguments_within seen es ≡ true → node_within seen (make es) ≡ true) → WithinIf seen (call_with at ws t make args).found
 with_within seen at ws t make args h go =
-    unless_within seen (nat_eq (length ws) (length args)) at _ _ _ (called_within seen t make (pass_all ws args).found (pass_all ws args).faults (pass_all_within seen ws args h) go)
+    given_that_within seen (nat_eq (length ws) (length args)) at _ _ _ (called_within seen t make (pass_all ws args).found (pass_all ws args).faults (pass_all_within seen ws args h) go)
 
 call_within : (seen : Seen) (s : Names) (at : ℕ) (e : Option Entity) (args : List Argument) → EachWithin seen args → WithinIf seen (call s at e args).found
 call_within seen s at (Some (UserFunction f t ps)) args h = with_within seen at (map OfType ps) t (nodes.Call f) args h (λ es k. k)
 call_within seen s at (Some (BuiltInFunction k)) args h = with_within seen at (built_in_wants k) _ (nodes.CallBuiltIn k) args h (λ es k. k)
-call_within seen s at (Some CodeFunction) args h = unless_within seen s.code at _ _ _ (with_within seen at [] _ (λ es. nodes.ExceptionCode) args h (λ es k. refl))
-call_within seen s at (Some AbnormalFunction) args h = unless_within seen s.abnormal at _ _ _ (with_within seen at [] _ (λ es. nodes.AbnormalTermination) args h (λ es k. refl))
+call_within seen s at (Some CodeFunction) args h = given_that_within seen s.code at _ _ _ (with_within seen at [] _ (λ es. nodes.ExceptionCode) args h (λ es k. refl))
+call_within seen s at (Some AbnormalFunction) args h = given_that_within seen s.abnormal at _ _ _ (with_within seen at [] _ (λ es. nodes.AbnormalTermination) args h (λ es k. refl))
 call_within seen s at other args h = tt
 
 -- ---- expressions
@@ -122,18 +122,18 @@ mutual
   pub resolved_within : (seen : Seen) (s : Names) → NamesSeen seen s → (e : Expression) → WithinIf seen (resolve_expression s e).found
   resolved_within seen s known (trees.Constant at l) = literal_within seen l
   resolved_within seen s known (trees.Variable n) = name_within seen n.start (s.entity n) (known n)
-  resolved_within seen s known (trees.Information at f) = unless_within seen s.information at _ [] (field f) (field_within seen f)
+  resolved_within seen s known (trees.Information at f) = given_that_within seen s.information at _ [] (field f) (field_within seen f)
   resolved_within seen s known (trees.Call n es) = call_within seen s n.start (s.entity n) (resolve_arguments s es) (each_within seen s known es)
   resolved_within seen s known (trees.Parentheses at e) = resolved_within seen s known e
   resolved_within seen s known (trees.Index a at i) =
       rule_2_within seen at _ _ (resolve_expression s a).found (resolve_expression s i).found (resolved_within seen s known a) (resolved_within seen s known i)
       (λ x y p q. element_within seen x y p q)
   resolved_within seen s known (trees.Postfix e o at) =
-      unless_within seen _ (start e) _ _ _ (rule_1_within seen at _ _ (resolve_expression s e).found (resolved_within seen s known e) (λ x p. incremented_within seen x p _ o))
+      given_that_within seen _ (start e) _ _ _ (rule_1_within seen at _ _ (resolve_expression s e).found (resolved_within seen s known e) (λ x p. incremented_within seen x p _ o))
   resolved_within seen s known (trees.Prefix at o e) =
-      unless_within seen _ (start e) _ _ _ (rule_1_within seen at _ _ (resolve_expression s e).found (resolved_within seen s known e) (λ x p. incremented_within seen x p _ o))
+      given_that_within seen _ (start e) _ _ _ (rule_1_within seen at _ _ (resolve_expression s e).found (resolved_within seen s known e) (λ x p. incremented_within seen x p _ o))
   resolved_within seen s known (trees.Unary at o e) =
-      unless_within seen _ (start e) _ _ _ (rule_1_within seen at _ _ (resolve_expression s e).found (resolved_within seen s known e) (λ x p. unary_within seen x p o))
+      given_that_within seen _ (start e) _ _ _ (rule_1_within seen at _ _ (resolve_expression s e).found (resolved_within seen s known e) (λ x p. unary_within seen x p o))
   resolved_within seen s known (trees.Cast at t e) = rule_1_within seen at _ _ (resolve_expression s e).found (resolved_within seen s known e) (λ x p. cast_within seen x p t)
   resolved_within seen s known (trees.Binary a at o b) =
       rule_2_within seen at _ _ (resolve_expression s a).found (resolve_expression s b).found (resolved_within seen s known a) (resolved_within seen s known b)
@@ -142,7 +142,7 @@ mutual
       rule_3_within seen at _ _ (resolve_expression s c).found (resolve_expression s a).found (resolve_expression s b).found
       (resolved_within seen s known c) (resolved_within seen s known a) (resolved_within seen s known b) (λ z x y o p q. conditional_within seen z x y o p q)
   resolved_within seen s known (trees.Assign a at o b) =
-      unless_within seen _ (start a) _ _ _ (changed_within seen o at (start b) (resolve_expression s a) (resolve_expression s b) (resolved_within seen s known a) (resolved_within seen s known b))
+      given_that_within seen _ (start a) _ _ _ (changed_within seen o at (start b) (resolve_expression s a) (resolve_expression s b) (resolved_within seen s known a) (resolved_within seen s known b))
   resolved_within seen s known (trees.Comma a at b) =
       rule_2_within seen at comma_of _ (resolve_expression s a).found (resolve_expression s b).found (resolved_within seen s known a) (resolved_within seen s known b)
       (λ x y p q. comma_within seen x y p q)

@@ -2,8 +2,8 @@
 
 ghost use Rattle.resolved_scopes.specs.Laws.{ResolvedIsScoped};
 
-/// Each local that a part of a resolved program names is a parameter, or was declared before, in a block
-/// around the part.
+/// Each local that a part of a resolved program names is a parameter, or was declared before, in a
+/// block around the part.
 pub fn resolved_is_scoped()
     ensures scoped { ResolvedIsScoped }
 {}

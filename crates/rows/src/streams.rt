@@ -166,3 +166,36 @@ fn faults_of_run(rt: HostRuntime) -> Result<(), Fail> {
     }
     Ok(())
 }
+
+/// A source that fails at its first call, or in the midst of the input: nothing is written.
+#[test]
+fn faults_of_sources(rt: HostRuntime) -> Result<(), Fail> {
+    let cases: [Case<'_>; 3] = [
+        (&[1], &[], &[], 4096, Status::ReadFault, "", "read fault\n"),
+        (&[2], &[], &[], 4096, Status::ReadFault, "", "read fault\n"),
+        (&[3], &[], &[], 16, Status::ReadFault, "", "read fault\n"),
+    ];
+    let text = b"int main(void){ put(2+3*4); return 7; }";
+    let bytes = of_code(rt.alloc(), &FOURTEEN)?;
+    for case in cases {
+        answers_as(&rt, rt.alloc(), "compile", text, case)?;
+        answers_as(&rt, rt.alloc(), "meaning", text, case)?;
+        answers_as(&rt, rt.alloc(), "show", &bytes, case)?;
+    }
+    Ok(())
+}
+
+/// `meaning` with sinks that take one byte at a call, or fail.
+#[test]
+fn faults_of_meaning(rt: HostRuntime) -> Result<(), Fail> {
+    let cases: [Case<'_>; 3] = [
+        (&[], &[], &[], 1, Status::Done, "14\nexit 7\n", ""),
+        (&[], &[2], &[], 2, Status::WriteFault, "14", "write fault\n"),
+        (&[], &[1], &[2], 5, Status::WriteFault, "", "write"),
+    ];
+    let text = b"int main(void){ put(2+3*4); return 7; }";
+    for case in cases {
+        answers_as(&rt, rt.alloc(), "meaning", text, case)?;
+    }
+    Ok(())
+}

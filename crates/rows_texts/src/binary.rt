@@ -1,7 +1,7 @@
 //! Each binary operator at the edges of each type.
 //!
-//! The values are those of C's rules (C11, 6.3 and 6.5) with the widths of the Microsoft compiler; a line of
-//! numbers is of one left operand with each right one.
+//! The values are those of C's rules (C11, 6.3 and 6.5) with the widths of the Microsoft compiler;
+//! a line of numbers is of one left operand with each right one.
 
 use crate::ways::{WAYS, all_show};
 use std::test::Fail;

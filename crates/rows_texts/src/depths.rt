@@ -1,7 +1,7 @@
 //! The depth of the meaning, at its limit of 1,000 and one above it.
 //!
-//! An activation counts 1, a filter or `__finally` block that runs 2, and each of them as much from when
-//! an unwinding has left it until that lands.
+//! An activation counts 1, a filter or `__finally` block that runs 2, and each of them as much from
+//! when an unwinding has left it until that lands.
 
 use crate::ways::{COMPILED, MEANING, all_show};
 use std::test::Fail;

@@ -141,7 +141,8 @@ int main(void) {
 /// An exception in a filter and in a `__finally` block.
 const NESTED: &str = r"
 # nested:
-// An exception in a filter searches from there, then from the first raise; accepted, it takes its place.
+// An exception in a filter searches from there, then from the first raise; accepted, it takes its
+// place.
 int count;
 int bad(void) {
   count = count + 1;
@@ -162,7 +163,8 @@ int main(void) {
 }
 => 0 raise E0000001 0 / filter 1 / raise E0000002 0 / filter 1 / answer 0 / filter 2 / answer 1 / except E0000002 / 2 / exit 0
 # collided:
-// An exception in a __finally block that an unwinding runs: its own unwinding replaces the older one.
+// An exception in a __finally block that an unwinding runs: its own unwinding replaces the older
+// one.
 int main(void) {
   __try {
     __try {

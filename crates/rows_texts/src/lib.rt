@@ -1,7 +1,8 @@
 //! Whole programs on the program's one call: each text with what it has to show, by `run`, by
 //! `compile` and then `exec`, and by `meaning`.
 //!
-//! The rows are texts that are read when a test runs, so that a row adds nothing to the proof of it.
+//! The rows are texts that are read when a test runs, so that a row adds nothing to the proof of
+//! it.
 #![tactic(auto)]
 
 #[cfg(test)]

@@ -13,7 +13,8 @@ fn failing_at(alloc: Global, call: u64) -> Result<MemSink, Fail> {
     Ok(MemSink::new(Vec::new(alloc), Plan::new([call].to_vec(alloc)?, 1)))
 }
 
-/// Each call of `out` fails in turn: what was taken are the bytes before it, and nothing else is tried.
+/// Each call of `out` fails in turn: what was taken are the bytes before it, and nothing else is
+/// tried.
 fn fails(rt: &impl Abort, alloc: Global, command: &str) -> Result<(), Fail> {
     let text = b"int main(void){ put(1); put(23); put(-456); return 7; }";
     let whole = b"1\n23\n-456\nexit 7\n";
@@ -44,6 +45,29 @@ fn each_call_of_a_run(rt: HostRuntime) -> Result<(), Fail> {
 #[test]
 fn each_call_of_a_meaning(rt: HostRuntime) -> Result<(), Fail> {
     fails(&rt, rt.alloc(), "meaning")
+}
+
+/// A run without an end stops at the first line that its sink doesn't take.
+#[test]
+fn endless_run(rt: HostRuntime) -> Result<(), Fail> {
+    let alloc = rt.alloc();
+    let text = b"int main(void){ while (1) put(1); return 0; }";
+    for command in ["run", "meaning"] {
+        let mut words = Vec::new(alloc);
+        words.push(String::from_str(alloc, command)?)?;
+        let mut source = SliceSource::new(text);
+        let mut out = failing_at(alloc, 5)?;
+        let mut err = failing_at(alloc, 0)?;
+        let status = top(alloc, &words, &mut source, &mut out, &mut err);
+        assert_eq!(rt; status, Status::WriteFault, "{command}");
+        assert_eq!(rt; out.bytes.as_slice(), b"1\n1\n".as_slice(), "{command}");
+        assert_eq!(rt;
+            err.bytes.as_slice(),
+            b"write fault\n".as_slice(),
+            "{command}"
+        );
+    }
+    Ok(())
 }
 
 /// Each call of `err` fails in turn, while the line of a refused text is written.

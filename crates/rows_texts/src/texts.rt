@@ -77,6 +77,9 @@ const TURNS: &str = r"
 # deep_recursion_one_turn: --turns 1
 int main(void){ put(2+3*4); return 7; }
 => 12 out of turns 1
+# a loop that shows nothing: --turns 1000
+int main(void){ while (1) ; return 0; }
+=> 12 out of turns 1000
 ";
 
 /// Runs of the meaning that nothing of a machine's could equal: by its steps, its depth, and a byte
@@ -85,6 +88,9 @@ const STEPS: &str = r"
 # one_step_budget: --turns 1
 int main(void){ put(2+3*4); return 7; }
 => 12 out of steps 1
+# a loop that shows nothing: --turns 1000
+int main(void){ while (1) ; return 0; }
+=> 12 out of steps 1000
 # deep_recursion_deep: --turns 100000000
 int r(int n){ return r(n + 1) + 1; } int main(void){ put(r(900)); return 0; }
 => 15 deep 1001

@@ -16,7 +16,8 @@ fn view_of(rt: &impl Abort, alloc: Global, text: &str) -> Result<Vec<u8>, Fail> 
     Ok(view.out)
 }
 
-/// One scope record for each `__try`, the inner one first; filters and `__finally` blocks have entries.
+/// One scope record for each `__try`, the inner one first; filters and `__finally` blocks have
+/// entries.
 #[test]
 fn scope_records(rt: HostRuntime) -> Result<(), Fail> {
     let text =

@@ -1,8 +1,9 @@
 //! The ways to show what a text does, and the rows that each has to meet.
 //!
-//! A table of rows is one text. A row begins with a line `# NAME: OPTIONS`; then comes the program's
-//! text, and then `=> STATUS` with the lines of `out` with `--trace`, joined by ` / ` or by line feeds, or
-//! after `!` the line of `err`. Without `--trace` the lines of the numbers and of the end are left.
+//! A table of rows is one text. A row begins with a line `# NAME: OPTIONS`; then comes the
+//! program's text, and then `=> STATUS` with the lines of `out` with `--trace`, joined by ` / ` or
+//! by line feeds, or after `!` the line of `err`. Without `--trace` the lines of the numbers and of
+//! the end are left.
 
 use seh::status::Status;
 use seh::top::top;

@@ -1,4 +1,5 @@
--- Each local that a part of a program names is a parameter, or was declared before, in a block around the part.
+-- Each local that a part of a program names is a parameter, or was declared before, in a block
+-- around the part.
 use Rattle.std.specs.Prelude.{◌≡◌, ℕ, Bool, true, ◌&&◌, ◌||◌, nat_eq, nat_lt, List, [], ◌∷◌, length, Option, Some, None}
 use Rattle.c_checked.specs.Expression as nodes
 use Rattle.c_checked.specs.Expression.{Expression, On, Node, Lvalue, Local, Global, Indirection, Element, Arguments, Done, Next}
@@ -31,15 +32,18 @@ abbrev mutual
   node_within seen (nodes.Read p) = lvalue_within seen p
   node_within seen (nodes.AddressOf p) = lvalue_within seen p
   node_within seen (nodes.Assign p e) = lvalue_within seen p && expression_within seen e
-  node_within seen (nodes.CompoundAssign p before o e after) = lvalue_within seen p && expression_within seen e
+  node_within seen (nodes.CompoundAssign p before o e after) =
+      lvalue_within seen p && expression_within seen e
   node_within seen (nodes.Increment m p before o n after) = lvalue_within seen p
   node_within seen (nodes.Unary o e) = expression_within seen e
   node_within seen (nodes.Binary o e f) = expression_within seen e && expression_within seen f
-  node_within seen (nodes.PointerDifference n e f) = expression_within seen e && expression_within seen f
+  node_within seen (nodes.PointerDifference n e f) =
+      expression_within seen e && expression_within seen f
   node_within seen (nodes.Not e) = expression_within seen e
   node_within seen (nodes.And e f) = expression_within seen e && expression_within seen f
   node_within seen (nodes.Or e f) = expression_within seen e && expression_within seen f
-  node_within seen (nodes.Conditional c e f) = expression_within seen c && expression_within seen e && expression_within seen f
+  node_within seen (nodes.Conditional c e f) =
+      expression_within seen c && expression_within seen e && expression_within seen f
   node_within seen (nodes.Comma e f) = expression_within seen e && expression_within seen f
   node_within seen (nodes.Call f es) = arguments_within seen es
   node_within seen (nodes.CallBuiltIn k es) = arguments_within seen es
@@ -75,7 +79,8 @@ after_all_declared seen (d ∷ ds) = after_all_declared (after_declared seen d) 
 
 abbrev pub all_declared_within : Seen → List Declared → Bool
 all_declared_within seen [] = true
-all_declared_within seen (d ∷ ds) = declared_within seen d && all_declared_within (after_declared seen d) ds
+all_declared_within seen (d ∷ ds) =
+    declared_within seen d && all_declared_within (after_declared seen d) ds
 
 -- ---- statements: what one declares, those after it in its block see
 
@@ -93,21 +98,26 @@ abbrev mutual
   statement_within seen (Block ss) = statements_within seen ss
   statement_within seen (Evaluate e) = optional_within seen e
   statement_within seen (If c s) = expression_within seen c && statement_within seen s
-  statement_within seen (IfElse c s t) = expression_within seen c && statement_within seen s && statement_within seen t
+  statement_within seen (IfElse c s t) =
+      expression_within seen c && statement_within seen s && statement_within seen t
   statement_within seen (For ds first c next s) =
       let inner = after_all_declared seen ds in
-      all_declared_within seen ds && optional_within inner first && optional_within inner c && optional_within inner next && statement_within inner s
+      all_declared_within seen ds && optional_within inner first && optional_within inner c &&
+      optional_within inner next && statement_within inner s
   statement_within seen (DoWhile s c) = expression_within seen c && statement_within seen s
   statement_within seen (Return e) = optional_within seen e
   statement_within seen Break = true
   statement_within seen Continue = true
   statement_within seen Leave = true
-  statement_within seen (TryExcept body filter block) = statements_within seen body && filter_within seen filter && statements_within seen block
-  statement_within seen (TryFinally body k last) = statements_within seen body && statements_within seen last
+  statement_within seen (TryExcept body filter block) =
+      statements_within seen body && filter_within seen filter && statements_within seen block
+  statement_within seen (TryFinally body k last) =
+      statements_within seen body && statements_within seen last
 
   pub statements_within : Seen → Statements → Bool
   statements_within seen Empty = true
-  statements_within seen (Then s ss) = statement_within seen s && statements_within (after_statement seen s) ss
+  statements_within seen (Then s ss) =
+      statement_within seen s && statements_within (after_statement seen s) ss
 
 -- ---- programs
 

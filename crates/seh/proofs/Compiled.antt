@@ -2,6 +2,7 @@
 use Rattle.std.proofs.Common.{◌≡◌, ◌≤◌, ◌<◌, ◌∙◌, ℕ, List, length, sym, ap, subst, arith}
 use Rattle.std.specs.List.{AllByRecursion}
 use Rattle.image_runs.proofs.Accepted.{realise, nothing_more}
+use Rattle.image_runs.proofs.FoundCallers.{lowered_finds_callers}
 use Rattle.image_runs.proofs.Shadows.{accepted_walk_the_shadow}
 use Rattle.c_checked.specs.Program.{Program}
 use Rattle.c_parse.specs.Nodes.{nodes_of}
@@ -63,5 +64,6 @@ of_checked text image whole p short checked link =
       table = record { read = tables_are_read (lowered (resolve text whole).program) fits (lowered_has_regions (resolve text whole).program); shape = lowered_is_shaped (resolve text whole).program sound fits };
       realises = realise text whole image a.read.within a.rules fits w;
       no_more = nothing_more text whole image a.read.within a.rules fits w (length text) (few text whole a);
+      frames = lowered_finds_callers (resolve text whole).program fits;
       walks = accepted_walk_the_shadow text whole image a.read.within a.rules fits w (length text) (few text whole a);
     }

@@ -4,3 +4,5 @@ pub mod Images
 pub mod Compiled
 pub mod Headline
 pub mod Meanings
+pub mod Completeness
+pub mod TamePrograms

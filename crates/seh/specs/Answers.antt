@@ -2,6 +2,7 @@
 use Rattle.std.specs.Prelude.{◌≡◌, ◌⊎◌, ℕ, ◌+◌, ◌<◌, ◌≤◌, List, [], length, Some, None, Result, Ok, Err}
 use Rattle.std.specs.Option.{ForSome}
 use Rattle.seh_num.specs.declared.end.RunEnd.{RunEnd}
+use Rattle.host_layout.specs.declared.limit.TheConstants.{MOST_TEXT, MOST_IMAGE}
 use Rattle.seh_io.specs.Streams.{Rose, Grew}
 use Rattle.seh_io.specs.Reading.{LostAtMost}
 use Rattle.seh_io.specs.Text.{text}
@@ -25,11 +26,11 @@ use Rattle.seh.specs.Streams.{Stream}
 
 -- a text has at most so many bytes
 abbrev pub text_limit : ℕ
-text_limit = 1048576
+text_limit = MOST_TEXT
 
 -- an image has at most so many bytes
 abbrev pub image_limit : ℕ
-image_limit = 268435456
+image_limit = MOST_IMAGE
 
 -- these are the bytes that the source held, at most so many; where it is known what it held, they are
 -- that, and nothing is left

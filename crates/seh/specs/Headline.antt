@@ -2,27 +2,33 @@
 use Rattle.std.specs.Prelude.{◌≡◌, ℕ, ◌+◌, ◌*◌, ◌^◌, ◌<◌, ◌≤◌, true, List, pos, Some, None}
 use Rattle.seh_num.specs.declared.end.RunEnd.{RunEnd}
 use Rattle.seh_io.specs.Text.{text}
+use Rattle.c_model.specs.declared.ended.Ended.{Ended}
 use Rattle.host_model.specs.Laws.{Covers}
 use Rattle.host_model.specs.Machine.{machine}
 use Rattle.c_model.specs.Meaning.{Shown, meaning, Calm}
 use Rattle.c_resolved.specs.Program.{resolve}
-use Rattle.whole_runs.specs.Ends.{run_end_of}
+use Rattle.whole_runs.specs.Ends.{run_end, run_end_of}
 use Rattle.whole_runs.specs.Laws.{ShowsNoMore}
 use Rattle.image_runs.specs.Shadows.{WalksTheShadow}
 use Rattle.command_line.specs.declared.command.RunOptions.{RunOptions}
 use Rattle.seh.specs.Answers.{shown_by, end_by, text_by}
 use Rattle.seh.specs.Images.{pace, IsCompiled}
+use Rattle.seh.specs.Statuses.{status_of, meaning_status}
 
 -- options with this argument, and with 256 turns for each of n steps and as many again
 pub record AreEnough (options : RunOptions) (arg n : ℕ) : Type 0 where
   pub argument : options.argument ≡ pos arg
   pub turns : 256 * n + 256 ≤ options.turns
 
--- a run of the image with these options shows the events of a meaning first; where the meaning has an end that runs have, the run has this end, and its text is that of the meaning
+-- a run of the image with these options shows the events of a meaning first; where the meaning has an end
+-- that runs have, the run has this end, with its status, and its text is that of the meaning
 pub record ShowsMeaning (meant : Shown) (image : List ℕ) (options : RunOptions) : Type 0 where
   pub covers : Covers meant.events (run_end_of meant.end) (shown_by options image)
   pub ended : (e : RunEnd) → run_end_of meant.end ≡ Some e → end_by options image ≡ e
   pub whole : (e : RunEnd) → run_end_of meant.end ≡ Some e → text_by options image ≡ text meant.events e options.trace
+  pub status :
+      (ended : Ended) (e : RunEnd) → meant.end ≡ Some ended → run_end ended ≡ Some e
+      → status_of (end_by options image) ≡ meaning_status ended
 
 -- what a compiled program shows when it is run is what its text means
 abbrev pub Headline : Type 0

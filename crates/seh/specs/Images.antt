@@ -14,6 +14,7 @@ use Rattle.program_tables.specs.Entries.{entries}
 use Rattle.seh_ir.specs.Lowered.{lowered}
 use Rattle.pace_bounds.specs.Laws.{pace_in}
 use Rattle.image_runs.specs.Realises.{Realises, IsWritten}
+use Rattle.image_runs.specs.Frames.{FindsCallers}
 use Rattle.image_runs.specs.Shadows.{WalksTheShadow}
 use Rattle.seh.specs.declared.refusal.Refusal.{Refusal}
 use Rattle.seh.specs.declared.refusal.Refusal.TheVariants as refusals
@@ -40,7 +41,7 @@ pub record HasTable (program : Program) : Type 0 where
   pub read : tables (image_of (linked (lowered program))) ≡ Ok (entries (lowered program))
   pub shape : IsShaped program
 
--- the image of an accepted text is the one that its program's linear code is linked to, with its function table; it does what the program means, and nothing more, and the walk gives the frames of its runs
+-- the image of an accepted text is the one that its program's linear code is linked to, with its function table; it does what the program means, and nothing more; the walk finds the caller at every instruction of it, and gives the frames of its runs
 pub record IsCompiled (text image : List ℕ) : Type 0 where
   pub whole : List ExternalDeclaration
   pub accepted : IsAccepted text whole
@@ -48,6 +49,7 @@ pub record IsCompiled (text image : List ℕ) : Type 0 where
   pub table : HasTable (resolve text whole).program
   pub realises : Realises image (resolve text whole).program
   pub no_more : ShowsNothingMore text image (resolve text whole).program
+  pub frames : FindsCallers (lowered (resolve text whole).program)
   pub walks : GivesTheShadow text image (resolve text whole).program
 
 -- ---- refusals

@@ -6,3 +6,5 @@ pub mod Answers
 pub mod Headline
 pub mod Meanings
 pub mod Commands
+pub mod Completeness
+pub mod TamePrograms

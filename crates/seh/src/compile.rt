@@ -7,18 +7,16 @@ ghost use Rattle.seh.specs.Streams.{stream};
 use crate::image::image_of;
 use crate::outcome::Outcome;
 use crate::refusal::Refusal;
+use host_layout::limit::MOST_TEXT;
 use seh_io::reading::{ReadErr, read_all};
 use seh_io::sink::Sink;
 use seh_io::source::Source;
 use seh_io::writing::put_all;
 use std::alloc::Global;
 
-/// A text has at most so many bytes: 1 MiB.
-pub const TEXT_LIMIT: u64 = 1_048_576;
-
 /// Compiles a text, and writes the bytes of its image.
 fn compile_text<O: Sink>(alloc: Global, text: &[u8], out: &mut O) -> Result<Outcome, Refusal>
-    requires { length text.now ≤ 1048576 }
+    requires { length text.now ≤ MOST_TEXT }
     ensures { IsCompileAnswer text.now
         (stream O.taken O.faults out.old) (stream O.taken O.faults out.new) result }
 {
@@ -42,7 +40,7 @@ pub fn compile<S: Source, O: Sink>(
         (stream S.left S.faults src.old) (stream S.left S.faults src.new)
         (stream O.taken O.faults out.old) (stream O.taken O.faults out.new) result }
 {
-    match read_all(alloc, src, TEXT_LIMIT) {
+    match read_all(alloc, src, MOST_TEXT) {
         Ok(text) => compile_text(alloc, &text, out),
         Err(ReadErr::Fault) => Err(Refusal::ReadFault),
         Err(ReadErr::TooLong { limit }) => Err(Refusal::TooLong { limit }),

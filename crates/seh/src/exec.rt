@@ -7,6 +7,7 @@ ghost use Rattle.seh.specs.Streams.{stream};
 use crate::outcome::Outcome;
 use crate::refusal::Refusal;
 use command_line::command::RunOptions;
+use host_layout::limit::MOST_IMAGE;
 use pe_image::ImageView;
 use seh_host::loading::load;
 use seh_host::run::run;
@@ -14,9 +15,6 @@ use seh_io::reading::{ReadErr, read_all};
 use seh_io::sink::Sink;
 use seh_io::source::Source;
 use std::alloc::Global;
-
-/// An image has at most so many bytes: 256 MiB.
-pub const IMAGE_LIMIT: u64 = 268_435_456;
 
 /// Runs an image, and writes the text of its run.
 pub fn run_image<O: Sink>(
@@ -53,7 +51,7 @@ pub fn exec<S: Source, O: Sink>(
         (stream S.left S.faults src.old) (stream S.left S.faults src.new)
         (stream O.taken O.faults out.old) (stream O.taken O.faults out.new) result }
 {
-    match read_all(alloc, src, IMAGE_LIMIT) {
+    match read_all(alloc, src, MOST_IMAGE) {
         Ok(bytes) => run_image(alloc, options, &bytes, out),
         Err(ReadErr::Fault) => Err(Refusal::ReadFault),
         Err(ReadErr::TooLong { limit }) => Err(Refusal::TooLong { limit }),

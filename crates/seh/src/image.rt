@@ -11,6 +11,7 @@ ghost use Rattle.seh_ir.specs.Lowered.{lowered};
 use crate::refusal::Refusal;
 use c_checked::checked::Checked;
 use c_text::accepting::accept;
+use host_layout::limit::MOST_TEXT;
 use program_link::link::compile_program;
 use seh_ir::lower::lower;
 use std::alloc::{AllocError, Global};
@@ -37,7 +38,7 @@ fn linked_image(alloc: Global, checked: &Checked) -> Result<Vec<u8>, AllocError>
 
 /// The image of an accepted text, or why it isn't compiled.
 pub fn image_of(alloc: Global, text: &[u8]) -> Result<Vec<u8>, Refusal>
-    requires { length text.now ≤ 1048576 }
+    requires { length text.now ≤ MOST_TEXT }
     ensures found { IfOk result (λ image. IsCompiled text.now image.items) }
     ensures refused { IfErr result (λ e. IsTextRefusal text.now e) }
 {

@@ -1,4 +1,8 @@
 //! The program: its commands, over any source and sinks.
+//!
+//! Proved: `top::top` gives each answer by its cause (`specs/Commands.antt`,
+//! `specs/Answers.antt`); `laws` has what compiling and running come to together, the headline
+//! first. Begin with `specs/Headline.antt`, then `specs/Images.antt`, then `top`.
 #![tactic(auto)]
 
 pub mod compile;

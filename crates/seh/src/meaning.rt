@@ -4,12 +4,12 @@ ghost use Rattle.std.specs.Prelude.{◌≤◌, length};
 ghost use Rattle.seh.specs.Meanings.{IsMeaningAnswer, IsMeaningInputAnswer};
 ghost use Rattle.seh.specs.Streams.{stream};
 
-use crate::compile::TEXT_LIMIT;
 use crate::outcome::Outcome;
 use crate::refusal::Refusal;
 use c_interpret::interpret::{MeanErr, interpret};
 use c_text::accepting::accept;
 use command_line::command::RunOptions;
+use host_layout::limit::MOST_TEXT;
 use seh_io::reading::{ReadErr, read_all};
 use seh_io::sink::Sink;
 use seh_io::source::Source;
@@ -22,7 +22,7 @@ fn mean_text<O: Sink>(
     text: &[u8],
     out: &mut O,
 ) -> Result<Outcome, Refusal>
-    requires { length text.now ≤ 1048576 }
+    requires { length text.now ≤ MOST_TEXT }
     ensures { IsMeaningAnswer options text.now
         (stream O.taken O.faults out.old) (stream O.taken O.faults out.new) result }
 {
@@ -53,7 +53,7 @@ pub fn meaning<S: Source, O: Sink>(
         (stream S.left S.faults src.old) (stream S.left S.faults src.new)
         (stream O.taken O.faults out.old) (stream O.taken O.faults out.new) result }
 {
-    match read_all(alloc, src, TEXT_LIMIT) {
+    match read_all(alloc, src, MOST_TEXT) {
         Ok(text) => mean_text(alloc, options, &text, out),
         Err(ReadErr::Fault) => Err(Refusal::ReadFault),
         Err(ReadErr::TooLong { limit }) => Err(Refusal::TooLong { limit }),

@@ -12,9 +12,11 @@ ghost use Rattle.seh_dispatch.specs.Outcomes.{turn_of, led_turn, made_turn, bad_
 use crate::dispatching::{accept, begun, search_on, stopped, unwind_on};
 use crate::outcome::{Led, Made, Outcome, all_quiet, quiet};
 use eh_tables::{ScopeRecord, Tables};
+use seh_num::code::NONCONTINUABLE_EXCEPTION;
 use seh_num::end::{Reason, RunEnd};
-use seh_num::event::{Code, Event};
+use seh_num::event::Event;
 use seh_num::extension::sign_extend;
+use seh_num::size::EXCEPTION_MAXIMUM_PARAMETERS;
 use seh_num::width::Width;
 use seh_records::dispatch::Kind;
 use seh_records::{DispatchRecord, fetch, rewrite};
@@ -23,9 +25,6 @@ use seh_walk::stop_cause::StopCause;
 use x64_instr::register::Reg;
 use x64_machine::cpu::Cpu;
 use x64_memory::space::AddressSpace;
-
-/// EXCEPTION_NONCONTINUABLE_EXCEPTION.
-const NONCONTINUABLE: Code = Code(0xC000_0025);
 
 fn bad(at: u64) -> Outcome
     ensures { result ≡ bad_record at }
@@ -40,10 +39,10 @@ fn again(dispatch: &DispatchRecord) -> DispatchRecord
     ensures { result ≡ spec.again dispatch.now }
 {
     let mut new = *dispatch;
-    new.code = NONCONTINUABLE;
+    new.code = NONCONTINUABLE_EXCEPTION;
     new.flags = 1;
     new.count = 0;
-    new.parameters = [0; 15];
+    new.parameters = [0; EXCEPTION_MAXIMUM_PARAMETERS];
     new.target_frame = 0;
     new.target = 0;
     begun(&new)
@@ -138,7 +137,7 @@ fn continue_execution<S: AddressSpace>(
     let outcome = search_again(tables, cpu, space, at, dispatch);
     Led {
         first: Some(Event::Raise {
-            code: NONCONTINUABLE,
+            code: NONCONTINUABLE_EXCEPTION,
             flag: true,
             access: None,
         }),

@@ -13,8 +13,10 @@ use eh_tables::Tables;
 use host_layout::service::{FILTER_RETURN_AT, FINALLY_RETURN_AT};
 use seh_num::end::RunEnd;
 use seh_num::event::{Code, Event};
+use seh_num::size::EXCEPTION_MAXIMUM_PARAMETERS;
 use seh_num::width::Width;
 use seh_records::dispatch::Kind;
+use seh_records::layout::POINTERS_AT;
 use seh_records::{DispatchRecord, place, rewrite};
 use seh_search::search_result::SearchResult;
 use seh_search::searching::search;
@@ -209,7 +211,7 @@ pub fn search_on<S: AddressSpace>(
                 address: guard.address,
             }),
             Ok(()) => {
-                let pointers = at.wrapping_add(80);
+                let pointers = at.wrapping_add(POINTERS_AT);
                 enter(cpu, space, at, FILTER_RETURN_AT, handler, pointers, frame);
                 Outcome::Continues(None)
             }
@@ -217,10 +219,10 @@ pub fn search_on<S: AddressSpace>(
     }
 }
 
-fn parameters(access: Option<(bool, u64)>) -> [u64; 15]
+fn parameters(access: Option<(bool, u64)>) -> [u64; EXCEPTION_MAXIMUM_PARAMETERS]
     ensures { result ≡ spec.parameters access }
 {
-    let mut words = [0; 15];
+    let mut words = [0; EXCEPTION_MAXIMUM_PARAMETERS];
     if let Some((write, address)) = access {
         words[0] = if write { 1 } else { 0 };
         words[1] = address;

@@ -20,7 +20,12 @@ pub record Running : Type 0 where
   pub host : Host
 
 abbrev pub running_of : code.Host → Running
-running_of h = record { functions = functions_of h.tables; funclets = h.funclets.items; host = left h.cpu (memory_of h.space) h.end }
+running_of h =
+    record {
+      functions = functions_of h.tables;
+      funclets = h.funclets.items;
+      host = left h.cpu (memory_of h.space) h.end;
+    }
 
 abbrev pub after_turn : Running → Running
 after_turn r = record r { host = next r.functions r.funclets r.host }
@@ -45,4 +50,9 @@ run_of turns r = run r.functions r.funclets turns r.host []
 
 -- where a run of an image begins
 abbrev pub first_running : Image → ℤ → Running
-first_running image arg = record { functions = functions_in image; funclets = funclets (functions_in image).entries; host = host (start image arg) }
+first_running image arg =
+    record {
+      functions = functions_in image;
+      funclets = funclets (functions_in image).entries;
+      host = host (start image arg);
+    }

@@ -10,8 +10,10 @@ use Rattle.seh_host.specs.Turns.{end_within}
 abbrev pub run_text : ℕ → Bool → Running → List ℕ
 run_text turns trace r = text (run_of turns r).events (end_within turns (run_of turns r).end) trace
 
--- a line couldn't be written: no turn was made after the one that shows it, so that the lines of all turns but the last were taken whole
-pub record Stopped (turns : ℕ) (trace : Bool) (r : Running) (taken : Option (List ℕ)) (r' : Running) (taken' : Option (List ℕ)) : Type 0 where
+-- a line couldn't be written: no turn was made after the one that shows it, so that the lines of
+-- all turns but the last were taken whole
+pub record Stopped (turns : ℕ) (trace : Bool) (r : Running) (taken : Option (List ℕ)) (r' : Running)
+    (taken' : Option (List ℕ)) : Type 0 where
   pub turns_made : ℕ
   pub within : turns_made ≤ turns
   pub host : r' ≡ made turns_made r
@@ -19,8 +21,10 @@ pub record Stopped (turns : ℕ) (trace : Bool) (r : Running) (taken : Option (L
   pub last : turns_made ≤ whole + 1
   pub before : (more : List ℕ) × Grew taken (lines trace (shown_made whole r) ++ more) taken'
 
--- at most so many turns, whose lines a writer was given: all are made where each line could be written
-pub record Written (turns : ℕ) (trace : Bool) (r : Running) (old : Writer) (r' : Running) (new : Writer) : Type 0 where
+-- at most so many turns, whose lines a writer was given: all are made where each line could be
+-- written
+pub record Written (turns : ℕ) (trace : Bool) (r : Running) (old : Writer) (r' : Running)
+    (new : Writer) : Type 0 where
   pub stopped : Stopped turns trace r old.taken r' new.taken
   pub all : new.failed ≡ false → r' ≡ made turns r
   pub wrote : Wrote old (lines trace (shown_made turns r)) new

@@ -1,4 +1,8 @@
 //! The host: it loads an image, and runs it turn by turn.
+//!
+//! Proved: `loading::load` places an image as the definition `mapped` has it, or refuses it for
+//! the first reason that holds; `run::turn` leaves the host of `next`, and `run::run` writes the
+//! text of its turns. Begin with `specs/Hosts.antt`, then `loading` and `run`.
 #![tactic(auto)]
 
 mod binding;

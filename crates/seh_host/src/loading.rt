@@ -12,6 +12,7 @@ use crate::binding::{bind_all, first_unknown};
 use crate::host::Host;
 use crate::mapping::{has_entry, has_place, regions};
 use eh_tables::Tables;
+use host_layout::range::FIRST_STACK;
 use image_funclets::gathering::funclets_in;
 use pe_image::ImageView;
 use seh_num::extension::wrap;
@@ -26,7 +27,7 @@ fn first_cpu(entry: u64, arg: i64) -> Cpu
 {
     let mut registers = [0; 16];
     registers[1] = wrap(Width::W64, i128::from(arg));
-    registers[4] = 0x707F_FFD8;
+    registers[4] = FIRST_STACK;
     Cpu {
         registers,
         rip: entry,
@@ -73,8 +74,8 @@ fn refusal(image: &ImageView<'_>) -> Option<LoadErr>
     None
 }
 
-/// Loads an image: its sections, a stack and the arena are mapped, the slots of its imports hold the
-/// addresses of the host's services, a later one over an earlier, and the run is at the entry
+/// Loads an image: its sections, a stack and the arena are mapped, the slots of its imports hold
+/// the addresses of the host's services, a later one over an earlier, and the run is at the entry
 /// point with the argument in RCX.
 ///
 /// It is refused for the first reason that holds, in this order: `Table` where the function table

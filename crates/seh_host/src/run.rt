@@ -38,8 +38,8 @@ pub fn turn<V: Events>(host: &mut Host<'_, '_>, to: &mut V) -> Turn
     Turn::Made
 }
 
-/// Makes turns until the run has ended, at most so many, and writes the line of each event. It stops
-/// at the first line that can't be written.
+/// Makes turns until the run has ended, at most so many, and writes the line of each event. It
+/// stops at the first line that can't be written.
 fn write_turns<O: Sink>(host: &mut Host<'_, '_>, turns: u64, lines: &mut Lines<'_, O>)
     requires { lines.old.failed ≡ false }
     ensures same_reference { lines.new.sink.ghost_name ≡ lines.old.sink.ghost_name }
@@ -70,9 +70,9 @@ pub enum RunErr {
 ///
 /// With `trace` each event has its line, else what is put alone. The last line is that of the end
 /// that is answered. The host is then as its turns left it, so that a later run begins there; one
-/// that has ended answers the same end. After `Write` the sink has taken a part of the text from the
-/// front, of `taken` bytes (a count that stays at 2^64 - 1), and no turn was made after the one whose
-/// line failed.
+/// that has ended answers the same end. After `Write` the sink has taken a part of the text from
+/// the front, of `taken` bytes (a count that stays at 2^64 - 1), and no turn was made after the one
+/// whose line failed.
 pub fn run<O: Sink>(
     host: &mut Host<'_, '_>,
     turns: u64,

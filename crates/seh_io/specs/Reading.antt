@@ -10,7 +10,8 @@ use Rattle.seh_io.specs.Streams.{Lost, Rose}
 abbrev pub LostAtMost : ℕ → Option (List ℕ) → Option (List ℕ) → Type 0
 LostAtMost most left left' = (bytes : List ℕ) × (length bytes ≤ most) × Lost left bytes left'
 
--- a fault is the source's own; what is too long holds more than the limit, and one byte more was read
+-- a fault is the source's own; what is too long holds more than the limit, and one byte more was
+-- read
 abbrev pub HasCause : ℕ → Option (List ℕ) → Option (List ℕ) → ℕ → ℕ → ReadErr → Type 0
 HasCause limit left left' faults faults' Fault = Rose faults faults'
 HasCause limit left left' faults faults' (TooLong most) =

@@ -22,7 +22,8 @@ Rose old new = new < last_count → old < new
 
 -- where it is known what a source holds: it began with these bytes, and holds the rest now
 abbrev pub Lost : Option (List ℕ) → List ℕ → Option (List ℕ) → Type 0
-Lost left bytes left' = ForSome left (λ all. (rest : List ℕ) × (all ≡ bytes ++ rest) × (left' ≡ Some rest))
+Lost left bytes left' =
+    ForSome left (λ all. (rest : List ℕ) × (all ≡ bytes ++ rest) × (left' ≡ Some rest))
 
 -- where it is known what a sink took: it took these bytes too now
 abbrev pub Grew : Option (List ℕ) → List ℕ → Option (List ℕ) → Type 0

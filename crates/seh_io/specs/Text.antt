@@ -1,4 +1,5 @@
--- The text of a run: a line for each event that is shown, and one for the end, each with its line feed.
+-- The text of a run: a line for each event that is shown, and one for the end, each with its line
+-- feed.
 use Rattle.std.specs.Prelude.{ℕ, zero, suc, ◌/◌, ◌%◌, ◌==◌, Bool, true, false, if◌then◌else◌, List, [], ◌∷◌, ◌++◌, codes}
 use Rattle.std.specs.Prelude.{Option, Some, None}
 use Rattle.std.specs.Fmt.{decimal, signed_decimal, digit_glyph}
@@ -9,6 +10,7 @@ use Rattle.seh_num.specs.declared.end.Reason.{Reason}
 use Rattle.seh_num.specs.declared.end.Reason.TheVariants.{Illegal, BadRecord, Unreadable, Backward, LostFrame}
 use Rattle.seh_num.specs.declared.end.RunEnd.{RunEnd}
 use Rattle.seh_num.specs.declared.end.RunEnd.TheVariants.{Exit, Unhandled, StackLimit, OutOfTurns, Stopped}
+use Rattle.seh_num.specs.declared.code.TheConstants.{ACCESS_VIOLATION}
 
 -- the last digits of a number in base 16, so many, in upper case
 unfoldable pub hexadecimal : ℕ → ℕ → List ℕ
@@ -26,19 +28,16 @@ abbrev pub flag_text : Bool → List ℕ
 flag_text true = codes "1"
 flag_text false = codes "0"
 
--- the code of an access violation
-abbrev pub access_violation : ℕ
-access_violation = 0xC000_0005
-
 abbrev pub access_text : Option (Bool × ℕ) → List ℕ
 access_text None = []
-access_text (Some (write, address)) = (if write then codes " write " else codes " read ") ++ address_text address
+access_text (Some (write, address)) =
+    (if write then codes " write " else codes " read ") ++ address_text address
 
 -- the access is written in the line where the exception is an access violation
 abbrev pub raise_text : Code → Bool → Option (Bool × ℕ) → List ℕ
 raise_text code flag access =
     codes "raise " ++ code_text code ++ codes " " ++ flag_text flag
-    ++ (if code.0 == access_violation then access_text access else [])
+    ++ (if code.0 == ACCESS_VIOLATION.0 then access_text access else [])
 
 abbrev pub event_text : Event → List ℕ
 event_text (Put v) = signed_decimal v
@@ -70,7 +69,8 @@ end_text (Exit v) = codes "exit " ++ signed_decimal v
 end_text (Unhandled code) = codes "unhandled " ++ code_text code
 end_text (StackLimit address) = codes "stack limit " ++ address_text address
 end_text (OutOfTurns turns) = codes "out of turns " ++ decimal turns
-end_text (Stopped why address) = codes "stopped " ++ reason_text why ++ codes " " ++ address_text address
+end_text (Stopped why address) =
+    codes "stopped " ++ reason_text why ++ codes " " ++ address_text address
 
 abbrev pub end_line : RunEnd → List ℕ
 end_line end = ended (end_text end)

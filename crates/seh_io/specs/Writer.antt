@@ -16,11 +16,13 @@ pub record Writer : Type 0 where
   pub faults : ℕ
 
 abbrev pub writer : Bool → ℕ → Option (List ℕ) → ℕ → Writer
-writer failed count taken faults = record { failed = failed; count = count; taken = taken; faults = faults }
+writer failed count taken faults =
+    record { failed = failed; count = count; taken = taken; faults = faults }
 
 -- what `Lines` is, over a sink of which `taken` and `faults` tell
 abbrev pub writer_of : {X : Type 0} → (X → Option (List ℕ)) → (X → ℕ) → Lines X → Writer
-writer_of taken faults lines = writer lines.failed lines.taken (taken lines.sink.now) (faults lines.sink.now)
+writer_of taken faults lines =
+    writer lines.failed lines.taken (taken lines.sink.now) (faults lines.sink.now)
 
 -- What became of a text that a writer was given: the sink took a part of it from the front. That is
 -- the whole where no write has failed, and nothing where one had failed before.
@@ -35,17 +37,23 @@ pub record Wrote (old : Writer) (text : List ℕ) (new : Writer) : Type 0 where
   pub counted : Counts (old.count + length part) new.count
 
 -- what became of a text that a `Lines` was given, over a sink of which `taken` and `faults` tell
-abbrev pub PutText : {X : Type 0} → (X → Option (List ℕ)) → (X → ℕ) → Lines X → List ℕ → Lines X → Type 0
-PutText taken faults old text new = Wrote (writer_of taken faults old) text (writer_of taken faults new)
+abbrev pub PutText : {X : Type 0} → (X → Option (List ℕ)) → (X → ℕ) → Lines X → List ℕ → Lines X
+    → Type 0
+PutText taken faults old text new =
+    Wrote (writer_of taken faults old) text (writer_of taken faults new)
 
--- what a receiver that writes lines did with events: it wrote their lines, and is the same otherwise
-pub record TookEvents {X : Type 0} (taken : X → Option (List ℕ)) (faults : X → ℕ) (old : Lines X) (events : List Event) (new : Lines X) : Type 0 where
-  pub wrote : Wrote (writer_of taken faults old) (lines old.trace events) (writer_of taken faults new)
+-- what a receiver that writes lines did with events: it wrote their lines, and is the same
+-- otherwise
+pub record TookEvents {X : Type 0} (taken : X → Option (List ℕ)) (faults : X → ℕ) (old : Lines X)
+    (events : List Event) (new : Lines X) : Type 0 where
+  pub wrote : Wrote (writer_of taken faults old) (lines old.trace events)
+      (writer_of taken faults new)
   pub trace : new.trace ≡ old.trace
   pub same_reference : new.sink.ghost_name ≡ old.sink.ghost_name
 
 -- the sink took a part of the text from the front, of so many bytes
-pub record TookPart (taken : Option (List ℕ)) (text : List ℕ) (taken' : Option (List ℕ)) (count : ℕ) : Type 0 where
+pub record TookPart (taken : Option (List ℕ)) (text : List ℕ) (taken' : Option (List ℕ))
+    (count : ℕ) : Type 0 where
   pub part : List ℕ
   pub begins : (rest : List ℕ) × (text ≡ part ++ rest)
   pub grew : Grew taken part taken'
@@ -57,8 +65,10 @@ Kept lacks kept events lacks' kept' = lacks' ≡ false → (lacks ≡ false) × 
 
 -- ---- one text after another
 
-grew_more : (a b c : Option (List ℕ)) (xs ys : List ℕ) → Grew a xs b → Grew b ys c → Grew a (xs ++ ys) c
-grew_more a b c xs ys p q before told = q (before ++ xs) (p before told) ∙ ap Some (append_assoc before xs ys)
+grew_more : (a b c : Option (List ℕ)) (xs ys : List ℕ) → Grew a xs b → Grew b ys c
+    → Grew a (xs ++ ys) c
+grew_more a b c xs ys p q before told =
+    q (before ++ xs) (p before told) ∙ ap Some (append_assoc before xs ys)
 
 not_both : (b : Bool) {A : Type 0} → b ≡ true → b ≡ false → A
 not_both b p q = absurd (true≢false (sym p ∙ q))
@@ -80,11 +90,16 @@ module _ (x y z : Writer) (t u : List ℕ) (p : Wrote x t y) (q : Wrote y u z) w
   went_on : y.failed ≡ false → Wrote x (t ++ u) z
   went_on is = record {
     part = p.part ++ q.part;
-    begins = (q.begins.0, ap (λ s. s ++ u) (sym (p.whole is)) ∙ ap (λ s. p.part ++ s) q.begins.1 ∙ sym (append_assoc p.part q.part q.begins.0));
+    begins = (
+      q.begins.0,
+      ap (λ s. s ++ u) (sym (p.whole is)) ∙ ap (λ s. p.part ++ s) q.begins.1
+          ∙ sym (append_assoc p.part q.part q.begins.0),
+    );
     grew = grew_more x.taken y.taken z.taken p.part q.part p.grew q.grew;
     whole = λ done. ap (λ s. s ++ q.part) (p.whole is) ∙ ap (λ s. t ++ s) (q.whole done);
     nothing = λ was. not_both y.failed ((p.nothing was).1) is;
-    cause = λ _ was. (λ below. let rose = q.cause is was below in let rising = p.faults in omega arith);
+    cause =
+        λ _ was. (λ below. let rose = q.cause is was below in let rising = p.faults in omega arith);
     faults = omega (arith, p.faults, q.faults);
     counted = omega (arith, p.counted, q.counted, length-append p.part q.part);
   }
@@ -96,11 +111,17 @@ module _ (x y z : Writer) (t u : List ℕ) (p : Wrote x t y) (q : Wrote y u z) w
       let same : p.part ++ q.part ≡ p.part = ap (λ s. p.part ++ s) none ∙ append-nil p.part in
       record {
         part = p.part ++ q.part;
-        begins = (p.begins.0 ++ u, ap (λ s. s ++ u) p.begins.1 ∙ append_assoc p.part p.begins.0 u ∙ ap (λ s. s ++ (p.begins.0 ++ u)) (sym same));
+        begins = (
+          p.begins.0 ++ u,
+          ap (λ s. s ++ u) p.begins.1 ∙ append_assoc p.part p.begins.0 u
+              ∙ ap (λ s. s ++ (p.begins.0 ++ u)) (sym same),
+        );
         grew = grew_more x.taken y.taken z.taken p.part q.part p.grew q.grew;
         whole = λ done. not_both z.failed ((q.nothing was).1) done;
         nothing = λ before. (same ∙ (p.nothing before).0, (q.nothing was).1);
-        cause = λ is _. (λ below. let rising = q.faults in let rose : y.faults < last_count → x.faults < y.faults = p.cause is was in omega (arith, rose));
+        cause =
+            λ is _. (λ below. let rising = q.faults in let rose : y.faults < last_count
+            → x.faults < y.faults = p.cause is was in omega (arith, rose));
         faults = omega (arith, p.faults, q.faults);
         counted = omega (arith, p.counted, q.counted, length-append p.part q.part);
       }
@@ -108,21 +129,29 @@ module _ (x y z : Writer) (t u : List ℕ) (p : Wrote x t y) (q : Wrote y u z) w
   pub wrote_more : Wrote x (t ++ u) z
   wrote_more = elim (cases_Bool y.failed) [ inl was ↦ stopped was | inr is ↦ went_on is ]
 
-pub lines-append : (trace : Bool) (es fs : List Event) → lines trace (es ++ fs) ≡ lines trace es ++ lines trace fs
+pub lines-append : (trace : Bool) (es fs : List Event)
+    → lines trace (es ++ fs) ≡ lines trace es ++ lines trace fs
 lines-append trace [] fs = refl
-lines-append trace (e ∷ es) fs = ap (λ t. line trace e ++ t) (lines-append trace es fs) ∙ sym (append_assoc (line trace e) (lines trace es) (lines trace fs))
+lines-append trace (e ∷ es) fs =
+    ap (λ t. line trace e ++ t) (lines-append trace es fs)
+    ∙ sym (append_assoc (line trace e) (lines trace es) (lines trace fs))
 
-pub took_none : {X : Type 0} (taken : X → Option (List ℕ)) (faults : X → ℕ) (x : Lines X) → TookEvents taken faults x [] x
-took_none taken faults x = record { wrote = wrote_none (writer_of taken faults x); trace = refl; same_reference = refl }
+pub took_none : {X : Type 0} (taken : X → Option (List ℕ)) (faults : X → ℕ) (x : Lines X)
+    → TookEvents taken faults x [] x
+took_none taken faults x =
+    record { wrote = wrote_none (writer_of taken faults x); trace = refl; same_reference = refl }
 
-pub took_more : {X : Type 0} (taken : X → Option (List ℕ)) (faults : X → ℕ) (x y z : Lines X) (es fs : List Event) → TookEvents taken faults x es y → TookEvents taken faults y fs z → TookEvents taken faults x (es ++ fs) z
+pub took_more : {X : Type 0} (taken : X → Option (List ℕ)) (faults : X → ℕ) (x y z : Lines X)
+    (es fs : List Event) → TookEvents taken faults x es y → TookEvents taken faults y fs z
+    → TookEvents taken faults x (es ++ fs) z
 took_more taken faults x y z es fs p q =
     let x' = writer_of taken faults x in
     let y' = writer_of taken faults y in
     let z' = writer_of taken faults z in
     let q' = subst (λ (b : Bool). Wrote y' (lines b fs) z') p.trace q.wrote in
     record {
-      wrote = subst (λ t. Wrote x' t z') (sym (lines-append x.trace es fs)) (wrote_more x' y' z' (lines x.trace es) (lines x.trace fs) p.wrote q');
+      wrote = subst (λ t. Wrote x' t z') (sym (lines-append x.trace es fs))
+          (wrote_more x' y' z' (lines x.trace es) (lines x.trace fs) p.wrote q');
       trace = q.trace ∙ p.trace;
       same_reference = q.same_reference ∙ p.same_reference;
     }
@@ -130,7 +159,8 @@ took_more taken faults x y z es fs p q =
 pub kept_none : (lacks : Bool) (kept : List Event) → Kept lacks kept [] lacks kept
 kept_none lacks kept is = (is, sym (append-nil kept))
 
-pub kept_more : (a b c : Bool) (xs ys zs es fs : List Event) → Kept a xs es b ys → Kept b ys fs c zs → Kept a xs (es ++ fs) c zs
+pub kept_more : (a b c : Bool) (xs ys zs es fs : List Event) → Kept a xs es b ys → Kept b ys fs c zs
+    → Kept a xs (es ++ fs) c zs
 kept_more a b c xs ys zs es fs p q is =
     let second = q is in
     let first = p second.0 in

@@ -96,8 +96,8 @@ impl Source for MemSource {
 
     ghost faults = { λ s. s.plan.faults };
 
-    /// A call that isn't to fail gives as many bytes as are left, as `buf` has room for and as the plan
-    /// allows.
+    /// A call that isn't to fail gives as many bytes as are left, as `buf` has room for and as the
+    /// plan allows.
     fn read(&mut self, buf: &mut [u8]) -> Result<usize, Failed>
         ensures fails { is_err result
             ≡ is_among self.old.plan.failing.items (next_count self.old.plan.calls) }

@@ -109,8 +109,8 @@ impl<'a, O: Sink> Lines<'a, O> {
         Ok(())
     }
 
-    /// Writes the last line of the text. `Ok` where no write has failed, neither this one nor one of an
-    /// event before it; else how many bytes the sink took in all.
+    /// Writes the last line of the text. `Ok` where no write has failed, neither this one nor one
+    /// of an event before it; else how many bytes the sink took in all.
     pub fn end(&mut self, end: &RunEnd) -> Result<(), WriteFault>
         ensures same_reference { self.new.sink.ghost_name ≡ self.old.sink.ghost_name }
         ensures trace { self.new.trace ≡ self.old.trace }

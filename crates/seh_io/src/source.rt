@@ -11,16 +11,16 @@ pub struct Failed;
 
 /// What gives bytes, piece by piece.
 ///
-/// `left` are the bytes still to come, where that is known: it is of a source over memory, and not of
-/// one over a device, and then nothing is claimed of what comes. `faults` counts the faults of the
-/// source; it never falls, and stays at 2^64 - 1.
+/// `left` are the bytes still to come, where that is known: it is of a source over memory, and not
+/// of one over a device, and then nothing is claimed of what comes. `faults` counts the faults of
+/// the source; it never falls, and stays at 2^64 - 1.
 pub trait Source {
     ghost left: { Self → Option (List ℕ) };
 
     ghost faults: { Self → ℕ };
 
-    /// Gives bytes to the front of `buf` and answers how many. 0 of a buffer with room is the end of the
-    /// bytes. `Failed` comes only with a fault, and loses no byte.
+    /// Gives bytes to the front of `buf` and answers how many. 0 of a buffer with room is the end
+    /// of the bytes. `Failed` comes only with a fault, and loses no byte.
     fn read(&mut self, buf: &mut [u8]) -> Result<usize, Failed>
         ensures fits { IfOk result (λ n. n ≤ length buf.old) }
         ensures moved { IfOk result (λ n. Lost (left self.old) (take n buf.new) (left self.new)) }

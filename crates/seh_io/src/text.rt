@@ -7,11 +7,9 @@ ghost use Rattle.seh_io.specs.Text.{line, end_line, text, flag_text, code_text, 
 use crate::line::Line;
 use crate::sink::Sink;
 use crate::writing::{WriteFault, put_all};
+use seh_num::code::ACCESS_VIOLATION;
 use seh_num::end::{Reason, RunEnd};
 use seh_num::event::{Code, Event};
-
-/// The code of an access violation, as the Windows headers number it.
-const ACCESS_VIOLATION: Code = Code(0xC000_0005);
 
 fn put_code(line: &mut Line, code: Code)
     requires { length line.old + 8 ≤ 64 }

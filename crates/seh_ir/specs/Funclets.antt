@@ -6,11 +6,11 @@ use Rattle.linear_code.specs.declared.slot.Slot.TheVariants.{Local, Temporary}
 use Rattle.linear_code.specs.declared.instruction.Instruction.TheVariants as instructions
 use Rattle.linear_code.specs.declared.program.FuncletKind.TheVariants as kinds
 use Rattle.linear_code.specs.Program.{LinearFunclet}
-use Rattle.seh_ir.specs.declared.scope.Names.{Names}
-use Rattle.seh_ir.specs.Scope.{except_names, filter_names, finally_names, finally_scope}
+use Rattle.ir_expressions.specs.declared.scope.Names.{Names}
+use Rattle.ir_expressions.specs.Scope.{except_names, filter_names, finally_names, finally_scope}
 use Rattle.seh_ir.specs.declared.funclets.Owner.{Owner}
 use Rattle.seh_ir.specs.Slots.{body_with}
-use Rattle.seh_ir.specs.Expressions.{expression_code}
+use Rattle.ir_expressions.specs.Expressions.{expression_code}
 use Rattle.seh_ir.specs.Statements.{statements_code}
 use Rattle.seh_ir.specs.Regions.{statements_regions}
 
@@ -20,7 +20,9 @@ filter_funclet owner names e = record {
   kind = kinds.Filter;
   function = owner.function;
   parent = owner.parent;
-  body = body_with owner.locals (expression_code names e 0 0 ++ instructions.Return (Temporary 0) ∷ []) [];
+  body =
+      body_with owner.locals (expression_code names e 0 0 ++ instructions.Return (Temporary 0) ∷ [])
+      [];
 }
 
 abbrev pub filter_funclets : Owner → Names → Filter → List LinearFunclet
@@ -33,7 +35,9 @@ finally_funclet owner names last = record {
   kind = kinds.Finally names.free;
   function = owner.function;
   parent = owner.parent;
-  body = body_with owner.locals (statements_code (finally_scope names) last 0 ++ instructions.Return (Local names.free) ∷ []) (statements_regions last 0);
+  body =
+      body_with owner.locals (statements_code (finally_scope names) last 0
+      ++ instructions.Return (Local names.free) ∷ []) (statements_regions last 0);
 }
 
 -- in the body of a funclet
@@ -46,7 +50,8 @@ abbrev mutual
   statement_funclets owner names (Block ss) = statements_funclets owner names ss
   statement_funclets owner names (Evaluate e) = []
   statement_funclets owner names (If c s) = statement_funclets owner names s
-  statement_funclets owner names (IfElse c s t) = statement_funclets owner names s ++ statement_funclets owner names t
+  statement_funclets owner names (IfElse c s t) =
+      statement_funclets owner names s ++ statement_funclets owner names t
   statement_funclets owner names (For ds first c next s) = statement_funclets owner names s
   statement_funclets owner names (DoWhile s c) = statement_funclets owner names s
   statement_funclets owner names (Return e) = []
@@ -54,11 +59,15 @@ abbrev mutual
   statement_funclets owner names Continue = []
   statement_funclets owner names Leave = []
   statement_funclets owner names (TryExcept body filter block) =
-      statements_funclets owner names body ++ (filter_funclets owner (filter_names names) filter ++ statements_funclets owner (except_names names) block)
+      statements_funclets owner names body
+      ++ (filter_funclets owner (filter_names names) filter
+      ++ statements_funclets owner (except_names names) block)
   statement_funclets owner names (TryFinally body k last) =
       statements_funclets owner names body
-      ++ (finally_funclet owner names last ∷ statements_funclets (in_funclet (k - 1) owner) (finally_names names) last)
+      ++ (finally_funclet owner names last
+      ∷ statements_funclets (in_funclet (k - 1) owner) (finally_names names) last)
 
   pub statements_funclets : Owner → Names → Statements → List LinearFunclet
   statements_funclets owner names Empty = []
-  statements_funclets owner names (Then s ss) = statement_funclets owner names s ++ statements_funclets owner names ss
+  statements_funclets owner names (Then s ss) =
+      statement_funclets owner names s ++ statements_funclets owner names ss

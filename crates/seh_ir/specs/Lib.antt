@@ -1,9 +1,5 @@
-pub mod Scope
 pub mod Slots
-pub mod Expressions
-pub mod Pieces
 pub mod Statements
 pub mod Regions
 pub mod Funclets
 pub mod Lowered
-pub mod Appended

@@ -4,11 +4,11 @@ use Rattle.c_checked.specs.Program.{Program, Function}
 use Rattle.linear_code.specs.declared.slot.Slot.TheVariants.{Temporary}
 use Rattle.linear_code.specs.declared.instruction.Instruction.TheVariants.{Return}
 use Rattle.linear_code.specs.Program.{LinearFunction, LinearFunclet, LinearProgram}
-use Rattle.seh_ir.specs.declared.scope.Scope.{Scope}
-use Rattle.seh_ir.specs.Scope.{function_scope}
+use Rattle.ir_expressions.specs.declared.scope.Scope.{Scope}
+use Rattle.ir_expressions.specs.Scope.{function_scope}
 use Rattle.ir_sizes.specs.Sizes.{statements_size, statements_notes}
 use Rattle.seh_ir.specs.Slots.{body_with}
-use Rattle.seh_ir.specs.Expressions.{constant}
+use Rattle.ir_expressions.specs.Expressions.{constant}
 use Rattle.seh_ir.specs.Statements.{statements_code}
 use Rattle.seh_ir.specs.Regions.{statements_regions}
 use Rattle.seh_ir.specs.Funclets.{statements_funclets}
@@ -27,16 +27,26 @@ scope_of f = function_scope (own_locals f) (statements_size f.body + 1)
 abbrev pub lowered_function : Function → LinearFunction
 lowered_function f = record {
   parameters = length f.parameters;
-  body = body_with (all_locals f) (statements_code (scope_of f) f.body 0 ++ constant 0 0 ∷ Return (Temporary 0) ∷ []) (statements_regions f.body 0);
+  body =
+      body_with (all_locals f) (statements_code (scope_of f) f.body 0 ++ constant 0 0
+      ∷ Return (Temporary 0) ∷ []) (statements_regions f.body 0);
 }
 
 -- the funclets of a function of this number
 abbrev pub lowered_funclets : ℕ → Function → List LinearFunclet
-lowered_funclets number f = statements_funclets (record { function = number; locals = all_locals f; parent = None }) (scope_of f).names f.body
+lowered_funclets number f =
+    statements_funclets (record { function = number; locals = all_locals f; parent = None })
+    (scope_of f).names f.body
 
 abbrev pub all_funclets : ℕ → List Function → List LinearFunclet
 all_funclets number [] = []
 all_funclets number (f ∷ fs) = lowered_funclets number f ++ all_funclets (number + 1) fs
 
 abbrev pub lowered : Program → LinearProgram
-lowered p = record { globals = p.globals; main = p.main; functions = map lowered_function p.functions; funclets = all_funclets 0 p.functions }
+lowered p =
+    record {
+      globals = p.globals;
+      main = p.main;
+      functions = map lowered_function p.functions;
+      funclets = all_funclets 0 p.functions;
+    }

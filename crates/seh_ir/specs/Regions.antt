@@ -21,8 +21,10 @@ abbrev mutual
   statement_regions (Evaluate e) at = []
   statement_regions (If c s) at = statement_regions s (at + expression_size c + 1)
   statement_regions (IfElse c s t) at =
-      statement_regions s (at + expression_size c + 1) ++ statement_regions t (at + expression_size c + 1 + statement_size s + 1)
-  statement_regions (For ds first c next s) at = statement_regions s (at + all_declared_size ds + discarded_size first + condition_size c)
+      statement_regions s (at + expression_size c + 1)
+      ++ statement_regions t (at + expression_size c + 1 + statement_size s + 1)
+  statement_regions (For ds first c next s) at =
+      statement_regions s (at + all_declared_size ds + discarded_size first + condition_size c)
   statement_regions (DoWhile s c) at = statement_regions s at
   statement_regions (Return e) at = []
   statement_regions Break at = []
@@ -30,10 +32,13 @@ abbrev mutual
   statement_regions Leave at = []
   statement_regions (TryExcept body filter block) at =
       let target = at + statements_size body + 1 in
-      statements_regions body at ++ (region at target (except_kind filter target) ∷ statements_regions block (target + 1))
+      statements_regions body at ++ (region at target (except_kind filter target)
+      ∷ statements_regions block (target + 1))
   statement_regions (TryFinally body k last) at =
-      statements_regions body at ++ region at (at + statements_size body + 1) (kinds.Finally (k - 1)) ∷ []
+      statements_regions body at ++ region at (at + statements_size body + 1)
+      (kinds.Finally (k - 1)) ∷ []
 
   pub statements_regions : Statements → ℕ → List Region
   statements_regions Empty at = []
-  statements_regions (Then s ss) at = statement_regions s at ++ statements_regions ss (at + statement_size s)
+  statements_regions (Then s ss) at =
+      statement_regions s at ++ statements_regions ss (at + statement_size s)

@@ -13,7 +13,8 @@ slot_temporaries (Temporary i) = suc i
 
 -- a call brings four temporaries to registers, whatever it passes
 abbrev pub instruction_temporaries : Instruction → ℕ
-instruction_temporaries (instructions.Compute to o first second) = max (slot_temporaries to) (max (slot_temporaries first) (slot_temporaries second))
+instruction_temporaries (instructions.Compute to o first second) =
+    max (slot_temporaries to) (max (slot_temporaries first) (slot_temporaries second))
 instruction_temporaries (instructions.Information to field) = slot_temporaries to
 instruction_temporaries (instructions.Jump label) = 0
 instruction_temporaries (instructions.JumpIfZero slot label) = slot_temporaries slot
@@ -39,4 +40,11 @@ passed_in (i ∷ is) = max (instruction_passes i) (passed_in is)
 
 -- a body of an activation with so many locals
 abbrev pub body_with : ℕ → List Instruction → List Region → LinearBody
-body_with locals code regions = record { locals = locals; temporaries = temporaries_in code; passed = passed_in code; code = code; regions = regions }
+body_with locals code regions =
+    record {
+      locals = locals;
+      temporaries = temporaries_in code;
+      passed = passed_in code;
+      code = code;
+      regions = regions;
+    }

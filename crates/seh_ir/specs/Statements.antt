@@ -8,13 +8,13 @@ use Rattle.c_checked.specs.Statement as statements
 use Rattle.linear_code.specs.declared.slot.Slot.TheVariants.{Local, Temporary}
 use Rattle.linear_code.specs.declared.instruction.Instruction.{Instruction}
 use Rattle.linear_code.specs.declared.instruction.Instruction.TheVariants.{Compute, Jump, JumpIfZero, CallFinally, LocalUnwind, Landing, Separator, Return}
-use Rattle.seh_ir.specs.declared.scope.Names.{Names}
-use Rattle.seh_ir.specs.declared.scope.Way.{Way}
-use Rattle.seh_ir.specs.declared.scope.Scope.{Scope}
-use Rattle.seh_ir.specs.declared.scope.Way.TheVariants.{Nowhere, Jumps, Unwinds}
-use Rattle.seh_ir.specs.Scope.{in_loop, in_try, in_except, in_guarded}
+use Rattle.ir_expressions.specs.declared.scope.Names.{Names}
+use Rattle.ir_expressions.specs.declared.scope.Way.{Way}
+use Rattle.ir_expressions.specs.declared.scope.Scope.{Scope}
+use Rattle.ir_expressions.specs.declared.scope.Way.TheVariants.{Nowhere, Jumps, Unwinds}
+use Rattle.ir_expressions.specs.Scope.{in_loop, in_try, in_except, in_guarded}
 use Rattle.ir_sizes.specs.Sizes.{expression_size, discarded_size, condition_size, declared_size, all_declared_size, statement_size, statements_size}
-use Rattle.seh_ir.specs.Expressions.{constant, copy, expression_code}
+use Rattle.ir_expressions.specs.Expressions.{constant, copy, expression_code}
 
 -- ---- ways out; each takes two instructions, so that no size depends on where it leads
 
@@ -46,19 +46,24 @@ returned_code names (Some e) at = expression_code names e 0 at
 -- to a label where the condition is 0
 abbrev pub condition_code : Names → Option Expression → ℕ → ℕ → List Instruction
 condition_code names None label at = []
-condition_code names (Some e) label at = expression_code names e 0 at ++ JumpIfZero (Temporary 0) label ∷ []
+condition_code names (Some e) label at =
+    expression_code names e 0 at ++ JumpIfZero (Temporary 0) label ∷ []
 
 abbrev pub initialiser_code : Names → ℕ → Option Expression → ℕ → List Instruction
 initialiser_code names x None at = []
-initialiser_code names x (Some e) at = expression_code names e 0 at ++ copy (Local x) (Temporary 0) ∷ Separator ∷ []
+initialiser_code names x (Some e) at =
+    expression_code names e 0 at ++ copy (Local x) (Temporary 0) ∷ Separator ∷ []
 
 -- a declared local is 0 first
 abbrev pub declared_code : Names → Declared → ℕ → List Instruction
-declared_code names d at = Compute (Local d.local) (Pure (Constant 0)) (Local d.local) (Local d.local) ∷ initialiser_code names d.local d.value (at + 1)
+declared_code names d at =
+    Compute (Local d.local) (Pure (Constant 0)) (Local d.local) (Local d.local)
+    ∷ initialiser_code names d.local d.value (at + 1)
 
 abbrev pub all_declared_code : Names → List Declared → ℕ → List Instruction
 all_declared_code names [] at = []
-all_declared_code names (d ∷ ds) at = declared_code names d at ++ all_declared_code names ds (at + declared_size d)
+all_declared_code names (d ∷ ds) at =
+    declared_code names d at ++ all_declared_code names ds (at + declared_size d)
 
 -- ---- ends of parts
 
@@ -114,7 +119,8 @@ abbrev mutual
       ++ (Separator
       ∷ (expression_code scope.names c 0 (again + 1)
       ++ repeated end at))
-  statement_code scope (statements.Return e) at = returned_code scope.names e at ++ return_code scope.exit
+  statement_code scope (statements.Return e) at =
+      returned_code scope.names e at ++ return_code scope.exit
   statement_code scope Break at = jump_code scope.loop_end
   statement_code scope Continue at = jump_code scope.loop_next
   statement_code scope Leave at = leave_code scope.leave ∷ []
@@ -130,7 +136,8 @@ abbrev mutual
 
   pub statements_code : Scope → Statements → ℕ → List Instruction
   statements_code scope Empty at = []
-  statements_code scope (Then s ss) at = statement_code scope s at ++ statements_code scope ss (at + statement_size s)
+  statements_code scope (Then s ss) at =
+      statement_code scope s at ++ statements_code scope ss (at + statement_size s)
 
 -- ---- parts of statements, placed at an instruction
 

@@ -4,7 +4,7 @@ ghost use Rattle.std.specs.Prelude.{◌≡◌, ◌+◌, ◌-◌, map, true, OnOk
 ghost use Rattle.linear_code.specs.declared.program.RegionKind.TheVariants as kinds;
 ghost use Rattle.c_checked.specs.Statement as statements;
 ghost use Rattle.ir_sizes.specs.Kinds.{is_try, is_loop_or_try};
-ghost use Rattle.seh_ir.specs.Appended.{AppendsRegions};
+ghost use Rattle.ir_expressions.specs.Appended.{AppendsRegions};
 ghost use Rattle.seh_ir.specs.Regions as spec;
 
 use c_checked::statement::{Filter, Stmt};

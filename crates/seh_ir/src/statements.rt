@@ -4,16 +4,16 @@ ghost use Rattle.std.specs.Prelude.{◌≡◌, ◌-◌, map, length, true, OnOk,
 ghost use Rattle.c_checked.specs.Expression as tree;
 ghost use Rattle.c_checked.specs.Statement as statements;
 ghost use Rattle.ir_sizes.specs.Kinds.{is_loop_or_try};
-ghost use Rattle.seh_ir.specs.Appended.{Appends, Places};
+ghost use Rattle.ir_expressions.specs.Appended.{Appends, Places};
 ghost use Rattle.seh_ir.specs.Statements as spec;
 
-use crate::expressions::expression;
-use crate::instructions::{ahead, constant, copy, put};
-use crate::pieces::{skip, test};
-use crate::scope::{Names, Scope, Way, in_except, in_guarded, in_loop, in_try};
 use c_checked::expression::Expr;
 use c_checked::statement::{Declared, Stmt};
 use c_operations::operation::{Operation, Pure};
+use ir_expressions::expressions::expression;
+use ir_expressions::instructions::{ahead, constant, copy, put};
+use ir_expressions::pieces::{skip, test};
+use ir_expressions::scope::{Names, Scope, Way, in_except, in_guarded, in_loop, in_try};
 use ir_sizes::sizes::expression_size;
 use ir_sizes::statement_sizes::{condition_size, discarded_size, statement_size, statements_size};
 use ir_sizes::sums::sum;

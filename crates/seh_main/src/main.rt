@@ -1,4 +1,7 @@
 //! The program over the process's own streams.
+//!
+//! Nothing is proved here beyond the traits of `seh_io`: what a stream of the process holds is no
+//! clause's. Begin with `streams`, the adapters.
 #![tactic(auto)]
 
 mod streams;
@@ -10,7 +13,8 @@ use std::process::ExitCode;
 use std::{env, io, rt};
 use streams::{Input, Output};
 
-/// The words after the program's name. A word that isn't UTF-8 makes them no line of the command set.
+/// The words after the program's name. A word that isn't UTF-8 makes them no line of the command
+/// set.
 fn words<R: rt::Env + AllocGlobal>(rt: &R) -> io::Result<Vec<String>> {
     let mut words = Vec::new(rt.alloc());
     for word in env::args(rt)?.skip(1) {

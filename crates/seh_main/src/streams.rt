@@ -1,5 +1,5 @@
-//! Standard input, output and error as a source and sinks. They tell nothing of their bytes, and count
-//! their faults; what reaches them is the outside, and no contract speaks of it.
+//! Standard input, output and error as a source and sinks. They tell nothing of their bytes, and
+//! count their faults; what reaches them is the outside, and no contract speaks of it.
 
 ghost use Rattle.std.specs.Prelude.{None};
 

@@ -9,7 +9,8 @@ pub enum Reason {
     BadRecord,
     /// A stack word that is needed can't be read; the address is its first byte that can't.
     Unreadable,
-    /// The stack pointer would not rise from a frame to its caller; the address is the stack pointer.
+    /// The stack pointer would not rise from a frame to its caller; the address is the stack
+    /// pointer.
     Backward,
     /// An unwinding doesn't meet its target frame, whose address this is.
     LostFrame,

@@ -1,4 +1,4 @@
-/// An exception code, as the Windows headers number them: 0xC0000005 is an access violation.
+/// The code of an exception: `code` has those of the host.
 #[derive(Clone, Copy, Debug, PartialEq, Eq)]
 pub struct Code(pub u32);
 

@@ -1,5 +1,6 @@
 -- A dispatch record at its place.
 use Rattle.std.specs.Prelude.{◌≡◌, ℕ, ◌+◌, ◌-◌, ◌*◌, ◌/◌, ◌%◌, ◌^◌, Bool, true, false, ◌==◌, nat_lt, if◌then◌else◌, List, [], ◌∷◌, ◌++◌, replicate, Option, Some, None, Result, Ok, Err}
+use Rattle.seh_num.specs.declared.size.TheConstants.{EXCEPTION_MAXIMUM_PARAMETERS}
 use Rattle.host_layout.specs.declared.range.TheConstants.{STACK_START}
 use Rattle.flat_memory.specs.Memory.{Memory, first_refused, number_at, with_bytes, may_read, may_write}
 use Rattle.x64_machine.specs.declared.cpu.Cpu.{Cpu}
@@ -11,6 +12,7 @@ use Rattle.seh_records.specs.declared.dispatch.DispatchRecord.{DispatchRecord}
 use Rattle.seh_records.specs.declared.refusal.Guard.{Guard}
 use Rattle.seh_records.specs.declared.refusal.BadRecord.{BadRecord}
 use Rattle.seh_records.specs.Words.{with_block, words_at}
+use Rattle.seh_records.specs.declared.layout.TheConstants.{RECORD_SIZE, PLACED_SIZE}
 
 -- the bytes SEHDSPCH, the lowest first
 abbrev pub mark : ℕ
@@ -79,9 +81,9 @@ return_address_at at = (at + (2 ^ 64 - 8)) % 2 ^ 64
 -- The least address from the return address to the record's end that is below the stack or may not be written. What passes the last address continues at 0.
 unfoldable pub misplaced : Memory → ℕ → Option ℕ
 misplaced m at =
-    if nat_lt (2 ^ 64) (return_address_at at + 1576) then Some 0
+    if nat_lt (2 ^ 64) (return_address_at at + PLACED_SIZE) then Some 0
     else (if nat_lt (return_address_at at) STACK_START then Some (return_address_at at)
-    else first_refused (may_write m) 1576 (return_address_at at))
+    else first_refused (may_write m) PLACED_SIZE (return_address_at at))
 
 -- all but the home space
 unfoldable pub placed : Memory → ℕ → DispatchRecord → Memory
@@ -89,7 +91,7 @@ placed m at r = with_bytes m (with_block m.byte ((at + 32) % 2 ^ 64) 192 (words 
 
 -- the place of a new record, below a stack pointer
 abbrev pub place_below : ℕ → ℕ
-place_below rsp = let a = (rsp + (2 ^ 64 - 1568)) % 2 ^ 64 in a - a % 16
+place_below rsp = let a = (rsp + (2 ^ 64 - RECORD_SIZE)) % 2 ^ 64 in a - a % 16
 
 -- ---- fetching
 
@@ -119,7 +121,7 @@ recorded m at kind = record {
   code = record { 0 = half m at 96 };
   flags = half m at 100;
   count = half m at 120;
-  parameters = words_from m at 128 15;
+  parameters = words_from m at 128 EXCEPTION_MAXIMUM_PARAMETERS;
   saved = saved m at;
   walk = walk m at;
 }
@@ -138,12 +140,12 @@ if_readable m at None = if_marked m at (word m at 32 == mark)
 
 -- none where the bytes aren't readable, the mark differs or the kind is another
 unfoldable pub fetched : Memory → ℕ → Option DispatchRecord
-fetched m at = if_readable m at (first_refused (may_read m) 1568 at)
+fetched m at = if_readable m at (first_refused (may_read m) RECORD_SIZE at)
 
 -- the record is at its place
 pub record IsRecordAt (m : Memory) (at : ℕ) (r : DispatchRecord) : Type 0 where
   pub aligned : at % 16 ≡ 0
-  pub readable : first_refused (may_read m) 1568 at ≡ None
+  pub readable : first_refused (may_read m) RECORD_SIZE at ≡ None
   pub words : words_from m at 32 192 ≡ words at r
 
 -- ---- what the code answers, and the memory after it

@@ -1,4 +1,5 @@
 use seh_num::event::Code;
+use seh_num::size::EXCEPTION_MAXIMUM_PARAMETERS;
 use x64_machine::context::Context;
 use x64_machine::cpu::Cpu;
 
@@ -28,7 +29,7 @@ pub struct DispatchRecord {
     pub flags: u32,
     /// How many of the parameters say something.
     pub count: u32,
-    pub parameters: [u64; 15],
+    pub parameters: [u64; EXCEPTION_MAXIMUM_PARAMETERS],
     /// The state that search and unwinding begin from.
     pub saved: Cpu,
     /// The state at the frame in hand.

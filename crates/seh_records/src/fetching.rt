@@ -5,18 +5,20 @@ ghost use Rattle.flat_memory.specs.Memory.{first_refused, may_read};
 ghost use Rattle.seh_records.specs.Record as spec;
 
 use crate::dispatch::{DispatchRecord, Kind};
+use crate::layout::RECORD_SIZE;
 use crate::placing::MARK;
 use crate::refusal::BadRecord;
 use crate::words::first_unreadable;
 use seh_num::event::Code;
+use seh_num::size::EXCEPTION_MAXIMUM_PARAMETERS;
 use seh_num::width::Width;
 use x64_machine::context::Context;
 use x64_machine::cpu::{Cpu, Flags};
 use x64_memory::space::AddressSpace;
 
 fn word<S: AddressSpace>(space: &S, at: u64, offset: u64) -> u64
-    requires readable { first_refused (may_read (S.memory space.now)) 1568 at ≡ None }
-    requires inside { offset + 8 ≤ 1568 }
+    requires readable { first_refused (may_read (S.memory space.now)) RECORD_SIZE at ≡ None }
+    requires inside { offset + 8 ≤ RECORD_SIZE }
     ensures { result ≡ spec.word (S.memory space.now) at offset }
 {
     match space.load(at.wrapping_add(offset), Width::W64) {
@@ -26,8 +28,8 @@ fn word<S: AddressSpace>(space: &S, at: u64, offset: u64) -> u64
 }
 
 fn half<S: AddressSpace>(space: &S, at: u64, offset: u64) -> u32
-    requires readable { first_refused (may_read (S.memory space.now)) 1568 at ≡ None }
-    requires inside { offset + 4 ≤ 1568 }
+    requires readable { first_refused (may_read (S.memory space.now)) RECORD_SIZE at ≡ None }
+    requires inside { offset + 4 ≤ RECORD_SIZE }
     ensures { result ≡ spec.half (S.memory space.now) at offset }
 {
     match space.load(at.wrapping_add(offset), Width::W32) {
@@ -37,8 +39,8 @@ fn half<S: AddressSpace>(space: &S, at: u64, offset: u64) -> u32
 }
 
 fn words<S: AddressSpace>(space: &S, at: u64, offset: u64, into: &mut [u64])
-    requires readable { first_refused (may_read (S.memory space.now)) 1568 at ≡ None }
-    requires inside { offset + 8 * length into.old ≤ 1568 }
+    requires readable { first_refused (may_read (S.memory space.now)) RECORD_SIZE at ≡ None }
+    requires inside { offset + 8 * length into.old ≤ RECORD_SIZE }
     ensures { into.new ≡ spec.words_from (S.memory space.now) at offset (length into.old) }
 {
     let mut here = offset;
@@ -67,7 +69,7 @@ fn flags_of(value: u32) -> Flags
 }
 
 fn saved<S: AddressSpace>(space: &S, at: u64) -> Cpu
-    requires { first_refused (may_read (S.memory space.now)) 1568 at ≡ None }
+    requires { first_refused (may_read (S.memory space.now)) RECORD_SIZE at ≡ None }
     ensures { result ≡ spec.saved (S.memory space.now) at }
 {
     let mut registers = [0; 16];
@@ -80,7 +82,7 @@ fn saved<S: AddressSpace>(space: &S, at: u64) -> Cpu
 }
 
 fn walk<S: AddressSpace>(space: &S, at: u64) -> Context
-    requires { first_refused (may_read (S.memory space.now)) 1568 at ≡ None }
+    requires { first_refused (may_read (S.memory space.now)) RECORD_SIZE at ≡ None }
     ensures { result ≡ spec.walk (S.memory space.now) at }
 {
     let mut kept = [0; 9];
@@ -92,10 +94,10 @@ fn walk<S: AddressSpace>(space: &S, at: u64) -> Context
 }
 
 fn recorded<S: AddressSpace>(space: &S, at: u64, kind: Kind) -> DispatchRecord
-    requires { first_refused (may_read (S.memory space.now)) 1568 at ≡ None }
+    requires { first_refused (may_read (S.memory space.now)) RECORD_SIZE at ≡ None }
     ensures { result ≡ spec.recorded (S.memory space.now) at kind }
 {
-    let mut parameters = [0; 15];
+    let mut parameters = [0; EXCEPTION_MAXIMUM_PARAMETERS];
     words(space, at, 128, &mut parameters);
     DispatchRecord {
         kind,
@@ -127,7 +129,7 @@ fn kind_of(number: u64) -> Option<Kind>
 fn fetched<S: AddressSpace>(space: &S, at: u64) -> Option<DispatchRecord>
     ensures { result ≡ spec.fetched (S.memory space.now) at }
 {
-    if first_unreadable(space, at, 196).is_some() {
+    if first_unreadable(space, at, RECORD_SIZE / 8).is_some() {
         return None;
     }
     if word(space, at, 32) != MARK {

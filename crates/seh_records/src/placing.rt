@@ -5,6 +5,7 @@ ghost use Rattle.arrayvec.specs.ArrayVec.{array_vec_len};
 ghost use Rattle.seh_records.specs.Record as spec;
 
 use crate::dispatch::{DispatchRecord, Kind};
+use crate::layout::{PLACED_SIZE, RECORD_SIZE};
 use crate::refusal::Guard;
 use crate::words::{first_unwritable, put_words};
 use arrayvec::ArrayVec;
@@ -98,13 +99,13 @@ fn misplaced<S: AddressSpace>(space: &S, at: u64) -> Option<u64>
     ensures { result ≡ spec.misplaced (S.memory space.now) at }
 {
     let from = at.wrapping_sub(8);
-    if from > 0xFFFF_FFFF_FFFF_FFFF - 1575 {
+    if from > 0xFFFF_FFFF_FFFF_FFFF - (PLACED_SIZE - 1) {
         return Some(0);
     }
     if from < STACK_START {
         return Some(from);
     }
-    first_unwritable(space, from, 197)
+    first_unwritable(space, from, PLACED_SIZE / 8)
 }
 
 fn put_record<S: AddressSpace>(space: &mut S, at: u64, dispatch: &DispatchRecord)
@@ -140,7 +141,7 @@ pub fn rewrite<S: AddressSpace>(
 pub fn place_below(rsp: u64) -> u64
     ensures { result ≡ spec.place_below rsp }
 {
-    let top = rsp.wrapping_sub(1568);
+    let top = rsp.wrapping_sub(RECORD_SIZE);
     top - top % 16
 }
 

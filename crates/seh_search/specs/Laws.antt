@@ -10,4 +10,6 @@ use Rattle.seh_search.specs.Search.{search}
 
 -- with more steps it comes to the same: the bound isn't met
 abbrev pub SearchesEnd : Type 0
-SearchesEnd = (t : Functions) (m : Memory) (w : WalkState) (n : ℕ) → AreBytes m.byte → 0 < rsp w.context → rsp w.context < 2 ^ 64 → steps ≤ n → search n t m w ≡ search steps t m w
+SearchesEnd =
+    (t : Functions) (m : Memory) (w : WalkState) (n : ℕ) → AreBytes m.byte → 0 < rsp w.context
+    → rsp w.context < 2 ^ 64 → steps ≤ n → search n t m w ≡ search steps t m w

@@ -18,7 +18,8 @@ abbrev pub chosen : ℕ → ℕ → Context → AskedRecord → SearchResult
 chosen base frame c r = by_handler base frame c r (r.1.handler_address == 1)
 
 -- a step decides, or the walk continues: the first row that is asked decides
-abbrev pub by_row : Functions → ℕ → Context → WalkState → Option AskedRecord → Result WalkState SearchResult
+abbrev pub by_row : Functions → ℕ → Context → WalkState → Option AskedRecord
+    → Result WalkState SearchResult
 by_row t frame c u (Some r) = Err (chosen t.base frame c r)
 by_row t frame c u None = Ok u
 
@@ -26,7 +27,9 @@ abbrev pub decided : Functions → WalkState → Visited → Result WalkState Se
 decided t w Over = Err Nobody
 decided t w (Past u) = Ok u
 decided t w (Broken y) = Err (Stop y)
-decided t w (Frame f u) = by_row t f.frame w.context u (first_with_jump_target (searched f.asked (distance t.base w.context.rip) w.row))
+decided t w (Frame f u) =
+    by_row t f.frame w.context u (first_with_jump_target
+    (searched f.asked (distance t.base w.context.rip) w.row))
 
 -- at most so many steps of the walk
 unfoldable pub search : ℕ → Functions → Memory → WalkState → SearchResult

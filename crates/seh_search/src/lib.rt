@@ -1,4 +1,7 @@
 //! The search for a handler of an exception, frame by frame.
+//!
+//! Proved: `searching::search` is the walk of the definition, over the scope records that are
+//! asked. Begin with `specs/Search.antt`.
 #![tactic(auto)]
 
 pub mod laws;

@@ -4,8 +4,8 @@ use x64_machine::context::Context;
 /// What a search comes to.
 #[derive(Clone, Copy, Debug, PartialEq, Eq)]
 pub enum SearchResult {
-    /// A filter to be asked: its address, the establisher frame, the next scope record and the state at
-    /// that frame.
+    /// A filter to be asked: its address, the establisher frame, the next scope record and the
+    /// state at that frame.
     Filter {
         handler: u64,
         frame: u64,

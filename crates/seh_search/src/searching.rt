@@ -57,9 +57,9 @@ fn decide<S: AddressSpace>(
     }
 }
 
-/// The search that a record keeps, from its walk's state and next row on: the first scope record that
-/// is asked there and isn't that of a `__finally` block. A row whose handler is 1 accepts, any other
-/// names a filter.
+/// The search that a record keeps, from its walk's state and next row on: the first scope record
+/// that is asked there and isn't that of a `__finally` block. A row whose handler is 1 accepts, any
+/// other names a filter.
 #[tactic(auto, using(crate::proofs::Searches::search_steps))]
 pub fn search<S: AddressSpace>(
     tables: &Tables,

@@ -12,7 +12,8 @@ holds r rva = nat_le r.begin rva && nat_lt rva r.end
 -- the rows that hold an address, of those from an index on
 abbrev pub holding : ℕ → ℕ → List ScopeRecord → List AskedRecord
 holding rva k [] = []
-holding rva k (r ∷ rows) = if holds r rva then (k, r) ∷ holding rva (k + 1) rows else holding rva (k + 1) rows
+holding rva k (r ∷ rows) =
+    if holds r rva then (k, r) ∷ holding rva (k + 1) rows else holding rva (k + 1) rows
 
 abbrev pub rows_from : ℕ → ℕ → List ScopeRecord → List AskedRecord
 rows_from rva from rows = holding rva from (drop from rows)
@@ -46,12 +47,14 @@ until_if false target rows = rows
 
 abbrev pub unwound : Option Info → ℕ → ℕ → Bool → ℕ → List AskedRecord
 unwound None rva from is_last target = []
-unwound (Some i) rva from is_last target = until_if is_last target (asked_by (is_unwound i) i rva from)
+unwound (Some i) rva from is_last target =
+    until_if is_last target (asked_by (is_unwound i) i rva from)
 
 -- the first row of a kind
 abbrev pub first_with_jump_target : List AskedRecord → Option AskedRecord
 first_with_jump_target [] = None
-first_with_jump_target (r ∷ rows) = if r.1.jump_target == 0 then first_with_jump_target rows else Some r
+first_with_jump_target (r ∷ rows) =
+    if r.1.jump_target == 0 then first_with_jump_target rows else Some r
 
 abbrev pub first_finally : List AskedRecord → Option AskedRecord
 first_finally [] = None

@@ -16,8 +16,12 @@ LeadsTo (Broken y) u = ⊥
 
 -- RSP rises in each step
 abbrev pub WalksRise : Type 0
-WalksRise = (t : Functions) (m : Memory) (w u : WalkState) → LeadsTo (visited t m w) u → rsp w.context < rsp u.context
+WalksRise =
+    (t : Functions) (m : Memory) (w u : WalkState) → LeadsTo (visited t m w) u
+    → rsp w.context < rsp u.context
 
 -- and stays an address, so that no walk has more steps than there are addresses
 abbrev pub WalksStayBelow : Type 0
-WalksStayBelow = (t : Functions) (m : Memory) (w u : WalkState) → AreBytes m.byte → rsp w.context < 2 ^ 64 → LeadsTo (visited t m w) u → rsp u.context < 2 ^ 64
+WalksStayBelow =
+    (t : Functions) (m : Memory) (w u : WalkState) → AreBytes m.byte → rsp w.context < 2 ^ 64
+    → LeadsTo (visited t m w) u → rsp u.context < 2 ^ 64

@@ -18,7 +18,12 @@ use Rattle.seh_walk.specs.Walk.{Visited, Over, Past, Frame, Broken, stop_cause, 
 abbrev pub seen : Functions → WalkState → code.WalkItem → Visited
 seen t w met.Over = Over
 seen t w (met.Past u) = Past u
-seen t w (met.Frame c u) = Frame (record { frame = c.frame; context = c.context; asked = asked_in c.in_body (entry_of t w.context.rip) }) u
+seen t w (met.Frame c u) =
+    Frame (record {
+      frame = c.frame;
+      context = c.context;
+      asked = asked_in c.in_body (entry_of t w.context.rip);
+    }) u
 seen t w (met.Broken y) = Broken y
 
 -- ---- what the code answers

@@ -1,4 +1,5 @@
--- The walk over frames: through the callers, and through the host's two return addresses at the records there.
+-- The walk over frames: through the callers, and through the host's two return addresses at the
+-- records there.
 use Rattle.std.specs.Prelude.{ℕ, Bool, true, false, not, ◌==◌, nat_lt, Option, Some, None, Result, Ok, Err}
 use Rattle.seh_num.specs.declared.end.Reason.{Reason}
 use Rattle.seh_num.specs.declared.end.Reason.TheVariants as reasons

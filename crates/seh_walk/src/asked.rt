@@ -110,10 +110,10 @@ pub fn first_searched(
     }
 }
 
-/// The first row, from an index on, whose `__finally` block an unwinding runs at a frame: in the body
-/// of an entry with UNW_FLAG_UHANDLER, a row that holds the address and is that of a `__finally`
-/// block. In the target's frame no row is asked from the first on that holds the target or lands
-/// there.
+/// The first row, from an index on, whose `__finally` block an unwinding runs at a frame: in the
+/// body of an entry with UNW_FLAG_UHANDLER, a row that holds the address and is that of a
+/// `__finally` block. In the target's frame no row is asked from the first on that holds the target
+/// or lands there.
 pub fn first_unwound(
     tables: &Tables,
     in_body: bool,

@@ -7,10 +7,10 @@ use Rattle.c_checked.specs.Statement.{Statement, Declare, Block, Evaluate, If, I
 use Rattle.linear_code.specs.Program.{LinearProgram}
 use Rattle.linear_machine.specs.Frames.{BodyName}
 use Rattle.ir_sizes.specs.Sizes.{statements_size}
-use Rattle.seh_ir.specs.declared.scope.Names.{Names}
-use Rattle.seh_ir.specs.declared.scope.Way.{Way}
-use Rattle.seh_ir.specs.declared.scope.Way.TheVariants.{Nowhere, Jumps, Unwinds}
-use Rattle.seh_ir.specs.Scope.{filter_names, finally_names, unwound}
+use Rattle.ir_expressions.specs.declared.scope.Names.{Names}
+use Rattle.ir_expressions.specs.declared.scope.Way.{Way}
+use Rattle.ir_expressions.specs.declared.scope.Way.TheVariants.{Nowhere, Jumps, Unwinds}
+use Rattle.ir_expressions.specs.Scope.{filter_names, finally_names, unwound}
 use Rattle.ir_linked.proofs.Segments.{StandsAt}
 use Rattle.scoped_programs.specs.Scoped.{Seen, with_local, IsPart, after_statement}
 use Rattle.scoped_programs.proofs.Split.{sees_own, sees_before, itself, within}

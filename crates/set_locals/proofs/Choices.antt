@@ -10,10 +10,10 @@ use Rattle.linear_code.specs.declared.instruction.Instruction.TheVariants.{Jump,
 use Rattle.linear_code.specs.Program.{LinearProgram}
 use Rattle.linear_machine.specs.Frames.{BodyName}
 use Rattle.ir_sizes.specs.Sizes.{expression_size, returned_size, statement_size, statements_size}
-use Rattle.seh_ir.specs.declared.scope.Scope.{Scope}
-use Rattle.seh_ir.specs.Expressions.{expression_code}
+use Rattle.ir_expressions.specs.declared.scope.Scope.{Scope}
+use Rattle.ir_expressions.specs.Expressions.{expression_code}
 use Rattle.seh_ir.specs.Statements.{returned_code, return_code, statement_code, statements_code}
-use Rattle.seh_ir.proofs.Codes.{expression_length}
+use Rattle.ir_expressions.proofs.Codes.{expression_length}
 use Rattle.seh_ir.proofs.StatementCodes.{returned_length, statement_length}
 use Rattle.ir_linked.proofs.Segments.{StandsAt, front, back}
 use Rattle.scoped_programs.specs.Scoped.{Seen, IsPart, after_statement, expression_within, optional_within}

@@ -11,11 +11,11 @@ use Rattle.linear_code.specs.declared.instruction.Instruction.TheVariants.{Jump,
 use Rattle.linear_code.specs.Program.{LinearProgram}
 use Rattle.linear_machine.specs.Frames.{BodyName}
 use Rattle.ir_sizes.specs.Sizes.{expression_size, discarded_size, condition_size, all_declared_size, statement_size}
-use Rattle.seh_ir.specs.declared.scope.Scope.{Scope}
-use Rattle.seh_ir.specs.Scope.{in_loop}
-use Rattle.seh_ir.specs.Expressions.{expression_code}
+use Rattle.ir_expressions.specs.declared.scope.Scope.{Scope}
+use Rattle.ir_expressions.specs.Scope.{in_loop}
+use Rattle.ir_expressions.specs.Expressions.{expression_code}
 use Rattle.seh_ir.specs.Statements.{discarded_code, condition_code, all_declared_code, repeated, statement_code}
-use Rattle.seh_ir.proofs.Codes.{expression_length}
+use Rattle.ir_expressions.proofs.Codes.{expression_length}
 use Rattle.seh_ir.proofs.StatementCodes.{discarded_length, condition_length, all_declared_length, statement_length}
 use Rattle.ir_linked.proofs.Segments.{StandsAt, front, back}
 use Rattle.scoped_programs.specs.Scoped.{Seen, IsPart, after_all_declared, after_statement, expression_within, optional_within, all_declared_within}

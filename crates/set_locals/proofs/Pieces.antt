@@ -13,14 +13,14 @@ use Rattle.linear_code.specs.declared.instruction.Instruction.TheVariants as ins
 use Rattle.linear_code.specs.Program.{LinearProgram}
 use Rattle.linear_machine.specs.Frames.{BodyName}
 use Rattle.ir_sizes.specs.Sizes.{expression_size, discarded_size, condition_size, returned_size, declared_size, all_declared_size}
-use Rattle.seh_ir.specs.declared.scope.ExceptionSource.{ExceptionSource}
-use Rattle.seh_ir.specs.declared.scope.ExceptionSource.TheVariants.{NoException, OfFilter, KeptIn}
-use Rattle.seh_ir.specs.declared.scope.Names.{Names}
-use Rattle.seh_ir.specs.declared.scope.Way.{Way}
-use Rattle.seh_ir.specs.declared.scope.Way.TheVariants.{Nowhere, Jumps, Unwinds}
-use Rattle.seh_ir.specs.Expressions.{copy, expression_code}
+use Rattle.ir_expressions.specs.declared.scope.ExceptionSource.{ExceptionSource}
+use Rattle.ir_expressions.specs.declared.scope.ExceptionSource.TheVariants.{NoException, OfFilter, KeptIn}
+use Rattle.ir_expressions.specs.declared.scope.Names.{Names}
+use Rattle.ir_expressions.specs.declared.scope.Way.{Way}
+use Rattle.ir_expressions.specs.declared.scope.Way.TheVariants.{Nowhere, Jumps, Unwinds}
+use Rattle.ir_expressions.specs.Expressions.{copy, expression_code}
 use Rattle.seh_ir.specs.Statements.{jump_code, return_code, leave_code, discarded_code, returned_code, condition_code, initialiser_code, declared_code, all_declared_code}
-use Rattle.seh_ir.proofs.Codes.{expression_length}
+use Rattle.ir_expressions.proofs.Codes.{expression_length}
 use Rattle.seh_ir.proofs.StatementCodes.{discarded_length, declared_length}
 use Rattle.ir_linked.proofs.Segments.{StandsAt, front, back}
 use Rattle.ir_bounds.proofs.PlainExpressions.{all_append}

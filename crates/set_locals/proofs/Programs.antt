@@ -14,7 +14,7 @@ use Rattle.linear_machine.specs.Unwinding.{flag_of}
 use Rattle.linear_runs.proofs.Ranges.{Range, part_of, both_parts, no_part, one_part}
 use Rattle.ir_sizes.specs.Sizes.{statements_size}
 use Rattle.seh_ir.specs.declared.funclets.Owner.{Owner}
-use Rattle.seh_ir.specs.Expressions.{constant}
+use Rattle.ir_expressions.specs.Expressions.{constant}
 use Rattle.seh_ir.specs.Statements.{statements_code}
 use Rattle.seh_ir.specs.Lowered.{own_locals, all_locals, scope_of, lowered_function, lowered_funclets, all_funclets, lowered}
 use Rattle.seh_ir.proofs.StatementCodes.{statements_length}

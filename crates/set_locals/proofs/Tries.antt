@@ -7,8 +7,8 @@ use Rattle.linear_code.specs.declared.instruction.Instruction.TheVariants.{CallF
 use Rattle.linear_code.specs.Program.{LinearProgram}
 use Rattle.linear_machine.specs.Frames.{BodyName}
 use Rattle.ir_sizes.specs.Sizes.{statement_size, statements_size}
-use Rattle.seh_ir.specs.declared.scope.Scope.{Scope}
-use Rattle.seh_ir.specs.Scope.{in_try, in_except, in_guarded}
+use Rattle.ir_expressions.specs.declared.scope.Scope.{Scope}
+use Rattle.ir_expressions.specs.Scope.{in_try, in_except, in_guarded}
 use Rattle.seh_ir.specs.Statements.{landed, statement_code, statements_code}
 use Rattle.seh_ir.proofs.StatementCodes.{statements_length}
 use Rattle.ir_linked.proofs.Segments.{StandsAt, front, back}

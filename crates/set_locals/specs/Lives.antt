@@ -1,4 +1,5 @@
--- What is known of a run with its marks: of each body that runs or waits, what its place tells has been set.
+-- What is known of a run with its marks: of each body that runs or waits, what its place tells has
+-- been set.
 use Rattle.std.specs.Prelude.{◌≡◌, ◌⊎◌, ℕ, ◌<◌, true, drop, length, List, [], ◌∷◌, slice_get, Some}
 use Rattle.std.specs.List.{AllByRecursion}
 use Rattle.linear_code.specs.declared.instruction.Instruction.{Instruction}
@@ -59,7 +60,8 @@ module _ (program : LinearProgram) (sets : BodyName → ℕ → Seen) where
   abbrev pub AreKept : List Item → Type 0
   AreKept [] = Unit {0}
   AreKept (Waits f ∷ below) = AreKept below
-  AreKept (Searches exception resumption asked rest ∷ below) = AreHandlers (asked ∷ rest) below × AreKept below
+  AreKept (Searches exception resumption asked rest ∷ below) =
+      AreHandlers (asked ∷ rest) below × AreKept below
   AreKept (Unwinds rest target ∷ below) = AreLeft rest below × IsTarget target below × AreKept below
 
   -- ---- what has been set
@@ -84,12 +86,16 @@ module _ (program : LinearProgram) (sets : BodyName → ℕ → Seen) where
     -- ---- a step
 
     module _ (i : Instruction) (c d : Configuration) where
-      -- why a local of the body that runs then has been set: it was before, the instruction writes it, it is the flag of a block that begins, or an argument
+      -- why a local of the body that runs then has been set: it was before, the instruction writes
+      -- it, it is the flag of a block that begins, or an argument
       pub data IsGiven (x : ℕ) : Type 0 where
         Before : Marked marks d.frame.activation x → IsGiven x
-        Written : d.frame.activation ≡ c.frame.activation → local_written program i c ≡ Some x → x < locals_at program d.frame.body → IsGiven x
-        Flag : flag_set program (begins_block (drop (length c.events) d.events)) d.frame.body ≡ Some x → x < locals_at program d.frame.body → IsGiven x
-        Passed : (f first count : ℕ) (function : LinearFunction) → i ≡ instructions.Call f first count → slice_get program.functions f ≡ Some function
+        Written : d.frame.activation ≡ c.frame.activation → local_written program i c ≡ Some x
+            → x < locals_at program d.frame.body → IsGiven x
+        Flag : flag_set program (begins_block (drop (length c.events) d.events)) d.frame.body
+            ≡ Some x → x < locals_at program d.frame.body → IsGiven x
+        Passed : (f first count : ℕ) (function : LinearFunction)
+            → i ≡ instructions.Call f first count → slice_get program.functions f ≡ Some function
             → d.frame.activation ≡ length c.store.activations → x < count → IsGiven x
 
       pub record IsStep : Type 0 where

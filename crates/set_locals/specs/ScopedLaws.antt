@@ -8,7 +8,10 @@ use Rattle.set_locals.specs.Sets.{IsSetMap}
 use Rattle.set_locals.specs.Places.{sets_of}
 
 abbrev pub ScopedHasSetMap : Type 0
-ScopedHasSetMap = (program : Program) → IsSound program → IsScoped program → IsSetMap (lowered program) (sets_of program)
+ScopedHasSetMap =
+    (program : Program) → IsSound program → IsScoped program
+    → IsSetMap (lowered program) (sets_of program)
 
 abbrev pub ScopedReadsNoUnset : Type 0
-ScopedReadsNoUnset = (program : Program) → IsSound program → IsScoped program → ReadsNoUnset (lowered program)
+ScopedReadsNoUnset =
+    (program : Program) → IsSound program → IsScoped program → ReadsNoUnset (lowered program)

@@ -8,4 +8,6 @@ use Rattle.scoped_programs.specs.Scoped.{Seen}
 use Rattle.set_locals.specs.Sets.{IsSetMap}
 
 abbrev pub SetMapReadsNoUnset : Type 0
-SetMapReadsNoUnset = (program : LinearProgram) → IsWhole program → (sets : BodyName → ℕ → Seen) → IsSetMap program sets → ReadsNoUnset program
+SetMapReadsNoUnset =
+    (program : LinearProgram) → IsWhole program → (sets : BodyName → ℕ → Seen)
+    → IsSetMap program sets → ReadsNoUnset program

@@ -56,36 +56,55 @@ locals_at program name = owner_locals program (owner_of program name)
 module _ (program : LinearProgram) (sets : BodyName → ℕ → Seen) where
   -- where a funclet begins, what has been set where it is run from, and its flag
   abbrev pub Begins : ℕ → Seen → Type 0
-  Begins k seen = IsPart (sets (FuncletBody k) 0) (with_flag (flag_of (slice_get program.funclets k)) seen)
+  Begins k seen =
+      IsPart (sets (FuncletBody k) 0) (with_flag (flag_of (slice_get program.funclets k)) seen)
 
-  -- what an instruction of a body reads has been set, and where it leads to, nothing more than here and what it writes is told
+  -- what an instruction of a body reads has been set, and where it leads to, nothing more than here
+  -- and what it writes is told
   abbrev pub Leads : BodyName → ℕ → Instruction → Type 0
   Leads name label (instructions.Compute to o first second) =
-      OperandsIn (is_constant o) (sets name label) first second × IsLocalOf (locals_at program name) to × IsPart (sets name (label + 1)) (with_slot to (sets name label))
-  Leads name label (instructions.Information to field) = IsLocalOf (locals_at program name) to × IsPart (sets name (label + 1)) (with_slot to (sets name label))
+      OperandsIn (is_constant o) (sets name label) first second
+      × IsLocalOf (locals_at program name) to
+      × IsPart (sets name (label + 1)) (with_slot to (sets name label))
+  Leads name label (instructions.Information to field) =
+      IsLocalOf (locals_at program name) to
+      × IsPart (sets name (label + 1)) (with_slot to (sets name label))
   Leads name label (instructions.Jump to) = IsPart (sets name to) (sets name label)
   Leads name label (instructions.JumpIfZero slot to) =
-      ReadsIn (sets name label) slot × IsPart (sets name to) (sets name label) × IsPart (sets name (label + 1)) (sets name label)
-  Leads name label (instructions.Call f first count) = IsPart (sets name (label + 1)) (sets name label)
-  Leads name label (instructions.CallBuiltIn f first) = IsPart (sets name (label + 1)) (sets name label)
-  Leads name label (instructions.CallFinally k) = Begins k (sets name label) × IsPart (sets name (label + 1)) (sets name label)
+      ReadsIn (sets name label) slot × IsPart (sets name to) (sets name label)
+      × IsPart (sets name (label + 1)) (sets name label)
+  Leads name label (instructions.Call f first count) =
+      IsPart (sets name (label + 1)) (sets name label)
+  Leads name label (instructions.CallBuiltIn f first) =
+      IsPart (sets name (label + 1)) (sets name label)
+  Leads name label (instructions.CallFinally k) =
+      Begins k (sets name label) × IsPart (sets name (label + 1)) (sets name label)
   Leads name label (instructions.LocalUnwind to) = IsPart (sets name to) (sets name label)
-  Leads name label (instructions.Landing to) = IsLocalOf (locals_at program name) to × IsPart (sets name (label + 1)) (with_slot to (sets name label))
+  Leads name label (instructions.Landing to) =
+      IsLocalOf (locals_at program name) to
+      × IsPart (sets name (label + 1)) (with_slot to (sets name label))
   Leads name label instructions.Separator = IsPart (sets name (label + 1)) (sets name label)
   Leads name label (instructions.Return from) = ReadsIn (sets name label) from
 
   -- so do the funclet and the block of a region that holds a place
   abbrev pub Guards : BodyName → ℕ → RegionKind → Type 0
   Guards name label (kinds.Finally k) = Begins k (sets name label)
-  Guards name label (kinds.Filter k target) = IsPart (sets (FuncletBody k) 0) (sets name label) × IsPart (sets name target) (sets name label)
+  Guards name label (kinds.Filter k target) =
+      IsPart (sets (FuncletBody k) 0) (sets name label)
+      × IsPart (sets name target) (sets name label)
   Guards name label (kinds.Always target) = IsPart (sets name target) (sets name label)
 
   pub record IsSetBody (name : BodyName) (b : LinearBody) : Type 0 where
     pub code : (label : ℕ) (i : Instruction) → slice_get b.code label ≡ Some i → Leads name label i
-    pub regions : (label : ℕ) → AllByRecursion (λ (r : Region). holds label r ≡ true → Guards name label r.kind) b.regions
+    pub regions : (label : ℕ) → AllByRecursion (λ (r : Region). holds label r ≡ true
+        → Guards name label r.kind) b.regions
 
-  -- where a function begins, its parameters have been set; the flag of a block is one of its function's locals
+  -- where a function begins, its parameters have been set; the flag of a block is one of its
+  -- function's locals
   pub record IsSetMap : Type 0 where
-    pub begins : (f : ℕ) (function : LinearFunction) → slice_get program.functions f ≡ Some function → IsPart (sets (FunctionBody f) 0) (first_seen function.parameters)
-    pub bodies : (name : BodyName) (b : LinearBody) → body_of program name ≡ Some b → IsSetBody name b
-    pub flags : (k flag : ℕ) → flag_of (slice_get program.funclets k) ≡ Some flag → flag < locals_at program (FuncletBody k)
+    pub begins : (f : ℕ) (function : LinearFunction) → slice_get program.functions f ≡ Some function
+        → IsPart (sets (FunctionBody f) 0) (first_seen function.parameters)
+    pub bodies : (name : BodyName) (b : LinearBody) → body_of program name ≡ Some b
+        → IsSetBody name b
+    pub flags : (k flag : ℕ) → flag_of (slice_get program.funclets k) ≡ Some flag
+        → flag < locals_at program (FuncletBody k)

@@ -19,7 +19,13 @@ pub record Place : Type 0 where
 
 -- the machine's handlers are outermost first
 abbrev pub context_at : List Handler → Place → Context
-context_at hs p = record { handlers = reverse hs; activation = p.activation; exception = p.exception; abnormal = p.abnormal }
+context_at hs p =
+    record {
+      handlers = reverse hs;
+      activation = p.activation;
+      exception = p.exception;
+      abnormal = p.abnormal;
+    }
 
 -- what is called
 pub data Callee : Type 0 where
@@ -118,7 +124,8 @@ pub data Frame : Type 0 where
   Body : BodyFrame → Frame
   -- a call's end: how many activations there were before it
   EndsCall : ℕ → Frame
-  -- the end of a `__try` with an `__except`, whose handler is the machine's last: what was held where it was entered, and the block
+  -- the end of a `__try` with an `__except`, whose handler is the machine's last: what was held
+  -- where it was entered, and the block
   Lands : ℕ → Statements → Place → Frame
   -- the end of a `__try` with a `__finally`
   Finishes : ℕ → Statements → Place → Frame

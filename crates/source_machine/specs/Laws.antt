@@ -12,7 +12,9 @@ use Rattle.source_machine.specs.Waiting.{comes_to}
 
 -- what the machine comes to stays the same
 abbrev pub KeepsMeaning : Type 0
-KeepsMeaning = (program : Program) (m : Machine) → comes_to program (does program) (step program m) ≡ comes_to program (does program) m
+KeepsMeaning =
+    (program : Program) (m : Machine)
+    → comes_to program (does program) (step program m) ≡ comes_to program (does program) m
 
 abbrev pub is_over : Next → Bool
 is_over (Over how) = true
@@ -87,12 +89,17 @@ abbrev pub distance : Machine → ℕ
 distance m = 64 * m.state.steps_left + all_worth m.stack + next_worth m.next
 
 abbrev pub Decreases : Type 0
-Decreases = (program : Program) (m : Machine) → is_over m.next ≡ false → distance (step program m) < distance m
+Decreases =
+    (program : Program) (m : Machine) → is_over m.next ≡ false
+    → distance (step program m) < distance m
 
 -- what was shown stays
 abbrev pub Extends : Type 0
-Extends = (program : Program) (m : Machine) → IsPrefixOf m.state.events (step program m).state.events
+Extends =
+    (program : Program) (m : Machine) → IsPrefixOf m.state.events (step program m).state.events
 
 -- what was shown is the front of all that is shown
 abbrev pub ShowsBefore : Type 0
-ShowsBefore = (program : Program) (m : Machine) → IsPrefixOf m.state.events (state_of (comes_to program (does program) m)).events
+ShowsBefore =
+    (program : Program) (m : Machine)
+    → IsPrefixOf m.state.events (state_of (comes_to program (does program) m)).events

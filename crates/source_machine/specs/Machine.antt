@@ -21,11 +21,13 @@ use Rattle.c_model.specs.Tasks as tasks
 use Rattle.c_model.specs.Tasks.{Handler, Task}
 use Rattle.c_model.specs.Expressions.{of_test, no_exception, raised, is_some}
 use Rattle.c_model.specs.Raises.{raise_event}
+use Rattle.c_model.specs.declared.depth.TheConstants.{DEEPEST, TOO_DEEP}
 use Rattle.source_machine.specs.Frames as frames
 use Rattle.source_machine.specs.Frames.{Place, Callee, ForLoop, OperandFrame, AssignmentFrame, StatementFrame, SequelFrame, BodyFrame, Frame, Operand, Assignment, InStatement, Sequel, Body, EndsCall, Lands, Finishes, Next, Over, Give, Start, Begin, Plan, Then, Push}
 use Rattle.source_machine.specs.Plans.{node_plan, expression_plan, find_plan, pass_plan, operand_plan, assignment_plan, load_plan, store_plan, proceed_plan, declare_plan, evaluates, evaluated, for_body, statement_plan, in_statement_plan, sequel_plan, body_plan}
 
--- a state with the handlers around the place where it goes on, outermost first; what waits, newest first; and what is done next
+-- a state with the handlers around the place where it goes on, outermost first; what waits, newest
+-- first; and what is done next
 pub record Machine : Type 0 where
   pub state : State
   pub handlers : List Handler
@@ -47,34 +49,47 @@ abbrev pub over : Machine → Result → Machine
 over m how = record m { next = Over how }
 
 abbrev pub unless_deep : Bool → Machine → Machine → Machine
-unless_deep true m other = over m (End (Some (Deep 1001)))
+unless_deep true m other = over m (End (Some (Deep TOO_DEEP)))
 unless_deep false m other = other
 
 abbrev pub is_deep : State → ℕ → Bool
-is_deep st n = nat_lt 1000 (depth st + n)
+is_deep st n = nat_lt DEEPEST (depth st + n)
 
 -- ---- tasks
 
 abbrev pub started : Machine → Task → Place → ℕ → Machine
 started m task p zero = over m (End None)
-started m task p (suc n) = record m { state = record m.state { steps_left = n }; next = Begin task p }
+started m task p (suc n) =
+    record m { state = record m.state { steps_left = n }; next = Begin task p }
 
 abbrev pub begun : Machine → Task → Place → Machine
 begun m (tasks.Eval e) p = follow m (expression_plan e p)
 begun m (tasks.Locate l) p = go_on m (frames.Find l p)
 begun m (tasks.Run s) p = follow m (statement_plan s p)
 begun m (tasks.ForIteration c next s) p =
-    let k : ForLoop = record { condition = c; next = next; body = s } in follow m (evaluated (frames.TestsFor k p) c p (for_body k p))
-begun m (tasks.DoIteration s c) p = follow m (Push (Body (frames.EndsDoBody s c p)) (Start (tasks.Run s) p))
+    let k : ForLoop = record { condition = c; next = next; body = s }
+    in follow m (evaluated (frames.TestsFor k p) c p (for_body k p))
+begun m (tasks.DoIteration s c) p =
+    follow m (Push (Body (frames.EndsDoBody s c p)) (Start (tasks.Run s) p))
 begun m (tasks.TryBody ss) p = go_on m (frames.Proceed ss p)
-begun m (tasks.Raise exc) p = record m { state = emit (raise_event exc) m.state; next = frames.Search (length m.handlers) exc p }
+begun m (tasks.Raise exc) p =
+    record m {
+      state = emit (raise_event exc) m.state;
+      next = frames.Search (length m.handlers) exc p;
+    }
 begun m (tasks.RunFilter k e h exc) p =
     unless_deep (is_deep m.state 2) m
     (follow (at_state m (emit (events.Filter k) (hold m.state)))
-    (Push (InStatement frames.EndsFilter) (evaluates e (record { activation = h.activation; exception = exc; abnormal = h.abnormal }))))
+    (Push (InStatement frames.EndsFilter)
+    (evaluates e (record {
+      activation = h.activation;
+      exception = exc;
+      abnormal = h.abnormal;
+    }))))
 begun m (tasks.RunFinally k last flag) p =
     unless_deep (is_deep m.state 2) m
-    (follow (at_state m (emit (events.Finally k flag) (hold m.state))) (Push (Sequel frames.EndsFinally) (frames.Proceed last (record p { abnormal = flag }))))
+    (follow (at_state m (emit (events.Finally k flag) (hold m.state)))
+    (Push (Sequel frames.EndsFinally) (frames.Proceed last (record p { abnormal = flag }))))
 begun m (tasks.Retry o a b) p = go_on m (frames.Operate o a b p)
 
 -- ---- places and operations
@@ -95,9 +110,11 @@ put m (Indirection access _) a v p = follow m (store_plan access a v p)
 put m (Element access _ _) a v p = follow m (store_plan access a v p)
 
 abbrev pub operated : Machine → Operation → ℕ → ℕ → Place → performing.Outcome → Machine
-operated m o a b p (performing.Gives v memory) = go_on (at_state m (set_memory m.state memory)) (Give (Value v))
+operated m o a b p (performing.Gives v memory) =
+    go_on (at_state m (set_memory m.state memory)) (Give (Value v))
 operated m o a b p (performing.Raises code access) =
-    follow m (Push (Sequel (frames.Retries o a b p)) (Start (tasks.Raise (record { code = code.0; flag = false; access = access })) p))
+    follow m (Push (Sequel (frames.Retries o a b p))
+    (Start (tasks.Raise (record { code = code.0; flag = false; access = access })) p))
 operated m o a b p (performing.Undefined a') = over m (End (Some (Undefined a')))
 
 -- ---- calls
@@ -107,16 +124,27 @@ entered m None vs = go_on m (Give (Value 0))
 entered m (Some f) vs =
     let n = length m.state.frames in
     unless_deep (is_deep m.state 1) m
-    (follow (at_state m (record m.state { frames = m.state.frames ++ (vs ++ replicate (length f.locals) 0) ∷ [] }))
-    (Push (EndsCall n) (frames.Proceed f.body (record { activation = n; exception = no_exception; abnormal = false }))))
+    (follow (at_state m (record m.state {
+      frames = m.state.frames
+          ++ (vs ++ replicate (length f.locals) 0) ∷ [];
+    }))
+    (Push (EndsCall n) (frames.Proceed f.body (record {
+      activation = n;
+      exception = no_exception;
+      abnormal = false;
+    }))))
 
 abbrev pub built_in : Machine → BuiltIn → List ℕ → Place → Machine
-built_in m Put vs p = go_on (at_state m (emit (events.Put (signed W64 (get_or vs 0 0))) m.state)) (Give (Value 0))
+built_in m Put vs p =
+    go_on (at_state m (emit (events.Put (signed W64 (get_or vs 0 0))) m.state)) (Give (Value 0))
 built_in m Protect vs p =
     let a = get_or vs 0 0 in
     let mode = signed W32 (get_or vs 1 0) in
-    go_on (at_state m (set_memory m.state (protected m.state.memory a mode))) (Give (Value (of_test (is_some (rights_asked a mode)))))
-built_in m RaiseException vs p = follow m (Push (Sequel frames.GivesZero) (Start (tasks.Raise (raised (get_or vs 0 0) (get_or vs 1 0))) p))
+    go_on (at_state m (set_memory m.state (protected m.state.memory a mode)))
+    (Give (Value (of_test (is_some (rights_asked a mode)))))
+built_in m RaiseException vs p =
+    follow m (Push (Sequel frames.GivesZero)
+    (Start (tasks.Raise (raised (get_or vs 0 0) (get_or vs 1 0))) p))
 
 abbrev pub called : Program → Machine → Callee → List ℕ → Place → Machine
 called program m (frames.Defined f) vs p = entered m (slice_get program.functions f) vs
@@ -126,7 +154,9 @@ called program m (frames.BuiltInOf k) vs p = built_in m k vs p
 
 -- a declared name is 0 first, in its own initialiser too
 abbrev pub declared : Machine → Declared → Place → Machine
-declared m d p = follow (with_local m p d.local 0) (evaluated (frames.Initialises d.local p) d.value p (Then (frames.SetLocal d.local 0 p)))
+declared m d p =
+    follow (with_local m p d.local 0)
+    (evaluated (frames.Initialises d.local p) d.value p (Then (frames.SetLocal d.local 0 p)))
 
 abbrev pub handler_at : Filter → Place → Handler
 handler_at filter p = record { filter = filter; activation = p.activation; abnormal = p.abnormal }
@@ -145,7 +175,9 @@ unhandled m exc = over m (End (Some (Unhandled (record { 0 = exc.code }))))
 
 abbrev pub asked_by : Machine → Filter → Handler → ℕ → Exception → Place → Machine
 asked_by m Always h level exc p = go_on m (Give (Target level exc))
-asked_by m (Funclet k e) h level exc p = follow m (Push (InStatement (frames.IsAnswered level exc p)) (Start (tasks.RunFilter k e h exc) p))
+asked_by m (Funclet k e) h level exc p =
+    follow m (Push (InStatement (frames.IsAnswered level exc p))
+    (Start (tasks.RunFilter k e h exc) p))
 
 abbrev pub asked : Machine → Option Handler → ℕ → Exception → Place → Machine
 asked m None level exc p = unhandled m exc
@@ -159,26 +191,30 @@ searched m (suc level) exc p = asked m (slice_get m.handlers level) level exc p
 
 abbrev pub target_landed : Machine → Bool → ℕ → Statements → Place → ℕ → Exception → Machine
 target_landed m true held block p to exc =
-    go_on (at_state m (emit (events.Except (record { 0 = exc.code })) (record m.state { held = held }))) (frames.Proceed block (record p { exception = exc }))
+    go_on (at_state m (emit (events.Except (record { 0 = exc.code }))
+    (record m.state { held = held }))) (frames.Proceed block (record p { exception = exc }))
 target_landed m false held block p to exc = go_on m (Give (Target to exc))
 
 abbrev pub landed : Machine → ℕ → Statements → Place → Result → Machine
 landed m held block p LeftTry = go_on m (Give Normal)
-landed m held block p (Target to exc) = target_landed m (nat_eq to (length m.handlers)) held block p to exc
+landed m held block p (Target to exc) =
+    target_landed m (nat_eq to (length m.handlers)) held block p to exc
 landed m held block p how = go_on m (Give how)
 
 abbrev pub finished : Machine → ℕ → Statements → Place → Result → Machine
 finished m k last p (End e) = go_on m (Give (End e))
 finished m k last p Normal = go_on m (Start (tasks.RunFinally k last false) p)
 finished m k last p LeftTry = go_on m (Start (tasks.RunFinally k last false) p)
-finished m k last p how = follow m (Push (Sequel (frames.GivesResult how)) (Start (tasks.RunFinally k last true) p))
+finished m k last p how =
+    follow m (Push (Sequel (frames.GivesResult how)) (Start (tasks.RunFinally k last true) p))
 
 abbrev pub with_activations : Machine → ℕ → Machine
 with_activations m n = at_state m (record m.state { frames = take n m.state.frames })
 
 -- an activation that a target leaves counts in the depth until that lands
 abbrev pub left_by_target : Machine → ℕ → Machine
-left_by_target m n = at_state m (record m.state { frames = take n m.state.frames; held = m.state.held + 1 })
+left_by_target m n =
+    at_state m (record m.state { frames = take n m.state.frames; held = m.state.held + 1 })
 
 abbrev pub left_call : Machine → ℕ → Result → Machine
 left_call m n (End e) = go_on m (Give (End e))
@@ -234,7 +270,8 @@ done program m (frames.Evaluate n p) = follow m (node_plan n p)
 done program m (frames.Find l p) = follow m (find_plan l p)
 done program m (frames.Fetch l a p) = fetched m l a p
 done program m (frames.Put l a v p) = put m l a v p
-done program m (frames.Operate o a b p) = operated m o a b p (performed (is_reserved program.globals) o a b m.state.memory)
+done program m (frames.Operate o a b p) =
+    operated m o a b p (performed (is_reserved program.globals) o a b m.state.memory)
 done program m (frames.Pass callee vs es p) = follow m (pass_plan callee vs es p)
 done program m (frames.Call callee vs p) = called program m callee vs p
 done program m (frames.Proceed ss p) = follow m (proceed_plan ss p)
@@ -242,7 +279,8 @@ done program m (frames.DeclareEach ds p) = follow m (declare_plan ds p)
 done program m (frames.DeclareName d p) = declared m d p
 done program m (frames.SetLocal x v p) = go_on (with_local m p x v) (Give Normal)
 done program m (frames.Guard body filter block p) = guarded m body filter block p
-done program m (frames.Answer v) = go_on (at_state m (emit (events.Answer (signed W32 v)) (let_go m.state))) (Give (Value v))
+done program m (frames.Answer v) =
+    go_on (at_state m (emit (events.Answer (signed W32 v)) (let_go m.state))) (Give (Value v))
 done program m frames.LetGo = go_on (at_state m (let_go m.state)) (Give Normal)
 done program m (frames.Search level exc p) = searched m level exc p
 

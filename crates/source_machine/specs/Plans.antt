@@ -53,9 +53,22 @@ node_plan (nodes.Read l) p = assignment (frames.Reads l p) (frames.Find l p)
 node_plan (nodes.AddressOf l) p = Then (locates l p)
 node_plan (nodes.Assign l e) p = assignment (frames.EvaluatesAssigned l e p) (locates l p)
 node_plan (nodes.CompoundAssign l before o e after) p =
-    assignment (frames.ReadsCompound (record { target = l; before = before; operation = o; value = e; after = after }) p) (locates l p)
+    assignment (frames.ReadsCompound (record {
+      target = l;
+      before = before;
+      operation = o;
+      value = e;
+      after = after;
+    }) p) (locates l p)
 node_plan (nodes.Increment m l before o n after) p =
-    assignment (frames.ReadsStepped (record { fixity = m; target = l; before = before; operation = o; amount = n; after = after }) p) (locates l p)
+    assignment (frames.ReadsStepped (record {
+      fixity = m;
+      target = l;
+      before = before;
+      operation = o;
+      amount = n;
+      after = after;
+    }) p) (locates l p)
 node_plan (nodes.Unary o e) p = operand (frames.Applies o) e p
 node_plan (nodes.Binary o e f) p = operand (frames.EvaluatesRight o f p) e p
 node_plan (nodes.PointerDifference size e f) p = operand (frames.EvaluatesSubtrahend size f p) e p
@@ -94,25 +107,39 @@ operand_plan (frames.Operates o x p) y = Then (frames.Operate o x y p)
 operand_plan (frames.EvaluatesSubtrahend size f p) x = operand (frames.Measures size x) f p
 operand_plan (frames.Measures size x) y = gives (apart size x y)
 operand_plan frames.Inverts v = gives (of_test (nat_eq v 0))
-operand_plan (frames.EvaluatesIfTrue f p) x = chosen (nat_eq x 0) (gives 0) (operand frames.Tests f p)
-operand_plan (frames.EvaluatesIfFalse f p) x = chosen (nat_eq x 0) (operand frames.Tests f p) (gives 1)
+operand_plan (frames.EvaluatesIfTrue f p) x =
+    chosen (nat_eq x 0) (gives 0) (operand frames.Tests f p)
+operand_plan (frames.EvaluatesIfFalse f p) x =
+    chosen (nat_eq x 0) (operand frames.Tests f p) (gives 1)
 operand_plan frames.Tests y = gives (of_test (not (nat_eq y 0)))
-operand_plan (frames.Chooses e f p) x = chosen (nat_eq x 0) (Then (evaluates f p)) (Then (evaluates e p))
+operand_plan (frames.Chooses e f p) x =
+    chosen (nat_eq x 0) (Then (evaluates f p)) (Then (evaluates e p))
 operand_plan (frames.Discards f p) x = Then (evaluates f p)
-operand_plan (frames.PassesArgument callee vs es p) v = Then (frames.Pass callee (vs ++ v ∷ []) es p)
+operand_plan (frames.PassesArgument callee vs es p) v =
+    Then (frames.Pass callee (vs ++ v ∷ []) es p)
 
 abbrev pub assignment_plan : AssignmentFrame → ℕ → Plan
 assignment_plan (frames.Reads l p) a = Then (frames.Fetch l a p)
 assignment_plan (frames.Extends access) v = gives (value_of access v)
-assignment_plan (frames.EvaluatesAssigned l e p) a = assignment (frames.Assigns l a p) (evaluates e p)
+assignment_plan (frames.EvaluatesAssigned l e p) a =
+    assignment (frames.Assigns l a p) (evaluates e p)
 assignment_plan (frames.Assigns l a p) v = Then (frames.Put l a v p)
-assignment_plan (frames.ReadsCompound k p) a = assignment (frames.EvaluatesCompound k a p) (frames.Fetch k.target a p)
-assignment_plan (frames.EvaluatesCompound k a p) x = assignment (frames.OperatesCompound k a x p) (evaluates k.value p)
-assignment_plan (frames.OperatesCompound k a x p) y = assignment (frames.AssignsCompound k a p) (frames.Operate k.operation (converted k.before x) y p)
-assignment_plan (frames.AssignsCompound k a p) z = Then (frames.Put k.target a (converted k.after z) p)
-assignment_plan (frames.ReadsStepped k p) a = assignment (frames.OperatesStepped k a p) (frames.Fetch k.target a p)
-assignment_plan (frames.OperatesStepped k a p) x = assignment (frames.AssignsStepped k a x p) (frames.Operate k.operation (converted k.before x) k.amount p)
-assignment_plan (frames.AssignsStepped k a x p) z = assignment (frames.GivesStepped k.fixity x) (frames.Put k.target a (converted k.after z) p)
+assignment_plan (frames.ReadsCompound k p) a =
+    assignment (frames.EvaluatesCompound k a p) (frames.Fetch k.target a p)
+assignment_plan (frames.EvaluatesCompound k a p) x =
+    assignment (frames.OperatesCompound k a x p) (evaluates k.value p)
+assignment_plan (frames.OperatesCompound k a x p) y =
+    assignment (frames.AssignsCompound k a p)
+    (frames.Operate k.operation (converted k.before x) y p)
+assignment_plan (frames.AssignsCompound k a p) z =
+    Then (frames.Put k.target a (converted k.after z) p)
+assignment_plan (frames.ReadsStepped k p) a =
+    assignment (frames.OperatesStepped k a p) (frames.Fetch k.target a p)
+assignment_plan (frames.OperatesStepped k a p) x =
+    assignment (frames.AssignsStepped k a x p)
+    (frames.Operate k.operation (converted k.before x) k.amount p)
+assignment_plan (frames.AssignsStepped k a x p) z =
+    assignment (frames.GivesStepped k.fixity x) (frames.Put k.target a (converted k.after z) p)
 assignment_plan (frames.GivesStepped m x) new = gives (incremented_value m x new)
 
 -- an access to memory by which a place is read, and one by which it is written
@@ -130,7 +157,8 @@ proceed_plan (Followed s ss) p = Push (Sequel (frames.Continues ss p)) (Start (t
 
 abbrev pub declare_plan : List Declared → Place → Plan
 declare_plan [] p = ends
-declare_plan (d ∷ ds) p = Push (Sequel (frames.DeclaresRest ds p)) (Start (tasks.Run (statements.Declare d)) p)
+declare_plan (d ∷ ds) p =
+    Push (Sequel (frames.DeclaresRest ds p)) (Start (tasks.Run (statements.Declare d)) p)
 
 -- an expression's value goes to a frame, and without an expression the rest is done at once
 abbrev pub evaluated : StatementFrame → Option Expression → Place → Plan → Plan
@@ -151,16 +179,19 @@ statement_plan (statements.Declare d) p = Then (frames.DeclareName d p)
 statement_plan (statements.Block ss) p = Then (frames.Proceed ss p)
 statement_plan (statements.Evaluate e) p = evaluated frames.EndsEvaluation e p ends
 statement_plan (statements.If c s) p = Push (InStatement (frames.Branches s None p)) (evaluates c p)
-statement_plan (statements.IfElse c s t) p = Push (InStatement (frames.Branches s (Some t) p)) (evaluates c p)
+statement_plan (statements.IfElse c s t) p =
+    Push (InStatement (frames.Branches s (Some t) p)) (evaluates c p)
 statement_plan (statements.For ds first c next s) p =
-    Push (Sequel (frames.EvaluatesFirst first (record { condition = c; next = next; body = s }) p)) (frames.DeclareEach ds p)
+    Push (Sequel (frames.EvaluatesFirst first (record { condition = c; next = next; body = s }) p))
+    (frames.DeclareEach ds p)
 statement_plan (statements.DoWhile s c) p = Then (Start (tasks.DoIteration s c) p)
 statement_plan (statements.Return e) p = evaluated frames.Returns e p (Then (Give (Returned 0)))
 statement_plan statements.Break p = Then (Give Broke)
 statement_plan statements.Continue p = Then (Give Continued)
 statement_plan statements.Leave p = Then (Give LeftTry)
 statement_plan (statements.TryExcept body filter block) p = Then (frames.Guard body filter block p)
-statement_plan (statements.TryFinally body k last) p = Push (frames.Finishes k last p) (Start (tasks.TryBody body) p)
+statement_plan (statements.TryFinally body k last) p =
+    Push (frames.Finishes k last p) (Start (tasks.TryBody body) p)
 
 abbrev pub branch : Bool → Statement → Option Statement → Place → Plan
 branch true s None p = ends
@@ -180,15 +211,18 @@ in_statement_plan frames.EndsEvaluation v = ends
 in_statement_plan (frames.Branches s t p) v = branch (nat_eq v 0) s t p
 in_statement_plan (frames.Iterates k p) v = Then (iterate k p)
 in_statement_plan (frames.TestsFor k p) v = chosen (nat_eq v 0) ends (for_body k p)
-in_statement_plan (frames.TestsDo s c p) v = chosen (nat_eq v 0) ends (Then (Start (tasks.DoIteration s c) p))
+in_statement_plan (frames.TestsDo s c p) v =
+    chosen (nat_eq v 0) ends (Then (Start (tasks.DoIteration s c) p))
 in_statement_plan frames.Returns v = Then (Give (Returned v))
 in_statement_plan frames.EndsFilter v = Then (frames.Answer v)
-in_statement_plan (frames.IsAnswered level exc p) v = answer_plan (nat_eq (low W32 v) 0) (nat_lt (low W32 v) (2 ^ 31)) exc.flag level exc p
+in_statement_plan (frames.IsAnswered level exc p) v =
+    answer_plan (nat_eq (low W32 v) 0) (nat_lt (low W32 v) (2 ^ 31)) exc.flag level exc p
 
 abbrev pub sequel_plan : SequelFrame → Plan
 sequel_plan (frames.Continues ss p) = Then (frames.Proceed ss p)
 sequel_plan (frames.DeclaresRest ds p) = Then (frames.DeclareEach ds p)
-sequel_plan (frames.EvaluatesFirst first k p) = evaluated (frames.Iterates k p) first p (Then (iterate k p))
+sequel_plan (frames.EvaluatesFirst first k p) =
+    evaluated (frames.Iterates k p) first p (Then (iterate k p))
 sequel_plan (frames.Retries o a b p) = Then (Start (tasks.Retry o a b) p)
 sequel_plan frames.GivesZero = gives 0
 sequel_plan (frames.GivesResult how) = Then (Give how)

@@ -8,13 +8,15 @@ use Rattle.source_machine.specs.Machine.{Machine, step}
 
 -- a machine that has done nothing yet, with n steps of the meaning
 abbrev pub beginning : Program → ℕ → Next → Machine
-beginning program n next = record { state = start program n; handlers = []; stack = []; next = next }
+beginning program n next =
+    record { state = start program n; handlers = []; stack = []; next = next }
 
 -- one that is to call `main`
 abbrev pub first : Program → ℤ → ℕ → Machine
 first program arg n =
     beginning program n
-    (Call (Defined program.main) (main_arguments (slice_get program.functions program.main) arg) (record { activation = 0; exception = no_exception; abnormal = false }))
+    (Call (Defined program.main) (main_arguments (slice_get program.functions program.main) arg)
+    (record { activation = 0; exception = no_exception; abnormal = false }))
 
 -- the machine after so many steps of its own
 abbrev pub after : Program → ℕ → Machine → Machine

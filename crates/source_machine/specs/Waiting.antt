@@ -33,7 +33,8 @@ below (suc k) hs = found (slice_get hs k) (below k hs)
 
 module _ (program : Program) (d : Does) where
   abbrev pub call : Callee → List ℕ → List Handler → Place → State → Outcome
-  call (frames.Defined f) vs hs p st = enter d (slice_get program.functions f) vs (context_at hs p) st
+  call (frames.Defined f) vs hs p st =
+      enter d (slice_get program.functions f) vs (context_at hs p) st
   call (frames.BuiltInOf k) vs hs p st = call_built_in d k vs (context_at hs p) st
 
   abbrev pub iterate_for : ForLoop → List Handler → Place → State → Outcome
@@ -43,54 +44,74 @@ module _ (program : Program) (d : Does) where
 
   abbrev pub operand_meaning : List Handler → OperandFrame → ℕ → State → Outcome
   operand_meaning hs (frames.Converts c) v st = Gives (Value (converted c v)) st
-  operand_meaning hs (frames.EvaluatesIndex i p) a st = with_value (d (tasks.Eval i) (context_at hs p) st) (λ n st. Gives (Value (result_of (Add Long) a n)) st)
+  operand_meaning hs (frames.EvaluatesIndex i p) a st =
+      with_value (d (tasks.Eval i) (context_at hs p) st)
+      (λ n st. Gives (Value (result_of (Add Long) a n)) st)
   operand_meaning hs (frames.AddsIndex a) n st = Gives (Value (result_of (Add Long) a n)) st
   operand_meaning hs (frames.Applies o) v st = Gives (Value (result_of o v 0)) st
-  operand_meaning hs (frames.EvaluatesRight o f p) x st = with_value (d (tasks.Eval f) (context_at hs p) st) (λ y st. operate program d o x y (context_at hs p) st)
+  operand_meaning hs (frames.EvaluatesRight o f p) x st =
+      with_value (d (tasks.Eval f) (context_at hs p) st)
+      (λ y st. operate program d o x y (context_at hs p) st)
   operand_meaning hs (frames.Operates o x p) y st = operate program d o x y (context_at hs p) st
-  operand_meaning hs (frames.EvaluatesSubtrahend size f p) x st = with_value (d (tasks.Eval f) (context_at hs p) st) (λ y st. Gives (Value (apart size x y)) st)
+  operand_meaning hs (frames.EvaluatesSubtrahend size f p) x st =
+      with_value (d (tasks.Eval f) (context_at hs p) st) (λ y st. Gives (Value (apart size x y)) st)
   operand_meaning hs (frames.Measures size x) y st = Gives (Value (apart size x y)) st
   operand_meaning hs frames.Inverts v st = Gives (Value (of_test (nat_eq v 0))) st
   operand_meaning hs (frames.EvaluatesIfTrue f p) x st =
-      choose (nat_eq x 0) (λ st. Gives (Value 0) st) (λ st. with_value (d (tasks.Eval f) (context_at hs p) st) (λ y st. Gives (Value (of_test (not (nat_eq y 0)))) st)) st
+      choose (nat_eq x 0) (λ st. Gives (Value 0) st)
+      (λ st. with_value (d (tasks.Eval f) (context_at hs p) st)
+      (λ y st. Gives (Value (of_test (not (nat_eq y 0)))) st)) st
   operand_meaning hs (frames.EvaluatesIfFalse f p) x st =
-      choose (nat_eq x 0) (λ st. with_value (d (tasks.Eval f) (context_at hs p) st) (λ y st. Gives (Value (of_test (not (nat_eq y 0)))) st)) (λ st. Gives (Value 1) st) st
+      choose (nat_eq x 0) (λ st. with_value (d (tasks.Eval f) (context_at hs p) st)
+      (λ y st. Gives (Value (of_test (not (nat_eq y 0)))) st)) (λ st. Gives (Value 1) st) st
   operand_meaning hs frames.Tests y st = Gives (Value (of_test (not (nat_eq y 0)))) st
   operand_meaning hs (frames.Chooses e f p) x st =
-      choose (nat_eq x 0) (λ st. d (tasks.Eval f) (context_at hs p) st) (λ st. d (tasks.Eval e) (context_at hs p) st) st
+      choose (nat_eq x 0) (λ st. d (tasks.Eval f) (context_at hs p) st)
+      (λ st. d (tasks.Eval e) (context_at hs p) st) st
   operand_meaning hs (frames.Discards f p) x st = d (tasks.Eval f) (context_at hs p) st
-  operand_meaning hs (frames.PassesArgument callee vs es p) v st = each d es (context_at hs p) st (λ ws st. call callee ((vs ++ v ∷ []) ++ ws) hs p st)
+  operand_meaning hs (frames.PassesArgument callee vs es p) v st =
+      each d es (context_at hs p) st (λ ws st. call callee ((vs ++ v ∷ []) ++ ws) hs p st)
 
   abbrev pub assignment_meaning : List Handler → AssignmentFrame → ℕ → State → Outcome
   assignment_meaning hs (frames.Reads l p) a st = read program d l a (context_at hs p) st
   assignment_meaning hs (frames.Extends access) v st = Gives (Value (value_of access v)) st
-  assignment_meaning hs (frames.EvaluatesAssigned l e p) a st = with_value (d (tasks.Eval e) (context_at hs p) st) (λ v st. write program d l a v (context_at hs p) st)
+  assignment_meaning hs (frames.EvaluatesAssigned l e p) a st =
+      with_value (d (tasks.Eval e) (context_at hs p) st)
+      (λ v st. write program d l a v (context_at hs p) st)
   assignment_meaning hs (frames.Assigns l a p) v st = write program d l a v (context_at hs p) st
   assignment_meaning hs (frames.ReadsCompound k p) a st =
       with_value (read program d k.target a (context_at hs p) st) (λ x st.
       with_value (d (tasks.Eval k.value) (context_at hs p) st) (λ y st.
-      with_value (operate program d k.operation (converted k.before x) y (context_at hs p) st) (λ z st.
+      with_value (operate program d k.operation (converted k.before x) y (context_at hs p) st)
+      (λ z st.
       write program d k.target a (converted k.after z) (context_at hs p) st)))
   assignment_meaning hs (frames.EvaluatesCompound k a p) x st =
       with_value (d (tasks.Eval k.value) (context_at hs p) st) (λ y st.
-      with_value (operate program d k.operation (converted k.before x) y (context_at hs p) st) (λ z st.
+      with_value (operate program d k.operation (converted k.before x) y (context_at hs p) st)
+      (λ z st.
       write program d k.target a (converted k.after z) (context_at hs p) st))
   assignment_meaning hs (frames.OperatesCompound k a x p) y st =
-      with_value (operate program d k.operation (converted k.before x) y (context_at hs p) st) (λ z st.
+      with_value (operate program d k.operation (converted k.before x) y (context_at hs p) st)
+      (λ z st.
       write program d k.target a (converted k.after z) (context_at hs p) st)
-  assignment_meaning hs (frames.AssignsCompound k a p) z st = write program d k.target a (converted k.after z) (context_at hs p) st
+  assignment_meaning hs (frames.AssignsCompound k a p) z st =
+      write program d k.target a (converted k.after z) (context_at hs p) st
   assignment_meaning hs (frames.ReadsStepped k p) a st =
       with_value (read program d k.target a (context_at hs p) st) (λ x st.
-      with_value (operate program d k.operation (converted k.before x) k.amount (context_at hs p) st) (λ z st.
+      with_value (operate program d k.operation (converted k.before x) k.amount
+      (context_at hs p) st) (λ z st.
       with_value (write program d k.target a (converted k.after z) (context_at hs p) st) (λ new st.
       Gives (Value (incremented_value k.fixity x new)) st)))
   assignment_meaning hs (frames.OperatesStepped k a p) x st =
-      with_value (operate program d k.operation (converted k.before x) k.amount (context_at hs p) st) (λ z st.
+      with_value (operate program d k.operation (converted k.before x) k.amount
+      (context_at hs p) st) (λ z st.
       with_value (write program d k.target a (converted k.after z) (context_at hs p) st) (λ new st.
       Gives (Value (incremented_value k.fixity x new)) st))
   assignment_meaning hs (frames.AssignsStepped k a x p) z st =
-      with_value (write program d k.target a (converted k.after z) (context_at hs p) st) (λ new st. Gives (Value (incremented_value k.fixity x new)) st)
-  assignment_meaning hs (frames.GivesStepped m x) new st = Gives (Value (incremented_value m x new)) st
+      with_value (write program d k.target a (converted k.after z) (context_at hs p) st)
+      (λ new st. Gives (Value (incremented_value k.fixity x new)) st)
+  assignment_meaning hs (frames.GivesStepped m x) new st =
+      Gives (Value (incremented_value m x new)) st
 
   abbrev pub branch_meaning : Statement → Option Statement → List Handler → Place → State → Outcome
   branch_meaning s None hs p st = Gives Normal st
@@ -98,24 +119,33 @@ module _ (program : Program) (d : Does) where
 
   abbrev pub for_body_meaning : ForLoop → List Handler → Place → State → Outcome
   for_body_meaning k hs p st =
-      in_loop (d (tasks.Run k.body) (context_at hs p) st) (λ st. optional d 0 k.next (context_at hs p) st (λ w st. iterate_for k hs p st))
+      in_loop (d (tasks.Run k.body) (context_at hs p) st)
+      (λ st. optional d 0 k.next (context_at hs p) st (λ w st. iterate_for k hs p st))
 
   abbrev pub in_statement_meaning : List Handler → StatementFrame → ℕ → State → Outcome
-  in_statement_meaning hs (frames.Initialises x p) v st = Gives Normal (set_local st p.activation x v)
+  in_statement_meaning hs (frames.Initialises x p) v st =
+      Gives Normal (set_local st p.activation x v)
   in_statement_meaning hs frames.EndsEvaluation v st = Gives Normal st
-  in_statement_meaning hs (frames.Branches s t p) v st = choose (nat_eq v 0) (branch_meaning s t hs p) (λ st. d (tasks.Run s) (context_at hs p) st) st
+  in_statement_meaning hs (frames.Branches s t p) v st =
+      choose (nat_eq v 0) (branch_meaning s t hs p) (λ st. d (tasks.Run s) (context_at hs p) st) st
   in_statement_meaning hs (frames.Iterates k p) v st = iterate_for k hs p st
-  in_statement_meaning hs (frames.TestsFor k p) v st = choose (nat_eq v 0) (λ st. Gives Normal st) (for_body_meaning k hs p) st
-  in_statement_meaning hs (frames.TestsDo s c p) v st = choose (nat_eq v 0) (λ st. Gives Normal st) (λ st. d (tasks.DoIteration s c) (context_at hs p) st) st
+  in_statement_meaning hs (frames.TestsFor k p) v st =
+      choose (nat_eq v 0) (λ st. Gives Normal st) (for_body_meaning k hs p) st
+  in_statement_meaning hs (frames.TestsDo s c p) v st =
+      choose (nat_eq v 0) (λ st. Gives Normal st)
+      (λ st. d (tasks.DoIteration s c) (context_at hs p) st) st
   in_statement_meaning hs frames.Returns v st = Gives (Returned v) st
-  in_statement_meaning hs frames.EndsFilter v st = Gives (Value v) (emit (events.Answer (signed W32 v)) (let_go st))
+  in_statement_meaning hs frames.EndsFilter v st =
+      Gives (Value v) (emit (events.Answer (signed W32 v)) (let_go st))
   in_statement_meaning hs (frames.IsAnswered level exc p) v st =
-      answered d v level exc (context_at hs p) st (λ st. search d (below level hs) exc (context_at hs p) st)
+      answered d v level exc (context_at hs p) st
+      (λ st. search d (below level hs) exc (context_at hs p) st)
 
   -- ---- what waits for a normal end, when it is there
 
   abbrev pub first_meaning : Option Expression → ForLoop → List Handler → Place → State → Outcome
-  first_meaning first k hs p st = optional d 0 first (context_at hs p) st (λ v st. iterate_for k hs p st)
+  first_meaning first k hs p st =
+      optional d 0 first (context_at hs p) st (λ v st. iterate_for k hs p st)
 
   abbrev pub sequel_meaning : List Handler → SequelFrame → State → Outcome
   sequel_meaning hs (frames.Continues ss p) st = all d ss (context_at hs p) st
@@ -129,7 +159,9 @@ module _ (program : Program) (d : Does) where
   abbrev pub body_meaning : List Handler → BodyFrame → State → Outcome
   body_meaning hs (frames.EndsForBody k p) st = first_meaning k.next k hs p st
   body_meaning hs (frames.EndsDoBody s c p) st =
-      with_value (d (tasks.Eval c) (context_at hs p) st) (λ v st. choose (nat_eq v 0) (λ st. Gives Normal st) (λ st. d (tasks.DoIteration s c) (context_at hs p) st) st)
+      with_value (d (tasks.Eval c) (context_at hs p) st)
+      (λ v st. choose (nat_eq v 0) (λ st. Gives Normal st)
+      (λ st. d (tasks.DoIteration s c) (context_at hs p) st) st)
 
   -- ---- frames, with the handlers outside them
 
@@ -140,8 +172,11 @@ module _ (program : Program) (d : Does) where
   through hs (Sequel f) o = and_then o (sequel_meaning hs f)
   through hs (Body f) o = in_loop o (body_meaning hs f)
   through hs (EndsCall n) o = ended_call n o
-  through hs (Lands held block p) o = landing (length (context_at hs p).handlers) held o (λ exc st. all d block (record (context_at hs p) { exception = exc }) st)
-  through hs (Finishes k last p) o = finally_after o (λ flag st. d (tasks.RunFinally k last flag) (context_at hs p) st)
+  through hs (Lands held block p) o =
+      landing (length (context_at hs p).handlers) held o
+      (λ exc st. all d block (record (context_at hs p) { exception = exc }) st)
+  through hs (Finishes k last p) o =
+      finally_after o (λ flag st. d (tasks.RunFinally k last flag) (context_at hs p) st)
 
   abbrev pub through_all : List Handler → List Frame → Outcome → Outcome
   through_all hs [] o = o
@@ -159,16 +194,20 @@ module _ (program : Program) (d : Does) where
   next_meaning hs (frames.Fetch l a p) st = read program d l a (context_at hs p) st
   next_meaning hs (frames.Put l a v p) st = write program d l a v (context_at hs p) st
   next_meaning hs (frames.Operate o a b p) st = operate program d o a b (context_at hs p) st
-  next_meaning hs (frames.Pass callee vs es p) st = each d es (context_at hs p) st (λ ws st. call callee (vs ++ ws) hs p st)
+  next_meaning hs (frames.Pass callee vs es p) st =
+      each d es (context_at hs p) st (λ ws st. call callee (vs ++ ws) hs p st)
   next_meaning hs (frames.Call callee vs p) st = call callee vs hs p st
   next_meaning hs (frames.Proceed ss p) st = all d ss (context_at hs p) st
   next_meaning hs (frames.DeclareEach ds p) st = declare_each d ds (context_at hs p) st
   next_meaning hs (frames.DeclareName e p) st = declare d e (context_at hs p) st
   next_meaning hs (frames.SetLocal x v p) st = Gives Normal (set_local st p.activation x v)
-  next_meaning hs (frames.Guard body filter block p) st = statement d (statements.TryExcept body filter block) (context_at hs p) st
-  next_meaning hs (frames.Answer v) st = Gives (Value v) (emit (events.Answer (signed W32 v)) (let_go st))
+  next_meaning hs (frames.Guard body filter block p) st =
+      statement d (statements.TryExcept body filter block) (context_at hs p) st
+  next_meaning hs (frames.Answer v) st =
+      Gives (Value v) (emit (events.Answer (signed W32 v)) (let_go st))
   next_meaning hs frames.LetGo st = Gives Normal (let_go st)
-  next_meaning hs (frames.Search level exc p) st = search d (below level hs) exc (context_at hs p) st
+  next_meaning hs (frames.Search level exc p) st =
+      search d (below level hs) exc (context_at hs p) st
 
   -- what the machine comes to; where the run is over nothing waits any more
   abbrev pub reaches : List Handler → List Frame → State → Next → Outcome

@@ -2,6 +2,7 @@
 use Rattle.std.specs.Prelude.{ℕ, Bool, true, false, Some}
 use Rattle.seh_num.specs.declared.width.Width.{Width}
 use Rattle.seh_num.specs.Widths.{bytes_of, low}
+use Rattle.seh_num.specs.declared.code.TheConstants.{ACCESS_VIOLATION}
 use Rattle.flat_memory.specs.Memory.{Memory, first_refused, may_read, number_at}
 use Rattle.flat_memory.specs.declared.access.RefusedAccess.{RefusedAccess}
 use Rattle.flat_memory.specs.declared.access.RefusedAccess.TheVariants as refused
@@ -20,9 +21,11 @@ is_given other = false
 
 -- the fault of an access that was refused at an address
 abbrev pub violation : Bool → RefusedAccess → Outcome
-violation write (refused.Fault a w) = Raises (record { 0 = 0xC0000005 }) (Some (write, a))
-violation write (refused.Guard a) = Raises (record { 0 = 0xC0000005 }) (Some (write, a))
+violation write (refused.Fault a w) = Raises ACCESS_VIOLATION (Some (write, a))
+violation write (refused.Guard a) = Raises ACCESS_VIOLATION (Some (write, a))
 
 -- a load of bytes that aren't reserved
 abbrev pub loaded : Width → ℕ → Memory → Outcome
-loaded w at m = unless_refused false (first_refused (may_read m) (bytes_of w) at) (Gives (low w (number_at m.byte (bytes_of w) at)) m)
+loaded w at m =
+    unless_refused false (first_refused (may_read m) (bytes_of w) at)
+    (Gives (low w (number_at m.byte (bytes_of w) at)) m)

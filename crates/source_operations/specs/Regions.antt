@@ -5,10 +5,12 @@ use Rattle.x64_memory.specs.declared.region.Region.{Region}
 use Rattle.c_model.specs.Source.{first_data}
 
 abbrev pub arena : Region
-arena = record { start = ARENA_START; end = ARENA_END; read = false; write = false; execute = false }
+arena =
+    record { start = ARENA_START; end = ARENA_END; read = false; write = false; execute = false }
 
 abbrev pub data_region : ℕ → Region
-data_region end = record { start = first_data; end = end; read = true; write = true; execute = false }
+data_region end =
+    record { start = first_data; end = end; read = true; write = true; execute = false }
 
 abbrev pub regions : ℕ → List Region
 regions end = arena ∷ data_region end ∷ []

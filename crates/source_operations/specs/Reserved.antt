@@ -5,4 +5,5 @@ use Rattle.c_model.specs.Source.{is_between, first_data}
 
 abbrev pub reserved_below : ℕ → ℕ → Bool
 reserved_below data_end a =
-    is_between GUARD_START STACK_END a || (is_between IMAGE_BASE IMAGE_RANGE_END a && not (is_between first_data data_end a))
+    is_between GUARD_START STACK_END a ||
+    (is_between IMAGE_BASE IMAGE_RANGE_END a && not (is_between first_data data_end a))

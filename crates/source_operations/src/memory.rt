@@ -5,15 +5,15 @@ ghost use Rattle.c_model.specs.Source as model;
 ghost use Rattle.x64_memory.specs.PageMaps.{memory_of};
 ghost use Rattle.source_operations.specs.Regions as specs;
 
-use crate::reserved::FIRST_DATA;
-use host_layout::range::{ARENA_END, ARENA_START, PAGE};
+use host_layout::range::{ARENA_END, ARENA_START, FIRST_DATA, PAGE};
+use seh_num::limit::MOST_GLOBALS;
 use std::alloc::{AllocError, Global};
 use x64_memory::page_map::PageMap;
 use x64_memory::region::Region;
 
 /// The end of the pages of the globals, of which there is one at least.
 pub fn data_end(globals: &[u8]) -> u64
-    requires { length globals.now ≤ 1048576 }
+    requires { length globals.now ≤ MOST_GLOBALS }
     ensures { result ≡ model.data_end globals.now }
 {
     FIRST_DATA + PAGE * ((globals.len() as u64).saturating_sub(1) / PAGE + 1)
@@ -43,7 +43,7 @@ fn regions(data_end: u64) -> [Region; 2]
 /// The memory that a program with these globals begins with. Only the system's memory can be
 /// wanting.
 pub fn first_memory(alloc: Global, globals: &[u8]) -> Result<PageMap, AllocError>
-    requires { length globals.now ≤ 1048576 }
+    requires { length globals.now ≤ MOST_GLOBALS }
     ensures { IfOk result (λ s. memory_of s ≡ model.first_memory globals.now) }
 {
     let regions = regions(data_end(globals));

@@ -11,18 +11,12 @@ use crate::pure::{result_of, width};
 use crate::reserved::first_reserved;
 use c_operations::operation::{Operation, Signedness, Size};
 use flat_memory::access::RefusedAccess;
+use seh_num::code::{ACCESS_VIOLATION, INTEGER_DIVIDE_BY_ZERO, INTEGER_OVERFLOW};
 use seh_num::division::{DivFault, div_signed, div_unsigned};
 use seh_num::event::Code;
 use seh_num::extension::{sign_extend, wrap, zero_extend};
 use seh_num::width::Width;
 use x64_memory::space::AddressSpace;
-
-/// The code of an access violation (Windows headers, `ntstatus.h`).
-const ACCESS_VIOLATION: Code = Code(0xC000_0005);
-/// STATUS_INTEGER_DIVIDE_BY_ZERO.
-const DIVIDE_BY_ZERO: Code = Code(0xC000_0094);
-/// STATUS_INTEGER_OVERFLOW.
-const INTEGER_OVERFLOW: Code = Code(0xC000_0095);
 
 /// What an operation comes to.
 #[derive(Clone, Copy, Debug, PartialEq, Eq)]
@@ -41,7 +35,7 @@ fn fault(fault: DivFault) -> Performed
     ensures { (m : Memory) → outcome_of result m ≡ spec.fault_of fault }
 {
     let code = match fault {
-        DivFault::Zero => DIVIDE_BY_ZERO,
+        DivFault::Zero => INTEGER_DIVIDE_BY_ZERO,
         DivFault::Overflow => INTEGER_OVERFLOW,
     };
     Performed::Raises { code, access: None }

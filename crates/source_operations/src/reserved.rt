@@ -4,10 +4,7 @@ ghost use Rattle.std.specs.Prelude.{◌≡◌, not};
 ghost use Rattle.flat_memory.specs.Memory.{first_refused};
 ghost use Rattle.source_operations.specs.Reserved.{reserved_below};
 
-use host_layout::range::{GUARD_START, IMAGE_BASE, IMAGE_RANGE_END, PAGE, STACK_END};
-
-/// The first address of the globals.
-pub const FIRST_DATA: u64 = IMAGE_BASE + PAGE;
+use host_layout::range::{FIRST_DATA, GUARD_START, IMAGE_BASE, IMAGE_RANGE_END, STACK_END};
 
 /// Whether an address is reserved, where the globals' pages end at another.
 pub fn is_reserved(data_end: u64, address: u64) -> bool

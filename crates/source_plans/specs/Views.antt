@@ -48,23 +48,49 @@ abbrev pub exception_of : Exception' → Exception
 exception_of e = record { code = e.code; flag = e.flag; access = e.access }
 
 abbrev pub place_of : Place → frames.Place
-place_of p = record { activation = p.activation; exception = exception_of p.exception; abnormal = p.abnormal }
+place_of p =
+    record {
+      activation = p.activation;
+      exception = exception_of p.exception;
+      abnormal = p.abnormal;
+    }
 
 abbrev pub handler_of : Handler → tasks.Handler
-handler_of h = record { filter = filter h.filter.now; activation = h.activation; abnormal = h.abnormal }
+handler_of h =
+    record { filter = filter h.filter.now; activation = h.activation; abnormal = h.abnormal }
 
 abbrev pub for_loop_of : ForLoop → frames.ForLoop
-for_loop_of k = record { condition = option_map expression k.condition.now; next = option_map expression k.next.now; body = statement k.body.now.value }
+for_loop_of k =
+    record {
+      condition = option_map expression k.condition.now;
+      next = option_map expression k.next.now;
+      body = statement k.body.now.value;
+    }
 
 abbrev pub callee_of : Callee → frames.Callee
 callee_of (callees.Defined f) = frames.Defined f
 callee_of (callees.BuiltIn k) = frames.BuiltInOf k
 
 abbrev pub compound_of : Compound → frames.Compound
-compound_of k = record { target = lvalue k.target.now; before = k.before; operation = k.operation; value = expression k.value.now.value; after = k.after }
+compound_of k =
+    record {
+      target = lvalue k.target.now;
+      before = k.before;
+      operation = k.operation;
+      value = expression k.value.now.value;
+      after = k.after;
+    }
 
 abbrev pub stepped_of : Stepped → frames.Stepped
-stepped_of k = record { fixity = k.fixity; target = lvalue k.target.now; before = k.before; operation = k.operation; amount = k.amount; after = k.after }
+stepped_of k =
+    record {
+      fixity = k.fixity;
+      target = lvalue k.target.now;
+      before = k.before;
+      operation = k.operation;
+      amount = k.amount;
+      after = k.after;
+    }
 
 abbrev pub result_of : Outcome → Result
 result_of (outcomes.Value v) = Value v
@@ -102,43 +128,61 @@ task_of (task_kinds.Locate l) = tasks.Locate (lvalue l.now)
 task_of (task_kinds.RunListed ss i) = tasks.Run (statement_at ss.now.items i)
 task_of (task_kinds.RunBoxed s) = tasks.Run (statement s.now.value)
 task_of (task_kinds.Declare d) = tasks.Run (statements.Declare (statements.declared d.now))
-task_of (task_kinds.ForIteration k) = tasks.ForIteration (option_map expression k.condition.now) (option_map expression k.next.now) (statement k.body.now.value)
+task_of (task_kinds.ForIteration k) =
+    tasks.ForIteration (option_map expression k.condition.now) (option_map expression k.next.now)
+    (statement k.body.now.value)
 task_of (task_kinds.DoIteration s c) = tasks.DoIteration (statement s.now.value) (expression c.now)
 task_of (task_kinds.TryBody ss) = tasks.TryBody (all_statements ss.now.items)
 task_of (task_kinds.Raise exc) = tasks.Raise (exception_of exc)
-task_of (task_kinds.RunFilter k e h exc) = tasks.RunFilter k (expression e.now) (handler_of h) (exception_of exc)
-task_of (task_kinds.RunFinally k last flag) = tasks.RunFinally k (all_statements last.now.items) flag
+task_of (task_kinds.RunFilter k e h exc) =
+    tasks.RunFilter k (expression e.now) (handler_of h) (exception_of exc)
+task_of (task_kinds.RunFinally k last flag) =
+    tasks.RunFinally k (all_statements last.now.items) flag
 task_of (task_kinds.Retry o a b) = tasks.Retry o a b
 
 abbrev pub operand_frame_of : OperandFrame → frames.OperandFrame
 operand_frame_of (operands.Converts c) = frames.Converts c
-operand_frame_of (operands.EvaluatesIndex i p) = frames.EvaluatesIndex (expression i.now.value) (place_of p)
+operand_frame_of (operands.EvaluatesIndex i p) =
+    frames.EvaluatesIndex (expression i.now.value) (place_of p)
 operand_frame_of (operands.AddsIndex a) = frames.AddsIndex a
 operand_frame_of (operands.Applies o) = frames.Applies o
-operand_frame_of (operands.EvaluatesRight o f p) = frames.EvaluatesRight o (expression f.now.value) (place_of p)
+operand_frame_of (operands.EvaluatesRight o f p) =
+    frames.EvaluatesRight o (expression f.now.value) (place_of p)
 operand_frame_of (operands.Operates o x p) = frames.Operates o x (place_of p)
-operand_frame_of (operands.EvaluatesSubtrahend size f p) = frames.EvaluatesSubtrahend size (expression f.now.value) (place_of p)
+operand_frame_of (operands.EvaluatesSubtrahend size f p) =
+    frames.EvaluatesSubtrahend size (expression f.now.value) (place_of p)
 operand_frame_of (operands.Measures size x) = frames.Measures size x
 operand_frame_of operands.Inverts = frames.Inverts
-operand_frame_of (operands.EvaluatesIfTrue f p) = frames.EvaluatesIfTrue (expression f.now.value) (place_of p)
-operand_frame_of (operands.EvaluatesIfFalse f p) = frames.EvaluatesIfFalse (expression f.now.value) (place_of p)
+operand_frame_of (operands.EvaluatesIfTrue f p) =
+    frames.EvaluatesIfTrue (expression f.now.value) (place_of p)
+operand_frame_of (operands.EvaluatesIfFalse f p) =
+    frames.EvaluatesIfFalse (expression f.now.value) (place_of p)
 operand_frame_of operands.Tests = frames.Tests
-operand_frame_of (operands.Chooses e f p) = frames.Chooses (expression e.now.value) (expression f.now.value) (place_of p)
+operand_frame_of (operands.Chooses e f p) =
+    frames.Chooses (expression e.now.value) (expression f.now.value) (place_of p)
 operand_frame_of (operands.Discards f p) = frames.Discards (expression f.now.value) (place_of p)
-operand_frame_of (operands.PassesArgument callee vs es i p) = frames.PassesArgument (callee_of callee) vs.items (arguments_from es.now.items i) (place_of p)
+operand_frame_of (operands.PassesArgument callee vs es i p) =
+    frames.PassesArgument (callee_of callee) vs.items (arguments_from es.now.items i) (place_of p)
 
 abbrev pub assignment_frame_of : AssignmentFrame → frames.AssignmentFrame
 assignment_frame_of (assignments.Reads l p) = frames.Reads (lvalue l.now) (place_of p)
 assignment_frame_of (assignments.Extends access) = frames.Extends access
-assignment_frame_of (assignments.EvaluatesAssigned l e p) = frames.EvaluatesAssigned (lvalue l.now) (expression e.now.value) (place_of p)
+assignment_frame_of (assignments.EvaluatesAssigned l e p) =
+    frames.EvaluatesAssigned (lvalue l.now) (expression e.now.value) (place_of p)
 assignment_frame_of (assignments.Assigns l a p) = frames.Assigns (lvalue l.now) a (place_of p)
-assignment_frame_of (assignments.ReadsCompound k p) = frames.ReadsCompound (compound_of k) (place_of p)
-assignment_frame_of (assignments.EvaluatesCompound k a p) = frames.EvaluatesCompound (compound_of k) a (place_of p)
-assignment_frame_of (assignments.OperatesCompound k a x p) = frames.OperatesCompound (compound_of k) a x (place_of p)
-assignment_frame_of (assignments.AssignsCompound k a p) = frames.AssignsCompound (compound_of k) a (place_of p)
+assignment_frame_of (assignments.ReadsCompound k p) =
+    frames.ReadsCompound (compound_of k) (place_of p)
+assignment_frame_of (assignments.EvaluatesCompound k a p) =
+    frames.EvaluatesCompound (compound_of k) a (place_of p)
+assignment_frame_of (assignments.OperatesCompound k a x p) =
+    frames.OperatesCompound (compound_of k) a x (place_of p)
+assignment_frame_of (assignments.AssignsCompound k a p) =
+    frames.AssignsCompound (compound_of k) a (place_of p)
 assignment_frame_of (assignments.ReadsStepped k p) = frames.ReadsStepped (stepped_of k) (place_of p)
-assignment_frame_of (assignments.OperatesStepped k a p) = frames.OperatesStepped (stepped_of k) a (place_of p)
-assignment_frame_of (assignments.AssignsStepped k a x p) = frames.AssignsStepped (stepped_of k) a x (place_of p)
+assignment_frame_of (assignments.OperatesStepped k a p) =
+    frames.OperatesStepped (stepped_of k) a (place_of p)
+assignment_frame_of (assignments.AssignsStepped k a x p) =
+    frames.AssignsStepped (stepped_of k) a x (place_of p)
 assignment_frame_of (assignments.GivesStepped m x) = frames.GivesStepped m x
 
 abbrev pub for_frame_of : ForPart → frames.ForLoop → frames.Place → frames.StatementFrame
@@ -148,17 +192,23 @@ for_frame_of for_parts.Tests k p = frames.TestsFor k p
 abbrev pub statement_frame_of : StatementFrame → frames.StatementFrame
 statement_frame_of (in_statements.Initialises x p) = frames.Initialises x (place_of p)
 statement_frame_of in_statements.EndsEvaluation = frames.EndsEvaluation
-statement_frame_of (in_statements.Branches s t p) = frames.Branches (statement s.now.value) (option_map (λ t. statement t.now.value) t) (place_of p)
+statement_frame_of (in_statements.Branches s t p) =
+    frames.Branches (statement s.now.value) (option_map (λ t. statement t.now.value) t) (place_of p)
 statement_frame_of (in_statements.For part k p) = for_frame_of part (for_loop_of k) (place_of p)
-statement_frame_of (in_statements.TestsDo s c p) = frames.TestsDo (statement s.now.value) (expression c.now) (place_of p)
+statement_frame_of (in_statements.TestsDo s c p) =
+    frames.TestsDo (statement s.now.value) (expression c.now) (place_of p)
 statement_frame_of in_statements.Returns = frames.Returns
 statement_frame_of in_statements.EndsFilter = frames.EndsFilter
-statement_frame_of (in_statements.IsAnswered level exc p) = frames.IsAnswered level (exception_of exc) (place_of p)
+statement_frame_of (in_statements.IsAnswered level exc p) =
+    frames.IsAnswered level (exception_of exc) (place_of p)
 
 abbrev pub sequel_frame_of : SequelFrame → frames.SequelFrame
-sequel_frame_of (sequels.Continues ss i p) = frames.Continues (statements_from ss.now.items i) (place_of p)
-sequel_frame_of (sequels.DeclaresRest ds i p) = frames.DeclaresRest (declared_from ds.now.items i) (place_of p)
-sequel_frame_of (sequels.EvaluatesFirst first k p) = frames.EvaluatesFirst (option_map expression first.now) (for_loop_of k) (place_of p)
+sequel_frame_of (sequels.Continues ss i p) =
+    frames.Continues (statements_from ss.now.items i) (place_of p)
+sequel_frame_of (sequels.DeclaresRest ds i p) =
+    frames.DeclaresRest (declared_from ds.now.items i) (place_of p)
+sequel_frame_of (sequels.EvaluatesFirst first k p) =
+    frames.EvaluatesFirst (option_map expression first.now) (for_loop_of k) (place_of p)
 sequel_frame_of (sequels.Retries o a b p) = frames.Retries o a b (place_of p)
 sequel_frame_of sequels.GivesZero = frames.GivesZero
 sequel_frame_of (sequels.GivesResult how) = frames.GivesResult (result_of how)
@@ -166,7 +216,8 @@ sequel_frame_of sequels.EndsFinally = frames.EndsFinally
 
 abbrev pub body_frame_of : BodyFrame → frames.BodyFrame
 body_frame_of (bodies.EndsForBody k p) = frames.EndsForBody (for_loop_of k) (place_of p)
-body_frame_of (bodies.EndsDoBody s c p) = frames.EndsDoBody (statement s.now.value) (expression c.now) (place_of p)
+body_frame_of (bodies.EndsDoBody s c p) =
+    frames.EndsDoBody (statement s.now.value) (expression c.now) (place_of p)
 
 abbrev pub frame_of : Frame → frames.Frame
 frame_of (frame_kinds.Operand f) = frames.Operand (operand_frame_of f)
@@ -175,8 +226,10 @@ frame_of (frame_kinds.Statement f) = frames.InStatement (statement_frame_of f)
 frame_of (frame_kinds.Sequel f) = frames.Sequel (sequel_frame_of f)
 frame_of (frame_kinds.Body f) = frames.Body (body_frame_of f)
 frame_of (frame_kinds.EndsCall n) = frames.EndsCall n
-frame_of (frame_kinds.Lands held block p) = frames.Lands held (all_statements block.now.items) (place_of p)
-frame_of (frame_kinds.Finishes k last p) = frames.Finishes k (all_statements last.now.items) (place_of p)
+frame_of (frame_kinds.Lands held block p) =
+    frames.Lands held (all_statements block.now.items) (place_of p)
+frame_of (frame_kinds.Finishes k last p) =
+    frames.Finishes k (all_statements last.now.items) (place_of p)
 
 abbrev pub finish_of : Finish → Result
 finish_of (finishes.Gave how) = result_of how
@@ -196,13 +249,16 @@ next_of (nexts.Find l p) = frames.Find (lvalue l.now) (place_of p)
 next_of (nexts.Fetch l a p) = frames.Fetch (lvalue l.now) a (place_of p)
 next_of (nexts.Put l a v p) = frames.Put (lvalue l.now) a v (place_of p)
 next_of (nexts.Operate o a b p) = frames.Operate o a b (place_of p)
-next_of (nexts.Pass callee vs es i p) = frames.Pass (callee_of callee) vs.items (arguments_from es.now.items i) (place_of p)
+next_of (nexts.Pass callee vs es i p) =
+    frames.Pass (callee_of callee) vs.items (arguments_from es.now.items i) (place_of p)
 next_of (nexts.Call callee vs p) = frames.Call (callee_of callee) vs.items (place_of p)
 next_of (nexts.Proceed ss i p) = frames.Proceed (statements_from ss.now.items i) (place_of p)
 next_of (nexts.DeclareEach ds i p) = frames.DeclareEach (declared_from ds.now.items i) (place_of p)
 next_of (nexts.DeclareName d p) = frames.DeclareName (statements.declared d.now) (place_of p)
 next_of (nexts.SetLocal x v p) = frames.SetLocal x v (place_of p)
-next_of (nexts.Guard body f block p) = frames.Guard (all_statements body.now.items) (filter f.now) (all_statements block.now.items) (place_of p)
+next_of (nexts.Guard body f block p) =
+    frames.Guard (all_statements body.now.items) (filter f.now) (all_statements block.now.items)
+    (place_of p)
 next_of (nexts.Answer v) = frames.Answer v
 next_of nexts.LetGo = frames.LetGo
 next_of (nexts.Search level exc p) = frames.Search level (exception_of exc) (place_of p)

@@ -3,6 +3,9 @@
 //! `task` has what counts a step, and `frame` what waits for a result and what is done next.
 //! `expressions` and `statements` choose what is done for a part of a program, and `results` what
 //! is done with a result that is there.
+//!
+//! Proved: each choice is that of the definitions of `source_machine`. Begin with `frame` and
+//! `specs/Views.antt`.
 #![tactic(auto)]
 
 pub mod expressions;

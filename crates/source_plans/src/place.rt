@@ -1,6 +1,7 @@
 //! Where a part of a program runs.
 
 use c_checked::statement::Filter;
+use seh_num::code::NONCONTINUABLE_EXCEPTION;
 
 /// An exception (Windows headers, `winnt.h`, EXCEPTION_RECORD).
 #[derive(Clone, Copy, Debug, PartialEq, Eq)]
@@ -38,10 +39,9 @@ pub const NO_EXCEPTION: Exception = Exception {
     access: None,
 };
 
-/// What is raised where a noncontinuable exception is continued
-/// (EXCEPTION_NONCONTINUABLE_EXCEPTION).
+/// What is raised where a noncontinuable exception is continued.
 pub const NONCONTINUABLE: Exception = Exception {
-    code: 0xC000_0025,
+    code: NONCONTINUABLE_EXCEPTION.0,
     flag: true,
     access: None,
 };

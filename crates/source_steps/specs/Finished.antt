@@ -1,4 +1,5 @@
--- What follows an operation that was made, whose memory the machine has, and a result, whose frame was taken off.
+-- What follows an operation that was made, whose memory the machine has, and a result, whose frame
+-- was taken off.
 use Rattle.std.specs.Prelude.{ℕ, false, Some}
 use Rattle.c_operations.specs.declared.operation.Operation.{Operation}
 use Rattle.source_operations.specs.declared.performing.Performed.{Performed}
@@ -13,7 +14,8 @@ use Rattle.source_machine.specs.Machine.{Machine, go_on, follow, over, outside, 
 abbrev pub finished : Machine → Operation → ℕ → ℕ → Place → Performed → Machine
 finished m o a b p (performed.Gives v) = go_on m (Give (Value v))
 finished m o a b p (performed.Raises code access) =
-    follow m (Push (Sequel (frames.Retries o a b p)) (Start (tasks.Raise (record { code = code.0; flag = false; access = access })) p))
+    follow m (Push (Sequel (frames.Retries o a b p))
+    (Start (tasks.Raise (record { code = code.0; flag = false; access = access })) p))
 finished m o a b p (performed.Undefined at) = over m (End (Some (Undefined at)))
 
 -- a frame's result, where the frame's handler is still there

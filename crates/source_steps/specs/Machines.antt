@@ -12,11 +12,24 @@ use Rattle.source_plans.specs.declared.frame.Next.{Next as Next'}
 use Rattle.source_steps.specs.declared.machine.Step.{Step}
 
 abbrev pub state_of : Machine' → List Event → State
-state_of m es = record { steps_left = m.steps_left; memory = memory_of m.memory; frames = frames_of m.activations; held = m.held; events = es }
+state_of m es =
+    record {
+      steps_left = m.steps_left;
+      memory = memory_of m.memory;
+      frames = frames_of m.activations;
+      held = m.held;
+      events = es;
+    }
 
 -- with what is done next
 abbrev pub machine_of : Machine' → frames.Next → List Event → Machine
-machine_of m next es = record { state = state_of m es; handlers = map handler_of m.handlers.items; stack = reverse (map frame_of m.stack.items); next = next }
+machine_of m next es =
+    record {
+      state = state_of m es;
+      handlers = map handler_of m.handlers.items;
+      stack = reverse (map frame_of m.stack.items);
+      next = next;
+    }
 
 abbrev pub shown_after : List Event → Option Event → List Event
 shown_after es None = es
@@ -24,8 +37,12 @@ shown_after es (Some e) = es ++ e ∷ []
 
 -- a machine became another by a change, which shows nothing, and this is done next
 abbrev pub Moved : Machine' → Machine' → (Machine → Machine) → Next' → Type 0
-Moved m m' change next = (x : frames.Next) (es : List Event) → change (machine_of m x es) ≡ machine_of m' (next_of next) es
+Moved m m' change next =
+    (x : frames.Next) (es : List Event)
+    → change (machine_of m x es) ≡ machine_of m' (next_of next) es
 
 -- the same, where the change may show an event
 abbrev pub Showed : Machine' → Machine' → (Machine → Machine) → Step → Type 0
-Showed m m' change step = (x : frames.Next) (es : List Event) → change (machine_of m x es) ≡ machine_of m' (next_of step.next) (shown_after es step.shown)
+Showed m m' change step =
+    (x : frames.Next) (es : List Event)
+    → change (machine_of m x es) ≡ machine_of m' (next_of step.next) (shown_after es step.shown)

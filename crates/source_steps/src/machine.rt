@@ -11,6 +11,7 @@ ghost use Rattle.source_plans.specs.Views.{place_of};
 ghost use Rattle.source_steps.specs.Machines.{machine_of, state_of, shown_after, Moved, Showed};
 
 use crate::activations::Activations;
+use c_model::depth::{DEEPEST, TOO_DEEP};
 use c_model::ended::Ended;
 use seh_num::event::Event;
 use source_plans::frame::{Finish, Frame, Next, Phase, Plan};
@@ -18,9 +19,6 @@ use source_plans::place::{Handler, Place};
 use source_plans::task::Task;
 use std::alloc::AllocError;
 use x64_memory::page_map::PageMap;
-
-/// The greatest depth of a program: 1 for each live activation, and what is held beside them (own).
-const GREATEST_DEPTH: u64 = 1000;
 
 /// A machine that runs a program.
 #[derive(Drop)]
@@ -64,13 +62,11 @@ pub fn showing<'p>(event: Event, next: Next<'p>) -> Step<'p>
     }
 }
 
-/// The run is over, since the depth would rise above 1,000: to this depth.
+/// The run is over, since the depth would rise above the greatest.
 pub fn too_deep<'p>() -> Next<'p>
-    ensures { views.next_of result ≡ frames.Over (states.End (Some (ends.Deep 1001))) }
+    ensures { views.next_of result ≡ frames.Over (states.End (Some (ends.Deep TOO_DEEP))) }
 {
-    Next::Over(Finish::Ended(Ended::Deep {
-        depth: GREATEST_DEPTH + 1,
-    }))
+    Next::Over(Finish::Ended(Ended::Deep { depth: TOO_DEEP }))
 }
 
 impl<'p> Machine<'p> {
@@ -79,15 +75,15 @@ impl<'p> Machine<'p> {
         requires { more ≤ 2 }
         ensures { (es : List Event') → result ≡ model.is_deep (state_of self.now es) more }
     {
-        let live = self.activations.len();
+        let live = self.activations.len() as u64;
         let held = self.held;
-        if live > 1000 {
+        if live > DEEPEST {
             return true;
         }
-        if held > 1000 {
+        if held > DEEPEST {
             return true;
         }
-        live as u64 + held + more > GREATEST_DEPTH
+        live + held + more > DEEPEST
     }
 
     /// One more frame waits.

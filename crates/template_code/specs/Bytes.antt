@@ -18,6 +18,12 @@ abbrev pub sizes : List Instr → ℕ
 sizes [] = 0
 sizes (i ∷ is) = size i + sizes is
 
--- a jump through the slot of the import address table that lies so far after its end (PE format, "Import Address Table")
+-- a jump through the slot of the import address table that lies so far after its end (PE format,
+-- "Import Address Table")
 abbrev pub thunk : ℕ → Instr
-thunk away = instrs.Jump (Indirect (places.Memory (record { base = bases.Rip; index = None; displacement = away })))
+thunk away =
+    instrs.Jump (Indirect (places.Memory (record {
+      base = bases.Rip;
+      index = None;
+      displacement = away;
+    })))

@@ -51,38 +51,54 @@ clear_result = instrs.Move W32 (places.Register Rax) (operands.Immediate 0)
 abbrev pub call_built_in_code : Layout → ℕ → ℕ → ℕ → List Instr
 call_built_in_code y first at to = clear_result ∷ call_code y (Temporary first) first (at + 5) to
 
--- n arguments past the fourth, from the one of a number on: from their temporaries to their places above the home space
+-- n arguments past the fourth, from the one of a number on: from their temporaries to their places
+-- above the home space
 abbrev pub passing_code : Layout → ℕ → ℕ → ℕ → List Instr
 passing_code y first i zero = []
-passing_code y first i (suc n) = fetched Rax Rsp (temporary_at y (first + i)) ∷ keep_register Rax (8 * i) ∷ passing_code y first (i + 1) n
+passing_code y first i (suc n) =
+    fetched Rax Rsp (temporary_at y (first + i)) ∷ keep_register Rax (8 * i)
+    ∷ passing_code y first (i + 1) n
 
 -- a call of so many arguments, whose result goes to the temporary of the first
 abbrev pub passing_call_code : Layout → ℕ → ℕ → ℕ → ℕ → List Instr
-passing_call_code y first count at to = let passing = passing_code y first 4 (count - 4) in passing ++ call_code y (Temporary first) first (at + sizes passing) to
+passing_call_code y first count at to =
+    let passing = passing_code y first 4 (count - 4) in passing
+    ++ call_code y (Temporary first) first (at + sizes passing) to
 
 -- a `__finally` block at the normal end of its body: ECX is 0, and RDX the base of the frame
 abbrev pub finally_arguments : List Instr
-finally_arguments = instrs.Move W32 (places.Register Rcx) (operands.Immediate 0) ∷ move W64 Rdx Rsp ∷ []
+finally_arguments =
+    instrs.Move W32 (places.Register Rcx) (operands.Immediate 0) ∷ move W64 Rdx Rsp ∷ []
 
 abbrev pub call_finally_code : ℕ → ℕ → List Instr
 call_finally_code at to = finally_arguments ++ (call (at + sizes finally_arguments + 5) to ∷ [])
 
--- a local unwind: RCX is the base of the frame, and RDX the target, relative to the next instruction
+-- a local unwind: RCX is the base of the frame, and RDX the target, relative to the next
+-- instruction
 abbrev pub address_to : ℕ → ℕ → Instr
-address_to next to = instrs.LoadAddress W64 Rdx (record { base = bases.Rip; index = None; displacement = distance next to })
+address_to next to =
+    instrs.LoadAddress W64 Rdx (record {
+      base = bases.Rip;
+      index = None;
+      displacement = distance next to;
+    })
 
 abbrev pub local_unwind_code : ℕ → ℕ → ℕ → List Instr
-local_unwind_code at target to = move W64 Rcx Rsp ∷ address_to (at + 10) target ∷ call (at + 15) to ∷ []
+local_unwind_code at target to =
+    move W64 Rcx Rsp ∷ address_to (at + 10) target ∷ call (at + 15) to ∷ []
 
 -- ---- the callee
 
 abbrev pub enter_code : ℕ → List Instr
-enter_code frame = instrs.Arithmetic arithmetic.Sub W64 (places.Register Rsp) (operands.Immediate frame) ∷ []
+enter_code frame =
+    instrs.Arithmetic arithmetic.Sub W64 (places.Register Rsp) (operands.Immediate frame) ∷ []
 
 -- a frame of no bytes isn't given back
 abbrev pub epilogue : ℕ → List Instr
 epilogue zero = instrs.Return ∷ []
-epilogue (suc n) = instrs.Arithmetic arithmetic.Add W64 (places.Register Rsp) (operands.Immediate (suc n)) ∷ instrs.Return ∷ []
+epilogue (suc n) =
+    instrs.Arithmetic arithmetic.Add W64 (places.Register Rsp) (operands.Immediate (suc n))
+    ∷ instrs.Return ∷ []
 
 abbrev pub return_code : Layout → Slot → List Instr
 return_code y from = fetch y Rax from ++ epilogue y.frame
@@ -96,7 +112,8 @@ field_at NumberParameters = 24
 field_at (ExceptionInformation k) = 32 + 8 * k
 
 abbrev pub field_load : Field → Instr
-field_load (ExceptionInformation k) = instrs.Move W64 (places.Register Rax) (operands.Memory (above Rax (32 + 8 * k)))
+field_load (ExceptionInformation k) =
+    instrs.Move W64 (places.Register Rax) (operands.Memory (above Rax (32 + 8 * k)))
 field_load f = instrs.Move W32 (places.Register Rax) (operands.Memory (above Rax (field_at f)))
 
 abbrev pub information_code : Layout → Slot → Field → List Instr

@@ -1,4 +1,5 @@
--- Jumps to labels: always with a displacement of four bytes, so that no size depends on where a label is placed.
+-- Jumps to labels: always with a displacement of four bytes, so that no size depends on where a
+-- label is placed.
 use Rattle.std.specs.Prelude.{ℕ, ◌+◌, ◌-◌, ◌%◌, ◌^◌, ◌<◌, List, [], ◌∷◌, ◌++◌}
 use Rattle.seh_num.specs.declared.width.Width.TheVariants.{W64}
 use Rattle.x64_instr.specs.declared.register.Reg.TheVariants.{Rax}
@@ -38,7 +39,8 @@ abbrev pub test_code : Layout → Slot → List Instr
 test_code y slot = fetch y Rax slot ++ (compare_zero ∷ [])
 
 abbrev pub jump_if_zero_code : Layout → Slot → ℕ → ℕ → List Instr
-jump_if_zero_code y slot at to = fetch y Rax slot ++ (compare_zero ∷ jump_equal (at + sizes (test_code y slot) + 6) to ∷ [])
+jump_if_zero_code y slot at to =
+    fetch y Rax slot ++ (compare_zero ∷ jump_equal (at + sizes (test_code y slot) + 6) to ∷ [])
 
 -- nothing
 abbrev pub separator_code : List Instr

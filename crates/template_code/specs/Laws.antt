@@ -7,4 +7,6 @@ use Rattle.template_code.specs.Template.{Links, template, template_size}
 
 -- a template's size depends on no label
 abbrev pub SizesKnowNoLabels : Type 0
-SizesKnowNoLabels = (k : Links) (y : Layout) (at : ℕ) (instruction : Instruction) → sizes (template k y at instruction) ≡ template_size y instruction
+SizesKnowNoLabels =
+    (k : Links) (y : Layout) (at : ℕ) (instruction : Instruction)
+    → sizes (template k y at instruction) ≡ template_size y instruction

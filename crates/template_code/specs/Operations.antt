@@ -1,4 +1,5 @@
--- The instructions of each operation: the first operand is in RAX, the second in RCX, and RAX takes the result.
+-- The instructions of each operation: the first operand is in RAX, the second in RCX, and RAX takes
+-- the result.
 use Rattle.std.specs.Prelude.{ℕ, List, [], ◌∷◌, None}
 use Rattle.seh_num.specs.declared.width.Width.{Width}
 use Rattle.seh_num.specs.declared.width.Width.TheVariants.{W8, W16, W32, W64}
@@ -89,19 +90,27 @@ compare relations.GreaterOrEqual s w = compared w Rax Rcx (not_less s)
 -- ---- operations without faults
 
 abbrev pub pure_code : Pure → List Instr
-pure_code (pures.Constant v) = instrs.Move W64 (places.Register Rax) (operands.Immediate (low W64 v)) ∷ []
+pure_code (pures.Constant v) =
+    instrs.Move W64 (places.Register Rax) (operands.Immediate (low W64 v)) ∷ []
 pure_code pures.First = []
 pure_code (pures.Extend s from z) = extended s from z
 pure_code (pures.Not z) = instrs.Unary unary.Not (width z) (places.Register Rax) ∷ []
 pure_code (pures.Negate z) = instrs.Unary unary.Negate (width z) (places.Register Rax) ∷ []
-pure_code (pures.Add z) = instrs.Arithmetic arithmetic.Add (width z) (places.Register Rax) (operands.Register Rcx) ∷ []
-pure_code (pures.Subtract z) = instrs.Arithmetic arithmetic.Sub (width z) (places.Register Rax) (operands.Register Rcx) ∷ []
+pure_code (pures.Add z) =
+    instrs.Arithmetic arithmetic.Add (width z) (places.Register Rax) (operands.Register Rcx) ∷ []
+pure_code (pures.Subtract z) =
+    instrs.Arithmetic arithmetic.Sub (width z) (places.Register Rax) (operands.Register Rcx) ∷ []
 pure_code (pures.Multiply z) = instrs.Multiply (width z) Rax (places.Register Rcx) ∷ []
-pure_code (pures.And z) = instrs.Arithmetic arithmetic.And (width z) (places.Register Rax) (operands.Register Rcx) ∷ []
-pure_code (pures.Or z) = instrs.Arithmetic arithmetic.Or (width z) (places.Register Rax) (operands.Register Rcx) ∷ []
-pure_code (pures.Xor z) = instrs.Arithmetic arithmetic.Xor (width z) (places.Register Rax) (operands.Register Rcx) ∷ []
-pure_code (pures.ShiftLeft z) = instrs.Shift directions.Left (width z) (places.Register Rax) counts.Cl ∷ []
-pure_code (pures.ShiftRight s z) = instrs.Shift (right s) (width z) (places.Register Rax) counts.Cl ∷ []
+pure_code (pures.And z) =
+    instrs.Arithmetic arithmetic.And (width z) (places.Register Rax) (operands.Register Rcx) ∷ []
+pure_code (pures.Or z) =
+    instrs.Arithmetic arithmetic.Or (width z) (places.Register Rax) (operands.Register Rcx) ∷ []
+pure_code (pures.Xor z) =
+    instrs.Arithmetic arithmetic.Xor (width z) (places.Register Rax) (operands.Register Rcx) ∷ []
+pure_code (pures.ShiftLeft z) =
+    instrs.Shift directions.Left (width z) (places.Register Rax) counts.Cl ∷ []
+pure_code (pures.ShiftRight s z) =
+    instrs.Shift (right s) (width z) (places.Register Rax) counts.Cl ∷ []
 pure_code (pures.Compare r s z) = compare r s (width z)
 
 -- ---- operations that can fault: what comes before the instruction that does, that instruction, and what comes after it
@@ -128,6 +137,8 @@ before o = []
 abbrev pub work : Operation → List Instr
 work (operations.Pure p) = pure_code p
 work (operations.Divide s z) = instrs.Divide (division s) (width z) (places.Register Rcx) ∷ []
-work (operations.Remainder s z) = instrs.Divide (division s) (width z) (places.Register Rcx) ∷ move W64 Rax Rdx ∷ []
+work (operations.Remainder s z) =
+    instrs.Divide (division s) (width z) (places.Register Rcx) ∷ move W64 Rax Rdx ∷ []
 work (operations.Load w) = load w ∷ []
-work (operations.Store w) = instrs.Move w (places.Memory (above Rax 0)) (operands.Register Rcx) ∷ move W64 Rax Rcx ∷ []
+work (operations.Store w) =
+    instrs.Move w (places.Memory (above Rax 0)) (operands.Register Rcx) ∷ move W64 Rax Rcx ∷ []

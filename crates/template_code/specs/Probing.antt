@@ -1,4 +1,6 @@
--- Entries of large frames (Microsoft x64 ABI, "Prolog and epilog"): the size is put into RAX, `__chkstk` touches each page of it, and RSP falls by RAX. A frame is at most 8,192 bytes, so that two touches are enough.
+-- Entries of large frames (Microsoft x64 ABI, "Prolog and epilog"): the size is put into RAX,
+-- `__chkstk` touches each page of it, and RSP falls by RAX. A frame is at most 8,192 bytes, so that
+-- two touches are enough.
 use Rattle.std.specs.Prelude.{ℕ, ◌+◌, ◌-◌, ◌^◌, List, [], ◌∷◌}
 use Rattle.seh_num.specs.declared.width.Width.TheVariants.{W8, W32, W64}
 use Rattle.x64_instr.specs.declared.register.Reg.TheVariants.{Rax, Rsp, R11}

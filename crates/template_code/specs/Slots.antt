@@ -26,7 +26,8 @@ temporary_at y i = y.temporaries + 8 * i
 abbrev pub local_at : Layout → ℕ → ℕ
 local_at y i = y.locals + 8 * i
 
--- a function's locals stand above its RSP; those of a filter or a `__finally` block above the base that it keeps
+-- a function's locals stand above its RSP; those of a filter or a `__finally` block above the base
+-- that it keeps
 abbrev pub fetch_local : Option ℕ → Reg → ℕ → List Instr
 fetch_local None to d = fetched to Rsp d ∷ []
 fetch_local (Some b) to d = fetched to Rsp b ∷ fetched to to d ∷ []
@@ -43,7 +44,8 @@ abbrev pub keep : Layout → Slot → List Instr
 keep y (Temporary i) = put_back Rsp (temporary_at y i) ∷ []
 keep y (Local i) = keep_local y.base (local_at y i)
 
--- an operation: both operands to their registers, the operation, and the result to its slot; up to the instruction that can fault, and from it on
+-- an operation: both operands to their registers, the operation, and the result to its slot; up to
+-- the instruction that can fault, and from it on
 abbrev pub operands_code : Layout → Operation → Slot → Slot → List Instr
 operands_code y o first second = fetch y Rax first ++ (fetch y Rcx second ++ before o)
 

@@ -11,7 +11,8 @@ use Rattle.template_code.specs.Slots.{keep, compute_code}
 use Rattle.template_code.specs.Jumps.{jump_code, jump_if_zero_code, separator_code}
 use Rattle.template_code.specs.Calls.{call_built_in_code, passing_call_code, call_finally_code, local_unwind_code, return_code, information_code}
 
--- the addresses of everything that code refers to: the labels of the body, functions, thunks, `__finally` blocks, and the thunk of `_local_unwind`
+-- the addresses of everything that code refers to: the labels of the body, functions, thunks,
+-- `__finally` blocks, and the thunk of `_local_unwind`
 pub record Links : Type 0 where
   pub label : ℕ → ℕ
   pub function : ℕ → ℕ
@@ -25,16 +26,20 @@ template k y at (instructions.Information to field) = information_code y to fiel
 template k y at (instructions.Landing to) = keep y to
 template k y at (instructions.Jump label) = jump_code at (k.label label)
 template k y at (instructions.JumpIfZero slot label) = jump_if_zero_code y slot at (k.label label)
-template k y at (instructions.Call function first count) = passing_call_code y first count at (k.function function)
-template k y at (instructions.CallBuiltIn function first) = call_built_in_code y first at (k.known function)
+template k y at (instructions.Call function first count) =
+    passing_call_code y first count at (k.function function)
+template k y at (instructions.CallBuiltIn function first) =
+    call_built_in_code y first at (k.known function)
 template k y at (instructions.CallFinally funclet) = call_finally_code at (k.funclet funclet)
-template k y at (instructions.LocalUnwind label) = local_unwind_code at (k.label label) k.local_unwind
+template k y at (instructions.LocalUnwind label) =
+    local_unwind_code at (k.label label) k.local_unwind
 template k y at instructions.Separator = separator_code
 template k y at (instructions.Return from) = return_code y from
 
 -- how many bytes a template takes, wherever everything is placed
 abbrev pub nowhere : Links
-nowhere = record { label = λ l. 0; function = λ f. 0; known = λ f. 0; funclet = λ f. 0; local_unwind = 0 }
+nowhere =
+    record { label = λ l. 0; function = λ f. 0; known = λ f. 0; funclet = λ f. 0; local_unwind = 0 }
 
 unfoldable pub template_size : Layout → Instruction → ℕ
 template_size y instruction = sizes (template nowhere y 0 instruction)
@@ -49,7 +54,8 @@ offset_of y body number = body_size y (take number body)
 
 abbrev pub code_from : Links → Layout → ℕ → List Instruction → List Instr
 code_from k y at [] = []
-code_from k y at (instruction ∷ more) = template k y at instruction ++ code_from k y (at + template_size y instruction) more
+code_from k y at (instruction ∷ more) =
+    template k y at instruction ++ code_from k y (at + template_size y instruction) more
 
 -- a body that begins here, whose labels are the numbers of its instructions
 abbrev pub IsBody : Links → Layout → ℕ → List Instruction → Type 0

@@ -107,8 +107,8 @@ fn initialisers(rt: HostRuntime) -> Result<(), Fail> {
     Ok(())
 }
 
-/// Scopes (C11, 6.2.1) and declarations of one name (C11, 6.7): every function and global is visible
-/// in the whole text, and a local from its own declarator on.
+/// Scopes (C11, 6.2.1) and declarations of one name (C11, 6.7): every function and global is
+/// visible in the whole text, and a local from its own declarator on.
 #[test]
 fn names(rt: HostRuntime) -> Result<(), Fail> {
     for text in [
@@ -305,8 +305,8 @@ fn names(rt: HostRuntime) -> Result<(), Fail> {
     Ok(())
 }
 
-/// The function `main` (C11, 5.1.2.2.1). Where there is none, the fault is at 0; where it has another
-/// type, at its name.
+/// The function `main` (C11, 5.1.2.2.1). Where there is none, the fault is at 0; where it has
+/// another type, at its name.
 #[test]
 fn entry(rt: HostRuntime) -> Result<(), Fail> {
     for text in [

@@ -169,8 +169,8 @@ fn jumps(rt: HostRuntime) -> Result<(), Fail> {
 }
 
 /// What means something in filters, `__except` blocks and `__finally` blocks alone (Microsoft C
-/// reference, "try-except statement", "try-finally statement"). A fault is at the name; of two there, as
-/// where the count of the arguments is wrong too, the earlier rule is told.
+/// reference, "try-except statement", "try-finally statement"). A fault is at the name; of two
+/// there, as where the count of the arguments is wrong too, the earlier rule is told.
 #[test]
 fn filters(rt: HostRuntime) -> Result<(), Fail> {
     for text in [

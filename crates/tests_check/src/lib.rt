@@ -1,5 +1,6 @@
-//! Tests of the checker: texts that keep each rule of names, types and jumps at its edge, and texts that
-//! break it alone, with the rule and its place, by the C standard and the Microsoft C reference.
+//! Tests of the checker: texts that keep each rule of names, types and jumps at its edge, and texts
+//! that break it alone, with the rule and its place, by the C standard and the Microsoft C
+//! reference.
 #![tactic(auto)]
 
 #[cfg(test)]

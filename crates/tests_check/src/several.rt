@@ -5,8 +5,8 @@ use c_resolved::fault::Fault;
 use std::process::Abort;
 use std::test::Fail;
 
-/// Of several faults the one at the least place is told, and of those at one place the one whose rule
-/// is first. Where an operand holds a fault, no rule on types fails for the operator.
+/// Of several faults the one at the least place is told, and of those at one place the one whose
+/// rule is first. Where an operand holds a fault, no rule on types fails for the operator.
 #[test]
 fn several(rt: HostRuntime) -> Result<(), Fail> {
     for (text, fault, at) in [

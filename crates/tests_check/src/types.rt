@@ -5,9 +5,9 @@ use c_resolved::fault::Fault;
 use std::process::Abort;
 use std::test::Fail;
 
-/// Implicit conversions (C11, 6.3): between integers, between pointers of one type, between a pointer
-/// and one to void, and of a literal 0 to a pointer. A fault is at the converted expression's first
-/// token.
+/// Implicit conversions (C11, 6.3): between integers, between pointers of one type, between a
+/// pointer and one to void, and of a literal 0 to a pointer. A fault is at the converted
+/// expression's first token.
 #[test]
 fn conversions(rt: HostRuntime) -> Result<(), Fail> {
     for text in [
@@ -217,8 +217,8 @@ fn branches(rt: HostRuntime) -> Result<(), Fail> {
     Ok(())
 }
 
-/// Conditions are integers or pointers (C11, 6.8.4 and 6.8.5), and filters are integers. A fault of a
-/// condition is at the statement's keyword or the operator, one of a filter at its first token.
+/// Conditions are integers or pointers (C11, 6.8.4 and 6.8.5), and filters are integers. A fault of
+/// a condition is at the statement's keyword or the operator, one of a filter at its first token.
 #[test]
 fn conditions(rt: HostRuntime) -> Result<(), Fail> {
     for text in [
@@ -287,8 +287,8 @@ fn conditions(rt: HostRuntime) -> Result<(), Fail> {
     Ok(())
 }
 
-/// Calls (C11, 6.5.2.2). A fault of their number is at the name, and one of an argument at its first
-/// token.
+/// Calls (C11, 6.5.2.2). A fault of their number is at the name, and one of an argument at its
+/// first token.
 #[test]
 fn calls(rt: HostRuntime) -> Result<(), Fail> {
     for text in [

@@ -1,5 +1,5 @@
-//! Tests of the front end: texts with their tokens, types, expressions, statements and programs, and
-//! what is refused, by the C standard and the Microsoft C reference.
+//! Tests of the front end: texts with their tokens, types, expressions, statements and programs,
+//! and what is refused, by the C standard and the Microsoft C reference.
 #![tactic(auto)]
 
 #[cfg(test)]

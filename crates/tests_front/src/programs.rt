@@ -178,8 +178,8 @@ fn repeated(
     Ok(text)
 }
 
-/// 4,096 functions, 256 locals of a function, and 16,384 `__finally` blocks and filters that may refuse
-/// are within the limits, and one more is beyond. Filters that always accept aren't counted.
+/// 4,096 functions, 256 locals of a function, and 16,384 `__finally` blocks and filters that may
+/// refuse are within the limits, and one more is beyond. Filters that always accept aren't counted.
 #[test]
 fn counted(rt: HostRuntime) -> Result<(), Fail> {
     let many = |at, what| Some(ParseErr::TooMany { at, what });
@@ -224,8 +224,8 @@ fn counted(rt: HostRuntime) -> Result<(), Fail> {
     Ok(())
 }
 
-/// 64 statements and 64 expressions may stand around a statement or an expression, and one more makes it
-/// too deep.
+/// 64 statements and 64 expressions may stand around a statement or an expression, and one more
+/// makes it too deep.
 #[test]
 fn nested(rt: HostRuntime) -> Result<(), Fail> {
     let deep = |at| Some(ParseErr::TooDeep { at });

@@ -1,5 +1,5 @@
-//! Statements by the C standard's rules (C11, 6.8) and the Microsoft C reference, with the places of
-//! refusals: a fault is at the first token with which no program within the limits continues.
+//! Statements by the C standard's rules (C11, 6.8) and the Microsoft C reference, with the places
+//! of refusals: a fault is at the first token with which no program within the limits continues.
 
 use c_lex::lexing::lex;
 use c_parse_expr::refusal::ParseErr;
@@ -10,8 +10,8 @@ use std::alloc::Global;
 use std::process::Abort;
 use std::test::Fail;
 
-/// A block's items without expressions, after the opening brace: how many there are, and what is left
-/// of the counts.
+/// A block's items without expressions, after the opening brace: how many there are, and what is
+/// left of the counts.
 #[test]
 fn blocks(rt: HostRuntime) -> Result<(), Fail> {
     for (text, room, locals, funclets, found) in [
@@ -314,8 +314,8 @@ fn refusals_following_expressions(rt: HostRuntime) -> Result<(), Fail> {
     Ok(())
 }
 
-/// Where no filter may have a number, each text in a block is refused at the first token with which no
-/// filter continues that accepts whatever was raised.
+/// Where no filter may have a number, each text in a block is refused at the first token with which
+/// no filter continues that accepts whatever was raised.
 #[test]
 fn refusals_in_filters(rt: HostRuntime) -> Result<(), Fail> {
     let many = |at| ParseErr::TooMany {

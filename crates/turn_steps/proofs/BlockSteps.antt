@@ -17,7 +17,8 @@ use Rattle.linear_machine.specs.Run.{instruction_at}
 use Rattle.linear_machine.specs.Unwinding.{flag_of, begin_finally}
 use Rattle.linked_stack.specs.ImagePlan.{Plan}
 use Rattle.whole_runs.specs.Matched.{IsMatched}
-use Rattle.whole_runs.proofs.Matches.{LeadsTo, quietly_after, fails_at_once}
+use Rattle.whole_runs.specs.Comes.{LeadsTo}
+use Rattle.whole_runs.proofs.Matches.{quietly_after, fails_at_once}
 use Rattle.ir_typed.specs.Bodies.{IsFinally, IsInstructionOf, IsFuncletOf}
 use Rattle.body_states.specs.Sites.{Sites}
 use Rattle.body_states.specs.Bodies.{turns_left, Begins}

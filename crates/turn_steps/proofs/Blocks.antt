@@ -43,7 +43,7 @@ use Rattle.linked_stack.specs.Linked.{Activation, locals_of, IsActivation, large
 use Rattle.linked_stack.specs.States.{IsSane}
 use Rattle.whole_runs.specs.Shadow.{is_call, KeepsShadow, AllKeep}
 use Rattle.whole_runs.proofs.Shadows.{straight, keep_first}
-use Rattle.whole_runs.proofs.Matches.{LeadsTo}
+use Rattle.whole_runs.specs.Comes.{LeadsTo}
 use Rattle.body_states.specs.Sites.{Sites, begin_of, making_size, parent_base, keep_argument, arguments_code}
 use Rattle.body_states.specs.Programs.{HasProgram, IsMachineMemory, IsProgramImage}
 use Rattle.body_states.specs.Bodies.{Begins}

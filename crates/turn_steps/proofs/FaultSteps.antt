@@ -28,7 +28,7 @@ use Rattle.body_states.specs.Bodies.{turns_left, Begins}
 use Rattle.body_steps.specs.Known.{IsWellMade, IsKnown, KnownNext}
 use Rattle.body_steps.specs.Laws.{pace}
 use Rattle.body_steps.proofs.Running.{each}
-use Rattle.body_steps.proofs.Steps.{plain}
+use Rattle.body_steps.proofs.Steps.{within_body}
 use Rattle.body_steps.proofs.Around.{some_is, label_in, body_there}
 use Rattle.turn_steps.specs.FuncletEntries.{FlagsFit}
 use Rattle.turn_steps.specs.Outcomes.{WorksOn, Stands}
@@ -121,7 +121,7 @@ module _ (t : Functions) (fs : List Funclet) (program : LinearProgram) (p : Plan
         → IsMatched t fs program pace turns_left (Stands t fs program p q) s c (instructions.Compute to o first second)
     from_beginning first second (Gives value m) h e rule next =
         begins_stands t fs program p q pace s c (instructions.Compute to o first second)
-        (plain t fs program p q image made s c (instructions.Compute to o first second) b known e (record { a = h.a; b = h.b; reads_first = h.reads_first; reads_second = h.reads_second; value = value; memory = m; gives = h.comes }) rule)
+        (within_body t fs program p q image made s c (instructions.Compute to o first second) b known e (record { a = h.a; b = h.b; reads_first = h.reads_first; reads_second = h.reads_second; value = value; memory = m; gives = h.comes }) rule)
     from_beginning first second (Raises code access) h e rule next =
         let i = instructions.Compute to o first second in
         let there = body_there (body_of program c.frame.body) c.frame.next i e in

@@ -29,8 +29,7 @@ use Rattle.x64_templates.proofs.Computes.{code_split, Begun, operands_run}
 use Rattle.linked_stack.specs.ImagePlan.{Plan, InCode}
 use Rattle.linked_stack.specs.States.{IsSane}
 use Rattle.whole_runs.specs.Shadow.{AllKeep}
-use Rattle.whole_runs.specs.Comes.{Comes}
-use Rattle.whole_runs.proofs.Matches.{LeadsTo}
+use Rattle.whole_runs.specs.Comes.{Comes, LeadsTo}
 use Rattle.ir_typed.specs.Ready as ready
 use Rattle.body_states.specs.Sites.{Sites}
 use Rattle.body_states.specs.Programs.{view_of, WorksAgain, IsProgramImage}

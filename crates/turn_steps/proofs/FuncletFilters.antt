@@ -36,7 +36,7 @@ use Rattle.linked_stack.specs.Linked.{Activation, locals_of, IsActivation, HasSp
 use Rattle.linked_stack.specs.WalkLaws.{context_below}
 use Rattle.linked_stack.specs.States.{IsSane, Arrives}
 use Rattle.whole_runs.specs.Shadow.{AllKeep}
-use Rattle.whole_runs.proofs.Matches.{LeadsTo}
+use Rattle.whole_runs.specs.Comes.{LeadsTo}
 use Rattle.body_states.specs.Sites.{Sites, parent_base, keep_argument}
 use Rattle.body_states.specs.Programs.{IsMachineMemory, IsProgramImage}
 use Rattle.body_states.specs.Bodies.{Begins}

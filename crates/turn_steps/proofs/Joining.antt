@@ -6,7 +6,7 @@ use Rattle.host_model.specs.declared.funclet.Funclet.{Funclet}
 use Rattle.linear_code.specs.Program.{LinearProgram}
 use Rattle.linear_machine.specs.Frames.{AfterCall, SameOperation, Configuration}
 use Rattle.linked_stack.specs.ImagePlan.{Plan}
-use Rattle.whole_runs.proofs.Matches.{LeadsTo}
+use Rattle.whole_runs.specs.Comes.{LeadsTo}
 use Rattle.body_states.specs.Sites.{Sites}
 use Rattle.body_states.specs.Bodies.{Begins}
 use Rattle.turn_steps.specs.Outcomes.{Stands}

@@ -22,7 +22,7 @@ use Rattle.linked_stack.specs.Unwinding.{store_of, on_top}
 use Rattle.linked_stack.specs.States.{IsSane}
 use Rattle.linked_stack.specs.TurnLaws.{IsUnwinding}
 use Rattle.linked_stack.specs.Unwinds.{landing_value, landing_events, Unwound, LandsThere}
-use Rattle.whole_runs.proofs.Matches.{LeadsTo}
+use Rattle.whole_runs.specs.Comes.{LeadsTo}
 use Rattle.body_states.specs.Sites.{Sites}
 use Rattle.body_states.specs.Callers.{callers}
 use Rattle.body_states.specs.Programs.{IsMachineMemory, IsProgramImage}

@@ -18,10 +18,10 @@ use Rattle.linear_machine.specs.Frames.{Configuration, Seen, Finished, Next, pic
 use Rattle.linear_machine.specs.Instructions.{act}
 use Rattle.linked_stack.specs.ImagePlan.{Plan}
 use Rattle.whole_runs.specs.Shadow.{KeepsShadow}
-use Rattle.whole_runs.specs.Comes.{IsLive, Comes}
+use Rattle.whole_runs.specs.Comes.{IsLive, Comes, LeadsTo}
 use Rattle.whole_runs.specs.Matched.{IsMatched}
 use Rattle.whole_runs.proofs.Turns.{comes_one}
-use Rattle.whole_runs.proofs.Matches.{LeadsTo, quietly_before, quietly_after}
+use Rattle.whole_runs.proofs.Matches.{quietly_before, quietly_after}
 use Rattle.body_states.specs.Sites.{Sites}
 use Rattle.body_states.specs.Bodies.{turns_left, Begins}
 use Rattle.body_steps.specs.Known.{KnownNext}

@@ -35,7 +35,7 @@ use Rattle.linked_stack.specs.Linked.{Activation, locals_of}
 use Rattle.linked_stack.specs.Records.{On}
 use Rattle.linked_stack.specs.Unwinding.{on_top}
 use Rattle.linked_stack.specs.States.{IsSane}
-use Rattle.whole_runs.proofs.Matches.{LeadsTo}
+use Rattle.whole_runs.specs.Comes.{LeadsTo}
 use Rattle.ir_typed.specs.Depths.{depth_at, depth_in}
 use Rattle.ir_typed.proofs.Scans.{depth_next}
 use Rattle.body_states.specs.Layouts.{IsLayoutIf, IsLaidOut}

@@ -5,6 +5,7 @@ use Rattle.x64_machine.specs.Effect.{State, register}
 use Rattle.virtual_unwind.specs.CallerOf.{Functions}
 use Rattle.host_model.specs.declared.funclet.Funclet.{Funclet}
 use Rattle.c_model.specs.State.{Exception}
+use Rattle.c_model.specs.declared.depth.TheConstants.{DEEPEST}
 use Rattle.linear_code.specs.declared.program.Region.{Region}
 use Rattle.linear_code.specs.declared.instruction.Instruction.TheVariants as instructions
 use Rattle.linear_code.specs.Program.{LinearProgram, LinearBody, LinearFunclet}
@@ -14,7 +15,7 @@ use Rattle.linear_machine.specs.Unwinding.{flag_of, begin_finally}
 use Rattle.linked_stack.specs.ImagePlan.{Plan}
 use Rattle.linked_stack.specs.Linked.{Activation, locals_of}
 use Rattle.linked_stack.specs.States.{Arrives}
-use Rattle.whole_runs.proofs.Matches.{LeadsTo}
+use Rattle.whole_runs.specs.Comes.{LeadsTo}
 use Rattle.body_states.specs.Sites.{Sites}
 use Rattle.body_states.specs.Programs.{IsMachineMemory}
 use Rattle.body_states.specs.Bodies.{Begins}
@@ -41,7 +42,7 @@ module _ (t : Functions) (fs : List Funclet) (program : LinearProgram) (p : Plan
       → Arrives t fs program p s k handler.activation argument (Searches exception resumption handler rest ∷ Waits c.frame ∷ c.below) acts
       → register s.cpu Rcx ≡ register s.cpu Rsp + 88 → handler.filter ≡ Some k
       → IsMachineMemory t fs program p q s.memory c.store.memory → c.store.activations ≡ locals_of acts
-      → nat_lt 1000 (length c.store.activations + c.frame.held + 2) ≡ false
+      → nat_lt DEEPEST (length c.store.activations + c.frame.held + 2) ≡ false
       → IsKnown program (begin_filter k handler rest exception resumption c)
       → LeadsTo t fs entry_turns (Begins t fs program p q) s (begin_filter k handler rest exception resumption c)
 
@@ -52,6 +53,6 @@ module _ (t : Functions) (fs : List Funclet) (program : LinearProgram) (p : Plan
       → Arrives t fs program p s k c.frame.activation 1 (Unwinds rest target ∷ Waits c.frame ∷ c.below) acts
       → flag_of (slice_get program.funclets k) ≡ Some flag
       → IsMachineMemory t fs program p q s.memory c.store.memory → c.store.activations ≡ locals_of acts
-      → nat_lt 1000 (length c.store.activations + target.held + 2) ≡ false
+      → nat_lt DEEPEST (length c.store.activations + target.held + 2) ≡ false
       → IsKnown program (begin_finally k flag true target.held (Unwinds rest target ∷ Waits c.frame ∷ c.below) c)
       → LeadsTo t fs entry_turns (Begins t fs program p q) s (begin_finally k flag true target.held (Unwinds rest target ∷ Waits c.frame ∷ c.below) c)

@@ -11,12 +11,13 @@ use Rattle.host_model.specs.declared.funclet.Funclet.{Funclet}
 use Rattle.host_model.specs.Turns.{Turn, Continues, Ends}
 use Rattle.host_model.specs.Funclets.{arrivals}
 use Rattle.c_model.specs.declared.ended.Ended.TheVariants as source
+use Rattle.c_model.specs.declared.depth.TheConstants.{DEEPEST}
 use Rattle.linear_code.specs.Program.{LinearProgram}
 use Rattle.linear_machine.specs.Frames.{Item, Waits, Searches, Unwinds, Store, Configuration, Seen, Finished, Next, deeper}
 use Rattle.linked_stack.specs.ImagePlan.{Plan}
 use Rattle.linked_stack.specs.States.{IsSane}
 use Rattle.whole_runs.specs.Shadow.{drop_below, started, WalkGives, KeepsShadow}
-use Rattle.whole_runs.proofs.Matches.{LeadsTo}
+use Rattle.whole_runs.specs.Comes.{LeadsTo}
 use Rattle.body_states.specs.Sites.{Sites}
 use Rattle.body_states.specs.Programs.{WorksAgain, IsMachineMemory}
 use Rattle.body_states.specs.Bodies.{InBody, Begins, turns_left}
@@ -73,12 +74,12 @@ module _ (t : Functions) (fs : List Funclet) (program : LinearProgram) (p : Plan
     pub more : ℕ
     pub held : ℕ
     pub store : Store
-    pub few : nat_lt 1000 (length store.activations + held + more) ≡ false → turns_left configuration ≤ left
+    pub few : nat_lt DEEPEST (length store.activations + held + more) ≡ false → turns_left configuration ≤ left
     pub acts : (next : Next) → seen next ≡ deeper more held store es (next configuration)
     pub shown : configuration.events ≡ es ++ event ∷ []
     pub arrives : arrivals state.cpu (distance t.base state.cpu.rip) 1 fs ≡ event ∷ []
     pub walk : WalkGoesOn shadow state (event ∷ [])
-    pub leads : nat_lt 1000 (length store.activations + held + more) ≡ false → IsKnown program configuration → LeadsTo t fs entry_turns Stands state configuration
+    pub leads : nat_lt DEEPEST (length store.activations + held + more) ≡ false → IsKnown program configuration → LeadsTo t fs entry_turns Stands state configuration
 
   -- or nobody handles the exception
   pub record EndsRun (turn : Turn) (seen : Next → Seen) (es : List Event) : Type 0 where

@@ -14,7 +14,7 @@ use Rattle.linked_stack.specs.ImagePlan.{Plan}
 use Rattle.linked_stack.specs.Linked.{Activation, locals_of}
 use Rattle.linked_stack.specs.Records.{On}
 use Rattle.linked_stack.specs.States.{IsSane}
-use Rattle.whole_runs.proofs.Matches.{LeadsTo}
+use Rattle.whole_runs.specs.Comes.{LeadsTo}
 use Rattle.body_states.specs.Sites.{Sites}
 use Rattle.body_states.specs.Programs.{IsMachineMemory}
 use Rattle.body_steps.specs.Known.{IsKnown}

@@ -23,7 +23,8 @@ AreLocalsAlike ms vs ws = ⊥
 -- as many activations, one by one
 abbrev pub AreActivationsAlike : Marks → List (List ℕ) → List (List ℕ) → Type 0
 AreActivationsAlike [] [] [] = Unit {0}
-AreActivationsAlike (ms ∷ marks) (vs ∷ xs) (ws ∷ ys) = AreLocalsAlike ms vs ws × AreActivationsAlike marks xs ys
+AreActivationsAlike (ms ∷ marks) (vs ∷ xs) (ws ∷ ys) =
+    AreLocalsAlike ms vs ws × AreActivationsAlike marks xs ys
 AreActivationsAlike marks xs ys = ⊥
 
 -- the same but for locals that haven't been set
@@ -35,9 +36,19 @@ pub record AreAlike (marks : Marks) (c d : Configuration) : Type 0 where
   pub activations : AreActivationsAlike marks c.store.activations d.store.activations
 
 -- a function begins: its arguments are its first locals, and the others are these numbers
-abbrev pub freshly : ℕ → LinearFunction → List ℕ → List ℕ → ℕ → List Item → Store → List Event → Configuration
+abbrev pub freshly : ℕ → LinearFunction → List ℕ → List ℕ → ℕ → List Item → Store → List Event
+    → Configuration
 freshly f function arguments values held below store es = record {
-  frame = record { body = FunctionBody f; next = 0; activation = length store.activations; exception = no_exception; held = held; temporaries = []; landed = None };
+  frame =
+      record {
+        body = FunctionBody f;
+        next = 0;
+        activation = length store.activations;
+        exception = no_exception;
+        held = held;
+        temporaries = [];
+        landed = None;
+      };
   below = below;
   store = record store { activations = store.activations ++ (arguments ++ values) ∷ [] };
   events = es;
@@ -52,10 +63,15 @@ module _ (program : LinearProgram) (i : Instruction) (marks : Marks) (c d : Conf
     pub other : (next : Next) → act program i next d ≡ next d'
     pub alike : AreAlike (next_marks program i c c' marks) c' d'
 
-  -- each goes where the other goes, and ends where the other ends; what is seen of one turn is the same
+  -- each goes where the other goes, and ends where the other ends; what is seen of one turn is the
+  -- same
   pub record GoAlike : Type 0 where
-    pub forth : (c' : Configuration) → ((next : Next) → act program i next c ≡ next c') → (d' : Configuration) × GoTo c' d'
-    pub back : (d' : Configuration) → ((next : Next) → act program i next d ≡ next d') → (c' : Configuration) × GoTo c' d'
-    pub end : (seen : Seen) → ((next : Next) → act program i next c ≡ seen) → (next : Next) → act program i next d ≡ seen
-    pub back_end : (seen : Seen) → ((next : Next) → act program i next d ≡ seen) → (next : Next) → act program i next c ≡ seen
+    pub forth : (c' : Configuration) → ((next : Next) → act program i next c ≡ next c')
+        → (d' : Configuration) × GoTo c' d'
+    pub back : (d' : Configuration) → ((next : Next) → act program i next d ≡ next d')
+        → (c' : Configuration) × GoTo c' d'
+    pub end : (seen : Seen) → ((next : Next) → act program i next c ≡ seen) → (next : Next)
+        → act program i next d ≡ seen
+    pub back_end : (seen : Seen) → ((next : Next) → act program i next d ≡ seen) → (next : Next)
+        → act program i next c ≡ seen
     pub seen : act program i (exec program 0) d ≡ act program i (exec program 0) c

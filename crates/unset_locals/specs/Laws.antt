@@ -20,55 +20,86 @@ use Rattle.unset_locals.specs.Reads.{ReadsSet, start_marks, IsMarked}
 
 -- an instruction that reads locals alone that have been set leads from alike to alike
 abbrev pub StepsAreAlike : Type 0
-StepsAreAlike = (program : LinearProgram) (i : Instruction) (marks : Marks) (c d : Configuration) → AreAlike marks c d → ReadsSet marks c i → GoAlike program i marks c d
+StepsAreAlike =
+    (program : LinearProgram) (i : Instruction) (marks : Marks) (c d : Configuration)
+    → AreAlike marks c d → ReadsSet marks c i → GoAlike program i marks c d
 
--- the function that a call begins, and the same with other numbers in the locals after its arguments
-module _ (c d : Configuration) (f first : ℕ) (function : LinearFunction) (arguments values : List ℕ) where
+-- the function that a call begins, and the same with other numbers in the locals after its
+-- arguments
+module _ (c d : Configuration) (f first : ℕ) (function : LinearFunction)
+    (arguments values : List ℕ) where
   abbrev pub called : Configuration
-  called = begin_function f function arguments c.frame.held (Waits (waiting c first).frame ∷ c.below) c.store c.events
+  called =
+      begin_function f function arguments c.frame.held
+      (Waits (waiting c first).frame ∷ c.below) c.store c.events
 
   abbrev pub called_with : Configuration
-  called_with = freshly f function arguments values d.frame.held (Waits (waiting d first).frame ∷ d.below) d.store d.events
+  called_with =
+      freshly f function arguments values d.frame.held
+      (Waits (waiting d first).frame ∷ d.below) d.store d.events
 
 abbrev pub CallsAreAlike : Type 0
-CallsAreAlike = (program : LinearProgram) (marks : Marks) (c d : Configuration) (f first count : ℕ) (function : LinearFunction) (arguments values : List ℕ)
-    → AreAlike marks c d → last_temporaries c.frame.temporaries first count ≡ Some arguments → slice_get program.functions f ≡ Some function
+CallsAreAlike =
+    (program : LinearProgram) (marks : Marks) (c d : Configuration) (f first count : ℕ)
+    (function : LinearFunction) (arguments values : List ℕ)
+    → AreAlike marks c d → last_temporaries c.frame.temporaries first count ≡ Some arguments
+    → slice_get program.functions f ≡ Some function
     → length values ≡ function.body.locals - function.parameters
-    → AreAlike (next_marks program (instructions.Call f first count) c (called c d f first function arguments values) marks)
-    (called c d f first function arguments values) (called_with c d f first function arguments values)
+    → AreAlike (next_marks program (instructions.Call f first count) c
+    (called c d f first function arguments values) marks)
+    (called c d f first function arguments values)
+    (called_with c d f first function arguments values)
 
 -- `main` with other numbers in the locals after its arguments
 abbrev pub started_with : LinearProgram → ℤ → LinearFunction → List ℕ → Configuration
 started_with program arg main values =
-    freshly program.main main (main_arguments main.parameters arg) values 0 [] (record { memory = first_memory program.globals; activations = [] }) []
+    freshly program.main main (main_arguments main.parameters arg) values 0 []
+    (record { memory = first_memory program.globals; activations = [] }) []
 
 abbrev pub StartsAreAlike : Type 0
-StartsAreAlike = (program : LinearProgram) (arg : ℤ) (main : LinearFunction) (values : List ℕ) → length values ≡ main.body.locals - main.parameters
-    → AreAlike (start_marks program arg main) (start program arg main) (started_with program arg main values)
+StartsAreAlike =
+    (program : LinearProgram) (arg : ℤ) (main : LinearFunction) (values : List ℕ)
+    → length values ≡ main.body.locals - main.parameters
+    → AreAlike (start_marks program arg main) (start program arg main)
+    (started_with program arg main values)
 
 -- ---- runs with their marks
 
 abbrev pub MarkedIsReached : Type 0
-MarkedIsReached = (program : LinearProgram) (c : Configuration) (marks : Marks) → IsMarked program c marks → IsReached program c
+MarkedIsReached =
+    (program : LinearProgram) (c : Configuration) (marks : Marks) → IsMarked program c marks
+    → IsReached program c
 
 abbrev pub MarkedGoesOn : Type 0
-MarkedGoesOn = (program : LinearProgram) (c d : Configuration) (marks : Marks) → IsMarked program c marks → (turn : IsTurn program c d)
+MarkedGoesOn =
+    (program : LinearProgram) (c d : Configuration) (marks : Marks) → IsMarked program c marks
+    → (turn : IsTurn program c d)
     → IsMarked program d (next_marks program turn.instruction c d marks)
 
 -- ---- what holds of one holds of the other
 
 abbrev pub AlikeGoesOn : Type 0
-AlikeGoesOn = (program : LinearProgram) (marks : Marks) (c d : Configuration) → AreAlike marks c d → CanGoOn program c → CanGoOn program d
+AlikeGoesOn =
+    (program : LinearProgram) (marks : Marks) (c d : Configuration) → AreAlike marks c d
+    → CanGoOn program c → CanGoOn program d
 
 abbrev pub AlikeIsStacked : Type 0
-AlikeIsStacked = (program : LinearProgram) (marks : Marks) (c d : Configuration) → AreAlike marks c d → IsStacked program c → IsStacked program d
+AlikeIsStacked =
+    (program : LinearProgram) (marks : Marks) (c d : Configuration) → AreAlike marks c d
+    → IsStacked program c → IsStacked program d
 
 abbrev pub AlikeHasActivations : Type 0
-AlikeHasActivations = (program : LinearProgram) (marks : Marks) (c d : Configuration) → AreAlike marks c d → HasActivations program c → HasActivations program d
+AlikeHasActivations =
+    (program : LinearProgram) (marks : Marks) (c d : Configuration) → AreAlike marks c d
+    → HasActivations program c → HasActivations program d
 
 abbrev pub AlikeHasDepths : Type 0
-AlikeHasDepths = (program : LinearProgram) (marks : Marks) (c d : Configuration) → AreAlike marks c d → HasDepths program c → HasDepths program d
+AlikeHasDepths =
+    (program : LinearProgram) (marks : Marks) (c d : Configuration) → AreAlike marks c d
+    → HasDepths program c → HasDepths program d
 
 -- where its locals are numbers of 64 bits
 abbrev pub AlikeIsSmall : Type 0
-AlikeIsSmall = (marks : Marks) (c d : Configuration) → AreAlike marks c d → AllByRecursion AreSmall d.store.activations → HasSmallNumbers c → HasSmallNumbers d
+AlikeIsSmall =
+    (marks : Marks) (c d : Configuration) → AreAlike marks c d
+    → AllByRecursion AreSmall d.store.activations → HasSmallNumbers c → HasSmallNumbers d

@@ -29,13 +29,15 @@ set_mark marks k x = slice_set marks k (slice_set (marks_of marks k) x true)
 
 -- in an activation that begins with so many arguments, these have been set
 abbrev pub first_marks : ℕ → LinearFunction → List Bool
-first_marks count function = replicate count true ++ replicate (function.body.locals - function.parameters) false
+first_marks count function =
+    replicate count true ++ replicate (function.body.locals - function.parameters) false
 
 -- ---- what a step sets
 
 -- what an operation leads to, where its operands are there
 abbrev pub outcome_of : LinearProgram → Operation → Option ℕ → Option ℕ → Memory → Option Outcome
-outcome_of program o (Some a) (Some b) memory = Some (performed (is_reserved program.globals) o a b memory)
+outcome_of program o (Some a) (Some b) memory =
+    Some (performed (is_reserved program.globals) o a b memory)
 outcome_of program o a b memory = None
 
 abbrev pub local_in : Slot → Option ℕ
@@ -50,7 +52,8 @@ local_given outcome to = None
 -- the local that an instruction writes
 abbrev pub local_written : LinearProgram → Instruction → Configuration → Option ℕ
 local_written program (instructions.Compute to o first second) c =
-    local_given (outcome_of program o (operand (is_constant o) c first) (operand (is_constant o) c second) c.store.memory) to
+    local_given (outcome_of program o (operand (is_constant o) c first)
+    (operand (is_constant o) c second) c.store.memory) to
 local_written program (instructions.Information to field) c = local_in to
 local_written program (instructions.Landing to) c = local_in to
 local_written program i c = None
@@ -80,11 +83,13 @@ flag_set program false name = None
 -- a call begins an activation; otherwise those that are left have their marks
 abbrev pub marks_left : LinearProgram → Instruction → Configuration → Marks → Marks
 marks_left program (instructions.Call f first count) d marks =
-    elim (slice_get program.functions f) [ Some function ↦ marks ++ first_marks count function ∷ [] | None ↦ marks ]
+    elim (slice_get program.functions f)
+    [ Some function ↦ marks ++ first_marks count function ∷ [] | None ↦ marks ]
 marks_left program i d marks = take (length d.store.activations) marks
 
 -- the marks after a step by an instruction from c to d
 abbrev pub next_marks : LinearProgram → Instruction → Configuration → Configuration → Marks → Marks
 next_marks program i c d marks =
-    with_mark (flag_set program (begins_block (drop (length c.events) d.events)) d.frame.body) d.frame.activation
+    with_mark (flag_set program (begins_block (drop (length c.events) d.events)) d.frame.body)
+    d.frame.activation
     (with_mark (local_written program i c) c.frame.activation (marks_left program i d marks))

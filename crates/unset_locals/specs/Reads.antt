@@ -25,7 +25,8 @@ AreOperandsSet false marks k first second = IsSet marks k first × IsSet marks k
 
 -- each local that an instruction reads has been set
 abbrev pub ReadsSet : Marks → Configuration → Instruction → Type 0
-ReadsSet marks c (instructions.Compute to o first second) = AreOperandsSet (is_constant o) marks c.frame.activation first second
+ReadsSet marks c (instructions.Compute to o first second) =
+    AreOperandsSet (is_constant o) marks c.frame.activation first second
 ReadsSet marks c (instructions.JumpIfZero slot label) = IsSet marks c.frame.activation slot
 ReadsSet marks c (instructions.Return from) = IsSet marks c.frame.activation from
 ReadsSet marks c i = Unit {0}
@@ -37,7 +38,8 @@ module _ (program : LinearProgram) where
   abbrev pub ComesMarked : ℕ → Configuration → Marks → Configuration → Marks → Type 0
   ComesMarked zero c marks d ends = (c ≡ d) × (marks ≡ ends)
   ComesMarked (suc n) c marks d ends =
-      (e : Configuration) × (turn : IsTurn program c e) × ComesMarked n e (next_marks program turn.instruction c e marks) d ends
+      (e : Configuration) × (turn : IsTurn program c e)
+      × ComesMarked n e (next_marks program turn.instruction c e marks) d ends
 
   -- the arguments of `main` have been set
   abbrev pub start_marks : ℤ → LinearFunction → Marks
@@ -53,4 +55,6 @@ module _ (program : LinearProgram) where
 
   -- no run reads a local that hasn't been set
   abbrev pub ReadsNoUnset : Type 0
-  ReadsNoUnset = (c : Configuration) (marks : Marks) (i : Instruction) → IsMarked c marks → instruction_at program c ≡ Some i → ReadsSet marks c i
+  ReadsNoUnset =
+      (c : Configuration) (marks : Marks) (i : Instruction) → IsMarked c marks
+      → instruction_at program c ≡ Some i → ReadsSet marks c i

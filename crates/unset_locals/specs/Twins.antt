@@ -1,6 +1,8 @@
--- The configuration that linear code is in, and the one that a machine shows that doesn't clear the locals of a function that begins.
+-- The configuration that linear code is in, and the one that a machine shows that doesn't clear the
+-- locals of a function that begins.
 use Rattle.std.specs.Prelude.{◌≡◌, ℕ, ◌+◌, ◌-◌, nat_lt, false, List, [], ◌∷◌, length, slice_get, ℤ, Some}
 use Rattle.std.specs.List.{AllByRecursion}
+use Rattle.c_model.specs.declared.depth.TheConstants.{DEEPEST}
 use Rattle.linear_code.specs.declared.instruction.Instruction.{Instruction}
 use Rattle.linear_code.specs.declared.instruction.Instruction.TheVariants as instructions
 use Rattle.linear_code.specs.Program.{LinearProgram, LinearFunction}
@@ -30,23 +32,37 @@ module _ (program : LinearProgram) where
   -- what the other does, linear code does
   pub record GoAsTwins (i : Instruction) (c d : Configuration) : Type 0 where
     pub at : instruction_at program c ≡ Some i
-    pub back : (d' : Configuration) → ((next : Next) → act program i next d ≡ next d') → GoesAsTwin i c d'
-    pub end : (seen : Seen) → ((next : Next) → act program i next d ≡ seen) → (next : Next) → act program i next c ≡ seen
+    pub back : (d' : Configuration) → ((next : Next) → act program i next d ≡ next d')
+        → GoesAsTwin i c d'
+    pub end : (seen : Seen) → ((next : Next) → act program i next d ≡ seen) → (next : Next)
+        → act program i next c ≡ seen
     pub seen : act program i (exec program 0) d ≡ act program i (exec program 0) c
 
 abbrev pub TwinsGoOn : Type 0
-TwinsGoOn = (program : LinearProgram) → ReadsNoUnset program → (c d : Configuration) → AreTwins program c d → (i : Instruction) → instruction_at program d ≡ Some i → GoAsTwins program i c d
+TwinsGoOn =
+    (program : LinearProgram) → ReadsNoUnset program → (c d : Configuration) → AreTwins program c d
+    → (i : Instruction) → instruction_at program d ≡ Some i → GoAsTwins program i c d
 
 -- a call that isn't too deep, and any numbers in the locals after its arguments
 abbrev pub TwinsCall : Type 0
-TwinsCall = (program : LinearProgram) (c d : Configuration) (f first count : ℕ) (function : LinearFunction) (arguments values : List ℕ) → AreTwins program c d
-    → instruction_at program d ≡ Some (instructions.Call f first count) → last_temporaries d.frame.temporaries first count ≡ Some arguments → slice_get program.functions f ≡ Some function
-    → nat_lt 1000 (length d.store.activations + d.frame.held + 1) ≡ false → length values ≡ function.body.locals - function.parameters → AreSmall values
-    → GoesAsTwin program (instructions.Call f first count) c (called_with c d f first function arguments values)
+TwinsCall =
+    (program : LinearProgram) (c d : Configuration) (f first count : ℕ) (function : LinearFunction)
+    (arguments values : List ℕ) → AreTwins program c d
+    → instruction_at program d ≡ Some (instructions.Call f first count)
+    → last_temporaries d.frame.temporaries first count ≡ Some arguments
+    → slice_get program.functions f ≡ Some function
+    → nat_lt DEEPEST (length d.store.activations + d.frame.held + 1) ≡ false
+    → length values ≡ function.body.locals - function.parameters → AreSmall values
+    → GoesAsTwin program (instructions.Call f first count) c
+    (called_with c d f first function arguments values)
 
 abbrev pub TwinsStart : Type 0
-TwinsStart = (program : LinearProgram) (arg : ℤ) (main : LinearFunction) (values : List ℕ) → slice_get program.functions program.main ≡ Some main
-    → length values ≡ main.body.locals - main.parameters → AreSmall values → AreTwins program (start program arg main) (started_with program arg main values)
+TwinsStart =
+    (program : LinearProgram) (arg : ℤ) (main : LinearFunction) (values : List ℕ)
+    → slice_get program.functions program.main ≡ Some main
+    → length values ≡ main.body.locals - main.parameters → AreSmall values
+    → AreTwins program (start program arg main) (started_with program arg main values)
 
 abbrev pub TwinsAreSmall : Type 0
-TwinsAreSmall = (program : LinearProgram) (c d : Configuration) → AreTwins program c d → HasSmallNumbers d
+TwinsAreSmall =
+    (program : LinearProgram) (c d : Configuration) → AreTwins program c d → HasSmallNumbers d

@@ -1,6 +1,7 @@
 -- The trailing parts of a legal epilogue, as the machine fetches them, and what they do to a context (Microsoft x64 ABI, "Prolog and epilog").
 use Rattle.std.specs.Prelude.{ℕ, zero, suc, ◌+◌, ◌/◌, ◌%◌, ◌^◌, Bool, true, false, ◌==◌, if◌then◌else◌, List, [], ◌∷◌, Option, Some, None, Ok, slice_index}
 use Rattle.seh_num.specs.declared.width.Width.TheVariants.{W64}
+use Rattle.seh_num.specs.declared.size.TheConstants.{LONGEST_INSTRUCTION}
 use Rattle.flat_memory.specs.Memory.{Memory, executable}
 use Rattle.x64_instr.specs.declared.register.Reg.TheVariants.{Rsp}
 use Rattle.x64_instr.specs.declared.operand.Base.{Base}
@@ -44,7 +45,7 @@ item_of bytes None = None
 item_of bytes (Some x) = Some (record { instr = x.0; size = x.1; plain = is_plain bytes x.1 x.0 })
 
 unfoldable pub fetched_at : Memory → ℕ → Option FetchedInstr
-fetched_at m at = item_of (executable m 15 at) (leading (executable m 15 at))
+fetched_at m at = item_of (executable m LONGEST_INSTRUCTION at) (leading (executable m LONGEST_INSTRUCTION at))
 
 -- ---- what an instruction is to an epilogue
 

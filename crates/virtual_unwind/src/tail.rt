@@ -9,6 +9,7 @@ ghost use Rattle.virtual_unwind.specs.After.{after};
 use crate::kept::{get, rsp, rsp_raised, with, with_rsp};
 use crate::refusal::UnwindErr;
 use crate::word::{pop, word};
+use seh_num::size::LONGEST_INSTRUCTION;
 use seh_num::width::Width;
 use x64_instr::decoding::decode;
 use x64_instr::instruction::{Instr, Operation, Target};
@@ -137,7 +138,7 @@ fn part<S: AddressSpace>(
 ) -> Option<(Instr, usize, bool)>
     ensures { result ≡ parts.part register first (S.memory space.now) at }
 {
-    let mut bytes = [0; 15];
+    let mut bytes = [0; LONGEST_INSTRUCTION];
     let count = space.fetch(at, &mut bytes);
     let fetched = &bytes[..count];
     match decode(fetched) {

@@ -13,7 +13,7 @@ use Rattle.linear_code.specs.declared.instruction.Instruction.{Instruction}
 use Rattle.linear_code.specs.Program.{LinearProgram}
 use Rattle.linear_machine.specs.Frames.{Store, Configuration, Finished, Next, pick, deeper}
 use Rattle.linear_machine.specs.Instructions.{act}
-use Rattle.whole_runs.specs.Comes.{Comes}
+use Rattle.whole_runs.specs.Comes.{Comes, LeadsTo}
 use Rattle.whole_runs.specs.Matched.{Fails, IsMatched}
 use Rattle.whole_runs.proofs.Turns.{comes_nowhere, comes_then}
 
@@ -24,14 +24,6 @@ module _ (t : Functions) (fs : List Funclet) where
 
   pub quietly_after : (k n : ℕ) (s u w : State) (events : List Event) → Comes t fs k s events u → Comes t fs n u [] w → Comes t fs (k + n) s events w
   quietly_after k n s u w events p q = subst (λ es. Comes t fs (k + n) s es w) (append-nil events) (comes_then t fs k n s u w events [] p q)
-
--- where a state leads to, by at most so many turns that show nothing
-pub record LeadsTo (t : Functions) (fs : List Funclet) (most : ℕ) (Stands : State → Configuration → Type 0) (s : State) (c : Configuration) : Type 0 where
-  pub turns : ℕ
-  pub few : turns ≤ most
-  pub state : State
-  pub comes : Comes t fs turns s [] state
-  pub stands : Stands state c
 
 module _ (t : Functions) (fs : List Funclet) (program : LinearProgram) (credit : Configuration → ℕ) where
   -- a step that ends with no event of its own

@@ -1,11 +1,12 @@
 -- Turns of the machine one after another.
-use Rattle.std.specs.Prelude.{◌≡◌, ℕ, zero, suc, ◌==◌, false, List, [], ◌++◌}
+use Rattle.std.specs.Prelude.{◌≡◌, ℕ, zero, suc, ◌==◌, ◌≤◌, false, List, [], ◌++◌}
 use Rattle.seh_num.specs.declared.event.Event.{Event}
 use Rattle.x64_machine.specs.Effect.{State}
 use Rattle.virtual_unwind.specs.CallerOf.{Functions}
 use Rattle.host_model.specs.declared.funclet.Funclet.{Funclet}
 use Rattle.host_model.specs.Turns.{Continues}
 use Rattle.host_model.specs.HostStep.{turn}
+use Rattle.linear_machine.specs.Frames.{Configuration}
 use Rattle.whole_runs.specs.Shadow.{KeepsShadow}
 
 -- a run has not ended in this state
@@ -27,3 +28,11 @@ pub record Turns (t : Functions) (fs : List Funclet) (s : State) (events : List 
 abbrev pub Comes : Functions → List Funclet → ℕ → State → List Event → State → Type 0
 Comes t fs zero s events u = (events ≡ []) × (s ≡ u)
 Comes t fs (suc n) s events u = Turns t fs s events (λ others v. Comes t fs n v others u)
+
+-- a state leads, in at most so many turns that show nothing, to one that stands for a configuration
+pub record LeadsTo (t : Functions) (fs : List Funclet) (most : ℕ) (Stands : State → Configuration → Type 0) (s : State) (c : Configuration) : Type 0 where
+  pub turns : ℕ
+  pub few : turns ≤ most
+  pub state : State
+  pub comes : Comes t fs turns s [] state
+  pub stands : Stands state c

@@ -1,7 +1,8 @@
--- The shadow of a run: of each routine that has not returned, innermost first, what its caller goes on with. It is kept by what each turn does, with no look at unwind information.
+-- The shadow of a run: of each routine that has not returned, innermost first, what its caller goes on with. It is kept by what each turn does, with no look at unwind codes: of the tables it takes the funclets alone, which scope records name, to know where one starts.
 use Rattle.std.specs.Prelude.{◌≡◌, ℕ, zero, suc, ◌+◌, ◌≤◌, Bool, true, false, nat_lt, List, [], ◌∷◌, map, drop, option_map, Option, Some, None, Result, Ok, Err, slice_set}
 use Rattle.seh_num.specs.declared.event.Event.{Event}
 use Rattle.seh_num.specs.declared.event.Event.TheVariants as events
+use Rattle.seh_num.specs.declared.size.TheConstants.{LONGEST_INSTRUCTION}
 use Rattle.host_layout.specs.declared.service.Service.{Service}
 use Rattle.host_layout.specs.declared.service.Service.TheVariants as services
 use Rattle.host_layout.specs.Services.{service_at}
@@ -28,6 +29,7 @@ abbrev pub caller_at : State → Context
 caller_at s = record { rip = number_at s.memory.byte 8 (register s.cpu Rsp); kept = slice_set (context_of s.cpu).kept 0 (register s.cpu Rsp + 8) }
 
 -- the routines that were entered below a stack pointer are gone: their return addresses were 8 bytes below where their callers go on
+-- (the stack pointers of the list rise from the first entry on, so those to drop are the first)
 abbrev pub if_below : List Context → List Context → Bool → List Context
 if_below others cs true = others
 if_below others cs false = cs
@@ -63,7 +65,7 @@ served o cs = cs
 
 -- by what is at RIP: an instruction, a service of the host or one of its return addresses, an instruction that faults
 abbrev pub by_step : State → State → List Event → List Context → Answer State → List Context
-by_step s u es cs (Ok v) = entered u cs (is_call (leading (executable s.memory 15 s.cpu.rip)))
+by_step s u es cs (Ok v) = entered u cs (is_call (leading (executable s.memory LONGEST_INSTRUCTION s.cpu.rip)))
 by_step s u es cs (Err (stops.Host a)) = started u es (served (service_at a) cs)
 by_step s u es cs (Err e) = started u es cs
 

@@ -1,5 +1,8 @@
-//! Whole runs of the machine against whole runs of linear code: what turns of the machine show for a step
-//! of linear code adds up to what a run shows, with every event and end and with no other.
+//! Whole runs of the machine against whole runs of linear code: what turns of the machine show for
+//! a step of linear code adds up to what a run shows, with every event and end and with no other.
+//!
+//! Proved: `laws::laws`. Begin with `specs/Matched.antt` (a step and its turns) and
+//! `specs/Shadow.antt` (the list of live frames, and what keeps it).
 #![tactic(auto)]
 
 pub mod laws;

@@ -23,8 +23,10 @@ abbrev pub visible : Bool → List Event → List Event
 visible true es = es
 visible false es = numbers es
 
--- no rule is broken; what the program is resolved to is sound; within n steps it shows these events and ends so
-pub record Prints (text : List ℕ) (program : List ExternalDeclaration) (trace : Bool) (arg : ℤ) (n : ℕ) (es : List Event) (end : Ended) : Type 0 where
+-- no rule is broken; what the program is resolved to is sound; within n steps it shows these events
+-- and ends so
+pub record Prints (text : List ℕ) (program : List ExternalDeclaration) (trace : Bool) (arg : ℤ)
+    (n : ℕ) (es : List Event) (end : Ended) : Type 0 where
   pub faults : (resolve text program).faults ≡ []
   pub sound : is_sound (resolve text program).program ≡ true
   pub prints : visible trace (meaning (resolve text program).program arg n).events ≡ es
@@ -32,4 +34,5 @@ pub record Prints (text : List ℕ) (program : List ExternalDeclaration) (trace 
 
 -- one rule is broken, at this place
 abbrev pub IsRefused : List ℕ → List ExternalDeclaration → Fault → ℕ → Type 0
-IsRefused text program fault at = (resolve text program).faults ≡ record { at = at; fault = fault } ∷ []
+IsRefused text program fault at =
+    (resolve text program).faults ≡ record { at = at; fault = fault } ∷ []

@@ -1,6 +1,8 @@
 -- What an instruction of 32-bit displacements reaches.
 use Rattle.std.specs.Prelude.{ℕ, ◌+◌, ◌*◌, ◌^◌, ◌<◌, ◌≤◌, List, Option, Some, None}
 use Rattle.std.specs.List.{AllByRecursion}
+use Rattle.seh_num.specs.declared.limit.TheConstants.{MOST_PARAMETERS}
+use Rattle.seh_num.specs.declared.size.TheConstants.{EXCEPTION_MAXIMUM_PARAMETERS}
 use Rattle.c_operations.specs.declared.field.Field.{Field}
 use Rattle.c_operations.specs.declared.field.Field.TheVariants.{ExceptionInformation}
 use Rattle.linear_code.specs.declared.slot.Slot.{Slot}
@@ -29,7 +31,7 @@ IsSlotNear y (Local i) = (local_at y i < 2 ^ 30) × IsBaseNear y.base
 
 -- at most eight arguments, and at least the four temporaries from the first on
 pub record AreArgumentsNear (y : Layout) (first count : ℕ) : Type 0 where
-  pub few : count ≤ 8
+  pub few : count ≤ MOST_PARAMETERS
   pub temporaries : temporary_at y (first + 8) < 2 ^ 30
 
 abbrev pub IsFrameNear : Layout → Type 0
@@ -46,12 +48,14 @@ ArePointersNear y = y.pointers < 2 ^ 30
 -- ---- instructions
 
 abbrev pub IsFieldNear : Field → Type 0
-IsFieldNear (ExceptionInformation k) = k < 15
+IsFieldNear (ExceptionInformation k) = k < EXCEPTION_MAXIMUM_PARAMETERS
 IsFieldNear f = Unit {0}
 
 abbrev pub IsInstructionNear : Layout → Instruction → Type 0
-IsInstructionNear y (instructions.Compute to o first second) = IsSlotNear y to × IsSlotNear y first × IsSlotNear y second
-IsInstructionNear y (instructions.Information to field) = IsSlotNear y to × ArePointersNear y × IsFieldNear field
+IsInstructionNear y (instructions.Compute to o first second) =
+    IsSlotNear y to × IsSlotNear y first × IsSlotNear y second
+IsInstructionNear y (instructions.Information to field) =
+    IsSlotNear y to × ArePointersNear y × IsFieldNear field
 IsInstructionNear y (instructions.Landing to) = IsSlotNear y to
 IsInstructionNear y (instructions.JumpIfZero slot label) = IsSlotNear y slot
 IsInstructionNear y (instructions.Call function first count) = AreArgumentsNear y first count

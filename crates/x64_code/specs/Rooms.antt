@@ -12,7 +12,8 @@ slot_room (Local i) = 16
 
 -- a call passes at most eight arguments
 abbrev pub instruction_room : Instruction → ℕ
-instruction_room (instructions.Compute to o first second) = slot_room to + slot_room first + slot_room second + 11
+instruction_room (instructions.Compute to o first second) =
+    slot_room to + slot_room first + slot_room second + 11
 instruction_room (instructions.Information to field) = slot_room to + 24
 instruction_room (instructions.Landing to) = slot_room to
 instruction_room (instructions.Jump label) = 5

@@ -14,8 +14,8 @@ use linear_code::instruction::Instruction;
 use std::alloc::{AllocError, Global};
 use template_code::layout::Layout;
 
-/// Where each instruction of a body begins that begins at `start`. No template's size depends on where
-/// anything is.
+/// Where each instruction of a body begins that begins at `start`. No template's size depends on
+/// where anything is.
 pub fn labels_of(
     alloc: Global,
     layout: &Layout,

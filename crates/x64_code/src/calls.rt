@@ -208,7 +208,8 @@ pub fn put_passing_call(
     put_call(code, layout, first, at, to)
 }
 
-/// Adds what a `__finally` block is called with at the normal end of its body: a flag of 0 and the base.
+/// Adds what a `__finally` block is called with at the normal end of its body: a flag of 0 and the
+/// base.
 fn put_finally_arguments(code: &mut Vec<u8>) -> Result<(), AllocError>
     ensures { OnOk result (code.new.items ≡ code.old.items ++ spelled spec.finally_arguments) }
 {

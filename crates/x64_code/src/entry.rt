@@ -65,7 +65,8 @@ fn touch(at: MemRef) -> Instr
     }
 }
 
-/// Adds `__chkstk`, which touches each page of a frame of at most 8,192 bytes, whose size is in RAX.
+/// Adds `__chkstk`, which touches each page of a frame of at most 8,192 bytes, whose size is in
+/// RAX.
 pub fn put_check_stack(code: &mut Vec<u8>) -> Result<(), AllocError>
     ensures { OnOk result (code.new.items ≡ code.old.items ++ spelled check_stack) }
 {
@@ -154,8 +155,8 @@ pub fn put_parameters(code: &mut Vec<u8>, layout: &Layout, count: u64) -> Result
     Ok(())
 }
 
-/// Adds what keeps the base of a function's frame, by the frame in RDX in which the funclet's region
-/// is: the function's own, or that of another funclet, which keeps the base at `parent`.
+/// Adds what keeps the base of a function's frame, by the frame in RDX in which the funclet's
+/// region is: the function's own, or that of another funclet, which keeps the base at `parent`.
 pub fn put_keep_base(code: &mut Vec<u8>, parent: Option<u64>, base: u64) -> Result<(), AllocError>
     requires { entries.IsKeptNear parent base }
     ensures { OnOk result (Appended code.old (entries.keep_base parent base) code.new) }

@@ -1,8 +1,10 @@
 //! The machine code of bodies of linear code.
 //!
-//! [`template::put_instruction`] adds the template of one instruction, [`body::put_body`] those of a
-//! whole body, [`body::label_offsets`] says where each begins, and [`entry`] has what comes before a
-//! body. All addresses are relative to the image base.
+//! [`template::put_instruction`] adds the template of one instruction, [`body::put_body`] those of
+//! a whole body, [`body::labels_of`] says where each begins, and [`entry`] has what comes
+//! before a body. All addresses are relative to the image base.
+//!
+//! Proved: the bytes are those of the templates (crate template_code). Begin with `template`.
 #![tactic(auto)]
 
 pub mod body;

@@ -114,8 +114,8 @@ fn not_less(signedness: Signedness) -> Condition
     }
 }
 
-/// Adds a relation. Four are those of less and not less, with the operands the other way round for two
-/// of them.
+/// Adds a relation. Four are those of less and not less, with the operands the other way round for
+/// two of them.
 fn put_compare(
     code: &mut Vec<u8>,
     relation: Relation,

@@ -33,8 +33,8 @@ pub fn put_fetch(code: &mut Vec<u8>, layout: &Layout, to: Reg, slot: Slot) -> Re
     }
 }
 
-/// Adds what brings RAX to a slot. RCX is used on the way to the locals of a function from a filter or
-/// a `__finally` block.
+/// Adds what brings RAX to a slot. RCX is used on the way to the locals of a function from a filter
+/// or a `__finally` block.
 pub fn put_keep(code: &mut Vec<u8>, layout: &Layout, slot: Slot) -> Result<(), AllocError>
     requires { IsSlotNear layout.now slot }
     ensures { OnOk result (Appended code.old (spec.keep layout.now slot) code.new) }

@@ -1,4 +1,5 @@
--- The spelling that is written: REX only where it says something, displacements and immediates of one byte where that is enough, and no displacement left out.
+-- The spelling that is written: REX only where it says something, displacements and immediates of
+-- one byte where that is enough, and no displacement left out.
 use Rattle.std.specs.Prelude.{ℕ, zero, suc, ◌+◌, ◌-◌, ◌*◌, ◌/◌, ◌%◌, Bool, true, false, not, ◌==◌, ◌&&◌, ◌||◌, nat_lt, nat_le, if◌then◌else◌, List, [], ◌∷◌, ◌++◌, None, Some, Option, IsTrue, length}
 use Rattle.seh_num.specs.declared.width.Width.{Width}
 use Rattle.seh_num.specs.declared.width.Width.TheVariants.{W8, W16, W32, W64}
@@ -42,7 +43,8 @@ little (suc n) v = (v % 256) ∷ little n (v / 256)
 
 -- a number of one width that a narrower one gives by sign-extension
 abbrev pub is_signed : Width → Width → ℕ → Bool
-is_signed from to v = nat_lt v (half from) || (nat_le (limit to - half from) v && nat_lt v (limit to))
+is_signed from to v =
+    nat_lt v (half from) || (nat_le (limit to - half from) v && nat_lt v (limit to))
 
 -- ---- prefixes
 
@@ -101,7 +103,8 @@ at_register r b None d =
     if number b % 8 == 4
     then (64 * mode d + 8 * r + 4) ∷ sib None 4 ∷ displacement d
     else (64 * mode d + 8 * r + number b % 8) ∷ displacement d
-at_register r b (Some i) d = (64 * mode d + 8 * r + 4) ∷ sib (Some i) (number b % 8) ∷ displacement d
+at_register r b (Some i) d =
+    (64 * mode d + 8 * r + 4) ∷ sib (Some i) (number b % 8) ∷ displacement d
 
 abbrev pub memory_bytes : ℕ → Base → Option Index → ℕ → List ℕ
 memory_bytes r bases.Nothing i d = (8 * r + 4) ∷ sib i 5 ∷ little 4 (low W32 d)
@@ -121,7 +124,8 @@ abbrev pub opcode_bytes : Opcode → List ℕ
 opcode_bytes (opcodes.One b) = b ∷ []
 opcode_bytes (opcodes.Two b) = 0x0F ∷ b ∷ []
 
--- an opcode with ModRM: r is the number of the register in the reg field, or the opcode extension there
+-- an opcode with ModRM: r is the number of the register in the reg field, or the opcode extension
+-- there
 abbrev pub modrm_bits : Width → ℕ → RegisterOrMemory → ℕ
 modrm_bits w r at = 8 * wide w + 4 * (r / 8) + high_bits at
 
@@ -195,7 +199,8 @@ abbrev pub immediate_bytes : Width → ℕ → List ℕ
 immediate_bytes w v = little (bytes_of (immediate_of w)) (low (immediate_of w) v)
 
 abbrev pub arithmetic_bytes : Operation → Width → RegisterOrMemory → ℕ → List ℕ
-arithmetic_bytes o W8 to v = modrm W8 (opcodes.One 0x80) (opcode_extension o) to ++ immediate_bytes W8 v
+arithmetic_bytes o W8 to v =
+    modrm W8 (opcodes.One 0x80) (opcode_extension o) to ++ immediate_bytes W8 v
 arithmetic_bytes o w to v =
     if is_signed W8 w v
     then modrm w (opcodes.One 0x83) (opcode_extension o) to ++ little 1 (low W8 v)
@@ -223,23 +228,32 @@ plain_bytes w op = op ∷ []
 -- ---- instructions
 
 abbrev pub chosen : Instr → List ℕ
-chosen (instrs.Move w to (operands.Register r)) = modrm w (opcodes.One (sized_opcode w 0x88)) (number r) to
-chosen (instrs.Move w (places.Register r) (operands.Memory m)) = modrm w (opcodes.One (sized_opcode w 0x8A)) (number r) (places.Memory m)
+chosen (instrs.Move w to (operands.Register r)) =
+    modrm w (opcodes.One (sized_opcode w 0x88)) (number r) to
+chosen (instrs.Move w (places.Register r) (operands.Memory m)) =
+    modrm w (opcodes.One (sized_opcode w 0x8A)) (number r) (places.Memory m)
 chosen (instrs.Move w (places.Register r) (operands.Immediate v)) = move_bytes w r v
-chosen (instrs.Move w (places.Memory n) (operands.Immediate v)) = modrm w (opcodes.One (sized_opcode w 0xC6)) 0 (places.Memory n) ++ immediate_bytes w v
+chosen (instrs.Move w (places.Memory n) (operands.Immediate v)) =
+    modrm w (opcodes.One (sized_opcode w 0xC6)) 0 (places.Memory n) ++ immediate_bytes w v
 chosen (instrs.Move w (places.Memory n) (operands.Memory m)) = []
-chosen (instrs.Extend e w to narrow from) = modrm (extend_width w narrow) (extend_opcode e narrow) (number to) from
+chosen (instrs.Extend e w to narrow from) =
+    modrm (extend_width w narrow) (extend_opcode e narrow) (number to) from
 chosen (instrs.LoadAddress w to m) = modrm w (opcodes.One 0x8D) (number to) (places.Memory m)
-chosen (instrs.Arithmetic o w to (operands.Register r)) = modrm w (opcodes.One (sized_opcode w (8 * opcode_extension o))) (number r) to
+chosen (instrs.Arithmetic o w to (operands.Register r)) =
+    modrm w (opcodes.One (sized_opcode w (8 * opcode_extension o))) (number r) to
 chosen (instrs.Arithmetic o w to (operands.Immediate v)) = arithmetic_bytes o w to v
-chosen (instrs.Arithmetic o w (places.Register r) (operands.Memory m)) = modrm w (opcodes.One (sized_opcode w (8 * opcode_extension o + 2))) (number r) (places.Memory m)
+chosen (instrs.Arithmetic o w (places.Register r) (operands.Memory m)) =
+    modrm w (opcodes.One (sized_opcode w (8 * opcode_extension o + 2))) (number r) (places.Memory m)
 chosen (instrs.Arithmetic o w (places.Memory n) (operands.Memory m)) = []
-chosen (instrs.Test w at (operands.Register r)) = modrm w (opcodes.One (sized_opcode w 0x84)) (number r) at
-chosen (instrs.Test w at (operands.Immediate v)) = modrm w (opcodes.One (sized_opcode w 0xF6)) 0 at ++ immediate_bytes w v
+chosen (instrs.Test w at (operands.Register r)) =
+    modrm w (opcodes.One (sized_opcode w 0x84)) (number r) at
+chosen (instrs.Test w at (operands.Immediate v)) =
+    modrm w (opcodes.One (sized_opcode w 0xF6)) 0 at ++ immediate_bytes w v
 chosen (instrs.Test w at (operands.Memory m)) = []
 chosen (instrs.Multiply w to from) = modrm w (opcodes.Two 0xAF) (number to) from
 chosen (instrs.MultiplyBy w to from v) = multiply_bytes w to from v
-chosen (instrs.Unary o w at) = modrm w (opcodes.One (sized_opcode w 0xF6)) (unary_opcode_extension o) at
+chosen (instrs.Unary o w at) =
+    modrm w (opcodes.One (sized_opcode w 0xF6)) (unary_opcode_extension o) at
 chosen (instrs.Divide d w at) = modrm w (opcodes.One 0xF7) (division_opcode_extension d) at
 chosen (instrs.ExtendRax w) = plain_bytes w 0x99
 chosen (instrs.Shift d w to by) = count_bytes w (direction_opcode_extension d) to by
@@ -297,13 +311,15 @@ abbrev pub is_encodable : Instr → Bool
 is_encodable (instrs.Move w to (operands.Register r)) = is_place to
 is_encodable (instrs.Move w (places.Register r) (operands.Memory m)) = is_place (places.Memory m)
 is_encodable (instrs.Move w (places.Register r) (operands.Immediate v)) = nat_lt v (limit w)
-is_encodable (instrs.Move w (places.Memory n) (operands.Immediate v)) = is_place (places.Memory n) && is_immediate w v
+is_encodable (instrs.Move w (places.Memory n) (operands.Immediate v)) =
+    is_place (places.Memory n) && is_immediate w v
 is_encodable (instrs.Move w (places.Memory n) (operands.Memory m)) = false
 is_encodable (instrs.Extend e w to narrow from) = is_widened e w narrow && is_place from
 is_encodable (instrs.LoadAddress w to m) = is_wide w && is_place (places.Memory m)
 is_encodable (instrs.Arithmetic o w to (operands.Register r)) = is_place to
 is_encodable (instrs.Arithmetic o w to (operands.Immediate v)) = is_place to && is_immediate w v
-is_encodable (instrs.Arithmetic o w (places.Register r) (operands.Memory m)) = is_place (places.Memory m)
+is_encodable (instrs.Arithmetic o w (places.Register r) (operands.Memory m)) =
+    is_place (places.Memory m)
 is_encodable (instrs.Arithmetic o w (places.Memory n) (operands.Memory m)) = false
 is_encodable (instrs.Test w at (operands.Register r)) = is_place at
 is_encodable (instrs.Test w at (operands.Immediate v)) = is_place at && is_immediate w v

@@ -16,6 +16,7 @@ use crate::opcodes::{
 use crate::writing::{Opcode, is_signed, put_modrm, put_number, put_opcode_register};
 use arrayvec::ArrayVec;
 use seh_num::extension::zero_extend;
+use seh_num::size::LONGEST_INSTRUCTION;
 use seh_num::width::Width;
 use x64_instr::instruction::{Count, Division, Extension, Instr, Operation, Target, Unary};
 use x64_instr::operand::{Operand, RegisterOrMemory};
@@ -23,8 +24,8 @@ use x64_instr::prefixes::immediate_of;
 use x64_instr::register::Reg;
 
 /// An immediate, of at most 32 bits.
-fn put_immediate(into: &mut ArrayVec<u8, 15>, width: Width, value: u64)
-    requires { array_vec_len into.old + 4 ≤ 15 }
+fn put_immediate(into: &mut ArrayVec<u8, LONGEST_INSTRUCTION>, width: Width, value: u64)
+    requires { array_vec_len into.old + 4 ≤ LONGEST_INSTRUCTION }
     ensures items { into.new.items ≡ into.old.items ++ spec.immediate_bytes width value }
 {
     let width = immediate_of(width);
@@ -32,14 +33,19 @@ fn put_immediate(into: &mut ArrayVec<u8, 15>, width: Width, value: u64)
 }
 
 /// A displacement of 32 bits.
-fn put_displacement(into: &mut ArrayVec<u8, 15>, displacement: u64)
-    requires { array_vec_len into.old + 4 ≤ 15 }
+fn put_displacement(into: &mut ArrayVec<u8, LONGEST_INSTRUCTION>, displacement: u64)
+    requires { array_vec_len into.old + 4 ≤ LONGEST_INSTRUCTION }
     ensures items { into.new.items ≡ into.old.items ++ spec.little 4 (low W32 displacement) }
 {
     put_number(into, 4, displacement % (1 << 32));
 }
 
-fn encode_move_number(into: &mut ArrayVec<u8, 15>, width: Width, to: Reg, value: u64)
+fn encode_move_number(
+    into: &mut ArrayVec<u8, LONGEST_INSTRUCTION>,
+    width: Width,
+    to: Reg,
+    value: u64,
+)
     ensures { into.new.items ≡ spec.move_bytes width to value }
 {
     match width {
@@ -60,7 +66,12 @@ fn encode_move_number(into: &mut ArrayVec<u8, 15>, width: Width, to: Reg, value:
     }
 }
 
-fn encode_move(into: &mut ArrayVec<u8, 15>, width: Width, to: RegisterOrMemory, from: Operand)
+fn encode_move(
+    into: &mut ArrayVec<u8, LONGEST_INSTRUCTION>,
+    width: Width,
+    to: RegisterOrMemory,
+    from: Operand,
+)
     requires { IsEncodable (Instr.Move width to from) }
     ensures { into.new.items ≡ chosen (Instr.Move width to from) }
 {
@@ -91,7 +102,7 @@ fn encode_move(into: &mut ArrayVec<u8, 15>, width: Width, to: RegisterOrMemory, 
 }
 
 fn encode_arithmetic_number(
-    into: &mut ArrayVec<u8, 15>,
+    into: &mut ArrayVec<u8, LONGEST_INSTRUCTION>,
     operation: Operation,
     width: Width,
     to: RegisterOrMemory,
@@ -113,7 +124,7 @@ fn encode_arithmetic_number(
 }
 
 fn encode_arithmetic(
-    into: &mut ArrayVec<u8, 15>,
+    into: &mut ArrayVec<u8, LONGEST_INSTRUCTION>,
     operation: Operation,
     width: Width,
     to: RegisterOrMemory,
@@ -145,7 +156,12 @@ fn encode_arithmetic(
     }
 }
 
-fn encode_test(into: &mut ArrayVec<u8, 15>, width: Width, first: RegisterOrMemory, second: Operand)
+fn encode_test(
+    into: &mut ArrayVec<u8, LONGEST_INSTRUCTION>,
+    width: Width,
+    first: RegisterOrMemory,
+    second: Operand,
+)
     requires { IsEncodable (Instr.Test width first second) }
     ensures { into.new.items ≡ chosen (Instr.Test width first second) }
 {
@@ -169,7 +185,7 @@ fn encode_test(into: &mut ArrayVec<u8, 15>, width: Width, first: RegisterOrMemor
 }
 
 fn encode_multiply_by(
-    into: &mut ArrayVec<u8, 15>,
+    into: &mut ArrayVec<u8, LONGEST_INSTRUCTION>,
     width: Width,
     to: Reg,
     from: RegisterOrMemory,
@@ -187,7 +203,7 @@ fn encode_multiply_by(
 }
 
 fn encode_shift(
-    into: &mut ArrayVec<u8, 15>,
+    into: &mut ArrayVec<u8, LONGEST_INSTRUCTION>,
     width: Width,
     opcode_extension: u8,
     to: RegisterOrMemory,
@@ -205,7 +221,7 @@ fn encode_shift(
     }
 }
 
-fn encode_jump(into: &mut ArrayVec<u8, 15>, to: Target)
+fn encode_jump(into: &mut ArrayVec<u8, LONGEST_INSTRUCTION>, to: Target)
     ensures { into.new.items ≡ chosen (Instr.Jump to) }
 {
     match to {
@@ -218,7 +234,7 @@ fn encode_jump(into: &mut ArrayVec<u8, 15>, to: Target)
     }
 }
 
-fn encode_call(into: &mut ArrayVec<u8, 15>, to: Target)
+fn encode_call(into: &mut ArrayVec<u8, LONGEST_INSTRUCTION>, to: Target)
     ensures { into.new.items ≡ chosen (Instr.Call to) }
 {
     match to {
@@ -232,7 +248,7 @@ fn encode_call(into: &mut ArrayVec<u8, 15>, to: Target)
 }
 
 /// Bytes alone.
-fn put_plain(into: &mut ArrayVec<u8, 15>, width: Width, opcode: u8)
+fn put_plain(into: &mut ArrayVec<u8, LONGEST_INSTRUCTION>, width: Width, opcode: u8)
     ensures { into.new.items ≡ spec.plain_bytes width opcode }
 {
     into.clear();
@@ -242,7 +258,12 @@ fn put_plain(into: &mut ArrayVec<u8, 15>, width: Width, opcode: u8)
     into.push(opcode);
 }
 
-fn encode_unary(into: &mut ArrayVec<u8, 15>, operation: Unary, width: Width, to: RegisterOrMemory)
+fn encode_unary(
+    into: &mut ArrayVec<u8, LONGEST_INSTRUCTION>,
+    operation: Unary,
+    width: Width,
+    to: RegisterOrMemory,
+)
     ensures { into.new.items ≡ chosen (Instr.Unary operation width to) }
 {
     let opcode = Opcode::One(sized_opcode(width, 0xF6));
@@ -250,7 +271,7 @@ fn encode_unary(into: &mut ArrayVec<u8, 15>, operation: Unary, width: Width, to:
 }
 
 fn encode_divide(
-    into: &mut ArrayVec<u8, 15>,
+    into: &mut ArrayVec<u8, LONGEST_INSTRUCTION>,
     division: Division,
     width: Width,
     by: RegisterOrMemory,
@@ -262,7 +283,7 @@ fn encode_divide(
 }
 
 /// An instruction that puts a value into a place.
-fn put_move(instr: &Instr, into: &mut ArrayVec<u8, 15>)
+fn put_move(instr: &Instr, into: &mut ArrayVec<u8, LONGEST_INSTRUCTION>)
     requires encodable { IsEncodable instr.now }
     requires family { IsMove instr.now }
     ensures { into.new.items ≡ chosen instr.now }
@@ -293,7 +314,7 @@ fn put_move(instr: &Instr, into: &mut ArrayVec<u8, 15>)
 }
 
 /// An instruction that multiplies or divides.
-fn put_multiply_or_divide(instr: &Instr, into: &mut ArrayVec<u8, 15>)
+fn put_multiply_or_divide(instr: &Instr, into: &mut ArrayVec<u8, LONGEST_INSTRUCTION>)
     requires encodable { IsEncodable instr.now }
     requires family { IsMultiplyOrDivide instr.now }
     ensures { into.new.items ≡ chosen instr.now }
@@ -318,7 +339,7 @@ fn put_multiply_or_divide(instr: &Instr, into: &mut ArrayVec<u8, 15>)
 }
 
 /// An instruction that computes with the value of a place.
-fn put_computation(instr: &Instr, into: &mut ArrayVec<u8, 15>)
+fn put_computation(instr: &Instr, into: &mut ArrayVec<u8, LONGEST_INSTRUCTION>)
     requires encodable { IsEncodable instr.now }
     requires family { IsComputation instr.now }
     ensures { into.new.items ≡ chosen instr.now }
@@ -354,7 +375,7 @@ fn put_computation(instr: &Instr, into: &mut ArrayVec<u8, 15>)
 }
 
 /// An instruction that jumps, or takes the stack's top.
-fn put_transfer(instr: &Instr, into: &mut ArrayVec<u8, 15>)
+fn put_transfer(instr: &Instr, into: &mut ArrayVec<u8, LONGEST_INSTRUCTION>)
     requires encodable { IsEncodable instr.now }
     requires family { IsTransfer instr.now }
     ensures { into.new.items ≡ chosen instr.now }
@@ -378,7 +399,7 @@ fn put_transfer(instr: &Instr, into: &mut ArrayVec<u8, 15>)
     }
 }
 
-fn put_instr(instr: &Instr, into: &mut ArrayVec<u8, 15>)
+fn put_instr(instr: &Instr, into: &mut ArrayVec<u8, LONGEST_INSTRUCTION>)
     requires { IsEncodable instr.now }
     ensures { into.new.items ≡ chosen instr.now }
 {
@@ -411,7 +432,7 @@ fn put_instr(instr: &Instr, into: &mut ArrayVec<u8, 15>)
 }
 
 /// Leaves the bytes of the instruction's chosen spelling, and no others.
-pub fn encode(instr: &Instr, into: &mut ArrayVec<u8, 15>)
+pub fn encode(instr: &Instr, into: &mut ArrayVec<u8, LONGEST_INSTRUCTION>)
     requires { IsEncodable instr.now }
     ensures bytes { into.new.items ≡ chosen instr.now }
     ensures spelled { IsEncoding instr.now into.new.items }
@@ -425,7 +446,7 @@ pub fn read_again()
         → leading (chosen i ++ more) ≡ Some (i, encoded_len i) }
 {}
 
-/// No instruction takes more than 15 bytes.
+/// How many bytes an instruction takes at most.
 pub fn longest()
-    ensures { (i : Instr) → encoded_len i ≤ 15 }
+    ensures { (i : Instr) → encoded_len i ≤ LONGEST_INSTRUCTION }
 {}

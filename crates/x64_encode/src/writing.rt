@@ -7,6 +7,7 @@ ghost use Rattle.seh_num.specs.Widths.{low, bytes_of, limit, half};
 ghost use Rattle.x64_encode.specs.Chosen as spec;
 
 use arrayvec::ArrayVec;
+use seh_num::size::LONGEST_INSTRUCTION;
 use seh_num::width::Width;
 use x64_instr::operand::{Base, Index, RegisterOrMemory, Scale};
 use x64_instr::register::Reg;
@@ -21,8 +22,8 @@ pub enum Opcode {
 }
 
 /// The low bytes of a number, little-endian.
-pub(crate) fn put_number(into: &mut ArrayVec<u8, 15>, count: u64, value: u64)
-    requires { array_vec_len into.old + count ≤ 15 }
+pub(crate) fn put_number(into: &mut ArrayVec<u8, LONGEST_INSTRUCTION>, count: u64, value: u64)
+    requires { array_vec_len into.old + count ≤ LONGEST_INSTRUCTION }
     ensures items { into.new.items ≡ into.old.items ++ spec.little count value }
 {
     let mut rest = value;
@@ -61,7 +62,7 @@ fn wide(width: Width) -> u8
 }
 
 /// The prefixes of an instruction, into an empty list.
-fn put_prefixes(into: &mut ArrayVec<u8, 15>, width: Width, bits: u8)
+fn put_prefixes(into: &mut ArrayVec<u8, LONGEST_INSTRUCTION>, width: Width, bits: u8)
     requires { bits < 16 }
     ensures items { into.new.items ≡ spec.prefixes width bits }
     ensures len { array_vec_len into.new ≤ 2 }
@@ -118,8 +119,8 @@ fn mode(displacement: u64) -> u8
     }
 }
 
-fn put_displacement(into: &mut ArrayVec<u8, 15>, displacement: u64)
-    requires { array_vec_len into.old + 4 ≤ 15 }
+fn put_displacement(into: &mut ArrayVec<u8, LONGEST_INSTRUCTION>, displacement: u64)
+    requires { array_vec_len into.old + 4 ≤ LONGEST_INSTRUCTION }
     ensures items { into.new.items ≡ into.old.items ++ spec.displacement displacement }
     ensures len { array_vec_len into.new ≤ array_vec_len into.old + 4 }
 {
@@ -153,14 +154,14 @@ fn sib(index: Option<Index>, base: u8) -> u8
 }
 
 fn put_at_register(
-    into: &mut ArrayVec<u8, 15>,
+    into: &mut ArrayVec<u8, LONGEST_INSTRUCTION>,
     reg: u8,
     base: Reg,
     index: Option<Index>,
     displacement: u64,
 )
     requires reg { reg < 8 }
-    requires room { array_vec_len into.old + 6 ≤ 15 }
+    requires room { array_vec_len into.old + 6 ≤ LONGEST_INSTRUCTION }
     ensures items { into.new.items
         ≡ into.old.items ++ spec.at_register reg base index displacement }
     ensures len { array_vec_len into.new ≤ array_vec_len into.old + 6 }
@@ -177,9 +178,9 @@ fn put_at_register(
 }
 
 /// ModRM, SIB and displacement.
-fn put_place(into: &mut ArrayVec<u8, 15>, reg: u8, place: RegisterOrMemory)
+fn put_place(into: &mut ArrayVec<u8, LONGEST_INSTRUCTION>, reg: u8, place: RegisterOrMemory)
     requires reg { reg < 8 }
-    requires room { array_vec_len into.old + 6 ≤ 15 }
+    requires room { array_vec_len into.old + 6 ≤ LONGEST_INSTRUCTION }
     ensures items { into.new.items ≡ into.old.items ++ spec.place_bytes reg place }
     ensures len { array_vec_len into.new ≤ array_vec_len into.old + 6 }
 {
@@ -206,8 +207,8 @@ fn put_place(into: &mut ArrayVec<u8, 15>, reg: u8, place: RegisterOrMemory)
     }
 }
 
-fn put_opcode(into: &mut ArrayVec<u8, 15>, opcode: Opcode)
-    requires { array_vec_len into.old + 2 ≤ 15 }
+fn put_opcode(into: &mut ArrayVec<u8, LONGEST_INSTRUCTION>, opcode: Opcode)
+    requires { array_vec_len into.old + 2 ≤ LONGEST_INSTRUCTION }
     ensures items { into.new.items ≡ into.old.items ++ spec.opcode_bytes opcode }
     ensures len { array_vec_len into.new ≤ array_vec_len into.old + 2 }
 {
@@ -220,11 +221,11 @@ fn put_opcode(into: &mut ArrayVec<u8, 15>, opcode: Opcode)
     }
 }
 
-/// An opcode with ModRM, into an empty list: `reg` is the number of the register in the reg field, or
-/// the opcode extension there.
+/// An opcode with ModRM, into an empty list: `reg` is the number of the register in the reg field,
+/// or the opcode extension there.
 #[tactic(auto, unfolding(crate::specs::Chosen::modrm))]
 pub(crate) fn put_modrm(
-    into: &mut ArrayVec<u8, 15>,
+    into: &mut ArrayVec<u8, LONGEST_INSTRUCTION>,
     width: Width,
     opcode: Opcode,
     reg: u8,
@@ -243,7 +244,7 @@ pub(crate) fn put_modrm(
 /// An opcode with a register in its low three bits, into an empty list.
 #[tactic(auto, unfolding(crate::specs::Chosen::opcode_register))]
 pub(crate) fn put_opcode_register(
-    into: &mut ArrayVec<u8, 15>,
+    into: &mut ArrayVec<u8, LONGEST_INSTRUCTION>,
     width: Width,
     opcode: u8,
     register: Reg,

@@ -45,21 +45,29 @@ scale n = if n == 0 then One else (if n == 1 then Two else (if n == 2 then Four 
 
 -- SIB's index, with REX.X; 100 without REX.X is none
 abbrev pub index_of_sib : Prefixes → ℕ → Option Index
-index_of_sib p sib = if (8 * bit 1 p.rex + sib / 8 % 8) == 4 then None else Some (record { register = register (8 * bit 1 p.rex + sib / 8 % 8); scale = scale (sib / 64) })
+index_of_sib p sib =
+    if (8 * bit 1 p.rex + sib / 8 % 8) == 4 then None
+    else Some (record {
+      register = register (8 * bit 1 p.rex + sib / 8 % 8);
+      scale = scale (sib / 64);
+    })
 
 abbrev pub memory : Base → Option Index → ℕ → RegisterOrMemory
 memory b i d = places.Memory (record { base = b; index = i; displacement = d })
 
 -- the displacement that mod tells: none, of a byte, of four bytes
 abbrev pub displaced : ℕ → List ℕ → Read ℕ
-displaced mode bytes = if mode == 0 then Some (0, bytes) else (if mode == 1 then signed W8 W64 bytes else signed W32 W64 bytes)
+displaced mode bytes =
+    if mode == 0 then Some (0, bytes)
+    else (if mode == 1 then signed W8 W64 bytes else signed W32 W64 bytes)
 
 -- a base of 101 with mod 00 is none, with a displacement of four bytes
 abbrev pub sib_operand : Prefixes → ℕ → ℕ → List ℕ → Read RegisterOrMemory
 sib_operand p mode sib bytes =
     if (mode == 0) && (sib % 8 == 5)
     then (signed W32 W64 bytes >>= λ d. Some (memory bases.Nothing (index_of_sib p sib) d.0, d.1))
-    else (displaced mode bytes >>= λ d. Some (memory (bases.Register (register_of_low_bits p sib)) (index_of_sib p sib) d.0, d.1))
+    else (displaced mode bytes >>= λ d. Some
+    (memory (bases.Register (register_of_low_bits p sib)) (index_of_sib p sib) d.0, d.1))
 
 -- 100 says that SIB follows; 101 with mod 00 is relative to the next instruction
 abbrev pub memory_operand : Prefixes → ℕ → ℕ → List ℕ → Read RegisterOrMemory
@@ -68,7 +76,8 @@ memory_operand p mode low bytes =
     then (byte bytes >>= λ s. sib_operand p mode s.0 s.1)
     else (if (mode == 0) && (low == 5)
     then (signed W32 W64 bytes >>= λ d. Some (memory bases.Rip None d.0, d.1))
-    else (displaced mode bytes >>= λ d. Some (memory (bases.Register (register_of_low_bits p low)) None d.0, d.1)))
+    else (displaced mode bytes >>= λ d. Some
+    (memory (bases.Register (register_of_low_bits p low)) None d.0, d.1)))
 
 -- mod 11 is a register
 unfoldable pub place : Prefixes → ℕ → List ℕ → Read RegisterOrMemory
@@ -79,10 +88,12 @@ place p modrm bytes =
 
 -- ModRM with a register in its reg field, and with an opcode extension there
 abbrev pub modrm_with_register : Prefixes → List ℕ → Read (RegisterOrMemory × Reg)
-modrm_with_register p bytes = byte bytes >>= λ m. place p m.0 m.1 >>= λ at. Some ((at.0, register_of_reg_field p m.0), at.1)
+modrm_with_register p bytes =
+    byte bytes >>= λ m. place p m.0 m.1 >>= λ at. Some ((at.0, register_of_reg_field p m.0), at.1)
 
 abbrev pub modrm_with_opcode_extension : Prefixes → List ℕ → Read (RegisterOrMemory × ℕ)
-modrm_with_opcode_extension p bytes = byte bytes >>= λ m. place p m.0 m.1 >>= λ at. Some ((at.0, m.0 / 8 % 8), at.1)
+modrm_with_opcode_extension p bytes =
+    byte bytes >>= λ m. place p m.0 m.1 >>= λ at. Some ((at.0, m.0 / 8 % 8), at.1)
 
 -- without REX the byte registers 4 to 7 are AH, CH, DH and BH, which no instruction here has
 abbrev pub is_listed : Prefixes → Width → RegisterOrMemory → Bool
@@ -91,10 +102,13 @@ is_listed p w at = true
 
 -- both operands, the place of one width, the register of another
 abbrev pub rm_and_register : Prefixes → Width → Width → List ℕ → Read (RegisterOrMemory × Reg)
-rm_and_register p w v bytes = modrm_with_register p bytes >>= λ x. if is_listed p w x.0.0 && is_listed p v (places.Register x.0.1) then Some x else None
+rm_and_register p w v bytes =
+    modrm_with_register p bytes >>= λ x. if is_listed p w x.0.0 && is_listed p v
+    (places.Register x.0.1) then Some x else None
 
 abbrev pub rm_and_opcode_extension : Prefixes → Width → List ℕ → Read (RegisterOrMemory × ℕ)
-rm_and_opcode_extension p w bytes = modrm_with_opcode_extension p bytes >>= λ x. if is_listed p w x.0.0 then Some x else None
+rm_and_opcode_extension p w bytes =
+    modrm_with_opcode_extension p bytes >>= λ x. if is_listed p w x.0.0 then Some x else None
 
 -- a place as what is read there
 abbrev pub source : RegisterOrMemory → Operand

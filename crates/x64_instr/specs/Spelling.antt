@@ -1,4 +1,6 @@
--- How instructions are spelled: an optional 66, an optional REX, the opcode, then ModRM, SIB, displacement and immediate as the opcode has them (Intel manual, volume 2, chapter 2, and each instruction's page).
+-- How instructions are spelled: an optional 66, an optional REX, the opcode, then ModRM, SIB,
+-- displacement and immediate as the opcode has them (Intel manual, volume 2, chapter 2, and each
+-- instruction's page).
 use Rattle.std.specs.Prelude.{◌≡◌, ℕ, ◌-◌, ◌/◌, ◌%◌, Bool, true, false, not, ◌==◌, ◌&&◌, if◌then◌else◌, List, [], Option, Some, None, option_map, length}
 use Rattle.seh_num.specs.declared.width.Width.{Width}
 use Rattle.seh_num.specs.declared.width.Width.TheVariants.{W8, W32, W64}
@@ -30,14 +32,16 @@ use Rattle.x64_instr.specs.Operands.{width_of, sized, sized_narrow, immediate_of
 
 -- r/m, r
 abbrev pub rm_r : Prefixes → Width → (RegisterOrMemory → Operand → Instr) → List ℕ → Read Instr
-rm_r p w made bytes = rm_and_register p w w bytes >>= λ x. Some (made x.0.0 (operands.Register x.0.1), x.1)
+rm_r p w made bytes =
+    rm_and_register p w w bytes >>= λ x. Some (made x.0.0 (operands.Register x.0.1), x.1)
 
 -- r, r/m
 abbrev pub r_rm : Prefixes → Width → Width → (Reg → RegisterOrMemory → Instr) → List ℕ → Read Instr
 r_rm p v w made bytes = rm_and_register p w v bytes >>= λ x. Some (made x.0.1 x.0.0, x.1)
 
 -- r/m, where the reg field is an extension of the opcode (/opcode_extension in the manual)
-abbrev pub rm_extension : Prefixes → Width → (ℕ → RegisterOrMemory → List ℕ → Read Instr) → List ℕ → Read Instr
+abbrev pub rm_extension : Prefixes → Width → (ℕ → RegisterOrMemory → List ℕ → Read Instr) → List ℕ
+    → Read Instr
 rm_extension p w made bytes = rm_and_opcode_extension p w bytes >>= λ x. made x.0.1 x.0.0 x.1
 
 -- what takes no bytes
@@ -87,14 +91,19 @@ condition n =
 
 -- r/m, imm
 abbrev pub group_1 : Width → Width → ℕ → RegisterOrMemory → List ℕ → Read Instr
-group_1 from w opcode_extension to bytes = given (operation opcode_extension) bytes >>= λ o. signed from w o.1 >>= λ v. Some (instrs.Arithmetic o.0 w to (operands.Immediate v.0), v.1)
+group_1 from w opcode_extension to bytes =
+    given (operation opcode_extension) bytes >>= λ o. signed from w o.1 >>= λ v. Some
+    (instrs.Arithmetic o.0 w to (operands.Immediate v.0), v.1)
 
 -- r/m, imm, with /0
 abbrev pub group_11 : Width → ℕ → RegisterOrMemory → List ℕ → Read Instr
-group_11 w opcode_extension to bytes = if opcode_extension == 0 then (signed (immediate_of w) w bytes >>= λ v. Some (instrs.Move w to (operands.Immediate v.0), v.1)) else None
+group_11 w opcode_extension to bytes =
+    if opcode_extension == 0 then (signed (immediate_of w) w bytes >>= λ v. Some
+    (instrs.Move w to (operands.Immediate v.0), v.1)) else None
 
 abbrev pub test_immediate : Width → RegisterOrMemory → List ℕ → Read Instr
-test_immediate w at bytes = signed (immediate_of w) w bytes >>= λ v. Some (instrs.Test w at (operands.Immediate v.0), v.1)
+test_immediate w at bytes =
+    signed (immediate_of w) w bytes >>= λ v. Some (instrs.Test w at (operands.Immediate v.0), v.1)
 
 -- TEST /0 r/m, imm; NOT /2; NEG /3; and where t holds DIV /6, IDIV /7
 abbrev pub group_3 : Bool → Width → ℕ → RegisterOrMemory → List ℕ → Read Instr
@@ -108,10 +117,13 @@ group_3 t w opcode_extension at bytes =
 
 -- SHL /4, SHR /5, SAR /7
 abbrev pub group_2_immediate : Width → ℕ → RegisterOrMemory → List ℕ → Read Instr
-group_2_immediate w opcode_extension to bytes = given (direction opcode_extension) bytes >>= λ d. byte d.1 >>= λ n. Some (instrs.Shift d.0 w to (counts.Immediate n.0), n.1)
+group_2_immediate w opcode_extension to bytes =
+    given (direction opcode_extension) bytes >>= λ d. byte d.1 >>= λ n. Some
+    (instrs.Shift d.0 w to (counts.Immediate n.0), n.1)
 
 abbrev pub group_2_cl : Width → ℕ → RegisterOrMemory → List ℕ → Read Instr
-group_2_cl w opcode_extension to bytes = given (direction opcode_extension) bytes >>= λ d. Some (instrs.Shift d.0 w to counts.Cl, d.1)
+group_2_cl w opcode_extension to bytes =
+    given (direction opcode_extension) bytes >>= λ d. Some (instrs.Shift d.0 w to counts.Cl, d.1)
 
 abbrev pub group_5 : ℕ → RegisterOrMemory → List ℕ → Read Instr
 group_5 opcode_extension at bytes =
@@ -121,21 +133,32 @@ group_5 opcode_extension at bytes =
 
 -- r, imm of the whole width, with the register in the opcode
 abbrev pub move_immediate : Prefixes → ℕ → List ℕ → Read Instr
-move_immediate p op bytes = number (bytes_of (width_of p)) bytes >>= λ v. Some (instrs.Move (width_of p) (places.Register (register_of_low_bits p op)) (operands.Immediate v.0), v.1)
+move_immediate p op bytes =
+    number (bytes_of (width_of p)) bytes >>= λ v. Some (
+      instrs.Move (width_of p) (places.Register (register_of_low_bits p op))
+          (operands.Immediate v.0),
+      v.1,
+    )
 
 -- with REX.W alone
 abbrev pub sign_extend : Prefixes → List ℕ → Read Instr
-sign_extend p bytes = if bit 3 p.rex == 1 then r_rm p W64 W32 (λ to from. instrs.Extend Sign W64 to W32 from) bytes else None
+sign_extend p bytes =
+    if bit 3 p.rex == 1 then r_rm p W64 W32 (λ to from. instrs.Extend Sign W64 to W32 from) bytes
+    else None
 
 abbrev pub extend : Extension → Prefixes → ℕ → List ℕ → Read Instr
-extend e p op bytes = r_rm p (width_of p) (sized_narrow op) (λ to from. instrs.Extend e (width_of p) to (sized_narrow op) from) bytes
+extend e p op bytes =
+    r_rm p (width_of p) (sized_narrow op)
+    (λ to from. instrs.Extend e (width_of p) to (sized_narrow op) from) bytes
 
 abbrev pub load : Width → Reg → RegisterOrMemory → Instr
 load w to from = instrs.Move w (places.Register to) (source from)
 
 -- r, r/m, imm
 abbrev pub multiply_by : Prefixes → Width → List ℕ → Read Instr
-multiply_by p from bytes = rm_and_register p (width_of p) (width_of p) bytes >>= λ x. signed from (width_of p) x.1 >>= λ v. Some (instrs.MultiplyBy (width_of p) x.0.1 x.0.0 v.0, v.1)
+multiply_by p from bytes =
+    rm_and_register p (width_of p) (width_of p) bytes >>= λ x. signed from
+    (width_of p) x.1 >>= λ v. Some (instrs.MultiplyBy (width_of p) x.0.1 x.0.0 v.0, v.1)
 
 -- r, m
 abbrev pub address_to : Width → Reg → RegisterOrMemory → List ℕ → Read Instr
@@ -143,14 +166,20 @@ address_to w to (places.Memory m) bytes = Some (instrs.LoadAddress w to m, bytes
 address_to w to (places.Register r) bytes = None
 
 abbrev pub load_address : Prefixes → List ℕ → Read Instr
-load_address p bytes = rm_and_register p (width_of p) (width_of p) bytes >>= λ x. address_to (width_of p) x.0.1 x.0.0 x.1
+load_address p bytes =
+    rm_and_register p (width_of p) (width_of p) bytes >>= λ x. address_to
+    (width_of p) x.0.1 x.0.0 x.1
 
 -- the condition in the low four bits of the opcode
 abbrev pub jump_if : Width → ℕ → List ℕ → Read Instr
-jump_if from op bytes = given (condition (op % 16)) bytes >>= λ c. signed from W64 c.1 >>= λ d. Some (instrs.JumpIf c.0 d.0, d.1)
+jump_if from op bytes =
+    given (condition (op % 16)) bytes >>= λ c. signed from W64 c.1 >>= λ d. Some
+    (instrs.JumpIf c.0 d.0, d.1)
 
 abbrev pub set_if : Prefixes → ℕ → List ℕ → Read Instr
-set_if p op bytes = given (condition (op % 16)) bytes >>= λ c. rm_and_opcode_extension p W8 c.1 >>= λ x. Some (instrs.Set c.0 x.0.0, x.1)
+set_if p op bytes =
+    given (condition (op % 16)) bytes >>= λ c. rm_and_opcode_extension p W8 c.1 >>= λ x. Some
+    (instrs.Set c.0 x.0.0, x.1)
 
 abbrev pub jump : Width → List ℕ → Read Instr
 jump from bytes = signed from W64 bytes >>= λ d. Some (instrs.Jump (Relative d.0), d.1)
@@ -168,7 +197,8 @@ no_operation p bytes = if bit 0 p.rex == 1 then None else Some (instrs.NoOperati
 abbrev pub arithmetic_form : Prefixes → Operation → ℕ → List ℕ → Read Instr
 arithmetic_form p o op bytes =
     if op % 8 / 2 == 0 then rm_r p (sized p op) (instrs.Arithmetic o (sized p op)) bytes
-    else (if op % 8 / 2 == 1 then r_rm p (sized p op) (sized p op) (λ to from. instrs.Arithmetic o (sized p op) (places.Register to) (source from)) bytes
+    else (if op % 8 / 2 == 1 then r_rm p (sized p op) (sized p op)
+    (λ to from. instrs.Arithmetic o (sized p op) (places.Register to) (source from)) bytes
     else None)
 
 abbrev pub arithmetic_row : Prefixes → ℕ → List ℕ → Read Instr
@@ -228,17 +258,21 @@ two_byte_row p op bytes =
     else extend_row p op bytes))))
 
 unfoldable pub after_prefixes : Prefixes → ℕ → List ℕ → Read Instr
-after_prefixes p b bytes = if b == 0x0F then (byte bytes >>= λ c. two_byte_row p c.0 c.1) else row p b bytes
+after_prefixes p b bytes =
+    if b == 0x0F then (byte bytes >>= λ c. two_byte_row p c.0 c.1) else row p b bytes
 
 -- REX is 40 to 4F
 unfoldable pub after_size : Bool → ℕ → List ℕ → Read Instr
 after_size size b bytes =
     if b / 16 == 4
-    then (byte bytes >>= λ c. after_prefixes (record { operand_size = size; has_rex = true; rex = b % 16 }) c.0 c.1)
+    then (byte bytes >>= λ c. after_prefixes
+    (record { operand_size = size; has_rex = true; rex = b % 16 }) c.0 c.1)
     else after_prefixes (record { operand_size = size; has_rex = false; rex = 0 }) b bytes
 
 unfoldable pub instr : List ℕ → Read Instr
-instr bytes = byte bytes >>= λ b. if b.0 == 0x66 then (byte b.1 >>= λ c. after_size true c.0 c.1) else after_size false b.0 b.1
+instr bytes =
+    byte bytes >>= λ b. if b.0 == 0x66 then (byte b.1 >>= λ c. after_size true c.0 c.1)
+    else after_size false b.0 b.1
 
 -- the bytes spell the instruction
 abbrev pub IsEncoding : Instr → List ℕ → Type 0

@@ -4,6 +4,9 @@
 //! is the Intel manual's (volume 2, chapter 2 "Instruction Format" and the pages of the
 //! instructions) in 64-bit mode, with the prefixes 66 and REX alone. The crate x64_encode writes
 //! them. No call takes memory.
+//!
+//! Proved: `decoding::decode` answers an instruction and its length exactly where the first bytes
+//! spell it. Begin with `specs/Spelling.antt`, the table.
 #![tactic(auto)]
 
 pub mod decoding;

@@ -9,7 +9,7 @@ use Rattle.seh_num.specs.declared.width.Width.{Width}
 use Rattle.seh_num.specs.Widths.{limit, half, low, signed, wrapped}
 use Rattle.seh_num.specs.Division.{is_signed}
 use Rattle.x64_machine.specs.Words.{added, subtracted, multiplied}
-use Rattle.x64_laws.specs.Arithmetic.{AddIsSum, SubIsDifference, ImulIsProduct, ImulIsWhole, NegIsNegative, MovsxKeepsSigned, MovzxKeepsUnsigned}
+use Rattle.x64_laws.specs.Arithmetic.{AddIsSum, SubIsDifference, ImulIsProduct, ImulIsWhole, ImulSaysWhetherItFits, NegIsNegative, MovsxKeepsSigned, MovzxKeepsUnsigned}
 use Rattle.x64_laws.proofs.Numbers.{limits, half_positive, limit_positive, low_is, low_below, low_same, signed_low, signed_high, wrapped_from, wrapped_neg, signed_wrapped, is_signed_wider, half_at_most}
 
 -- a signed number is its bits less a multiple of the limit
@@ -118,6 +118,18 @@ pub imul_is_whole : ImulIsWhole
 unfolding multiplied
 imul_is_whole w a b f la lb kept =
     ap (signed w) (product_is w a b la lb) ∙ signed_wrapped w (signed w a *ℤ signed w b) (not_false (is_signed w (signed w a *ℤ signed w b)) kept)
+
+not_true : (b : Bool) → not b ≡ true → b ≡ false
+not_true true e = sym e
+not_true false e = refl
+
+pub imul_says_whether_it_fits : ImulSaysWhetherItFits
+unfolding multiplied
+imul_says_whether_it_fits w a b f = record {
+  together = refl;
+  clear = λ e. not_false (is_signed w (signed w a *ℤ signed w b)) e;
+  set = λ e. not_true (is_signed w (signed w a *ℤ signed w b)) e;
+}
 
 -- ---- negatives and extensions
 

@@ -1,4 +1,5 @@
--- What each condition says after CMP of two numbers (Intel manual, volume 2, Jcc: "below" and "above" of unsigned numbers, "less" and "greater" of signed ones).
+-- What each condition says after CMP of two numbers (Intel manual, volume 2, Jcc: "below" and
+-- "above" of unsigned numbers, "less" and "greater" of signed ones).
 use Rattle.std.specs.Prelude.{◌≡◌, ℕ, ◌<◌, Bool, not, nat_lt, nat_le, nat_eq, int_lt, int_le, pos, ◌-ℤ◌}
 use Rattle.seh_num.specs.declared.width.Width.{Width}
 use Rattle.seh_num.specs.Widths.{limit, signed, wrapped}

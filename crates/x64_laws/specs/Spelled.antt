@@ -11,7 +11,9 @@ AreBytes bytes = AllByRecursion (λ b. b < 256) bytes
 
 -- each instruction that some bytes spell can be encoded
 abbrev pub SpelledIsEncodable : Type 0
-SpelledIsEncodable = (i : Instr) (bytes : List ℕ) → AreBytes bytes → IsEncoding i bytes → is_encodable i ≡ true
+SpelledIsEncodable =
+    (i : Instr) (bytes : List ℕ) → AreBytes bytes → IsEncoding i bytes → is_encodable i ≡ true
 
 abbrev pub SpelledIsShort : Type 0
-SpelledIsShort = (i : Instr) (bytes : List ℕ) → AreBytes bytes → IsEncoding i bytes → length bytes ≤ 15
+SpelledIsShort =
+    (i : Instr) (bytes : List ℕ) → AreBytes bytes → IsEncoding i bytes → length bytes ≤ 15

@@ -10,10 +10,12 @@ pub fn sums()
 {}
 
 /// IMUL gives the product of the signed numbers, modulo the limit of the width, and with CF and OF
-/// clear the product itself (Intel manual, volume 2, IMUL).
+/// clear the product itself. They are set exactly where the product doesn't fit (Intel manual, volume
+/// 2, IMUL).
 pub fn products()
     ensures modulo { spec.ImulIsProduct }
     ensures whole { spec.ImulIsWhole }
+    ensures fits { spec.ImulSaysWhetherItFits }
 {}
 
 /// NEG gives the signed number taken from 0, modulo the limit of the width (Intel manual, volume 2,

@@ -4,6 +4,8 @@
 //! `arithmetic` says what sums, differences, products, negatives, extensions and shifts are as
 //! equations on whole numbers; `comparing` that each condition after CMP is the comparison of the
 //! two numbers; `spelling` that all that is spelled can be encoded, in at most 15 bytes.
+//!
+//! Begin with `specs/Arithmetic.antt`.
 #![tactic(auto)]
 
 pub mod arithmetic;

@@ -5,6 +5,8 @@ use Rattle.seh_num.specs.declared.width.Width.TheVariants.{W8, W64}
 use Rattle.seh_num.specs.declared.division.DivFault.{DivFault}
 use Rattle.seh_num.specs.declared.division.DivFault.TheVariants as faults
 use Rattle.seh_num.specs.Widths.{limit, half, low, signed, wrapped}
+use Rattle.seh_num.specs.declared.code.TheConstants.{ACCESS_VIOLATION, INTEGER_DIVIDE_BY_ZERO, INTEGER_OVERFLOW}
+use Rattle.seh_num.specs.declared.size.TheConstants.{LONGEST_INSTRUCTION}
 use Rattle.flat_memory.specs.declared.access.RefusedAccess.{RefusedAccess}
 use Rattle.flat_memory.specs.declared.access.RefusedAccess.TheVariants as accesses
 use Rattle.flat_memory.specs.Memory.{Memory, executable, loaded, stored, after_store}
@@ -71,7 +73,8 @@ abbrev pub register : Cpu → Reg → ℕ
 register c r = slice_index c.registers (number r)
 
 abbrev pub with_register : Width → Cpu → Reg → ℕ → Cpu
-with_register w c r v = record c { registers = slice_set c.registers (number r) (merged w (register c r) v) }
+with_register w c r v =
+    record c { registers = slice_set c.registers (number r) (merged w (register c r) v) }
 
 abbrev pub with_flags : State → Flags → State
 with_flags s f = record s { cpu = record s.cpu { flags = f } }
@@ -83,7 +86,7 @@ with_rip s a = record s { cpu = record s.cpu { rip = a } }
 
 -- a refused access is an access violation, but of the guard
 abbrev pub refusal : RefusedAccess → Stop
-refusal (accesses.Fault a write) = stops.Fault (record { 0 = 0xC0000005 }) (Some (write, a))
+refusal (accesses.Fault a write) = stops.Fault ACCESS_VIOLATION (Some (write, a))
 refusal (accesses.Guard a) = stops.Guard a
 
 abbrev pub granted : {A : Type 0} → Result A RefusedAccess → Answer A
@@ -113,7 +116,8 @@ abbrev pub load : Memory → ℕ → Width → Answer ℕ
 load m at w = granted (loaded m at w)
 
 abbrev pub store : State → ℕ → Width → ℕ → Answer State
-store s at w v = granted (stored s.memory at w) >>= λ _. Ok (record s { memory = after_store s.memory at w v })
+store s at w v =
+    granted (stored s.memory at w) >>= λ _. Ok (record s { memory = after_store s.memory at w v })
 
 -- ---- operands
 
@@ -203,20 +207,22 @@ multiply_by s w to from v = do
   let p = multiplied w a (low w v) s.cpu.flags in
       Ok (with_flags (record s { cpu = with_register w s.cpu to p.0 }) p.1)
 
--- no quotient: by 0 (STATUS_INTEGER_DIVIDE_BY_ZERO), or one that doesn't fit (STATUS_INTEGER_OVERFLOW)
+-- no quotient: by 0, or one that doesn't fit
 abbrev pub division_stop : DivFault → Stop
-division_stop faults.Zero = stops.Fault (record { 0 = 0xC0000094 }) None
-division_stop faults.Overflow = stops.Fault (record { 0 = 0xC0000095 }) None
+division_stop faults.Zero = stops.Fault INTEGER_DIVIDE_BY_ZERO None
+division_stop faults.Overflow = stops.Fault INTEGER_OVERFLOW None
 
 abbrev pub with_quotient : State → Width → Result (ℕ × ℕ) DivFault → Answer State
-with_quotient s w (Ok x) = Ok (record s { cpu = with_register w (with_register w s.cpu Rax x.0) Rdx x.1 })
+with_quotient s w (Ok x) =
+    Ok (record s { cpu = with_register w (with_register w s.cpu Rax x.0) Rdx x.1 })
 with_quotient s w (Err e) = Err (division_stop e)
 
 -- the flags stay
 abbrev pub divide : State → Division → Width → RegisterOrMemory → Answer State
 divide s d w by = do
   v ← read s w by
-  with_quotient s w (divided d w (joined w (low w (register s.cpu Rdx)) (low w (register s.cpu Rax))) v)
+  with_quotient s w (divided d w (joined w (low w (register s.cpu Rdx))
+      (low w (register s.cpu Rax))) v)
 
 -- copies of the top bit of RAX
 abbrev pub sign_of_rax : Width → Cpu → ℕ
@@ -275,14 +281,16 @@ effect s (instrs.Move w to from) = do
   v ← operand s w from
   write s w to v
 effect s (instrs.Extend e w to narrow from) = extend s e w to narrow from
-effect s (instrs.LoadAddress w to m) = Ok (record s { cpu = with_register w s.cpu to (address_of s.cpu m) })
+effect s (instrs.LoadAddress w to m) =
+    Ok (record s { cpu = with_register w s.cpu to (address_of s.cpu m) })
 effect s (instrs.Arithmetic o w to from) = arithmetic s o w to from
 effect s (instrs.Test w first second) = compare s operations.And w first second
 effect s (instrs.Multiply w to from) = multiply s w to from
 effect s (instrs.MultiplyBy w to from v) = multiply_by s w to from v
 effect s (instrs.Unary o w to) = unary s o w to
 effect s (instrs.Divide d w by) = divide s d w by
-effect s (instrs.ExtendRax w) = Ok (record s { cpu = with_register w s.cpu Rdx (sign_of_rax w s.cpu) })
+effect s (instrs.ExtendRax w) =
+    Ok (record s { cpu = with_register w s.cpu Rdx (sign_of_rax w s.cpu) })
 effect s (instrs.Shift d w to by) = shift s d w to by
 effect s (instrs.Set c to) = write s W8 to (condition_byte s.cpu.flags c)
 effect s (instrs.JumpIf c d) = Ok (record s { cpu = jumped s.cpu c d })
@@ -309,7 +317,9 @@ is_trap i = false
 
 abbrev pub execute : State → Option (Instr × ℕ) → Answer State
 execute s None = Err (stops.Illegal s.cpu.rip)
-execute s (Some x) = if is_trap x.0 then Err (stops.Illegal s.cpu.rip) else effect (with_rip s ((s.cpu.rip + x.1) % 2 ^ 64)) x.0
+execute s (Some x) =
+    if is_trap x.0 then Err (stops.Illegal s.cpu.rip)
+    else effect (with_rip s ((s.cpu.rip + x.1) % 2 ^ 64)) x.0
 
 -- in the host's page its services alone can be reached, but the language handler isn't run as code
 abbrev pub hosted : ℕ → Option Service → Stop
@@ -318,7 +328,9 @@ hosted a (Some services.CSpecificHandler) = stops.Illegal a
 hosted a (Some service) = stops.Host a
 
 unfoldable pub step : State → Answer State
-step s = if in_host_page s.cpu.rip then Err (hosted s.cpu.rip (service_at s.cpu.rip)) else execute s (leading (executable s.memory 15 s.cpu.rip))
+step s =
+    if in_host_page s.cpu.rip then Err (hosted s.cpu.rip (service_at s.cpu.rip))
+    else execute s (leading (executable s.memory LONGEST_INSTRUCTION s.cpu.rip))
 
 -- ---- what the code answers
 

@@ -16,7 +16,8 @@ count_of w n = n % 32
 abbrev pub shifted : Direction → Width → ℕ → ℕ → ℕ
 shifted Left w a c = low w (a * 2 ^ c)
 shifted Right w a c = a / 2 ^ c
-shifted ArithmeticRight w a c = if nat_lt a (half w) then a / 2 ^ c else low w (a / 2 ^ c + (limit w - limit w / 2 ^ c))
+shifted ArithmeticRight w a c =
+    if nat_lt a (half w) then a / 2 ^ c else low w (a / 2 ^ c + (limit w - limit w / 2 ^ c))
 
 -- the last bit that was moved out, of a count above 0
 abbrev pub last_out : Direction → Width → ℕ → ℕ → Bool

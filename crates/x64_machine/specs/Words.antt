@@ -7,14 +7,24 @@ use Rattle.seh_num.specs.Division.{is_signed}
 use Rattle.x64_machine.specs.declared.cpu.Flags.{Flags}
 
 abbrev pub flags_of : Width → ℕ → Bool → Bool → Flags
-flags_of w v carry overflow = record { carry = carry; zero = nat_eq v 0; sign = nat_le (half w) v; overflow = overflow }
+flags_of w v carry overflow =
+    record { carry = carry; zero = nat_eq v 0; sign = nat_le (half w) v; overflow = overflow }
 
--- a carry where the sum of the unsigned numbers doesn't fit, an overflow where that of the signed ones doesn't
+-- a carry where the sum of the unsigned numbers doesn't fit, an overflow where that of the signed
+-- ones doesn't
 unfoldable pub added : Width → ℕ → ℕ → ℕ × Flags
-added w a b = (low w (a + b), flags_of w (low w (a + b)) (nat_le (limit w) (a + b)) (not (is_signed w (signed w a +ℤ signed w b))))
+added w a b = (
+  low w (a + b),
+  flags_of w (low w (a + b)) (nat_le (limit w) (a + b))
+      (not (is_signed w (signed w a +ℤ signed w b))),
+)
 
 unfoldable pub subtracted : Width → ℕ → ℕ → ℕ × Flags
-subtracted w a b = (low w (a + (limit w - b)), flags_of w (low w (a + (limit w - b))) (nat_lt a b) (not (is_signed w (signed w a -ℤ signed w b))))
+subtracted w a b = (
+  low w (a + (limit w - b)),
+  flags_of w (low w (a + (limit w - b))) (nat_lt a b)
+      (not (is_signed w (signed w a -ℤ signed w b))),
+)
 
 unfoldable pub multiplied : Width → ℕ → ℕ → Flags → ℕ × Flags
 multiplied w a b f =

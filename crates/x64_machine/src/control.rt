@@ -1,4 +1,5 @@
-//! The stack, jumps, calls and conditions (Intel manual, volume 1, "Control Transfer Instructions").
+//! The stack, jumps, calls and conditions (Intel manual, volume 1, "Control Transfer
+//! Instructions").
 
 ghost use Rattle.std.specs.Prelude.{◌≡◌, ◌<◌, ℕ, IfOk};
 ghost use Rattle.seh_num.specs.Widths.{limit};

@@ -13,20 +13,14 @@ use crate::operands::{may_change, operand, read, write};
 use crate::outcome::Stop;
 use crate::shifts::{count_of, shift, shift_flags};
 use crate::words::{add, invert, logical, multiply, subtract};
+use seh_num::code::{INTEGER_DIVIDE_BY_ZERO, INTEGER_OVERFLOW};
 use seh_num::division::DivFault;
-use seh_num::event::Code;
 use seh_num::extension::{sign_extend, wrap, zero_extend};
 use seh_num::width::Width;
 use x64_instr::instruction::{Count, Direction, Division, Extension, Instr, Operation, Unary};
 use x64_instr::operand::{Operand, RegisterOrMemory};
 use x64_instr::register::Reg;
 use x64_memory::space::AddressSpace;
-
-/// The code of a division by 0 (STATUS_INTEGER_DIVIDE_BY_ZERO).
-const DIVIDE_BY_ZERO: Code = Code(0xC000_0094);
-
-/// The code of a quotient that doesn't fit (STATUS_INTEGER_OVERFLOW).
-const INTEGER_OVERFLOW: Code = Code(0xC000_0095);
 
 fn computed(operation: Operation, width: Width, first: u64, second: u64) -> (u64, Flags)
     requires { second < limit width }
@@ -228,7 +222,7 @@ fn division_stop(fault: DivFault) -> Stop
     ensures { result ≡ spec.division_stop fault }
 {
     let code = match fault {
-        DivFault::Zero => DIVIDE_BY_ZERO,
+        DivFault::Zero => INTEGER_DIVIDE_BY_ZERO,
         DivFault::Overflow => INTEGER_OVERFLOW,
     };
     Stop::Fault { code, access: None }
@@ -412,8 +406,8 @@ fn transfer_effect<S: AddressSpace>(cpu: Cpu, space: &mut S, instr: &Instr) -> R
     }
 }
 
-/// What an instruction does, where RIP is that of the next one. INT3 and UD2 have no effect, and are
-/// stopped before it.
+/// What an instruction does, where RIP is that of the next one. INT3 and UD2 have no effect, and
+/// are stopped before it.
 pub(crate) fn effect<S: AddressSpace>(cpu: Cpu, space: &mut S, instr: &Instr) -> Result<Cpu, Stop>
     ensures answer { Answers result (spec.effect (spec.state cpu (S.memory space.old)) instr.now) }
     ensures memory { LeavesMemory (S.memory space.old) (S.memory space.new)

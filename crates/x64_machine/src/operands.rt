@@ -9,15 +9,12 @@ use crate::cpu::Cpu;
 use crate::outcome::Stop;
 use crate::words::merge;
 use flat_memory::access::RefusedAccess;
-use seh_num::event::Code;
+use seh_num::code::ACCESS_VIOLATION;
 use seh_num::extension::zero_extend;
 use seh_num::width::Width;
 use x64_instr::operand::{Base, MemRef, Operand, RegisterOrMemory, Scale};
 use x64_instr::register::Reg;
 use x64_memory::space::AddressSpace;
-
-/// The code of an access violation (Windows headers, STATUS_ACCESS_VIOLATION).
-const ACCESS_VIOLATION: Code = Code(0xC000_0005);
 
 impl Cpu {
     /// The number in a register.

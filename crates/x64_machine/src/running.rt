@@ -8,6 +8,7 @@ use crate::effect::effect;
 use crate::outcome::{StepOutcome, Stop};
 use host_layout::range::{HOST_PAGE_END, HOST_PAGE_START};
 use host_layout::service::Service;
+use seh_num::size::LONGEST_INSTRUCTION;
 use x64_instr::decoding::decode;
 use x64_instr::instruction::Instr;
 use x64_memory::space::AddressSpace;
@@ -42,8 +43,8 @@ fn is_trap(instr: &Instr) -> bool
     }
 }
 
-/// What an instruction of so many bytes does at RIP. INT3 and UD2 do nothing but to stop at their own
-/// address. After a stop the memory is as before.
+/// What an instruction of so many bytes does at RIP. INT3 and UD2 do nothing but to stop at their
+/// own address. After a stop the memory is as before.
 pub fn execute<S: AddressSpace>(
     cpu: Cpu,
     space: &mut S,
@@ -64,8 +65,8 @@ pub fn execute<S: AddressSpace>(
 }
 
 /// One step of the processor. In the host's page no instruction is fetched: the step says that the
-/// host's service is due, or that there is none. After anything but `Next`, registers and memory are
-/// as before.
+/// host's service is due, or that there is none. After anything but `Next`, registers and memory
+/// are as before.
 #[tactic(auto, unfolding(crate::specs::Effect::step))]
 pub fn step<S: AddressSpace>(cpu: &mut Cpu, space: &mut S) -> StepOutcome
     ensures answer { result
@@ -78,7 +79,7 @@ pub fn step<S: AddressSpace>(cpu: &mut Cpu, space: &mut S) -> StepOutcome
     if HOST_PAGE_START <= cpu.rip && cpu.rip < HOST_PAGE_END {
         return refused(hosted(cpu.rip));
     }
-    let mut bytes = [0; 15];
+    let mut bytes = [0; LONGEST_INSTRUCTION];
     let count = space.fetch(cpu.rip, &mut bytes);
     let Some((instr, len)) = decode(&bytes[..count]) else {
         return StepOutcome::Illegal { rip: cpu.rip };

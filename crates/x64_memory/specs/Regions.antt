@@ -1,6 +1,6 @@
 -- Memory as it is mapped by regions.
 use Rattle.std.specs.Prelude.{◌≡◌, ℕ, ◌+◌, ◌%◌, ◌≤◌, ◌<◌, Bool, true, false, ◌&&◌, ◌||◌, nat_le, nat_lt, if◌then◌else◌, List, [], ◌∷◌, length, slice_index, ◌-◌}
-use Rattle.host_layout.specs.declared.range.TheConstants.{ARENA_START, ARENA_END}
+use Rattle.host_layout.specs.declared.range.TheConstants.{ARENA_START, ARENA_END, PAGE}
 use Rattle.flat_memory.specs.declared.protection.Protection.{Protection}
 use Rattle.flat_memory.specs.declared.protection.TheConstants.{UNMAPPED}
 use Rattle.flat_memory.specs.declared.protection.Rights.{Rights}
@@ -21,7 +21,12 @@ covers r a = nat_le r.start a && nat_lt a r.end
 
 -- a region over what was there
 abbrev pub with_region : Memory → Region → Memory
-with_region m r = record { protection = λ a. if covers r a then region_mode r else m.protection a; byte = λ a. if covers r a then 0 else m.byte a }
+with_region m r =
+    record {
+      protection = λ a. if covers r a then region_mode r
+          else m.protection a;
+      byte = λ a. if covers r a then 0 else m.byte a;
+    }
 
 abbrev pub mapped_over : Memory → List Region → Memory
 mapped_over m [] = m
@@ -41,8 +46,8 @@ in_regions (r ∷ rs) a = covers r a || in_regions rs a
 
 -- a region of whole pages, writable only where it is readable
 pub record IsWhole (r : Region) : Type 0 where
-  pub start : r.start % 4096 ≡ 0
-  pub end : r.end % 4096 ≡ 0
+  pub start : r.start % PAGE ≡ 0
+  pub end : r.end % PAGE ≡ 0
   pub order : r.start ≤ r.end
   pub readable : r.write ≡ true → r.read ≡ true
 
@@ -51,7 +56,12 @@ HoldsArena rs = (a : ℕ) → ARENA_START ≤ a → a < ARENA_END → in_regions
 
 -- memory with bytes put at a place, whatever the protection there
 abbrev pub filled : Memory → ℕ → List ℕ → Memory
-filled m at xs = record { protection = m.protection; byte = λ a. if nat_le at a && nat_lt a (at + length xs) then slice_index xs (a - at) else m.byte a }
+filled m at xs =
+    record {
+      protection = m.protection;
+      byte = λ a. if nat_le at a && nat_lt a (at + length xs)
+          then slice_index xs (a - at) else m.byte a;
+    }
 
 -- each region begins where the one before ends or above, and none below an address
 abbrev pub AreAscending : ℕ → List Region → Type 0

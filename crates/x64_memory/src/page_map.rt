@@ -13,11 +13,12 @@ use crate::stretch::{self, Stretch};
 use flat_memory::access::RefusedAccess;
 use flat_memory::protection::{Protection, Rights, UNMAPPED};
 use host_layout::range::{ARENA_END, ARENA_START, PAGE};
+use seh_num::size::LONGEST_INSTRUCTION;
 use seh_num::width::Width;
 use std::alloc::{AllocError, Global};
 
-/// Memory in a table of stretches of pages, which holds those of the arena. A page is found by halves
-/// among the stretches, and by its place in its stretch.
+/// Memory in a table of stretches of pages, which holds those of the arena. A page is found by
+/// halves among the stretches, and by its place in its stretch.
 #[derive(Drop)]
 pub struct PageMap {
     stretches: Vec<Stretch>,
@@ -59,7 +60,7 @@ fn add_pages(pages: &mut Vec<Page>, count: u64, protection: Protection) -> Resul
     for _i in 0..count {
         pages.push(Page {
             protection,
-            bytes: [0; 4096],
+            bytes: [0; PAGE as usize],
         })?;
     }
     Ok(())
@@ -74,7 +75,7 @@ fn map_region(
     requires whole { IsWhole region.now }
     requires laid { AreLaid 0 0 stretches.old.items }
     requires count { length pages.old.items ≡ count_from 0 stretches.old.items }
-    requires above { 4096 * end_from 0 stretches.old.items ≤ region.now.start }
+    requires above { PAGE * end_from 0 stretches.old.items ≤ region.now.start }
     ensures memory { OnOk result (paged (page_numbered stretches.new.items pages.new.items)
         ≡ with_region (paged (page_numbered stretches.old.items pages.old.items)) region.now) }
     ensures holds { OnOk result
@@ -82,7 +83,7 @@ fn map_region(
         ≡ (covers region.now a || has_page (page_numbered stretches.old.items pages.old.items) a)) }
     ensures laid { OnOk result (AreLaid 0 0 stretches.new.items) }
     ensures count { OnOk result (length pages.new.items ≡ count_from 0 stretches.new.items) }
-    ensures end { OnOk result (4096 * end_from 0 stretches.new.items ≡ region.now.end) }
+    ensures end { OnOk result (PAGE * end_from 0 stretches.new.items ≡ region.now.end) }
 {
     let stretch = Stretch {
         first: region.start / PAGE,
@@ -97,8 +98,8 @@ fn map_region(
 impl PageMap {
     ghost use Rattle.x64_memory.specs.PageMaps.{memory_of, holds, pages_of};
 
-    /// Memory in which the regions are mapped, each with its protection, and all bytes are 0. Only the
-    /// system's memory can be wanting.
+    /// Memory in which the regions are mapped, each with its protection, and all bytes are 0. Only
+    /// the system's memory can be wanting.
     pub fn new(alloc: Global, regions: &[Region]) -> Result<PageMap, AllocError>
         requires whole { All IsWhole regions.now }
         requires ascending { AreAscending 0 regions.now }
@@ -116,7 +117,7 @@ impl PageMap {
 
     /// Where the page of an address is kept.
     fn index(&self, at: u64) -> Option<usize>
-        ensures value { result ≡ index_of self.now.stretches.items (at / 4096) }
+        ensures value { result ≡ index_of self.now.stretches.items (at / PAGE) }
         ensures within { IfSome result (λ i. i < length self.now.pages.items) }
     {
         stretch::index_of(&self.stretches, at / PAGE)
@@ -124,7 +125,7 @@ impl PageMap {
 
     /// Puts bytes into one page, whatever its protection.
     fn fill_page(&mut self, at: u64, piece: &[u8])
-        requires within { at % 4096 + length piece.now ≤ 4096 }
+        requires within { at % PAGE + length piece.now ≤ PAGE }
         requires there { holds self.old at ≡ true }
         ensures memory { memory_of self.new ≡ filled (memory_of self.old) at piece.now }
         ensures holds { (a : ℕ) → holds self.new a ≡ holds self.old a }
@@ -136,8 +137,8 @@ impl PageMap {
         }
     }
 
-    /// Puts bytes at an address, whatever the protection there, and changes nothing else. The bytes lie
-    /// in mapped regions.
+    /// Puts bytes at an address, whatever the protection there, and changes nothing else. The bytes
+    /// lie in mapped regions.
     pub fn fill(&mut self, at: u64, piece: &[u8])
         requires room { at + length piece.now < 2 ^ 64 }
         requires there { (a : ℕ) → at ≤ a → a < at + length piece.now → holds self.old a ≡ true }
@@ -197,7 +198,7 @@ impl AddressSpace for PageMap {
         paged::store(self, at, width, value)
     }
 
-    fn fetch(&self, at: u64, into: &mut [u8; 15]) -> usize {
+    fn fetch(&self, at: u64, into: &mut [u8; LONGEST_INSTRUCTION]) -> usize {
         paged::fetch(self, at, into)
     }
 

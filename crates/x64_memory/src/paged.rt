@@ -1,4 +1,5 @@
-//! Accesses to memory that is kept in pages: a page is looked up once for an access that lies in it.
+//! Accesses to memory that is kept in pages: a page is looked up once for an access that lies in
+//! it.
 
 ghost use Rattle.std.specs.Prelude.{◌≡◌, ◌+◌, ◌*◌, ◌%◌, ◌≤◌, ◌^◌, ◌<◌, ℕ, true, None, IfOk, length, take, slice_index};
 ghost use Rattle.seh_num.specs.Widths.{bytes_of, limit};
@@ -10,20 +11,21 @@ use byteorder::{ByteOrder, LittleEndian};
 use flat_memory::access::RefusedAccess;
 use flat_memory::protection::Protection;
 use host_layout::range::{GUARD_START, PAGE, STACK_START};
+use seh_num::size::LONGEST_INSTRUCTION;
 use seh_num::width::Width;
 
 /// Memory that is kept in pages.
 pub trait Paged {
     ghost memory: { Self → Memory };
 
-    /// The protection at an address, and the bytes from there to the end of its page; none where no page
-    /// is.
+    /// The protection at an address, and the bytes from there to the end of its page; none where no
+    /// page is.
     fn rest_of_page(&self, at: u64) -> (Protection, &[u8])
         ensures { IsRestOfPage (memory self.now) at result.0 result.1.now };
 
     /// Puts the low bytes of a number into one page.
     fn put(&mut self, at: u64, width: Width, value: u64)
-        requires within { at % 4096 + bytes_of width ≤ 4096 }
+        requires within { at % PAGE + bytes_of width ≤ PAGE }
         requires may { may_write (memory self.old) at ≡ true }
         ensures { memory self.new ≡ with_bytes (memory self.old)
             (with_number (memory self.old).byte (bytes_of width) at value) };
@@ -176,19 +178,19 @@ pub fn store<P: Paged>(
     Ok(())
 }
 
-/// The executable bytes from an address on, as many as there are of fifteen.
-pub fn fetch<P: Paged>(space: &P, at: u64, into: &mut [u8; 15]) -> usize
-    ensures count { result ≤ 15 }
-    ensures bytes { take result into.new ≡ executable (P.memory space.now) 15 at }
+/// The executable bytes from an address on, as many as there are of the longest instruction.
+pub fn fetch<P: Paged>(space: &P, at: u64, into: &mut [u8; LONGEST_INSTRUCTION]) -> usize
+    ensures count { result ≤ LONGEST_INSTRUCTION }
+    ensures bytes { take result into.new ≡ executable (P.memory space.now) LONGEST_INSTRUCTION at }
 {
     let mut here = at;
     let mut filled: usize = 0;
-    while filled < 15 {
+    while filled < LONGEST_INSTRUCTION {
         let (protection, bytes) = space.rest_of_page(here);
         if !protection.execute {
             break;
         }
-        let count = bytes.len().min(15 - filled);
+        let count = bytes.len().min(LONGEST_INSTRUCTION - filled);
         if count == 0 {
             break;
         }

@@ -3,10 +3,11 @@ ghost use Rattle.seh_num.specs.Widths.{limit};
 ghost use Rattle.flat_memory.specs.Memory.{Memory, executable, loaded, stored, after_store, rights_asked, protected};
 
 use flat_memory::access::RefusedAccess;
+use seh_num::size::LONGEST_INSTRUCTION;
 use seh_num::width::Width;
 
-/// A machine's memory. What it means is a map from addresses to a protection and a byte; every method is
-/// an equation on that map. No method takes memory of the system.
+/// A machine's memory. What it means is a map from addresses to a protection and a byte; every
+/// method is an equation on that map. No method takes memory of the system.
 pub trait AddressSpace {
     ghost memory: { Self → Memory };
 
@@ -15,7 +16,8 @@ pub trait AddressSpace {
         ensures value { result ≡ loaded (memory self.now) at width }
         ensures fits { IfOk result (λ v. v < limit width) };
 
-    /// Whether a number may be put at an address; refused by the first byte that may not be written.
+    /// Whether a number may be put at an address; refused by the first byte that may not be
+    /// written.
     fn may_store(&self, at: u64, width: Width) -> Result<(), RefusedAccess>
         ensures { result ≡ stored (memory self.now) at width };
 
@@ -24,11 +26,11 @@ pub trait AddressSpace {
         ensures answer { result ≡ stored (memory self.old) at width }
         ensures after { memory self.new ≡ after_store (memory self.old) at width value };
 
-    /// The executable bytes from an address on, as many as there are of fifteen, which is the length
-    /// of the longest instruction (Intel manual, volume 2, "Instruction Format").
-    fn fetch(&self, at: u64, into: &mut [u8; 15]) -> usize
-        ensures count { result ≤ 15 }
-        ensures bytes { take result into.new ≡ executable (memory self.now) 15 at };
+    /// The executable bytes from an address on, as many as there are of fifteen, which is the
+    /// length of the longest instruction (Intel manual, volume 2, "Instruction Format").
+    fn fetch(&self, at: u64, into: &mut [u8; LONGEST_INSTRUCTION]) -> usize
+        ensures count { result ≤ LONGEST_INSTRUCTION }
+        ensures bytes { take result into.new ≡ executable (memory self.now) LONGEST_INSTRUCTION at };
 
     /// Sets what may be done with the page of the arena that holds an address, by the number of the
     /// rights: none (0), reading (1), reading and writing (2). False, and nothing changed, exactly

@@ -12,11 +12,19 @@ with_sp rest sp = set rest 1 sp
 
 -- R8 and R9 stand sixth and seventh of the registers from RBX on
 abbrev pub with_four : MachineView → ℕ → ℕ → ℕ → ℕ → MachineView
-with_four v a b c d = record { rax = v.rax; rcx = a; rdx = b; rest = set (set v.rest 5 c) 6 d; memory = v.memory }
+with_four v a b c d =
+    record { rax = v.rax; rcx = a; rdx = b; rest = set (set v.rest 5 c) 6 d; memory = v.memory }
 
 -- the return address is below what was RSP
 abbrev pub pushed : MachineView → ℕ → ℕ → MachineView
-pushed v sp back = record { rax = v.rax; rcx = v.rcx; rdx = v.rdx; rest = with_sp v.rest (sp - 8); memory = with_bytes v.memory (with_number v.memory.byte 8 (sp - 8) back) }
+pushed v sp back =
+    record {
+      rax = v.rax;
+      rcx = v.rcx;
+      rdx = v.rdx;
+      rest = with_sp v.rest (sp - 8);
+      memory = with_bytes v.memory (with_number v.memory.byte 8 (sp - 8) back);
+    }
 
 -- n bytes below RSP may be written
 pub record HasBelow (m : Memory) (sp n : ℕ) : Type 0 where
@@ -31,4 +39,5 @@ pub record HasBack (m : Memory) (sp back : ℕ) : Type 0 where
   pub small : back < 2 ^ 64
 
 abbrev pub moved : MachineView → ℕ → MachineView
-moved v sp = record { rax = v.rax; rcx = v.rcx; rdx = v.rdx; rest = with_sp v.rest sp; memory = v.memory }
+moved v sp =
+    record { rax = v.rax; rcx = v.rcx; rdx = v.rdx; rest = with_sp v.rest sp; memory = v.memory }

@@ -1,5 +1,6 @@
 -- Turns of a run over code that flows, one after another.
 use Rattle.std.specs.Prelude.{◌≡◌, ℕ, zero, suc, ◌+◌, ◌⊎◌, false, List, ◌∷◌, ◌++◌, Some, Ok}
+use Rattle.seh_num.specs.declared.size.TheConstants.{LONGEST_INSTRUCTION}
 use Rattle.flat_memory.specs.Memory.{executable}
 use Rattle.x64_instr.specs.declared.instruction.Instr.{Instr}
 use Rattle.x64_instr.specs.Spelling.{leading}
@@ -13,7 +14,9 @@ abbrev pub AllTurns : (State → State → Type 0) → ℕ → State → Type 0
 AllTurns Turn zero s = Unit {0}
 AllTurns Turn (suc n) s = (u : State) → step s ≡ Ok u → Turn s u × AllTurns Turn n u
 
--- a state in the midst of code that began in one state and ends in another: RIP is at one of its instructions, RSP and the nonvolatile registers are those of the begin, and memory is that of the begin or of the end
+-- a state in the midst of code that began in one state and ends in another: RIP is at one of its
+-- instructions, RSP and the nonvolatile registers are those of the begin, and memory is that of the
+-- begin or of the end
 pub record IsMidst (code : List Instr) (s w u : State) : Type 0 where
   pub done : List Instr
   pub item : Instr
@@ -27,7 +30,8 @@ pub record IsMidst (code : List Instr) (s w u : State) : Type 0 where
 pub record IsTurnOf (code : List Instr) (s w u v : State) : Type 0 where
   pub steps : step u ≡ Ok v
   pub instruction : Instr
-  pub read : leading (executable u.memory 15 u.cpu.rip) ≡ Some (instruction, size instruction)
+  pub read : leading (executable u.memory LONGEST_INSTRUCTION u.cpu.rip)
+      ≡ Some (instruction, size instruction)
   pub no_call : is_call instruction ≡ false
   pub from : IsMidst code s w u
   pub to : IsMidst code s w v ⊎ (v ≡ w)

@@ -13,11 +13,14 @@ use Rattle.x64_templates.specs.Runs.{Frame}
 -- so many arguments from one on, in the locals of their numbers
 abbrev pub with_arguments : (Slot → ℕ) → (ℕ → ℕ) → ℕ → ℕ → Slot → ℕ
 with_arguments slots arguments i zero = slots
-with_arguments slots arguments i (suc n) = with_arguments (with_slot slots (Local i) (arguments i)) arguments (i + 1) n
+with_arguments slots arguments i (suc n) =
+    with_arguments (with_slot slots (Local i) (arguments i)) arguments (i + 1) n
 
--- what a call passes: four temporaries from the first one on, and as further arguments the first temporaries of all
+-- what a call passes: four temporaries from the first one on, and as further arguments the first
+-- temporaries of all
 abbrev pub passed : (Slot → ℕ) → ℕ → ℕ → ℕ
-passed slots first i = if nat_lt i 4 then slots (Temporary (first + i)) else slots (Temporary (i - 4))
+passed slots first i =
+    if nat_lt i 4 then slots (Temporary (first + i)) else slots (Temporary (i - 4))
 
 -- the first four arguments are in registers
 pub record InRegisters (v : MachineView) (arguments : ℕ → ℕ) : Type 0 where
@@ -28,9 +31,12 @@ pub record InRegisters (v : MachineView) (arguments : ℕ → ℕ) : Type 0 wher
 
 -- the further ones stand above the frame, where no slot is
 pub record OnStack (p : Frame) (m : Memory) (count : ℕ) (arguments : ℕ → ℕ) : Type 0 where
-  pub number : (i : ℕ) → 4 ≤ i → i < count → number_at m.byte 8 (p.sp + stack_parameter p.layout i) ≡ arguments i
-  pub readable : (i a : ℕ) → 4 ≤ i → i < count → p.sp + stack_parameter p.layout i ≤ a → a < p.sp + stack_parameter p.layout i + 8 → may_read m a ≡ true
-  pub own : (i a : ℕ) → 4 ≤ i → i < count → p.sp + stack_parameter p.layout i ≤ a → a < p.sp + stack_parameter p.layout i + 8 → p.reserved a ≡ true
+  pub number : (i : ℕ) → 4 ≤ i → i < count
+      → number_at m.byte 8 (p.sp + stack_parameter p.layout i) ≡ arguments i
+  pub readable : (i a : ℕ) → 4 ≤ i → i < count → p.sp + stack_parameter p.layout i ≤ a
+      → a < p.sp + stack_parameter p.layout i + 8 → may_read m a ≡ true
+  pub own : (i a : ℕ) → 4 ≤ i → i < count → p.sp + stack_parameter p.layout i ≤ a
+      → a < p.sp + stack_parameter p.layout i + 8 → p.reserved a ≡ true
   pub near : (i : ℕ) → i < count → stack_parameter p.layout i < 2 ^ 31
   pub small : (i : ℕ) → i < count → arguments i < 2 ^ 64
 
@@ -47,13 +53,16 @@ joined locals temporaries (Temporary i) = temporaries (Temporary i)
 
 -- the body whose slots hold what memory has at their places
 abbrev pub body_in_memory : Layout → ℕ → ℕ → Memory → Memory → BodyState
-body_in_memory y sp base m source = record { slots = λ x. number_at m.byte 8 (slot_at y sp base x); memory = source }
+body_in_memory y sp base m source =
+    record { slots = λ x. number_at m.byte 8 (slot_at y sp base x); memory = source }
 
 -- a frame's memory before its body begins
 pub record FreshFrame (p : Frame) (m source : Memory) : Type 0 where
   pub bytes : IsBytes m
-  pub writable : (a : ℕ) → InTemporaries p.layout p.counts p.sp a ⊎ InLocals p.layout p.counts p.base a → may_write m a ≡ true
-  pub own : (a : ℕ) → InTemporaries p.layout p.counts p.sp a ⊎ InLocals p.layout p.counts p.base a → p.reserved a ≡ true
+  pub writable : (a : ℕ) → InTemporaries p.layout p.counts p.sp a
+      ⊎ InLocals p.layout p.counts p.base a → may_write m a ≡ true
+  pub own : (a : ℕ) → InTemporaries p.layout p.counts p.sp a ⊎ InLocals p.layout p.counts p.base a
+      → p.reserved a ≡ true
   pub base : KeepsBase p.layout.base p.sp p.base m
   pub own_base : KeepsReserved p.layout.base p.sp p.reserved
   pub agrees : Agrees p.reserved m source

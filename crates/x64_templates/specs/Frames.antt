@@ -21,7 +21,8 @@ InTemporaries y n sp a = (sp + y.temporaries ≤ a) × (a < sp + (y.temporaries 
 abbrev pub InLocals : Layout → Counts → ℕ → ℕ → Type 0
 InLocals y n base a = (base + y.locals ≤ a) × (a < base + (y.locals + 8 * n.locals))
 
--- the place in which the base is kept lies below the temporaries and below the locals; a function's base is its RSP
+-- the place in which the base is kept lies below the temporaries and below the locals; a function's
+-- base is its RSP
 abbrev pub HasBase : Layout → Option ℕ → ℕ → ℕ → Type 0
 HasBase y None sp base = base ≡ sp
 HasBase y (Some b) sp base = (b + 8 ≤ y.temporaries) × (sp + (b + 8) ≤ base + y.locals)
@@ -32,26 +33,31 @@ pub record HasRoom (y : Layout) (n : Counts) (sp base : ℕ) : Type 0 where
   pub locals : y.locals + 8 * n.locals < 2 ^ 31
   pub high : sp < 2 ^ 47
   pub base_high : base < 2 ^ 47
-  pub apart : (base + (y.locals + 8 * n.locals) ≤ sp + y.temporaries) ⊎ (sp + (y.temporaries + 8 * n.temporaries) ≤ base + y.locals)
+  pub apart : (base + (y.locals + 8 * n.locals) ≤ sp + y.temporaries)
+      ⊎ (sp + (y.temporaries + 8 * n.temporaries) ≤ base + y.locals)
   pub kept_base : HasBase y y.base sp base
 
 -- the base that is kept
 abbrev pub KeepsBase : Option ℕ → ℕ → ℕ → Memory → Type 0
 KeepsBase None sp base m = Unit {0}
-KeepsBase (Some b) sp base m = (number_at m.byte 8 (sp + b) ≡ base) × ((a : ℕ) → sp + b ≤ a → a < sp + (b + 8) → may_write m a ≡ true)
+KeepsBase (Some b) sp base m =
+    (number_at m.byte 8 (sp + b) ≡ base)
+    × ((a : ℕ) → sp + b ≤ a → a < sp + (b + 8) → may_write m a ≡ true)
 
 abbrev pub KeepsReserved : Option ℕ → ℕ → (ℕ → Bool) → Type 0
 KeepsReserved None sp reserved = Unit {0}
 KeepsReserved (Some b) sp reserved = (a : ℕ) → sp + b ≤ a → a < sp + (b + 8) → reserved a ≡ true
 
--- the machine's memory agrees with the source's on all bytes that aren't reserved; slots are reserved
+-- the machine's memory agrees with the source's on all bytes that aren't reserved; slots are
+-- reserved
 pub record Agrees (reserved : ℕ → Bool) (m source : Memory) : Type 0 where
   pub byte : (a : ℕ) → reserved a ≡ false → m.byte a ≡ source.byte a
   pub protection : (a : ℕ) → reserved a ≡ false → m.protection a ≡ source.protection a
   pub guard : (a : ℕ) → in_guard a ≡ true → reserved a ≡ true
 
 -- the slots hold their numbers, in memory that may be written and that is reserved
-pub record HoldsBody (y : Layout) (n : Counts) (reserved : ℕ → Bool) (sp base : ℕ) (m : Memory) (b : BodyState) : Type 0 where
+pub record HoldsBody (y : Layout) (n : Counts) (reserved : ℕ → Bool) (sp base : ℕ) (m : Memory)
+    (b : BodyState) : Type 0 where
   pub slot : (x : Slot) → IsSlot n x → number_at m.byte 8 (slot_at y sp base x) ≡ b.slots x
   pub small : (x : Slot) → IsSlot n x → b.slots x < 2 ^ 64
   pub kept_base : KeepsBase y.base sp base m
@@ -64,8 +70,11 @@ pub record HoldsBody (y : Layout) (n : Counts) (reserved : ℕ → Bool) (sp bas
 abbrev pub IsBytes : Memory → Type 0
 IsBytes m = (a : ℕ) → m.byte a < 256
 
--- what an instruction of a body leaves as it was: what may be done where, and the reserved bytes outside its slots
-pub record Changes (y : Layout) (n : Counts) (reserved : ℕ → Bool) (sp base : ℕ) (old new : Memory) : Type 0 where
+-- what an instruction of a body leaves as it was: what may be done where, and the reserved bytes
+-- outside its slots
+pub record Changes (y : Layout) (n : Counts) (reserved : ℕ → Bool) (sp base : ℕ)
+    (old new : Memory) : Type 0 where
   pub protection : new.protection ≡ old.protection
-  pub byte : (a : ℕ) → reserved a ≡ true → (InTemporaries y n sp a ⊎ InLocals y n base a → ⊥) → new.byte a ≡ old.byte a
+  pub byte : (a : ℕ) → reserved a ≡ true → (InTemporaries y n sp a ⊎ InLocals y n base a → ⊥)
+      → new.byte a ≡ old.byte a
   pub bytes : IsBytes old → IsBytes new

@@ -36,10 +36,12 @@ pub record HasOperands (o : Operation) (a b : ℕ) (v : MachineView) : Type 0 wh
 -- the first of the instructions faults, and so does nothing
 abbrev pub HeadFaults : List Instr → MachineView → Code → Option (Bool × ℕ) → Type 0
 HeadFaults [] v code access = ⊥
-HeadFaults (i ∷ is) v code access = (rip : ℕ) (flags : Flags) → effect (machine v rip flags) i ≡ Err (stops.Fault code access)
+HeadFaults (i ∷ is) v code access =
+    (rip : ℕ) (flags : Flags) → effect (machine v rip flags) i ≡ Err (stops.Fault code access)
 
 -- the result is in RAX, and the memory agrees with the source's; no reserved byte has changed
-pub record LeavesResult (reserved : ℕ → Bool) (code : List Instr) (v : MachineView) (x : ℕ) (source : Memory) : Type 0 where
+pub record LeavesResult (reserved : ℕ → Bool) (code : List Instr) (v : MachineView) (x : ℕ)
+    (source : Memory) : Type 0 where
   pub after : Memory
   pub yields : Yields code v x after
   pub small : x < 2 ^ 64

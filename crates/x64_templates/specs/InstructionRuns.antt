@@ -14,30 +14,43 @@ use Rattle.template_code.specs.Template.{Links, template, template_size, body_si
 use Rattle.x64_templates.specs.Runs.{HasCode, Frame, ReachesBody, ReachesFault}
 
 -- in so many turns, 1 to 16, the run comes to this address, with this body
-pub record RunsTo (p : Frame) (turns : ℕ) (s : State) (to : ℕ) (others : List ℕ) (b : BodyState) : Type 0 where
+pub record RunsTo (p : Frame) (turns : ℕ) (s : State) (to : ℕ) (others : List ℕ)
+    (b : BodyState) : Type 0 where
   pub least : 1 ≤ turns
   pub most : turns ≤ 16
   pub follows : ReachesBody p turns s to others b
 
--- by what the instruction means: on to the next one, or to a label, in one turn for each machine instruction of its template, or to a fault
-abbrev pub InstructionDone : Frame → Links → MachineView → ℕ → Flags → BodyState → Instruction → Step → Type 0
-InstructionDone p k v here flags b instruction (Next c) = RunsTo p (length (template k p.layout here instruction)) (machine v here flags) (here + template_size p.layout instruction) v.rest c
-InstructionDone p k v here flags b instruction (JumpsTo c label) = RunsTo p (length (template k p.layout here instruction)) (machine v here flags) (k.label label) v.rest c
-InstructionDone p k v here flags b (instructions.Compute to o first second) (Faults code access) = ReachesFault (length (operands_code p.layout o first second)) v here flags (here + sizes (operands_code p.layout o first second)) o (b.slots first) (b.slots second) code access
+-- by what the instruction means: on to the next one, or to a label, in one turn for each machine
+-- instruction of its template, or to a fault
+abbrev pub InstructionDone : Frame → Links → MachineView → ℕ → Flags → BodyState → Instruction
+    → Step → Type 0
+InstructionDone p k v here flags b instruction (Next c) =
+    RunsTo p (length (template k p.layout here instruction)) (machine v here flags)
+    (here + template_size p.layout instruction) v.rest c
+InstructionDone p k v here flags b instruction (JumpsTo c label) =
+    RunsTo p (length (template k p.layout here instruction)) (machine v here flags)
+    (k.label label) v.rest c
+InstructionDone p k v here flags b (instructions.Compute to o first second) (Faults code access) =
+    ReachesFault (length (operands_code p.layout o first second)) v here flags
+    (here + sizes (operands_code p.layout o first second)) o (b.slots first)
+    (b.slots second) code access
 InstructionDone p k v here flags b instruction _ = Unit {0}
 
 -- the same for n instructions, in n to 16 n turns
-pub record RunsAllTo (p : Frame) (n : ℕ) (s : State) (to : ℕ) (others : List ℕ) (b : BodyState) : Type 0 where
+pub record RunsAllTo (p : Frame) (n : ℕ) (s : State) (to : ℕ) (others : List ℕ)
+    (b : BodyState) : Type 0 where
   pub turns : ℕ
   pub least : n ≤ turns
   pub most : turns ≤ 16 * n
   pub follows : ReachesBody p turns s to others b
 
 -- a body whose code is placed where no source access reaches, with labels at its instructions
-pub record IsLinked (p : Frame) (k : Links) (m : Memory) (start : ℕ) (body : List Instruction) : Type 0 where
+pub record IsLinked (p : Frame) (k : Links) (m : Memory) (start : ℕ)
+    (body : List Instruction) : Type 0 where
   pub code : HasCode m start (code_from k p.layout start body)
   pub labels : IsBody k p.layout start body
   pub small : body_size p.layout body < 2 ^ 31
   pub high : start + body_size p.layout body < 2 ^ 48
   pub own : (a : ℕ) → start ≤ a → a < start + body_size p.layout body → p.reserved a ≡ true
-  pub slots : (number : ℕ) → number < length body → HasSlots p.counts (get_or body number instructions.Separator)
+  pub slots : (number : ℕ) → number < length body
+      → HasSlots p.counts (get_or body number instructions.Separator)

@@ -1,4 +1,5 @@
--- Straight instructions that leave RSP and the nonvolatile registers as they were, and those of them that leave memory.
+-- Straight instructions that leave RSP and the nonvolatile registers as they were, and those of
+-- them that leave memory.
 use Rattle.std.specs.Prelude.{◌≡◌, Bool, true, false, ◌⊎◌, List, [], ◌∷◌}
 use Rattle.x64_instr.specs.declared.register.Reg.{Reg}
 use Rattle.x64_instr.specs.declared.register.Reg.TheVariants.{Rax, Rcx, Rdx, R8, R9, R10, R11}

@@ -29,29 +29,36 @@ use Rattle.x64_templates.specs.Quiet.{AllQuiet, IsReturn}
 
 -- ---- operations and bodies
 
--- an operation's code does what the operation means: the result is in its slot, or its machine instruction faults
+-- an operation's code does what the operation means: the result is in its slot, or its machine
+-- instruction faults
 abbrev pub OperationsRun : Type 0
 OperationsRun =
-    (p : Frame) (to : Slot) (o : Operation) (first second : Slot) (v : MachineView) (rip : ℕ) (f : Flags) (b : BodyState)
-    → Roomy p → IsThere p to → IsThere p first → IsThere p second → sp_of v ≡ p.sp → Holds p v.memory b
+    (p : Frame) (to : Slot) (o : Operation) (first second : Slot) (v : MachineView) (rip : ℕ)
+    (f : Flags) (b : BodyState)
+    → Roomy p → IsThere p to → IsThere p first → IsThere p second → sp_of v ≡ p.sp
+    → Holds p v.memory b
     → HasCode v.memory rip (compute_code p.layout to o first second)
-    → Computed p to o first second v rip f b (step p.reserved (instructions.Compute to o first second) b)
+    → Computed p to o first second v rip f b
+    (step p.reserved (instructions.Compute to o first second) b)
 
--- so many instructions of a body, none of which needs the dispatcher, are run in at least as many and at most 16 times as many turns
+-- so many instructions of a body, none of which needs the dispatcher, are run in at least as many
+-- and at most 16 times as many turns
 abbrev pub BodiesRun : Type 0
 BodiesRun =
     (p : Frame) (k : Links) (start : ℕ) (body : List Instruction) (n : ℕ) → Roomy p
     → (number : ℕ) (v : MachineView) (f : Flags) (b : BodyState) (last : ℕ) (c : BodyState)
     → IsLinked p k v.memory start body → sp_of v ≡ p.sp → Holds p v.memory b
     → run p.reserved body n number b ≡ Some (last, c)
-    → RunsAllTo p n (machine v (start + offset_of p.layout body number) f) (start + offset_of p.layout body last) v.rest c
+    → RunsAllTo p n (machine v (start + offset_of p.layout body number) f)
+    (start + offset_of p.layout body last) v.rest c
 
 -- ---- faults
 
 -- where a body's instruction faults, so does the machine's, with both operands in their registers
 abbrev pub BodiesFault : Type 0
 BodiesFault =
-    (p : Frame) (k : Links) (start : ℕ) (body : List Instruction) (n number : ℕ) (v : MachineView) (f : Flags) (b : BodyState) (last : ℕ) (c : BodyState)
+    (p : Frame) (k : Links) (start : ℕ) (body : List Instruction) (n number : ℕ) (v : MachineView)
+    (f : Flags) (b : BodyState) (last : ℕ) (c : BodyState)
     (to first second : Slot) (o : Operation) (code : Code) (access : Option (Bool × ℕ))
     → Roomy p → IsLinked p k v.memory start body → sp_of v ≡ p.sp → Holds p v.memory b
     → run p.reserved body n number b ≡ Some (last, c) → last < length body
@@ -64,7 +71,8 @@ BodiesFault =
 -- the operation is made again with the same operands, in whatever memory there is by then
 abbrev pub FaultsAreRetried : Type 0
 FaultsAreRetried =
-    (p : Frame) (k : Links) (start : ℕ) (body : List Instruction) (number : ℕ) (v : MachineView) (f : Flags) (b : BodyState)
+    (p : Frame) (k : Links) (start : ℕ) (body : List Instruction) (number : ℕ) (v : MachineView)
+    (f : Flags) (b : BodyState)
     (to first second : Slot) (o : Operation) (x y : ℕ)
     → Roomy p → IsLinked p k v.memory start body → number < length body
     → get_or body number instructions.Separator ≡ instructions.Compute to o first second
@@ -75,25 +83,33 @@ FaultsAreRetried =
 
 -- ---- calls
 
--- a call comes to the callee's first byte, with the first four arguments in their registers and the return address at RSP
+-- a call comes to the callee's first byte, with the first four arguments in their registers and the
+-- return address at RSP
 abbrev pub CallsBegin : Type 0
 CallsBegin =
     (p : Frame) (first : ℕ) (v : MachineView) (rip to : ℕ) (f : Flags) (b : BodyState)
-    → Roomy p → first + 4 ≤ p.counts.temporaries → sp_of v ≡ p.sp → Holds p v.memory b → HasBelow v.memory p.sp 8
-    → IsNear (return_at p.layout first rip) to → HasCode v.memory rip (begin_call p.layout first rip to)
+    → Roomy p → first + 4 ≤ p.counts.temporaries → sp_of v ≡ p.sp → Holds p v.memory b
+    → HasBelow v.memory p.sp 8
+    → IsNear (return_at p.layout first rip) to
+    → HasCode v.memory rip (begin_call p.layout first rip to)
     → CallBegun p first v rip to f b
 
 -- a function's entry makes its frame and brings its arguments to the locals of their numbers
 abbrev pub FunctionsEnter : Type 0
 FunctionsEnter =
-    (p : Frame) (count : ℕ) (arguments : ℕ → ℕ) (v : MachineView) (source : Memory) (rip : ℕ) (f : Flags)
+    (p : Frame) (count : ℕ) (arguments : ℕ → ℕ) (v : MachineView) (source : Memory) (rip : ℕ)
+    (f : Flags)
     → Roomy p → IsFunction p → count ≤ p.counts.locals → length v.rest ≡ 13
     → sp_of v ≡ p.sp + p.layout.frame → p.layout.frame < 2 ^ 31
     → FreshFrame p v.memory source → InRegisters v arguments → OnStack p v.memory count arguments
     → HasCode v.memory rip (function_entry p.layout count)
     → EntersBody p (length (function_entry p.layout count)) (machine v rip f)
     (rip + sizes (function_entry p.layout count)) (with_sp v.rest p.sp)
-    (record { slots = with_arguments (body_in_memory p.layout p.sp p.base v.memory source).slots arguments 0 count; memory = source })
+    (record {
+      slots = with_arguments (body_in_memory p.layout p.sp p.base v.memory source).slots
+          arguments 0 count;
+      memory = source;
+    })
 
 -- a return leaves the number in RAX and gives the frame back
 abbrev pub BodiesReturn : Type 0
@@ -102,7 +118,8 @@ BodiesReturn =
     → Roomy p → IsThere p from → length v.rest ≡ 13 → sp_of v ≡ p.sp → p.layout.frame < 2 ^ 31
     → Holds p v.memory b → HasBack v.memory (p.sp + p.layout.frame) back
     → HasCode v.memory rip (return_code p.layout from)
-    → Returned (length (return_code p.layout from)) v (p.sp + p.layout.frame + 8) back (b.slots from) rip f
+    → Returned (length (return_code p.layout from)) v (p.sp + p.layout.frame + 8) back
+    (b.slots from) rip f
 
 -- ---- bytes
 
@@ -110,4 +127,5 @@ BodiesReturn =
 abbrev pub TemplatesAreQuiet : Type 0
 TemplatesAreQuiet =
     (k : Links) (y : Layout) (n : Counts) (sp base : ℕ) (at : ℕ) (instruction : Instruction)
-    → HasRoom y n sp base → HasSlots n instruction → (IsReturn instruction → ⊥) → AllQuiet (template k y at instruction)
+    → HasRoom y n sp base → HasSlots n instruction → (IsReturn instruction → ⊥)
+    → AllQuiet (template k y at instruction)

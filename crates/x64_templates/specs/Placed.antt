@@ -1,13 +1,17 @@
 -- Bytes of code at their place in memory.
 use Rattle.std.specs.Prelude.{◌≡◌, ℕ, ◌+◌, ◌^◌, ◌<◌, ◌≤◌, true, false, List, [], ◌∷◌}
+use Rattle.host_layout.specs.declared.limit.TheConstants.{LEAST_BASE}
 use Rattle.flat_memory.specs.Memory.{Memory, may_write}
 
 -- the bytes are placed at this address, to be executed and not to be written
 abbrev pub IsCodeAt : Memory → ℕ → List ℕ → Type 0
 IsCodeAt m at [] = Unit {0}
-IsCodeAt m at (b ∷ bytes) = (m.byte at ≡ b) × ((m.protection at).execute ≡ true) × (may_write m at ≡ false) × IsCodeAt m (at + 1) bytes
+IsCodeAt m at (b ∷ bytes) =
+    (m.byte at ≡ b) × ((m.protection at).execute ≡ true) × (may_write m at ≡ false)
+    × IsCodeAt m (at + 1) bytes
 
--- from this address to that one lies above 4 GiB and below 2 to the 48, away from the stack and the host's page
+-- from this address to that one lies above 4 GiB and below 2 to the 48, away from the stack and the
+-- host's page
 pub record IsPlaced (at to : ℕ) : Type 0 where
-  pub low : 0x100000000 ≤ at
+  pub low : LEAST_BASE ≤ at
   pub high : to < 2 ^ 48

@@ -13,8 +13,11 @@ use Rattle.template_code.specs.Slots.{finish_code}
 use Rattle.x64_templates.specs.Implements.{HasOperands}
 use Rattle.x64_templates.specs.Runs.{Reaches, Frame, Holds, ChangesOwn, ReachesBody}
 
--- n instructions of a body, and then one that faults: the run comes to the instruction of the machine that does
-pub record FaultsAfter (p : Frame) (n : ℕ) (v : MachineView) (rip : ℕ) (f : Flags) (at : ℕ) (o : Operation) (first second : ℕ) (code : Code) (access : Option (Bool × ℕ)) (b : BodyState) : Type 0 where
+-- n instructions of a body, and then one that faults: the run comes to the instruction of the
+-- machine that does
+pub record FaultsAfter (p : Frame) (n : ℕ) (v : MachineView) (rip : ℕ) (f : Flags) (at : ℕ)
+    (o : Operation) (first second : ℕ) (code : Code) (access : Option (Bool × ℕ))
+    (b : BodyState) : Type 0 where
   pub turns : ℕ
   pub least : n ≤ turns
   pub most : turns ≤ 16 * n + 16
@@ -27,8 +30,13 @@ pub record FaultsAfter (p : Frame) (n : ℕ) (v : MachineView) (rip : ℕ) (f : 
   pub changes : ChangesOwn p v.memory stopped.memory
   pub fault : machines.step (machine stopped at left) ≡ Err (stops.Fault code access)
 
--- made again, with the same operands, on whatever the body holds by then: on to the next instruction, or the fault again
-abbrev pub Retried : Frame → ℕ → Slot → Operation → MachineView → ℕ → Flags → BodyState → Outcome → Type 0
-Retried p next to o v at f b (Gives x m) = ReachesBody p (length (finish_code p.layout o to)) (machine v at f) next v.rest (record { slots = with_slot b.slots to x; memory = m })
-Retried p next to o v at f b (Raises code access) = machines.step (machine v at f) ≡ Err (stops.Fault code access)
+-- made again, with the same operands, on whatever the body holds by then: on to the next
+-- instruction, or the fault again
+abbrev pub Retried : Frame → ℕ → Slot → Operation → MachineView → ℕ → Flags → BodyState → Outcome
+    → Type 0
+Retried p next to o v at f b (Gives x m) =
+    ReachesBody p (length (finish_code p.layout o to)) (machine v at f) next v.rest
+    (record { slots = with_slot b.slots to x; memory = m })
+Retried p next to o v at f b (Raises code access) =
+    machines.step (machine v at f) ≡ Err (stops.Fault code access)
 Retried p next to o v at f b (Undefined a) = Unit {0}

@@ -11,9 +11,20 @@ use Rattle.x64_templates.specs.Runs.{Reaches, Frame}
 -- the body is left with this number in RAX, and RSP above the return address; no memory has changed
 pub record Returned (turns : ℕ) (v : MachineView) (sp back x rip : ℕ) (f : Flags) : Type 0 where
   pub flags : Flags
-  pub comes : Reaches turns (machine v rip f) (machine (moved (record { rax = x; rcx = v.rcx; rdx = v.rdx; rest = v.rest; memory = v.memory }) sp) back flags)
+  pub comes : Reaches turns (machine v rip f)
+      (machine (moved (record {
+        rax = x;
+        rcx = v.rcx;
+        rdx = v.rdx;
+        rest = v.rest;
+        memory = v.memory;
+      }) sp) back flags)
 
 -- with its arguments in their registers, and the return address at RSP
-pub record CallBegun (p : Frame) (first : ℕ) (v : MachineView) (rip to : ℕ) (f : Flags) (b : BodyState) : Type 0 where
+pub record CallBegun (p : Frame) (first : ℕ) (v : MachineView) (rip to : ℕ) (f : Flags)
+    (b : BodyState) : Type 0 where
   pub flags : Flags
-  pub comes : Reaches 5 (machine v rip f) (machine (pushed (with_four v (b.slots (Temporary first)) (b.slots (Temporary (first + 1))) (b.slots (Temporary (first + 2))) (b.slots (Temporary (first + 3)))) p.sp (return_at p.layout first rip)) to flags)
+  pub comes : Reaches 5 (machine v rip f)
+      (machine (pushed (with_four v (b.slots (Temporary first))
+      (b.slots (Temporary (first + 1))) (b.slots (Temporary (first + 2)))
+      (b.slots (Temporary (first + 3)))) p.sp (return_at p.layout first rip)) to flags)

@@ -1,6 +1,7 @@
 -- What a run comes to where the code of an operation is placed.
 use Rattle.std.specs.Prelude.{◌≡◌, ◌≢◌, ℕ, zero, suc, ◌+◌, ◌^◌, ◌<◌, Bool, false, List, Option, Some, Ok, Err, length}
 use Rattle.seh_num.specs.declared.event.Code.{Code}
+use Rattle.seh_num.specs.declared.size.TheConstants.{LONGEST_INSTRUCTION}
 use Rattle.flat_memory.specs.Memory.{Memory, may_write, executable}
 use Rattle.x64_instr.specs.declared.instruction.Instr.{Instr}
 use Rattle.x64_instr.specs.Spelling.{leading}
@@ -22,7 +23,8 @@ use Rattle.template_code.specs.Slots.{operands_code, finish_code, compute_code}
 use Rattle.x64_templates.specs.Frames.{HasRoom, HoldsBody, Changes}
 use Rattle.x64_templates.specs.Implements.{HasOperands}
 
--- an instruction of the image is run, which changes no protection and no byte that may not be written, and leaves numbers of 64 bits in all registers
+-- an instruction of the image is run, which changes no protection and no byte that may not be
+-- written, and leaves numbers of 64 bits in all registers
 pub record Steps (s u : State) : Type 0 where
   pub live : s.cpu.rip ≢ 0
   pub rip_small : s.cpu.rip < 2 ^ 64
@@ -37,7 +39,7 @@ pub record Runs (s u : State) : Type 0 where
   pub steps : Steps s u
   pub instruction : Instr
   pub bytes : ℕ
-  pub read : leading (executable s.memory 15 s.cpu.rip) ≡ Some (instruction, bytes)
+  pub read : leading (executable s.memory LONGEST_INSTRUCTION s.cpu.rip) ≡ Some (instruction, bytes)
   pub inside : takes_frame instruction ≡ false
 
 -- so many such instructions lead from a state to another
@@ -75,8 +77,10 @@ ChangesOwn p old new = Changes p.layout p.counts p.reserved p.sp p.base old new
 abbrev pub IsThere : Frame → Slot → Type 0
 IsThere p x = IsSlot p.counts x
 
--- the run comes to this address, with this body in the frame and all registers but RAX, RCX and RDX as they were
-pub record ReachesBody (p : Frame) (turns : ℕ) (s : State) (to : ℕ) (others : List ℕ) (b : BodyState) : Type 0 where
+-- the run comes to this address, with this body in the frame and all registers but RAX, RCX and RDX
+-- as they were
+pub record ReachesBody (p : Frame) (turns : ℕ) (s : State) (to : ℕ) (others : List ℕ)
+    (b : BodyState) : Type 0 where
   pub after : MachineView
   pub flags : Flags
   pub comes : Reaches turns s (machine after to flags)
@@ -85,7 +89,8 @@ pub record ReachesBody (p : Frame) (turns : ℕ) (s : State) (to : ℕ) (others 
   pub changes : ChangesOwn p s.memory after.memory
 
 -- the same from a function's first byte
-pub record EntersBody (p : Frame) (turns : ℕ) (s : State) (to : ℕ) (others : List ℕ) (b : BodyState) : Type 0 where
+pub record EntersBody (p : Frame) (turns : ℕ) (s : State) (to : ℕ) (others : List ℕ)
+    (b : BodyState) : Type 0 where
   pub after : MachineView
   pub flags : Flags
   pub comes : Enters turns s (machine after to flags)
@@ -93,8 +98,10 @@ pub record EntersBody (p : Frame) (turns : ℕ) (s : State) (to : ℕ) (others :
   pub holds : Holds p after.memory b
   pub changes : ChangesOwn p s.memory after.memory
 
--- the run comes to an instruction that faults, with both operands in their registers and nothing in memory changed
-pub record ReachesFault (turns : ℕ) (v : MachineView) (rip : ℕ) (flags : Flags) (at : ℕ) (o : Operation) (first second : ℕ) (code : Code) (access : Option (Bool × ℕ)) : Type 0 where
+-- the run comes to an instruction that faults, with both operands in their registers and nothing in
+-- memory changed
+pub record ReachesFault (turns : ℕ) (v : MachineView) (rip : ℕ) (flags : Flags) (at : ℕ)
+    (o : Operation) (first second : ℕ) (code : Code) (access : Option (Bool × ℕ)) : Type 0 where
   pub stopped : MachineView
   pub left : Flags
   pub comes : Reaches turns (machine v rip flags) (machine stopped at left)
@@ -105,14 +112,25 @@ pub record ReachesFault (turns : ℕ) (v : MachineView) (rip : ℕ) (flags : Fla
 
 -- ---- the second half: with its operands in their registers an operation is made, or refused; it is made so when it is made again too, whatever the memory is by then
 
-abbrev pub Finished : Frame → Operation → Slot → MachineView → ℕ → Flags → BodyState → Outcome → Type 0
-Finished p o to v at flags b (Gives x m) = ReachesBody p (length (finish_code p.layout o to)) (machine v at flags) (at + sizes (finish_code p.layout o to)) v.rest (record { slots = with_slot b.slots to x; memory = m })
-Finished p o to v at flags b (Raises code access) = machines.step (machine v at flags) ≡ Err (stops.Fault code access)
+abbrev pub Finished : Frame → Operation → Slot → MachineView → ℕ → Flags → BodyState → Outcome
+    → Type 0
+Finished p o to v at flags b (Gives x m) =
+    ReachesBody p (length (finish_code p.layout o to)) (machine v at flags)
+    (at + sizes (finish_code p.layout o to)) v.rest
+    (record { slots = with_slot b.slots to x; memory = m })
+Finished p o to v at flags b (Raises code access) =
+    machines.step (machine v at flags) ≡ Err (stops.Fault code access)
 Finished p o to v at flags b (Undefined a) = Unit {0}
 
 -- ---- a whole operation
 
-abbrev pub Computed : Frame → Slot → Operation → Slot → Slot → MachineView → ℕ → Flags → BodyState → Step → Type 0
-Computed p to o first second v rip flags b (Next c) = ReachesBody p (length (compute_code p.layout to o first second)) (machine v rip flags) (rip + sizes (compute_code p.layout to o first second)) v.rest c
-Computed p to o first second v rip flags b (Faults code access) = ReachesFault (length (operands_code p.layout o first second)) v rip flags (rip + sizes (operands_code p.layout o first second)) o (b.slots first) (b.slots second) code access
+abbrev pub Computed : Frame → Slot → Operation → Slot → Slot → MachineView → ℕ → Flags → BodyState
+    → Step → Type 0
+Computed p to o first second v rip flags b (Next c) =
+    ReachesBody p (length (compute_code p.layout to o first second)) (machine v rip flags)
+    (rip + sizes (compute_code p.layout to o first second)) v.rest c
+Computed p to o first second v rip flags b (Faults code access) =
+    ReachesFault (length (operands_code p.layout o first second)) v rip flags
+    (rip + sizes (operands_code p.layout o first second)) o (b.slots first)
+    (b.slots second) code access
 Computed p to o first second v rip flags b _ = Unit {0}

@@ -29,7 +29,8 @@ abbrev pub AllStraight : List Instr → Type 0
 AllStraight [] = Unit {0}
 AllStraight (i ∷ is) = (is_straight i ≡ true) × AllStraight is
 
--- what could stand in an epilogue (Microsoft x64 ABI, "Prolog and epilog"): a change of RSP by arithmetic or LEA, a POP, a return, a jump through memory or a register
+-- what could stand in an epilogue (Microsoft x64 ABI, "Prolog and epilog"): a change of RSP by
+-- arithmetic or LEA, a POP, a return, a jump through memory or a register
 abbrev pub is_rsp : Reg → Bool
 is_rsp r = nat_eq (number r) 4
 
@@ -59,7 +60,8 @@ is_number (operands.Immediate n) = true
 is_number from = false
 
 abbrev pub takes_frame : Instr → Bool
-takes_frame (instrs.Arithmetic o w to from) = is_subtraction o && (is_number from && is_rsp_place to)
+takes_frame (instrs.Arithmetic o w to from) =
+    is_subtraction o && (is_number from && is_rsp_place to)
 takes_frame i = false
 
 abbrev pub NoneTakesFrame : List Instr → Type 0
@@ -76,7 +78,8 @@ abbrev pub AreSmall : List ℕ → Type 0
 AreSmall [] = Unit {0}
 AreSmall (v ∷ vs) = (v < 2 ^ 64) × AreSmall vs
 
--- what templates work on: RAX, RCX, RDX, the other registers by their numbers from RBX on, and the memory
+-- what templates work on: RAX, RCX, RDX, the other registers by their numbers from RBX on, and the
+-- memory
 pub record MachineView : Type 0 where
   pub rax : ℕ
   pub rcx : ℕ
@@ -85,13 +88,20 @@ pub record MachineView : Type 0 where
   pub memory : Memory
 
 abbrev pub machine : MachineView → ℕ → Flags → State
-machine v rip flags = record { cpu = record { registers = v.rax ∷ v.rcx ∷ v.rdx ∷ v.rest; rip = rip; flags = flags }; memory = v.memory }
+machine v rip flags =
+    record {
+      cpu = record { registers = v.rax ∷ v.rcx ∷ v.rdx ∷ v.rest; rip = rip; flags = flags };
+      memory = v.memory;
+    }
 
 -- from any place, with any flags, the instructions lead from one view to another
 abbrev pub Executes : List Instr → MachineView → MachineView → Type 0
-Executes is v w = (rip : ℕ) (flags : Flags) → (after : Flags) × (effects is (machine v rip flags) ≡ Ok (machine w (rip + sizes is) after))
+Executes is v w =
+    (rip : ℕ) (flags : Flags) → (after : Flags) × (effects is (machine v rip flags)
+    ≡ Ok (machine w (rip + sizes is) after))
 
--- the instructions leave this number in RAX and this memory, and change no register but RAX, RCX and RDX
+-- the instructions leave this number in RAX and this memory, and change no register but RAX, RCX
+-- and RDX
 pub record Yields (is : List Instr) (v : MachineView) (x : ℕ) (m : Memory) : Type 0 where
   pub rcx : ℕ
   pub rdx : ℕ

@@ -2,8 +2,8 @@
 
 ghost use Rattle.x64_templates.specs.Laws.{OperationsRun, BodiesRun, BodiesFault, FaultsAreRetried, CallsBegin, FunctionsEnter, BodiesReturn, TemplatesAreQuiet};
 
-/// The code of a body does what its linear code means. Where an instruction faults, the machine's faults
-/// with its operands in registers, and the operation can be made again from there.
+/// The code of a body does what its linear code means. Where an instruction faults, the machine's
+/// faults with its operands in registers, and the operation can be made again from there.
 pub fn bodies_run()
     ensures operations { OperationsRun }
     ensures bodies { BodiesRun }
@@ -11,8 +11,8 @@ pub fn bodies_run()
     ensures retries { FaultsAreRetried }
 {}
 
-/// A call comes to its callee with arguments and return address, a function begins with its arguments in
-/// its locals, and a return leaves its number in RAX.
+/// A call comes to its callee with arguments and return address, a function begins with its
+/// arguments in its locals, and a return leaves its number in RAX.
 pub fn calls_pass_arguments()
     ensures calls { CallsBegin }
     ensures entries { FunctionsEnter }

@@ -6,7 +6,7 @@ use Rattle.c_expressions.proofs.places.unary.Goals as goal
 use Rattle.c_expressions.specs.Kept.{least_of, kept}
 use Rattle.c_expressions.specs.Views.{names_of}
 use Rattle.c_resolved.specs.declared.fault.Fault.TheVariants.{NotLvalue}
-use Rattle.c_resolved.specs.Expressions.{fault_at, rule_1, unless, operand_is_lvalue}
+use Rattle.c_resolved.specs.Expressions.{fault_at, rule_1, given_that, operand_is_lvalue}
 use Rattle.c_resolved.specs.Operators.{unary_of}
 use Rattle.c_syntax.specs.Expression.{expression, start}
 use Rattle.c_types.specs.Views.{typed_node}
@@ -22,4 +22,4 @@ pub returns-then-operand_is_lvalue-clause-found : goal.returns-then-operand_is_l
 returns-then-operand_is_lvalue-clause-found c =
     let e = expression c.args.operand.now in
     IfOk-weaker c.unary.result _ _
-    (λ r h. λ fs. h fs ∙ ap (λ b. (unless b (start e) NotLvalue fs (rule_1 c.args.at (unary_of c.args.operator) fs (option_map typed_node c.args.a))).found) (sym c.if-operand_is_lvalue.true ∙ c.operand_is_lvalue.ensures)) c.unary.ensures.found
+    (λ r h. λ fs. h fs ∙ ap (λ b. (given_that b (start e) NotLvalue fs (rule_1 c.args.at (unary_of c.args.operator) fs (option_map typed_node c.args.a))).found) (sym c.if-operand_is_lvalue.true ∙ c.operand_is_lvalue.ensures)) c.unary.ensures.found

@@ -3,8 +3,8 @@ use Rattle.std.proofs.lemmas.Result.{err_from_is_err_and, IfOk-weaker, IfErr-wea
 use Rattle.c_lex.specs.declared.punctuator.Punctuator.{Punctuator}
 use Rattle.c_lex.specs.declared.punctuator.Punctuator.TheVariants as punctuators
 use Rattle.c_lex.specs.declared.token.Token.{Token}
-use Rattle.c_syntax.specs.Expression.{Expression, expression, arguments, height, heights}
-use Rattle.c_syntax.specs.Expressions.{Derives}
+use Rattle.c_syntax.specs.Expression.{Expression, Call, Parentheses, Cast, expression, arguments, height, heights}
+use Rattle.c_syntax.specs.Expressions.{SpellsExpression, Derives}
 use Rattle.c_syntax.specs.Follow.{follows, Stops}
 use Rattle.c_syntax.specs.Steps as steps
 use Rattle.c_syntax.specs.Steps.{Closes}
@@ -25,6 +25,7 @@ use Rattle.c_parse_expr.proofs.Listing.{listed_after, heights_after, mapped_afte
 use Rattle.c_parse_expr.proofs.Operands.{no_parenthesis}
 use Rattle.c_parse_expr.proofs.Operations.{applied_height, right_after, is_step}
 use Rattle.c_parse_expr.proofs.Placing.{placed_so, placed_as}
+use Rattle.c_parse_expr.proofs.Trees.{call_is, parentheses_is, cast_is}
 use Rattle.c_parse_expr.proofs.Wrapping.{operand_wraps, step_wraps, enclosed_wraps, unclosed, index_wraps, right_wraps, first_branch_wraps, second_branch_wraps, after_punctuator_wraps, signless, no_operator_there, loose_there, high_there}
 use Rattle.c_parse_expr.proofs.expressions.+reader.Goals as goal
 
@@ -207,6 +208,24 @@ pub named-returns-in-None-clause-found : goal.named-returns-in-None-clause-found
 named-returns-in-None-clause-found t c =
     rw c.variable.ensures (record { derives = record { fits = omega arith; spells = c.requires.name }; head = tt; closes = no_parenthesis c.args.rest.now c.in-None.ensures.none })
 
+pub named-returns-in_ok-found-in-Some-clause-found :
+    goal.named-returns-in_ok-found-in-Some-clause-found
+named-returns-in_ok-found-in-Some-clause-found t c =
+    let k = c.in_ok-found-in-Some in
+    let es = arguments (map expression k.found.exprs.items) in
+    let made = call_is c.args.name k.found.exprs in
+    let call : SpellsExpression c.args.text.now (Call c.args.name es) c.args.tokens.now
+    k.found.rest.now =
+    record {
+      after_name = c.args.rest.now;
+      after_opening = c.in-Some.rest.now;
+      called = c.requires.name;
+      opening = c.in-Some.ensures.found;
+      arguments = k.ensures.found;
+    } in
+    rw made
+    (record { derives = record { fits = omega arith; spells = call }; head = tt; closes = tt })
+
 pub signed-returns-then-not-opens-clause-refused : goal.signed-returns-then-not-opens-clause-refused
 signed-returns-then-not-opens-clause-refused t c =
     placed_as _ _ _ _ _ _ c.unexpected.ensures (no_operand_there c.args.level c.args.room c.args.punctuator c.args.at c.args.text.now c.args.tokens.now c.args.rest.now c.requires.punctuator (c.opens.ensures.never c.if-not-opens.true))
@@ -238,7 +257,16 @@ signed-returns-in-Some-clause-found t c =
     let k = c.in_ok-inner in
     let level = c.requires.level in
     let h = subst (λ (z : Punctuator). IsPunctuator z c.args.at c.args.tokens.now c.args.rest.now) q c.requires.punctuator in
-    rw c.in_ok-expr.ensures.made (record { derives = record { fits = omega arith; spells = (c.args.rest.now, h, k.ensures.found.fits, k.ensures.found.spells) }; head = tt; closes = k.ensures.stops })
+    rw c.in_ok-expr.ensures.made
+    (record {
+      derives = record {
+        fits = omega arith;
+        spells = record
+            { after_operator = c.args.rest.now; operator = h; operand = k.ensures.found };
+      };
+      head = tt;
+      closes = k.ensures.stops;
+    })
 
 pub signed-returns-in-Some-unary_of-clause-found : goal.signed-returns-in-Some-unary_of-clause-found
 signed-returns-in-Some-unary_of-clause-found t c =
@@ -247,7 +275,16 @@ signed-returns-in-Some-unary_of-clause-found t c =
     let k = c.in_ok-inner-2 in
     let level = c.requires.level in
     let h = subst (λ (z : Punctuator). IsPunctuator z c.args.at c.args.tokens.now c.args.rest.now) q c.requires.punctuator in
-    rw c.in_ok-expr-2.ensures.made (record { derives = record { fits = omega arith; spells = (c.args.rest.now, h, k.ensures.found.fits, k.ensures.found.spells) }; head = tt; closes = k.ensures.stops })
+    rw c.in_ok-expr-2.ensures.made
+    (record {
+      derives = record {
+        fits = omega arith;
+        spells = record
+            { after_operator = c.args.rest.now; operator = h; operand = k.ensures.found };
+      };
+      head = tt;
+      closes = k.ensures.stops;
+    })
 
 pub parenthesised-returns-in_default-clause-refused : goal.parenthesised-returns-in_default-clause-refused
 parenthesised-returns-in_default-clause-refused t c =
@@ -265,10 +302,62 @@ parenthesised-returns-in_err-inner-in-Some-clause-refused t c =
     (cast_wraps c.args.level c.args.room c.args.at c.in-Some.to c.args.text.now c.args.tokens.now c.args.rest.now c.in-Some.rest.now c.in-Some-after.rest.now (omega arith) c.requires.punctuator c.in-Some.ensures.found c.in-Some.ensures.far c.in-Some-after.ensures.found)
     c.in_err-inner-in-Some.ensures.refused)
 
+pub parenthesised-returns-in_ok-operand-in-Some-clause-found :
+    goal.parenthesised-returns-in_ok-operand-in-Some-clause-found
+parenthesised-returns-in_ok-operand-in-Some-clause-found t c =
+    let k = c.in_ok-inner-in-Some in
+    let e = expression k.inner.expr in
+    let to = c.in-Some.to in
+    let boxed = c.in_ok-operand-in-Some.operand in
+    let same : boxed.value ≡ k.inner.expr = c.in_ok-operand-in-Some.ensures.ok in
+    let made = cast_is c.args.at to boxed ∙ ap (λ x. Cast c.args.at to (expression x)) same in
+    let l = c.requires.level in
+    let m = c.if-level-eq2.false in
+    let to_cast : SpellsExpression c.args.text.now (Cast c.args.at to e) c.args.tokens.now
+    k.inner.rest.now =
+    record {
+      after_operator = c.in-Some-after.rest.now;
+      operator = record {
+        after_opening = c.args.rest.now;
+        after_inner = c.in-Some.rest.now;
+        opening = c.requires.punctuator;
+        inner = c.in-Some.ensures.found;
+        closing = c.in-Some-after.ensures.found;
+      };
+      operand = k.ensures.found;
+    } in
+    rw made
+    (record {
+      derives = record { fits = omega arith; spells = to_cast };
+      head = tt;
+      closes = k.ensures.stops;
+    })
+
 pub grouped-returns-in_err-inner-clause-refused : goal.grouped-returns-in_err-inner-clause-refused
 grouped-returns-in_err-inner-clause-refused t c =
     let p = err_from_is_err_and c.from_residual.result c.from_residual.ensures.1 in
     rw (p.1, p.2) (placed_so c.in_err-inner.field-0.0 _ _ _ _ _ _ _ (group_wraps c.args.level c.args.room c.args.at c.args.text.now c.args.tokens.now c.args.rest.now c.requires.punctuator c.requires.base) c.in_err-inner.ensures.refused)
+
+pub grouped-returns-clause-found : goal.grouped-returns-clause-found
+grouped-returns-clause-found t c =
+    let k = c.in_ok-inner in
+    let e = expression k.inner.expr in
+    let boxed = c.in_ok-inner-2.inner in
+    let same : boxed.value ≡ k.inner.expr = c.in_ok-inner-2.ensures.ok in
+    let made =
+    parentheses_is c.args.at boxed ∙ ap (λ x. Parentheses c.args.at (expression x)) same in
+    let found = k.ensures.found in
+    let grouped : SpellsExpression c.args.text.now (Parentheses c.args.at e) c.args.tokens.now
+    k.inner.rest.now =
+    record {
+      after_opening = c.args.rest.now;
+      after_inner = found.mid;
+      opening = c.requires.punctuator;
+      inner = found.spells;
+      closing = found.closed;
+    } in
+    rw made
+    (record { derives = record { fits = omega arith; spells = grouped }; head = tt; closes = tt })
 
 -- ---- arguments
 

@@ -2,6 +2,7 @@ use Rattle.std.proofs.Common.{◌≡◌, ◌≤◌, ◌≢◌, ◌+◌, ◌-◌,
 use Rattle.c_syntax.specs.Expression.{expression, arguments, heights}
 use Rattle.c_syntax.specs.Expressions.{Derives}
 use Rattle.c_syntax.specs.Follow.{Stops}
+use Rattle.c_syntax.specs.Operators.{assignment}
 use Rattle.c_syntax.specs.Steps.{Closes}
 use Rattle.c_parse_expr.specs.Readings.{AreListed}
 use Rattle.c_parse_expr.proofs.expressions.+reader.Given as goal
@@ -41,7 +42,9 @@ decreases-grouped l = 8 * l.room + 9
 
 abbrev pub invariant-arguments-loop-following : goal.invariant-arguments-loop-following
 invariant-arguments-loop-following l =
-    (l.room ≢ 0) × (l.over ≤ l.room) × (l.over ≡ heights (arguments (map expression l.exprs.items))) × AreListed l.text (map expression l.exprs.items) l.tokens l.rest × Stops 15 l.rest
+    (l.room ≢ 0) × (l.over ≤ l.room) ×
+    (l.over ≡ heights (arguments (map expression l.exprs.items))) × AreListed l.text
+    (map expression l.exprs.items) l.tokens l.rest × Stops assignment l.rest
 
 abbrev pub decreases-arguments-loop-following : goal.decreases-arguments-loop-following
 decreases-arguments-loop-following l = length l.rest

@@ -1,7 +1,7 @@
 use Rattle.std.proofs.Common.{◌≡◌, ◌+◌, ◌++◌, map, take, length}
 use Rattle.c_checked.specs.Expression as tree
-use Rattle.seh_ir.specs.Expressions as spec
-use Rattle.seh_ir.proofs.expressions.+expressions.Given as goal
+use Rattle.ir_expressions.specs.Expressions as spec
+use Rattle.ir_expressions.proofs.expressions.+expressions.Given as goal
 
 abbrev pub invariant-arguments-loop-arg : goal.invariant-arguments-loop-arg
 invariant-arguments-loop-arg l =

@@ -1,4 +1,5 @@
--- The code of expressions. The value comes to the temporary of a number, and no temporary before it is changed.
+-- The code of expressions. The value comes to the temporary of a number, and no temporary before it
+-- is changed.
 use Rattle.std.specs.Prelude.{ℕ, suc, ◌+◌, List, [], ◌∷◌, ◌++◌, Option, None, Some}
 use Rattle.seh_num.specs.declared.width.Width.{Width}
 use Rattle.seh_num.specs.declared.width.Width.TheVariants.{W8, W16, W32, W64}
@@ -21,9 +22,9 @@ use Rattle.linear_code.specs.declared.slot.Slot.{Slot}
 use Rattle.linear_code.specs.declared.slot.Slot.TheVariants.{Local, Temporary}
 use Rattle.linear_code.specs.declared.instruction.Instruction.{Instruction}
 use Rattle.linear_code.specs.declared.instruction.Instruction.TheVariants.{Compute, Information, Jump, JumpIfZero, Call, CallBuiltIn}
-use Rattle.seh_ir.specs.declared.scope.ExceptionSource.{ExceptionSource}
-use Rattle.seh_ir.specs.declared.scope.Names.{Names}
-use Rattle.seh_ir.specs.declared.scope.ExceptionSource.TheVariants.{NoException, OfFilter, KeptIn}
+use Rattle.ir_expressions.specs.declared.scope.ExceptionSource.{ExceptionSource}
+use Rattle.ir_expressions.specs.declared.scope.Names.{Names}
+use Rattle.ir_expressions.specs.declared.scope.ExceptionSource.TheVariants.{NoException, OfFilter, KeptIn}
 use Rattle.ir_sizes.specs.Sizes.{address_count, read_size, expression_size, locate_size, conversion_size}
 
 -- ---- single instructions
@@ -47,7 +48,8 @@ abbrev pub conversion_code : Conversion → ℕ → List Instruction
 conversion_code conversions.Kept d = []
 conversion_code (conversions.Extend s from size) d = change d (Pure (Extend s from size)) ∷ []
 conversion_code (conversions.Scale s from by) d =
-    change d (Pure (Extend s from Long)) ∷ constant (d + 1) by ∷ combine d (Pure (Multiply Long)) ∷ []
+    change d (Pure (Extend s from Long)) ∷ constant (d + 1) by ∷ combine d (Pure (Multiply Long))
+    ∷ []
 
 -- the size of the numbers that stand for values of a type of this width
 abbrev pub size_of : Width → Size
@@ -62,7 +64,9 @@ unary_code o d = constant (d + 1) 0 ∷ combine d (Pure o) ∷ []
 
 -- at a place: one number where the temporary is 0, and another where it isn't
 abbrev pub choice_code : ℕ → ℕ → ℕ → ℕ → List Instruction
-choice_code d at if_zero otherwise = JumpIfZero (Temporary d) (at + 3) ∷ constant d otherwise ∷ Jump (at + 4) ∷ constant d if_zero ∷ []
+choice_code d at if_zero otherwise =
+    JumpIfZero (Temporary d) (at + 3) ∷ constant d otherwise ∷ Jump (at + 4) ∷ constant d if_zero
+    ∷ []
 
 -- ---- names
 
@@ -91,9 +95,11 @@ read_code (Indirection access e) address to = load_code access address to
 read_code (Element access e i) address to = load_code access address to
 
 abbrev pub store_code : Access → ℕ → ℕ → ℕ → Instruction
-store_code access address from to = Compute (Temporary to) (Store access.width) (Temporary address) (Temporary from)
+store_code access address from to =
+    Compute (Temporary to) (Store access.width) (Temporary address) (Temporary from)
 
--- a temporary to the place; the value of the assignment comes to another, or of a local stays where it is
+-- a temporary to the place; the value of the assignment comes to another, or of a local stays where
+-- it is
 abbrev pub write_code : Lvalue → ℕ → ℕ → ℕ → Instruction
 write_code (nodes.Local x) address from to = copy (Local x) (Temporary from)
 write_code (Global access a) address from to = store_code access address from to
@@ -126,11 +132,13 @@ abbrev mutual
   locate_code names (Global access a) d at = constant d a ∷ []
   locate_code names (Indirection access e) d at = expression_code names e d at
   locate_code names (Element access e i) d at =
-      expression_code names e d at ++ (expression_code names i (d + 1) (at + expression_size e) ++ combine d (Pure (Add Long)) ∷ [])
+      expression_code names e d at ++ (expression_code names i (d + 1) (at + expression_size e)
+      ++ combine d (Pure (Add Long)) ∷ [])
 
   pub arguments_code : Names → Arguments → ℕ → ℕ → List Instruction
   arguments_code names Done d at = []
-  arguments_code names (Next e es) d at = expression_code names e d at ++ arguments_code names es (d + 1) (at + expression_size e)
+  arguments_code names (Next e es) d at =
+      expression_code names e d at ++ arguments_code names es (d + 1) (at + expression_size e)
 
   pub node_code : Names → Node → ℕ → ℕ → List Instruction
   node_code names (nodes.Constant z n) d at = constant d n ∷ []
@@ -145,7 +153,8 @@ abbrev mutual
       locate_code names p d at
       ++ (read_code p d old
       ++ (conversion_code before old
-      ++ (expression_code names e (old + 1) (at + (locate_size p + (read_size p + conversion_size before)))
+      ++ (expression_code names e (old + 1)
+      (at + (locate_size p + (read_size p + conversion_size before)))
       ++ (combine old o
       ∷ (conversion_code after old
       ++ write_code p d old d ∷ [])))))
@@ -163,12 +172,15 @@ abbrev mutual
       ∷ [])))))
   node_code names (nodes.Unary o e) d at = expression_code names e d at ++ unary_code o d
   node_code names (nodes.Binary o e f) d at =
-      expression_code names e d at ++ (expression_code names f (d + 1) (at + expression_size e) ++ combine d o ∷ [])
+      expression_code names e d at ++ (expression_code names f (d + 1) (at + expression_size e)
+      ++ combine d o ∷ [])
   node_code names (nodes.PointerDifference n e f) d at =
       expression_code names e d at
       ++ (expression_code names f (d + 1) (at + expression_size e)
-      ++ combine d (Pure (Subtract Long)) ∷ constant (d + 1) n ∷ combine d (Divide Signed Long) ∷ [])
-  node_code names (nodes.Not e) d at = expression_code names e d at ++ choice_code d (at + expression_size e) 1 0
+      ++ combine d (Pure (Subtract Long)) ∷ constant (d + 1) n ∷ combine d (Divide Signed Long)
+      ∷ [])
+  node_code names (nodes.Not e) d at =
+      expression_code names e d at ++ choice_code d (at + expression_size e) 1 0
   node_code names (nodes.And e f) d at =
       let second = at + expression_size e + 1 in
       let otherwise = second + expression_size f + 3 in
@@ -192,9 +204,12 @@ abbrev mutual
       ∷ expression_code names f d no)))
   node_code names (nodes.Comma e f) d at =
       expression_code names e d at
-      ++ (expression_code names f (d + 1) (at + expression_size e) ++ copy (Temporary d) (Temporary (d + 1)) ∷ [])
-  node_code names (nodes.Call f es) d at = arguments_code names es d at ++ Call f d (argument_count es) ∷ []
-  node_code names (nodes.CallBuiltIn k es) d at = arguments_code names es d at ++ CallBuiltIn k d ∷ []
+      ++ (expression_code names f (d + 1) (at + expression_size e)
+      ++ copy (Temporary d) (Temporary (d + 1)) ∷ [])
+  node_code names (nodes.Call f es) d at =
+      arguments_code names es d at ++ Call f d (argument_count es) ∷ []
+  node_code names (nodes.CallBuiltIn k es) d at =
+      arguments_code names es d at ++ CallBuiltIn k d ∷ []
   node_code names nodes.ExceptionCode d at = code_code names.exception d ∷ []
   node_code names (nodes.Information f) d at = Information (Temporary d) f ∷ []
   node_code names nodes.AbnormalTermination d at = abnormal_code names.abnormal d ∷ []

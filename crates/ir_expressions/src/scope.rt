@@ -1,7 +1,7 @@
 //! What is around a part of a program that is lowered.
 
 ghost use Rattle.std.specs.Prelude.{◌≡◌, ◌+◌, IfOk};
-ghost use Rattle.seh_ir.specs.Scope as spec;
+ghost use Rattle.ir_expressions.specs.Scope as spec;
 
 use ir_sizes::sums::sum;
 use std::alloc::AllocError;

@@ -5,9 +5,9 @@ ghost use Rattle.linear_code.specs.declared.slot.Slot.TheVariants.{Temporary};
 ghost use Rattle.linear_code.specs.declared.instruction.Instruction.TheVariants.{Jump, JumpIfZero};
 ghost use Rattle.c_checked.specs.Expression as tree;
 ghost use Rattle.ir_sizes.specs.Sizes as sizes;
-ghost use Rattle.seh_ir.specs.Appended.{Appends, Places};
-ghost use Rattle.seh_ir.specs.Expressions as spec;
-ghost use Rattle.seh_ir.specs.Pieces as pieces;
+ghost use Rattle.ir_expressions.specs.Appended.{Appends, Places};
+ghost use Rattle.ir_expressions.specs.Expressions as spec;
+ghost use Rattle.ir_expressions.specs.Pieces as pieces;
 
 use crate::instructions::{chosen, combine, constant, convert, copy, read, write};
 use c_checked::expression::{Conversion, Fixity, Lvalue};

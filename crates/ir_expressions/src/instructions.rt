@@ -6,8 +6,8 @@ ghost use Rattle.c_operations.specs.declared.operation.Pure.TheVariants as pures
 ghost use Rattle.linear_code.specs.declared.slot.Slot.TheVariants.{Temporary};
 ghost use Rattle.linear_code.specs.declared.instruction.Instruction.TheVariants.{Information};
 ghost use Rattle.c_checked.specs.Expression as tree;
-ghost use Rattle.seh_ir.specs.Appended.{Appends, Places};
-ghost use Rattle.seh_ir.specs.Expressions as spec;
+ghost use Rattle.ir_expressions.specs.Appended.{Appends, Places};
+ghost use Rattle.ir_expressions.specs.Expressions as spec;
 
 use crate::scope::ExceptionSource;
 use c_checked::expression::{Access, Conversion, Fixity, Lvalue};

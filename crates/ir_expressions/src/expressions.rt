@@ -3,8 +3,8 @@
 ghost use Rattle.std.specs.Prelude.{◌≡◌, map, length, true, OnOk};
 ghost use Rattle.c_checked.specs.Expression as tree;
 ghost use Rattle.ir_sizes.specs.Kinds.{is_assignment, is_branch_or_assignment, has_several};
-ghost use Rattle.seh_ir.specs.Appended.{Places};
-ghost use Rattle.seh_ir.specs.Expressions as spec;
+ghost use Rattle.ir_expressions.specs.Appended.{Places};
+ghost use Rattle.ir_expressions.specs.Expressions as spec;
 
 use crate::instructions::{
     abnormal, choose, constant, convert, exception_code, information, put, read, unary,

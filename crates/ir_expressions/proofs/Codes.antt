@@ -12,10 +12,10 @@ use Rattle.c_checked.specs.Expression.{Expression, On, Node, Lvalue, Local, Glob
 use Rattle.linear_code.specs.declared.slot.Slot.TheVariants.{Temporary}
 use Rattle.linear_code.specs.declared.instruction.Instruction.{Instruction}
 use Rattle.linear_code.specs.declared.instruction.Instruction.TheVariants.{Jump, JumpIfZero, Call, CallBuiltIn}
-use Rattle.seh_ir.specs.declared.scope.Names.{Names}
+use Rattle.ir_expressions.specs.declared.scope.Names.{Names}
 use Rattle.ir_sizes.specs.Sizes.{address_count, conversion_size, unary_size, read_size, address_size, expression_size, locate_size, arguments_size, node_size}
-use Rattle.seh_ir.specs.Pieces.{compound_begun}
-use Rattle.seh_ir.specs.Expressions.{constant, copy, combine, choice_code, argument_count, chosen_of, conversion_code, unary_code, read_code, address_code, write_code, expression_code, locate_code, arguments_code, node_code}
+use Rattle.ir_expressions.specs.Pieces.{compound_begun}
+use Rattle.ir_expressions.specs.Expressions.{constant, copy, combine, choice_code, argument_count, chosen_of, conversion_code, unary_code, read_code, address_code, write_code, expression_code, locate_code, arguments_code, node_code}
 
 -- ---- code after code
 

@@ -1,8 +1,8 @@
 use Rattle.std.proofs.Common.{◌≡◌, ◌+◌, arith, ap, ◌∙◌, refl, map}
 use Rattle.c_checked.specs.Expression as tree
 use Rattle.c_checked.proofs.ExpressionTrees as made
-use Rattle.seh_ir.proofs.Arms.{element_is, assign_is, compound_is, increment_is, unary_is, binary_is, difference_is, not_is, and_is, or_is, conditional_is, comma_is, call_is, call_built_in_is, arguments_next}
-use Rattle.seh_ir.proofs.expressions.+expressions.Goals as goal
+use Rattle.ir_expressions.proofs.Arms.{element_is, assign_is, compound_is, increment_is, unary_is, binary_is, difference_is, not_is, and_is, or_is, conditional_is, comma_is, call_is, call_built_in_is, arguments_next}
+use Rattle.ir_expressions.proofs.expressions.+expressions.Goals as goal
 
 pub locate-returns-in_ok-operate-in-Element : goal.locate-returns-in_ok-operate-in-Element
 locate-returns-in_ok-operate-in-Element t c =

@@ -11,29 +11,39 @@ use Rattle.c_checked.specs.Expression.{Lvalue}
 use Rattle.linear_code.specs.declared.slot.Slot.TheVariants.{Temporary}
 use Rattle.linear_code.specs.declared.instruction.Instruction.{Instruction}
 use Rattle.ir_sizes.specs.Sizes.{address_count}
-use Rattle.seh_ir.specs.Expressions.{constant, copy, combine, conversion_code, read_code, write_code, chosen_of}
+use Rattle.ir_expressions.specs.Expressions.{constant, copy, combine, conversion_code, read_code, write_code, chosen_of}
 
 abbrev pub assigned : Lvalue → ℕ → List Instruction
 assigned p d = write_code p d (d + address_count p) d ∷ []
 
 abbrev pub compound_begun : Lvalue → Conversion → ℕ → List Instruction
-compound_begun p before d = read_code p d (d + address_count p) ++ conversion_code before (d + address_count p)
+compound_begun p before d =
+    read_code p d (d + address_count p) ++ conversion_code before (d + address_count p)
 
 abbrev pub compound_ended : Lvalue → Operation → Conversion → ℕ → List Instruction
-compound_ended p o after d = combine (d + address_count p) o ∷ (conversion_code after (d + address_count p) ++ write_code p d (d + address_count p) d ∷ [])
+compound_ended p o after d =
+    combine (d + address_count p) o ∷ (conversion_code after (d + address_count p)
+    ++ write_code p d (d + address_count p) d ∷ [])
 
 abbrev pub difference_ended : ℕ → ℕ → List Instruction
-difference_ended n d = combine d (Pure (Subtract Long)) ∷ constant (d + 1) n ∷ combine d (Divide Signed Long) ∷ []
+difference_ended n d =
+    combine d (Pure (Subtract Long)) ∷ constant (d + 1) n ∷ combine d (Divide Signed Long) ∷ []
 
 abbrev pub increment_ended : Lvalue → Fixity → ℕ → ℕ → List Instruction
-increment_ended p m old d = write_code p d (old + 1) (old + 1) ∷ copy (Temporary d) (Temporary (chosen_of m old)) ∷ []
+increment_ended p m old d =
+    write_code p d (old + 1) (old + 1) ∷ copy (Temporary d) (Temporary (chosen_of m old)) ∷ []
 
 abbrev pub next_value : Conversion → Operation → ℕ → Conversion → ℕ → List Instruction
 next_value before o n after old =
     copy (Temporary (old + 1)) (Temporary old)
-    ∷ (conversion_code before (old + 1) ++ (constant (old + 2) n ∷ combine (old + 1) o ∷ conversion_code after (old + 1)))
+    ∷ (conversion_code before (old + 1)
+    ++ (constant (old + 2) n ∷ combine (old + 1) o ∷ conversion_code after (old + 1)))
 
--- `++` and `--` at a place that was located: the old value stays in one temporary, and the new one is made in the next
-abbrev pub incremented : Lvalue → Fixity → Conversion → Operation → ℕ → Conversion → ℕ → List Instruction
+-- `++` and `--` at a place that was located: the old value stays in one temporary, and the new one
+-- is made in the next
+abbrev pub incremented : Lvalue → Fixity → Conversion → Operation → ℕ → Conversion → ℕ
+    → List Instruction
 incremented p m before o n after d =
-    read_code p d (d + address_count p) ++ (next_value before o n after (d + address_count p) ++ increment_ended p m (d + address_count p) d)
+    read_code p d (d + address_count p)
+    ++ (next_value before o n after (d + address_count p)
+    ++ increment_ended p m (d + address_count p) d)

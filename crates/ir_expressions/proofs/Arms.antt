@@ -16,11 +16,11 @@ use Rattle.c_checked.specs.Expression.{Expression, Node, Lvalue, Element, Argume
 use Rattle.linear_code.specs.declared.slot.Slot.TheVariants.{Temporary}
 use Rattle.linear_code.specs.declared.instruction.Instruction.{Instruction}
 use Rattle.linear_code.specs.declared.instruction.Instruction.TheVariants.{Jump, JumpIfZero, Call, CallBuiltIn}
-use Rattle.seh_ir.specs.declared.scope.Names.{Names}
+use Rattle.ir_expressions.specs.declared.scope.Names.{Names}
 use Rattle.ir_sizes.specs.Sizes.{address_count, conversion_size, read_size, expression_size, locate_size}
-use Rattle.seh_ir.specs.Expressions.{constant, copy, combine, conversion_code, unary_code, read_code, write_code, choice_code, argument_count, expression_code, locate_code, arguments_code, node_code}
-use Rattle.seh_ir.specs.Pieces.{assigned, compound_begun, compound_ended, difference_ended, incremented, increment_ended}
-use Rattle.seh_ir.proofs.Codes.{joined, longer, begun_length, expression_length, locate_length}
+use Rattle.ir_expressions.specs.Expressions.{constant, copy, combine, conversion_code, unary_code, read_code, write_code, choice_code, argument_count, expression_code, locate_code, arguments_code, node_code}
+use Rattle.ir_expressions.specs.Pieces.{assigned, compound_begun, compound_ended, difference_ended, incremented, increment_ended}
+use Rattle.ir_expressions.proofs.Codes.{joined, longer, begun_length, expression_length, locate_length}
 
 -- ---- code whose length is known, and more that depends on its place
 

@@ -1,0 +1,48 @@
+-- A phrase between punctuators, and elements between commas, stand before any other rest too, and in any text that spells their names alike, where what they are made of does.
+use Rattle.std.specs.Prelude.{ℕ, List, [], ◌∷◌}
+use Rattle.c_lex.specs.declared.punctuator.Punctuator.{Punctuator}
+use Rattle.c_lex.specs.declared.punctuator.Punctuator.TheVariants as punctuators
+use Rattle.c_lex.specs.declared.token.Token.{Token}
+use Rattle.c_syntax.specs.Phrases.{Between, AreMore, AreSeparated}
+use Rattle.c_syntax.specs.Tokens.{Phrase}
+use Rattle.c_syntax.proofs.Moves.{Moves, map, both, has_punctuator}
+
+pub between : {Inner : List ℕ → Phrase} (left right : Punctuator) (text : List ℕ) (ts rest : List Token) (h : Between left (Inner text) right ts rest) → Moves Inner text h.after_opening h.after_inner → Moves (λ t. Between left (Inner t) right) text ts rest
+between left right text ts rest h inner =
+    map
+    (both (has_punctuator left text ts h.after_opening h.opening)
+    (both inner (has_punctuator right text h.after_inner rest h.closing)))
+    (λ t us vs g. record {
+      after_opening = g.0;
+      after_inner = g.2.0;
+      opening = g.1;
+      inner = g.2.1;
+      closing = g.2.2;
+    })
+
+-- ---- lists
+
+abbrev pub EachMoves : {A : Type 0} → (A → List ℕ → Phrase) → Type 0
+EachMoves {A = A} Element =
+    (x : A) (text : List ℕ) (ts rest : List Token) → Element x text ts rest
+    → Moves (Element x) text ts rest
+
+pub more : {A : Type 0} (Element : A → List ℕ → Phrase) (s : Punctuator) (xs : List A) (text : List ℕ) (ts rest : List Token) → EachMoves Element → AreMore (λ x. Element x text) s xs ts rest → Moves (λ t. AreMore (λ x. Element x t) s xs) text ts rest
+more Element s [] text ts rest each h = has_punctuator s text ts rest h
+more Element s (x ∷ xs) text ts rest each h =
+    map
+    (both (has_punctuator punctuators.Comma text ts h.after_comma h.comma)
+    (both (each x text h.after_comma h.after_element h.element)
+    (more Element s xs text h.after_element rest each h.others)))
+    (λ t us vs g. record {
+      after_comma = g.0;
+      after_element = g.2.0;
+      comma = g.1;
+      element = g.2.1;
+      others = g.2.2;
+    })
+
+pub separated : {A : Type 0} (Element : A → List ℕ → Phrase) (s : Punctuator) (xs : List A) (text : List ℕ) (ts rest : List Token) → EachMoves Element → AreSeparated (λ x. Element x text) s xs ts rest → Moves (λ t. AreSeparated (λ x. Element x t) s xs) text ts rest
+separated Element s [] text ts rest each h = absurd h
+separated Element s (x ∷ xs) text ts rest each h =
+    map (both (each x text ts h.0 h.1) (more Element s xs text h.0 rest each h.2)) (λ t us vs g. (g.0, g.1, g.2))

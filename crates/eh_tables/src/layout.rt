@@ -1,0 +1,60 @@
+//! Where the fields of function tables and unwind infos are, and what they hold (Microsoft x64 ABI,
+//! "Exception handling").
+
+/// The fields of RUNTIME_FUNCTION ("struct RUNTIME_FUNCTION"): the begin of the code, its end, and
+/// its unwind info, each an address relative to the image base.
+pub const BEGIN_ADDRESS: usize = 0;
+
+pub const END_ADDRESS: usize = 4;
+
+pub const UNWIND_INFO_ADDRESS: usize = 8;
+
+/// The size of RUNTIME_FUNCTION.
+pub const RUNTIME_FUNCTION_SIZE: usize = 12;
+
+/// The fields of UNWIND_INFO ("struct UNWIND_INFO"): the version in three bits and the flags in five.
+pub const VERSION_AND_FLAGS: usize = 0;
+
+pub const SIZE_OF_PROLOG: usize = 1;
+
+pub const COUNT_OF_CODES: usize = 2;
+
+/// The frame register in four bits, and its offset in units of 16 bytes in four.
+pub const FRAME_REGISTER_AND_OFFSET: usize = 3;
+
+/// Where the unwind codes are, right after the header.
+pub const UNWIND_CODES: usize = 4;
+
+/// The size of a handler's address, which is relative to the image base.
+pub const HANDLER_SIZE: usize = 4;
+
+/// The version of UNWIND_INFO that is read and written.
+pub const UNWIND_VERSION: u8 = 1;
+
+/// The flags of UNWIND_INFO: there is a handler to be asked in a search for a handler.
+pub const UNW_FLAG_EHANDLER: u8 = 1;
+
+/// There is a handler to be asked while unwinding.
+pub const UNW_FLAG_UHANDLER: u8 = 2;
+
+/// The entry that this info is chained to follows the codes. No other flag stands with it.
+pub const UNW_FLAG_CHAININFO: u8 = 4;
+
+/// The numbers of the operations of unwind codes ("Unwind operation code").
+pub const UWOP_PUSH_NONVOL: u8 = 0;
+
+pub const UWOP_ALLOC_LARGE: u8 = 1;
+
+pub const UWOP_ALLOC_SMALL: u8 = 2;
+
+pub const UWOP_SET_FPREG: u8 = 3;
+
+pub const UWOP_SAVE_NONVOL: u8 = 4;
+
+pub const UWOP_SAVE_NONVOL_FAR: u8 = 5;
+
+pub const UWOP_SAVE_XMM128: u8 = 8;
+
+pub const UWOP_SAVE_XMM128_FAR: u8 = 9;
+
+pub const UWOP_PUSH_MACHFRAME: u8 = 10;
