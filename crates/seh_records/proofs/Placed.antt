@@ -1,18 +1,19 @@
 -- A record that is placed is at its place, and all other bytes are as before.
-use Rattle.std.proofs.Common.{◌≡◌, ℕ, zero, suc, ◌+◌, ◌-◌, ◌*◌, ◌/◌, ◌%◌, ◌^◌, ◌<◌, ◌≤◌, Bool, true, false, cond, List, [], ◌∷◌, ◌++◌, length, get_or, length-append, refl, sym, ap, subst, ◌∙◌, arith, lit<, inl, inr}
+use Rattle.std.proofs.Common.{◌≡◌, ℕ, zero, suc, ◌+◌, ◌-◌, ◌*◌, ◌/◌, ◌%◌, ◌^◌, ◌<◌, ◌≤◌, Bool, true, false, cond, Some, List, [], ◌∷◌, ◌++◌, length, get_or, length-append, refl, sym, ap, subst, ◌∙◌, arith, lit<, inl, inr}
 use Rattle.std.specs.Prelude.{◌⊎◌, replicate}
 use Rattle.std.proofs.lemmas.Bool.{cases_lt}
 use Rattle.std.proofs.lemmas.List.{get_or-append-add, get_or_append_left}
 use Rattle.flat_memory.specs.Memory.{Memory, is_among, distance, number_at, with_number, with_bytes}
 use Rattle.flat_memory.specs.Laws.{IsApart}
-use Rattle.flat_memory.proofs.Stores.{leaves_others, stored_is_loaded, untouched}
+use Rattle.flat_memory.proofs.Stores.{leaves_others, stored_is_loaded}
 use Rattle.seh_records.specs.declared.dispatch.Kind.{Kind}
 use Rattle.seh_records.specs.declared.dispatch.Kind.TheVariants.{Search, ExceptionUnwind, LocalUnwind}
 use Rattle.seh_records.specs.declared.dispatch.DispatchRecord.{DispatchRecord}
 use Rattle.seh_records.specs.Words.{with_words, words_at}
-use Rattle.seh_records.specs.Record.{words, head, front, back, number_of, eflags, placed}
-use Rattle.seh_records.specs.Laws.{AllSmall, AreBytes, Readable, Fits, PlacedIsRecord, PlacedIsFetched, PlacingLeavesOthers}
-use Rattle.seh_records.proofs.Block.{one_block}
+use Rattle.seh_records.specs.Record.{words, head, front, back, number_of, eflags, placed, fetched}
+use Rattle.seh_records.specs.Laws.{AllSmall, AreBytes, Readable, Fits, PlacedIsRecord, PlacedIsFetched, PlacedIsFetchedWhereNotRefused, PlacingLeavesOthers}
+use Rattle.seh_records.proofs.Block.{outside, one_block}
+use Rattle.seh_records.proofs.Places.{readable_bytes, below_top}
 use Rattle.seh_records.proofs.Standing.{run_is, fetched_back, count_words, eflags_small}
 
 -- ---- words that come before others
@@ -21,32 +22,38 @@ apart : (x n a k : ℕ) → x + n ≤ a → a + k ≤ 2 ^ 64 → (i : ℕ) → i
 apart x n a k before top i il j jl e = absurd (omega arith)
 
 -- a number below the words is as before
-before_words : (byte : ℕ → ℕ) (ws : List ℕ) (a n x : ℕ) → a + 8 * length ws < 2 ^ 64 → x + n ≤ a → number_at (with_words byte a ws) n x ≡ number_at byte n x
+before_words : (byte : ℕ → ℕ) (ws : List ℕ) (a n x : ℕ) → a + 8 * length ws ≤ 2 ^ 64 → x + n ≤ a → number_at (with_words byte a ws) n x ≡ number_at byte n x
 unfolding with_words
 before_words byte [] a n x top le = refl
-before_words byte (w ∷ ws) a n x top le =
+before_words byte (w ∷ []) a n x top le =
+    leaves_others byte 8 a w n x (omega arith) (omega arith) (apart x n a 8 le (omega arith))
+before_words byte (w ∷ u ∷ ws) a n x top le =
     let e : (a + 8) % 2 ^ 64 ≡ a + 8 = omega arith in
-    ap (λ b. number_at (with_words (with_number byte 8 a w) b ws) n x) e
-    ∙ before_words (with_number byte 8 a w) ws (a + 8) n x (omega arith) (omega arith)
+    ap (λ b. number_at (with_words (with_number byte 8 a w) b (u ∷ ws)) n x) e
+    ∙ before_words (with_number byte 8 a w) (u ∷ ws) (a + 8) n x (omega arith) (omega arith)
     ∙ leaves_others byte 8 a w n x (omega arith) (omega arith) (apart x n a 8 le (omega arith))
 
 -- each word is read back
-word_back : (byte : ℕ → ℕ) (ws : List ℕ) (a k : ℕ) → a + 8 * length ws < 2 ^ 64 → k < length ws → number_at (with_words byte a ws) 8 (a + 8 * k) ≡ get_or ws k 0 % 2 ^ 64
+word_back : (byte : ℕ → ℕ) (ws : List ℕ) (a k : ℕ) → a + 8 * length ws ≤ 2 ^ 64 → k < length ws → number_at (with_words byte a ws) 8 (a + 8 * k) ≡ get_or ws k 0 % 2 ^ 64
 unfolding with_words
 word_back byte [] a k top lt = absurd (omega arith)
-word_back byte (w ∷ ws) a zero top lt =
+word_back byte (w ∷ []) a (suc k) top lt = absurd (omega arith)
+word_back byte (w ∷ []) a zero top lt =
+    let z : a + 8 * 0 ≡ a = omega arith in
+    ap (number_at (with_number byte 8 a w) 8) z ∙ stored_is_loaded byte 8 a w (omega arith) (omega arith)
+word_back byte (w ∷ u ∷ ws) a zero top lt =
     let e : (a + 8) % 2 ^ 64 ≡ a + 8 = omega arith in
     let z : a + 8 * 0 ≡ a = omega arith in
-    ap (λ b. number_at (with_words (with_number byte 8 a w) b ws) 8 (a + 8 * 0)) e
-    ∙ ap (number_at (with_words (with_number byte 8 a w) (a + 8) ws) 8) z
-    ∙ before_words (with_number byte 8 a w) ws (a + 8) 8 a (omega arith) (omega arith)
+    ap (λ b. number_at (with_words (with_number byte 8 a w) b (u ∷ ws)) 8 (a + 8 * 0)) e
+    ∙ ap (number_at (with_words (with_number byte 8 a w) (a + 8) (u ∷ ws)) 8) z
+    ∙ before_words (with_number byte 8 a w) (u ∷ ws) (a + 8) 8 a (omega arith) (omega arith)
     ∙ stored_is_loaded byte 8 a w (omega arith) (omega arith)
-word_back byte (w ∷ ws) a (suc k) top lt =
+word_back byte (w ∷ u ∷ ws) a (suc k) top lt =
     let e : (a + 8) % 2 ^ 64 ≡ a + 8 = omega arith in
     let z : a + 8 * suc k ≡ a + 8 + 8 * k = omega arith in
-    ap (λ b. number_at (with_words (with_number byte 8 a w) b ws) 8 (a + 8 * suc k)) e
-    ∙ ap (number_at (with_words (with_number byte 8 a w) (a + 8) ws) 8) z
-    ∙ word_back (with_number byte 8 a w) ws (a + 8) k (omega arith) (omega arith)
+    ap (λ b. number_at (with_words (with_number byte 8 a w) b (u ∷ ws)) 8 (a + 8 * suc k)) e
+    ∙ ap (number_at (with_words (with_number byte 8 a w) (a + 8) (u ∷ ws)) 8) z
+    ∙ word_back (with_number byte 8 a w) (u ∷ ws) (a + 8) k (omega arith) (omega arith)
 
 -- bytes stay bytes
 with_number-small : (byte : ℕ → ℕ) (n a v : ℕ) → AreBytes byte → AreBytes (with_number byte n a v)
@@ -61,19 +68,6 @@ with_words-small : (byte : ℕ → ℕ) (ws : List ℕ) (a : ℕ) → AreBytes b
 unfolding with_words
 with_words-small byte [] a h x = h x
 with_words-small byte (w ∷ ws) a h x = with_words-small (with_number byte 8 a w) ws ((a + 8) % 2 ^ 64) (with_number-small byte 8 a w h) x
-
--- what is outside is as before
-with_words-other : (byte : ℕ → ℕ) (ws : List ℕ) (a x : ℕ) → a + 8 * length ws < 2 ^ 64 → (x < a) ⊎ (a + 8 * length ws ≤ x) → with_words byte a ws x ≡ byte x
-unfolding with_words
-with_words-other byte [] a x top out = refl
-with_words-other byte (w ∷ ws) a x top out =
-    let e : (a + 8) % 2 ^ 64 ≡ a + 8 = omega arith in
-    let apart : IsApart x a 8 = λ i lt same. absurd (omega arith) in
-    ap (λ b. with_words (with_number byte 8 a w) b ws x) e ∙ with_words-other (with_number byte 8 a w) ws (a + 8) x (omega arith) (later out) ∙ untouched byte 8 a w x apart (omega arith)
-  where
-    later : (x < a) ⊎ (a + 8 * length (w ∷ ws) ≤ x) → (x < a + 8) ⊎ (a + 8 + 8 * length ws ≤ x)
-    later (inl p) = inl (omega arith)
-    later (inr p) = inr (omega arith)
 
 -- ---- the words are below 2^64
 
@@ -141,7 +135,7 @@ written : Memory → ℕ → DispatchRecord → Memory
 written m at r = with_bytes m (with_words m.byte ((at + 32) % 2 ^ 64) (words at r))
 
 -- which is how a record is placed
-placed_is_written : (m : Memory) (at : ℕ) (r : DispatchRecord) → Fits r → at + 1568 < 2 ^ 64 → written m at r ≡ placed m at r
+placed_is_written : (m : Memory) (at : ℕ) (r : DispatchRecord) → Fits r → at + 1568 ≤ 2 ^ 64 → written m at r ≡ placed m at r
 unfolding written placed
 placed_is_written m at r fit top = ap (with_bytes m) (one_block m.byte (words at r) ((at + 32) % 2 ^ 64) 192 (sym (count_words r at fit)) (omega arith))
 
@@ -150,11 +144,11 @@ placed_readable : (m : Memory) (at : ℕ) (r : DispatchRecord) → Readable m at
 unfolding placed
 placed_readable m at r h = h
 
-placed_bytes : (m : Memory) (at : ℕ) (r : DispatchRecord) → Fits r → at + 1568 < 2 ^ 64 → AreBytes m.byte → AreBytes (placed m at r).byte
+placed_bytes : (m : Memory) (at : ℕ) (r : DispatchRecord) → Fits r → at + 1568 ≤ 2 ^ 64 → AreBytes m.byte → AreBytes (placed m at r).byte
 unfolding written
 placed_bytes m at r fit top h = subst (λ (p : Memory). AreBytes p.byte) (placed_is_written m at r fit top) (with_words-small m.byte (words at r) ((at + 32) % 2 ^ 64) h)
 
-written_words : (m : Memory) (at : ℕ) (r : DispatchRecord) → Fits r → at + 1568 < 2 ^ 64 → words_at (written m at r).byte 192 ((at + 32) % 2 ^ 64) ≡ words at r
+written_words : (m : Memory) (at : ℕ) (r : DispatchRecord) → Fits r → at + 1568 ≤ 2 ^ 64 → words_at (written m at r).byte 192 ((at + 32) % 2 ^ 64) ≡ words at r
 unfolding written
 written_words m at r fit top =
     let n = count_words r at fit in
@@ -162,26 +156,46 @@ written_words m at r fit top =
     ap (λ k. words_at (with_words m.byte a (words at r)) k a) (sym n)
     ∙ run_is (with_words m.byte a (words at r)) (words at r) a (omega arith) (λ j lt. word_back m.byte (words at r) a j (omega arith) lt ∙ (let s = (words_small at r fit).at j lt in let e : get_or (words at r) j 0 % 2 ^ 64 ≡ get_or (words at r) j 0 = omega arith in e))
 
+placed_words : (m : Memory) (at : ℕ) (r : DispatchRecord) → Fits r → at + 1568 ≤ 2 ^ 64
+    → words_at (placed m at r).byte 192 ((at + 32) % 2 ^ 64) ≡ words at r
+placed_words m at r fit top =
+    ap (λ (p : Memory). words_at p.byte 192 ((at + 32) % 2 ^ 64)) (sym (placed_is_written m at r fit top))
+    ∙ written_words m at r fit top
+
 pub placed_stands : PlacedIsRecord
-placed_stands m at r top aligned fit readable = record {
-  aligned = aligned;
-  readable = placed_readable m at r readable;
-  words = ap (λ (p : Memory). words_at p.byte 192 ((at + 32) % 2 ^ 64)) (sym (placed_is_written m at r fit top)) ∙ written_words m at r fit top;
-}
+placed_stands m at r top aligned fit readable =
+    let end : at + 1568 ≤ 2 ^ 64 = omega arith in
+    record {
+      aligned = aligned;
+      readable = placed_readable m at r readable;
+      words = placed_words m at r fit end;
+    }
 
 pub placing_leaves_others : PlacingLeavesOthers
 unfolding written
 placing_leaves_others m at r x top fit out =
     let g : (at + 32) % 2 ^ 64 ≡ at + 32 = omega arith in
     let n = count_words r at fit in
-    ap (λ (p : Memory). p.byte x) (sym (placed_is_written m at r fit top)) ∙ ap (λ b. with_words m.byte b (words at r) x) g ∙ with_words-other m.byte (words at r) (at + 32) x (omega arith) (so out n)
+    let same = placed_is_written m at r fit (omega arith) in
+    ap (λ (p : Memory). p.byte x) (sym same)
+    ∙ ap (λ b. with_words m.byte b (words at r) x) g
+    ∙ outside m.byte (words at r) (at + 32) x (omega arith) (so out n)
   where
-    so : (x < at + 32) ⊎ (at + 1568 ≤ x) → length (words at r) ≡ 192 → (x < at + 32) ⊎ (at + 32 + 8 * length (words at r) ≤ x)
+    so : (x < at + 32) ⊎ (at + 1568 ≤ x) → length (words at r) ≡ 192
+        → (x < at + 32) ⊎ (at + 32 + 8 * length (words at r) ≤ x)
     so (inl p) n = inl p
     so (inr p) n = inr (omega arith)
 
+-- a record that is placed is fetched, also where it ends at the last address
+placed_back : (m : Memory) (at : ℕ) (r : DispatchRecord) → at + 1568 ≤ 2 ^ 64 → AreBytes m.byte → Fits r
+    → Readable m at → fetched (placed m at r) at ≡ Some r
+placed_back m at r end bytes fit readable =
+    fetched_back (placed m at r) at r end (placed_bytes m at r fit end bytes) fit
+    (placed_words m at r fit end) (placed_readable m at r readable)
+
 pub placed_is_fetched : PlacedIsFetched
-placed_is_fetched m at r top bytes fit readable =
-    fetched_back (placed m at r) at r top (placed_bytes m at r fit top bytes) fit
-    (ap (λ (p : Memory). words_at p.byte 192 ((at + 32) % 2 ^ 64)) (sym (placed_is_written m at r fit top)) ∙ written_words m at r fit top)
-    (placed_readable m at r readable)
+placed_is_fetched m at r top bytes fit readable = placed_back m at r (omega arith) bytes fit readable
+
+pub placed_is_fetched_where_not_refused : PlacedIsFetchedWhereNotRefused
+placed_is_fetched_where_not_refused m at r lt bytes fit free =
+    placed_back m at r (below_top m at lt free) bytes fit (readable_bytes m at lt free)

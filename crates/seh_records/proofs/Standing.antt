@@ -17,7 +17,7 @@ number_split : (byte : ℕ → ℕ) (a : ℕ) → number_at byte 8 a ≡ number_
 unfolding number_at
 number_split byte a = omega arith
 
-number_two : (byte : ℕ → ℕ) (a : ℕ) → a + 8 < 2 ^ 64 → number_at byte 8 a ≡ number_at byte 4 a + 2 ^ 32 * number_at byte 4 (a + 4)
+number_two : (byte : ℕ → ℕ) (a : ℕ) → a + 8 ≤ 2 ^ 64 → number_at byte 8 a ≡ number_at byte 4 a + 2 ^ 32 * number_at byte 4 (a + 4)
 number_two byte a lt = let e : next (next (next (next a))) ≡ a + 4 = omega arith in number_split byte a ∙ ap (λ x. number_at byte 4 a + 2 ^ 32 * number_at byte 4 x) e
 
 four_small : (byte : ℕ → ℕ) (a : ℕ) → AreBytes byte → number_at byte 4 a < 2 ^ 32
@@ -25,16 +25,16 @@ unfolding number_at
 four_small byte a h = let p = h a in let q = h (next a) in let r = h (next (next a)) in let s = h (next (next (next a))) in omega arith
 
 -- a word's two halves
-low_half : (byte : ℕ → ℕ) (a lo hi : ℕ) → a + 8 < 2 ^ 64 → AreBytes byte → lo < 2 ^ 32 → number_at byte 8 a ≡ lo + 2 ^ 32 * hi → number_at byte 4 a ≡ lo
+low_half : (byte : ℕ → ℕ) (a lo hi : ℕ) → a + 8 ≤ 2 ^ 64 → AreBytes byte → lo < 2 ^ 32 → number_at byte 8 a ≡ lo + 2 ^ 32 * hi → number_at byte 4 a ≡ lo
 low_half byte a lo hi lt bytes small e = let f = number_two byte a lt in let g = four_small byte a bytes in omega arith
 
-high_half : (byte : ℕ → ℕ) (a lo hi : ℕ) → a + 8 < 2 ^ 64 → AreBytes byte → lo < 2 ^ 32 → number_at byte 8 a ≡ lo + 2 ^ 32 * hi → number_at byte 4 (a + 4) ≡ hi
+high_half : (byte : ℕ → ℕ) (a lo hi : ℕ) → a + 8 ≤ 2 ^ 64 → AreBytes byte → lo < 2 ^ 32 → number_at byte 8 a ≡ lo + 2 ^ 32 * hi → number_at byte 4 (a + 4) ≡ hi
 high_half byte a lo hi lt bytes small e = let f = number_two byte a lt in let g = four_small byte a bytes in omega arith
 
 -- ---- runs of words
 
 -- a word of a run
-pub word_in : (byte : ℕ → ℕ) (ws : List ℕ) (n x k : ℕ) → words_at byte n x ≡ ws → k < n → x + 8 * n < 2 ^ 64 → number_at byte 8 (x + 8 * k) ≡ get_or ws k 0
+pub word_in : (byte : ℕ → ℕ) (ws : List ℕ) (n x k : ℕ) → words_at byte n x ≡ ws → k < n → x + 8 * n ≤ 2 ^ 64 → number_at byte 8 (x + 8 * k) ≡ get_or ws k 0
 unfolding words_at
 word_in byte ws zero x k e lt top = absurd (omega arith)
 word_in byte ws (suc n) x zero e lt top = let z : x + 8 * 0 ≡ x = omega arith in ap (number_at byte 8) z ∙ ap (λ (t : List ℕ). get_or t 0 0) e
@@ -43,14 +43,17 @@ word_in byte ws (suc n) x (suc k) e lt top =
     let z : x + 8 * suc k ≡ x + 8 + 8 * k = omega arith in
     ap (number_at byte 8) z ∙ word_in byte (words_at byte n ((x + 8) % 2 ^ 64)) n (x + 8) k (ap (words_at byte n) (sym f)) (omega arith) (omega arith) ∙ ap (λ (t : List ℕ). get_or t (suc k) 0) e
 
-pub run_is : (byte : ℕ → ℕ) (ys : List ℕ) (x : ℕ) → x + 8 * length ys < 2 ^ 64 → ((j : ℕ) → j < length ys → number_at byte 8 (x + 8 * j) ≡ get_or ys j 0) → words_at byte (length ys) x ≡ ys
+pub run_is : (byte : ℕ → ℕ) (ys : List ℕ) (x : ℕ) → x + 8 * length ys ≤ 2 ^ 64 → ((j : ℕ) → j < length ys → number_at byte 8 (x + 8 * j) ≡ get_or ys j 0) → words_at byte (length ys) x ≡ ys
 unfolding words_at
 run_is byte [] x top h = refl
-run_is byte (y ∷ ys) x top h =
+run_is byte (y ∷ []) x top h =
+    let z : x + 8 * 0 ≡ x = omega arith in
+    ap (λ v. v ∷ []) (ap (number_at byte 8) (sym z) ∙ h 0 (omega arith))
+run_is byte (y ∷ w ∷ ys) x top h =
     let e : (x + 8) % 2 ^ 64 ≡ x + 8 = omega arith in
     let z : x + 8 * 0 ≡ x = omega arith in
-    let rest = run_is byte ys (x + 8) (omega arith) (λ j lt. let f : x + 8 + 8 * j ≡ x + 8 * suc j = omega arith in ap (number_at byte 8) f ∙ h (suc j) (omega arith)) in
-    ap (λ v. v ∷ words_at byte (length ys) ((x + 8) % 2 ^ 64)) (ap (number_at byte 8) (sym z) ∙ h 0 (omega arith)) ∙ ap (λ (t : List ℕ). y ∷ t) (ap (words_at byte (length ys)) e ∙ rest)
+    let rest = run_is byte (w ∷ ys) (x + 8) (omega arith) (λ j lt. let f : x + 8 + 8 * j ≡ x + 8 * suc j = omega arith in ap (number_at byte 8) f ∙ h (suc j) (omega arith)) in
+    ap (λ v. v ∷ words_at byte (suc (length ys)) ((x + 8) % 2 ^ 64)) (ap (number_at byte 8) (sym z) ∙ h 0 (omega arith)) ∙ ap (λ (t : List ℕ). y ∷ t) (ap (words_at byte (suc (length ys))) e ∙ rest)
 
 -- a piece in the middle of a list
 piece : (all pre ys post : List ℕ) (k j : ℕ) → all ≡ (pre ++ ys) ++ post → k ≡ length pre + j → j < length ys → get_or all k 0 ≡ get_or ys j 0
@@ -111,7 +114,7 @@ cut_registers a b c d e f g h = simp append_assoc
 cut_back : (a b c d e f g h : List ℕ) → ((((((a ++ b) ++ c) ++ d) ++ e) ++ f) ++ g) ++ h ≡ (((((a ++ b) ++ c) ++ d) ++ e) ++ f) ++ (g ++ h)
 cut_back a b c d e f g h = simp append_assoc
 
-module _ (m : Memory) (at : ℕ) (r : DispatchRecord) (top : at + 1568 < 2 ^ 64) (bytes : AreBytes m.byte) (fit : Fits r) (stand : words_from m at 32 192 ≡ words at r) where
+module _ (m : Memory) (at : ℕ) (r : DispatchRecord) (top : at + 1568 ≤ 2 ^ 64) (bytes : AreBytes m.byte) (fit : Fits r) (stand : words_from m at 32 192 ≡ words at r) where
   zeros : List ℕ
   zeros = 0 ∷ []
 
@@ -143,8 +146,8 @@ module _ (m : Memory) (at : ℕ) (r : DispatchRecord) (top : at + 1568 < 2 ^ 64)
       ap (number_at m.byte 8) f ∙ word_in m.byte (words at r) 192 ((at + 32) % 2 ^ 64) k stand lt (omega arith) ∙ g
 
   -- a run of the list is read back
-  pieces : (pre ys post : List ℕ) (o n : ℕ) → words at r ≡ (pre ++ ys) ++ post → o ≡ 32 + 8 * length pre → length ys ≡ n → words_from m at o n ≡ ys
-  pieces pre ys post o n e f len =
+  pieces : (pre ys post : List ℕ) (o n : ℕ) → o < 1568 → words at r ≡ (pre ++ ys) ++ post → o ≡ 32 + 8 * length pre → length ys ≡ n → words_from m at o n ≡ ys
+  pieces pre ys post o n below e f len =
       let total : 192 ≡ length pre + length ys + length post = omega (arith, length-words, ap length e, length-append (pre ++ ys) post, length-append pre ys) in
       let g : (at + o) % 2 ^ 64 ≡ at + o = omega arith in
       ap (λ i. words_at m.byte i ((at + o) % 2 ^ 64)) (sym len)
@@ -155,19 +158,19 @@ module _ (m : Memory) (at : ℕ) (r : DispatchRecord) (top : at + 1568 < 2 ^ 64)
 
   parameters_back : words_from m at 128 15 ≡ r.parameters
   unfolding words
-  parameters_back = pieces (head at r) r.parameters ((0 ∷ []) ++ (front r ++ (r.saved.registers ++ (back r ++ ((r.walk.rip ∷ []) ++ r.walk.kept))))) 128 15 (cut (head at r) r.parameters (0 ∷ []) (front r) r.saved.registers (back r) (r.walk.rip ∷ []) r.walk.kept) (omega arith) fit.parameters
+  parameters_back = pieces (head at r) r.parameters ((0 ∷ []) ++ (front r ++ (r.saved.registers ++ (back r ++ ((r.walk.rip ∷ []) ++ r.walk.kept))))) 128 15 (lit< tt) (cut (head at r) r.parameters (0 ∷ []) (front r) r.saved.registers (back r) (r.walk.rip ∷ []) r.walk.kept) (omega arith) fit.parameters
 
   registers_back : words_from m at 0x178 16 ≡ r.saved.registers
   unfolding words before_front zeros
   registers_back =
       let q = length-before_front in
-      pieces (before_front ++ front r) r.saved.registers (back r ++ ((r.walk.rip ∷ []) ++ r.walk.kept)) 0x178 16 (cut_registers (head at r) r.parameters (0 ∷ []) (front r) r.saved.registers (back r) (r.walk.rip ∷ []) r.walk.kept) (omega (arith, length-append before_front (front r))) fit.registers
+      pieces (before_front ++ front r) r.saved.registers (back r ++ ((r.walk.rip ∷ []) ++ r.walk.kept)) 0x178 16 (lit< tt) (cut_registers (head at r) r.parameters (0 ∷ []) (front r) r.saved.registers (back r) (r.walk.rip ∷ []) r.walk.kept) (omega (arith, length-append before_front (front r))) fit.registers
 
   kept_back : words_from m at 1496 9 ≡ r.walk.kept
   unfolding words before_back before_front zeros
   kept_back =
       let q = length-before_back in
-      pieces ((before_back ++ back r) ++ (r.walk.rip ∷ [])) r.walk.kept [] 1496 9 (sym (append-nil (words at r))) (omega (arith, length-append (before_back ++ back r) (r.walk.rip ∷ []), length-append before_back (back r))) fit.kept
+      pieces ((before_back ++ back r) ++ (r.walk.rip ∷ [])) r.walk.kept [] 1496 9 (lit< tt) (sym (append-nil (words at r))) (omega (arith, length-append (before_back ++ back r) (r.walk.rip ∷ []), length-append before_back (back r))) fit.kept
 
   eflags_word : get_or (words at r) 36 0 ≡ 0 + 2 ^ 32 * eflags r.saved.flags
   unfolding words before_front zeros
@@ -229,7 +232,8 @@ module _ (m : Memory) (at : ℕ) (r : DispatchRecord) (top : at + 1568 < 2 ^ 64)
       ∙ ap (λ (d : DispatchRecord). Some d) recorded_back
 
 pub standing_is_fetched : RecordIsFetched
-standing_is_fetched m at r top bytes fit stands = fetched_back m at r top bytes fit stands.words stands.readable
+standing_is_fetched m at r top bytes fit stands =
+    fetched_back m at r (omega arith) bytes fit stands.words stands.readable
 
 -- there are 192 words
 pub count_words : (r : DispatchRecord) (at : ℕ) → Fits r → length (words at r) ≡ 192

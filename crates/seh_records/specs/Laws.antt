@@ -7,7 +7,7 @@ use Rattle.seh_num.specs.declared.size.TheConstants.{EXCEPTION_MAXIMUM_PARAMETER
 use Rattle.flat_memory.specs.Memory.{Memory, first_refused, may_read, after_store}
 use Rattle.flat_memory.specs.Laws.{IsApart}
 use Rattle.seh_records.specs.declared.dispatch.DispatchRecord.{DispatchRecord}
-use Rattle.seh_records.specs.Record.{mark, placed, fetched, IsRecordAt}
+use Rattle.seh_records.specs.Record.{mark, misplaced, placed, fetched, IsRecordAt}
 use Rattle.seh_records.specs.declared.layout.TheConstants.{RECORD_SIZE}
 
 abbrev pub MarkSpells : Type 0
@@ -50,6 +50,12 @@ RecordIsFetched = (m : Memory) (at : ℕ) (r : DispatchRecord) → at + RECORD_S
 
 abbrev pub PlacedIsFetched : Type 0
 PlacedIsFetched = (m : Memory) (at : ℕ) (r : DispatchRecord) → at + RECORD_SIZE < 2 ^ 64 → AreBytes m.byte → Fits r → Readable m at → fetched (placed m at r) at ≡ Some r
+
+-- so where a place isn't refused, the record that is placed there is fetched again
+abbrev pub PlacedIsFetchedWhereNotRefused : Type 0
+PlacedIsFetchedWhereNotRefused =
+    (m : Memory) (at : ℕ) (r : DispatchRecord) → at < 2 ^ 64 → AreBytes m.byte → Fits r
+    → misplaced m at ≡ None → fetched (placed m at r) at ≡ Some r
 
 -- placing changes no byte outside the record, and none of its home space
 abbrev pub PlacingLeavesOthers : Type 0

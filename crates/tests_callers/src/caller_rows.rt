@@ -1,17 +1,24 @@
 //! Functions with their unwind infos, and the caller at each instruction's boundary.
 //!
 //! A table is one text. A function begins with a line `# NAME`. A line `info` has bytes of unwind
-//! infos, each line 32 bytes after the one before: the function's own, and those that it is chained to.
-//! A line `with` says where registers point. Then comes a row for each instruction:
+//! infos, each line 32 bytes after the one before: the function's own, and those that it is chained
+//! to; a function without such a line is a leaf. A line `with` says where registers point, and a
+//! line `words` which words of the stack are the address of another place. Then comes a row for
+//! each instruction:
 //!
 //!     BYTES | INSTRUCTION | PLACE RIP RSP FRAME | READ | NOTE
 //!
-//! with the caller of the frame in which this instruction is the next one. PLACE is `handler` in the
-//! body of an entry whose handler is asked, `body` in a body without one, and `-` elsewhere. RIP is the
-//! place of the word that is read as the return address, RSP the caller's stack pointer, FRAME the
-//! establisher frame, and READ names the registers that are read, each with the place of its word.
-//! NOTE is for the reader. All are distances from the callee's RSP, in hexadecimal. Each word of the
-//! stack is its own address, so that a value tells where it was read.
+//! with the caller of the frame in which this instruction is the next one. PLACE is `handler` in
+//! the body of an entry whose handler is asked, `body` in a body without one, and `-` elsewhere.
+//! RIP is the place of the word that is read as the return address, RSP the caller's stack pointer,
+//! FRAME the establisher frame, and READ names the registers that are read, each with the place of
+//! its word. NOTE is for the reader. All are distances from 0x70000000, which is the callee's RSP
+//! where no line says another, in hexadecimal. Each word of the stack is its own address, so that a
+//! value tells where it was read. Where no caller is found the row has, in place of PLACE RIP RSP
+//! FRAME,
+//!
+//!     unreadable WORD      the first word that is needed and can't be read
+//!     backward RSP         the callee's stack pointer, above which the caller's isn't
 
 use eh_tables::Tables;
 use pe_image::ImageView;
@@ -20,6 +27,7 @@ use std::alloc::{AllocError, Global};
 use std::process::Abort;
 use std::test::Fail;
 use test_images::tables::table_image;
+use virtual_unwind::UnwindErr;
 use virtual_unwind::frame::Caller;
 use virtual_unwind::unwinding::caller;
 use x64_machine::context::Context;
@@ -27,9 +35,10 @@ use x64_memory::page_map::PageMap;
 use x64_memory::region::Region;
 use x64_memory::space::AddressSpace;
 
-/// Where the code begins, and RSP.
+/// Where the code begins.
 const CODE: u64 = 0x1_4000_2000;
 
+/// Where the stack begins, and RSP where no row says another.
 const STACK: u64 = 0x7000_0000;
 
 /// The function, with the info at 0x3000: its code ends at or before 0x2100.
@@ -75,12 +84,13 @@ struct Function<'a> {
     code: Vec<u8>,
     /// The registers of the callee.
     kept: [u64; 9],
+    /// Words of the stack that are another address than their own.
+    words: &'a str,
 }
 
-/// What a row expects.
+/// The caller that a row expects.
 #[derive(Clone, Copy, Debug)]
 struct Boundary<'a> {
-    offset: u64,
     place: &'a str,
     rip: u64,
     rsp: u64,
@@ -118,13 +128,18 @@ fn pad(out: &mut Vec<u8>) -> Result<(), AllocError> {
     Ok(())
 }
 
+/// The place that a word names, as an address.
+fn address(rt: &impl Abort, word: &str) -> u64 {
+    STACK.wrapping_add(number(rt, word))
+}
+
 /// Sets registers to addresses in the stack.
 fn set(rt: &impl Abort, kept: &mut [u64; 9], pairs: &str) {
     for pair in pairs.split_ascii_whitespace() {
         match pair.split_once('=') {
             None => panic!(rt; "no register: {pair}"),
             Some((name, at)) => {
-                let value = STACK.wrapping_add(number(rt, at));
+                let value = address(rt, at);
                 for (k, register) in KEPT.iter().enumerate() {
                     if *register == name {
                         if let Some(place) = kept.get_mut(k) {
@@ -132,6 +147,18 @@ fn set(rt: &impl Abort, kept: &mut [u64; 9], pairs: &str) {
                         }
                     }
                 }
+            }
+        }
+    }
+}
+
+/// Stores addresses at places of the stack.
+fn put_words(rt: &impl Abort, space: &mut PageMap, pairs: &str) {
+    for pair in pairs.split_ascii_whitespace() {
+        match pair.split_once('=') {
+            None => panic!(rt; "no word: {pair}"),
+            Some((at, value)) => {
+                let _ = space.store(address(rt, at), Width::W64, address(rt, value));
             }
         }
     }
@@ -148,6 +175,7 @@ fn function_of<'a>(
         infos: Vec::new(alloc),
         code: Vec::new(alloc),
         kept: [STACK, 0xB1, 0xB2, 0xB3, 0xB4, 0xB5, 0xB6, 0xB7, 0xB8],
+        words: "",
     };
     for line in part.lines() {
         if let Some(words) = line.strip_prefix("info ") {
@@ -155,6 +183,8 @@ fn function_of<'a>(
             push_bytes(rt, &mut found.infos, words)?;
         } else if let Some(pairs) = line.strip_prefix("with ") {
             set(rt, &mut found.kept, pairs);
+        } else if let Some(pairs) = line.strip_prefix("words ") {
+            found.words = pairs;
         } else if let Some((bytes, _)) = line.split_once(" | ") {
             push_bytes(rt, &mut found.code, bytes)?;
         } else if found.name.is_empty() {
@@ -164,38 +194,47 @@ fn function_of<'a>(
     Ok(found)
 }
 
-/// What a row expects at an offset.
-fn boundary_of<'a>(rt: &impl Abort, offset: u64, row: &'a str) -> Option<Boundary<'a>> {
+/// What a row expects.
+fn boundary_of<'a>(rt: &impl Abort, row: &'a str) -> Option<Result<Boundary<'a>, UnwindErr>> {
     let mut columns = row.split('|').skip(2);
     let mut words = columns.next()?.split_ascii_whitespace();
-    Some(Boundary {
-        offset,
-        place: words.next()?,
-        rip: number(rt, words.next()?),
-        rsp: number(rt, words.next()?),
-        frame: number(rt, words.next()?),
+    let place = words.next()?;
+    let first = address(rt, words.next()?);
+    if place == "unreadable" {
+        return Some(Err(UnwindErr::Unreadable { address: first }));
+    }
+    if place == "backward" {
+        return Some(Err(UnwindErr::Backward { rsp: first }));
+    }
+    Some(Ok(Boundary {
+        place,
+        rip: first,
+        rsp: address(rt, words.next()?),
+        frame: address(rt, words.next()?),
         read: columns.next()?,
-    })
+    }))
 }
 
-/// The caller that a row expects: the registers that aren't read are kept.
-fn expected(rt: &impl Abort, kept: &[u64; 9], row: Boundary<'_>) -> Caller {
+/// The answer that a row expects: the registers that aren't read are kept.
+fn expected(
+    rt: &impl Abort,
+    kept: &[u64; 9],
+    row: Result<Boundary<'_>, UnwindErr>,
+) -> Result<Caller, UnwindErr> {
+    let row = row?;
     let mut kept = *kept;
     set(rt, &mut kept, row.read);
-    kept[0] = STACK.wrapping_add(row.rsp);
-    Caller {
-        frame: STACK.wrapping_add(row.frame),
-        context: Context {
-            rip: STACK.wrapping_add(row.rip),
-            kept,
-        },
+    kept[0] = row.rsp;
+    Ok(Caller {
+        frame: row.frame,
+        context: Context { rip: row.rip, kept },
         handler: if row.place == "handler" {
             Some(HANDLER)
         } else {
             None
         },
         in_body: row.place != "-",
-    }
+    })
 }
 
 /// Stores at each of 64 places its own address.
@@ -216,23 +255,30 @@ fn space(alloc: Global, code: &[u8]) -> Result<PageMap, AllocError> {
     }
     put_addresses(&mut space, STACK);
     put_addresses(&mut space, STACK + 0x8_0000);
+    put_addresses(&mut space, STACK + 0x8_0E00);
     Ok(space)
 }
 
 /// Compares the callers at the boundaries of a function.
 fn unwinds(rt: &impl Abort, alloc: Global, part: &str) -> Result<(), Fail> {
     let function = function_of(rt, alloc, part)?;
-    let bytes = table_image(alloc, &function.infos, &ENTRY)?;
+    let entries: &[u8] = if function.infos.is_empty() {
+        &[]
+    } else {
+        &ENTRY
+    };
+    let bytes = table_image(alloc, &function.infos, entries)?;
     let view = ImageView::read(alloc, &bytes)?;
     let tables = Tables::read(&view)?;
-    let space = space(alloc, &function.code)?;
+    let mut space = space(alloc, &function.code)?;
+    put_words(rt, &mut space, function.words);
     let mut offset = 0u64;
     for line in part.lines() {
         let Some((code, _)) = line.split_once(" | ") else {
             continue;
         };
         let name = function.name;
-        match boundary_of(rt, offset, line) {
+        match boundary_of(rt, line) {
             None => panic!(rt; "no row in {name}: {line}"),
             Some(row) => {
                 let context = Context {
@@ -240,11 +286,8 @@ fn unwinds(rt: &impl Abort, alloc: Global, part: &str) -> Result<(), Fail> {
                     kept: function.kept,
                 };
                 let found = caller(&tables, &space, &context);
-                assert_eq!(rt;
-                    found,
-                    Ok(expected(rt, &function.kept, row)),
-                    "{name}: {row:?}"
-                );
+                let wanted = expected(rt, &function.kept, row);
+                assert_eq!(rt; found, wanted, "{name}: {line}");
             }
         }
         for _word in code.split_ascii_whitespace() {

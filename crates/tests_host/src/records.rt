@@ -4,6 +4,7 @@ use seh_num::event::Code;
 use seh_num::width::Width;
 use seh_records::{BadRecord, DispatchRecord, Guard, Kind, fetch, place};
 use std::alloc::{AllocError, Global};
+use std::process::Abort;
 use std::test::Fail;
 use x64_machine::context::Context;
 use x64_machine::cpu::{Cpu, Flags};
@@ -63,19 +64,37 @@ fn record() -> DispatchRecord {
     }
 }
 
+/// Compares words of a record, each by its offset.
+fn words_are(rt: &impl Abort, space: &PageMap, at: u64, fields: &[(u64, u64)]) {
+    for &(offset, value) in fields {
+        assert_eq!(rt;
+            space.load(at.wrapping_add(offset), Width::W64),
+            Ok(value),
+            "{offset}"
+        );
+    }
+}
+
 // The offsets are those of the record's table; the CONTEXT's are those of winnt.h, from 256 on.
 #[test]
 fn fields_are_at_their_offsets(rt: HostRuntime) -> Result<(), Fail> {
     let mut space = space(rt.alloc())?;
     let at = 0x7000_1000;
     assert_eq!(rt; place(&mut space, 0x7000_1620, &record()), Ok(at));
-    let fields: [(u64, u64); 18] = [
+    let own = [
         (32, 0x4843_5053_4448_4553),
         (40, 3),
         (48, 0x11),
+        (56, 0x12),
         (64, 0x13),
+        (72, 0x14),
         (80, at + 96),
         (88, at + 256),
+        (1488, 0x70),
+        (1560, 79),
+    ];
+    words_are(&rt, &space, at, &own);
+    let of_the_exception = [
         (96, 0x1_E000_0001),
         (112, 0x66),
         (120, 2),
@@ -86,16 +105,40 @@ fn fields_are_at_their_offsets(rt: HostRuntime) -> Result<(), Fail> {
         (256 + 0x98, 54),
         (256 + 0xF0, 65),
         (256 + 0xF8, 0x66),
-        (1488, 0x70),
-        (1560, 79),
     ];
-    for (offset, value) in fields {
-        assert_eq!(rt;
-            space.load(at.wrapping_add(offset), Width::W64),
-            Ok(value),
-            "{offset}"
-        );
+    words_are(&rt, &space, at, &of_the_exception);
+    assert_eq!(rt; fetch(&space, at), Ok(record()));
+    Ok(())
+}
+
+/// What memory holds before a record is placed.
+const OLD: u64 = 0xA5A5_A5A5_A5A5_A5A5;
+
+// The next record of the exception is at 104, and NumberParameters at 120; 124 to 127, 248 to 255
+// and what the CONTEXT's table doesn't name have no content. Below the record is the return
+// address, and above it what was suspended before.
+#[test]
+fn all_is_written_but_the_home_space(rt: HostRuntime) -> Result<(), Fail> {
+    let mut space = space(rt.alloc())?;
+    let at = 0x7000_1000u64;
+    for index in 0..256 {
+        let address = at.wrapping_sub(64).wrapping_add(8 * index);
+        assert_eq!(rt; space.store(address, Width::W64, OLD), Ok(()));
     }
+    assert_eq!(rt; place(&mut space, 0x7000_1620, &record()), Ok(at));
+    let written = [
+        (104, 0),
+        (120, 2),
+        (248, 0),
+        (256, 0),
+        (256 + 0x48, 0),
+        (256 + 0x100, 0),
+        (1480, 0),
+    ];
+    words_are(&rt, &space, at, &written);
+    let kept = [(0, OLD), (8, OLD), (16, OLD), (24, OLD), (1568, OLD)];
+    words_are(&rt, &space, at, &kept);
+    words_are(&rt, &space, at.wrapping_sub(8), &[(0, OLD)]);
     assert_eq!(rt; fetch(&space, at), Ok(record()));
     Ok(())
 }
