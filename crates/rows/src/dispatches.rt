@@ -2,28 +2,15 @@
 
 use crate::image::of_code;
 use crate::runs::{answers, answers_with};
-use eh_tables::ScopeRecord;
 use seh::status::Status;
 use std::test::Fail;
+use test_images::calls::store_and_collision;
 use test_images::code::{CONTINUED_ACCESS, FILTER_AND_FINALLY, RAISE_IN_FINALLY};
 use test_images::forged::{
     HARMS_KIND, HARMS_MARK, HARMS_ROW, HARMS_SAVED_STATE, PUSHES_AT_ADDRESS_8, RAISES_AT_THE_GUARD,
     RETURNS_AS_FILTER, RETURNS_AS_FINALLY, UNWINDS_TO_NO_FRAME, plain, raising,
 };
-use test_images::{Function, Parts, built};
-
-fn scope(begin: u32, end: u32, handler_address: u32, jump_target: u32) -> ScopeRecord {
-    ScopeRecord {
-        begin,
-        end,
-        handler_address,
-        jump_target,
-    }
-}
-
-fn function<'a>(begin: u32, end: u32, scopes: &'a [ScopeRecord]) -> Function<'a> {
-    Function { begin, end, scopes }
-}
+use test_images::{Parts, built, fixed, scope};
 
 #[test]
 fn filters_and_finally_blocks(rt: HostRuntime) -> Result<(), Fail> {
@@ -32,9 +19,9 @@ fn filters_and_finally_blocks(rt: HostRuntime) -> Result<(), Fail> {
         scope(0x2004, 0x2019, 0x2052, 0x2024),
     ];
     let functions = [
-        function(0x2000, 0x2039, &scopes),
-        function(0x2039, 0x2052, &[]),
-        function(0x2052, 0x2060, &[]),
+        fixed(0x2000, 0x2039, &scopes),
+        fixed(0x2039, 0x2052, &[]),
+        fixed(0x2052, 0x2060, &[]),
     ];
     let parts = Parts {
         data: &[],
@@ -63,9 +50,9 @@ fn collided_unwindings(rt: HostRuntime) -> Result<(), Fail> {
         scope(0x2004, 0x2019, 0x205C, 0x2019),
     ];
     let functions = [
-        function(0x2000, 0x202E, &scopes),
-        function(0x2033, 0x205C, &[]),
-        function(0x205C, 0x206A, &[]),
+        fixed(0x2000, 0x202E, &scopes),
+        fixed(0x2033, 0x205C, &[]),
+        fixed(0x205C, 0x206A, &[]),
     ];
     let parts = Parts {
         data: &[],
@@ -90,10 +77,7 @@ fn collided_unwindings(rt: HostRuntime) -> Result<(), Fail> {
 #[test]
 fn continued_accesses(rt: HostRuntime) -> Result<(), Fail> {
     let scopes = [scope(0x2013, 0x2016, 0x2029, 0x201F)];
-    let functions = [
-        function(0x2000, 0x2029, &scopes),
-        function(0x2029, 0x2047, &[]),
-    ];
+    let functions = [fixed(0x2000, 0x2029, &scopes), fixed(0x2029, 0x2047, &[])];
     let parts = Parts {
         data: &[],
         text: CONTINUED_ACCESS,
@@ -102,6 +86,28 @@ fn continued_accesses(rt: HostRuntime) -> Result<(), Fail> {
     };
     let bytes = built(rt.alloc(), parts)?;
     let lines = "raise C0000005 0 write 0000000020000000\nfilter 1\nanswer -1\n5\nexit 7\n";
+    answers_with(
+        &rt,
+        rt.alloc(),
+        "exec --trace",
+        &bytes,
+        Status::Done,
+        lines,
+        "",
+    )
+}
+
+// One run with all that a trace shows: an access that its filter lets be made again; a search in
+// which one filter answers 0 and the next accepts, from the callee up to `main`; a `__finally` block
+// that raises: that search asks both filters anew, and its unwinding goes on at the callee's next
+// block and at that of `main`; and the `__except` block of `main`.
+#[test]
+fn whole_trace(rt: HostRuntime) -> Result<(), Fail> {
+    let bytes = store_and_collision(rt.alloc())?;
+    let lines = "raise C0000005 0 write 0000000020000000\nfilter 1\nanswer -1\n5\n\
+                 raise E0000001 0\nfilter 2\nanswer 0\nfilter 3\nanswer 1\nfinally 5 1\n1\n\
+                 raise E0000002 0\nfilter 2\nanswer 0\nfilter 3\nanswer 1\nfinally 6 1\n2\n\
+                 finally 4 1\n4\nexcept E0000002\n3\nexit 7\n";
     answers_with(
         &rt,
         rt.alloc(),

@@ -21,17 +21,56 @@ const MOST: usize = 1 << 24;
 /// Where the unwind infos begin: `.data`, `.text` and `.rdata` take a page each before them.
 const INFOS: u32 = 0x4000;
 
-/// A function: its code from `begin` to before `end`, relative to the image base, and its scope
-/// records.
+/// What a function begins with.
+#[derive(Clone, Copy, Debug)]
+pub enum Prologue {
+    /// `sub rsp,40`, of four bytes.
+    Fixed,
+    /// `push rbx; push rbp; sub rsp,40; lea rbp,[rsp+32]`, whose ends are at 1, 2, 6 and 11.
+    Framed,
+}
+
+/// A function: its code from `begin` to before `end`, relative to the image base, how it begins,
+/// and its scope records.
 #[derive(Clone, Copy, Debug)]
 pub struct Function<'a> {
     pub begin: u32,
     pub end: u32,
+    pub prologue: Prologue,
     pub scopes: &'a [ScopeRecord],
 }
 
+/// A function that begins with `sub rsp,40`.
+pub fn fixed<'a>(begin: u32, end: u32, scopes: &'a [ScopeRecord]) -> Function<'a> {
+    Function {
+        begin,
+        end,
+        prologue: Prologue::Fixed,
+        scopes,
+    }
+}
+
+/// A function that pushes RBX and RBP and has RBP as its frame register.
+pub fn framed<'a>(begin: u32, end: u32, scopes: &'a [ScopeRecord]) -> Function<'a> {
+    Function {
+        begin,
+        end,
+        prologue: Prologue::Framed,
+        scopes,
+    }
+}
+
+pub fn scope(begin: u32, end: u32, handler_address: u32, jump_target: u32) -> ScopeRecord {
+    ScopeRecord {
+        begin,
+        end,
+        handler_address,
+        jump_target,
+    }
+}
+
 /// An image: its data and its code, at 0x1000 and 0x2000; where the thunk of the language handler
-/// is; and its functions, each of which takes 40 bytes of stack by its first instruction.
+/// is; and its functions.
 #[derive(Clone, Copy, Debug)]
 pub struct Parts<'a> {
     pub data: &'a [u8],
@@ -57,8 +96,39 @@ fn trailer(handler: u32, scopes: &[ScopeRecord]) -> Trailer
     }
 }
 
-/// The info of a function that takes 40 bytes of stack by its first instruction, of four bytes.
-fn info(trailer: Trailer) -> UnwindInfo
+/// The info of a function with a frame register.
+fn framed_info(trailer: Trailer) -> UnwindInfo
+    requires { IsTrailer trailer }
+    ensures { CanBeWritten result }
+{
+    let mut codes = ArrayVec::new();
+    codes.push(UnwindCode {
+        offset: 11,
+        operation: UnwindOperation::SetFrame,
+    });
+    codes.push(UnwindCode {
+        offset: 6,
+        operation: UnwindOperation::Allocate { size: 40 },
+    });
+    codes.push(UnwindCode {
+        offset: 2,
+        operation: UnwindOperation::Push { register: 5 },
+    });
+    codes.push(UnwindCode {
+        offset: 1,
+        operation: UnwindOperation::Push { register: 3 },
+    });
+    UnwindInfo {
+        prologue_size: 11,
+        frame_register: 5,
+        frame_offset: 32,
+        codes,
+        trailer,
+    }
+}
+
+/// The info of a function that begins with `sub rsp,40`.
+fn fixed_info(trailer: Trailer) -> UnwindInfo
     requires { IsTrailer trailer }
     ensures { CanBeWritten result }
 {
@@ -76,6 +146,16 @@ fn info(trailer: Trailer) -> UnwindInfo
     }
 }
 
+fn info(prologue: Prologue, trailer: Trailer) -> UnwindInfo
+    requires { IsTrailer trailer }
+    ensures { CanBeWritten result }
+{
+    match prologue {
+        Prologue::Fixed => fixed_info(trailer),
+        Prologue::Framed => framed_info(trailer),
+    }
+}
+
 /// The infos of functions, with their scope tables, and the function table.
 fn tables(alloc: Global, parts: Parts<'_>) -> Result<(Vec<u8>, Vec<u8>), AllocError> {
     let mut infos = Vec::new(alloc);
@@ -89,7 +169,8 @@ fn tables(alloc: Global, parts: Parts<'_>) -> Result<(Vec<u8>, Vec<u8>), AllocEr
             end: function.end,
             unwind_info: INFOS + infos.len() as u32,
         })?;
-        write_unwind(&info(trailer(parts.handler, function.scopes)), &mut infos)?;
+        let handled = trailer(parts.handler, function.scopes);
+        write_unwind(&info(function.prologue, handled), &mut infos)?;
         if !function.scopes.is_empty() {
             write_scopes(function.scopes, &mut infos)?;
         }

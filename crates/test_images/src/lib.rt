@@ -1,11 +1,13 @@
-//! Images for tests, made by hand: code with functions, scope records and funclets ([`code`]), code
-//! that harms the dispatcher's records ([`forged`]), and the images of such code ([`built`]), as the
-//! product's own writers write them; and images of given unwind infos and entries ([`tables`]).
+//! Images for tests, made by hand: code with functions, scope records and funclets ([`code`]), whole
+//! images of functions that call each other ([`calls`]), code that harms the dispatcher's records
+//! ([`forged`]), and the images of such code ([`built`]), as the product's own writers write them; and
+//! images of given unwind infos and entries ([`tables`]).
 #![tactic(auto)]
 
 mod building;
+pub mod calls;
 pub mod code;
 pub mod forged;
 pub mod tables;
 
-pub use building::{Function, Parts, built};
+pub use building::{Function, Parts, Prologue, built, fixed, framed, scope};

@@ -16,16 +16,7 @@ use test_images::forged::{
     HARMS_KIND, HARMS_MARK, HARMS_ROW, HARMS_SAVED_STATE, PUSHES_AT_ADDRESS_8, RAISES_AT_THE_GUARD,
     RETURNS_AS_FILTER, RETURNS_AS_FINALLY, UNWINDS_TO_NO_FRAME, plain, raising,
 };
-use test_images::{Function, Parts, built};
-
-fn scope(begin: u32, end: u32, handler_address: u32, jump_target: u32) -> ScopeRecord {
-    ScopeRecord {
-        begin,
-        end,
-        handler_address,
-        jump_target,
-    }
-}
+use test_images::{Parts, built, fixed, scope};
 
 /// Runs an image with its trace, and compares the text.
 fn shows(rt: &impl Abort, alloc: Global, parts: Parts<'_>, text: &str) -> Result<(), Fail> {
@@ -33,11 +24,12 @@ fn shows(rt: &impl Abort, alloc: Global, parts: Parts<'_>, text: &str) -> Result
     shows_of(rt, alloc, &bytes, text)
 }
 
-fn shows_of(rt: &impl Abort, alloc: Global, bytes: &[u8], text: &str) -> Result<(), Fail> {
+/// The same of the bytes of an image.
+pub fn shows_of(rt: &impl Abort, alloc: Global, bytes: &[u8], text: &str) -> Result<(), Fail> {
     let view = ImageView::read(alloc, bytes)?;
     let mut host = load(alloc, &view, 0)?;
     let mut out = VecSink::new(alloc);
-    let _end = run(&mut host, 100, true, &mut out)?;
+    let _end = run(&mut host, 10_000, true, &mut out)?;
     assert_eq!(rt; out.bytes.as_slice(), text.as_bytes());
     Ok(())
 }
@@ -48,21 +40,14 @@ fn shows_one(
     alloc: Global,
     data: &[u8],
     text: &[u8],
-    scope: ScopeRecord,
+    record: ScopeRecord,
     ends: [u32; 3],
     lines: &str,
 ) -> Result<(), Fail> {
+    let records = [record];
     let functions = [
-        Function {
-            begin: 0x2000,
-            end: ends[0],
-            scopes: &[scope],
-        },
-        Function {
-            begin: ends[1],
-            end: ends[2],
-            scopes: &[],
-        },
+        fixed(0x2000, ends[0], &records),
+        fixed(ends[1], ends[2], &[]),
     ];
     let parts = Parts {
         data,
@@ -75,25 +60,14 @@ fn shows_one(
 
 #[test]
 fn a_filter_accepts_and_a_finally_block_runs(rt: HostRuntime) -> Result<(), Fail> {
+    let scopes = [
+        scope(0x2004, 0x2019, 0x2039, 0),
+        scope(0x2004, 0x2019, 0x2052, 0x2024),
+    ];
     let functions = [
-        Function {
-            begin: 0x2000,
-            end: 0x2039,
-            scopes: &[
-                scope(0x2004, 0x2019, 0x2039, 0),
-                scope(0x2004, 0x2019, 0x2052, 0x2024),
-            ],
-        },
-        Function {
-            begin: 0x2039,
-            end: 0x2052,
-            scopes: &[],
-        },
-        Function {
-            begin: 0x2052,
-            end: 0x2060,
-            scopes: &[],
-        },
+        fixed(0x2000, 0x2039, &scopes),
+        fixed(0x2039, 0x2052, &[]),
+        fixed(0x2052, 0x2060, &[]),
     ];
     let parts = Parts {
         data: &[],
@@ -108,25 +82,14 @@ fn a_filter_accepts_and_a_finally_block_runs(rt: HostRuntime) -> Result<(), Fail
 
 #[test]
 fn unwindings_collide(rt: HostRuntime) -> Result<(), Fail> {
+    let scopes = [
+        scope(0x2004, 0x2019, 0x2033, 0),
+        scope(0x2004, 0x2019, 0x205C, 0x2019),
+    ];
     let functions = [
-        Function {
-            begin: 0x2000,
-            end: 0x202E,
-            scopes: &[
-                scope(0x2004, 0x2019, 0x2033, 0),
-                scope(0x2004, 0x2019, 0x205C, 0x2019),
-            ],
-        },
-        Function {
-            begin: 0x2033,
-            end: 0x205C,
-            scopes: &[],
-        },
-        Function {
-            begin: 0x205C,
-            end: 0x206A,
-            scopes: &[],
-        },
+        fixed(0x2000, 0x202E, &scopes),
+        fixed(0x2033, 0x205C, &[]),
+        fixed(0x205C, 0x206A, &[]),
     ];
     let parts = Parts {
         data: &[],
@@ -223,11 +186,8 @@ fn a_filter_raises(rt: HostRuntime) -> Result<(), Fail> {
 
 #[test]
 fn a_handler_accepts_a_fault_at_once(rt: HostRuntime) -> Result<(), Fail> {
-    let functions = [Function {
-        begin: 0x2000,
-        end: 0x2026,
-        scopes: &[scope(0x2004, 0x2011, 1, 0x2011)],
-    }];
+    let scopes = [scope(0x2004, 0x2011, 1, 0x2011)];
+    let functions = [fixed(0x2000, 0x2026, &scopes)];
     let parts = Parts {
         data: &[],
         text: ACCEPTED_FAULT,
@@ -298,11 +258,8 @@ fn a_walk_does_not_go_back(rt: HostRuntime) -> Result<(), Fail> {
 
 #[test]
 fn a_landing_is_no_code(rt: HostRuntime) -> Result<(), Fail> {
-    let functions = [Function {
-        begin: 0x2000,
-        end: 0x2026,
-        scopes: &[scope(0x2004, 0x2011, 1, 0x1000)],
-    }];
+    let scopes = [scope(0x2004, 0x2011, 1, 0x1000)];
+    let functions = [fixed(0x2000, 0x2026, &scopes)];
     let parts = Parts {
         data: &[],
         text: ACCEPTED_FAULT,
@@ -340,18 +297,7 @@ fn many_funclets_are_gathered(rt: HostRuntime) -> Result<(), Fail> {
         scopes.push(scope(0x2004, 0x2012, 0x2019, 0x2012))?;
         scopes.push(scope(0x2000, 0x2001, 0x2019, 0))?;
     }
-    let functions = [
-        Function {
-            begin: 0x2000,
-            end: 0x2019,
-            scopes: &scopes,
-        },
-        Function {
-            begin: 0x2019,
-            end: 0x201F,
-            scopes: &[],
-        },
-    ];
+    let functions = [fixed(0x2000, 0x2019, &scopes), fixed(0x2019, 0x201F, &[])];
     let parts = Parts {
         data: &[],
         text: &text,

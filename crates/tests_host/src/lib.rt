@@ -4,6 +4,8 @@
 #[cfg(test)]
 mod dispatched;
 #[cfg(test)]
+mod ends;
+#[cfg(test)]
 mod one_section;
 #[cfg(test)]
 mod records;
