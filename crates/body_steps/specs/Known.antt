@@ -20,7 +20,8 @@ module _ (program : LinearProgram) where
   abbrev pub LeavesCallNothing : Plan → Type 0
   LeavesCallNothing p =
       (name : BodyName) (b : LinearBody) (label : ℕ) (i : Instruction)
-      → body_of program name ≡ Some b → p.leaf name ≡ true → slice_get b.code label ≡ Some i → is_call i ≡ false
+      → body_of program name ≡ Some b → p.leaf name ≡ true → slice_get b.code label ≡ Some i
+      → is_call i ≡ false
 
   -- of the program
   pub record IsWellMade (p : Plan) : Type 0 where
@@ -36,8 +37,10 @@ module _ (program : LinearProgram) where
     pub activations : HasActivations program c
     pub small : HasSmallNumbers c
     pub depths : HasDepths program c
-    pub next : (i : Instruction) (d : Configuration) → instruction_at program c ≡ Some i → ((next : Next) → act program i next c ≡ next d) → CanGoOn program d
+    pub next : (i : Instruction) (d : Configuration) → instruction_at program c ≡ Some i
+        → ((next : Next) → act program i next c ≡ next d) → CanGoOn program d
 
 -- and of the configuration after a step
 abbrev pub KnownNext : LinearProgram → Configuration → Instruction → Type 0
-KnownNext program c i = (d : Configuration) → ((next : Next) → act program i next c ≡ next d) → IsKnown program d
+KnownNext program c i =
+    (d : Configuration) → ((next : Next) → act program i next c ≡ next d) → IsKnown program d

@@ -46,12 +46,14 @@ module _ (program : LinearProgram) where
   IsWithinBody c instructions.Separator = Unit {0}
   IsWithinBody c other = ⊥
 
--- where an instruction begins in a state that stands for a configuration, the machine makes its step in one turn or more, shows nothing, and stands for the next configuration
+-- where an instruction begins in a state that stands for a configuration, the machine makes its
+-- step in one turn or more, shows nothing, and stands for the next configuration
 abbrev pub StepsWithinBodiesAreMatched : Type 0
 StepsWithinBodiesAreMatched =
     (t : Functions) (fs : List Funclet) (program : LinearProgram) (p : Plan) (q : Sites)
     → IsProgramImage t fs program p q → IsWellMade program p
     → (s : State) (c : Configuration) (i : Instruction)
-    → Begins t fs program p q s c → IsKnown program c → instruction_at program c ≡ Some i → IsWithinBody program c i
+    → Begins t fs program p q s c → IsKnown program c → instruction_at program c ≡ Some i
+    → IsWithinBody program c i
     → HasRule (act program i (exec program zero) c)
     → Moves t fs program pace turns_left (Begins t fs program p q) s c i

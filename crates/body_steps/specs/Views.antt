@@ -14,7 +14,14 @@ use Rattle.linked_stack.specs.ImagePlan.{Plan}
 
 -- a state by its registers as templates name them
 abbrev pub seen_by_templates : State → MachineView
-seen_by_templates s = record { rax = register s.cpu Rax; rcx = register s.cpu Rcx; rdx = register s.cpu Rdx; rest = drop 3 s.cpu.registers; memory = s.memory }
+seen_by_templates s =
+    record {
+      rax = register s.cpu Rax;
+      rcx = register s.cpu Rcx;
+      rdx = register s.cpu Rdx;
+      rest = drop 3 s.cpu.registers;
+      memory = s.memory;
+    }
 
 abbrev pub counts_of : LinearBody → Counts
 counts_of b = record { locals = b.locals; temporaries = b.temporaries }
@@ -22,16 +29,26 @@ counts_of b = record { locals = b.locals; temporaries = b.temporaries }
 module _ (program : LinearProgram) (p : Plan) where
   -- a body's frame, by RSP and by the base of its activation
   abbrev pub frame_at : BodyName → LinearBody → (sp base : ℕ) → Frame
-  frame_at name b sp base = record { layout = p.layout name; counts = counts_of b; reserved = is_reserved program.globals; sp = sp; base = base }
+  frame_at name b sp base =
+      record {
+        layout = p.layout name;
+        counts = counts_of b;
+        reserved = is_reserved program.globals;
+        sp = sp;
+        base = base;
+      }
 
   -- its slots, as they stand in memory, and the source's memory
   abbrev pub state_of : State → Configuration → (base : ℕ) → BodyState
-  state_of s c base = body_in_memory (p.layout c.frame.body) (register s.cpu Rsp) base s.memory c.store.memory
+  state_of s c base =
+      body_in_memory (p.layout c.frame.body) (register s.cpu Rsp) base s.memory c.store.memory
 
   -- the slots hold the numbers that linear code has in them
   pub record HasSlotsOf (c : Configuration) (b : LinearBody) (slots : BodyState) : Type 0 where
-    pub locals : (i : ℕ) → i < b.locals → slots.slots (Local i) ≡ local_of c.store c.frame.activation i
-    pub temporaries : (i v : ℕ) → slice_get c.frame.temporaries i ≡ Some v → slots.slots (Temporary i) ≡ v
+    pub locals : (i : ℕ) → i < b.locals
+        → slots.slots (Local i) ≡ local_of c.store c.frame.activation i
+    pub temporaries : (i v : ℕ) → slice_get c.frame.temporaries i ≡ Some v
+        → slots.slots (Temporary i) ≡ v
     pub source : slots.memory ≡ c.store.memory
 
   pub record HasView (s : State) (c : Configuration) : Type 0 where
@@ -40,5 +57,6 @@ module _ (program : LinearProgram) (p : Plan) where
     pub there : body_of program c.frame.body ≡ Some body
     pub base : ℕ
     pub room : Roomy (frame_at c.frame.body body (register s.cpu Rsp) base)
-    pub holds : Holds (frame_at c.frame.body body (register s.cpu Rsp) base) s.memory (state_of s c base)
+    pub holds : Holds (frame_at c.frame.body body (register s.cpu Rsp) base) s.memory
+        (state_of s c base)
     pub slots : HasSlotsOf c body (state_of s c base)

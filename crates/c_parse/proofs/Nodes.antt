@@ -68,7 +68,7 @@ mutual
       let a = expression text e ts h.after_operand h.operand.spells in
       let b = ap length h.step.operator.opening.1 in
       let c = expression text f h.step.operator.after_opening h.step.operator.after_inner
-          h.step.operator.inner in
+      h.step.operator.inner in
       let d = ap length h.step.operator.closing.1.1 in
       let i = expression text g h.step.after_operator rest h.step.operand.spells in
       omega arith

@@ -1,4 +1,5 @@
--- The counts of a program while it is read; that no external declaration is at the front; and that tokens are one, whatever follows.
+-- The counts of a program while it is read; that no external declaration is at the front; and that
+-- tokens are one, whatever follows.
 use Rattle.std.specs.Prelude.{◌≡◌, ◌≤◌, ◌+◌, ℕ, List, [], ◌∷◌, ◌++◌, length}
 use Rattle.c_lex.specs.declared.token.Token.{Token}
 use Rattle.c_syntax.specs.declared.limit.Count.TheVariants.{Functions, Globals, Funclets}
@@ -11,7 +12,8 @@ use Rattle.c_syntax.specs.Viable.{EachWithinFirst}
 use Rattle.c_parse.specs.declared.counts.Counts.{Counts}
 
 -- within the first n limits after what was counted
-pub record Fits (n : ℕ) (text : List ℕ) (counts : Counts) (xs : List ExternalDeclaration) : Type 0 where
+pub record Fits (n : ℕ) (text : List ℕ) (counts : Counts)
+    (xs : List ExternalDeclaration) : Type 0 where
   pub each : EachWithinFirst n xs
   pub functions : IsInForce (Number Functions) n → limits.functions xs ≤ counts.functions
   pub bytes : IsInForce (Number Globals) n → bytes_from xs counts.bytes ≤ MOST_GLOBALS
@@ -26,9 +28,12 @@ pub record Taken (text : List ℕ) (counts after : Counts) (x : ExternalDeclarat
   pub funclets : after.funclets + length (funclets_in text (x ∷ [])) ≡ counts.funclets
 
 abbrev pub NoExternalDeclaration : Counts → ℕ → List ℕ → List Token → Type 0
-NoExternalDeclaration counts n text ts = (x : ExternalDeclaration) (end : List Token) → IsExternalDeclaration text x ts end → Fits n text counts (x ∷ []) → ⊥
+NoExternalDeclaration counts n text ts =
+    (x : ExternalDeclaration) (end : List Token) → IsExternalDeclaration text x ts end
+    → Fits n text counts (x ∷ []) → ⊥
 
-pub record HasExternalDeclaration (counts : Counts) (n : ℕ) (text : List ℕ) (ts : List Token) : Type 0 where
+pub record HasExternalDeclaration (counts : Counts) (n : ℕ) (text : List ℕ)
+    (ts : List Token) : Type 0 where
   pub tree : ExternalDeclaration
   pub is : (other : List Token) → IsExternalDeclaration text tree (ts ++ other) other
   pub fits : Fits n text counts (tree ∷ [])

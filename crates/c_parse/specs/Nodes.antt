@@ -1,4 +1,5 @@
--- How many nodes a program has: each expression, statement, declarator, parameter, constant of an initialiser and function is one.
+-- How many nodes a program has: each expression, statement, declarator, parameter, constant of an
+-- initialiser and function is one.
 use Rattle.std.specs.Prelude.{ℕ, ◌+◌, List, [], ◌∷◌, length, Option, Some, None}
 use Rattle.c_syntax.specs.Expression.{Expression, Constant, Variable, Information, Call, Parentheses, Index, Postfix, Prefix, Unary, Cast, Binary, Conditional, Assign, Comma, Arguments, Done, Next}
 use Rattle.c_syntax.specs.Program.{Initialiser, Single, Several, Global, ExternalDeclaration, Globals, Function}
@@ -47,16 +48,21 @@ abbrev mutual
   nodes_of_statement (Block ss) = 1 + nodes_of_statements ss
   nodes_of_statement (Evaluate e) = 1 + nodes_of_optional e
   nodes_of_statement (If at c s) = 1 + (nodes c + nodes_of_statement s)
-  nodes_of_statement (IfElse at c s t) = 1 + (nodes c + (nodes_of_statement s + nodes_of_statement t))
+  nodes_of_statement (IfElse at c s t) =
+      1 + (nodes c + (nodes_of_statement s + nodes_of_statement t))
   nodes_of_statement (While at c s) = 1 + (nodes c + nodes_of_statement s)
   nodes_of_statement (DoWhile s at c) = 1 + (nodes_of_statement s + nodes c)
-  nodes_of_statement (For at f c n s) = 1 + (nodes_of_for_initialiser f + (nodes_of_optional c + (nodes_of_optional n + nodes_of_statement s)))
+  nodes_of_statement (For at f c n s) =
+      1 + (nodes_of_for_initialiser f + (nodes_of_optional c
+      + (nodes_of_optional n + nodes_of_statement s)))
   nodes_of_statement (Return at e) = 1 + nodes_of_optional e
   nodes_of_statement (Break at) = 1
   nodes_of_statement (Continue at) = 1
   nodes_of_statement (Leave at) = 1
-  nodes_of_statement (TryExcept body at f handler) = 1 + (nodes_of_statements body + (nodes f + nodes_of_statements handler))
-  nodes_of_statement (TryFinally body at last) = 1 + (nodes_of_statements body + nodes_of_statements last)
+  nodes_of_statement (TryExcept body at f handler) =
+      1 + (nodes_of_statements body + (nodes f + nodes_of_statements handler))
+  nodes_of_statement (TryFinally body at last) =
+      1 + (nodes_of_statements body + nodes_of_statements last)
 
   pub nodes_of_statements : Statements → ℕ
   nodes_of_statements Empty = 0
@@ -75,7 +81,8 @@ nodes_of_globals (g ∷ gs) = 1 + (nodes_of_initialiser g.initialiser + nodes_of
 
 abbrev pub nodes_of_external_declaration : ExternalDeclaration → ℕ
 nodes_of_external_declaration (Globals base gs) = nodes_of_globals gs
-nodes_of_external_declaration (Function returns name ps body) = 1 + (length ps + nodes_of_statements body)
+nodes_of_external_declaration (Function returns name ps body) =
+    1 + (length ps + nodes_of_statements body)
 
 abbrev pub nodes_of : List ExternalDeclaration → ℕ
 nodes_of [] = 0

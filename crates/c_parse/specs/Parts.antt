@@ -1,4 +1,5 @@
--- Parts of external declarations; that none is at the front; and that tokens are such a part, whatever follows. The first n limits are in force.
+-- Parts of external declarations; that none is at the front; and that tokens are such a part,
+-- whatever follows. The first n limits are in force.
 use Rattle.std.specs.Prelude.{◌≤◌, ◌+◌, ◌*◌, ◌⊎◌, ℕ, List, length, ◌∷◌, ◌++◌, Option, Some}
 use Rattle.c_lex.specs.declared.punctuator.Punctuator.TheVariants as punctuators
 use Rattle.c_lex.specs.declared.keyword.Keyword.TheVariants as keywords
@@ -51,7 +52,8 @@ pub record HasGiven (n : ℕ) (text : List ℕ) (ts : List Token) : Type 0 where
   pub is : (other : List Token) → IsGiven tree (ts ++ other) other
 
 abbrev pub NoInitialiser : ℕ → List ℕ → List Token → Type 0
-NoInitialiser n text ts = (i : Option Initialiser) (end : List Token) → IsInitialiser i ts end → Stops 15 end → ⊥
+NoInitialiser n text ts =
+    (i : Option Initialiser) (end : List Token) → IsInitialiser i ts end → Stops 15 end → ⊥
 
 pub record HasInitialiser (n : ℕ) (text : List ℕ) (ts : List Token) : Type 0 where
   pub tree : Option Initialiser
@@ -68,14 +70,18 @@ abbrev pub IsBracketed : Length → Phrase
 IsBracketed n = InTurn (IsInteger n.value n.at) (HasPunctuator punctuators.CloseBracket)
 
 abbrev pub NoneBracketed : Base → ℕ → ℕ → ℕ → List ℕ → List Token → Type 0
-NoneBracketed base pointers at n text ts = (l : Length) (end : List Token) → IsBracketed l ts end → Stops 1 end → (IsInForce (Number Globals) n → end_of base pointers (Some l) at ≤ MOST_GLOBALS) → ⊥
+NoneBracketed base pointers at n text ts =
+    (l : Length) (end : List Token) → IsBracketed l ts end → Stops 1 end
+    → (IsInForce (Number Globals) n → end_of base pointers (Some l) at ≤ MOST_GLOBALS) → ⊥
 
-pub record HasBracketed (base : Base) (pointers at n : ℕ) (text : List ℕ) (ts : List Token) : Type 0 where
+pub record HasBracketed (base : Base) (pointers at n : ℕ) (text : List ℕ)
+    (ts : List Token) : Type 0 where
   pub tree : Length
   pub is : (other : List Token) → IsBracketed tree (ts ++ other) other
   pub low : IsInForce (Number Globals) n → end_of base pointers (Some tree) at ≤ MOST_GLOBALS
 
--- what is after the name of a global, up to the semicolon: its length and its initialiser, and further globals
+-- what is after the name of a global, up to the semicolon: its length and its initialiser, and
+-- further globals
 pub record IsAfterName (l : Option Length) (i : Option Initialiser) (gs : List Global)
     (ts rest : List Token) : Type 0 where
   pub after_length : List Token
@@ -87,25 +93,35 @@ pub record IsAfterName (l : Option Length) (i : Option Initialiser) (gs : List G
 -- The length counts, and what is after it only has to be there.
 abbrev pub NoLength : Base → ℕ → ℕ → ℕ → List ℕ → List Token → Type 0
 NoLength base pointers at n text ts =
-    (l : Option Length) (i : Option Initialiser) (gs : List Global) (end : List Token) → IsAfterName l i gs ts end → (IsInForce (Number Globals) n → end_of base pointers l at ≤ MOST_GLOBALS) → ⊥
+    (l : Option Length) (i : Option Initialiser) (gs : List Global) (end : List Token)
+    → IsAfterName l i gs ts end → (IsInForce (Number Globals) n
+    → end_of base pointers l at ≤ MOST_GLOBALS) → ⊥
 
-pub record HasLength (base : Base) (pointers at n : ℕ) (text : List ℕ) (ts : List Token) : Type 0 where
+pub record HasLength (base : Base) (pointers at n : ℕ) (text : List ℕ)
+    (ts : List Token) : Type 0 where
   pub length : Option Length
   pub initialiser : Option Initialiser
   pub others : List Global
   pub is : (other : List Token) → IsAfterName length initialiser others (ts ++ other) other
-  pub low : IsInForce (Number Globals) n → end_of_globals base others (end_of base pointers length at) ≤ MOST_GLOBALS
+  pub low : IsInForce (Number Globals) n
+      → end_of_globals base others (end_of base pointers length at) ≤ MOST_GLOBALS
 
 -- a punctuator that is after the name of a scalar
 abbrev pub EndsScalar : List Token → Type 0
-EndsScalar ts = (rest : List Token) × (HasPunctuator punctuators.Semicolon ts rest ⊎ (HasPunctuator punctuators.Comma ts rest ⊎ HasPunctuator punctuators.Assign ts rest))
+EndsScalar ts =
+    (rest : List Token) × (HasPunctuator punctuators.Semicolon ts rest
+    ⊎ (HasPunctuator punctuators.Comma ts rest ⊎ HasPunctuator punctuators.Assign ts rest))
 
 -- here too, the global counts
 abbrev pub NoGlobal : Base → ℕ → ℕ → List ℕ → List Token → Type 0
-NoGlobal base at n text ts = (g : Global) (gs : List Global) (end : List Token) → AreGlobals (g ∷ gs) ts end → (IsInForce (Number Globals) n → end_of base g.pointers g.length at ≤ MOST_GLOBALS) → ⊥
+NoGlobal base at n text ts =
+    (g : Global) (gs : List Global) (end : List Token) → AreGlobals (g ∷ gs) ts end
+    → (IsInForce (Number Globals) n → end_of base g.pointers g.length at ≤ MOST_GLOBALS) → ⊥
 
 abbrev pub NoGlobals : Base → ℕ → ℕ → List ℕ → List Token → Type 0
-NoGlobals base at n text ts = (gs : List Global) (end : List Token) → AreGlobals gs ts end → (IsInForce (Number Globals) n → end_of_globals base gs at ≤ MOST_GLOBALS) → ⊥
+NoGlobals base at n text ts =
+    (gs : List Global) (end : List Token) → AreGlobals gs ts end
+    → (IsInForce (Number Globals) n → end_of_globals base gs at ≤ MOST_GLOBALS) → ⊥
 
 pub record HasGlobals (base : Base) (at n : ℕ) (text : List ℕ) (ts : List Token) : Type 0 where
   pub trees : List Global
@@ -127,7 +143,9 @@ IsVoid = InTurn (HasKeyword keywords.Void) (HasPunctuator punctuators.CloseParen
 
 -- none but nothing and `void`
 abbrev pub NoListed : ℕ → List ℕ → List Token → Type 0
-NoListed n text ts = (p : Parameter) (ps : List Parameter) (end : List Token) → AreParameters (p ∷ ps) ts end → (IsInForce (Number Parameters) n → length (p ∷ ps) ≤ MOST_PARAMETERS) → ⊥
+NoListed n text ts =
+    (p : Parameter) (ps : List Parameter) (end : List Token) → AreParameters (p ∷ ps) ts end
+    → (IsInForce (Number Parameters) n → length (p ∷ ps) ≤ MOST_PARAMETERS) → ⊥
 
 pub record HasListed (n : ℕ) (text : List ℕ) (ts : List Token) : Type 0 where
   pub first : Parameter
@@ -136,7 +154,9 @@ pub record HasListed (n : ℕ) (text : List ℕ) (ts : List Token) : Type 0 wher
   pub few : IsInForce (Number Parameters) n → length (first ∷ others) ≤ MOST_PARAMETERS
 
 abbrev pub NoParameters : ℕ → List ℕ → List Token → Type 0
-NoParameters n text ts = (ps : List Parameter) (end : List Token) → AreParameters ps ts end → (IsInForce (Number Parameters) n → length ps ≤ MOST_PARAMETERS) → ⊥
+NoParameters n text ts =
+    (ps : List Parameter) (end : List Token) → AreParameters ps ts end
+    → (IsInForce (Number Parameters) n → length ps ≤ MOST_PARAMETERS) → ⊥
 
 pub record HasParameters (n : ℕ) (text : List ℕ) (ts : List Token) : Type 0 where
   pub trees : List Parameter
@@ -151,7 +171,10 @@ pub record IsTail (text : List ℕ) (ps : List Parameter) (items : Statements)
   pub body : IsBlock (AreBlockItems text items) after_parameters rest
 
 abbrev pub NoTail : ℕ → ℕ → List ℕ → List Token → Type 0
-NoTail funclets n text ts = (ps : List Parameter) (body : Statements) (end : List Token) → IsTail text ps body ts end → FunctionWithinFirst n ps body → (IsInForce (Number Funclets) n → length (funclets_of_all text body) ≤ funclets) → ⊥
+NoTail funclets n text ts =
+    (ps : List Parameter) (body : Statements) (end : List Token) → IsTail text ps body ts end
+    → FunctionWithinFirst n ps body → (IsInForce (Number Funclets) n
+    → length (funclets_of_all text body) ≤ funclets) → ⊥
 
 pub record HasTail (funclets n : ℕ) (text : List ℕ) (ts : List Token) : Type 0 where
   pub parameters : List Parameter
@@ -171,10 +194,13 @@ pub record IsHead (b : Base) (pointers : ℕ) (called : Identifier)
   pub name : IsIdentifier called after_stars rest
 
 abbrev pub NoHead : ℕ → List ℕ → List Token → Type 0
-NoHead n text ts = (base : Base) (pointers : ℕ) (name : Identifier) (declarators end : List Token) → IsHead base pointers name ts declarators end → ⊥
+NoHead n text ts =
+    (base : Base) (pointers : ℕ) (name : Identifier) (declarators end : List Token)
+    → IsHead base pointers name ts declarators end → ⊥
 
 pub record HasHead (n : ℕ) (text : List ℕ) (ts : List Token) : Type 0 where
   pub base : Base
   pub pointers : ℕ
   pub name : Identifier
-  pub is : (other : List Token) → (declarators : List Token) × IsHead base pointers name (ts ++ other) declarators other
+  pub is : (other : List Token) → (declarators : List Token)
+      × IsHead base pointers name (ts ++ other) declarators other

@@ -12,23 +12,29 @@ use Rattle.c_parse.specs.Counts.{NoExternalDeclaration, HasExternalDeclaration}
 use Rattle.c_parse.specs.Parts.{EndsScalar, NoneBracketed, HasBracketed, NoLength, HasLength, NoGlobal, NoGlobals, HasGlobals, NoTail, HasTail}
 
 abbrev pub RefusesBracketed : ParseErr → Base → ℕ → ℕ → List ℕ → List Token → Type 0
-RefusesBracketed e base pointers bytes text ts = Placed e (NoneBracketed base pointers bytes) (HasBracketed base pointers bytes) text ts
+RefusesBracketed e base pointers bytes text ts =
+    Placed e (NoneBracketed base pointers bytes) (HasBracketed base pointers bytes) text ts
 
 -- the first token after the name of a scalar that takes too many bytes
 abbrev pub RefusesScalar : ParseErr → List ℕ → List Token → Type 0
-RefusesScalar e text ts = ((e ≡ TooMany (place text ts) Globals) × EndsScalar ts) ⊎ ((e ≡ Unexpected (place text ts)) × (EndsScalar ts → ⊥))
+RefusesScalar e text ts =
+    ((e ≡ TooMany (place text ts) Globals) × EndsScalar ts)
+    ⊎ ((e ≡ Unexpected (place text ts)) × (EndsScalar ts → ⊥))
 
 abbrev pub RefusesLength : ParseErr → Base → ℕ → ℕ → List ℕ → List Token → Type 0
-RefusesLength e base pointers bytes text ts = Placed e (NoLength base pointers bytes) (HasLength base pointers bytes) text ts
+RefusesLength e base pointers bytes text ts =
+    Placed e (NoLength base pointers bytes) (HasLength base pointers bytes) text ts
 
 abbrev pub RefusesGlobal : ParseErr → Base → ℕ → List ℕ → List Token → Type 0
 RefusesGlobal e base bytes text ts = Placed e (NoGlobal base bytes) (HasGlobals base bytes) text ts
 
 abbrev pub RefusesGlobals : ParseErr → Base → ℕ → List ℕ → List Token → Type 0
-RefusesGlobals e base bytes text ts = Placed e (NoGlobals base bytes) (HasGlobals base bytes) text ts
+RefusesGlobals e base bytes text ts =
+    Placed e (NoGlobals base bytes) (HasGlobals base bytes) text ts
 
 abbrev pub RefusesTail : ParseErr → ℕ → List ℕ → List Token → Type 0
 RefusesTail e funclets text ts = Placed e (NoTail funclets) (HasTail funclets) text ts
 
 abbrev pub RefusesExternalDeclaration : ParseErr → Counts → List ℕ → List Token → Type 0
-RefusesExternalDeclaration e counts text ts = Placed e (NoExternalDeclaration counts) (HasExternalDeclaration counts) text ts
+RefusesExternalDeclaration e counts text ts =
+    Placed e (NoExternalDeclaration counts) (HasExternalDeclaration counts) text ts

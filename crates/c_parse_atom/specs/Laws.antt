@@ -20,6 +20,7 @@ PunctuatorsAgain =
 abbrev pub NoOtherPunctuators : Type 0
 NoOtherPunctuators =
     ((op : BinaryOperator) (s : Punctuator) → binary_of s ≡ Some op → s ≡ binary_punctuator op)
-    × ((op : Option Arithmetic) (s : Punctuator) → assignment_of s ≡ Some op → s ≡ assignment_punctuator op)
+    × ((op : Option Arithmetic) (s : Punctuator) → assignment_of s ≡ Some op
+    → s ≡ assignment_punctuator op)
     × ((op : UnaryOperator) (s : Punctuator) → unary_of s ≡ Some op → s ≡ unary_punctuator op)
     × ((op : Increment) (s : Punctuator) → increment_of s ≡ Some op → s ≡ increment_punctuator op)

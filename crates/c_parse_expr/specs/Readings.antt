@@ -1,4 +1,5 @@
--- What is at the front of tokens; that nothing of the kind is there; and that tokens are such a phrase, whatever follows. The first n limits are in force.
+-- What is at the front of tokens; that nothing of the kind is there; and that tokens are such a
+-- phrase, whatever follows. The first n limits are in force.
 use Rattle.std.specs.Prelude.{◌≡◌, ◌≤◌, ◌-◌, ◌⊎◌, ℕ, List, [], ◌∷◌, ◌++◌, Some}
 use Rattle.c_lex.specs.declared.punctuator.Punctuator.{Punctuator}
 use Rattle.c_lex.specs.declared.punctuator.Punctuator.TheVariants as punctuators
@@ -24,9 +25,12 @@ pub record Reads (text : List ℕ) (l : ℕ) (e : Expression) (ts rest : List To
   pub derives : Derives text l e ts rest
   pub stops : Stops l rest
 
--- no expression of a level is at the front that nothing continues with, with at most so many expressions around each part
+-- no expression of a level is at the front that nothing continues with, with at most so many
+-- expressions around each part
 abbrev pub NoExpression : ℕ → ℕ → ℕ → List ℕ → List Token → Type 0
-NoExpression l room n text ts = (e : Expression) (end : List Token) → Derives text l e ts end → Stops l end → (IsInForce Nesting n → height e ≤ room) → ⊥
+NoExpression l room n text ts =
+    (e : Expression) (end : List Token) → Derives text l e ts end → Stops l end
+    → (IsInForce Nesting n → height e ≤ room) → ⊥
 
 pub record HasExpression (l room n : ℕ) (text : List ℕ) (ts : List Token) : Type 0 where
   pub tree : Expression
@@ -35,15 +39,19 @@ pub record HasExpression (l room n : ℕ) (text : List ℕ) (ts : List Token) : 
 
 -- ---- an expression and the punctuator that ends it
 
-pub record Encloses (text : List ℕ) (close : Punctuator) (e : Expression) (ts rest : List Token) : Type 0 where
+pub record Encloses (text : List ℕ) (close : Punctuator) (e : Expression)
+    (ts rest : List Token) : Type 0 where
   pub mid : List Token
   pub spells : SpellsExpression text e ts mid
   pub closed : HasPunctuator close mid rest
 
 abbrev pub NoneEnclosed : Punctuator → ℕ → ℕ → List ℕ → List Token → Type 0
-NoneEnclosed close room n text ts = (e : Expression) (end : List Token) → Encloses text close e ts end → (IsInForce Nesting n → height e ≤ room) → ⊥
+NoneEnclosed close room n text ts =
+    (e : Expression) (end : List Token) → Encloses text close e ts end
+    → (IsInForce Nesting n → height e ≤ room) → ⊥
 
-pub record HasEnclosed (close : Punctuator) (room n : ℕ) (text : List ℕ) (ts : List Token) : Type 0 where
+pub record HasEnclosed (close : Punctuator) (room n : ℕ) (text : List ℕ)
+    (ts : List Token) : Type 0 where
   pub tree : Expression
   pub encloses : (other : List Token) → Encloses text close tree (ts ++ other) other
   pub low : IsInForce Nesting n → height tree ≤ room
@@ -51,7 +59,9 @@ pub record HasEnclosed (close : Punctuator) (room n : ℕ) (text : List ℕ) (ts
 -- ---- arguments, and the parenthesis after them
 
 abbrev pub NoArguments : ℕ → ℕ → List ℕ → List Token → Type 0
-NoArguments room n text ts = (es : Arguments) (end : List Token) → SpellsArguments text es ts end → (IsInForce Nesting n → heights es ≤ room) → ⊥
+NoArguments room n text ts =
+    (es : Arguments) (end : List Token) → SpellsArguments text es ts end
+    → (IsInForce Nesting n → heights es ≤ room) → ⊥
 
 pub record HasArguments (room n : ℕ) (text : List ℕ) (ts : List Token) : Type 0 where
   pub trees : Arguments
@@ -76,19 +86,25 @@ pub record IsOperand (text : List ℕ) (l : ℕ) (e : Expression) (ts rest : Lis
   pub closes : Closes e rest
 
 abbrev pub NoOperand : ℕ → ℕ → ℕ → List ℕ → List Token → Type 0
-NoOperand l room n text ts = (e : Expression) (end : List Token) → IsOperand text l e ts end → (IsInForce Nesting n → height e ≤ room) → ⊥
+NoOperand l room n text ts =
+    (e : Expression) (end : List Token) → IsOperand text l e ts end
+    → (IsInForce Nesting n → height e ≤ room) → ⊥
 
 -- ---- a step after an operand
 
-pub record IsStep (text : List ℕ) (operand : Expression) (s : Step) (ts rest : List Token) : Type 0 where
+pub record IsStep (text : List ℕ) (operand : Expression) (s : Step)
+    (ts rest : List Token) : Type 0 where
   pub fits : rank operand ≤ bound s
   pub tail : Tail text s ts rest
   pub closes : Closes (apply operand s) rest
 
 abbrev pub NoStep : ℕ → Expression → ℕ → List ℕ → List Token → Type 0
-NoStep room operand n text ts = (s : Step) (end : List Token) → IsStep text operand s ts end → (IsInForce Nesting n → height (apply operand s) ≤ room) → ⊥
+NoStep room operand n text ts =
+    (s : Step) (end : List Token) → IsStep text operand s ts end
+    → (IsInForce Nesting n → height (apply operand s) ≤ room) → ⊥
 
-pub record AStep (room : ℕ) (operand : Expression) (l n : ℕ) (text : List ℕ) (ts : List Token) : Type 0 where
+pub record AStep (room : ℕ) (operand : Expression) (l n : ℕ) (text : List ℕ)
+    (ts : List Token) : Type 0 where
   pub step : Step
   pub fits : rank operand ≤ bound step
   pub loose : rank (apply operand step) ≤ l
@@ -110,19 +126,24 @@ AfterPunctuator text (Choose at a b) ts rest =
 AfterPunctuator text (Set at op e) ts rest = Reads text assignment e ts rest
 AfterPunctuator text (And at e) ts rest = Reads text assignment e ts rest
 
-pub record IsAfterPunctuator (text : List ℕ) (o : Operation) (at : ℕ) (s : Step) (ts rest : List Token) : Type 0 where
+pub record IsAfterPunctuator (text : List ℕ) (o : Operation) (at : ℕ) (s : Step)
+    (ts rest : List Token) : Type 0 where
   pub operation : operation s ≡ o
   pub place : place s ≡ at
   pub following : AfterPunctuator text s ts rest
 
 abbrev pub NoneAfterPunctuator : ℕ → Operation → ℕ → List ℕ → List Token → Type 0
-NoneAfterPunctuator room o n text ts = (s : Step) (end : List Token) → operation s ≡ o → AfterPunctuator text s ts end → (IsInForce Nesting n → over s ≤ room) → ⊥
+NoneAfterPunctuator room o n text ts =
+    (s : Step) (end : List Token) → operation s ≡ o → AfterPunctuator text s ts end
+    → (IsInForce Nesting n → over s ≤ room) → ⊥
 
 -- after the punctuator at a place
-pub record HasAfterPunctuator (room : ℕ) (o : Operation) (at n : ℕ) (text : List ℕ) (ts : List Token) : Type 0 where
+pub record HasAfterPunctuator (room : ℕ) (o : Operation) (at n : ℕ) (text : List ℕ)
+    (ts : List Token) : Type 0 where
   pub step : Step
   pub operation : operation step ≡ o
-  pub tail : (begin other : List Token) → IsPunctuator (punctuator o) at begin (ts ++ other) → Tail text step begin other
+  pub tail : (begin other : List Token) → IsPunctuator (punctuator o) at begin (ts ++ other)
+      → Tail text step begin other
   pub low : IsInForce Nesting n → over step ≤ room
 
 -- ---- the field of an exception's record that is read
@@ -135,12 +156,15 @@ pub record HasField (n : ℕ) (text : List ℕ) (ts : List Token) : Type 0 where
   pub is : (other : List Token) → IsField text field (ts ++ other) other
 
 abbrev pub NoInformation : ℕ → List ℕ → List Token → Type 0
-NoInformation n text ts = (at : ℕ) (field : Field) (end : List Token) → SpellsExpression text (Information at field) ts end → ⊥
+NoInformation n text ts =
+    (at : ℕ) (field : Field) (end : List Token)
+    → SpellsExpression text (Information at field) ts end → ⊥
 
 pub record HasInformation (n : ℕ) (text : List ℕ) (ts : List Token) : Type 0 where
   pub at : ℕ
   pub field : Field
-  pub spells : (other : List Token) → SpellsExpression text (Information at field) (ts ++ other) other
+  pub spells : (other : List Token) → SpellsExpression text (Information at field)
+      (ts ++ other) other
 
 -- ---- the first token
 
@@ -150,7 +174,9 @@ Begins ts = (text : List ℕ) → Speaks text → Onward (HasExpression assignme
 
 -- no expression begins with it
 abbrev pub NeverBegins : List Token → Type 0
-NeverBegins ts = (text : List ℕ) (other : List Token) → SameFirst ts other → (e : Expression) (end : List Token) → SpellsExpression text e other end → ⊥
+NeverBegins ts =
+    (text : List ℕ) (other : List Token) → SameFirst ts other → (e : Expression) (end : List Token)
+    → SpellsExpression text e other end → ⊥
 
 -- a punctuator that begins an operand
 pub data Opens (s : Punctuator) : Type 0 where

@@ -14,7 +14,8 @@ Placed (TooDeep at) No Has text ts = Failed (order Nesting) at No Has text ts
 Placed (TooMany at what) No Has text ts = Failed (order (Number what)) at No Has text ts
 Placed Memory No Has text ts = Unit {0}
 
--- A refusal is at the first fault of a text's tokens, and says which limit excludes every program that continues there.
+-- A refusal is at the first fault of a text's tokens, and says which limit excludes every program
+-- that continues there.
 abbrev pub Refuses : ParseErr → List ℕ → List Token → Type 0
 Refuses (Unexpected at) text ts = IsSyntaxFault 0 at text ts
 Refuses (TooDeep at) text ts = IsSyntaxFault (order Nesting) at text ts

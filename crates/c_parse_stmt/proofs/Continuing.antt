@@ -295,14 +295,17 @@ open_kind (kinds.Punctuator s) h = ap kinds.Punctuator (open_by s h)
 
 call_by : (text : List ℕ) (k : Kind) (at end : ℕ) (u : Token) → k ≡ kinds.Identifier → u.kind ≡ kinds.Punctuator punctuators.OpenParenthesis → (e : Expression) × (height e ≡ 0) × ((ts : List Token) → SpellsExpression text e (token k at end ∷ u ∷ punctuator punctuators.CloseParenthesis ∷ ts) ts)
 call_by text kinds.Identifier at end u n o =
-    let close = punctuator punctuators.CloseParenthesis in
-    (Call (record { start = at; end = end }) Done, refl, λ ts. record {
-      after_name = u ∷ close ∷ ts;
-      after_opening = close ∷ ts;
-      called = refl;
-      opening = (u.start, (u.end, ap (λ (k : Kind). token k u.start u.end ∷ close ∷ ts) o));
-      arguments = (0, (0, refl));
-    })
+    let close = punctuator punctuators.CloseParenthesis in (
+      Call (record { start = at; end = end }) Done,
+      refl,
+      λ ts. record {
+        after_name = u ∷ close ∷ ts;
+        after_opening = close ∷ ts;
+        called = refl;
+        opening = (u.start, (u.end, ap (λ (k : Kind). token k u.start u.end ∷ close ∷ ts) o));
+        arguments = (0, (0, refl));
+      },
+    )
 call_by text (kinds.Keyword k) at end u n o = absurd cc
 call_by text (kinds.Reserved r) at end u n o = absurd cc
 call_by text (kinds.Integer value type) at end u n o = absurd cc
@@ -394,9 +397,9 @@ stops_after (suc m) closed a ts l lacks f text before middle other o y c same =
     none_after m closed 65 a text before middle other (omega arith) o e c
     (λ us n g end r s k.
     let u = one_expression text comma n.tree g us other end
-        (record { fits = rank_low n.tree; spells = n.spells })
-        (record { fits = rank_low g; spells = s }) (omega arith)
-        (has_stops punctuators.CloseParenthesis end r comma k (omega arith)) in
+    (record { fits = rank_low n.tree; spells = n.spells })
+    (record { fits = rank_low g; spells = s }) (omega arith)
+    (has_stops punctuators.CloseParenthesis end r comma k (omega arith)) in
     absurd (lacks_first punctuators.CloseParenthesis ts other same lacks r (subst (λ (z : List Token). HasPunctuator punctuators.CloseParenthesis z r) (sym u.1) k)))
     (omega arith)
 
@@ -408,9 +411,9 @@ through : (text : List ℕ) (closed : ℕ) (a : Token) (us other : List Token) (
     punctuators.CloseParenthesis end r → (1 + height n.tree ≤ height g) × (postfix ≤ follows other)
 through text closed a us other e n f l g end r s k =
     let w = passes text comma n.tree us other g end n.spells (rank_low n.tree)
-        (nested_closes text closed a us other other e n f) l
-        (record { fits = rank_low g; spells = s })
-        (has_stops punctuators.CloseParenthesis end r comma k (omega arith)) in
+    (nested_closes text closed a us other other e n f) l
+    (record { fits = rank_low g; spells = s })
+    (has_stops punctuators.CloseParenthesis end r comma k (omega arith)) in
     let p = step_follows text n.tree w.step other w.mid w.tail in
     let q = run_height text (apply n.tree w.step) w.steps w.mid g end w.run in
     let i = taller n.tree w.step in

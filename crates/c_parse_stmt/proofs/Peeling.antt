@@ -48,7 +48,7 @@ inner_head text n ts y o bare f (Call named es) after i s =
 inner_head text n ts y o bare f (Parentheses at e) after i s =
     let p = has_same punctuators.OpenParenthesis ts ts s.after_opening y refl (at, s.opening) o in
     let q = f e s.after_inner after
-        (subst (λ (z : List Token). SpellsExpression text e z s.after_inner) p s.inner) s.closing in
+    (subst (λ (z : List Token). SpellsExpression text e z s.after_inner) p s.inner) s.closing in
     omega arith
 inner_head text n ts y o bare f (Index a at j) after i s = absurd i
 inner_head text n ts y o bare f (Postfix e op at) after i s = absurd i
@@ -60,7 +60,7 @@ inner_head text n ts y o bare f (Unary at op e) after i s =
     let q : front ts ≡ 5 = ap front s.operator.1 ∙ unary_class op in absurd (omega arith)
 inner_head text n ts y o bare f (Cast at to e) after i s =
     let p = has_same punctuators.OpenParenthesis ts ts s.operator.after_opening y refl
-        (at, s.operator.opening) o in
+    (at, s.operator.opening) o in
     absurd (bare
     (ap front (sym p) ∙ base_front to.base s.operator.after_opening s.operator.inner.0
     s.operator.inner.1))

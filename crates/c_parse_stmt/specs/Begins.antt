@@ -23,7 +23,8 @@ abbrev pub first_over : List Token → ℕ
 first_over [] = 0
 first_over (t ∷ ts) = over_first t.kind
 
--- an expression that begins with a token, with no more expressions around each part than there have to be
+-- an expression that begins with a token, with no more expressions around each part than there have
+-- to be
 pub record Expressed (text : List ℕ) (t : Token) : Type 0 where
   pub more : List Token
   pub tree : Expression
@@ -31,7 +32,9 @@ pub record Expressed (text : List ℕ) (t : Token) : Type 0 where
   pub over : height tree ≡ over_first t.kind
 
 abbrev pub BeginsExpression : List Token → Type 0
-BeginsExpression ts = (t : Token) × (rest : List Token) × (ts ≡ t ∷ rest) × ((text : List ℕ) → Speaks text → Expressed text t)
+BeginsExpression ts =
+    (t : Token) × (rest : List Token) × (ts ≡ t ∷ rest)
+    × ((text : List ℕ) → Speaks text → Expressed text t)
 
 abbrev pub BeginsNoExpression : List Token → Type 0
 BeginsNoExpression ts =
@@ -46,7 +49,11 @@ pub record Stated (text : List ℕ) (t : Token) : Type 0 where
   pub statement : IsFalse (is_declaration tree)
 
 abbrev pub BeginsStatement : List Token → Type 0
-BeginsStatement ts = (t : Token) × (rest : List Token) × (ts ≡ t ∷ rest) × ((text : List ℕ) → Speaks text → Stated text t)
+BeginsStatement ts =
+    (t : Token) × (rest : List Token) × (ts ≡ t ∷ rest)
+    × ((text : List ℕ) → Speaks text → Stated text t)
 
 abbrev pub BeginsNoStatement : List Token → Type 0
-BeginsNoStatement ts = (text : List ℕ) (other : List Token) → SameFirst ts other → (s : Statement) (rest : List Token) → IsBlockItem text s other rest → IsFalse (is_declaration s) → ⊥
+BeginsNoStatement ts =
+    (text : List ℕ) (other : List Token) → SameFirst ts other → (s : Statement) (rest : List Token)
+    → IsBlockItem text s other rest → IsFalse (is_declaration s) → ⊥

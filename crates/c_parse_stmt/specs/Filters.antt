@@ -28,7 +28,8 @@ numbers_of false = 1
 -- ---- a filter that accepts whatever was raised: a token alone, in parentheses
 
 abbrev pub accepts_kind : List ℕ → Kind → ℕ → ℕ → Bool
-accepts_kind text kinds.Identifier start end = bytes_eq (slice_range text start end) (codes "EXCEPTION_EXECUTE_HANDLER")
+accepts_kind text kinds.Identifier start end =
+    bytes_eq (slice_range text start end) (codes "EXCEPTION_EXECUTE_HANDLER")
 accepts_kind text (kinds.Keyword k) start end = false
 accepts_kind text (kinds.Reserved r) start end = false
 accepts_kind text (kinds.Integer value type) start end = nat_eq value 1
@@ -42,12 +43,14 @@ accepts_alone text t = accepts_kind text t.kind t.start t.end
 -- opening parentheses
 abbrev pub AreOpening : ℕ → List Token → List Token → Type 0
 AreOpening zero ts rest = ts ≡ rest
-AreOpening (suc n) ts rest = (mid : List Token) × HasPunctuator punctuators.OpenParenthesis ts mid × AreOpening n mid rest
+AreOpening (suc n) ts rest =
+    (mid : List Token) × HasPunctuator punctuators.OpenParenthesis ts mid × AreOpening n mid rest
 
 -- closing ones, the outermost last
 abbrev pub AreClosing : ℕ → List Token → List Token → Type 0
 AreClosing zero ts rest = ts ≡ rest
-AreClosing (suc n) ts rest = (mid : List Token) × AreClosing n ts mid × HasPunctuator punctuators.CloseParenthesis mid rest
+AreClosing (suc n) ts rest =
+    (mid : List Token) × AreClosing n ts mid × HasPunctuator punctuators.CloseParenthesis mid rest
 
 -- With a token some condition continues.
 pub record Continued (text : List ℕ) (front : List Token) (t : Token) : Type 0 where
@@ -56,23 +59,39 @@ pub record Continued (text : List ℕ) (front : List Token) (t : Token) : Type 0
 
 -- after so many opening parentheses one does with the first of these tokens
 abbrev pub ContinuesInside : ℕ → List Token → Type 0
-ContinuesInside opened ts = (t : Token) × (rest : List Token) × (ts ≡ t ∷ rest) × ((text : List ℕ) (before : List Token) → Speaks text → AreOpening opened before [] → Continued text before t)
+ContinuesInside opened ts =
+    (t : Token) × (rest : List Token) × (ts ≡ t ∷ rest)
+    × ((text : List ℕ) (before : List Token) → Speaks text → AreOpening opened before []
+    → Continued text before t)
 
 abbrev pub NoneInside : ℕ → List Token → Type 0
-NoneInside opened ts = (text : List ℕ) (before other : List Token) → AreOpening opened before [] → SameFirst ts other → NoCondition 1 text (before ++ other)
+NoneInside opened ts =
+    (text : List ℕ) (before other : List Token) → AreOpening opened before [] → SameFirst ts other
+    → NoCondition 1 text (before ++ other)
 
 -- or after opening ones, a token that accepts alone, and closing ones
 abbrev pub ContinuesAfter : ℕ → ℕ → Token → List Token → Type 0
-ContinuesAfter opened closed atom ts = (t : Token) × (rest : List Token) × (ts ≡ t ∷ rest) × ((text : List ℕ) (before between : List Token) → AreOpening opened before [] → accepts_alone text atom ≡ true → AreClosing closed between [] → Continued text (before ++ atom ∷ between) t)
+ContinuesAfter opened closed atom ts =
+    (t : Token) × (rest : List Token) × (ts ≡ t ∷ rest)
+    × ((text : List ℕ) (before between : List Token) → AreOpening opened before []
+    → accepts_alone text atom ≡ true → AreClosing closed between []
+    → Continued text (before ++ atom ∷ between) t)
 
 abbrev pub NoneAfter : ℕ → ℕ → Token → List Token → Type 0
-NoneAfter opened closed atom ts = (text : List ℕ) (before between other : List Token) → AreOpening opened before [] → accepts_alone text atom ≡ true → AreClosing closed between [] → SameFirst ts other → NoCondition 1 text ((before ++ atom ∷ between) ++ other)
+NoneAfter opened closed atom ts =
+    (text : List ℕ) (before between other : List Token) → AreOpening opened before []
+    → accepts_alone text atom ≡ true → AreClosing closed between [] → SameFirst ts other
+    → NoCondition 1 text ((before ++ atom ∷ between) ++ other)
 
 -- ---- filters
 
--- within the limit of nesting, and with a number only where one is left, where these limits are in force
+-- within the limit of nesting, and with a number only where one is left, where these limits are in
+-- force
 abbrev pub NoFilter : ℕ → ℕ → List ℕ → List Token → Type 0
-NoFilter funclets n text ts = (f : Expression) (end : List Token) → IsCondition text f ts end → (IsInForce Nesting n → height f ≤ MOST_EXPRESSIONS) → (IsInForce (Number Funclets) n → numbers_of (accepts text f) ≤ funclets) → ⊥
+NoFilter funclets n text ts =
+    (f : Expression) (end : List Token) → IsCondition text f ts end
+    → (IsInForce Nesting n → height f ≤ MOST_EXPRESSIONS)
+    → (IsInForce (Number Funclets) n → numbers_of (accepts text f) ≤ funclets) → ⊥
 
 pub record HasFilter (funclets n : ℕ) (text : List ℕ) (ts : List Token) : Type 0 where
   pub tree : Expression
@@ -80,9 +99,12 @@ pub record HasFilter (funclets n : ℕ) (text : List ℕ) (ts : List Token) : Ty
   pub low : IsInForce Nesting n → height tree ≤ MOST_EXPRESSIONS
   pub count : IsInForce (Number Funclets) n → numbers_of (accepts text tree) ≤ funclets
 
--- Up to the rest, tokens can be completed to a filter that has no number; and no condition within the limit of nesting continues with the first token there.
+-- Up to the rest, tokens can be completed to a filter that has no number; and no condition within
+-- the limit of nesting continues with the first token there.
 pub record Departs (text : List ℕ) (ts rest : List Token) : Type 0 where
   pub front : List Token
   pub split : ts ≡ front ++ rest
-  pub able : (text' : List ℕ) → Alike text text' ts → Speaks text' → Able (HasFilter 0) every_limit text' front
-  pub none : (text' : List ℕ) (other : List Token) → Alike text text' ts → SameFirst rest other → NoCondition 1 text' (front ++ other)
+  pub able : (text' : List ℕ) → Alike text text' ts → Speaks text'
+      → Able (HasFilter 0) every_limit text' front
+  pub none : (text' : List ℕ) (other : List Token) → Alike text text' ts → SameFirst rest other
+      → NoCondition 1 text' (front ++ other)

@@ -1,4 +1,5 @@
--- What statements begin with, up to the first statement or block that is in them; and that, with what is in them.
+-- What statements begin with, up to the first statement or block that is in them; and that, with
+-- what is in them.
 use Rattle.std.specs.Prelude.{◌≡◌, ◌≤◌, ℕ, ◌+◌, max, List, option_map}
 use Rattle.c_lex.specs.declared.keyword.Keyword.{Keyword}
 use Rattle.c_lex.specs.declared.keyword.Keyword.TheVariants as keywords
@@ -34,7 +35,9 @@ abbrev pub expressions_over : Head → ℕ
 expressions_over (heads.If at c) = height (expression c)
 expressions_over (heads.While at c) = height (expression c)
 expressions_over heads.Do = 0
-expressions_over (heads.For at f c n) = max (height_of_for_initialiser (first f)) (max (height_of (option_map expression c)) (height_of (option_map expression n)))
+expressions_over (heads.For at f c n) =
+    max (height_of_for_initialiser (first f))
+    (max (height_of (option_map expression c)) (height_of (option_map expression n)))
 
 abbrev pub locals : Head → ℕ
 locals (heads.If at c) = 0
@@ -43,7 +46,8 @@ locals heads.Do = 0
 locals (heads.For at f c n) = locals_of_for_initialiser (first f)
 
 -- within the limits, with room for the statement, and of the counts so much is left after it
-pub record Heads (text : List ℕ) (room : ℕ) (left after : Left) (h : Head) (ts rest : List Token) : Type 0 where
+pub record Heads (text : List ℕ) (room : ℕ) (left after : Left) (h : Head)
+    (ts rest : List Token) : Type 0 where
   pub is : IsHead text h ts rest
   pub some : 1 ≤ room
   pub low : expressions_over h ≤ MOST_EXPRESSIONS
@@ -54,15 +58,19 @@ abbrev pub IsTry : Phrase
 IsTry = InTurn (HasKeyword keywords.Try) (HasPunctuator punctuators.OpenBrace)
 
 abbrev pub Opens : List ℕ → ℕ → Left → Left → Opening → List Token → List Token → Type 0
-Opens text room left after (openings.Whole s) ts rest = Reads text room left after (statement s) ts rest
-Opens text room left after openings.Block ts rest = (after ≡ left) × HasPunctuator punctuators.OpenBrace ts rest
-Opens text room left after openings.Try ts rest = (after ≡ left) × (1 ≤ room + left.funclets) × IsTry ts rest
+Opens text room left after (openings.Whole s) ts rest =
+    Reads text room left after (statement s) ts rest
+Opens text room left after openings.Block ts rest =
+    (after ≡ left) × HasPunctuator punctuators.OpenBrace ts rest
+Opens text room left after openings.Try ts rest =
+    (after ≡ left) × (1 ≤ room + left.funclets) × IsTry ts rest
 Opens text room left after (openings.Head h) ts rest = Heads text room left after h ts rest
 
 -- ---- with what is after it
 
 -- a head and the statement after it
-pub record Holds (text : List ℕ) (room : ℕ) (left after : Left) (h : Head) (s : Statement) (ts rest : List Token) : Type 0 where
+pub record Holds (text : List ℕ) (room : ℕ) (left after : Left) (h : Head) (s : Statement)
+    (ts rest : List Token) : Type 0 where
   pub less : ℕ
   pub more : less + 1 ≡ room
   pub between : Left
@@ -71,7 +79,8 @@ pub record Holds (text : List ℕ) (room : ℕ) (left after : Left) (h : Head) (
   pub inner : Reads text less between after s mid rest
 
 -- `__try` and its block, after which it can continue
-pub record Guards (text : List ℕ) (room : ℕ) (left after : Left) (body : Statements) (ts rest : List Token) : Type 0 where
+pub record Guards (text : List ℕ) (room : ℕ) (left after : Left) (body : Statements)
+    (ts rest : List Token) : Type 0 where
   pub some : 1 ≤ room + left.funclets
   pub mid : List Token
   pub is : IsTry ts mid
@@ -81,13 +90,19 @@ pub record Guards (text : List ℕ) (room : ℕ) (left after : Left) (body : Sta
 -- ---- what follows the first tokens
 
 -- the keyword of a statement, which is at a place
-abbrev pub OpensAfter : Keyword → ℕ → List ℕ → ℕ → Left → Left → Opening → List Token → List Token → Type 0
-OpensAfter keyword at text room left after o following rest = AfterKeyword keyword at following (λ ts. Opens text room left after o ts rest)
+abbrev pub OpensAfter : Keyword → ℕ → List ℕ → ℕ → Left → Left → Opening → List Token → List Token
+    → Type 0
+OpensAfter keyword at text room left after o following rest =
+    AfterKeyword keyword at following (λ ts. Opens text room left after o ts rest)
 
 -- the head of a statement
-abbrev pub ReadsAfterHead : Head → List ℕ → ℕ → Left → Left → Statement → List Token → List Token → Type 0
-ReadsAfterHead h text room left after s following rest = (whole : Left) (ts : List Token) → Heads text room whole left h ts following → Reads text room whole after s ts rest
+abbrev pub ReadsAfterHead : Head → List ℕ → ℕ → Left → Left → Statement → List Token → List Token
+    → Type 0
+ReadsAfterHead h text room left after s following rest =
+    (whole : Left) (ts : List Token) → Heads text room whole left h ts following
+    → Reads text room whole after s ts rest
 
 -- `__try` and a brace
 abbrev pub ReadsAfterTry : List ℕ → ℕ → Left → Left → Statement → List Token → List Token → Type 0
-ReadsAfterTry text room left after s following rest = (ts : List Token) → IsTry ts following → Reads text room left after s ts rest
+ReadsAfterTry text room left after s following rest =
+    (ts : List Token) → IsTry ts following → Reads text room left after s ts rest

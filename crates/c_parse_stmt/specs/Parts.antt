@@ -1,4 +1,5 @@
--- Parts of statements with what ends them; that none is at the front; and that tokens are such a part, whatever follows. The first n limits are in force.
+-- Parts of statements with what ends them; that none is at the front; and that tokens are such a
+-- part, whatever follows. The first n limits are in force.
 use Rattle.std.specs.Prelude.{◌≡◌, ◌≤◌, ◌⊎◌, ℕ, List, [], ◌++◌, length, Option}
 use Rattle.c_lex.specs.declared.punctuator.Punctuator.{Punctuator}
 use Rattle.c_lex.specs.declared.token.Token.{Token}
@@ -19,12 +20,15 @@ abbrev pub NoPunctuator : Punctuator → ℕ → List ℕ → List Token → Typ
 NoPunctuator punctuator n text ts = (end : List Token) → HasPunctuator punctuator ts end → ⊥
 
 abbrev pub APunctuator : Punctuator → ℕ → List ℕ → List Token → Type 0
-APunctuator punctuator n text ts = (other : List Token) → HasPunctuator punctuator (ts ++ other) other
+APunctuator punctuator n text ts =
+    (other : List Token) → HasPunctuator punctuator (ts ++ other) other
 
 -- ---- expressions
 
 abbrev pub NoCondition : ℕ → List ℕ → List Token → Type 0
-NoCondition n text ts = (e : Expression) (end : List Token) → IsCondition text e ts end → (IsInForce Nesting n → height e ≤ MOST_EXPRESSIONS) → ⊥
+NoCondition n text ts =
+    (e : Expression) (end : List Token) → IsCondition text e ts end
+    → (IsInForce Nesting n → height e ≤ MOST_EXPRESSIONS) → ⊥
 
 pub record HasCondition (n : ℕ) (text : List ℕ) (ts : List Token) : Type 0 where
   pub tree : Expression
@@ -32,9 +36,13 @@ pub record HasCondition (n : ℕ) (text : List ℕ) (ts : List Token) : Type 0 w
   pub low : IsInForce Nesting n → height tree ≤ MOST_EXPRESSIONS
 
 abbrev pub NoneUpTo : Punctuator → ℕ → ℕ → List ℕ → List Token → Type 0
-NoneUpTo punctuator room n text ts = (e : Option Expression) (end : List Token) → IsUpTo text punctuator e ts end → (IsInForce Nesting n → height_of e ≤ MOST_EXPRESSIONS) → (IsInForce Nesting n → one_over e ≤ room) → ⊥
+NoneUpTo punctuator room n text ts =
+    (e : Option Expression) (end : List Token) → IsUpTo text punctuator e ts end
+    → (IsInForce Nesting n → height_of e ≤ MOST_EXPRESSIONS)
+    → (IsInForce Nesting n → one_over e ≤ room) → ⊥
 
-pub record HasUpTo (punctuator : Punctuator) (room n : ℕ) (text : List ℕ) (ts : List Token) : Type 0 where
+pub record HasUpTo (punctuator : Punctuator) (room n : ℕ) (text : List ℕ)
+    (ts : List Token) : Type 0 where
   pub tree : Option Expression
   pub is : (other : List Token) → IsUpTo text punctuator tree (ts ++ other) other
   pub low : IsInForce Nesting n → height_of tree ≤ MOST_EXPRESSIONS
@@ -66,17 +74,22 @@ pub record HasLocal (room n : ℕ) (text : List ℕ) (ts : List Token) : Type 0 
   pub low : IsInForce Nesting n → height_of tree.initialiser ≤ MOST_EXPRESSIONS
   pub over : IsInForce Nesting n → one_over tree.initialiser ≤ room
 
--- at most so many, with not too many expressions around each expression, and one statement where there may be one
+-- at most so many, with not too many expressions around each expression, and one statement where
+-- there may be one
 pub record LocalsWithin (n room left : ℕ) (ls : List Local) : Type 0 where
   pub expressions : IsInForce Nesting n → height_of_locals ls ≤ MOST_EXPRESSIONS
   pub statements : IsInForce Nesting n → one_over_locals ls ≤ room
   pub count : IsInForce (Number Locals) n → length ls ≤ left
 
 abbrev pub NoMoreLocals : ℕ → ℕ → ℕ → List ℕ → List Token → Type 0
-NoMoreLocals room left n text ts = (ls : List Local) (end : List Token) → AreMoreLocals text ls ts end → LocalsWithin n room left ls → ⊥
+NoMoreLocals room left n text ts =
+    (ls : List Local) (end : List Token) → AreMoreLocals text ls ts end
+    → LocalsWithin n room left ls → ⊥
 
 abbrev pub NoLocals : ℕ → ℕ → ℕ → List ℕ → List Token → Type 0
-NoLocals room left n text ts = (ls : List Local) (end : List Token) → AreLocals text ls ts end → LocalsWithin n room left ls → ⊥
+NoLocals room left n text ts =
+    (ls : List Local) (end : List Token) → AreLocals text ls ts end → LocalsWithin n room left ls
+    → ⊥
 
 pub record HasLocals (room left n : ℕ) (text : List ℕ) (ts : List Token) : Type 0 where
   pub trees : List Local
@@ -84,7 +97,9 @@ pub record HasLocals (room left n : ℕ) (text : List ℕ) (ts : List Token) : T
   pub within : LocalsWithin n room left trees
 
 abbrev pub NoDeclaration : ℕ → ℕ → ℕ → List ℕ → List Token → Type 0
-NoDeclaration room left n text ts = (base : Base) (ls : List Local) (end : List Token) → IsDeclaration text base ls ts end → LocalsWithin n room left ls → ⊥
+NoDeclaration room left n text ts =
+    (base : Base) (ls : List Local) (end : List Token) → IsDeclaration text base ls ts end
+    → LocalsWithin n room left ls → ⊥
 
 pub record ADeclaration (room left n : ℕ) (text : List ℕ) (ts : List Token) : Type 0 where
   pub base : Base
@@ -97,7 +112,10 @@ abbrev pub HasDeclaration : ℕ → ℕ → ℕ → List ℕ → List Token → 
 HasDeclaration room left n text ts = (ts ≡ []) ⊎ ADeclaration room left n text ts
 
 abbrev pub NoForInitialiser : ℕ → ℕ → List ℕ → List Token → Type 0
-NoForInitialiser left n text ts = (f : ForInitialiser) (end : List Token) → IsForInitialiser text f ts end → (IsInForce Nesting n → height_of_for_initialiser f ≤ MOST_EXPRESSIONS) → (IsInForce (Number Locals) n → locals_of_for_initialiser f ≤ left) → ⊥
+NoForInitialiser left n text ts =
+    (f : ForInitialiser) (end : List Token) → IsForInitialiser text f ts end
+    → (IsInForce Nesting n → height_of_for_initialiser f ≤ MOST_EXPRESSIONS)
+    → (IsInForce (Number Locals) n → locals_of_for_initialiser f ≤ left) → ⊥
 
 pub record HasForInitialiser (left n : ℕ) (text : List ℕ) (ts : List Token) : Type 0 where
   pub tree : ForInitialiser

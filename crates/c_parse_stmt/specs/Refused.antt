@@ -39,47 +39,62 @@ abbrev pub RefusesLocals : ParseErr → ℕ → ℕ → List ℕ → List Token 
 RefusesLocals e room left text ts = Placed e (NoLocals room left) (HasLocals room left) text ts
 
 abbrev pub RefusesDeclaration : ParseErr → ℕ → ℕ → List ℕ → List Token → Type 0
-RefusesDeclaration e room left text ts = Placed e (NoDeclaration room left) (HasDeclaration room left) text ts
+RefusesDeclaration e room left text ts =
+    Placed e (NoDeclaration room left) (HasDeclaration room left) text ts
 
 abbrev pub RefusesForInitialiser : ParseErr → ℕ → List ℕ → List Token → Type 0
-RefusesForInitialiser e left text ts = Placed e (NoForInitialiser left) (HasForInitialiser left) text ts
+RefusesForInitialiser e left text ts =
+    Placed e (NoForInitialiser left) (HasForInitialiser left) text ts
 
 -- ---- statements
 
 abbrev pub RefusesStatement : ParseErr → ℕ → Left → List ℕ → List Token → Type 0
-RefusesStatement e room left text ts = Placed e (NoStatement room left) (HasStatement room left) text ts
+RefusesStatement e room left text ts =
+    Placed e (NoStatement room left) (HasStatement room left) text ts
 
 abbrev pub RefusesEvaluation : ParseErr → ℕ → Left → List ℕ → List Token → Type 0
-RefusesEvaluation e room left text ts = Placed e (NoEvaluation room left) (HasEvaluation room left) text ts
+RefusesEvaluation e room left text ts =
+    Placed e (NoEvaluation room left) (HasEvaluation room left) text ts
 
 abbrev pub RefusesBlockItem : ParseErr → ℕ → Left → List ℕ → List Token → Type 0
-RefusesBlockItem e room left text ts = Placed e (NoBlockItem room left) (HasBlockItem room left) text ts
+RefusesBlockItem e room left text ts =
+    Placed e (NoBlockItem room left) (HasBlockItem room left) text ts
 
 abbrev pub RefusesBlockItems : ParseErr → ℕ → Left → List ℕ → List Token → Type 0
-RefusesBlockItems e room left text ts = Placed e (NoBlockItems room left) (HasBlockItems room left) text ts
+RefusesBlockItems e room left text ts =
+    Placed e (NoBlockItems room left) (HasBlockItems room left) text ts
 
 -- ---- statements whose first tokens were read
 
 -- their keyword, which is at a place
 abbrev pub RefusesAfter : Keyword → ℕ → ParseErr → ℕ → Left → List ℕ → List Token → Type 0
-RefusesAfter keyword at e room left text following = AfterKeyword keyword at following (λ ts. RefusesStatement e room left text ts)
+RefusesAfter keyword at e room left text following =
+    AfterKeyword keyword at following (λ ts. RefusesStatement e room left text ts)
 
 -- their head
 abbrev pub RefusesAfterHead : Head → ParseErr → ℕ → Left → List ℕ → List Token → Type 0
-RefusesAfterHead h e room left text following = (whole : Left) (ts : List Token) → Heads text room whole left h ts following → RefusesStatement e room whole text ts
+RefusesAfterHead h e room left text following =
+    (whole : Left) (ts : List Token) → Heads text room whole left h ts following
+    → RefusesStatement e room whole text ts
 
 -- their head and the statement after it
 abbrev pub RefusesEnd : Head → Statement → ParseErr → List ℕ → List Token → Type 0
-RefusesEnd h s e text following = (room : ℕ) (left after : Left) (ts : List Token) → Holds text room left after h s ts following → RefusesStatement e room left text ts
+RefusesEnd h s e text following =
+    (room : ℕ) (left after : Left) (ts : List Token) → Holds text room left after h s ts following
+    → RefusesStatement e room left text ts
 
 -- `__try` and a brace
 abbrev pub RefusesAfterTry : ParseErr → ℕ → Left → List ℕ → List Token → Type 0
-RefusesAfterTry e room left text following = (ts : List Token) → IsTry ts following → RefusesStatement e room left text ts
+RefusesAfterTry e room left text following =
+    (ts : List Token) → IsTry ts following → RefusesStatement e room left text ts
 
 -- `__try` and its block
 abbrev pub RefusesClause : ParseErr → ℕ → Left → List ℕ → List Token → Type 0
-RefusesClause e room left text following = (whole : Left) (body : Statements) (ts : List Token) → Guards text room whole left body ts following → RefusesStatement e room whole text ts
+RefusesClause e room left text following =
+    (whole : Left) (body : Statements) (ts : List Token)
+    → Guards text room whole left body ts following → RefusesStatement e room whole text ts
 
 -- and the keyword of the clause, which is at a place
 abbrev pub RefusesClauseAfter : Keyword → ℕ → ParseErr → ℕ → Left → List ℕ → List Token → Type 0
-RefusesClauseAfter keyword at e room left text following = AfterKeyword keyword at following (λ ts. RefusesClause e room left text ts)
+RefusesClauseAfter keyword at e room left text following =
+    AfterKeyword keyword at following (λ ts. RefusesClause e room left text ts)

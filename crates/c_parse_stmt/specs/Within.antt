@@ -1,4 +1,5 @@
--- Limits of statements, with what is left of the counts; and what is read, and what refusals say. The first n limits are in force.
+-- Limits of statements, with what is left of the counts; and what is read, and what refusals say.
+-- The first n limits are in force.
 use Rattle.std.specs.Prelude.{◌≡◌, ◌≤◌, ◌⊎◌, ℕ, ◌+◌, List, [], ◌++◌, length, Option, IsFalse}
 use Rattle.c_lex.specs.declared.keyword.Keyword.{Keyword}
 use Rattle.c_lex.specs.declared.token.Token.{Token}
@@ -14,8 +15,10 @@ use Rattle.c_parse_stmt.specs.declared.left.Left.{Left}
 
 -- ---- what a block holds
 
--- at most so many statements around each part, not too many expressions around each expression, and no more of the counts than is left
-pub record AllWithin (n : ℕ) (text : List ℕ) (room : ℕ) (left : Left) (ss : Statements) : Type 0 where
+-- at most so many statements around each part, not too many expressions around each expression, and
+-- no more of the counts than is left
+pub record AllWithin (n : ℕ) (text : List ℕ) (room : ℕ) (left : Left)
+    (ss : Statements) : Type 0 where
   pub statements : IsInForce Nesting n → statements_over_all ss ≤ room
   pub expressions : IsInForce Nesting n → expressions_over_all ss ≤ MOST_EXPRESSIONS
   pub locals : IsInForce (Number Locals) n → locals_of_all ss ≤ left.locals
@@ -30,16 +33,20 @@ pub record AllTaken (text : List ℕ) (room : ℕ) (left after : Left) (ss : Sta
 
 -- nothing that a block holds is at the front with the brace that ends it, within the limits
 abbrev pub NoBlockItems : ℕ → Left → ℕ → List ℕ → List Token → Type 0
-NoBlockItems room left n text ts = (ss : Statements) (end : List Token) → AreBlockItems text ss ts end → AllWithin n text room left ss → ⊥
+NoBlockItems room left n text ts =
+    (ss : Statements) (end : List Token) → AreBlockItems text ss ts end
+    → AllWithin n text room left ss → ⊥
 
-pub record HasBlockItems (room : ℕ) (left : Left) (n : ℕ) (text : List ℕ) (ts : List Token) : Type 0 where
+pub record HasBlockItems (room : ℕ) (left : Left) (n : ℕ) (text : List ℕ)
+    (ts : List Token) : Type 0 where
   pub trees : Statements
   pub are : (other : List Token) → AreBlockItems text trees (ts ++ other) other
   pub within : AllWithin n text room left trees
 
 -- ---- one statement, with so many statements over its parts
 
-pub record Within (n : ℕ) (text : List ℕ) (over room : ℕ) (left : Left) (s : Statement) : Type 0 where
+pub record Within (n : ℕ) (text : List ℕ) (over room : ℕ) (left : Left)
+    (s : Statement) : Type 0 where
   pub statements : IsInForce Nesting n → over ≤ room
   pub expressions : IsInForce Nesting n → expressions_over s ≤ MOST_EXPRESSIONS
   pub locals : IsInForce (Number Locals) n → locals s ≤ left.locals
@@ -52,29 +59,36 @@ pub record Taken (text : List ℕ) (over room : ℕ) (left after : Left) (s : St
   pub funclets : after.funclets + length (numbered text s) ≡ left.funclets
 
 -- a statement that isn't a declaration, as far as it continues
-pub record Reads (text : List ℕ) (room : ℕ) (left after : Left) (s : Statement) (ts rest : List Token) : Type 0 where
+pub record Reads (text : List ℕ) (room : ℕ) (left after : Left) (s : Statement)
+    (ts rest : List Token) : Type 0 where
   pub is : IsBlockItem text s ts rest
   pub statement : IsFalse (is_declaration s)
   pub closed : Closed s rest
   pub taken : Taken text (statements_over s) room left after s
 
 abbrev pub NoStatement : ℕ → Left → ℕ → List ℕ → List Token → Type 0
-NoStatement room left n text ts = (s : Statement) (end : List Token) → IsBlockItem text s ts end → IsFalse (is_declaration s) → Closed s end → Within n text (statements_over s) room left s → ⊥
+NoStatement room left n text ts =
+    (s : Statement) (end : List Token) → IsBlockItem text s ts end → IsFalse (is_declaration s)
+    → Closed s end → Within n text (statements_over s) room left s → ⊥
 
-pub record HasStatement (room : ℕ) (left : Left) (n : ℕ) (text : List ℕ) (ts : List Token) : Type 0 where
+pub record HasStatement (room : ℕ) (left : Left) (n : ℕ) (text : List ℕ)
+    (ts : List Token) : Type 0 where
   pub tree : Statement
   pub is : (other : List Token) → IsBlockItem text tree (ts ++ other) other
   pub statement : IsFalse (is_declaration tree)
   pub within : Within n text (statements_over tree) room left tree
 
 -- a statement or a declaration in a block
-pub record ReadsBlockItem (text : List ℕ) (room : ℕ) (left after : Left) (s : Statement) (ts rest : List Token) : Type 0 where
+pub record ReadsBlockItem (text : List ℕ) (room : ℕ) (left after : Left) (s : Statement)
+    (ts rest : List Token) : Type 0 where
   pub is : IsBlockItem text s ts rest
   pub closed : Closed s rest
   pub taken : Taken text (over_block_item s (statements_over s)) room left after s
 
 abbrev pub NoBlockItem : ℕ → Left → ℕ → List ℕ → List Token → Type 0
-NoBlockItem room left n text ts = (s : Statement) (end : List Token) → IsBlockItem text s ts end → Closed s end → Within n text (over_block_item s (statements_over s)) room left s → ⊥
+NoBlockItem room left n text ts =
+    (s : Statement) (end : List Token) → IsBlockItem text s ts end → Closed s end
+    → Within n text (over_block_item s (statements_over s)) room left s → ⊥
 
 pub record AnItem (room : ℕ) (left : Left) (n : ℕ) (text : List ℕ) (ts : List Token) : Type 0 where
   pub tree : Statement
@@ -91,9 +105,12 @@ AfterKeyword keyword at following P = (ts : List Token) → IsKeyword keyword at
 
 -- no expression statement is at the front
 abbrev pub NoEvaluation : ℕ → Left → ℕ → List ℕ → List Token → Type 0
-NoEvaluation room left n text ts = (e : Option Expression) (end : List Token) → IsBlockItem text (Evaluate e) ts end → Within n text (one_over e) room left (Evaluate e) → ⊥
+NoEvaluation room left n text ts =
+    (e : Option Expression) (end : List Token) → IsBlockItem text (Evaluate e) ts end
+    → Within n text (one_over e) room left (Evaluate e) → ⊥
 
-pub record HasEvaluation (room : ℕ) (left : Left) (n : ℕ) (text : List ℕ) (ts : List Token) : Type 0 where
+pub record HasEvaluation (room : ℕ) (left : Left) (n : ℕ) (text : List ℕ)
+    (ts : List Token) : Type 0 where
   pub tree : Option Expression
   pub is : (other : List Token) → IsBlockItem text (Evaluate tree) (ts ++ other) other
   pub within : Within n text (one_over tree) room left (Evaluate tree)

@@ -67,14 +67,17 @@ NoBase ts = (b : Base) (rest : List Token) → IsBase b ts rest → ⊥
 abbrev pub NoStar : List Token → Type 0
 NoStar ts = (rest : List Token) → HasPunctuator punctuators.Star ts rest → ⊥
 
--- Specifiers go no further: with the next token, whatever follows it, no others stand there that nothing of a base follows.
+-- Specifiers go no further: with the next token, whatever follows it, no others stand there that
+-- nothing of a base follows.
 pub record EndsBase (b : Base) (ts rest : List Token) : Type 0 where
   pub front : List Token
   pub split : ts ≡ front ++ rest
-  pub only : (other : List Token) → SameFirst rest other → (d : Base) (end : List Token) → IsBase d (front ++ other) end → NoBase end → (b ≡ d) × (other ≡ end)
+  pub only : (other : List Token) → SameFirst rest other → (d : Base) (end : List Token)
+      → IsBase d (front ++ other) end → NoBase end → (b ≡ d) × (other ≡ end)
 
 -- nor does a type
 pub record EndsType (t : CType) (ts rest : List Token) : Type 0 where
   pub front : List Token
   pub split : ts ≡ front ++ rest
-  pub only : (other : List Token) → SameFirst rest other → (d : CType) (end : List Token) → IsType d (front ++ other) end → NoBase end → NoStar end → (t ≡ d) × (other ≡ end)
+  pub only : (other : List Token) → SameFirst rest other → (d : CType) (end : List Token)
+      → IsType d (front ++ other) end → NoBase end → NoStar end → (t ≡ d) × (other ≡ end)

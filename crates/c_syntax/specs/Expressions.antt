@@ -1,4 +1,5 @@
--- The grammar of expressions, one case for each production (C11, 6.5 and annex A.2.1). An expression takes the tokens up to a rest. Identifiers are read from the text.
+-- The grammar of expressions, one case for each production (C11, 6.5 and annex A.2.1). An
+-- expression takes the tokens up to a rest. Identifiers are read from the text.
 --     primary := literal | NAME | NAME '(' [assignment {',' assignment}] ')' | '(' comma ')' | information
 --     postfix := primary | postfix '[' comma ']' | postfix '++' | postfix '--'
 --     unary := postfix | '++' unary | '--' unary | operator cast
@@ -147,7 +148,8 @@ pub record AreMoreArguments (Next Others : Phrase) (ts rest : List Token) : Type
 
 -- ---- the productions
 
--- The tokens before the rest spell the expression; each operand is of the level that the production asks.
+-- The tokens before the rest spell the expression; each operand is of the level that the production
+-- asks.
 abbrev mutual
   pub SpellsExpression : List ℕ → Expression → Phrase
   SpellsExpression text (Constant at literal) = IsKind (literal_kind literal) at

@@ -13,7 +13,8 @@ use Rattle.c_syntax.specs.Statement.{Statement}
 use Rattle.c_syntax.specs.Statements.{dangles, IsBlockItem}
 use Rattle.c_syntax.specs.Tokens.{HasKeyword}
 
--- the level of the production in which a punctuator is after an operand, `(` after the name of a call; 17 where it never does
+-- the level of the production in which a punctuator is after an operand, `(` after the name of a
+-- call; 17 where it never does
 abbrev pub punctuator_follows : Punctuator → ℕ
 punctuator_follows punctuators.OpenParenthesis = primary
 punctuator_follows punctuators.CloseParenthesis = 17
@@ -76,9 +77,12 @@ follows (t ∷ ts) = kind_follows t.kind
 abbrev pub Stops : ℕ → List Token → Type 0
 Stops l ts = l < follows ts
 
--- An expression of a level that stops is found by where it begins: there is one tree at most, and one rest.
+-- An expression of a level that stops is found by where it begins: there is one tree at most, and
+-- one rest.
 abbrev pub OneExpression : Type 0
-OneExpression = (text : List ℕ) (l : ℕ) (e f : Expression) (ts rest end : List Token) → Derives text l e ts rest → Derives text l f ts end → Stops l rest → Stops l end → (e ≡ f) × (rest ≡ end)
+OneExpression =
+    (text : List ℕ) (l : ℕ) (e f : Expression) (ts rest end : List Token) → Derives text l e ts rest
+    → Derives text l f ts end → Stops l rest → Stops l end → (e ≡ f) × (rest ≡ end)
 
 -- there is a first token, and it is at a place
 pub record StartsAt (at : ℕ) (ts : List Token) : Type 0 where
@@ -101,6 +105,9 @@ NoElse ts = (rest : List Token) → HasKeyword keywords.Else ts rest → ⊥
 abbrev pub Closed : Statement → List Token → Type 0
 Closed s rest = IsTrue (dangles s) → NoElse rest
 
--- A statement that could continue with an `else`, and doesn't, is found by where it begins; each other is too.
+-- A statement that could continue with an `else`, and doesn't, is found by where it begins; each
+-- other is too.
 abbrev pub OneStatement : Type 0
-OneStatement = (text : List ℕ) (s z : Statement) (ts rest end : List Token) → IsBlockItem text s ts rest → IsBlockItem text z ts end → Closed s rest → Closed z end → (s ≡ z) × (rest ≡ end)
+OneStatement =
+    (text : List ℕ) (s z : Statement) (ts rest end : List Token) → IsBlockItem text s ts rest
+    → IsBlockItem text z ts end → Closed s rest → Closed z end → (s ≡ z) × (rest ≡ end)

@@ -33,16 +33,20 @@ abbrev mutual
   expressions_over (Block ss) = expressions_over_all ss
   expressions_over (Evaluate e) = height_of e
   expressions_over (If at c s) = max (height c) (expressions_over s)
-  expressions_over (IfElse at c s t) = max (height c) (max (expressions_over s) (expressions_over t))
+  expressions_over (IfElse at c s t) =
+      max (height c) (max (expressions_over s) (expressions_over t))
   expressions_over (While at c s) = max (height c) (expressions_over s)
   expressions_over (DoWhile s at c) = max (expressions_over s) (height c)
-  expressions_over (For at f c n s) = max (height_of_for_initialiser f) (max (height_of c) (max (height_of n) (expressions_over s)))
+  expressions_over (For at f c n s) =
+      max (height_of_for_initialiser f) (max (height_of c) (max (height_of n) (expressions_over s)))
   expressions_over (Return at e) = height_of e
   expressions_over (Break at) = 0
   expressions_over (Continue at) = 0
   expressions_over (Leave at) = 0
-  expressions_over (TryExcept body at f handler) = max (expressions_over_all body) (max (height f) (expressions_over_all handler))
-  expressions_over (TryFinally body at last) = max (expressions_over_all body) (expressions_over_all last)
+  expressions_over (TryExcept body at f handler) =
+      max (expressions_over_all body) (max (height f) (expressions_over_all handler))
+  expressions_over (TryFinally body at last) =
+      max (expressions_over_all body) (expressions_over_all last)
 
   pub expressions_over_all : Statements → ℕ
   expressions_over_all Empty = 0
@@ -63,7 +67,8 @@ abbrev pub one_over_for_initialiser : ForInitialiser → ℕ
 one_over_for_initialiser (Declaring base ls) = one_over_locals ls
 one_over_for_initialiser (Evaluating e) = one_over e
 
--- How many statements at most stand around a part, and around what is in a block. A declaration is no statement, nor are the blocks of a `__try` statement.
+-- How many statements at most stand around a part, and around what is in a block. A declaration is
+-- no statement, nor are the blocks of a `__try` statement.
 abbrev mutual
   pub statements_over : Statement → ℕ
   statements_over (Declare base ls) = 0
@@ -78,12 +83,15 @@ abbrev mutual
   statements_over (Break at) = 0
   statements_over (Continue at) = 0
   statements_over (Leave at) = 0
-  statements_over (TryExcept body at f handler) = max 1 (max (statements_over_all body) (statements_over_all handler))
-  statements_over (TryFinally body at last) = max (statements_over_all body) (statements_over_all last)
+  statements_over (TryExcept body at f handler) =
+      max 1 (max (statements_over_all body) (statements_over_all handler))
+  statements_over (TryFinally body at last) =
+      max (statements_over_all body) (statements_over_all last)
 
   pub statements_over_all : Statements → ℕ
   statements_over_all Empty = 0
-  statements_over_all (Then s ss) = max (over_block_item s (statements_over s)) (statements_over_all ss)
+  statements_over_all (Then s ss) =
+      max (over_block_item s (statements_over s)) (statements_over_all ss)
 
   pub over_block_item : Statement → ℕ → ℕ
   over_block_item (Declare base ls) n = one_over_locals ls
@@ -130,11 +138,13 @@ abbrev mutual
 
 -- ---- filters and finally blocks
 
--- The filter accepts whatever was raised: it is an integer literal of value 1 or the name of that value, parentheses aside.
+-- The filter accepts whatever was raised: it is an integer literal of value 1 or the name of that
+-- value, parentheses aside.
 abbrev pub accepts : List ℕ → Expression → Bool
 accepts text (Constant at (literals.Integer value type)) = nat_eq value 1
 accepts text (Constant at (literals.CharacterConstant value)) = false
-accepts text (Variable name) = bytes_eq (slice_range text name.start name.end) (codes "EXCEPTION_EXECUTE_HANDLER")
+accepts text (Variable name) =
+    bytes_eq (slice_range text name.start name.end) (codes "EXCEPTION_EXECUTE_HANDLER")
 accepts text (Information at field) = false
 accepts text (Call name es) = false
 accepts text (Parentheses at e) = accepts text e
@@ -148,7 +158,8 @@ accepts text (Conditional c at a b) = false
 accepts text (Assign a at op b) = false
 accepts text (Comma a at b) = false
 
--- The keywords' places of the filters and finally blocks that have a number, in their order in the text: the first has the number 1, and a filter that accepts always has none.
+-- The keywords' places of the filters and finally blocks that have a number, in their order in the
+-- text: the first has the number 1, and a filter that accepts always has none.
 abbrev mutual
   pub numbered : List ℕ → Statement → List ℕ
   numbered text (Declare base ls) = []
@@ -163,8 +174,11 @@ abbrev mutual
   numbered text (Break at) = []
   numbered text (Continue at) = []
   numbered text (Leave at) = []
-  numbered text (TryExcept body at f handler) = funclets_of_all text body ++ cond (accepts text f) [] (at ∷ []) ++ funclets_of_all text handler
-  numbered text (TryFinally body at last) = funclets_of_all text body ++ at ∷ [] ++ funclets_of_all text last
+  numbered text (TryExcept body at f handler) =
+      funclets_of_all text body ++ cond (accepts text f) [] (at ∷ [])
+      ++ funclets_of_all text handler
+  numbered text (TryFinally body at last) =
+      funclets_of_all text body ++ at ∷ [] ++ funclets_of_all text last
 
   pub funclets_of_all : List ℕ → Statements → List ℕ
   funclets_of_all text Empty = []
@@ -173,7 +187,8 @@ abbrev mutual
 abbrev pub funclets_in : List ℕ → List ExternalDeclaration → List ℕ
 funclets_in text [] = []
 funclets_in text (Globals base gs ∷ xs) = funclets_in text xs
-funclets_in text (Function returns name ps body ∷ xs) = funclets_of_all text body ++ funclets_in text xs
+funclets_in text (Function returns name ps body ∷ xs) =
+    funclets_of_all text body ++ funclets_in text xs
 
 -- ---- bytes of globals
 
@@ -205,7 +220,9 @@ aligned at (suc n) = (at + n) / suc n * suc n
 -- where the globals end that begin at a place, one after another
 abbrev pub end_of_globals : Base → List Global → ℕ → ℕ
 end_of_globals base [] at = at
-end_of_globals base (g ∷ gs) at = end_of_globals base gs (aligned at (size base g.pointers) + size base g.pointers * elements g.length)
+end_of_globals base (g ∷ gs) at =
+    end_of_globals base gs (aligned at (size base g.pointers)
+    + size base g.pointers * elements g.length)
 
 abbrev pub bytes_from : List ExternalDeclaration → ℕ → ℕ
 bytes_from [] at = at

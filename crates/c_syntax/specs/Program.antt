@@ -34,8 +34,15 @@ initialiser (initialisers.Single c) = Single c
 initialiser (initialisers.List at cs) = Several at cs.items
 
 abbrev pub global : Global' → Global
-global g = record { pointers = g.pointers; name = g.name; length = g.length; initialiser = option_map initialiser g.initialiser }
+global g =
+    record {
+      pointers = g.pointers;
+      name = g.name;
+      length = g.length;
+      initialiser = option_map initialiser g.initialiser;
+    }
 
 abbrev pub external_declaration : ExternalDeclaration' → ExternalDeclaration
 external_declaration (external_declarations.Globals base gs) = Globals base (map global gs.items)
-external_declaration (external_declarations.Function returns name ps body) = Function returns name ps.items (statements (map statement body.items))
+external_declaration (external_declarations.Function returns name ps body) =
+    Function returns name ps.items (statements (map statement body.items))

@@ -1,4 +1,5 @@
--- Short programs' parts with their trees, by the rules of C (C11, 6.5 and 6.8.4.1). Each is one letter a name, and its tokens stand one byte apart.
+-- Short programs' parts with their trees, by the rules of C (C11, 6.5 and 6.8.4.1). Each is one
+-- letter a name, and its tokens stand one byte apart.
 use Rattle.std.specs.Prelude.{ℕ, ◌+◌, List, [], ◌∷◌, None}
 use Rattle.c_lex.specs.declared.keyword.Keyword.{Keyword}
 use Rattle.c_lex.specs.declared.keyword.Keyword.TheVariants as keywords
@@ -40,43 +41,55 @@ IsExpression e ts = Derives [] comma e ts []
 abbrev pub Differences : Type 0
 Differences =
     IsExpression
-    (Binary (Binary (variable 0) 1 (binary.Arithmetic arithmetic.Subtract) (variable 2)) 3 (binary.Arithmetic arithmetic.Subtract) (variable 4))
-    (letter 0 ∷ punctuator punctuators.Minus 1 ∷ letter 2 ∷ punctuator punctuators.Minus 3 ∷ letter 4 ∷ [])
+    (Binary (Binary (variable 0) 1 (binary.Arithmetic arithmetic.Subtract) (variable 2)) 3
+    (binary.Arithmetic arithmetic.Subtract) (variable 4))
+    (letter 0 ∷ punctuator punctuators.Minus 1 ∷ letter 2 ∷ punctuator punctuators.Minus 3
+    ∷ letter 4 ∷ [])
 
 -- a-b*c is a-(b*c)
 abbrev pub Product : Type 0
 Product =
     IsExpression
-    (Binary (variable 0) 1 (binary.Arithmetic arithmetic.Subtract) (Binary (variable 2) 3 (binary.Arithmetic arithmetic.Multiply) (variable 4)))
-    (letter 0 ∷ punctuator punctuators.Minus 1 ∷ letter 2 ∷ punctuator punctuators.Star 3 ∷ letter 4 ∷ [])
+    (Binary (variable 0) 1 (binary.Arithmetic arithmetic.Subtract)
+    (Binary (variable 2) 3 (binary.Arithmetic arithmetic.Multiply) (variable 4)))
+    (letter 0 ∷ punctuator punctuators.Minus 1 ∷ letter 2 ∷ punctuator punctuators.Star 3 ∷ letter 4
+    ∷ [])
 
 -- (int*)a[b] casts a[b]
 abbrev pub CastOfElement : Type 0
 CastOfElement =
     IsExpression
     (Cast 0 (record { base = bases.Int; pointers = 1 }) (Index (variable 6) 7 (variable 8)))
-    (punctuator punctuators.OpenParenthesis 0 ∷ keyword keywords.Int 1 4 ∷ punctuator punctuators.Star 4 ∷ punctuator punctuators.CloseParenthesis 5 ∷ letter 6 ∷ punctuator punctuators.OpenBracket 7 ∷ letter 8 ∷ punctuator punctuators.CloseBracket 9 ∷ [])
+    (punctuator punctuators.OpenParenthesis 0 ∷ keyword keywords.Int 1 4
+    ∷ punctuator punctuators.Star 4 ∷ punctuator punctuators.CloseParenthesis 5 ∷ letter 6
+    ∷ punctuator punctuators.OpenBracket 7 ∷ letter 8 ∷ punctuator punctuators.CloseBracket 9
+    ∷ [])
 
 -- a?b:c?d:e is a?b:(c?d:e)
 abbrev pub Choices : Type 0
 Choices =
     IsExpression
     (Conditional (variable 0) 1 (variable 2) (Conditional (variable 4) 5 (variable 6) (variable 8)))
-    (letter 0 ∷ punctuator punctuators.Question 1 ∷ letter 2 ∷ punctuator punctuators.Colon 3 ∷ letter 4 ∷ punctuator punctuators.Question 5 ∷ letter 6 ∷ punctuator punctuators.Colon 7 ∷ letter 8 ∷ [])
+    (letter 0 ∷ punctuator punctuators.Question 1 ∷ letter 2 ∷ punctuator punctuators.Colon 3
+    ∷ letter 4 ∷ punctuator punctuators.Question 5 ∷ letter 6
+    ∷ punctuator punctuators.Colon 7 ∷ letter 8 ∷ [])
 
 -- a=b=c is a=(b=c)
 abbrev pub Assignments : Type 0
 Assignments =
     IsExpression
     (Assign (variable 0) 1 None (Assign (variable 2) 3 None (variable 4)))
-    (letter 0 ∷ punctuator punctuators.Assign 1 ∷ letter 2 ∷ punctuator punctuators.Assign 3 ∷ letter 4 ∷ [])
+    (letter 0 ∷ punctuator punctuators.Assign 1 ∷ letter 2 ∷ punctuator punctuators.Assign 3
+    ∷ letter 4 ∷ [])
 
 -- f(a,-b) has two arguments
 abbrev pub TwoArguments : Type 0
 TwoArguments =
     IsExpression
     (Call (name 0) (Next (variable 2) (Next (Unary 4 unary.Minus (variable 5)) Done)))
-    (letter 0 ∷ punctuator punctuators.OpenParenthesis 1 ∷ letter 2 ∷ punctuator punctuators.Comma 3 ∷ punctuator punctuators.Minus 4 ∷ letter 5 ∷ punctuator punctuators.CloseParenthesis 6 ∷ [])
+    (letter 0 ∷ punctuator punctuators.OpenParenthesis 1 ∷ letter 2 ∷ punctuator punctuators.Comma 3
+    ∷ punctuator punctuators.Minus 4 ∷ letter 5 ∷ punctuator punctuators.CloseParenthesis 6
+    ∷ [])
 
 -- the `else` of if(a)if(b);else; is that of the second `if`
 abbrev pub NearestIf : Type 0
@@ -84,10 +97,15 @@ NearestIf =
     IsBlockItem
     []
     (If 0 (variable 3) (IfElse 5 (variable 8) (Evaluate None) (Evaluate None)))
-    (keyword keywords.If 0 2 ∷ punctuator punctuators.OpenParenthesis 2 ∷ letter 3 ∷ punctuator punctuators.CloseParenthesis 4 ∷ keyword keywords.If 5 7 ∷ punctuator punctuators.OpenParenthesis 7 ∷ letter 8
-    ∷ punctuator punctuators.CloseParenthesis 9 ∷ punctuator punctuators.Semicolon 10 ∷ keyword keywords.Else 11 15 ∷ punctuator punctuators.Semicolon 15 ∷ [])
+    (keyword keywords.If 0 2 ∷ punctuator punctuators.OpenParenthesis 2 ∷ letter 3
+    ∷ punctuator punctuators.CloseParenthesis 4 ∷ keyword keywords.If 5 7
+    ∷ punctuator punctuators.OpenParenthesis 7 ∷ letter 8
+    ∷ punctuator punctuators.CloseParenthesis 9 ∷ punctuator punctuators.Semicolon 10
+    ∷ keyword keywords.Else 11 15 ∷ punctuator punctuators.Semicolon 15 ∷ [])
     []
 
 -- and not that of the first
 abbrev pub NoOtherIf : Type 0
-NoOtherIf = (ts rest : List Token) → IsBlockItem [] (IfElse 0 (variable 3) (If 5 (variable 8) (Evaluate None)) (Evaluate None)) ts rest → ⊥
+NoOtherIf =
+    (ts rest : List Token) → IsBlockItem [] (IfElse 0 (variable 3)
+    (If 5 (variable 8) (Evaluate None)) (Evaluate None)) ts rest → ⊥

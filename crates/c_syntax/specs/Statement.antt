@@ -47,7 +47,12 @@ statements [] = Empty
 statements (s ∷ ss) = Then s (statements ss)
 
 abbrev pub local : Local' → Local
-local l = record { pointers = l.pointers; name = l.name; initialiser = option_map expression l.initialiser }
+local l =
+    record {
+      pointers = l.pointers;
+      name = l.name;
+      initialiser = option_map expression l.initialiser;
+    }
 
 abbrev pub first : ForInitialiser' → ForInitialiser
 first (firsts.Declaration d) = Declaring d.base (map local d.locals.items)
@@ -64,12 +69,14 @@ node (opened.Expression e) = Evaluate (option_map expression e)
 node (opened.If at c s t) = choice at (expression c) s.value (option_map (λ b. b.value) t)
 node (opened.While at c s) = While at (expression c) s.value
 node (opened.Do s at c) = DoWhile s.value at (expression c)
-node (opened.For at f c n s) = For at (first f) (option_map expression c) (option_map expression n) s.value
+node (opened.For at f c n s) =
+    For at (first f) (option_map expression c) (option_map expression n) s.value
 node (opened.Return at e) = Return at (option_map expression e)
 node (opened.Break at) = Break at
 node (opened.Continue at) = Continue at
 node (opened.Leave at) = Leave at
-node (opened.TryExcept b at f h) = TryExcept (statements b.items) at (expression f) (statements h.items)
+node (opened.TryExcept b at f h) =
+    TryExcept (statements b.items) at (expression f) (statements h.items)
 node (opened.TryFinally b at l) = TryFinally (statements b.items) at (statements l.items)
 
 abbrev pub statement : Stmt → Statement

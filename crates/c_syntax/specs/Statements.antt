@@ -1,4 +1,5 @@
--- The grammar of statements, one case for each production (C11, 6.8 and annex A.2.3; Microsoft C reference, "try-except statement", "try-finally statement").
+-- The grammar of statements, one case for each production (C11, 6.8 and annex A.2.3; Microsoft C
+-- reference, "try-except statement", "try-finally statement").
 use Rattle.std.specs.Prelude.{◌≡◌, ℕ, Bool, true, false, List, Option, Some, None, IsFalse}
 use Rattle.c_lex.specs.declared.keyword.Keyword.{Keyword}
 use Rattle.c_lex.specs.declared.keyword.Keyword.TheVariants as keywords

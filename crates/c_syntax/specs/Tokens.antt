@@ -36,4 +36,5 @@ HasKeyword keyword ts rest = (at : ℕ) × IsKeyword keyword at ts rest
 
 -- a name with this spelling
 abbrev pub HasWord : List ℕ → List ℕ → List Token → List Token → Type 0
-HasWord text word ts rest = (name : Identifier) × IsIdentifier name ts rest × (slice_range text name.start name.end ≡ word)
+HasWord text word ts rest =
+    (name : Identifier) × IsIdentifier name ts rest × (slice_range text name.start name.end ≡ word)

@@ -14,17 +14,29 @@ abbrev pub spellings : Base → List (List Keyword)
 spellings Void = (keywords.Void ∷ []) ∷ []
 spellings Char = (keywords.Char ∷ []) ∷ (keywords.Signed ∷ keywords.Char ∷ []) ∷ []
 spellings UnsignedChar = (keywords.Unsigned ∷ keywords.Char ∷ []) ∷ []
-spellings Short = (keywords.Short ∷ []) ∷ (keywords.Short ∷ keywords.Int ∷ []) ∷ (keywords.Signed ∷ keywords.Short ∷ []) ∷ (keywords.Signed ∷ keywords.Short ∷ keywords.Int ∷ []) ∷ []
-spellings UnsignedShort = (keywords.Unsigned ∷ keywords.Short ∷ []) ∷ (keywords.Unsigned ∷ keywords.Short ∷ keywords.Int ∷ []) ∷ []
+spellings Short =
+    (keywords.Short ∷ []) ∷ (keywords.Short ∷ keywords.Int ∷ [])
+    ∷ (keywords.Signed ∷ keywords.Short ∷ [])
+    ∷ (keywords.Signed ∷ keywords.Short ∷ keywords.Int ∷ []) ∷ []
+spellings UnsignedShort =
+    (keywords.Unsigned ∷ keywords.Short ∷ [])
+    ∷ (keywords.Unsigned ∷ keywords.Short ∷ keywords.Int ∷ []) ∷ []
 spellings Int =
-    (keywords.Int ∷ []) ∷ (keywords.Signed ∷ []) ∷ (keywords.Signed ∷ keywords.Int ∷ []) ∷ (keywords.Long ∷ []) ∷ (keywords.Long ∷ keywords.Int ∷ [])
-    ∷ (keywords.Signed ∷ keywords.Long ∷ []) ∷ (keywords.Signed ∷ keywords.Long ∷ keywords.Int ∷ []) ∷ []
+    (keywords.Int ∷ []) ∷ (keywords.Signed ∷ []) ∷ (keywords.Signed ∷ keywords.Int ∷ [])
+    ∷ (keywords.Long ∷ []) ∷ (keywords.Long ∷ keywords.Int ∷ [])
+    ∷ (keywords.Signed ∷ keywords.Long ∷ []) ∷ (keywords.Signed ∷ keywords.Long ∷ keywords.Int ∷ [])
+    ∷ []
 spellings Unsigned =
-    (keywords.Unsigned ∷ []) ∷ (keywords.Unsigned ∷ keywords.Int ∷ []) ∷ (keywords.Unsigned ∷ keywords.Long ∷ []) ∷ (keywords.Unsigned ∷ keywords.Long ∷ keywords.Int ∷ []) ∷ []
+    (keywords.Unsigned ∷ []) ∷ (keywords.Unsigned ∷ keywords.Int ∷ [])
+    ∷ (keywords.Unsigned ∷ keywords.Long ∷ [])
+    ∷ (keywords.Unsigned ∷ keywords.Long ∷ keywords.Int ∷ []) ∷ []
 spellings LongLong =
-    (keywords.Long ∷ keywords.Long ∷ []) ∷ (keywords.Long ∷ keywords.Long ∷ keywords.Int ∷ []) ∷ (keywords.Signed ∷ keywords.Long ∷ keywords.Long ∷ [])
+    (keywords.Long ∷ keywords.Long ∷ []) ∷ (keywords.Long ∷ keywords.Long ∷ keywords.Int ∷ [])
+    ∷ (keywords.Signed ∷ keywords.Long ∷ keywords.Long ∷ [])
     ∷ (keywords.Signed ∷ keywords.Long ∷ keywords.Long ∷ keywords.Int ∷ []) ∷ []
-spellings UnsignedLongLong = (keywords.Unsigned ∷ keywords.Long ∷ keywords.Long ∷ []) ∷ (keywords.Unsigned ∷ keywords.Long ∷ keywords.Long ∷ keywords.Int ∷ []) ∷ []
+spellings UnsignedLongLong =
+    (keywords.Unsigned ∷ keywords.Long ∷ keywords.Long ∷ [])
+    ∷ (keywords.Unsigned ∷ keywords.Long ∷ keywords.Long ∷ keywords.Int ∷ []) ∷ []
 
 abbrev pub AreKeywords : List Keyword → List Token → List Token → Type 0
 AreKeywords [] ts rest = ts ≡ rest
@@ -40,7 +52,8 @@ IsBase base ts rest = IsOneOf (spellings base) ts rest
 
 abbrev pub AreStars : ℕ → List Token → List Token → Type 0
 AreStars zero ts rest = ts ≡ rest
-AreStars (suc n) ts rest = (mid : List Token) × HasPunctuator punctuators.Star ts mid × AreStars n mid rest
+AreStars (suc n) ts rest =
+    (mid : List Token) × HasPunctuator punctuators.Star ts mid × AreStars n mid rest
 
 abbrev pub IsType : CType → List Token → List Token → Type 0
 IsType type ts rest = (mid : List Token) × IsBase type.base ts mid × AreStars type.pointers mid rest

@@ -23,30 +23,41 @@ pub record FunctionWithinFirst (n : ℕ) (ps : List Parameter) (body : Statement
 abbrev pub EachWithinFirst : ℕ → List ExternalDeclaration → Type 0
 EachWithinFirst n [] = Unit {0}
 EachWithinFirst n (Globals base gs ∷ xs) = EachWithinFirst n xs
-EachWithinFirst n (Function returns name ps body ∷ xs) = FunctionWithinFirst n ps body × EachWithinFirst n xs
+EachWithinFirst n (Function returns name ps body ∷ xs) =
+    FunctionWithinFirst n ps body × EachWithinFirst n xs
 
 pub record WithinFirst (n : ℕ) (text : List ℕ) (program : List ExternalDeclaration) : Type 0 where
   pub each : EachWithinFirst n program
   pub functions : IsInForce (Number counts.Functions) n → limits.functions program ≤ MOST_FUNCTIONS
   pub bytes : IsInForce (Number counts.Globals) n → bytes_from program 0 ≤ MOST_GLOBALS
-  pub numbered : IsInForce (Number counts.Funclets) n → length (funclets_in text program) ≤ MOST_FUNCLETS
+  pub numbered : IsInForce (Number counts.Funclets) n
+      → length (funclets_in text program) ≤ MOST_FUNCLETS
 
 -- A program is within the limits where it is within the first of them up to the last.
 abbrev pub WithinIsWithinEach : Type 0
-WithinIsWithinEach = (text : List ℕ) (program : List ExternalDeclaration) → (Within text program → WithinFirst every_limit text program) × (WithinFirst every_limit text program → Within text program)
+WithinIsWithinEach =
+    (text : List ℕ) (program : List ExternalDeclaration)
+    → (Within text program → WithinFirst every_limit text program)
+    × (WithinFirst every_limit text program → Within text program)
 
 -- ---- beginnings
 
--- Some program within the first n limits begins with these tokens, in some text that continues this one.
+-- Some program within the first n limits begins with these tokens, in some text that continues this
+-- one.
 abbrev pub Viable : ℕ → List ℕ → List Token → Type 0
-Viable n text front = (beyond : List ℕ) × (more : List Token) × (xs : List ExternalDeclaration) × IsProgram (text ++ beyond) xs (front ++ more) × WithinFirst n (text ++ beyond) xs
+Viable n text front =
+    (beyond : List ℕ) × (more : List Token) × (xs : List ExternalDeclaration)
+    × IsProgram (text ++ beyond) xs (front ++ more) × WithinFirst n (text ++ beyond) xs
 
 -- It begins with the first token of the others too; where there is none, the tokens are a program.
 abbrev pub Continues : ℕ → List ℕ → List Token → List Token → Type 0
-Continues n text front [] = (xs : List ExternalDeclaration) × IsProgram text xs front × WithinFirst n text xs
+Continues n text front [] =
+    (xs : List ExternalDeclaration) × IsProgram text xs front × WithinFirst n text xs
 Continues n text front (t ∷ ts) = Viable n text (front ++ t ∷ [])
 
--- The first fault of a list of tokens: what is before the place begins a program within all limits, and none within the first n limits continues, though one within one limit fewer does. With n = 0 no program continues at all.
+-- The first fault of a list of tokens: what is before the place begins a program within all limits,
+-- and none within the first n limits continues, though one within one limit fewer does. With n = 0
+-- no program continues at all.
 pub record IsSyntaxFault (n at : ℕ) (text : List ℕ) (ts : List Token) : Type 0 where
   pub front : List Token
   pub fault : List Token
@@ -58,8 +69,12 @@ pub record IsSyntaxFault (n at : ℕ) (text : List ℕ) (ts : List Token) : Type
 
 -- A list of tokens has one first fault at most, of one kind.
 abbrev pub OneFirstFault : Type 0
-OneFirstFault = (text : List ℕ) (ts : List Token) (n m at to : ℕ) → IsSyntaxFault n at text ts → IsSyntaxFault m to text ts → (n ≡ m) × (at ≡ to)
+OneFirstFault =
+    (text : List ℕ) (ts : List Token) (n m at to : ℕ) → IsSyntaxFault n at text ts
+    → IsSyntaxFault m to text ts → (n ≡ m) × (at ≡ to)
 
 -- The tokens of a program within all limits have none.
 abbrev pub NoFaultInProgram : Type 0
-NoFaultInProgram = (text : List ℕ) (ts : List Token) (n at : ℕ) (xs : List ExternalDeclaration) → IsSyntaxFault n at text ts → IsProgram text xs ts → Within text xs → ⊥
+NoFaultInProgram =
+    (text : List ℕ) (ts : List Token) (n at : ℕ) (xs : List ExternalDeclaration)
+    → IsSyntaxFault n at text ts → IsProgram text xs ts → Within text xs → ⊥

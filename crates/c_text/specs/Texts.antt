@@ -44,7 +44,8 @@ pub record IsCheckedAs (text : List ℕ) (xs : List ExternalDeclaration) (p : Pr
 abbrev pub IsNoText : List ℕ → LexErr → Type 0
 IsNoText text e = (f : LexicalFault) × (at : ℕ) × (e ≡ refused f at) × IsLexicalFault text f at
 
--- the text's tokens have their first fault as the refusal says: no program of C within the limits continues there, by the limit that it names
+-- the text's tokens have their first fault as the refusal says: no program of C within the limits
+-- continues there, by the limit that it names
 pub record HasFault (text : List ℕ) (e : ParseErr) : Type 0 where
   pub tokens : List Token
   pub lexed : IsTokens text tokens

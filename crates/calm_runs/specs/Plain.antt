@@ -7,7 +7,8 @@ use Rattle.source_machine.specs.Frames.{Frame, InStatement, Sequel, Next, Begin}
 use Rattle.source_machine.specs.Machine.{Machine}
 use Rattle.source_machine.specs.Runs.{first, after}
 
--- a filter runs where its end is waited for; a `__finally` block with flag 1 runs where the result waits that it has interrupted
+-- a filter runs where its end is waited for; a `__finally` block with flag 1 runs where the result
+-- waits that it has interrupted
 abbrev pub is_inside : List Frame → Bool
 is_inside [] = false
 is_inside (InStatement frames.EndsFilter ∷ fs) = true

@@ -21,7 +21,8 @@ TameRows =
 
 -- ---- Plain
 
--- no exception; one with a handler; one with a filter and then a `__finally`; one that a filter continues; and C0000025, raised after a filter has answered
+-- no exception; one with a handler; one with a filter and then a `__finally`; one that a filter
+-- continues; and C0000025, raised after a filter has answered
 abbrev pub PlainRows : Type 0
 PlainRows =
     Plain sum_and_return (pos 0) 100
@@ -36,8 +37,10 @@ PlainRows =
 -- int main(void){ __try{ RaiseException(0xE0000001,0,0,0); } __except(f()){ put(1); } return 0; }
 abbrev pub handled_in_filter : Program
 handled_in_filter =
-    with_main [] (function [] [] (except (raise 0xE0000002 0 ∷ []) Always [] ∷ answer (lit 1) ∷ []) ∷ [])
-    (except (raise 0xE0000001 0 ∷ []) (Funclet 1 (kept (Call 0 Done))) (put (long (Constant Int 1)) ∷ []) ∷ answer (lit 0) ∷ [])
+    with_main [] (function [] [] (except (raise 0xE0000002 0 ∷ []) Always [] ∷ answer (lit 1) ∷ [])
+    ∷ [])
+    (except (raise 0xE0000001 0 ∷ []) (Funclet 1 (kept (Call 0 Done)))
+    (put (long (Constant Int 1)) ∷ []) ∷ answer (lit 0) ∷ [])
 
 -- also one that a handler inside the filter takes
 abbrev pub RaisesInFilters : Type 0
@@ -45,9 +48,12 @@ RaisesInFilters =
     (Plain raise_in_filter (pos 0) 100 → ⊥)
     × (Plain handled_in_filter (pos 0) 100 → ⊥)
 
--- int main(void){ __try{ __try{ BODY } __finally{ RaiseException(0xE0000002,0,0,0); } } __except(1){ put(2); } return 0; }
+-- int main(void){ __try{ __try{ BODY } __finally{ RaiseException(0xE0000002,0,0,0); } }
+-- __except(1){ put(2); } return 0; }
 abbrev pub raising_after : Statement → Program
-raising_after body = main_alone (except (finally (body ∷ []) 1 (raise 0xE0000002 0 ∷ []) ∷ []) Always (put (long (Constant Int 2)) ∷ []) ∷ answer (lit 0) ∷ [])
+raising_after body =
+    main_alone (except (finally (body ∷ []) 1 (raise 0xE0000002 0 ∷ []) ∷ []) Always
+    (put (long (Constant Int 2)) ∷ []) ∷ answer (lit 0) ∷ [])
 
 -- the block runs for an exception that was accepted
 abbrev pub RaisesInFinallys : Type 0

@@ -3,9 +3,9 @@
 ghost use Rattle.calm_runs.specs.Laws.{TameIsCalm, EndedIsTame, PlainBefore, OneRun, ComesToEnd, RaisesShow};
 ghost use Rattle.calm_runs.specs.Rows.{TameRows, PlainRows, RaisesInFilters, RaisesInFinallys, FlagOneAtReturn, FlagZeroAtEnd, FlagZeroAtLeave};
 
-/// A Tame program is calm within each number of steps, and one that ended calmly is Tame. A run that is
-/// Plain within more steps is so within fewer. The machine's run, of which Plain speaks, comes to what
-/// the program means, ends, and shows each raise.
+/// A Tame program is calm within each number of steps, and one that ended calmly is Tame. A run
+/// that is Plain within more steps is so within fewer. The machine's run, of which Plain speaks,
+/// comes to what the program means, ends, and shows each raise.
 pub fn laws()
     ensures tame_is_calm { TameIsCalm }
     ensures ended_is_tame { EndedIsTame }
@@ -15,8 +15,8 @@ pub fn laws()
     ensures raises_show { RaisesShow }
 {}
 
-/// A raise in a filter isn't Plain, and neither is one in a `__finally` block that runs with flag 1; one
-/// that runs with flag 0 may raise.
+/// A raise in a filter isn't Plain, and neither is one in a `__finally` block that runs with flag
+/// 1; one that runs with flag 0 may raise.
 pub fn rows()
     ensures tame { TameRows }
     ensures plain { PlainRows }

@@ -20,7 +20,8 @@ module _ (t : Functions) (fs : List Funclet) (program : LinearProgram) (p : Plan
     pub handlers : (activation depth : ℕ) → handlers_in regions activation depth ≡ []
 
   -- the first handler: its record, the row after it, and the regions left there
-  pub record FirstHandler (name : BodyName) (scopes : List ScopeRecord) (asked : List AskedRecord) (regions : List Region) (left : ℕ → List Region) : Type 0 where
+  pub record FirstHandler (name : BodyName) (scopes : List ScopeRecord) (asked : List AskedRecord)
+      (regions : List Region) (left : ℕ → List Region) : Type 0 where
     pub index : ℕ
     pub row : ScopeRecord
     pub filter : Option ℕ
@@ -29,23 +30,30 @@ module _ (t : Functions) (fs : List Funclet) (program : LinearProgram) (p : Plan
     pub is : IsHandlerRow t fs program p name row filter target
     pub handlers :
         (activation depth : ℕ) → handlers_in regions activation depth
-        ≡ record { filter = filter; activation = activation; depth = depth; target = target } ∷ handlers_in (left (index + 1)) activation depth
+        ≡ record { filter = filter; activation = activation; depth = depth; target = target }
+        ∷ handlers_in (left (index + 1)) activation depth
     pub before : row_before scopes (index + 1) ≡ Some row
 
   -- ---- unwinding: the same, for a configuration whose body is left
 
   -- no block is run, and the body is left
-  pub record NoBlock (target : Target) (c : Configuration) (asked : List AskedRecord) (regions : List Region) : Type 0 where
+  pub record NoBlock (target : Target) (c : Configuration) (asked : List AskedRecord)
+      (regions : List Region) : Type 0 where
     pub first : first_finally asked ≡ None
-    pub leaves : (next : Next) (out : Store → Seen) → unwind_body program next target out regions c ≡ out (left_store c.frame.body c.frame.activation c.store)
+    pub leaves : (next : Next) (out : Store → Seen)
+        → unwind_body program next target out regions c
+        ≡ out (left_store c.frame.body c.frame.activation c.store)
 
   -- no block is run, and the unwinding arrives
-  pub record Arrives (target : Target) (c : Configuration) (asked : List AskedRecord) (regions : List Region) : Type 0 where
+  pub record Arrives (target : Target) (c : Configuration) (asked : List AskedRecord)
+      (regions : List Region) : Type 0 where
     pub first : first_finally asked ≡ None
-    pub arrives : (next : Next) (out : Store → Seen) → unwind_body program next target out regions c ≡ arrive target target.code next c
+    pub arrives : (next : Next) (out : Store → Seen)
+        → unwind_body program next target out regions c ≡ arrive target target.code next c
 
   -- the first block: its record, the row after it, and the regions left there
-  pub record FirstBlock (target : Target) (c : Configuration) (scopes : List ScopeRecord) (asked : List AskedRecord) (regions : List Region) (left : ℕ → List Region) : Type 0 where
+  pub record FirstBlock (target : Target) (c : Configuration) (scopes : List ScopeRecord)
+      (asked : List AskedRecord) (regions : List Region) (left : ℕ → List Region) : Type 0 where
     pub index : ℕ
     pub row : ScopeRecord
     pub funclet : ℕ
@@ -53,5 +61,6 @@ module _ (t : Functions) (fs : List Funclet) (program : LinearProgram) (p : Plan
     pub is : IsFinallyRow t fs program p c.frame.body row funclet
     pub runs :
         (next : Next) (out : Store → Seen) → unwind_body program next target out regions c
-        ≡ run_finally program funclet true target.held (Unwinds (left (index + 1)) target ∷ Waits c.frame ∷ c.below) next c
+        ≡ run_finally program funclet true target.held
+        (Unwinds (left (index + 1)) target ∷ Waits c.frame ∷ c.below) next c
     pub before : row_before scopes (index + 1) ≡ Some row

@@ -59,7 +59,8 @@ module _ (t : Functions) (fs : List Funclet) (program : LinearProgram) (p : Plan
     pub none : (row.jump_target == 0) ≡ true
     pub handler : (t.base + row.handler_address) % 2 ^ 64 ≡ p.funclet k
     pub funclet : IsFunclet name k
-    pub named : (c : Cpu) → arrivals c (distance t.base (p.funclet k)) 1 fs ≡ by_kind c (k + 1) true ∷ []
+    pub named : (c : Cpu) → arrivals c (distance t.base (p.funclet k)) 1 fs
+        ≡ by_kind c (k + 1) true ∷ []
 
   -- a record of an `__except` block jumps to it
   pub record JumpsTo (name : BodyName) (row : ScopeRecord) (label : ℕ) : Type 0 where
@@ -73,7 +74,8 @@ module _ (t : Functions) (fs : List Funclet) (program : LinearProgram) (p : Plan
     pub asks : (row.handler_address == 1) ≡ false
     pub handler : (t.base + row.handler_address) % 2 ^ 64 ≡ p.funclet k
     pub funclet : IsFunclet name k
-    pub named : (c : Cpu) → arrivals c (distance t.base (p.funclet k)) 1 fs ≡ events.Filter (k + 1) ∷ []
+    pub named : (c : Cpu) → arrivals c (distance t.base (p.funclet k)) 1 fs
+        ≡ events.Filter (k + 1) ∷ []
 
   -- where it always takes over, HandlerAddress is 1
   pub record IsAlwaysRow (name : BodyName) (row : ScopeRecord) (label : ℕ) : Type 0 where
@@ -89,10 +91,13 @@ module _ (t : Functions) (fs : List Funclet) (program : LinearProgram) (p : Plan
   IsOfKind name row (kinds.Filter k label) = IsHandlerRow name row (Some k) label
   IsOfKind name row (kinds.Always label) = IsHandlerRow name row None label
 
-  -- the record holds the code of an instruction where the region holds the instruction, and an unwinding to a landing place ends at both or at neither
+  -- the record holds the code of an instruction where the region holds the instruction, and an
+  -- unwinding to a landing place ends at both or at neither
   pub record IsRegion (name : BodyName) (row : ScopeRecord) (r : Region) : Type 0 where
-    pub holds : (label rip : ℕ) → InCode p name label rip → rows.holds row (distance t.base rip) ≡ regions.holds label r
-    pub ends : (label : ℕ) → p.lands name label ≡ true → is_end (target_rva name label) row ≡ (regions.holds label r || leads_to r.kind label)
+    pub holds : (label rip : ℕ) → InCode p name label rip
+        → rows.holds row (distance t.base rip) ≡ regions.holds label r
+    pub ends : (label : ℕ) → p.lands name label ≡ true
+        → is_end (target_rva name label) row ≡ (regions.holds label r || leads_to r.kind label)
     pub kind : IsOfKind name row r.kind
 
   -- row by row
@@ -112,7 +117,8 @@ module _ (t : Functions) (fs : List Funclet) (program : LinearProgram) (p : Plan
   AllExcept [] = Unit {0}
   AllExcept (x ∷ xs) = ((x.jump_target == 0) ≡ false) × AllExcept xs
 
-  -- an entry is asked in a search unless it has `__finally` blocks alone, and in an unwinding unless it has none
+  -- an entry is asked in a search unless it has `__finally` blocks alone, and in an unwinding
+  -- unless it has none
   pub record IsFlagged (i : Info) : Type 0 where
     pub searched : (is_searched i ≡ true) ⊎ AllFinally i.scopes
     pub unwound : (is_unwound i ≡ true) ⊎ AllExcept i.scopes
@@ -124,7 +130,8 @@ module _ (t : Functions) (fs : List Funclet) (program : LinearProgram) (p : Plan
     pub flagged : IsFlagged (p.entry name).info
     pub few : length (p.entry name).info.scopes < 2 ^ 32
     -- no funclet begins where an unwinding lands
-    pub landings : (label : ℕ) → p.lands name label ≡ true → (c : Cpu) → arrivals c (target_rva name label) 1 fs ≡ []
+    pub landings : (label : ℕ) → p.lands name label ≡ true → (c : Cpu)
+        → arrivals c (target_rva name label) 1 fs ≡ []
 
   -- a leaf function has no regions
   abbrev pub IsGiven : BodyName → LinearBody → Bool → Type 0
@@ -133,4 +140,6 @@ module _ (t : Functions) (fs : List Funclet) (program : LinearProgram) (p : Plan
 
   -- each other body has its entry
   abbrev pub Gives : Type 0
-  Gives = (name : BodyName) (b : LinearBody) → body_of program name ≡ Some b → IsGiven name b (p.leaf name)
+  Gives =
+      (name : BodyName) (b : LinearBody) → body_of program name ≡ Some b
+      → IsGiven name b (p.leaf name)

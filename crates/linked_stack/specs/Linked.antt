@@ -53,7 +53,8 @@ pub record HasBase (k at first : ℕ) (a : Activation) (outer : List Activation)
 
 abbrev pub IsActivation : List Activation → ℕ → ℕ → ℕ → Type 0
 IsActivation [] k base distance = ⊥
-IsActivation (a ∷ outer) k base distance = HasBase k base distance a outer ⊎ IsActivation outer k base distance
+IsActivation (a ∷ outer) k base distance =
+    HasBase k base distance a outer ⊎ IsActivation outer k base distance
 
 -- the activations below a body: a function's own is the first
 abbrev pub below_function : List Activation → List Activation
@@ -66,11 +67,13 @@ activations_below (FuncletBody k) acts = acts
 
 -- ---- room on the stack
 
--- the bytes that a function takes at most, with its return address; a filter or a `__finally` block takes no more than two of these, with its record
+-- the bytes that a function takes at most, with its return address; a filter or a `__finally` block
+-- takes no more than two of these, with its record
 abbrev pub largest_frame : ℕ
 largest_frame = 8192
 
--- a stack pointer, but for some bytes, is no further from the stack's end than frames of this depth take, and the depth is within its limit
+-- a stack pointer, but for some bytes, is no further from the stack's end than frames of this depth
+-- take, and the depth is within its limit
 pub record HasSpace (sp beside depth : ℕ) : Type 0 where
   pub space : STACK_END ≤ sp + beside + largest_frame * depth
   pub shallow : depth ≤ DEEPEST
@@ -89,23 +92,27 @@ abbrev pub HoldsWords : Memory → ℕ → ℕ → List ℕ → Type 0
 HoldsWords m at end [] = at ≤ end
 HoldsWords m at end (v ∷ vs) = (word m at ≡ Ok v) × HoldsWords m (at + 8) end vs
 
--- where the temporaries of a body end at the latest: a function's before its locals, a funclet's before its return address
+-- where the temporaries of a body end at the latest: a function's before its locals, a funclet's
+-- before its return address
 abbrev pub temporaries_end : Layout → BodyName → ℕ → ℕ
 temporaries_end y (FunctionBody f) size = y.locals
 temporaries_end y (FuncletBody k) size = size
 
--- the slots of a leaf function stand above its return address, in the home space of its caller, and end there: its locals, and then its temporaries
+-- the slots of a leaf function stand above its return address, in the home space of its caller, and
+-- end there: its locals, and then its temporaries
 abbrev pub home_end : ℕ
 home_end = 40
 
 -- a function's frame holds the locals of its activation, which is the first
-pub record HoldsLocals (m : Memory) (y : Layout) (sp size k : ℕ) (a : Activation) (outer : List Activation) : Type 0 where
+pub record HoldsLocals (m : Memory) (y : Layout) (sp size k : ℕ) (a : Activation)
+    (outer : List Activation) : Type 0 where
   pub none : y.base ≡ None
   pub activation : HasBase k sp y.locals a outer
   pub values : HoldsWords m (sp + y.locals) (sp + size) a.values
 
 -- a funclet's frame keeps the base
-pub record KeepsBase (m : Memory) (y : Layout) (sp size k : ℕ) (acts : List Activation) : Type 0 where
+pub record KeepsBase (m : Memory) (y : Layout) (sp size k : ℕ)
+    (acts : List Activation) : Type 0 where
   pub slot : ℕ
   pub base : ℕ
   pub some : y.base ≡ Some slot
@@ -121,7 +128,8 @@ abbrev pub HasActivation : Memory → Layout → (sp size k : ℕ) → List Acti
 HasActivation m y sp size k acts (FunctionBody f) = FirstHoldsLocals m y sp size k acts
 HasActivation m y sp size k acts (FuncletBody j) = KeepsBase m y sp size k acts
 
--- what the frame that a funclet is given leads to: a function's frame is the base, a funclet's keeps it
+-- what the frame that a funclet is given leads to: a function's frame is the base, a funclet's
+-- keeps it
 pub record KeptIn (m : Memory) (y : Layout) (frame base : ℕ) : Type 0 where
   pub slot : ℕ
   pub some : y.base ≡ Some slot
@@ -134,26 +142,35 @@ Leads m y (FuncletBody k) frame base = KeptIn m y frame base
 
 -- where the call that an instruction makes returns to
 abbrev pub return_of : Layout → ℕ → Option Instruction → Option ℕ
-return_of y at (Some (instructions.Call f first count)) = Some (return_at y first (at + sizes (passing_code y first 4 (count - 4))))
+return_of y at (Some (instructions.Call f first count)) =
+    Some (return_at y first (at + sizes (passing_code y first 4 (count - 4))))
 return_of y at (Some (instructions.CallFinally k)) = Some (at + sizes finally_arguments + 5)
 return_of y at i = None
 
 module _ (t : Functions) (fs : List Funclet) (program : LinearProgram) (p : Plan) where
   -- activation number k, by the frame of a body
-  pub record Reaches (m : Memory) (name : BodyName) (frame k : ℕ) (acts : List Activation) : Type 0 where
+  pub record Reaches (m : Memory) (name : BodyName) (frame k : ℕ)
+      (acts : List Activation) : Type 0 where
     pub base : ℕ
     pub leads : Leads m (p.layout name) name frame base
     pub activation : IsActivation acts k base (p.layout name).locals
 
   -- the same regions of a body hold two of its instructions
   abbrev pub SameRegions : Option LinearBody → ℕ → ℕ → Type 0
-  SameRegions body label other = AllByRecursion (λ (r : Region). holds label r ≡ holds other r) (regions_of body)
+  SameRegions body label other =
+      AllByRecursion (λ (r : Region). holds label r ≡ holds other r) (regions_of body)
 
-  -- a body waits: RIP is in the code of an instruction that the same regions hold as the one that it waits in (the same instruction, or where a call is the last of its code, the next one); its slots stand in memory, up to an end above RSP
-  -- Of memory it owns, by its layout from RSP up: its temporaries, up to `end`; a function its locals, up
-  -- to `size`; a funclet the word that keeps the base of its function's frame; a filter also the word that
-  -- keeps its EXCEPTION_POINTERS (`KeepsPointers`); and the return address of `FrameWaits` and `LeafWaits`.
-  pub record BodyWaits (m : Memory) (c : Context) (size end : ℕ) (b : Frame) (acts : List Activation) : Type 0 where
+  -- a body waits: RIP is in the code of an instruction that the same regions hold as the one that
+  -- it waits in (the same instruction, or where a call is the last of its code, the next one); its
+  -- slots stand in memory, up to an end above RSP
+  -- Of memory it owns, by its layout from RSP up: its temporaries, up to `end`; a function its
+  -- locals, up
+  -- to `size`; a funclet the word that keeps the base of its function's frame; a filter also the
+  -- word that
+  -- keeps its EXCEPTION_POINTERS (`KeepsPointers`); and the return address of `FrameWaits` and
+  -- `LeafWaits`.
+  pub record BodyWaits (m : Memory) (c : Context) (size end : ℕ) (b : Frame)
+      (acts : List Activation) : Type 0 where
     pub code : LinearBody
     pub body : body_of program b.body ≡ Some code
     pub label : ℕ
@@ -161,26 +178,32 @@ module _ (t : Functions) (fs : List Funclet) (program : LinearProgram) (p : Plan
     pub same : SameRegions (body_of program b.body) label b.next
     pub small : c.rip < 2 ^ 64
     pub activation : HasActivation m (p.layout b.body) (rsp c) size b.activation acts b.body
-    pub temporaries : HoldsWords m (rsp c + (p.layout b.body).temporaries) (rsp c + end) b.temporaries
+    pub temporaries : HoldsWords m (rsp c + (p.layout b.body).temporaries)
+        (rsp c + end) b.temporaries
     pub space : HasSpace (rsp c) below_end (length acts + b.held)
 
-  -- a filter's frame keeps the address of the EXCEPTION_POINTERS that it is asked with: they stand in the record above its return address
+  -- a filter's frame keeps the address of the EXCEPTION_POINTERS that it is asked with: they stand
+  -- in the record above its return address
   pub record KeepsPointers (m : Memory) (y : Layout) (sp size : ℕ) : Type 0 where
     pub room : y.pointers + 8 ≤ size
     pub kept : word m (sp + y.pointers) ≡ Ok (sp + size + 88)
 
   abbrev pub HasPointers : Memory → Layout → (sp size : ℕ) → List Item → Type 0
-  HasPointers m y sp size (Searches exception resumption asked rest ∷ below) = KeepsPointers m y sp size
+  HasPointers m y sp size (Searches exception resumption asked rest ∷ below) =
+      KeepsPointers m y sp size
   HasPointers m y sp size items = Unit {0}
 
   -- what a body that waits has called returns to where its call ends; the first body returns to 0
   abbrev pub ReturnsTo : List Item → ℕ → Type 0
   ReturnsTo [] back = back ≡ 0
-  ReturnsTo (Waits w ∷ below) back = return_of (p.layout w.body) (p.address w.body w.next) (instruction_in (body_of program w.body) w.next) ≡ Some back
+  ReturnsTo (Waits w ∷ below) back =
+      return_of (p.layout w.body) (p.address w.body w.next)
+      (instruction_in (body_of program w.body) w.next) ≡ Some back
   ReturnsTo items back = Unit {0}
 
   -- in a frame of its own, which has the body's entry
-  pub record FrameWaits (m : Memory) (c : Context) (f : StackFrame) (b : Frame) (below : List Item) (acts : List Activation) : Type 0 where
+  pub record FrameWaits (m : Memory) (c : Context) (f : StackFrame) (b : Frame) (below : List Item)
+      (acts : List Activation) : Type 0 where
     pub framed : p.leaf b.body ≡ false
     pub entry : f.entry ≡ p.entry b.body
     pub waits : BodyWaits m c f.size (temporaries_end (p.layout b.body) b.body f.size) b acts
@@ -188,7 +211,8 @@ module _ (t : Functions) (fs : List Funclet) (program : LinearProgram) (p : Plan
     pub returns : ReturnsTo below f.return_address
 
   -- a leaf function, without one
-  pub record LeafWaits (m : Memory) (c : Context) (back : ℕ) (b : Frame) (below : List Item) (acts : List Activation) : Type 0 where
+  pub record LeafWaits (m : Memory) (c : Context) (back : ℕ) (b : Frame) (below : List Item)
+      (acts : List Activation) : Type 0 where
     pub leaf : p.leaf b.body ≡ true
     pub home : rsp c + home_end ≤ STACK_END
     pub none : regions_of (body_of program b.body) ≡ []
@@ -197,13 +221,16 @@ module _ (t : Functions) (fs : List Funclet) (program : LinearProgram) (p : Plan
 
   -- ---- what lies below a body
 
-  -- a filter answers a search for its exception; a `__finally` block ends an unwinding, or continues its body
+  -- a filter answers a search for its exception; a `__finally` block ends an unwinding, or
+  -- continues its body
   abbrev pub IsAskedBy : ℕ → Frame → Exception → Handler → Type 0
   IsAskedBy k b exception h = (h.filter ≡ Some k) × (b.exception ≡ exception)
 
   abbrev pub FuncletIsAbove : ℕ → Frame → Option LinearFunclet → List Item → Type 0
-  FuncletIsAbove k b (Some f) (Searches exception resumption asked rest ∷ Waits w ∷ below) = (f.kind ≡ funclets.Filter) × IsAskedBy k b exception asked
-  FuncletIsAbove k b (Some f) (Unwinds rest target ∷ Waits w ∷ below) = (flag : ℕ) × (f.kind ≡ funclets.Finally flag)
+  FuncletIsAbove k b (Some f) (Searches exception resumption asked rest ∷ Waits w ∷ below) =
+      (f.kind ≡ funclets.Filter) × IsAskedBy k b exception asked
+  FuncletIsAbove k b (Some f) (Unwinds rest target ∷ Waits w ∷ below) =
+      (flag : ℕ) × (f.kind ≡ funclets.Finally flag)
   FuncletIsAbove k b (Some f) (Waits w ∷ below) = (flag : ℕ) × (f.kind ≡ funclets.Finally flag)
   FuncletIsAbove k b f items = ⊥
 
@@ -225,24 +252,33 @@ module _ (t : Functions) (fs : List Funclet) (program : LinearProgram) (p : Plan
 
   -- a walk is at a row; the linear one has these regions left, or all that hold the instruction
   abbrev pub IsAtRow : ℕ → List Item → Option (List Region) → Type 0
-  IsAtRow row (Waits b ∷ below) left = regions_left left (regions_at program b.body b.next) ≡ regions_from b row
+  IsAtRow row (Waits b ∷ below) left =
+      regions_left left (regions_at program b.body b.next) ≡ regions_from b row
   IsAtRow row items left = Unit {0}
 
   -- a search is here, and from a row on meets these handlers
-  pub record OnwardHere (to : Context) (row : ℕ) (found : List Handler) (c : Context) (b : Frame) (below : List Item) : Type 0 where
+  pub record OnwardHere (to : Context) (row : ℕ) (found : List Handler) (c : Context) (b : Frame)
+      (below : List Item) : Type 0 where
     pub same : c ≡ to
-    pub meets : found ≡ handlers_in (regions_from b row) b.activation (length below) ++ handlers program below None
+    pub meets : found ≡ handlers_in (regions_from b row) b.activation (length below)
+        ++ handlers program below None
 
   -- a search has come to a context of the list and a row there, and would still meet these handlers
-  abbrev pub Onward : (to : Context) (row : ℕ) → List Handler → Context → List StackItem → List Item → Type 0
-  Onward to row found c (Framed f ∷ is) (Waits b ∷ below) = OnwardHere to row found c b below ⊎ Onward to row found (after_frame c f) is below
-  Onward to row found c (Leaf back ∷ is) (Waits b ∷ below) = OnwardHere to row found c b below ⊎ Onward to row found (after_leaf c back) is below
-  Onward to row found c (Searching r ∷ is) (Searches exception resumption asked rest ∷ below) = Onward to row found (context_of r.saved) is below
-  Onward to row found c (Unwinding r ∷ is) (Unwinds rest target ∷ below) = Onward to row found r.walk is below
+  abbrev pub Onward : (to : Context) (row : ℕ) → List Handler → Context → List StackItem → List Item
+      → Type 0
+  Onward to row found c (Framed f ∷ is) (Waits b ∷ below) =
+      OnwardHere to row found c b below ⊎ Onward to row found (after_frame c f) is below
+  Onward to row found c (Leaf back ∷ is) (Waits b ∷ below) =
+      OnwardHere to row found c b below ⊎ Onward to row found (after_leaf c back) is below
+  Onward to row found c (Searching r ∷ is) (Searches exception resumption asked rest ∷ below) =
+      Onward to row found (context_of r.saved) is below
+  Onward to row found c (Unwinding r ∷ is) (Unwinds rest target ∷ below) =
+      Onward to row found r.walk is below
   Onward to row found c is items = ⊥
 
   -- this body's frame is that of a target
-  pub record AimedHere (depth label frame address : ℕ) (c : Context) (b : Frame) (below : List Item) : Type 0 where
+  pub record AimedHere (depth label frame address : ℕ) (c : Context) (b : Frame)
+      (below : List Item) : Type 0 where
     pub at_depth : depth ≡ length below
     pub at_frame : frame ≡ rsp c
     pub at_address : address ≡ p.address b.body label
@@ -250,10 +286,16 @@ module _ (t : Functions) (fs : List Funclet) (program : LinearProgram) (p : Plan
 
   -- the frame with so many items below it has this base, and the label in its body this address
   abbrev pub Aimed : (depth label frame address : ℕ) → Context → List StackItem → List Item → Type 0
-  Aimed depth label frame address c (Framed f ∷ is) (Waits b ∷ below) = AimedHere depth label frame address c b below ⊎ Aimed depth label frame address (after_frame c f) is below
-  Aimed depth label frame address c (Leaf back ∷ is) (Waits b ∷ below) = Aimed depth label frame address (after_leaf c back) is below
-  Aimed depth label frame address c (Searching r ∷ is) (Searches exception resumption asked rest ∷ below) = Aimed depth label frame address (context_of r.saved) is below
-  Aimed depth label frame address c (Unwinding r ∷ is) (Unwinds rest target ∷ below) = Aimed depth label frame address r.walk is below
+  Aimed depth label frame address c (Framed f ∷ is) (Waits b ∷ below) =
+      AimedHere depth label frame address c b below
+      ⊎ Aimed depth label frame address (after_frame c f) is below
+  Aimed depth label frame address c (Leaf back ∷ is) (Waits b ∷ below) =
+      Aimed depth label frame address (after_leaf c back) is below
+  Aimed depth label frame address c (Searching r ∷ is)
+      (Searches exception resumption asked rest ∷ below) =
+      Aimed depth label frame address (context_of r.saved) is below
+  Aimed depth label frame address c (Unwinding r ∷ is) (Unwinds rest target ∷ below) =
+      Aimed depth label frame address r.walk is below
   Aimed depth label frame address c is items = ⊥
 
   -- ---- suspended searches and unwindings
@@ -283,8 +325,11 @@ module _ (t : Functions) (fs : List Funclet) (program : LinearProgram) (p : Plan
   Resumes resumption (Waits b ∷ below) saved = p.resumes resumption b saved ≡ true
   Resumes resumption items saved = Unit {0}
 
-  -- a search that asks a handler's filter, with the others after it; of memory it owns its record at RSP
-  pub record SearchWaits (m : Memory) (c : Context) (r : DispatchRecord) (exception : Exception) (resumption : Resumption) (asked : Handler) (rest : List Handler) (is : List StackItem) (below : List Item) : Type 0 where
+  -- a search that asks a handler's filter, with the others after it; of memory it owns its record
+  -- at RSP
+  pub record SearchWaits (m : Memory) (c : Context) (r : DispatchRecord) (exception : Exception)
+      (resumption : Resumption) (asked : Handler) (rest : List Handler) (is : List StackItem)
+      (below : List Item) : Type 0 where
     pub own : IsOwnRecord m (rsp c) r
     pub carries : HasException r exception
     pub resumes : Resumes resumption below r.saved
@@ -299,8 +344,11 @@ module _ (t : Functions) (fs : List Funclet) (program : LinearProgram) (p : Plan
   HasPurpose (Some code) r = (r.kind ≡ ExceptionUnwind) × (r.code.0 ≡ code)
   HasPurpose None r = r.kind ≡ LocalUnwind
 
-  -- an unwinding that runs a `__finally` block, with the regions that are left in the body below; of memory it owns its record at RSP
-  pub record UnwindingWaits (m : Memory) (c : Context) (r : DispatchRecord) (rest : List Region) (target : Target) (is : List StackItem) (below : List Item) (acts : List Activation) : Type 0 where
+  -- an unwinding that runs a `__finally` block, with the regions that are left in the body below;
+  -- of memory it owns its record at RSP
+  pub record UnwindingWaits (m : Memory) (c : Context) (r : DispatchRecord) (rest : List Region)
+      (target : Target) (is : List StackItem) (below : List Item)
+      (acts : List Activation) : Type 0 where
     pub own : IsOwnRecord m (rsp c) r
     pub purpose : HasPurpose target.code r
     pub row : IsAtRow r.row below (Some rest)
@@ -311,8 +359,15 @@ module _ (t : Functions) (fs : List Funclet) (program : LinearProgram) (p : Plan
 
   abbrev pub Linked : Memory → Context → List StackItem → List Item → List Activation → Type 0
   Linked m c [] [] acts = (acts ≡ []) × (rsp c ≤ STACK_END)
-  Linked m c (Framed f ∷ is) (Waits b ∷ below) acts = FrameWaits m c f b below acts × IsAbove b b.body below × Linked m (after_frame c f) is below (activations_below b.body acts)
-  Linked m c (Leaf back ∷ is) (Waits b ∷ below) acts = LeafWaits m c back b below acts × IsAbove b b.body below × Linked m (after_leaf c back) is below (activations_below b.body acts)
-  Linked m c (Searching r ∷ is) (Searches exception resumption asked rest ∷ below) acts = SearchWaits m c r exception resumption asked rest is below × Linked m (context_of r.saved) is below acts
-  Linked m c (Unwinding r ∷ is) (Unwinds rest target ∷ below) acts = UnwindingWaits m c r rest target is below acts × Linked m r.walk is below acts
+  Linked m c (Framed f ∷ is) (Waits b ∷ below) acts =
+      FrameWaits m c f b below acts × IsAbove b b.body below
+      × Linked m (after_frame c f) is below (activations_below b.body acts)
+  Linked m c (Leaf back ∷ is) (Waits b ∷ below) acts =
+      LeafWaits m c back b below acts × IsAbove b b.body below
+      × Linked m (after_leaf c back) is below (activations_below b.body acts)
+  Linked m c (Searching r ∷ is) (Searches exception resumption asked rest ∷ below) acts =
+      SearchWaits m c r exception resumption asked rest is below
+      × Linked m (context_of r.saved) is below acts
+  Linked m c (Unwinding r ∷ is) (Unwinds rest target ∷ below) acts =
+      UnwindingWaits m c r rest target is below acts × Linked m r.walk is below acts
   Linked m c is items acts = ⊥

@@ -22,7 +22,8 @@ pub record IsData (m : Memory) : Type 0 where
   pub bytes : AreBytes m.byte
   pub no_code : (x : ℕ) → may_write m x ≡ true → (m.protection x).execute ≡ false
 
-pub record On (t : Functions) (fs : List Funclet) (program : LinearProgram) (p : Plan) (m : Memory) (c : Context) (is : List StackItem) (items : List Item) (acts : List Activation) : Type 0 where
+pub record On (t : Functions) (fs : List Funclet) (program : LinearProgram) (p : Plan) (m : Memory)
+    (c : Context) (is : List StackItem) (items : List Item) (acts : List Activation) : Type 0 where
   pub stands : Stands t fs program p m c is items acts
   pub data_alone : IsData m
 

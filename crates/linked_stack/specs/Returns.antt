@@ -34,42 +34,69 @@ abbrev pub with_answer : State → Turn → Turn
 with_answer s turn = with_event (events.Answer (signed W32 (eax s))) turn
 
 abbrev pub answered : State → Configuration → Configuration
-answered s c = record { frame = c.frame; below = c.below; store = c.store; events = c.events ++ events.Answer (signed W32 (eax s)) ∷ [] }
+answered s c =
+    record {
+      frame = c.frame;
+      below = c.below;
+      store = c.store;
+      events = c.events ++ events.Answer (signed W32 (eax s)) ∷ [];
+    }
 
 -- linear code, whose filter has the same answer
-abbrev pub linear_answer : LinearProgram → State → Exception → Resumption → Handler → List Handler → Configuration → Next → Seen
-linear_answer program s exception resumption asked rest c next = answer program next (eax s) (Searches exception resumption asked rest ∷ Waits c.frame ∷ c.below) c.events c.store
+abbrev pub linear_answer : LinearProgram → State → Exception → Resumption → Handler → List Handler
+    → Configuration → Next → Seen
+linear_answer program s exception resumption asked rest c next =
+    answer program next (eax s) (Searches exception resumption asked rest ∷ Waits c.frame ∷ c.below)
+    c.events c.store
 
 -- 0: the next handler
-pub record AsksTheNext (t : Functions) (program : LinearProgram) (s : State) (r : DispatchRecord) (exception : Exception) (resumption : Resumption) (asked : Handler) (rest : List Handler) (c : Configuration) : Type 0 where
+pub record AsksTheNext (t : Functions) (program : LinearProgram) (s : State) (r : DispatchRecord)
+    (exception : Exception) (resumption : Resumption) (asked : Handler) (rest : List Handler)
+    (c : Configuration) : Type 0 where
   pub turns : filter_turn t s ≡ with_answer s (searches_on t s (rsp (context_of s.cpu)) r)
-  pub goes : (next : Next) → linear_answer program s exception resumption asked rest c next ≡ search program next rest exception resumption (answered s c)
+  pub goes : (next : Next) → linear_answer program s exception resumption asked rest c next
+      ≡ search program next rest exception resumption (answered s c)
 
 -- above 0: the asked handler takes over, in its frame
-pub record AskedTakesOver (t : Functions) (fs : List Funclet) (program : LinearProgram) (p : Plan) (s : State) (r : DispatchRecord) (is : List StackItem) (exception : Exception) (resumption : Resumption) (asked : Handler) (rest : List Handler) (c : Configuration) : Type 0 where
+pub record AskedTakesOver (t : Functions) (fs : List Funclet) (program : LinearProgram) (p : Plan)
+    (s : State) (r : DispatchRecord) (is : List StackItem) (exception : Exception)
+    (resumption : Resumption) (asked : Handler) (rest : List Handler)
+    (c : Configuration) : Type 0 where
   pub address : ℕ
-  pub turns : filter_turn t s ≡ with_answer s (accepted t s (rsp (context_of s.cpu)) r r.frame address)
-  pub goes : (next : Next) → linear_answer program s exception resumption asked rest c next ≡ accept program asked exception next (answered s c)
+  pub turns : filter_turn t s ≡ with_answer s (accepted t s
+      (rsp (context_of s.cpu)) r r.frame address)
+  pub goes : (next : Next) → linear_answer program s exception resumption asked rest c next
+      ≡ accept program asked exception next (answered s c)
   pub frame_small : r.frame < 2 ^ 64
   pub address_small : address < 2 ^ 64
-  pub aimed : Aimed t fs program p asked.depth asked.target r.frame address (context_of r.saved) is (Waits c.frame ∷ c.below)
+  pub aimed : Aimed t fs program p asked.depth asked.target r.frame address (context_of r.saved) is
+      (Waits c.frame ∷ c.below)
 
 -- below 0: the exception is continued, in the saved state, in which the body stands that raised it
-pub record IsContinued (t : Functions) (fs : List Funclet) (program : LinearProgram) (p : Plan) (s : State) (r : DispatchRecord) (is : List StackItem) (acts : List Activation) (exception : Exception) (resumption : Resumption) (asked : Handler) (rest : List Handler) (c : Configuration) : Type 0 where
+pub record IsContinued (t : Functions) (fs : List Funclet) (program : LinearProgram) (p : Plan)
+    (s : State) (r : DispatchRecord) (is : List StackItem) (acts : List Activation)
+    (exception : Exception) (resumption : Resumption) (asked : Handler) (rest : List Handler)
+    (c : Configuration) : Type 0 where
   pub turns : filter_turn t s ≡ with_answer s (Continues (restored s r) [])
-  pub goes : (next : Next) → linear_answer program s exception resumption asked rest c next ≡ next (resumed resumption (answered s c))
+  pub goes : (next : Next) → linear_answer program s exception resumption asked rest c next
+      ≡ next (resumed resumption (answered s c))
   pub on : On t fs program p s.memory (context_of r.saved) is (Waits c.frame ∷ c.below) acts
   pub sane : IsSane (restored s r)
   pub resumes : p.resumes resumption c.frame r.saved ≡ true
 
 -- or C0000025 is raised, where it is noncontinuable
-pub record IsRaisedAnew (t : Functions) (program : LinearProgram) (s : State) (r : DispatchRecord) (exception : Exception) (resumption : Resumption) (asked : Handler) (rest : List Handler) (c : Configuration) : Type 0 where
+pub record IsRaisedAnew (t : Functions) (program : LinearProgram) (s : State) (r : DispatchRecord)
+    (exception : Exception) (resumption : Resumption) (asked : Handler) (rest : List Handler)
+    (c : Configuration) : Type 0 where
   pub turns : filter_turn t s ≡ with_answer s (raised_again t s (rsp (context_of s.cpu)) r)
-  pub goes : (next : Next) → linear_answer program s exception resumption asked rest c next ≡ raise program next noncontinuable resumption (answered s c)
+  pub goes : (next : Next) → linear_answer program s exception resumption asked rest c next
+      ≡ raise program next noncontinuable resumption (answered s c)
 
 abbrev pub FilterReturns : Type 0
 FilterReturns =
-    (t : Functions) (fs : List Funclet) (program : LinearProgram) (p : Plan) (s : State) (r : DispatchRecord) (is : List StackItem) (acts : List Activation) (exception : Exception) (resumption : Resumption) (asked : Handler) (rest : List Handler) (c : Configuration)
+    (t : Functions) (fs : List Funclet) (program : LinearProgram) (p : Plan) (s : State)
+    (r : DispatchRecord) (is : List StackItem) (acts : List Activation) (exception : Exception)
+    (resumption : Resumption) (asked : Handler) (rest : List Handler) (c : Configuration)
     → SearchIsAnswered t fs program p s r is acts exception resumption asked rest c
     → AsksTheNext t program s r exception resumption asked rest c
     ⊎ (AskedTakesOver t fs program p s r is exception resumption asked rest c

@@ -16,7 +16,9 @@ use Rattle.linked_stack.specs.Linked.{Activation, IsAtRow, Onward, Linked}
 use Rattle.linked_stack.specs.Searching.{IsWide, SearchedAs}
 
 -- the list stands in the stack from a context on
-pub record StandsIn (t : Functions) (fs : List Funclet) (program : LinearProgram) (p : Plan) (m : Memory) (c : Context) (is : List StackItem) (items : List Item) (acts : List Activation) : Type 0 where
+pub record StandsIn (t : Functions) (fs : List Funclet) (program : LinearProgram) (p : Plan)
+    (m : Memory) (c : Context) (is : List StackItem) (items : List Item)
+    (acts : List Activation) : Type 0 where
   pub gives : Gives t fs program p
   pub stack : IsStack t m c is
   pub linked : Linked t fs program p m c is items acts
@@ -25,13 +27,20 @@ pub record StandsIn (t : Functions) (fs : List Funclet) (program : LinearProgram
 -- from a row of the first body on, or from its first one
 abbrev pub SearchIsTheLists : Type 0
 SearchIsTheLists =
-    (t : Functions) (fs : List Funclet) (program : LinearProgram) (p : Plan) (m : Memory) (c : Context) (is : List StackItem) (items : List Item) (acts : List Activation) (row : ℕ) (left : Option (List Region)) (n : ℕ)
-    → StandsIn t fs program p m c is items acts → IsAtRow t fs program p row items left → length is < n
-    → SearchedAs t fs program p m acts c is items (search n t m (state c row)) (handlers program items left)
+    (t : Functions) (fs : List Funclet) (program : LinearProgram) (p : Plan) (m : Memory)
+    (c : Context) (is : List StackItem) (items : List Item) (acts : List Activation) (row : ℕ)
+    (left : Option (List Region)) (n : ℕ)
+    → StandsIn t fs program p m c is items acts → IsAtRow t fs program p row items left
+    → length is < n
+    → SearchedAs t fs program p m acts c is items (search n t m (state c row))
+    (handlers program items left)
 
 -- from where it was suspended
 abbrev pub SearchGoesOn : Type 0
 SearchGoesOn =
-    (t : Functions) (fs : List Funclet) (program : LinearProgram) (p : Plan) (m : Memory) (c : Context) (is : List StackItem) (items : List Item) (acts : List Activation) (to : Context) (row : ℕ) (found : List Handler) (n : ℕ)
-    → StandsIn t fs program p m c is items acts → Onward t fs program p to row found c is items → length is < n
+    (t : Functions) (fs : List Funclet) (program : LinearProgram) (p : Plan) (m : Memory)
+    (c : Context) (is : List StackItem) (items : List Item) (acts : List Activation) (to : Context)
+    (row : ℕ) (found : List Handler) (n : ℕ)
+    → StandsIn t fs program p m c is items acts → Onward t fs program p to row found c is items
+    → length is < n
     → SearchedAs t fs program p m acts c is items (search n t m (state to row)) found

@@ -25,17 +25,25 @@ use Rattle.linked_stack.specs.Records.{IsUntouched}
 use Rattle.linked_stack.specs.States.{Arrives}
 
 module _ (t : Functions) (fs : List Funclet) (program : LinearProgram) (p : Plan) where
-  -- the filter of the first handler begins, unless linear code is too deep; its EXCEPTION_POINTERS stand in the record above its return address, with the state that was saved
-  pub record FilterBegins (s : State) (at : ℕ) (r : DispatchRecord) (turn : Turn) (found : List Handler) (exception : Exception) (resumption : Resumption) (is : List StackItem) (acts : List Activation) (c : Configuration) : Type 0 where
+  -- the filter of the first handler begins, unless linear code is too deep; its EXCEPTION_POINTERS
+  -- stand in the record above its return address, with the state that was saved
+  pub record FilterBegins (s : State) (at : ℕ) (r : DispatchRecord) (turn : Turn)
+      (found : List Handler) (exception : Exception) (resumption : Resumption) (is : List StackItem)
+      (acts : List Activation) (c : Configuration) : Type 0 where
     pub filter : ℕ
     pub handler : Handler
     pub asked : handler.filter ≡ Some filter
     pub rest : List Handler
     pub state : State
     pub turns : turn ≡ Continues state (events.Filter (filter + 1) ∷ [])
-    pub goes : (next : Next) → linear.search program next found exception resumption c ≡ deeper 2 c.frame.held c.store c.events (next (begin_filter filter handler rest exception resumption c))
-    pub arrives : Arrives t fs program p state filter handler.activation ((at + POINTERS_AT) % 2 ^ 64) (Searches exception resumption handler rest ∷ Waits c.frame ∷ c.below) acts
-    pub named : arrivals state.cpu (distance t.base state.cpu.rip) 1 fs ≡ events.Filter (filter + 1) ∷ []
+    pub goes : (next : Next) → linear.search program next found exception resumption c
+        ≡ deeper 2 c.frame.held c.store c.events
+        (next (begin_filter filter handler rest exception resumption c))
+    pub arrives : Arrives t fs program p state filter handler.activation
+        ((at + POINTERS_AT) % 2 ^ 64) (Searches exception resumption handler rest
+        ∷ Waits c.frame ∷ c.below) acts
+    pub named : arrivals state.cpu (distance t.base state.cpu.rip) 1 fs
+        ≡ events.Filter (filter + 1) ∷ []
     pub hand : DispatchRecord
     pub same_saved : hand.saved ≡ r.saved
     pub list : arrives.is ≡ Searching hand ∷ is
@@ -43,17 +51,23 @@ module _ (t : Functions) (fs : List Funclet) (program : LinearProgram) (p : Plan
     pub untouched : IsUntouched s.memory state.memory
 
   -- the first handler takes over at once, in a frame of the list
-  pub record TakesOver (s : State) (at : ℕ) (r : DispatchRecord) (turn : Turn) (found : List Handler) (exception : Exception) (resumption : Resumption) (above : Context) (is : List StackItem) (c : Configuration) : Type 0 where
+  pub record TakesOver (s : State) (at : ℕ) (r : DispatchRecord) (turn : Turn)
+      (found : List Handler) (exception : Exception) (resumption : Resumption) (above : Context)
+      (is : List StackItem) (c : Configuration) : Type 0 where
     pub handler : Handler
     pub frame : ℕ
     pub address : ℕ
     pub turns : turn ≡ arrived t fs (accepted t s at r frame address)
-    pub goes : (next : Next) → linear.search program next found exception resumption c ≡ accept program handler exception next c
+    pub goes : (next : Next) → linear.search program next found exception resumption c
+        ≡ accept program handler exception next c
     pub frame_small : frame < 2 ^ 64
     pub address_small : address < 2 ^ 64
-    pub aimed : Aimed t fs program p handler.depth handler.target frame address above is (Waits c.frame ∷ c.below)
+    pub aimed : Aimed t fs program p handler.depth handler.target frame address above is
+        (Waits c.frame ∷ c.below)
 
   -- nobody takes over
-  pub record NobodyTakesOver (turn : Turn) (found : List Handler) (exception : Exception) (resumption : Resumption) (c : Configuration) : Type 0 where
+  pub record NobodyTakesOver (turn : Turn) (found : List Handler) (exception : Exception)
+      (resumption : Resumption) (c : Configuration) : Type 0 where
     pub turns : turn ≡ Ends [] (ends.Unhandled (record { 0 = exception.code }))
-    pub goes : (next : Next) → linear.search program next found exception resumption c ≡ Finished (Unhandled (record { 0 = exception.code })) c.events
+    pub goes : (next : Next) → linear.search program next found exception resumption c
+        ≡ Finished (Unhandled (record { 0 = exception.code })) c.events

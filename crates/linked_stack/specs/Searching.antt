@@ -30,8 +30,11 @@ pub record CanBeKept (frame row : ℕ) (to : Context) : Type 0 where
   pub registers : IsWide to.kept
 
 module _ (t : Functions) (fs : List Funclet) (program : LinearProgram) (p : Plan) where
-  -- the filter of a handler is asked: with its frame in hand, and from the row after it on the others are met
-  pub record Asks (m : Memory) (acts : List Activation) (c : Context) (is : List StackItem) (items : List Item) (s : SearchResult) (k : ℕ) (h : Handler) (rest : List Handler) : Type 0 where
+  -- the filter of a handler is asked: with its frame in hand, and from the row after it on the
+  -- others are met
+  pub record Asks (m : Memory) (acts : List Activation) (c : Context) (is : List StackItem)
+      (items : List Item) (s : SearchResult) (k : ℕ) (h : Handler)
+      (rest : List Handler) : Type 0 where
     pub to : Context
     pub next : ℕ
     pub frame : ℕ
@@ -42,13 +45,15 @@ module _ (t : Functions) (fs : List Funclet) (program : LinearProgram) (p : Plan
     pub aimed : Aimed t fs program p h.depth h.target frame address c is items
     pub before : JumpsBefore t fs program p to.rip next address
     pub funclet : IsFunclet t fs program p name k
-    pub named : (cpu : Cpu) → arrivals cpu (distance t.base (p.funclet k)) 1 fs ≡ events.Filter (k + 1) ∷ []
+    pub named : (cpu : Cpu) → arrivals cpu (distance t.base (p.funclet k)) 1 fs
+        ≡ events.Filter (k + 1) ∷ []
     pub reaches : Reaches t fs program p m name frame h.activation acts
     pub above : rsp c ≤ frame
     pub kept : CanBeKept frame next to
 
   -- a handler takes over at once
-  pub record Accepts (c : Context) (is : List StackItem) (items : List Item) (s : SearchResult) (h : Handler) : Type 0 where
+  pub record Accepts (c : Context) (is : List StackItem) (items : List Item) (s : SearchResult)
+      (h : Handler) : Type 0 where
     pub frame : ℕ
     pub address : ℕ
     pub answer : s ≡ searches.Accept frame address
@@ -57,11 +62,13 @@ module _ (t : Functions) (fs : List Funclet) (program : LinearProgram) (p : Plan
     pub frame_small : frame < 2 ^ 64
     pub address_small : address < 2 ^ 64
 
-  abbrev pub Meets : Memory → List Activation → Context → List StackItem → List Item → SearchResult → Option ℕ → Handler → List Handler → Type 0
+  abbrev pub Meets : Memory → List Activation → Context → List StackItem → List Item → SearchResult
+      → Option ℕ → Handler → List Handler → Type 0
   Meets m acts c is items s None h rest = Accepts c is items s h
   Meets m acts c is items s (Some k) h rest = Asks m acts c is items s k h rest
 
   -- the first of the handlers that are left; with none left, nobody
-  abbrev pub SearchedAs : Memory → List Activation → Context → List StackItem → List Item → SearchResult → List Handler → Type 0
+  abbrev pub SearchedAs : Memory → List Activation → Context → List StackItem → List Item
+      → SearchResult → List Handler → Type 0
   SearchedAs m acts c is items s [] = s ≡ searches.Nobody
   SearchedAs m acts c is items s (h ∷ rest) = Meets m acts c is items s h.filter h rest

@@ -1,4 +1,5 @@
--- The stack from a stack pointer up: frames of bodies, and records of suspended searches and unwindings, innermost first.
+-- The stack from a stack pointer up: frames of bodies, and records of suspended searches and
+-- unwindings, innermost first.
 use Rattle.std.specs.Prelude.{◌≡◌, ℕ, ◌+◌, ◌-◌, ◌^◌, ◌<◌, ◌≤◌, Bool, true, false, ◌⊎◌, ◌==◌, nat_lt, List, [], ◌∷◌, length, Some, None, Ok, slice_set}
 use Rattle.flat_memory.specs.Memory.{Memory}
 use Rattle.x64_machine.specs.declared.context.Context.{Context}
@@ -14,14 +15,16 @@ use Rattle.seh_records.specs.Record.{fetched}
 use Rattle.seh_records.specs.declared.layout.TheConstants.{RECORD_SIZE, POINTERS_AT}
 use Rattle.seh_walk.specs.Walk.{filter_return, finally_return, is_search}
 
--- a frame of a body: its entry in the function table, the size of its fixed allocation, the offset of that allocation's unwind code, and its return address
+-- a frame of a body: its entry in the function table, the size of its fixed allocation, the offset
+-- of that allocation's unwind code, and its return address
 pub record StackFrame : Type 0 where
   pub entry : Entry
   pub size : ℕ
   pub offset : ℕ
   pub return_address : ℕ
 
--- a frame; a leaf function, which has none, by its return address; a suspended search; a suspended unwinding
+-- a frame; a leaf function, which has none, by its return address; a suspended search; a suspended
+-- unwinding
 pub data StackItem : Type 0 where
   Framed : StackFrame → StackItem
   Leaf : ℕ → StackItem
@@ -34,7 +37,8 @@ pub data StackItem : Type 0 where
 abbrev pub after_frame : Context → StackFrame → Context
 after_frame c f = record { rip = f.return_address; kept = slice_set c.kept 0 (rsp c + f.size + 8) }
 
--- a leaf function has pushed nothing: its return address is at RSP (Microsoft x64 ABI, "Function types")
+-- a leaf function has pushed nothing: its return address is at RSP (Microsoft x64 ABI, "Function
+-- types")
 abbrev pub after_leaf : Context → ℕ → Context
 after_leaf c back = record { rip = back; kept = slice_set c.kept 0 (rsp c + 8) }
 
@@ -67,7 +71,8 @@ pub record FrameStands (t : Functions) (m : Memory) (c : Context) (f : StackFram
   pub not_filter : (c.rip == filter_return) ≡ false
   pub not_finally : (c.rip == finally_return) ≡ false
   pub found : entry_of t c.rip ≡ Some f.entry
-  pub past_prologue : nat_lt (distance t.base c.rip - f.entry.range.begin) f.entry.info.prologue_size ≡ false
+  pub past_prologue : nat_lt (distance t.base c.rip - f.entry.range.begin)
+      f.entry.info.prologue_size ≡ false
   pub not_epilogue : tail_at f.entry.info.frame_register m c.rip ≡ None
   pub codes : f.entry.info.codes ≡ record { offset = f.offset; operation = Allocate f.size } ∷ []
   pub no_register : f.entry.info.frame_register ≡ 0
@@ -86,8 +91,10 @@ pub record LeafStands (t : Functions) (m : Memory) (c : Context) (back : ℕ) : 
   pub room : rsp c + 8 < 2 ^ 64
   pub returns : word m (rsp c) ≡ Ok back
 
--- a record at the return address of the host that its funclet has; its EXCEPTION_POINTERS begin with the address of its EXCEPTION_RECORD
-pub record RecordStands (m : Memory) (c : Context) (r : DispatchRecord) (address : ℕ) (searches : Bool) (next : Context) : Type 0 where
+-- a record at the return address of the host that its funclet has; its EXCEPTION_POINTERS begin
+-- with the address of its EXCEPTION_RECORD
+pub record RecordStands (m : Memory) (c : Context) (r : DispatchRecord) (address : ℕ)
+    (searches : Bool) (next : Context) : Type 0 where
   pub at_host : c.rip ≡ address
   pub fetches : fetched m (rsp c) ≡ Some r
   pub pointers : word m (rsp c + POINTERS_AT) ≡ Ok (rsp c + 96)

@@ -20,8 +20,10 @@ pub record IsSane (s : State) : Type 0 where
   pub count : length s.cpu.registers ≡ 16
   pub small : AllSmall s.cpu.registers
 
--- at the first byte of a funclet: RCX is its first argument, RDX leads to its activation, and below its return address the list stands
-pub record Arrives (t : Functions) (fs : List Funclet) (program : LinearProgram) (p : Plan) (s : State) (k activation first : ℕ) (items : List Item) (acts : List Activation) : Type 0 where
+-- at the first byte of a funclet: RCX is its first argument, RDX leads to its activation, and below
+-- its return address the list stands
+pub record Arrives (t : Functions) (fs : List Funclet) (program : LinearProgram) (p : Plan)
+    (s : State) (k activation first : ℕ) (items : List Item) (acts : List Activation) : Type 0 where
   pub rip : s.cpu.rip ≡ p.funclet k
   pub name : BodyName
   pub funclet : IsFunclet t fs program p name k
@@ -33,5 +35,6 @@ pub record Arrives (t : Functions) (fs : List Funclet) (program : LinearProgram)
   pub back : ℕ
   pub returns : word s.memory (register s.cpu Rsp) ≡ Ok back
   pub is : List StackItem
-  pub on : (others : List ℕ) → On t fs program p s.memory (context_below back at others) is items acts
+  pub on : (others : List ℕ) → On t fs program p s.memory
+      (context_below back at others) is items acts
   pub sane : IsSane s

@@ -21,29 +21,39 @@ use Rattle.linked_stack.specs.States.{IsSane}
 use Rattle.linked_stack.specs.Searches.{FilterBegins, TakesOver, NobodyTakesOver}
 use Rattle.linked_stack.specs.Unwinds.{Unwound, BlockBegins, LandsThere}
 
--- a search's record stands for the exception of a body that waits, and these handlers are still to be met
-pub record IsSearching (t : Functions) (fs : List Funclet) (program : LinearProgram) (p : Plan) (s : State) (at : ℕ) (r : DispatchRecord) (is : List StackItem) (acts : List Activation) (exception : Exception) (found : List Handler) (c : Configuration) : Type 0 where
+-- a search's record stands for the exception of a body that waits, and these handlers are still to
+-- be met
+pub record IsSearching (t : Functions) (fs : List Funclet) (program : LinearProgram) (p : Plan)
+    (s : State) (at : ℕ) (r : DispatchRecord) (is : List StackItem) (acts : List Activation)
+    (exception : Exception) (found : List Handler) (c : Configuration) : Type 0 where
   pub gives : Gives t fs program p
   pub sane : IsSane s
   pub on : On t fs program p s.memory (context_of r.saved) is (Waits c.frame ∷ c.below) acts
   pub kind : r.kind ≡ Search
   pub room : HasRoom s.memory at r (rsp (context_of r.saved))
   pub carries : HasException t fs program p r exception
-  pub onward : Onward t fs program p r.walk r.row found (context_of r.saved) is (Waits c.frame ∷ c.below)
+  pub onward : Onward t fs program p r.walk r.row found (context_of r.saved) is
+      (Waits c.frame ∷ c.below)
   pub near : rsp (context_of r.saved) ≤ at + record_room
 
 -- where the exception is continued, the body goes on from the saved state
 abbrev pub SearchTurns : Type 0
 SearchTurns =
-    (t : Functions) (fs : List Funclet) (program : LinearProgram) (p : Plan) (s : State) (at : ℕ) (r : DispatchRecord) (is : List StackItem) (acts : List Activation)
+    (t : Functions) (fs : List Funclet) (program : LinearProgram) (p : Plan) (s : State) (at : ℕ)
+    (r : DispatchRecord) (is : List StackItem) (acts : List Activation)
     (exception : Exception) (resumption : Resumption) (found : List Handler) (c : Configuration)
-    → IsSearching t fs program p s at r is acts exception found c → p.resumes resumption c.frame r.saved ≡ true
-    → FilterBegins t fs program p s at r (arrived t fs (searches_on t s at r)) found exception resumption is acts c
-    ⊎ (TakesOver t fs program p s at r (arrived t fs (searches_on t s at r)) found exception resumption (context_of r.saved) is c
-    ⊎ NobodyTakesOver t fs program p (arrived t fs (searches_on t s at r)) found exception resumption c)
+    → IsSearching t fs program p s at r is acts exception found c
+    → p.resumes resumption c.frame r.saved ≡ true
+    → FilterBegins t fs program p s at r
+    (arrived t fs (searches_on t s at r)) found exception resumption is acts c
+    ⊎ (TakesOver t fs program p s at r
+    (arrived t fs (searches_on t s at r)) found exception resumption (context_of r.saved) is c
+    ⊎ NobodyTakesOver t fs program p (arrived t fs (searches_on t s at r)) found exception
+    resumption c)
 
 -- an unwinding's record stands for a target of the list, from a row of its first body on
-pub record IsUnwinding (t : Functions) (fs : List Funclet) (program : LinearProgram) (p : Plan) (s : State) (at : ℕ) (r : DispatchRecord) (is : List StackItem) (w : Unwound) : Type 0 where
+pub record IsUnwinding (t : Functions) (fs : List Funclet) (program : LinearProgram) (p : Plan)
+    (s : State) (at : ℕ) (r : DispatchRecord) (is : List StackItem) (w : Unwound) : Type 0 where
   pub gives : Gives t fs program p
   pub sane : IsSane s
   pub on : On t fs program p s.memory r.walk is w.items w.acts
@@ -51,11 +61,14 @@ pub record IsUnwinding (t : Functions) (fs : List Funclet) (program : LinearProg
   pub purpose : HasPurpose t fs program p w.target.code r
   pub room : HasRoom s.memory at r (rsp r.walk)
   pub at_row : IsAtRow t fs program p r.row w.items w.left
-  pub aimed : Aimed t fs program p w.target.depth w.target.label r.target_frame r.target r.walk is w.items
+  pub aimed : Aimed t fs program p w.target.depth w.target.label r.target_frame r.target r.walk is
+      w.items
   pub space : HasSpace at (below_end + record_room) (length w.acts + w.target.held)
 
 abbrev pub UnwindTurns : Type 0
 UnwindTurns =
-    (t : Functions) (fs : List Funclet) (program : LinearProgram) (p : Plan) (s : State) (at : ℕ) (r : DispatchRecord) (is : List StackItem) (w : Unwound)
+    (t : Functions) (fs : List Funclet) (program : LinearProgram) (p : Plan) (s : State) (at : ℕ)
+    (r : DispatchRecord) (is : List StackItem) (w : Unwound)
     → IsUnwinding t fs program p s at r is w
-    → BlockBegins t fs program p s r (arrived t fs (unwinds_on t s at r)) w ⊎ LandsThere t fs program p s r (arrived t fs (unwinds_on t s at r)) w
+    → BlockBegins t fs program p s r (arrived t fs (unwinds_on t s at r)) w
+    ⊎ LandsThere t fs program p s r (arrived t fs (unwinds_on t s at r)) w

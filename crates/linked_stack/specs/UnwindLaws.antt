@@ -21,8 +21,20 @@ use Rattle.linked_stack.specs.Unwinding.{store_of, UnwoundAs}
 -- to a target in the list, from a row of the first body on or from its first one
 abbrev pub UnwindingIsTheLists : Type 0
 UnwindingIsTheLists =
-    (t : Functions) (fs : List Funclet) (program : LinearProgram) (p : Plan) (m : Memory) (c : Context) (is : List StackItem) (items : List Item) (acts : List Activation) (row : ℕ) (left : Option (List Region))
+    (t : Functions) (fs : List Funclet) (program : LinearProgram) (p : Plan) (m : Memory)
+    (c : Context) (is : List StackItem) (items : List Item) (acts : List Activation) (row : ℕ)
+    (left : Option (List Region))
     (target : Target) (frame address : ℕ) (source : Memory) (events : List Event) (n : ℕ)
-    → StandsIn t fs program p m c is items acts → IsAtRow t fs program p row items left → Aimed t fs program p target.depth target.label frame address c is items → length is < n
-    → UnwoundAs t fs program p m (record { target = target; frame = frame; address = address; low = rsp c; depth = length acts + target.held; source = source; events = events })
-    (hosts.unwind n t m frame address (state c row)) (λ then. linear.unwind program then target items left events (store_of source acts))
+    → StandsIn t fs program p m c is items acts → IsAtRow t fs program p row items left
+    → Aimed t fs program p target.depth target.label frame address c is items → length is < n
+    → UnwoundAs t fs program p m (record {
+      target = target;
+      frame = frame;
+      address = address;
+      low = rsp c;
+      depth = length acts + target.held;
+      source = source;
+      events = events;
+    })
+    (hosts.unwind n t m frame address (state c row))
+    (λ then. linear.unwind program then target items left events (store_of source acts))

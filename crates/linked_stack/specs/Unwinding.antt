@@ -1,4 +1,5 @@
--- What an unwinding of the host comes to, against that of linear code: the same `__finally` block, or the same landing.
+-- What an unwinding of the host comes to, against that of linear code: the same `__finally` block,
+-- or the same landing.
 use Rattle.std.specs.Prelude.{◌≡◌, ◌⊎◌, ℕ, ◌+◌, ◌≤◌, true, List, [], ◌∷◌, length, Some}
 use Rattle.seh_num.specs.declared.event.Event.{Event}
 use Rattle.flat_memory.specs.Memory.{Memory}
@@ -25,9 +26,12 @@ store_of source acts = record { memory = source; activations = locals_of acts }
 
 -- a body on top of what waits
 abbrev pub on_top : Frame → List Item → Memory → List Activation → List Event → Configuration
-on_top b below source acts events = record { frame = b; below = below; store = store_of source acts; events = events }
+on_top b below source acts events =
+    record { frame = b; below = below; store = store_of source acts; events = events }
 
--- where an unwinding goes, and on what: its frame and the address where it lands, the lowest stack pointer, the depth where it begins, which is that of its activations with what is held, the source's memory and the events so far
+-- where an unwinding goes, and on what: its frame and the address where it lands, the lowest stack
+-- pointer, the depth where it begins, which is that of its activations with what is held, the
+-- source's memory and the events so far
 pub record Course : Type 0 where
   pub target : Target
   pub frame : ℕ
@@ -38,8 +42,10 @@ pub record Course : Type 0 where
   pub events : List Event
 
 module _ (t : Functions) (fs : List Funclet) (program : LinearProgram) (p : Plan) where
-  -- a `__finally` block of a body runs: the body waits with the regions that are left, and the target lies ahead, with what is held for the activations that were left
-  pub record RunsBlock (m : Memory) (course : Course) (u : UnwindResult) (seen : Next → Seen) : Type 0 where
+  -- a `__finally` block of a body runs: the body waits with the regions that are left, and the
+  -- target lies ahead, with what is held for the activations that were left
+  pub record RunsBlock (m : Memory) (course : Course) (u : UnwindResult)
+      (seen : Next → Seen) : Type 0 where
     pub block : ℕ
     pub held : ℕ
     pub more : course.target.held ≤ held
@@ -54,19 +60,24 @@ module _ (t : Functions) (fs : List Funclet) (program : LinearProgram) (p : Plan
     pub answer : u ≡ unwinds.Finally (p.funclet block) (rsp to) row to
     pub goes :
         (then : Next) → seen then
-        ≡ run_finally program block true held (Unwinds left (record course.target { held = held }) ∷ Waits body ∷ below) then (on_top body below course.source acts course.events)
+        ≡ run_finally program block true held
+        (Unwinds left (record course.target { held = held }) ∷ Waits body ∷ below)
+        then (on_top body below course.source acts course.events)
     pub stack : IsStack t m to is
     pub linked : Linked t fs program p m to is (Waits body ∷ below) acts
     pub at_row : IsAtRow t fs program p row (Waits body ∷ below) (Some left)
-    pub aimed : Aimed t fs program p course.target.depth course.target.label course.frame course.address to is (Waits body ∷ below)
+    pub aimed : Aimed t fs program p course.target.depth course.target.label course.frame
+        course.address to is (Waits body ∷ below)
     pub reaches : Reaches t fs program p m body.body (rsp to) body.activation acts
     pub funclet : IsFunclet t fs program p body.body block
-    pub named : (cpu : Cpu) → arrivals cpu (distance t.base (p.funclet block)) 1 fs ≡ by_kind cpu (block + 1) true ∷ []
+    pub named : (cpu : Cpu) → arrivals cpu (distance t.base (p.funclet block)) 1 fs
+        ≡ by_kind cpu (block + 1) true ∷ []
     pub above : course.low ≤ rsp to
     pub kept : CanBeKept (rsp to) row to
 
   -- the unwinding lands in a body, which goes on
-  pub record Lands (m : Memory) (course : Course) (u : UnwindResult) (seen : Next → Seen) : Type 0 where
+  pub record Lands (m : Memory) (course : Course) (u : UnwindResult)
+      (seen : Next → Seen) : Type 0 where
     pub held : ℕ
     pub more : course.target.held ≤ held
     pub body : Frame
@@ -77,7 +88,8 @@ module _ (t : Functions) (fs : List Funclet) (program : LinearProgram) (p : Plan
     pub acts : List Activation
     pub counted : length acts + held ≡ course.depth
     pub answer : u ≡ unwinds.Land to
-    pub goes : (then : Next) → seen then ≡ arrive (record course.target { held = held }) course.target.code then (on_top body below course.source acts course.events)
+    pub goes : (then : Next) → seen then ≡ arrive (record course.target { held = held })
+        course.target.code then (on_top body below course.source acts course.events)
     pub stack : IsStack t m to (Framed framed ∷ is)
     pub linked : Linked t fs program p m to (Framed framed ∷ is) (Waits body ∷ below) acts
     pub at_frame : course.frame ≡ rsp to

@@ -48,7 +48,9 @@ pub record Unwound : Type 0 where
   pub shown : List Event
 
 module _ (t : Functions) (fs : List Funclet) (program : LinearProgram) (p : Plan) where
-  -- a `__finally` block of a body begins, unless linear code is too deep; each activation that was left is held by the target; the record in the stack has come to that body's frame, from which the list stands
+  -- a `__finally` block of a body begins, unless linear code is too deep; each activation that was
+  -- left is held by the target; the record in the stack has come to that body's frame, from which
+  -- the list stands
   pub record BlockBegins (s : State) (r : DispatchRecord) (turn : Turn) (w : Unwound) : Type 0 where
     pub block : ℕ
     pub held : ℕ
@@ -61,16 +63,22 @@ module _ (t : Functions) (fs : List Funclet) (program : LinearProgram) (p : Plan
     pub state : State
     pub turns : turn ≡ Continues state (events.Finally (block + 1) true ∷ [])
     pub goes :
-        (next : Next) → linear.unwind program next w.target w.items w.left w.shown (store_of w.source w.acts)
-        ≡ run_finally program block true held (Unwinds rest (record w.target { held = held }) ∷ Waits body ∷ below) next (on_top body below w.source outer w.shown)
-    pub arrives : Arrives t fs program p state block body.activation 1 (Unwinds rest (record w.target { held = held }) ∷ Waits body ∷ below) outer
+        (next : Next) → linear.unwind program next w.target w.items w.left w.shown
+        (store_of w.source w.acts)
+        ≡ run_finally program block true held
+        (Unwinds rest (record w.target { held = held }) ∷ Waits body ∷ below) next
+        (on_top body below w.source outer w.shown)
+    pub arrives : Arrives t fs program p state block body.activation 1
+        (Unwinds rest (record w.target { held = held }) ∷ Waits body ∷ below) outer
     pub untouched : IsUntouched s.memory state.memory
-    pub named : arrivals state.cpu (distance t.base state.cpu.rip) 1 fs ≡ events.Finally (block + 1) true ∷ []
+    pub named : arrivals state.cpu (distance t.base state.cpu.rip) 1 fs
+        ≡ events.Finally (block + 1) true ∷ []
     pub to : Context
     pub row : ℕ
     pub inner : List StackItem
     pub hand : DispatchRecord
-    pub answer : unwind steps t s.memory r.target_frame r.target (walk_in r) ≡ results.Finally (p.funclet block) (rsp to) row to
+    pub answer : unwind steps t s.memory r.target_frame r.target (walk_in r)
+        ≡ results.Finally (p.funclet block) (rsp to) row to
     pub stack : IsStack t s.memory to inner
     pub list : arrives.is ≡ Unwinding hand ∷ inner
     pub same_walk : hand.walk ≡ to
@@ -88,10 +96,13 @@ module _ (t : Functions) (fs : List Funclet) (program : LinearProgram) (p : Plan
     pub outer : List Activation
     pub answer : unwind steps t s.memory r.target_frame r.target (walk_in r) ≡ results.Land to
     pub quiet : (cpu : Cpu) → arrivals cpu (distance t.base r.target) 1 fs ≡ []
-    pub turns : turn ≡ Continues (at_landing s to (landing_value w.target.code) r.target) (landing_events w.target.code)
+    pub turns : turn ≡ Continues (at_landing s to (landing_value w.target.code) r.target)
+        (landing_events w.target.code)
     pub goes :
-        (next : Next) → linear.unwind program next w.target w.items w.left w.shown (store_of w.source w.acts)
-        ≡ arrive (record w.target { held = held }) w.target.code next (on_top body below w.source outer w.shown)
+        (next : Next) → linear.unwind program next w.target w.items w.left w.shown
+        (store_of w.source w.acts)
+        ≡ arrive (record w.target { held = held }) w.target.code next
+        (on_top body below w.source outer w.shown)
     pub at_frame : r.target_frame ≡ rsp to
     pub at_address : r.target ≡ p.address body.body w.target.label
     pub lands : p.lands body.body w.target.label ≡ true

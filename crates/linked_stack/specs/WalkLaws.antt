@@ -30,33 +30,40 @@ LeafIsVisited =
 
 abbrev pub SearchIsPassed : Type 0
 SearchIsPassed =
-    (t : Functions) (m : Memory) (c : Context) (row : ℕ) (r : DispatchRecord) → Stands t m c (Searching r)
+    (t : Functions) (m : Memory) (c : Context) (row : ℕ) (r : DispatchRecord)
+    → Stands t m c (Searching r)
     → visited t m (state c row) ≡ walk.Past (saved_in r)
 
 abbrev pub UnwindingIsPassed : Type 0
 UnwindingIsPassed =
-    (t : Functions) (m : Memory) (c : Context) (row : ℕ) (r : DispatchRecord) → Stands t m c (Unwinding r)
+    (t : Functions) (m : Memory) (c : Context) (row : ℕ) (r : DispatchRecord)
+    → Stands t m c (Unwinding r)
     → visited t m (state c row) ≡ walk.Past (walk_in r)
 
 abbrev pub StackIsOver : Type 0
-StackIsOver = (t : Functions) (m : Memory) (c : Context) (row : ℕ) → IsStack t m c [] → visited t m (state c row) ≡ walk.Over
+StackIsOver =
+    (t : Functions) (m : Memory) (c : Context) (row : ℕ) → IsStack t m c []
+    → visited t m (state c row) ≡ walk.Over
 
 -- ---- what keeps a stack
 
 -- other bytes may change
 abbrev pub KeptByOtherStores : Type 0
 KeptByOtherStores =
-    (t : Functions) (m : Memory) (byte : ℕ → ℕ) (c : Context) (is : List StackItem) → Agree m byte (Owned c is)
+    (t : Functions) (m : Memory) (byte : ℕ → ℕ) (c : Context) (is : List StackItem)
+    → Agree m byte (Owned c is)
     → IsStack t m c is → IsStack t (with_bytes m byte) c is
 
 abbrev pub NothingBelowIsOwned : Type 0
 NothingBelowIsOwned =
-    (t : Functions) (m : Memory) (c : Context) (is : List StackItem) (a : ℕ) → IsStack t m c is → a < rsp c → Owned c is a → ⊥
+    (t : Functions) (m : Memory) (c : Context) (is : List StackItem) (a : ℕ) → IsStack t m c is
+    → a < rsp c → Owned c is a → ⊥
 
 -- the slots of a frame aren't owned, wherever it stands in the list
 abbrev pub SlotsAreFree : Type 0
 SlotsAreFree =
-    (t : Functions) (m : Memory) (c : Context) (inner : List StackItem) (f : StackFrame) (outer : List StackItem) (a : ℕ)
+    (t : Functions) (m : Memory) (c : Context) (inner : List StackItem) (f : StackFrame)
+    (outer : List StackItem) (a : ℕ)
     → IsStack t m c (inner ++ (Framed f ∷ outer))
     → IsWithin a (rsp (context_at c inner)) (rsp (context_at c inner) + f.size)
     → Owned c (inner ++ (Framed f ∷ outer)) a → ⊥
@@ -74,11 +81,14 @@ pub record CanBePlaced (m : Memory) (at : ℕ) (r : DispatchRecord) (above : Con
   pub small : rsp above < 2 ^ 64
   pub bytes : AreBytes m.byte
   pub readable : first_refused (may_read m) RECORD_SIZE at ≡ None
-  pub not_code : (x : ℕ) → IsWithin x (at + 32) (at + RECORD_SIZE) → (m.protection x).execute ≡ false
+  pub not_code : (x : ℕ) → IsWithin x (at + 32) (at + RECORD_SIZE)
+      → (m.protection x).execute ≡ false
 
-pub record RecordsAreItems (t : Functions) (m : Memory) (is : List StackItem) (r : DispatchRecord) (at : ℕ) (others : List ℕ) : Type 0 where
+pub record RecordsAreItems (t : Functions) (m : Memory) (is : List StackItem) (r : DispatchRecord)
+    (at : ℕ) (others : List ℕ) : Type 0 where
   pub search :
-      is_search r.kind ≡ true → CanBePlaced m at r (context_of r.saved) → IsStack t m (context_of r.saved) is
+      is_search r.kind ≡ true → CanBePlaced m at r (context_of r.saved)
+      → IsStack t m (context_of r.saved) is
       → IsStack t (placed m at r) (context_below filter_return at others) (Searching r ∷ is)
   pub unwinding :
       is_search r.kind ≡ false → CanBePlaced m at r r.walk → IsStack t m r.walk is
@@ -86,16 +96,19 @@ pub record RecordsAreItems (t : Functions) (m : Memory) (is : List StackItem) (r
 
 abbrev pub RecordIsOneMore : Type 0
 RecordIsOneMore =
-    (t : Functions) (m : Memory) (is : List StackItem) (r : DispatchRecord) (at : ℕ) (others : List ℕ) → RecordsAreItems t m is r at others
+    (t : Functions) (m : Memory) (is : List StackItem) (r : DispatchRecord) (at : ℕ)
+    (others : List ℕ) → RecordsAreItems t m is r at others
 
 -- ---- searches and unwindings are those of the list
 
 abbrev pub SearchIsOfTheList : Type 0
 SearchIsOfTheList =
-    (t : Functions) (m : Memory) (c : Context) (row : ℕ) (is : List StackItem) (n : ℕ) → IsStack t m c is → length is < n
+    (t : Functions) (m : Memory) (c : Context) (row : ℕ) (is : List StackItem) (n : ℕ)
+    → IsStack t m c is → length is < n
     → search n t m (state c row) ≡ plain_search t c row is
 
 abbrev pub UnwindingIsOfTheList : Type 0
 UnwindingIsOfTheList =
-    (t : Functions) (m : Memory) (frame target : ℕ) (c : Context) (row : ℕ) (is : List StackItem) (n : ℕ) → IsStack t m c is → length is < n
+    (t : Functions) (m : Memory) (frame target : ℕ) (c : Context) (row : ℕ) (is : List StackItem)
+    (n : ℕ) → IsStack t m c is → length is < n
     → unwind n t m frame target (state c row) ≡ plain_unwind t frame target c row is

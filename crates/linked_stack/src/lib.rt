@@ -1,7 +1,7 @@
-//! The list of what waits in linear code against the machine's stack: frames, suspended searches and
-//! suspended unwindings, one by one. A walk over the stack visits the list; a record that is laid below
-//! it makes it one item longer; and each turn of the dispatcher does what linear code does. Begin
-//! reading with `specs/Stack` and `specs/Linked`, then the laws.
+//! The list of what waits in linear code against the machine's stack: frames, suspended searches
+//! and suspended unwindings, one by one. A walk over the stack visits the list; a record that is
+//! laid below it makes it one item longer; and each turn of the dispatcher does what linear code
+//! does. Begin reading with `specs/Stack` and `specs/Linked`, then the laws.
 #![tactic(auto)]
 
 pub mod list_laws;

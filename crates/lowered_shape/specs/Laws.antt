@@ -19,14 +19,19 @@ LoweredHasRegions = (p : Program) → HasRegions (lowered p)
 abbrev pub LoweredNamesFunclets : Type 0
 LoweredNamesFunclets = (p : Program) → IsSound p → NamesFunclets (lowered p)
 
--- the image of a sound program: one row for each `__try`, as many without JumpTarget as there are `__finally` blocks, as many with HandlerAddress 1 as there are filters that always accept; the other handler addresses are all different, and each is the first byte of an entry (`shape`, with `names`)
+-- the image of a sound program: one row for each `__try`, as many without JumpTarget as there are
+-- `__finally` blocks, as many with HandlerAddress 1 as there are filters that always accept; the
+-- other handler addresses are all different, and each is the first byte of an entry (`shape`, with
+-- `names`)
 pub record IsShaped (p : Program) : Type 0 where
   pub shape : HasShape (lowered p)
   -- each filter and `__finally` block is there, and is named by one region
   pub names : NamesFunclets (lowered p)
   pub tries : length (rows_of (entries (lowered p))) ≡ length (all_tries p)
-  pub finally : count_by is_finally_row (rows_of (entries (lowered p))) ≡ count_by finishes (all_tries p)
-  pub always : count_by is_always_row (rows_of (entries (lowered p))) ≡ count_by accepts (all_tries p)
+  pub finally : count_by is_finally_row (rows_of (entries (lowered p)))
+      ≡ count_by finishes (all_tries p)
+  pub always : count_by is_always_row (rows_of (entries (lowered p)))
+      ≡ count_by accepts (all_tries p)
   pub handlers : AreDifferent (handlers (rows_of (entries (lowered p))))
 
 abbrev pub LoweredIsShaped : Type 0

@@ -3,7 +3,8 @@ use Rattle.std.specs.Prelude.{ℕ, Bool, true, false, List, [], ◌∷◌, ◌++
 use Rattle.c_checked.specs.Statement.{Filter, Always, Funclet, Statement, Declare, Block, Evaluate, If, IfElse, For, DoWhile, Return, Break, Continue, Leave, TryExcept, TryFinally, Statements, Empty, Then}
 use Rattle.c_checked.specs.Program.{Function, Program}
 
--- one with an `__except` block, whose filter always accepts or has a number, or one with a `__finally` block of a number
+-- one with an `__except` block, whose filter always accepts or has a number, or one with a
+-- `__finally` block of a number
 pub data Try : Type 0 where
   Accepts : Try
   Asks : ℕ → Try

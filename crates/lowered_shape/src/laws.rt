@@ -2,8 +2,8 @@
 
 ghost use Rattle.lowered_shape.specs.Laws.{LoweredHasRegions, LoweredNamesFunclets, LoweredIsShaped};
 
-/// Each region of a body is a range of its instructions. Each filter and `__finally` block is named by
-/// one region.
+/// Each region of a body is a range of its instructions. Each filter and `__finally` block is named
+/// by one region.
 pub fn regions()
     ensures ranges { LoweredHasRegions }
     ensures funclets { LoweredNamesFunclets }

@@ -2,14 +2,16 @@
 use Rattle.std.specs.Prelude.{◌≡◌, ℕ, ◌+◌, ◌-◌, ◌%◌, ◌≤◌, bit_and, Bool, true, false, not, ◌&&◌, ◌==◌, nat_lt, nat_le, List, [], ◌∷◌, length, take, drop, Option, Some, None}
 use Rattle.pe_image.specs.declared.directory.DataDirectory.{DataDirectory}
 
--- a section: where it lies from the image base on, how many bytes it takes there, those that the file stores of it from its front on (the others are 0), and its characteristics
+-- a section: where it lies from the image base on, how many bytes it takes there, those that the
+-- file stores of it from its front on (the others are 0), and its characteristics
 pub record Section : Type 0 where
   pub address : ℕ
   pub size : ℕ
   pub raw : List ℕ
   pub flags : ℕ
 
--- an image: its base, its entry point, its size, its sections in their order, and two of its directories
+-- an image: its base, its entry point, its size, its sections in their order, and two of its
+-- directories
 pub record Image : Type 0 where
   pub base : ℕ
   pub entry : ℕ  -- relative to the base, as are all addresses of sections and directories
@@ -37,10 +39,13 @@ is_readable s = has_flag 0xE0000000 s
 
 -- ---- the order of sections
 
--- each section begins with a page, at or above the end of the one before, and what is stored of it lies within its size
+-- each section begins with a page, at or above the end of the one before, and what is stored of it
+-- lies within its size
 abbrev pub AreAscending : ℕ → List Section → Type 0
 AreAscending end [] = Unit {0}
-AreAscending end (s ∷ ss) = (end ≤ s.address) × (s.address % 4096 ≡ 0) × (length s.raw ≤ s.size) × AreAscending (s.address + s.size) ss
+AreAscending end (s ∷ ss) =
+    (end ≤ s.address) × (s.address % 4096 ≡ 0) × (length s.raw ≤ s.size)
+    × AreAscending (s.address + s.size) ss
 
 -- ---- what is stored
 

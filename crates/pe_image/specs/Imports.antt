@@ -1,4 +1,6 @@
--- What an image imports (PE format, "The .idata Section"): its libraries in their order, and the names of each in theirs. Each definition answers what it reads, or refuses the import at which it can't go on, by its index over all libraries.
+-- What an image imports (PE format, "The .idata Section"): its libraries in their order, and the
+-- names of each in theirs. Each definition answers what it reads, or refuses the import at which it
+-- can't go on, by its index over all libraries.
 use Rattle.std.specs.Prelude.{ℕ, zero, suc, ◌+◌, ◌^◌, Bool, true, false, ◌&&◌, ◌==◌, nat_lt, nat_le, List, [], length, take, drop, position, option_map, option_and_then, Option, Some, None, Result, Ok, Err}
 use Rattle.byteorder.specs.Endian.{little_number}
 use Rattle.pe_image.specs.declared.directory.DataDirectory.{DataDirectory}
@@ -40,7 +42,8 @@ unless_ordinal import false = None
 
 abbrev pub import_at : List Section → ℕ → ℕ → Option Import
 import_at ss slot entry =
-    unless_ordinal (option_and_then (λ name. option_and_then (with_slot slot name) (stored ss slot 8)) (name_at ss entry)) (nat_lt entry (2 ^ 63))
+    unless_ordinal (option_and_then (λ name. option_and_then (with_slot slot name)
+    (stored ss slot 8)) (name_at ss entry)) (nat_lt entry (2 ^ 63))
 
 -- ---- one library
 
@@ -48,13 +51,15 @@ import_at ss slot entry =
 abbrev pub max_count : ℕ
 max_count = 4294967296
 
-abbrev pub next_entry : List Section → ℕ → ℕ → Result (List Import) ImageErr → ℕ → Result (List Import) ImageErr
+abbrev pub next_entry : List Section → ℕ → ℕ → Result (List Import) ImageErr → ℕ
+    → Result (List Import) ImageErr
 next_entry ss index slot others zero = Ok []
 next_entry ss index slot others (suc k) = do
   i ← or_refused (import_at ss slot (suc k)) (refusals.ImportBad index)
   prepend i others
 
--- the entries from a place in the lookup table on, with their slots in the address table. An entry of 0 ends them
+-- the entries from a place in the lookup table on, with their slots in the address table. An entry
+-- of 0 ends them
 unfoldable pub library : ℕ → List Section → ℕ → ℕ → ℕ → Result (List Import) ImageErr
 library zero ss index look slot = Err (refusals.ImportBad index)
 library (suc n) ss index look slot = do
@@ -63,9 +68,12 @@ library (suc n) ss index look slot = do
 
 -- ---- all libraries
 
--- a descriptor: lookup table, two fields that aren't read, the library's name, and the address table
+-- a descriptor: lookup table, two fields that aren't read, the library's name, and the address
+-- table
 abbrev pub is_zero : List ℕ → Bool
-is_zero d = (field 4 d 0 == 0) && (field 4 d 4 == 0) && (field 4 d 8 == 0) && (field 4 d 12 == 0) && (field 4 d 16 == 0)
+is_zero d =
+    (field 4 d 0 == 0) && (field 4 d 4 == 0) && (field 4 d 8 == 0) && (field 4 d 12 == 0) &&
+    (field 4 d 16 == 0)
 
 -- a lookup table at 0 means the address table
 abbrev pub lookups : ℕ → ℕ → ℕ
@@ -73,9 +81,11 @@ lookups zero slots = slots
 lookups (suc k) slots = suc k
 
 abbrev pub entries_of : List Section → ℕ → List ℕ → Result (List Import) ImageErr
-entries_of ss index d = library max_count ss index (lookups (field 4 d 0) (field 4 d 16)) (field 4 d 16)
+entries_of ss index d =
+    library max_count ss index (lookups (field 4 d 0) (field 4 d 16)) (field 4 d 16)
 
-abbrev pub next_library : (List Import → Result (List Import) ImageErr) → Result (List Import) ImageErr → Bool → Result (List Import) ImageErr
+abbrev pub next_library : (List Import → Result (List Import) ImageErr)
+    → Result (List Import) ImageErr → Bool → Result (List Import) ImageErr
 next_library others these true = Ok []
 next_library others these false = do
   xs ← these
@@ -86,7 +96,8 @@ unfoldable pub libraries : ℕ → List Section → ℕ → ℕ → Result (List
 libraries zero ss index at = Err (refusals.ImportBad index)
 libraries (suc n) ss index at = do
   d ← or_refused (stored ss at 20) (refusals.ImportBad index)
-  next_library (λ xs. libraries n ss (index + length xs) (at + 20)) (entries_of ss index d) (is_zero d)
+  next_library (λ xs. libraries n ss (index + length xs) (at + 20)) (entries_of ss index d)
+      (is_zero d)
 
 -- an import directory of size 0 is none
 abbrev pub unless_none : Result (List Import) ImageErr → Bool → Result (List Import) ImageErr

@@ -63,17 +63,23 @@ abbrev pub file_header : List ℕ → Result Unit ImageErr
 file_header bytes = do
   _ ← unless (is_there bytes 0 DOS_HEADER_SIZE) (refusals.Truncated 0)
   _ ← unless (field 2 bytes 0 == DOS_SIGNATURE) (refusals.NotPe 0)
-  _ ← unless (is_there bytes (signature_at bytes) FILE_HEADER_SIZE) (refusals.Truncated (signature_at bytes))
-  _ ← unless (field 4 bytes (signature_at bytes) == PE_SIGNATURE) (refusals.NotPe (signature_at bytes))
+  _ ← unless (is_there bytes (signature_at bytes) FILE_HEADER_SIZE)
+      (refusals.Truncated (signature_at bytes))
+  _ ← unless (field 4 bytes (signature_at bytes) == PE_SIGNATURE)
+      (refusals.NotPe (signature_at bytes))
   unless (machine bytes == MACHINE_X64) (refusals.Machine (machine bytes))
 
 -- then the optional header and the section table
 abbrev pub optional_header : List ℕ → Result Unit ImageErr
 optional_header bytes = do
-  _ ← unless (is_there bytes (optional_at bytes) DIRECTORIES && nat_le DIRECTORIES (optional_size bytes)) (refusals.Truncated (optional_at bytes))
+  _ ← unless (is_there bytes (optional_at bytes) DIRECTORIES && nat_le DIRECTORIES
+      (optional_size bytes)) (refusals.Truncated (optional_at bytes))
   _ ← unless (magic bytes == MAGIC_PE32_PLUS) (refusals.Magic (magic bytes))
-  _ ← unless (nat_le (DIRECTORIES + directories_size bytes) (optional_size bytes) && is_there bytes (directories_at bytes) (directories_size bytes)) (refusals.Truncated (directories_at bytes))
-  unless (is_there bytes (sections_at bytes) (sections_size bytes)) (refusals.Truncated (sections_at bytes))
+  _ ← unless (nat_le (DIRECTORIES + directories_size bytes) (optional_size bytes) && is_there bytes
+      (directories_at bytes) (directories_size bytes))
+      (refusals.Truncated (directories_at bytes))
+  unless (is_there bytes (sections_at bytes) (sections_size bytes))
+      (refusals.Truncated (sections_at bytes))
 
 unfoldable pub headers : List ℕ → Result Unit ImageErr
 headers bytes = do
@@ -90,7 +96,10 @@ pub record HasHeaders (bytes : List ℕ) : Type 0 where
 abbrev pub directory : List ℕ → ℕ → DataDirectory
 directory bytes k =
     if nat_lt k (directory_count bytes)
-    then record { rva = field 4 bytes (directories_at bytes + DIRECTORY_SIZE * k); size = field 4 bytes (directories_at bytes + DIRECTORY_SIZE * k + 4) }
+    then record {
+      rva = field 4 bytes (directories_at bytes + DIRECTORY_SIZE * k);
+      size = field 4 bytes (directories_at bytes + DIRECTORY_SIZE * k + 4);
+    }
     else record { rva = 0; size = 0 }
 
 -- ---- the sections
@@ -117,7 +126,8 @@ headers_from bytes (suc n) at = header_at bytes at ∷ headers_from bytes n (at 
 -- the raw data in the file; pages above the end of the section before and within the image
 abbrev pub is_laid_out : ℕ → ℕ → ℕ → SectionHeader → Bool
 is_laid_out file_size limit end s =
-    ((s.raw_size == 0) || nat_le (s.raw_at + s.raw_size) file_size) && (s.address % PAGE_SIZE == 0) && nat_le end s.address && nat_le (s.address + s.size) limit
+    ((s.raw_size == 0) || nat_le (s.raw_at + s.raw_size) file_size) &&
+    (s.address % PAGE_SIZE == 0) && nat_le end s.address && nat_le (s.address + s.size) limit
 
 -- section by section, from an index on and after an end
 abbrev pub all_laid_out : ℕ → ℕ → ℕ → ℕ → List SectionHeader → Result Unit ImageErr
@@ -128,7 +138,13 @@ all_laid_out file_size limit index end (s ∷ ss) = do
 
 -- what is stored of a section lies below its size
 abbrev pub section_of : List ℕ → SectionHeader → Section
-section_of bytes s = record { address = s.address; size = s.size; raw = take (min s.size s.raw_size) (drop s.raw_at bytes); flags = s.flags }
+section_of bytes s =
+    record {
+      address = s.address;
+      size = s.size;
+      raw = take (min s.size s.raw_size) (drop s.raw_at bytes);
+      flags = s.flags;
+    }
 
 abbrev pub sections_of : List ℕ → ℕ → List SectionHeader → Result (List Section) ImageErr
 sections_of bytes limit hs = do
@@ -155,7 +171,8 @@ image_with bytes sections = record {
 unfoldable pub outline : List ℕ → Result Image ImageErr
 outline bytes = do
   _ ← headers bytes
-  sections ← sections_of bytes (image_end bytes) (headers_from bytes (section_count bytes) (sections_at bytes))
+  sections ← sections_of bytes (image_end bytes)
+      (headers_from bytes (section_count bytes) (sections_at bytes))
   Ok (image_with bytes sections)
 
 -- whose imports can be read

@@ -17,7 +17,8 @@ use std::alloc::Global;
 /// A section header (PE format, "Section Table").
 #[derive(Clone, Copy, Debug)]
 pub struct SectionHeader {
-    /// How many bytes the section takes in the image: VirtualSize, or SizeOfRawData where that is 0.
+    /// How many bytes the section takes in the image: VirtualSize, or SizeOfRawData where that is
+    /// 0.
     pub size: u32,
     /// Where it lies in the image.
     pub address: u32,

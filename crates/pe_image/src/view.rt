@@ -61,9 +61,9 @@ impl<'a> Model for ImageView<'a> {
 impl<'a> ImageView<'a> {
     /// Reads the bytes of a file. The checks of the headers come first, from the front, and then
     /// those of each section: its raw data lies in the file, and it begins on a page, at or above
-    /// the end of the section before, and ends within SizeOfImage rounded up to whole pages. Last come
-    /// the imports, library by library: none is by ordinal, and its descriptor, its entry in the
-    /// lookup table, its name and its slot are each stored whole in one section.
+    /// the end of the section before, and ends within SizeOfImage rounded up to whole pages. Last
+    /// come the imports, library by library: none is by ordinal, and its descriptor, its entry in
+    /// the lookup table, its name and its slot are each stored whole in one section.
     pub fn read(alloc: Global, bytes: &'a [u8]) -> Result<ImageView<'a>, ImageErr>
         ensures image { IfOk result (λ view. IsImage bytes.now view) }
         ensures refusal { IfErr result (λ e. IsRefused bytes.now e) }
@@ -149,8 +149,8 @@ impl<'a> ImageView<'a> {
         &self.sections
     }
 
-    /// The bytes of a range, where all of them are stored in one section, below its size. A range of
-    /// no bytes is stored everywhere.
+    /// The bytes of a range, where all of them are stored in one section, below its size. A range
+    /// of no bytes is stored everywhere.
     pub fn bytes(&self, rva: u64, len: u64) -> Option<&'a [u8]>
         ensures { option_map (λ b. b.now) result ≡ stored self.now.sections rva len }
     {

@@ -1,4 +1,6 @@
--- The tables of `.rdata` by which a written image imports the services of its host (PE format, "The .idata Section"): one library, whose names have no hints. All addresses are relative to the image base.
+-- The tables of `.rdata` by which a written image imports the services of its host (PE format, "The
+-- .idata Section"): one library, whose names have no hints. All addresses are relative to the image
+-- base.
 use Rattle.std.specs.Prelude.{ℕ, ◌+◌, ◌%◌, List, [], ◌∷◌, ◌++◌, length, codes}
 use Rattle.std.specs.List.{flat_map}
 use Rattle.host_layout.specs.declared.name.TheConstants as names

@@ -11,7 +11,8 @@ use Rattle.pe_image.specs.Imports as importing
 
 -- ---- what is written
 
--- a section: a name of eight bytes, its characteristics, how many bytes it takes in the image, and those that the file stores of it
+-- a section: a name of eight bytes, its characteristics, how many bytes it takes in the image, and
+-- those that the file stores of it
 pub record SectionParts : Type 0 where
   pub name : List ℕ
   pub flags : ℕ
@@ -44,7 +45,9 @@ pub record PlacedSection : Type 0 where
 -- each section begins on the next page, and its raw data in the next block
 abbrev pub placed : ℕ → ℕ → List SectionParts → List PlacedSection
 placed address raw_at [] = []
-placed address raw_at (s ∷ ss) = record { parts = s; address = address; raw_at = raw_at } ∷ placed (address + pages s.size) (raw_at + raw_size s) ss
+placed address raw_at (s ∷ ss) =
+    record { parts = s; address = address; raw_at = raw_at }
+    ∷ placed (address + pages s.size) (raw_at + raw_size s) ss
 
 -- after the page of the headers and those of the sections
 abbrev pub end_of : List SectionParts → ℕ
@@ -141,7 +144,8 @@ section_table ss = flat_map section_header ss
 
 -- up to 1,024 bytes of headers
 abbrev pub table_of : ImageParts → List ℕ
-table_of image = section_table (placed 0x1000 1024 image.sections) ++ zeros (696 - 40 * length image.sections)
+table_of image =
+    section_table (placed 0x1000 1024 image.sections) ++ zeros (696 - 40 * length image.sections)
 
 unfoldable pub raw_data : SectionParts → List ℕ
 raw_data s = s.bytes ++ zeros (raw_size s - length s.bytes)
@@ -160,7 +164,13 @@ written image =
 
 -- the raw data, cut at the section's size
 abbrev pub section_read : PlacedSection → Section
-section_read s = record { address = s.address; size = s.parts.size; raw = take s.parts.size (raw_data s.parts); flags = s.parts.flags }
+section_read s =
+    record {
+      address = s.address;
+      size = s.parts.size;
+      raw = take s.parts.size (raw_data s.parts);
+      flags = s.parts.flags;
+    }
 
 abbrev pub sections_read : List PlacedSection → List Section
 sections_read [] = []

@@ -61,9 +61,9 @@ impl Model for Image {
 
 impl Image {
     /// The image of a program whose data takes `data_size` bytes, whole pages and at least one, of
-    /// which `data_bytes` are stored and the others are 0; whose code `text` it begins `entry` bytes
-    /// after its front; and whose unwind infos are `xdata` and its function table `pdata`. All
-    /// addresses in it are below 2^32.
+    /// which `data_bytes` are stored and the others are 0; whose code `text` it begins `entry`
+    /// bytes after its front; and whose unwind infos are `xdata` and its function table `pdata`.
+    /// All addresses in it are below 2^32.
     pub fn new(
         data_size: u32,
         data_bytes: Vec<u8>,
@@ -171,10 +171,10 @@ impl Image {
 }
 
 /// The bytes of an image, in the one form in which an image is written: 1,024 bytes of headers, and
-/// the raw data of `.data`, `.text`, `.rdata`, `.xdata` and `.pdata`, each filled up with zeros to a
-/// multiple of 512. `.rdata` has the tables by which it imports the services of its host. They are
-/// read again as the same image, with each service at its slot, and are no more than the image takes in
-/// memory.
+/// the raw data of `.data`, `.text`, `.rdata`, `.xdata` and `.pdata`, each filled up with zeros to
+/// a multiple of 512. `.rdata` has the tables by which it imports the services of its host. They
+/// are read again as the same image, with each service at its slot, and are no more than the image
+/// takes in memory.
 pub fn write(alloc: Global, image: &Image) -> Result<Vec<u8>, AllocError>
     ensures written { IfOk result (λ bytes. bytes.items ≡ written (spec.parts_of image.now)) }
     ensures read_again { IfOk result (λ bytes. IsImage bytes.items (spec.image_of image.now)) }

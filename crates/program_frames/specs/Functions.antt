@@ -1,4 +1,5 @@
--- The routines of a program as functions of the rules: the unwind info, the steps of the prologue, and the instructions after it.
+-- The routines of a program as functions of the rules: the unwind info, the steps of the prologue,
+-- and the instructions after it.
 use Rattle.std.specs.Prelude.{ℕ, ◌+◌, List, [], ◌∷◌, ◌++◌}
 use Rattle.x64_instr.specs.declared.instruction.Instr.{Instr}
 use Rattle.virtual_unwind.specs.Tail.{FetchedInstr}
@@ -25,7 +26,9 @@ plan p x f = plan_of f (distance (x.begin + 10) (check_stack_at (site_of p).text
 
 -- what it does with what it is called with, and its body
 abbrev pub rest_of : LinearProgram → Placed → List Instr
-rest_of p x = argument_code x.routine.layout x.routine.entry ++ code_from (links p x) x.routine.layout (body_begin x) x.routine.body.code
+rest_of p x =
+    argument_code x.routine.layout x.routine.entry
+    ++ code_from (links p x) x.routine.layout (body_begin x) x.routine.body.code
 
 abbrev pub function_of : LinearProgram → Placed → Frame → Function
 function_of p x f = record {

@@ -44,10 +44,17 @@ TextsAreFixed =
 
 -- the frame of a routine's body, with its return address
 abbrev pub stack_frame : LinearProgram → Placed → Frame → ℕ → StackFrame
-stack_frame p x f back = record { entry = entry_of (site_of p) x f; size = f.size; offset = taking_size f.size; return_address = back }
+stack_frame p x f back =
+    record {
+      entry = entry_of (site_of p) x f;
+      size = f.size;
+      offset = taking_size f.size;
+      return_address = back;
+    }
 
 -- what a state must have: the address in the body, room up to the return address, and that address
-pub record IsWaiting (p : LinearProgram) (m : Memory) (x : Placed) (f : Frame) (c : Context) (rva back : ℕ) : Type 0 where
+pub record IsWaiting (p : LinearProgram) (m : Memory) (x : Placed) (f : Frame) (c : Context)
+    (rva back : ℕ) : Type 0 where
   pub text : HasText m p
   pub body : IsInBody p x rva
   pub here : c.rip ≡ image_base + rva
@@ -55,15 +62,19 @@ pub record IsWaiting (p : LinearProgram) (m : Memory) (x : Placed) (f : Frame) (
   pub room : rsp c + f.size + 8 < 2 ^ 64
   pub returns : word m (rsp c + f.size) ≡ Ok back
 
--- at an instruction of its body a routine's frame stands: it has its entry, and is past its prologue and not in an epilogue
+-- at an instruction of its body a routine's frame stands: it has its entry, and is past its
+-- prologue and not in an epilogue
 abbrev pub BodiesStand : Type 0
 BodiesStand =
-    (p : LinearProgram) (m : Memory) (index : ℕ) (x : Placed) (f : Frame) (c : Context) (rva back : ℕ)
-    → FitsProgram p → HasRegions p → slice_get (placed p) index ≡ Some x → x.routine.frame ≡ Some f → IsWaiting p m x f c rva back
+    (p : LinearProgram) (m : Memory) (index : ℕ) (x : Placed) (f : Frame) (c : Context)
+    (rva back : ℕ)
+    → FitsProgram p → HasRegions p → slice_get (placed p) index ≡ Some x → x.routine.frame ≡ Some f
+    → IsWaiting p m x f c rva back
     → FrameStands (functions_in (image_of (linked p))) m c (stack_frame p x f back)
 
 -- the same of a leaf function, which has neither
-pub record IsLeafWaiting (p : LinearProgram) (m : Memory) (x : Placed) (c : Context) (rva back : ℕ) : Type 0 where
+pub record IsLeafWaiting (p : LinearProgram) (m : Memory) (x : Placed) (c : Context)
+    (rva back : ℕ) : Type 0 where
   pub body : IsInBody p x rva
   pub here : c.rip ≡ image_base + rva
   pub kept : length c.kept ≡ 9
@@ -73,7 +84,8 @@ pub record IsLeafWaiting (p : LinearProgram) (m : Memory) (x : Placed) (c : Cont
 abbrev pub LeavesStand : Type 0
 LeavesStand =
     (p : LinearProgram) (m : Memory) (index : ℕ) (x : Placed) (c : Context) (rva back : ℕ)
-    → FitsProgram p → HasRegions p → slice_get (placed p) index ≡ Some x → x.routine.frame ≡ None → IsLeafWaiting p m x c rva back
+    → FitsProgram p → HasRegions p → slice_get (placed p) index ≡ Some x → x.routine.frame ≡ None
+    → IsLeafWaiting p m x c rva back
     → LeafStands (functions_in (image_of (linked p))) m c back
 
 -- ---- every frame
@@ -87,25 +99,35 @@ pub record IsFramed (p : LinearProgram) (index : ℕ) (x : Placed) (f : Frame) :
 -- its instructions stand in memory, from its first byte to its end
 abbrev pub FunctionsStand : Type 0
 FunctionsStand =
-    (p : LinearProgram) (index : ℕ) (x : Placed) (f : Frame) (m : Memory) → IsFramed p index x f → HasText m p
-    → HasItems m (image_base + x.begin) (items (function_of p x f).steps ++ (function_of p x f).rest) (image_base + end_of x)
+    (p : LinearProgram) (index : ℕ) (x : Placed) (f : Frame) (m : Memory) → IsFramed p index x f
+    → HasText m p
+    → HasItems m (image_base + x.begin)
+    (items (function_of p x f).steps ++ (function_of p x f).rest) (image_base + end_of x)
 
 -- it keeps the rules, with the unwind info that its entry has
 abbrev pub FunctionsKeepTheRules : Type 0
-FunctionsKeepTheRules = (p : LinearProgram) (index : ℕ) (x : Placed) (f : Frame) → IsFramed p index x f → IsRight (function_of p x f)
+FunctionsKeepTheRules =
+    (p : LinearProgram) (index : ℕ) (x : Placed) (f : Frame) → IsFramed p index x f
+    → IsRight (function_of p x f)
 
 -- the walk from a state finds the caller of another, as it was
 abbrev pub FindsCaller : LinearProgram → State → State → Type 0
-FindsCaller p e s = IsFound (caller_in (functions_in (image_of (linked p))) s.memory (context_of s.cpu)) (left_to (registers e) (return_address e))
+FindsCaller p e s =
+    IsFound (caller_in (functions_in (image_of (linked p))) s.memory (context_of s.cpu))
+    (left_to (registers e) (return_address e))
 
--- in each state of a function with a frame, also in its prologue and in its epilogues: e is the state at its first byte
+-- in each state of a function with a frame, also in its prologue and in its epilogues: e is the
+-- state at its first byte
 abbrev pub FramesAreFound : Type 0
 FramesAreFound =
-    (p : LinearProgram) (index : ℕ) (x : Placed) (f : Frame) (e s : State) (distance : ℕ) → IsFramed p index x f → HasRegions p
-    → IsEntry f.size e → HasText s.memory p → s.cpu.rip ≡ image_base + x.begin + distance → Stands (function_of p x f) e s distance
+    (p : LinearProgram) (index : ℕ) (x : Placed) (f : Frame) (e s : State) (distance : ℕ)
+    → IsFramed p index x f → HasRegions p
+    → IsEntry f.size e → HasText s.memory p → s.cpu.rip ≡ image_base + x.begin + distance
+    → Stands (function_of p x f) e s distance
     → FindsCaller p e s
 
--- of what has no entry: RSP, the return address and the nonvolatile registers are those at its first byte
+-- of what has no entry: RSP, the return address and the nonvolatile registers are those at its
+-- first byte
 pub record IsIn (e s : State) (rest : List FetchedInstr) (begin end : ℕ) : Type 0 where
   pub entry : IsEntry 0 e
   pub body : InBody 0 [] rest e e s
@@ -118,13 +140,15 @@ pub record IsIn (e s : State) (rest : List FetchedInstr) (begin end : ℕ) : Typ
 abbrev pub LeavesAreFound : Type 0
 LeavesAreFound =
     (p : LinearProgram) (index : ℕ) (x : Placed) (e s : State) → FitsProgram p → HasRegions p
-    → slice_get (placed p) index ≡ Some x → x.routine.frame ≡ None → IsIn e s (leaf p x) x.begin (end_of x)
+    → slice_get (placed p) index ≡ Some x → x.routine.frame ≡ None
+    → IsIn e s (leaf p x) x.begin (end_of x)
     → FindsCaller p e s
 
 abbrev pub ThunksAreFound : Type 0
 ThunksAreFound =
     (p : LinearProgram) (service : Service) (e s : State) → FitsProgram p → HasRegions p
-    → IsIn e s (thunk_of p service) (thunk_at (site_of p).text service) (thunk_at (site_of p).text service + 6)
+    → IsIn e s (thunk_of p service) (thunk_at (site_of p).text service)
+    (thunk_at (site_of p).text service + 6)
     → FindsCaller p e s
 
 abbrev pub ProbesAreFound : Type 0

@@ -45,5 +45,6 @@ pub record IsInBody (p : LinearProgram) (x : Placed) (rva : ℕ) : Type 0 where
   pub done : List Instr
   pub item : Instr
   pub left : List Instr
-  pub parts : template (links p x) x.routine.layout (template_at x number) instruction ≡ done ++ (item ∷ left)
+  pub parts : template (links p x) x.routine.layout (template_at x number) instruction
+      ≡ done ++ (item ∷ left)
   pub here : rva ≡ template_at x number + sizes done

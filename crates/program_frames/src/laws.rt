@@ -8,16 +8,16 @@ pub fn text()
     ensures fixed { TextsAreFixed }
 {}
 
-/// At each instruction of its body a routine's frame stands: the function table has its entry there, and
-/// undoing that entry's one code finds its return address. A leaf function has no entry, and its return
-/// address at RSP.
+/// At each instruction of its body a routine's frame stands: the function table has its entry
+/// there, and undoing that entry's one code finds its return address. A leaf function has no entry,
+/// and its return address at RSP.
 pub fn bodies()
     ensures framed { BodiesStand }
     ensures leaves { LeavesStand }
 {}
 
-/// The routines of a program that have a frame keep the rules by which every frame can be unwound, with
-/// the unwind infos that are written for them.
+/// The routines of a program that have a frame keep the rules by which every frame can be unwound,
+/// with the unwind infos that are written for them.
 pub fn functions()
     ensures stand { FunctionsStand }
     ensures right { FunctionsKeepTheRules }

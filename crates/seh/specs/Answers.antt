@@ -32,7 +32,8 @@ text_limit = MOST_TEXT
 abbrev pub image_limit : ℕ
 image_limit = MOST_IMAGE
 
--- these are the bytes that the source held, at most so many; where it is known what it held, they are
+-- these are the bytes that the source held, at most so many; where it is known what it held, they
+-- are
 -- that, and nothing is left
 pub record IsInput (limit : ℕ) (source source' : Stream) (bytes : List ℕ) : Type 0 where
   pub within : length bytes ≤ limit
@@ -69,45 +70,61 @@ Quiet out out' = out' ≡ out
 abbrev pub Judged : Type 1
 Judged = List ℕ → Stream → Stream → Result Outcome Refusal → Type 0
 
--- what comes of an image's bytes: the whole text of the run of an image that loads, with its end; the first check that fails, or the load's; or a part of the text, where the sink had a fault
+-- what comes of an image's bytes: the whole text of the run of an image that loads, with its end;
+-- the first check that fails, or the load's; or a part of the text, where the sink had a fault
 abbrev pub IsRunAnswer : RunOptions → Judged
-IsRunAnswer options bytes out out' (Ok (Ran end)) = Loads bytes × (end ≡ end_by options bytes) × Grew out.bytes (text_by options bytes) out'.bytes
+IsRunAnswer options bytes out out' (Ok (Ran end)) =
+    Loads bytes × (end ≡ end_by options bytes) × Grew out.bytes (text_by options bytes) out'.bytes
 IsRunAnswer options bytes out out' (Err (refusals.Image e)) = IsRefused bytes e × Quiet out out'
 IsRunAnswer options bytes out out' (Err (refusals.Load e)) = IsRefusedLoad bytes e × Quiet out out'
-IsRunAnswer options bytes out out' (Err refusals.WriteFault) = Loads bytes × Rose out.faults out'.faults × ((count : ℕ) × TookPart out.bytes (text_by options bytes) out'.bytes count)
+IsRunAnswer options bytes out out' (Err refusals.WriteFault) =
+    Loads bytes × Rose out.faults out'.faults
+    × ((count : ℕ) × TookPart out.bytes (text_by options bytes) out'.bytes count)
 IsRunAnswer options bytes out out' answer = ⊥
 
 -- ---- showing
 
--- what comes of an image's bytes: the whole view of its function table; the first check that fails; or a part of the view, where the sink had a fault
+-- what comes of an image's bytes: the whole view of its function table; the first check that fails;
+-- or a part of the view, where the sink had a fault
 abbrev pub IsShowAnswer : Judged
-IsShowAnswer bytes out out' (Ok Viewed) = (image : Image) × IsImage bytes image × Grew out.bytes (view image) out'.bytes
+IsShowAnswer bytes out out' (Ok Viewed) =
+    (image : Image) × IsImage bytes image × Grew out.bytes (view image) out'.bytes
 IsShowAnswer bytes out out' (Err (refusals.Image e)) = IsRefused bytes e × Quiet out out'
-IsShowAnswer bytes out out' (Err refusals.WriteFault) = (image : Image) × IsImage bytes image × Rose out.faults out'.faults × ((count : ℕ) × TookPart out.bytes (view image) out'.bytes count)
+IsShowAnswer bytes out out' (Err refusals.WriteFault) =
+    (image : Image) × IsImage bytes image × Rose out.faults out'.faults
+    × ((count : ℕ) × TookPart out.bytes (view image) out'.bytes count)
 IsShowAnswer bytes out out' answer = ⊥
 
 -- ---- compiling
 
--- what comes of a text: the whole image; the refusal of the text; or a part of the image, where the sink had a fault
+-- what comes of a text: the whole image; the refusal of the text; or a part of the image, where the
+-- sink had a fault
 abbrev pub IsCompileAnswer : Judged
-IsCompileAnswer text out out' (Ok Compiled) = (image : List ℕ) × IsCompiled text image × Grew out.bytes image out'.bytes
+IsCompileAnswer text out out' (Ok Compiled) =
+    (image : List ℕ) × IsCompiled text image × Grew out.bytes image out'.bytes
 IsCompileAnswer text out out' (Err (refusals.Text e)) = IsRefusedText text e × Quiet out out'
-IsCompileAnswer text out out' (Err refusals.WriteFault) = (image : List ℕ) × IsCompiled text image × Rose out.faults out'.faults × ((count : ℕ) × TookPart out.bytes image out'.bytes count)
+IsCompileAnswer text out out' (Err refusals.WriteFault) =
+    (image : List ℕ) × IsCompiled text image × Rose out.faults out'.faults
+    × ((count : ℕ) × TookPart out.bytes image out'.bytes count)
 IsCompileAnswer text out out' (Err refusals.NoMemory) = Quiet out out'
 IsCompileAnswer text out out' answer = ⊥
 
 -- ---- compiling and running at once
 
--- what comes of a text that is compiled in memory and run: what comes of its image, or the refusal of the text
+-- what comes of a text that is compiled in memory and run: what comes of its image, or the refusal
+-- of the text
 abbrev pub IsTextRunAnswer : RunOptions → Judged
-IsTextRunAnswer options text out out' (Err (refusals.Text e)) = IsRefusedText text e × Quiet out out'
+IsTextRunAnswer options text out out' (Err (refusals.Text e)) =
+    IsRefusedText text e × Quiet out out'
 IsTextRunAnswer options text out out' (Err refusals.NoMemory) = Quiet out out'
-IsTextRunAnswer options text out out' answer = (image : List ℕ) × IsCompiled text image × IsRunAnswer options image out out' answer
+IsTextRunAnswer options text out out' answer =
+    (image : List ℕ) × IsCompiled text image × IsRunAnswer options image out out' answer
 
 -- ---- the input
 
 -- the source was read to its end, and this comes of what it held
-pub record FromInput (limit : ℕ) (judged : Judged) (source source' out out' : Stream) (answer : Result Outcome Refusal) : Type 0 where
+pub record FromInput (limit : ℕ) (judged : Judged) (source source' out out' : Stream)
+    (answer : Result Outcome Refusal) : Type 0 where
   pub bytes : List ℕ
   pub input : IsInput limit source source' bytes
   pub comes : judged bytes out out' answer
@@ -120,12 +137,16 @@ IsTooLong limit source = ForSome source.bytes (λ held. limit < length held)
 abbrev pub LostFew : ℕ → Stream → Stream → Type 0
 LostFew limit source source' = LostAtMost (limit + 1) source.bytes source'.bytes
 
--- a command that reads its input has this answer by its cause, from the source and the sink before and after
-abbrev pub IsInputAnswer : ℕ → Judged → Stream → Stream → Stream → Stream → Result Outcome Refusal → Type 0
+-- a command that reads its input has this answer by its cause, from the source and the sink before
+-- and after
+abbrev pub IsInputAnswer : ℕ → Judged → Stream → Stream → Stream → Stream → Result Outcome Refusal
+    → Type 0
 IsInputAnswer limit judged source source' out out' (Err refusals.Usage) = ⊥
 IsInputAnswer limit judged source source' out out' (Err refusals.ReadFault) =
     Rose source.faults source'.faults × LostFew limit source source' × Quiet out out'
 IsInputAnswer limit judged source source' out out' (Err (refusals.TooLong most)) =
     (most ≡ limit) × IsTooLong limit source × LostFew limit source source' × Quiet out out'
-IsInputAnswer limit judged source source' out out' (Err refusals.NoMemory) = LostFew limit source source' × Quiet out out'
-IsInputAnswer limit judged source source' out out' answer = FromInput limit judged source source' out out' answer
+IsInputAnswer limit judged source source' out out' (Err refusals.NoMemory) =
+    LostFew limit source source' × Quiet out out'
+IsInputAnswer limit judged source source' out out' answer =
+    FromInput limit judged source source' out out' answer

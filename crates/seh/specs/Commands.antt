@@ -12,26 +12,36 @@ use Rattle.seh.specs.Meanings.{IsMeaningInputAnswer}
 use Rattle.seh.specs.Refusals.{Reported}
 use Rattle.seh.specs.Streams.{Stream}
 
-abbrev pub IsCommandAnswer : Command → Stream → Stream → Stream → Stream → Result Outcome Refusal → Type 0
-IsCommandAnswer Compile source source' out out' answer = IsInputAnswer text_limit IsCompileAnswer source source' out out' answer
-IsCommandAnswer Show source source' out out' answer = IsInputAnswer image_limit IsShowAnswer source source' out out' answer
-IsCommandAnswer (Exec options) source source' out out' answer = IsInputAnswer image_limit (IsRunAnswer options) source source' out out' answer
-IsCommandAnswer (Run options) source source' out out' answer = IsInputAnswer text_limit (IsTextRunAnswer options) source source' out out' answer
-IsCommandAnswer (Meaning options) source source' out out' answer = IsMeaningInputAnswer options source source' out out' answer
+abbrev pub IsCommandAnswer : Command → Stream → Stream → Stream → Stream → Result Outcome Refusal
+    → Type 0
+IsCommandAnswer Compile source source' out out' answer =
+    IsInputAnswer text_limit IsCompileAnswer source source' out out' answer
+IsCommandAnswer Show source source' out out' answer =
+    IsInputAnswer image_limit IsShowAnswer source source' out out' answer
+IsCommandAnswer (Exec options) source source' out out' answer =
+    IsInputAnswer image_limit (IsRunAnswer options) source source' out out' answer
+IsCommandAnswer (Run options) source source' out out' answer =
+    IsInputAnswer text_limit (IsTextRunAnswer options) source source' out out' answer
+IsCommandAnswer (Meaning options) source source' out out' answer =
+    IsMeaningInputAnswer options source source' out out' answer
 
 -- nothing was read, and nothing was written
 abbrev pub Untouched : Stream → Stream → Stream → Stream → Type 0
 Untouched source source' out out' = (source' ≡ source) × Quiet out out'
 
--- the words are no line of the command set, or mean a command that has this answer; or there was no memory to read them
-abbrev pub IsAnswer : List (List ℕ) → Stream → Stream → Stream → Stream → Result Outcome Refusal → Type 0
+-- the words are no line of the command set, or mean a command that has this answer; or there was no
+-- memory to read them
+abbrev pub IsAnswer : List (List ℕ) → Stream → Stream → Stream → Stream → Result Outcome Refusal
+    → Type 0
 IsAnswer words source source' out out' answer =
     ((answer ≡ Err refusals.Usage) × IsNoLine words × Untouched source source' out out')
-    ⊎ (((command : Command) × IsLine words command × IsCommandAnswer command source source' out out' answer)
+    ⊎ (((command : Command) × IsLine words command
+    × IsCommandAnswer command source source' out out' answer)
     ⊎ ((answer ≡ Err refusals.NoMemory) × Untouched source source' out out'))
 
 -- the program has one answer, by its cause, and reports it
-pub record Answers (words : List (List ℕ)) (source source' out out' err err' : Stream) (status : Status) : Type 0 where
+pub record Answers (words : List (List ℕ)) (source source' out out' err err' : Stream)
+    (status : Status) : Type 0 where
   pub answer : Result Outcome Refusal
   pub cause : IsAnswer words source source' out out' answer
   pub reported : Reported answer err err' status

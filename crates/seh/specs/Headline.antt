@@ -20,12 +20,14 @@ pub record AreEnough (options : RunOptions) (arg n : ℕ) : Type 0 where
   pub argument : options.argument ≡ pos arg
   pub turns : 256 * n + 256 ≤ options.turns
 
--- a run of the image with these options shows the events of a meaning first; where the meaning has an end
+-- a run of the image with these options shows the events of a meaning first; where the meaning has
+-- an end
 -- that runs have, the run has this end, with its status, and its text is that of the meaning
 pub record ShowsMeaning (meant : Shown) (image : List ℕ) (options : RunOptions) : Type 0 where
   pub covers : Covers meant.events (run_end_of meant.end) (shown_by options image)
   pub ended : (e : RunEnd) → run_end_of meant.end ≡ Some e → end_by options image ≡ e
-  pub whole : (e : RunEnd) → run_end_of meant.end ≡ Some e → text_by options image ≡ text meant.events e options.trace
+  pub whole : (e : RunEnd) → run_end_of meant.end ≡ Some e
+      → text_by options image ≡ text meant.events e options.trace
   pub status :
       (ended : Ended) (e : RunEnd) → meant.end ≡ Some ended → run_end ended ≡ Some e
       → status_of (end_by options image) ≡ meaning_status ended
@@ -36,18 +38,22 @@ Headline =
     (source image : List ℕ) (compiled : IsCompiled source image)
     → let program = (resolve source compiled.whole).program in
     (options : RunOptions) (arg n : ℕ)
-    → arg < 2 ^ 63 → AreEnough options arg n → ShowsMeaning (meaning program (pos arg) n) image options
+    → arg < 2 ^ 63 → AreEnough options arg n
+    → ShowsMeaning (meaning program (pos arg) n) image options
 
--- and nothing more: a run shows no event and has no end that the program hasn't within so many steps, where these touch no reserved byte and aren't too deep
+-- and nothing more: a run shows no event and has no end that the program hasn't within so many
+-- steps, where these touch no reserved byte and aren't too deep
 abbrev pub NothingMore : Type 0
 NothingMore =
     (source image : List ℕ) (compiled : IsCompiled source image)
     → let program = (resolve source compiled.whole).program in
     (options : RunOptions) (arg n : ℕ)
-    → arg < 2 ^ 63 → options.argument ≡ pos arg → (options.turns + 1) * pace source ≤ n → Calm program (pos arg) n ≡ true
+    → arg < 2 ^ 63 → options.argument ≡ pos arg → (options.turns + 1) * pace source ≤ n
+    → Calm program (pos arg) n ≡ true
     → ShowsNoMore (meaning program (pos arg) n) (shown_by options image)
 
--- at every turn of a run that isn't an end, the walk over the stack gives exactly the shadow, entry by entry, and then RIP 0; as far as NothingMore speaks of the run
+-- at every turn of a run that isn't an end, the walk over the stack gives exactly the shadow, entry
+-- by entry, and then RIP 0; as far as NothingMore speaks of the run
 abbrev pub Walks : Type 0
 Walks =
     (source image : List ℕ) (compiled : IsCompiled source image)

@@ -24,24 +24,29 @@ use Rattle.whole_runs.specs.Laws.{ShowsNoMore}
 abbrev pub pace : List ℕ → ℕ
 pace text = pace_in (length text)
 
--- in m turns a run of the image shows no more than the program shows within (m + 1) * pace steps, where these are calm, and ends only as they end
+-- in m turns a run of the image shows no more than the program shows within (m + 1) * pace steps,
+-- where these are calm, and ends only as they end
 abbrev pub ShowsNothingMore : (text image : List ℕ) → Program → Type 0
 ShowsNothingMore text image program =
     (arg m n : ℕ) → arg < 2 ^ 63 → (m + 1) * pace text ≤ n → Calm program (pos arg) n ≡ true
     → ShowsNoMore (meaning program (pos arg) n) (machine image (pos arg) m)
 
--- after m turns of a run, where it has not ended by then, the walk over the stack gives the shadow, as long as (m + 1) * pace steps of the program are calm
+-- after m turns of a run, where it has not ended by then, the walk over the stack gives the shadow,
+-- as long as (m + 1) * pace steps of the program are calm
 abbrev pub GivesTheShadow : (text image : List ℕ) → Program → Type 0
 GivesTheShadow text image program =
     (arg m n : ℕ) → arg < 2 ^ 63 → (m + 1) * pace text ≤ n → Calm program (pos arg) n ≡ true
     → (machine image (pos arg) m).end ≡ None → WalksTheShadow image (pos arg) m
 
--- the function table of a program's image is read again as its entries, with one scope record for each `__try` of the program
+-- the function table of a program's image is read again as its entries, with one scope record for
+-- each `__try` of the program
 pub record HasTable (program : Program) : Type 0 where
   pub read : tables (image_of (linked (lowered program))) ≡ Ok (entries (lowered program))
   pub shape : IsShaped program
 
--- the image of an accepted text is the one that its program's linear code is linked to, with its function table; it does what the program means, and nothing more; the walk finds the caller at every instruction of it, and gives the frames of its runs
+-- the image of an accepted text is the one that its program's linear code is linked to, with its
+-- function table; it does what the program means, and nothing more; the walk finds the caller at
+-- every instruction of it, and gives the frames of its runs
 pub record IsCompiled (text image : List ℕ) : Type 0 where
   pub whole : List ExternalDeclaration
   pub accepted : IsAccepted text whole

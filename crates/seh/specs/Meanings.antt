@@ -35,13 +35,17 @@ pub record TookFront (options : RunOptions) (text : List ℕ) (out out' : Stream
   pub begins : (rest : List ℕ) × (text_of options program ≡ part ++ rest)
   pub grew : Grew out.bytes part out'.bytes
 
--- the whole text of the meaning, with its end; the refusal of the text; or a part of the text, where the sink had a fault or memory was wanting
+-- the whole text of the meaning, with its end; the refusal of the text; or a part of the text,
+-- where the sink had a fault or memory was wanting
 abbrev pub IsMeaningAnswer : RunOptions → Judged
 IsMeaningAnswer options text out out' (Ok (Meant ended)) =
-    (p : Program) × IsProgramOf text p × (ended ≡ texts.ended_within options.turns (shown_of options p).end) × Grew out.bytes (text_of options p) out'.bytes
+    (p : Program) × IsProgramOf text p
+    × (ended ≡ texts.ended_within options.turns (shown_of options p).end)
+    × Grew out.bytes (text_of options p) out'.bytes
 IsMeaningAnswer options text out out' (Err (refusals.Text e)) = IsRefused text e × Quiet out out'
 IsMeaningAnswer options text out out' (Err refusals.WriteFault) =
-    (p : Program) × IsProgramOf text p × Rose out.faults out'.faults × ((count : ℕ) × TookPart out.bytes (text_of options p) out'.bytes count)
+    (p : Program) × IsProgramOf text p × Rose out.faults out'.faults
+    × ((count : ℕ) × TookPart out.bytes (text_of options p) out'.bytes count)
 IsMeaningAnswer options text out out' (Err refusals.NoMemory) = TookFront options text out out'
 IsMeaningAnswer options text out out' answer = ⊥
 
@@ -51,12 +55,16 @@ pub record TookOfInput (options : RunOptions) (source source' out out' : Stream)
   pub input : IsInput text_limit source source' bytes
   pub front : TookFront options bytes out out'
 
-abbrev pub IsMeaningInputAnswer : RunOptions → Stream → Stream → Stream → Stream → Result Outcome Refusal → Type 0
+abbrev pub IsMeaningInputAnswer : RunOptions → Stream → Stream → Stream → Stream
+    → Result Outcome Refusal → Type 0
 IsMeaningInputAnswer options source source' out out' (Err refusals.Usage) = ⊥
 IsMeaningInputAnswer options source source' out out' (Err refusals.ReadFault) =
     Rose source.faults source'.faults × LostFew text_limit source source' × Quiet out out'
 IsMeaningInputAnswer options source source' out out' (Err (refusals.TooLong most)) =
-    (most ≡ text_limit) × IsTooLong text_limit source × LostFew text_limit source source' × Quiet out out'
+    (most ≡ text_limit) × IsTooLong text_limit source × LostFew text_limit source source'
+    × Quiet out out'
 IsMeaningInputAnswer options source source' out out' (Err refusals.NoMemory) =
-    (LostFew text_limit source source' × Quiet out out') ⊎ TookOfInput options source source' out out'
-IsMeaningInputAnswer options source source' out out' answer = FromInput text_limit (IsMeaningAnswer options) source source' out out' answer
+    (LostFew text_limit source source' × Quiet out out')
+    ⊎ TookOfInput options source source' out out'
+IsMeaningInputAnswer options source source' out out' answer =
+    FromInput text_limit (IsMeaningAnswer options) source source' out out' answer

@@ -139,7 +139,9 @@ refusal_status (refusals.Load e) = statuses.Image
 refusal_status refusals.WriteFault = statuses.WriteFault
 refusal_status refusals.NoMemory = statuses.NoMemory
 
--- what was carried out is shown by the status alone; a refusal by its line on `err` too, and where that line can't be written the status is that of a write fault, and a part of the line from the front was taken
+-- what was carried out is shown by the status alone; a refusal by its line on `err` too, and where
+-- that line can't be written the status is that of a write fault, and a part of the line from the
+-- front was taken
 abbrev pub Reported : Result Outcome Refusal → Stream → Stream → Status → Type 0
 Reported (Ok done) err err' status = (status ≡ outcome_status done) × (err' ≡ err)
 Reported (Err r) err err' status =

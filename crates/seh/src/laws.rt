@@ -4,40 +4,40 @@ ghost use Rattle.seh.specs.Completeness.{AcceptedTextsCompile, CompiledImagesRun
 ghost use Rattle.seh.specs.Headline.{Headline, NothingMore, Walks};
 ghost use Rattle.seh.specs.TamePrograms.{TameProgramsWalk, TameProgramsEnd};
 
-/// The headline: where `compile` answered with an image for a text, each run of `exec` on it with an
-/// argument from 0 to below 2^63 and at least `256 * n + 256` turns shows first what the text's program
-/// shows within n steps. Where the program returns or dies of an exception within n steps, the run has
-/// the same end, with its status, and its whole text is that of the program's meaning.
+/// The headline: where `compile` answered with an image for a text, each run of `exec` on it with
+/// an argument from 0 to below 2^63 and at least `256 * n + 256` turns shows first what the text's
+/// program shows within n steps. Where the program returns or dies of an exception within n steps,
+/// the run has the same end, with its status, and its whole text is that of the program's meaning.
 ///
-/// And nothing more: the events of a run are the first that the program shows within
-/// `(turns + 1) * (8 * L + 256)` steps, with L the length of the text in bytes, and where it has ended
-/// the program has ended so, as long as within these steps it touches no reserved byte and is never
-/// more than 1,000 deep.
+/// And nothing more: the events of a run are the first that the program shows within `(turns + 1) *
+/// (8 * L + 256)` steps, with L the length of the text in bytes, and where it has ended the program
+/// has ended so, as long as within these steps it touches no reserved byte and is never more than
+/// 1,000 deep.
 pub fn headline()
     ensures shows { Headline }
     ensures nothing_more { NothingMore }
 {}
 
-/// Completeness: no accepted text is refused, and no image of one. What `compile` answers to an accepted
-/// text is that its image was written, and what `exec` answers to such an image is the end of its run;
-/// but for a fault of the sink and want of memory.
+/// Completeness: no accepted text is refused, and no image of one. What `compile` answers to an
+/// accepted text is that its image was written, and what `exec` answers to such an image is the end
+/// of its run; but for a fault of the sink and want of memory.
 pub fn completeness()
     ensures compiles { AcceptedTextsCompile }
     ensures runs { CompiledImagesRun }
 {}
 
-/// At every turn of a run of the image, up to its end, the walk over the stack gives exactly the shadow, a
-/// list that the machine's model keeps with no look at unwind codes: for each routine that has not
-/// returned, innermost first, the return address, the stack pointer after the return and the nonvolatile
-/// registers that its caller had at the call. It ends at RIP 0. This holds as far as the headline's second
-/// sentence does.
+/// At every turn of a run of the image, up to its end, the walk over the stack gives exactly the
+/// shadow, a list that the machine's model keeps with no look at unwind codes: for each routine
+/// that has not returned, innermost first, the return address, the stack pointer after the return
+/// and the nonvolatile registers that its caller had at the call. It ends at RIP 0. This holds as
+/// far as the headline's second sentence does.
 pub fn walks()
     ensures shadow { Walks }
 {}
 
-/// Of a program that is Tame, which however long it runs touches no reserved byte and is never more than
-/// 1,000 deep, this holds at every turn of its image's run, without a bound; and the run never ends at the
-/// stack's limit or at a place where no turn can be made.
+/// Of a program that is Tame, which however long it runs touches no reserved byte and is never more
+/// than 1,000 deep, this holds at every turn of its image's run, without a bound; and the run never
+/// ends at the stack's limit or at a place where no turn can be made.
 pub fn tame_programs()
     ensures walk { TameProgramsWalk }
     ensures end { TameProgramsEnd }

@@ -1,4 +1,5 @@
-//! The command `meaning`: a text is read and run as its meaning says, and the text of the run is written.
+//! The command `meaning`: a text is read and run as its meaning says, and the text of the run is
+//! written.
 
 ghost use Rattle.std.specs.Prelude.{◌≤◌, length};
 ghost use Rattle.seh.specs.Meanings.{IsMeaningAnswer, IsMeaningInputAnswer};

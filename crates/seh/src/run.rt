@@ -1,4 +1,5 @@
-//! The command `run`: a text is read, compiled in memory and run, and the text of its run is written.
+//! The command `run`: a text is read, compiled in memory and run, and the text of its run is
+//! written.
 
 ghost use Rattle.std.specs.Prelude.{◌≤◌, length};
 ghost use Rattle.seh.specs.Answers.{text_limit, IsTextRunAnswer, IsInputAnswer};

@@ -58,10 +58,10 @@ fn answer<S: Source, O: Sink>(
 ///
 /// A refusal writes one line to `err` and nothing to `out`, but for a write fault, and for `no
 /// memory` of `meaning`, after which `out` has taken a part of the text from the front. Where the
-/// line can't be written the status is that of a write fault, and `err` has taken a part of the line
-/// from the front. `too long` comes only where the source holds more than the command's limit. After
-/// it, a read fault or want of memory the source has lost at most the limit and one byte, from the
-/// front.
+/// line can't be written the status is that of a write fault, and `err` has taken a part of the
+/// line from the front. `too long` comes only where the source holds more than the command's limit.
+/// After it, a read fault or want of memory the source has lost at most the limit and one byte,
+/// from the front.
 pub fn top<S: Source, O: Sink, E: Sink>(
     alloc: Global,
     words: &[String],

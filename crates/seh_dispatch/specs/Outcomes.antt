@@ -46,5 +46,6 @@ bad_record at = stopped_outcome (record { reason = reasons.BadRecord; address = 
 
 -- the processor after a service's return
 abbrev pub back_of : Cpu → Result ℕ RefusedAccess → Option Cpu
-back_of c (Ok a) = Some (record (with_register W64 c Rsp ((register c Rsp + 8) % 2 ^ 64)) { rip = a })
+back_of c (Ok a) =
+    Some (record (with_register W64 c Rsp ((register c Rsp + 8) % 2 ^ 64)) { rip = a })
 back_of c (Err refused) = None

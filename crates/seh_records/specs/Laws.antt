@@ -42,14 +42,20 @@ Readable m at = first_refused (may_read m) RECORD_SIZE at ≡ None
 
 -- a record that is placed is there
 abbrev pub PlacedIsRecord : Type 0
-PlacedIsRecord = (m : Memory) (at : ℕ) (r : DispatchRecord) → at + RECORD_SIZE < 2 ^ 64 → at % 16 ≡ 0 → Fits r → Readable m at → IsRecordAt (placed m at r) at r
+PlacedIsRecord =
+    (m : Memory) (at : ℕ) (r : DispatchRecord) → at + RECORD_SIZE < 2 ^ 64 → at % 16 ≡ 0 → Fits r
+    → Readable m at → IsRecordAt (placed m at r) at r
 
 -- one that is there is fetched
 abbrev pub RecordIsFetched : Type 0
-RecordIsFetched = (m : Memory) (at : ℕ) (r : DispatchRecord) → at + RECORD_SIZE < 2 ^ 64 → AreBytes m.byte → Fits r → IsRecordAt m at r → fetched m at ≡ Some r
+RecordIsFetched =
+    (m : Memory) (at : ℕ) (r : DispatchRecord) → at + RECORD_SIZE < 2 ^ 64 → AreBytes m.byte
+    → Fits r → IsRecordAt m at r → fetched m at ≡ Some r
 
 abbrev pub PlacedIsFetched : Type 0
-PlacedIsFetched = (m : Memory) (at : ℕ) (r : DispatchRecord) → at + RECORD_SIZE < 2 ^ 64 → AreBytes m.byte → Fits r → Readable m at → fetched (placed m at r) at ≡ Some r
+PlacedIsFetched =
+    (m : Memory) (at : ℕ) (r : DispatchRecord) → at + RECORD_SIZE < 2 ^ 64 → AreBytes m.byte
+    → Fits r → Readable m at → fetched (placed m at r) at ≡ Some r
 
 -- so where a place isn't refused, the record that is placed there is fetched again
 abbrev pub PlacedIsFetchedWhereNotRefused : Type 0
@@ -59,16 +65,21 @@ PlacedIsFetchedWhereNotRefused =
 
 -- placing changes no byte outside the record, and none of its home space
 abbrev pub PlacingLeavesOthers : Type 0
-PlacingLeavesOthers = (m : Memory) (at : ℕ) (r : DispatchRecord) (x : ℕ) → at + RECORD_SIZE < 2 ^ 64 → Fits r → (x < at + 32) ⊎ (at + RECORD_SIZE ≤ x) → (placed m at r).byte x ≡ m.byte x
+PlacingLeavesOthers =
+    (m : Memory) (at : ℕ) (r : DispatchRecord) (x : ℕ) → at + RECORD_SIZE < 2 ^ 64 → Fits r
+    → (x < at + 32) ⊎ (at + RECORD_SIZE ≤ x) → (placed m at r).byte x ≡ m.byte x
 
 -- fetching reads no byte but those past the home space
 abbrev pub FetchedByItsBytes : Type 0
 FetchedByItsBytes =
-    (m new : Memory) (at : ℕ) → at + RECORD_SIZE < 2 ^ 64 → first_refused (may_read new) RECORD_SIZE at ≡ first_refused (may_read m) RECORD_SIZE at
-    → ((x : ℕ) → at + 32 ≤ x → x < at + RECORD_SIZE → new.byte x ≡ m.byte x) → fetched new at ≡ fetched m at
+    (m new : Memory) (at : ℕ) → at + RECORD_SIZE < 2 ^ 64
+    → first_refused (may_read new) RECORD_SIZE at ≡ first_refused (may_read m) RECORD_SIZE at
+    → ((x : ℕ) → at + 32 ≤ x → x < at + RECORD_SIZE → new.byte x ≡ m.byte x)
+    → fetched new at ≡ fetched m at
 
 -- so a store that meets none of them leaves what is fetched
 abbrev pub StoresLeaveIt : Type 0
 StoresLeaveIt =
     (m : Memory) (at to v : ℕ) (w : Width) → at + RECORD_SIZE < 2 ^ 64 → to < 2 ^ 64
-    → ((x : ℕ) → at + 32 ≤ x → x < at + RECORD_SIZE → IsApart x to (bytes_of w)) → fetched (after_store m to w v) at ≡ fetched m at
+    → ((x : ℕ) → at + 32 ≤ x → x < at + RECORD_SIZE → IsApart x to (bytes_of w))
+    → fetched (after_store m to w v) at ≡ fetched m at

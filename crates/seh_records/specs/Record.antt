@@ -26,7 +26,9 @@ number_of ExceptionUnwind = 2
 number_of LocalUnwind = 3
 
 abbrev pub kind_of : ℕ → Option Kind
-kind_of n = if n == 1 then Some Search else (if n == 2 then Some ExceptionUnwind else (if n == 3 then Some LocalUnwind else None))
+kind_of n =
+    if n == 1 then Some Search else (if n == 2 then Some ExceptionUnwind
+    else (if n == 3 then Some LocalUnwind else None))
 
 -- ---- EFlags
 
@@ -40,7 +42,8 @@ abbrev pub is_bit : ℕ → ℕ → Bool
 is_bit k v = v / 2 ^ k % 2 == 1
 
 abbrev pub flags_of : ℕ → Flags
-flags_of v = record { carry = is_bit 0 v; zero = is_bit 6 v; sign = is_bit 7 v; overflow = is_bit 11 v }
+flags_of v =
+    record { carry = is_bit 0 v; zero = is_bit 6 v; sign = is_bit 7 v; overflow = is_bit 11 v }
 
 -- ---- the 192 words after the home space
 
@@ -63,14 +66,17 @@ head at r =
 
 -- the CONTEXT up to the registers
 abbrev pub front : DispatchRecord → List ℕ
-front r = 0 ∷ 0 ∷ 0 ∷ 0 ∷ 0 ∷ 0 ∷ 0 ∷ 0 ∷ (2 ^ 32 * eflags r.saved.flags) ∷ 0 ∷ 0 ∷ 0 ∷ 0 ∷ 0 ∷ 0 ∷ []
+front r =
+    0 ∷ 0 ∷ 0 ∷ 0 ∷ 0 ∷ 0 ∷ 0 ∷ 0 ∷ (2 ^ 32 * eflags r.saved.flags) ∷ 0 ∷ 0 ∷ 0 ∷ 0 ∷ 0 ∷ 0 ∷ []
 
 -- RIP and the rest of the CONTEXT
 abbrev pub back : DispatchRecord → List ℕ
 back r = r.saved.rip ∷ replicate 122 0
 
 unfoldable pub words : ℕ → DispatchRecord → List ℕ
-words at r = head at r ++ r.parameters ++ (0 ∷ []) ++ front r ++ r.saved.registers ++ back r ++ (r.walk.rip ∷ []) ++ r.walk.kept
+words at r =
+    head at r ++ r.parameters ++ (0 ∷ []) ++ front r ++ r.saved.registers ++ back r
+    ++ (r.walk.rip ∷ []) ++ r.walk.kept
 
 -- ---- placing
 
@@ -78,7 +84,8 @@ words at r = head at r ++ r.parameters ++ (0 ∷ []) ++ front r ++ r.saved.regis
 abbrev pub return_address_at : ℕ → ℕ
 return_address_at at = (at + (2 ^ 64 - 8)) % 2 ^ 64
 
--- The least address from the return address to the record's end that is below the stack or may not be written. What passes the last address continues at 0.
+-- The least address from the return address to the record's end that is below the stack or may not
+-- be written. What passes the last address continues at 0.
 unfoldable pub misplaced : Memory → ℕ → Option ℕ
 misplaced m at =
     if nat_lt (2 ^ 64) (return_address_at at + PLACED_SIZE) then Some 0
@@ -106,7 +113,12 @@ abbrev pub words_from : Memory → ℕ → ℕ → ℕ → List ℕ
 words_from m at o n = words_at m.byte n ((at + o) % 2 ^ 64)
 
 abbrev pub saved : Memory → ℕ → Cpu
-saved m at = record { registers = words_from m at 0x178 16; rip = word m at 0x1F8; flags = flags_of (half m at 0x144) }
+saved m at =
+    record {
+      registers = words_from m at 0x178 16;
+      rip = word m at 0x1F8;
+      flags = flags_of (half m at 0x144);
+    }
 
 abbrev pub walk : Memory → ℕ → Context
 walk m at = record { rip = word m at 1488; kept = words_from m at 1496 9 }

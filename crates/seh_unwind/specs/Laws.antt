@@ -11,5 +11,6 @@ use Rattle.seh_unwind.specs.Unwind.{unwind}
 -- with more steps it comes to the same: the bound isn't met
 abbrev pub UnwindingsEnd : Type 0
 UnwindingsEnd =
-    (t : Functions) (m : Memory) (frame target : ℕ) (w : WalkState) (n : ℕ) → AreBytes m.byte → 0 < rsp w.context → rsp w.context < 2 ^ 64 → steps ≤ n
+    (t : Functions) (m : Memory) (frame target : ℕ) (w : WalkState) (n : ℕ) → AreBytes m.byte
+    → 0 < rsp w.context → rsp w.context < 2 ^ 64 → steps ≤ n
     → unwind n t m frame target w ≡ unwind steps t m frame target w

@@ -22,14 +22,19 @@ if_target u c true = Err (Land c)
 if_target u c false = Ok u
 
 -- a step decides, or the walk continues
-abbrev pub by_row : Functions → ℕ → Context → WalkState → Bool → Option AskedRecord → Result WalkState UnwindResult
+abbrev pub by_row : Functions → ℕ → Context → WalkState → Bool → Option AskedRecord
+    → Result WalkState UnwindResult
 by_row t frame c u is_target (Some r) = Err (block t.base frame c r)
 by_row t frame c u is_target None = if_target u c is_target
 
 -- past the target frame it is lost
-abbrev pub if_past : Functions → ℕ → ℕ → WalkState → CallerFrame → WalkState → Bool → Result WalkState UnwindResult
+abbrev pub if_past : Functions → ℕ → ℕ → WalkState → CallerFrame → WalkState → Bool
+    → Result WalkState UnwindResult
 if_past t frame target w f u true = Err (lost frame)
-if_past t frame target w f u false = by_row t f.frame w.context u (f.frame == frame) (first_finally (unwound f.asked (distance t.base w.context.rip) w.row (f.frame == frame) (distance t.base target)))
+if_past t frame target w f u false =
+    by_row t f.frame w.context u (f.frame == frame)
+    (first_finally (unwound f.asked (distance t.base w.context.rip) w.row (f.frame == frame)
+    (distance t.base target)))
 
 abbrev pub decided : Functions → ℕ → ℕ → WalkState → Visited → Result WalkState UnwindResult
 decided t frame target w Over = Err (lost frame)
@@ -40,4 +45,5 @@ decided t frame target w (Frame f u) = if_past t frame target w f u (nat_lt fram
 -- at most so many steps of the walk
 unfoldable pub unwind : ℕ → Functions → Memory → ℕ → ℕ → WalkState → UnwindResult
 unwind zero t m frame target w = lost frame
-unwind (suc n) t m frame target w = continue_walk (unwind n t m frame target) (decided t frame target w (visited t m w))
+unwind (suc n) t m frame target w =
+    continue_walk (unwind n t m frame target) (decided t frame target w (visited t m w))

@@ -4,8 +4,8 @@ use x64_machine::context::Context;
 /// What an unwinding comes to.
 #[derive(Clone, Copy, Debug, PartialEq, Eq)]
 pub enum UnwindResult {
-    /// A `__finally` block to be run: its address, the establisher frame, the next scope record and the
-    /// state at that frame.
+    /// A `__finally` block to be run: its address, the establisher frame, the next scope record and
+    /// the state at that frame.
     Finally {
         handler: u64,
         frame: u64,

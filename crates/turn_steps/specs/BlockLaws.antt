@@ -20,7 +20,11 @@ use Rattle.turn_steps.specs.FuncletEntries.{FlagsFit, SeparatorsFollow}
 abbrev pub BlockCallsAreMatched : Type 0
 BlockCallsAreMatched =
     (t : Functions) (fs : List Funclet) (program : LinearProgram) (p : Plan) (q : Sites)
-    → IsProgramImage t fs program p q → IsWellMade program p → FlagsFit program → SeparatorsFollow program
+    → IsProgramImage t fs program p q → IsWellMade program p → FlagsFit program
+    → SeparatorsFollow program
     → (s : State) (c : Configuration) (k : ℕ)
-    → Begins t fs program p q s c → IsKnown program c → instruction_at program c ≡ Some (instructions.CallFinally k) → KnownNext program c (instructions.CallFinally k)
-    → IsMatched t fs program pace turns_left (Begins t fs program p q) s c (instructions.CallFinally k)
+    → Begins t fs program p q s c → IsKnown program c
+    → instruction_at program c ≡ Some (instructions.CallFinally k)
+    → KnownNext program c (instructions.CallFinally k)
+    → IsMatched t fs program pace turns_left (Begins t fs program p q) s c
+    (instructions.CallFinally k)

@@ -23,8 +23,11 @@ ReturnsAreMatched =
     (t : Functions) (fs : List Funclet) (program : LinearProgram) (p : Plan) (q : Sites)
     → IsProgramImage t fs program p q → IsWellMade program p
     → (s : State) (c : Configuration) (f : ℕ) (from : Slot)
-    → Begins t fs program p q s c → IsKnown program c → c.frame.body ≡ FunctionBody f → instruction_at program c ≡ Some (instructions.Return from) → KnownNext program c (instructions.Return from)
-    → IsMatched t fs program pace turns_left (Begins t fs program p q) s c (instructions.Return from)
+    → Begins t fs program p q s c → IsKnown program c → c.frame.body ≡ FunctionBody f
+    → instruction_at program c ≡ Some (instructions.Return from)
+    → KnownNext program c (instructions.Return from)
+    → IsMatched t fs program pace turns_left (Begins t fs program p q) s c
+    (instructions.Return from)
 
 -- a function is called: it begins, but where the depth would be too great
 abbrev pub CallsBegin : Type 0
@@ -32,5 +35,7 @@ CallsBegin =
     (t : Functions) (fs : List Funclet) (program : LinearProgram) (p : Plan) (q : Sites)
     → IsProgramImage t fs program p q → IsWellMade program p → FunctionsApart program p q
     → (s : State) (c : Configuration) (f first count : ℕ)
-    → Begins t fs program p q s c → IsKnown program c → instruction_at program c ≡ Some (instructions.Call f first count)
-    → CallBegins t fs program p q s c f first count ⊎ Fails t fs program pace turns_left s c (instructions.Call f first count)
+    → Begins t fs program p q s c → IsKnown program c
+    → instruction_at program c ≡ Some (instructions.Call f first count)
+    → CallBegins t fs program p q s c f first count
+    ⊎ Fails t fs program pace turns_left s c (instructions.Call f first count)

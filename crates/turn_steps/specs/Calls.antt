@@ -18,9 +18,19 @@ use Rattle.body_states.specs.Bodies.{turns_left, Begins}
 use Rattle.body_steps.specs.Laws.{pace}
 
 -- linear code where a function begins, with these numbers in its locals
-abbrev pub begun : (f : ℕ) (values : List ℕ) (held : ℕ) (below : List Item) (source : Memory) → List (List ℕ) → List Event → Configuration
+abbrev pub begun : (f : ℕ) (values : List ℕ) (held : ℕ) (below : List Item) (source : Memory)
+    → List (List ℕ) → List Event → Configuration
 begun f values held below source activations es = record {
-  frame = record { body = FunctionBody f; next = 0; activation = length activations; exception = no_exception; held = held; temporaries = []; landed = None };
+  frame =
+      record {
+        body = FunctionBody f;
+        next = 0;
+        activation = length activations;
+        exception = no_exception;
+        held = held;
+        temporaries = [];
+        landed = None;
+      };
   below = below;
   store = record { memory = source; activations = activations ++ values ∷ [] };
   events = es;
@@ -28,10 +38,13 @@ begun f values held below source activations es = record {
 
 -- no funclet begins where a function does
 abbrev pub FunctionsApart : LinearProgram → Plan → Sites → Type 0
-FunctionsApart program p q = (f k : ℕ) → f < length program.functions → k < length program.funclets → q.function f ≢ p.funclet k
+FunctionsApart program p q =
+    (f k : ℕ) → f < length program.functions → k < length program.funclets
+    → q.function f ≢ p.funclet k
 
 module _ (t : Functions) (fs : List Funclet) (program : LinearProgram) (p : Plan) (q : Sites) where
-  -- a call comes to the callee's first instruction: its arguments are its first locals, and what the stack held is in the others, which linear code begins with 0
+  -- a call comes to the callee's first instruction: its arguments are its first locals, and what
+  -- the stack held is in the others, which linear code begins with 0
   pub record CallBegins (s : State) (c : Configuration) (f first count : ℕ) : Type 0 where
     pub function : LinearFunction
     pub there : slice_get program.functions f ≡ Some function
@@ -42,8 +55,14 @@ module _ (t : Functions) (fs : List Funclet) (program : LinearProgram) (p : Plan
     pub small : AreSmall others
     pub turns : ℕ
     pub some : 1 ≤ turns
-    pub few : turns + turns_left (begun f (arguments ++ others) c.frame.held (Waits (waiting c first).frame ∷ c.below) c.store.memory c.store.activations c.events) ≤ pace + turns_left c
+    pub few : turns + turns_left (begun f (arguments ++ others) c.frame.held
+        (Waits (waiting c first).frame ∷ c.below) c.store.memory c.store.activations c.events)
+        ≤ pace + turns_left c
     pub state : State
     pub comes : Comes t fs turns s [] state
-    pub acts : (next : Next) → act program (instructions.Call f first count) next c ≡ next (begin_function f function arguments c.frame.held (Waits (waiting c first).frame ∷ c.below) c.store c.events)
-    pub begins : Begins t fs program p q state (begun f (arguments ++ others) c.frame.held (Waits (waiting c first).frame ∷ c.below) c.store.memory c.store.activations c.events)
+    pub acts : (next : Next) → act program (instructions.Call f first count) next c
+        ≡ next (begin_function f function arguments c.frame.held
+        (Waits (waiting c first).frame ∷ c.below) c.store c.events)
+    pub begins : Begins t fs program p q state
+        (begun f (arguments ++ others) c.frame.held
+        (Waits (waiting c first).frame ∷ c.below) c.store.memory c.store.activations c.events)

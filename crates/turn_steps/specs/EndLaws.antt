@@ -25,8 +25,12 @@ use Rattle.turn_steps.specs.TurnEntries.{Continuations}
 abbrev pub FuncletReturnsAreMatched : Type 0
 FuncletReturnsAreMatched =
     (t : Functions) (fs : List Funclet) (program : LinearProgram) (p : Plan) (q : Sites)
-    → IsProgramImage t fs program p q → IsWellMade program p → FlagsFit program → Continuations t fs program p q
+    → IsProgramImage t fs program p q → IsWellMade program p → FlagsFit program
+    → Continuations t fs program p q
     → (s : State) (c : Configuration) (k : ℕ) (from : Slot)
-    → Begins t fs program p q s c → IsKnown program c → c.frame.body ≡ FuncletBody k → instruction_at program c ≡ Some (instructions.Return from)
-    → HasRule (act program (instructions.Return from) (exec program zero) c) → KnownNext program c (instructions.Return from)
-    → IsMatched t fs program pace turns_left (Stands t fs program p q) s c (instructions.Return from)
+    → Begins t fs program p q s c → IsKnown program c → c.frame.body ≡ FuncletBody k
+    → instruction_at program c ≡ Some (instructions.Return from)
+    → HasRule (act program (instructions.Return from) (exec program zero) c)
+    → KnownNext program c (instructions.Return from)
+    → IsMatched t fs program pace turns_left (Stands t fs program p q) s c
+    (instructions.Return from)

@@ -46,17 +46,20 @@ UndefinedAccessesAreMatched =
     → ComesTo program c o first second (Undefined at)
     → Fails t fs program pace turns_left s c (instructions.Compute to o first second)
 
--- from where an operation of two temporaries begins, the machine comes to the instruction that makes it
+-- from where an operation of two temporaries begins, the machine comes to the instruction that
+-- makes it
 abbrev pub OperandsAreFetched : Type 0
 OperandsAreFetched =
     (t : Functions) (fs : List Funclet) (program : LinearProgram) (p : Plan) (q : Sites)
     → IsProgramImage t fs program p q → IsWellMade program p
     → (s : State) (c : Configuration) (to : Slot) (o : Operation) (first second : ℕ)
     → Begins t fs program p q s c → IsKnown program c → is_constant o ≡ false
-    → instruction_at program c ≡ Some (instructions.Compute to o (Temporary first) (Temporary second))
+    → instruction_at program c ≡ Some (instructions.Compute to o (Temporary first)
+    (Temporary second))
     → LeadsTo t fs fetch_turns (WorksOn t fs program p q) s c
 
--- from there the operation is made on what memory holds by then: it gives its number, or faults, or has touched a reserved byte
+-- from there the operation is made on what memory holds by then: it gives its number, or faults, or
+-- has touched a reserved byte
 abbrev pub RetriesAreMatched : Type 0
 RetriesAreMatched =
     (t : Functions) (fs : List Funclet) (program : LinearProgram) (p : Plan) (q : Sites)
@@ -73,10 +76,13 @@ ContinuationsAtOperations =
     → IsProgramImage t fs program p q → IsWellMade program p
     → (s : State) (saved : Cpu) (is : List StackItem) (acts : List Activation) (c : Configuration)
     → On t fs program p s.memory (context_of saved) is (Waits c.frame ∷ c.below) acts
-    → IsSane (record { cpu = saved; memory = s.memory }) → p.resumes SameOperation c.frame saved ≡ true
-    → IsMachineMemory t fs program p q s.memory c.store.memory → c.store.activations ≡ locals_of acts
+    → IsSane (record { cpu = saved; memory = s.memory })
+    → p.resumes SameOperation c.frame saved ≡ true
+    → IsMachineMemory t fs program p q s.memory c.store.memory
+    → c.store.activations ≡ locals_of acts
     → (arrivals saved (distance t.base saved.rip) 1 fs ≡ [])
-    × LeadsTo t fs entry_turns (Stands t fs program p q) (record { cpu = saved; memory = s.memory }) (resumed SameOperation c)
+    × LeadsTo t fs entry_turns (Stands t fs program p q) (record { cpu = saved; memory = s.memory })
+    (resumed SameOperation c)
 
 -- each operation is matched, where its instruction begins and in its midst
 abbrev pub OperationsAreMatched : Type 0
@@ -88,4 +94,5 @@ OperationsAreMatched =
     → instruction_at program c ≡ Some (instructions.Compute to o first second)
     → HasRule (act program (instructions.Compute to o first second) (exec program zero) c)
     → KnownNext program c (instructions.Compute to o first second)
-    → IsMatched t fs program pace turns_left (Stands t fs program p q) s c (instructions.Compute to o first second)
+    → IsMatched t fs program pace turns_left (Stands t fs program p q) s c
+    (instructions.Compute to o first second)

@@ -1,4 +1,5 @@
--- From a funclet's first byte, where the dispatcher or a call has brought the machine, to its first instruction of linear code.
+-- From a funclet's first byte, where the dispatcher or a call has brought the machine, to its first
+-- instruction of linear code.
 use Rattle.std.specs.Prelude.{◌≡◌, ℕ, ◌+◌, ◌<◌, true, false, nat_lt, List, ◌∷◌, length, slice_get, Some}
 use Rattle.x64_instr.specs.declared.register.Reg.TheVariants.{Rcx, Rsp}
 use Rattle.x64_machine.specs.Effect.{State, register}
@@ -27,32 +28,45 @@ entry_turns = 6
 
 -- the flag of a `__finally` block is one of its locals
 abbrev pub FlagsFit : LinearProgram → Type 0
-FlagsFit program = (k flag : ℕ) (f : LinearFunclet) → slice_get program.funclets k ≡ Some f → flag_of (slice_get program.funclets k) ≡ Some flag → flag < f.body.locals
+FlagsFit program =
+    (k flag : ℕ) (f : LinearFunclet) → slice_get program.funclets k ≡ Some f
+    → flag_of (slice_get program.funclets k) ≡ Some flag → flag < f.body.locals
 
 -- after the call of a `__finally` block comes a separator
 abbrev pub SeparatorsFollow : LinearProgram → Type 0
 SeparatorsFollow program =
-    (name : BodyName) (b : LinearBody) (label k : ℕ) → body_of program name ≡ Some b → slice_get b.code label ≡ Some (instructions.CallFinally k) → slice_get b.code (label + 1) ≡ Some instructions.Separator
+    (name : BodyName) (b : LinearBody) (label k : ℕ) → body_of program name ≡ Some b
+    → slice_get b.code label ≡ Some (instructions.CallFinally k)
+    → slice_get b.code (label + 1) ≡ Some instructions.Separator
 
 module _ (t : Functions) (fs : List Funclet) (program : LinearProgram) (p : Plan) (q : Sites) where
   -- a filter begins, on what waits where its exception was raised
   abbrev pub FiltersBegin : Type 0
   FiltersBegin =
-      (s : State) (k argument : ℕ) (handler : Handler) (rest : List Handler) (exception : Exception) (resumption : Resumption) (c : Configuration) (acts : List Activation)
-      → Arrives t fs program p s k handler.activation argument (Searches exception resumption handler rest ∷ Waits c.frame ∷ c.below) acts
+      (s : State) (k argument : ℕ) (handler : Handler) (rest : List Handler) (exception : Exception)
+      (resumption : Resumption) (c : Configuration) (acts : List Activation)
+      → Arrives t fs program p s k handler.activation argument
+      (Searches exception resumption handler rest ∷ Waits c.frame ∷ c.below) acts
       → register s.cpu Rcx ≡ register s.cpu Rsp + 88 → handler.filter ≡ Some k
-      → IsMachineMemory t fs program p q s.memory c.store.memory → c.store.activations ≡ locals_of acts
+      → IsMachineMemory t fs program p q s.memory c.store.memory
+      → c.store.activations ≡ locals_of acts
       → nat_lt DEEPEST (length c.store.activations + c.frame.held + 2) ≡ false
       → IsKnown program (begin_filter k handler rest exception resumption c)
-      → LeadsTo t fs entry_turns (Begins t fs program p q) s (begin_filter k handler rest exception resumption c)
+      → LeadsTo t fs entry_turns (Begins t fs program p q) s
+      (begin_filter k handler rest exception resumption c)
 
   -- a `__finally` block begins, on the body that waits with the regions that are left
   abbrev pub BlocksBegin : Type 0
   BlocksBegin =
-      (s : State) (k flag : ℕ) (rest : List Region) (target : Target) (c : Configuration) (acts : List Activation)
-      → Arrives t fs program p s k c.frame.activation 1 (Unwinds rest target ∷ Waits c.frame ∷ c.below) acts
+      (s : State) (k flag : ℕ) (rest : List Region) (target : Target) (c : Configuration)
+      (acts : List Activation)
+      → Arrives t fs program p s k c.frame.activation 1
+      (Unwinds rest target ∷ Waits c.frame ∷ c.below) acts
       → flag_of (slice_get program.funclets k) ≡ Some flag
-      → IsMachineMemory t fs program p q s.memory c.store.memory → c.store.activations ≡ locals_of acts
+      → IsMachineMemory t fs program p q s.memory c.store.memory
+      → c.store.activations ≡ locals_of acts
       → nat_lt DEEPEST (length c.store.activations + target.held + 2) ≡ false
-      → IsKnown program (begin_finally k flag true target.held (Unwinds rest target ∷ Waits c.frame ∷ c.below) c)
-      → LeadsTo t fs entry_turns (Begins t fs program p q) s (begin_finally k flag true target.held (Unwinds rest target ∷ Waits c.frame ∷ c.below) c)
+      → IsKnown program (begin_finally k flag true target.held
+      (Unwinds rest target ∷ Waits c.frame ∷ c.below) c)
+      → LeadsTo t fs entry_turns (Begins t fs program p q) s
+      (begin_finally k flag true target.held (Unwinds rest target ∷ Waits c.frame ∷ c.below) c)

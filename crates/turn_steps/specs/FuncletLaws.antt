@@ -1,4 +1,5 @@
--- What is claimed of funclets: that they begin where the dispatcher calls them, and that a `__finally` block which its body calls returns to the body.
+-- What is claimed of funclets: that they begin where the dispatcher calls them, and that a
+-- `__finally` block which its body calls returns to the body.
 use Rattle.std.specs.Prelude.{◌≡◌, ℕ, List, ◌∷◌, slice_get, Some}
 use Rattle.x64_machine.specs.Effect.{State}
 use Rattle.virtual_unwind.specs.CallerOf.{Functions}
@@ -20,11 +21,15 @@ use Rattle.turn_steps.specs.FuncletEntries.{FlagsFit, FiltersBegin, BlocksBegin}
 
 -- where the dispatcher calls a filter
 abbrev pub CalledFiltersBegin : Type 0
-CalledFiltersBegin = (t : Functions) (fs : List Funclet) (program : LinearProgram) (p : Plan) (q : Sites) → IsProgramImage t fs program p q → FiltersBegin t fs program p q
+CalledFiltersBegin =
+    (t : Functions) (fs : List Funclet) (program : LinearProgram) (p : Plan) (q : Sites)
+    → IsProgramImage t fs program p q → FiltersBegin t fs program p q
 
 -- and where it calls a `__finally` block
 abbrev pub CalledBlocksBegin : Type 0
-CalledBlocksBegin = (t : Functions) (fs : List Funclet) (program : LinearProgram) (p : Plan) (q : Sites) → IsProgramImage t fs program p q → FlagsFit program → BlocksBegin t fs program p q
+CalledBlocksBegin =
+    (t : Functions) (fs : List Funclet) (program : LinearProgram) (p : Plan) (q : Sites)
+    → IsProgramImage t fs program p q → FlagsFit program → BlocksBegin t fs program p q
 
 -- a `__finally` block above a body that waits
 pub record IsCalledBlock (program : LinearProgram) (c : Configuration) : Type 0 where
@@ -44,5 +49,6 @@ ReturnsOfBlocksAreMatched =
     (t : Functions) (fs : List Funclet) (program : LinearProgram) (p : Plan) (q : Sites)
     → IsProgramImage t fs program p q → IsWellMade program p
     → (s : State) (c : Configuration) (from : Slot)
-    → Begins t fs program p q s c → IsKnown program c → instruction_at program c ≡ Some (instructions.Return from) → IsCalledBlock program c
+    → Begins t fs program p q s c → IsKnown program c
+    → instruction_at program c ≡ Some (instructions.Return from) → IsCalledBlock program c
     → Moves t fs program pace turns_left (Begins t fs program p q) s c (instructions.Return from)

@@ -9,7 +9,8 @@ use Rattle.linear_machine.specs.Frames.{Configuration}
 use Rattle.linear_machine.specs.Instructions.{is_constant, operand}
 
 -- on the numbers that linear code has in its operands, an operation comes to this
-pub record ComesTo (program : LinearProgram) (c : Configuration) (o : Operation) (first second : Slot) (outcome : Outcome) : Type 0 where
+pub record ComesTo (program : LinearProgram) (c : Configuration) (o : Operation)
+    (first second : Slot) (outcome : Outcome) : Type 0 where
   pub a : ℕ
   pub b : ℕ
   pub reads_first : operand (is_constant o) c first ≡ Some a

@@ -37,7 +37,8 @@ AreClear (Searches exception resumption asked rest ∷ below) = AreClear below
 AreClear (Unwinds rest target ∷ below) = AreClear below
 
 module _ (t : Functions) (fs : List Funclet) (program : LinearProgram) (p : Plan) (q : Sites) where
-  -- in the midst of an operation that is made again: linear code is at its instruction, the machine at the instruction that had faulted, with the operands in its registers
+  -- in the midst of an operation that is made again: linear code is at its instruction, the machine
+  -- at the instruction that had faulted, with the operands in its registers
   pub record WorksOn (s : State) (c : Configuration) : Type 0 where
     pub again : WorksAgain t fs program p q c.frame s.cpu
     pub sane : IsSane s
@@ -52,8 +53,10 @@ module _ (t : Functions) (fs : List Funclet) (program : LinearProgram) (p : Plan
   abbrev pub WalkGoesOn : List Context → State → List Event → Type 0
   WalkGoesOn shadow u es = WalkGives t u (drop_below (register u.cpu Rsp) (started u es shadow))
 
-  -- after these events it comes to a body that goes on, in a configuration with no more than so many turns left
-  pub record GoesOn (turn : Turn) (seen : Next → Seen) (es : List Event) (left : ℕ) (shadow : List Context) : Type 0 where
+  -- after these events it comes to a body that goes on, in a configuration with no more than so
+  -- many turns left
+  pub record GoesOn (turn : Turn) (seen : Next → Seen) (es : List Event) (left : ℕ)
+      (shadow : List Context) : Type 0 where
     pub state : State
     pub events : List Event
     pub turns : turn ≡ Continues state events
@@ -66,7 +69,8 @@ module _ (t : Functions) (fs : List Funclet) (program : LinearProgram) (p : Plan
     pub leads : IsKnown program configuration → LeadsTo t fs entry_turns Stands state configuration
 
   -- or to a funclet, which begins unless the depth would be too great
-  pub record EntersFunclet (turn : Turn) (seen : Next → Seen) (es : List Event) (left : ℕ) (shadow : List Context) : Type 0 where
+  pub record EntersFunclet (turn : Turn) (seen : Next → Seen) (es : List Event) (left : ℕ)
+      (shadow : List Context) : Type 0 where
     pub state : State
     pub event : Event
     pub turns : turn ≡ Continues state (event ∷ [])
@@ -74,12 +78,14 @@ module _ (t : Functions) (fs : List Funclet) (program : LinearProgram) (p : Plan
     pub more : ℕ
     pub held : ℕ
     pub store : Store
-    pub few : nat_lt DEEPEST (length store.activations + held + more) ≡ false → turns_left configuration ≤ left
+    pub few : nat_lt DEEPEST (length store.activations + held + more) ≡ false
+        → turns_left configuration ≤ left
     pub acts : (next : Next) → seen next ≡ deeper more held store es (next configuration)
     pub shown : configuration.events ≡ es ++ event ∷ []
     pub arrives : arrivals state.cpu (distance t.base state.cpu.rip) 1 fs ≡ event ∷ []
     pub walk : WalkGoesOn shadow state (event ∷ [])
-    pub leads : nat_lt DEEPEST (length store.activations + held + more) ≡ false → IsKnown program configuration → LeadsTo t fs entry_turns Stands state configuration
+    pub leads : nat_lt DEEPEST (length store.activations + held + more) ≡ false
+        → IsKnown program configuration → LeadsTo t fs entry_turns Stands state configuration
 
   -- or nobody handles the exception
   pub record EndsRun (turn : Turn) (seen : Next → Seen) (es : List Event) : Type 0 where
@@ -88,14 +94,19 @@ module _ (t : Functions) (fs : List Funclet) (program : LinearProgram) (p : Plan
     pub acts : (next : Next) → seen next ≡ Finished (source.Unhandled code) es
 
   abbrev pub Outcome : Turn → (Next → Seen) → List Event → ℕ → List Context → Type 0
-  Outcome turn seen es left shadow = GoesOn turn seen es left shadow ⊎ (EntersFunclet turn seen es left shadow ⊎ EndsRun turn seen es)
+  Outcome turn seen es left shadow =
+      GoesOn turn seen es left shadow ⊎ (EntersFunclet turn seen es left shadow
+      ⊎ EndsRun turn seen es)
 
   -- a turn shows some events before those of its outcome
-  pub record Shows (turn : Turn) (before : List Event) (seen : Next → Seen) (es : List Event) (left : ℕ) (shadow : List Context) : Type 0 where
+  pub record Shows (turn : Turn) (before : List Event) (seen : Next → Seen) (es : List Event)
+      (left : ℕ) (shadow : List Context) : Type 0 where
     pub further : Turn
     pub turns : turn ≡ with_events before further
     pub outcome : Outcome further seen (es ++ before) left shadow
 
   -- a turn from here keeps the shadow where the walk goes on with these callers
   abbrev pub KeepsWith : State → List Context → Type 0
-  KeepsWith s shadow = (u : State) (es : List Event) → arrivals u.cpu (distance t.base u.cpu.rip) 1 fs ≡ es → WalkGoesOn shadow u es → KeepsShadow t fs s u
+  KeepsWith s shadow =
+      (u : State) (es : List Event) → arrivals u.cpu (distance t.base u.cpu.rip) 1 fs ≡ es
+      → WalkGoesOn shadow u es → KeepsShadow t fs s u

@@ -7,8 +7,10 @@ use Rattle.ir_places.specs.Inside.{StaysInside}
 
 -- in all bodies an instruction that does nothing comes after what runs `__finally` blocks
 abbrev pub AreFollowed : LinearProgram → Type 0
-AreFollowed program = (name : BodyName) (b : LinearBody) → body_of program name ≡ Some b → IsFollowed b
+AreFollowed program =
+    (name : BodyName) (b : LinearBody) → body_of program name ≡ Some b → IsFollowed b
 
 -- and local unwinds go to instructions of their body
 abbrev pub StayInside : LinearProgram → Type 0
-StayInside program = (name : BodyName) (b : LinearBody) → body_of program name ≡ Some b → StaysInside b
+StayInside program =
+    (name : BodyName) (b : LinearBody) → body_of program name ≡ Some b → StaysInside b

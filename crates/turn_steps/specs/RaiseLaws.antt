@@ -31,25 +31,33 @@ use Rattle.turn_steps.specs.Outcomes.{Stands}
 use Rattle.turn_steps.specs.TurnEntries.{Continuations}
 use Rattle.turn_steps.specs.Places.{AreFollowed, StayInside}
 
--- a call of RaiseException: its event is shown, and a filter or a `__finally` block begins, a handler takes over, or nobody does
+-- a call of RaiseException: its event is shown, and a filter or a `__finally` block begins, a
+-- handler takes over, or nobody does
 abbrev pub RaisesAreMatched : Type 0
 RaisesAreMatched =
     (t : Functions) (fs : List Funclet) (program : LinearProgram) (p : Plan) (q : Sites)
     → IsProgramImage t fs program p q → IsWellMade program p → FlagsFit program
     → (s : State) (c : Configuration) (first : ℕ)
-    → Begins t fs program p q s c → IsKnown program c → instruction_at program c ≡ Some (instructions.CallBuiltIn RaiseException first)
-    → HasRule (act program (instructions.CallBuiltIn RaiseException first) (exec program zero) c) → KnownNext program c (instructions.CallBuiltIn RaiseException first)
-    → IsMatched t fs program pace turns_left (Stands t fs program p q) s c (instructions.CallBuiltIn RaiseException first)
+    → Begins t fs program p q s c → IsKnown program c
+    → instruction_at program c ≡ Some (instructions.CallBuiltIn RaiseException first)
+    → HasRule (act program (instructions.CallBuiltIn RaiseException first) (exec program zero) c)
+    → KnownNext program c (instructions.CallBuiltIn RaiseException first)
+    → IsMatched t fs program pace turns_left (Stands t fs program p q) s c
+    (instructions.CallBuiltIn RaiseException first)
 
 -- a local unwind: its first `__finally` block begins, or the label's instruction
 abbrev pub LocalUnwindsAreMatched : Type 0
 LocalUnwindsAreMatched =
     (t : Functions) (fs : List Funclet) (program : LinearProgram) (p : Plan) (q : Sites)
-    → IsProgramImage t fs program p q → IsWellMade program p → AreFollowed program → StayInside program → FlagsFit program
+    → IsProgramImage t fs program p q → IsWellMade program p → AreFollowed program
+    → StayInside program → FlagsFit program
     → (s : State) (c : Configuration) (label : ℕ)
-    → Begins t fs program p q s c → IsKnown program c → instruction_at program c ≡ Some (instructions.LocalUnwind label)
-    → HasRule (act program (instructions.LocalUnwind label) (exec program zero) c) → KnownNext program c (instructions.LocalUnwind label)
-    → IsMatched t fs program pace turns_left (Stands t fs program p q) s c (instructions.LocalUnwind label)
+    → Begins t fs program p q s c → IsKnown program c
+    → instruction_at program c ≡ Some (instructions.LocalUnwind label)
+    → HasRule (act program (instructions.LocalUnwind label) (exec program zero) c)
+    → KnownNext program c (instructions.LocalUnwind label)
+    → IsMatched t fs program pace turns_left (Stands t fs program p q) s c
+    (instructions.LocalUnwind label)
 
 -- where the exception of a call is continued, the body goes on from the saved state
 abbrev pub ContinuationsAfterCalls : Type 0
@@ -57,11 +65,17 @@ ContinuationsAfterCalls =
     (t : Functions) (fs : List Funclet) (program : LinearProgram) (p : Plan) (q : Sites)
     → IsProgramImage t fs program p q → IsWellMade program p
     → (s : State) (saved : Cpu) (is : List StackItem) (acts : List Activation) (c : Configuration)
-    → On t fs program p s.memory (context_of saved) is (Waits c.frame ∷ c.below) acts → IsSane (record { cpu = saved; memory = s.memory }) → p.resumes AfterCall c.frame saved ≡ true
-    → IsMachineMemory t fs program p q s.memory c.store.memory → c.store.activations ≡ locals_of acts
+    → On t fs program p s.memory (context_of saved) is (Waits c.frame ∷ c.below) acts
+    → IsSane (record { cpu = saved; memory = s.memory }) → p.resumes AfterCall c.frame saved ≡ true
+    → IsMachineMemory t fs program p q s.memory c.store.memory
+    → c.store.activations ≡ locals_of acts
     → (arrivals saved (distance t.base saved.rip) 1 fs ≡ [])
-    × (IsKnown program (resumed AfterCall c) → c.frame.landed ≡ None → LeadsTo t fs entry_turns (Begins t fs program p q) (record { cpu = saved; memory = s.memory }) (resumed AfterCall c))
+    × (IsKnown program (resumed AfterCall c) → c.frame.landed ≡ None
+    → LeadsTo t fs entry_turns (Begins t fs program p q)
+    (record { cpu = saved; memory = s.memory }) (resumed AfterCall c))
 
 -- and wherever one is continued, after a call or at the same operation
 abbrev pub BodiesGoOn : Type 0
-BodiesGoOn = (t : Functions) (fs : List Funclet) (program : LinearProgram) (p : Plan) (q : Sites) → IsProgramImage t fs program p q → IsWellMade program p → Continuations t fs program p q
+BodiesGoOn =
+    (t : Functions) (fs : List Funclet) (program : LinearProgram) (p : Plan) (q : Sites)
+    → IsProgramImage t fs program p q → IsWellMade program p → Continuations t fs program p q

@@ -25,8 +25,10 @@ InformationIsMatched =
     (t : Functions) (fs : List Funclet) (program : LinearProgram) (p : Plan) (q : Sites)
     → IsProgramImage t fs program p q → IsWellMade program p → FiltersReadInformation program
     → (s : State) (c : Configuration) (to : Slot) (field : Field)
-    → Begins t fs program p q s c → IsKnown program c → instruction_at program c ≡ Some (instructions.Information to field)
-    → Moves t fs program pace turns_left (Begins t fs program p q) s c (instructions.Information to field)
+    → Begins t fs program p q s c → IsKnown program c
+    → instruction_at program c ≡ Some (instructions.Information to field)
+    → Moves t fs program pace turns_left (Begins t fs program p q) s c
+    (instructions.Information to field)
 
 -- `put` shows its argument as a signed number, and its result is 0
 abbrev pub PutsAreMatched : Type 0
@@ -34,8 +36,10 @@ PutsAreMatched =
     (t : Functions) (fs : List Funclet) (program : LinearProgram) (p : Plan) (q : Sites)
     → IsProgramImage t fs program p q → IsWellMade program p
     → (s : State) (c : Configuration) (first : ℕ)
-    → Begins t fs program p q s c → IsKnown program c → instruction_at program c ≡ Some (instructions.CallBuiltIn Put first)
-    → Moves t fs program pace turns_left (Begins t fs program p q) s c (instructions.CallBuiltIn Put first)
+    → Begins t fs program p q s c → IsKnown program c
+    → instruction_at program c ≡ Some (instructions.CallBuiltIn Put first)
+    → Moves t fs program pace turns_left (Begins t fs program p q) s c
+    (instructions.CallBuiltIn Put first)
 
 -- `protect` sets the rights of a page, and its result says whether it has
 abbrev pub ProtectsAreMatched : Type 0
@@ -43,5 +47,7 @@ ProtectsAreMatched =
     (t : Functions) (fs : List Funclet) (program : LinearProgram) (p : Plan) (q : Sites)
     → IsProgramImage t fs program p q → IsWellMade program p
     → (s : State) (c : Configuration) (first : ℕ)
-    → Begins t fs program p q s c → IsKnown program c → instruction_at program c ≡ Some (instructions.CallBuiltIn Protect first)
-    → Moves t fs program pace turns_left (Begins t fs program p q) s c (instructions.CallBuiltIn Protect first)
+    → Begins t fs program p q s c → IsKnown program c
+    → instruction_at program c ≡ Some (instructions.CallBuiltIn Protect first)
+    → Moves t fs program pace turns_left (Begins t fs program p q) s c
+    (instructions.CallBuiltIn Protect first)

@@ -21,4 +21,5 @@ module _ (program : LinearProgram) where
   abbrev pub FiltersReadInformation : Type 0
   FiltersReadInformation =
       (name : BodyName) (b : LinearBody) (label : ℕ) (to : Slot) (field : Field)
-      → body_of program name ≡ Some b → slice_get b.code label ≡ Some (instructions.Information to field) → IsFilterBody name × IsField field
+      → body_of program name ≡ Some b → slice_get b.code label
+      ≡ Some (instructions.Information to field) → IsFilterBody name × IsField field

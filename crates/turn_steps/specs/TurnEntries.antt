@@ -22,10 +22,18 @@ use Rattle.turn_steps.specs.FuncletEntries.{entry_turns}
 use Rattle.turn_steps.specs.Outcomes.{Stands}
 
 module _ (t : Functions) (fs : List Funclet) (program : LinearProgram) (p : Plan) (q : Sites) where
-  -- where an exception is continued, the body goes on from the saved state: after its call, whose result is kept, or with the same operation; it has not just taken over for another
+  -- where an exception is continued, the body goes on from the saved state: after its call, whose
+  -- result is kept, or with the same operation; it has not just taken over for another
   abbrev pub Continuations : Type 0
   Continuations =
-      (s : State) (saved : Cpu) (is : List StackItem) (acts : List Activation) (resumption : Resumption) (c : Configuration)
-      → On t fs program p s.memory (context_of saved) is (Waits c.frame ∷ c.below) acts → IsSane (record { cpu = saved; memory = s.memory }) → p.resumes resumption c.frame saved ≡ true
-      → IsMachineMemory t fs program p q s.memory c.store.memory → c.store.activations ≡ locals_of acts
-      → (arrivals saved (distance t.base saved.rip) 1 fs ≡ []) × (IsKnown program (resumed resumption c) → c.frame.landed ≡ None → LeadsTo t fs entry_turns (Stands t fs program p q) (record { cpu = saved; memory = s.memory }) (resumed resumption c))
+      (s : State) (saved : Cpu) (is : List StackItem) (acts : List Activation)
+      (resumption : Resumption) (c : Configuration)
+      → On t fs program p s.memory (context_of saved) is (Waits c.frame ∷ c.below) acts
+      → IsSane (record { cpu = saved; memory = s.memory })
+      → p.resumes resumption c.frame saved ≡ true
+      → IsMachineMemory t fs program p q s.memory c.store.memory
+      → c.store.activations ≡ locals_of acts
+      → (arrivals saved (distance t.base saved.rip) 1 fs ≡ [])
+      × (IsKnown program (resumed resumption c) → c.frame.landed ≡ None
+      → LeadsTo t fs entry_turns (Stands t fs program p q)
+      (record { cpu = saved; memory = s.memory }) (resumed resumption c))

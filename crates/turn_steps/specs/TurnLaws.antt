@@ -42,17 +42,24 @@ use Rattle.turn_steps.specs.TurnEntries.{Continuations}
 abbrev pub waiting_below : Configuration → Frame → List Item → Configuration
 waiting_below c w below = record { frame = w; below = below; store = c.store; events = c.events }
 
--- where a few turns that show nothing lead to the host's return address of filters, the step of linear code that ends the filter is matched, whatever the answer
+-- where a few turns that show nothing lead to the host's return address of filters, the step of
+-- linear code that ends the filter is matched, whatever the answer
 abbrev pub FilterAnswersAreMatched : Type 0
 FilterAnswersAreMatched =
     (t : Functions) (fs : List Funclet) (program : LinearProgram) (p : Plan) (q : Sites)
     → IsProgramImage t fs program p q → FlagsFit program → Continuations t fs program p q
-    → (k : ℕ) (s u : State) (c : Configuration) (i : Instruction) (r : DispatchRecord) (is : List StackItem) (acts : List Activation)
-    (exception : Exception) (resumption : Resumption) (asked : Handler) (rest : List Handler) (w : Frame) (below : List Item)
-    → Comes t fs k s [] u → k ≤ 6 → u.cpu.rip ≡ filter_return → c.below ≡ Searches exception resumption asked rest ∷ Waits w ∷ below → AreClear c.below
-    → SearchIsAnswered t fs program p u r is acts exception resumption asked rest (waiting_below c w below)
-    → IsMachineMemory t fs program p q u.memory c.store.memory → c.store.activations ≡ locals_of acts
-    → ((next : Next) → act program i next c ≡ linear_answer program u exception resumption asked rest (waiting_below c w below) next) → HasRule (act program i (exec program zero) c)
+    → (k : ℕ) (s u : State) (c : Configuration) (i : Instruction) (r : DispatchRecord)
+    (is : List StackItem) (acts : List Activation)
+    (exception : Exception) (resumption : Resumption) (asked : Handler) (rest : List Handler)
+    (w : Frame) (below : List Item)
+    → Comes t fs k s [] u → k ≤ 6 → u.cpu.rip ≡ filter_return
+    → c.below ≡ Searches exception resumption asked rest ∷ Waits w ∷ below → AreClear c.below
+    → SearchIsAnswered t fs program p u r is acts exception resumption asked rest
+    (waiting_below c w below)
+    → IsMachineMemory t fs program p q u.memory c.store.memory
+    → c.store.activations ≡ locals_of acts
+    → ((next : Next) → act program i next c ≡ linear_answer program u exception resumption asked
+    rest (waiting_below c w below) next) → HasRule (act program i (exec program zero) c)
     → KnownNext program c i → IsMatched t fs program 16 turns_left (Stands t fs program p q) s c i
 
 -- and where they lead to that of `__finally` blocks, the step that ends the block
@@ -60,11 +67,17 @@ abbrev pub FinallyReturnsAreMatched : Type 0
 FinallyReturnsAreMatched =
     (t : Functions) (fs : List Funclet) (program : LinearProgram) (p : Plan) (q : Sites)
     → IsProgramImage t fs program p q → FlagsFit program
-    → (k : ℕ) (s u : State) (c : Configuration) (i : Instruction) (r : DispatchRecord) (is : List StackItem) (acts : List Activation) (rest : List Region) (target : Target) (f : Frame) (below : List Item)
-    → Comes t fs k s [] u → k ≤ 6 → u.cpu.rip ≡ finally_return → c.below ≡ Unwinds rest target ∷ Waits f ∷ below → AreClear c.below
-    → IsSane u → On t fs program p u.memory (context_of u.cpu) (Unwinding r ∷ is) (Unwinds rest target ∷ Waits f ∷ below) acts
-    → IsMachineMemory t fs program p q u.memory c.store.memory → c.store.activations ≡ locals_of acts
-    → ((next : Next) → act program i next c ≡ end_finally program next c.below c.events c.store) → HasRule (act program i (exec program zero) c)
+    → (k : ℕ) (s u : State) (c : Configuration) (i : Instruction) (r : DispatchRecord)
+    (is : List StackItem) (acts : List Activation) (rest : List Region) (target : Target)
+    (f : Frame) (below : List Item)
+    → Comes t fs k s [] u → k ≤ 6 → u.cpu.rip ≡ finally_return
+    → c.below ≡ Unwinds rest target ∷ Waits f ∷ below → AreClear c.below
+    → IsSane u → On t fs program p u.memory (context_of u.cpu) (Unwinding r ∷ is)
+    (Unwinds rest target ∷ Waits f ∷ below) acts
+    → IsMachineMemory t fs program p q u.memory c.store.memory
+    → c.store.activations ≡ locals_of acts
+    → ((next : Next) → act program i next c ≡ end_finally program next c.below c.events c.store)
+    → HasRule (act program i (exec program zero) c)
     → KnownNext program c i → IsMatched t fs program 16 turns_left (Stands t fs program p q) s c i
 
 -- where a body asks the host, a raise shows its event, and then does what linear code does
@@ -73,10 +86,16 @@ RaisesAreShown =
     (t : Functions) (fs : List Funclet) (program : LinearProgram) (p : Plan) (q : Sites)
     → IsProgramImage t fs program p q → FlagsFit program
     → (s : State) (saved : Cpu) (is : List StackItem) (acts : List Activation) (c : Configuration)
-    → AsksHost t fs program p s saved is (Waits c.frame ∷ c.below) acts → IsMachineMemory t fs program p q s.memory c.store.memory → c.store.activations ≡ locals_of acts
-    → (code : Code) (flags : ℕ) (access : Option (Bool × ℕ)) (exception : Exception) (resumption : Resumption)
-    → IsException code flags access exception → p.resumes resumption c.frame saved ≡ true → HasRule (raise program (exec program zero) exception resumption c)
-    → Shows t fs program p q (arrived t fs (raised t s code flags access saved)) (raise_event exception ∷ []) (λ next. raise program next exception resumption c) c.events (turns_left c) (callers (context_of saved) is)
+    → AsksHost t fs program p s saved is (Waits c.frame ∷ c.below) acts
+    → IsMachineMemory t fs program p q s.memory c.store.memory
+    → c.store.activations ≡ locals_of acts
+    → (code : Code) (flags : ℕ) (access : Option (Bool × ℕ)) (exception : Exception)
+    (resumption : Resumption)
+    → IsException code flags access exception → p.resumes resumption c.frame saved ≡ true
+    → HasRule (raise program (exec program zero) exception resumption c)
+    → Shows t fs program p q (arrived t fs (raised t s code flags access saved))
+    (raise_event exception ∷ []) (λ next. raise program next exception resumption c) c.events
+    (turns_left c) (callers (context_of saved) is)
 
 -- and a local unwind does what linear code does
 abbrev pub LocalUnwindsAreShown : Type 0
@@ -84,7 +103,14 @@ LocalUnwindsAreShown =
     (t : Functions) (fs : List Funclet) (program : LinearProgram) (p : Plan) (q : Sites)
     → IsProgramImage t fs program p q → FlagsFit program
     → (s : State) (saved : Cpu) (is : List StackItem) (acts : List Activation) (c : Configuration)
-    → AsksHost t fs program p s saved is (Waits c.frame ∷ c.below) acts → IsMachineMemory t fs program p q s.memory c.store.memory → c.store.activations ≡ locals_of acts
-    → (frame address label : ℕ) → frame < 2 ^ 64 → address < 2 ^ 64 → Aimed t fs program p (length c.below) label frame address (context_of saved) is (Waits c.frame ∷ c.below)
-    → HasRule (local_unwind program (exec program zero) label c) → AreClear (Waits c.frame ∷ c.below)
-    → Shows t fs program p q (arrived t fs (unwound_locally t s frame address saved)) [] (λ next. local_unwind program next label c) c.events (turns_left c) (callers (context_of saved) is)
+    → AsksHost t fs program p s saved is (Waits c.frame ∷ c.below) acts
+    → IsMachineMemory t fs program p q s.memory c.store.memory
+    → c.store.activations ≡ locals_of acts
+    → (frame address label : ℕ) → frame < 2 ^ 64 → address < 2 ^ 64
+    → Aimed t fs program p (length c.below) label frame address (context_of saved) is
+    (Waits c.frame ∷ c.below)
+    → HasRule (local_unwind program (exec program zero) label c)
+    → AreClear (Waits c.frame ∷ c.below)
+    → Shows t fs program p q (arrived t fs (unwound_locally t s frame address saved)) []
+    (λ next. local_unwind program next label c) c.events (turns_left c)
+    (callers (context_of saved) is)

@@ -2,8 +2,9 @@
 
 ghost use Rattle.turn_steps.specs.CallLaws.{ReturnsAreMatched, CallsBegin};
 
-/// Where the machine stands for a configuration of linear code, a function's return comes to the next
-/// instruction of the body that waits for it, or ends the run; and a call to the first one of the function.
+/// Where the machine stands for a configuration of linear code, a function's return comes to the
+/// next instruction of the body that waits for it, or ends the run; and a call to the first one of
+/// the function.
 pub fn laws()
     ensures returns { ReturnsAreMatched }
     ensures calls { CallsBegin }

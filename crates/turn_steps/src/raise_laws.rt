@@ -2,9 +2,10 @@
 
 ghost use Rattle.turn_steps.specs.RaiseLaws.{RaisesAreMatched, LocalUnwindsAreMatched, ContinuationsAfterCalls, BodiesGoOn};
 
-/// Where a body calls RaiseException, or jumps out of a body with `__finally` blocks, the machine comes in
-/// at most eight turns to what linear code comes to; where the exception of a call is continued, the
-/// instruction after the call begins, with the result 0; so a body goes on wherever one is continued.
+/// Where a body calls RaiseException, or jumps out of a body with `__finally` blocks, the machine
+/// comes in at most eight turns to what linear code comes to; where the exception of a call is
+/// continued, the instruction after the call begins, with the result 0; so a body goes on wherever
+/// one is continued.
 pub fn laws()
     ensures raises { RaisesAreMatched }
     ensures unwinds { LocalUnwindsAreMatched }

@@ -18,7 +18,8 @@ use Rattle.virtual_unwind.specs.Tail.{tail_at, left}
 abbrev pub distance : ℕ → ℕ → ℕ
 distance from to = (to + (2 ^ 64 - from)) % 2 ^ 64
 
--- a frame: its establisher frame, its caller's context, and in the body of an entry that entry's info
+-- a frame: its establisher frame, its caller's context, and in the body of an entry that entry's
+-- info
 pub record CallerFrame : Type 0 where
   pub frame : ℕ
   pub context : Context
@@ -69,16 +70,22 @@ unwound m base i parents ops c = do
 abbrev pub leaf : Memory → Context → Answer CallerFrame
 leaf m c = found (rsp c) None (popped m c)
 
-abbrev pub in_prologue : Memory → Info → List Info → List UnwindOperation → Context → Answer CallerFrame
-in_prologue m i parents ops c = let base = base_if i c (has_frame i && sets_frame ops) in found base None (unwound m base i parents ops c)
+abbrev pub in_prologue : Memory → Info → List Info → List UnwindOperation → Context
+    → Answer CallerFrame
+in_prologue m i parents ops c =
+    let base = base_if i c (has_frame i && sets_frame ops)
+    in found base None (unwound m base i parents ops c)
 
 abbrev pub in_body : Memory → Info → List Info → Context → Answer CallerFrame
-in_body m i parents c = let base = base_if i c (has_frame i) in found base (Some i) (unwound m base i parents (operations i.codes) c)
+in_body m i parents c =
+    let base = base_if i c (has_frame i) in found base (Some i)
+    (unwound m base i parents (operations i.codes) c)
 
 abbrev pub in_epilogue : Memory → List Instr → Context → Answer CallerFrame
 in_epilogue m is c = found (rsp c) None (left m is c)
 
-abbrev pub past_prologue : Memory → Info → List Info → Context → Option (List Instr) → Answer CallerFrame
+abbrev pub past_prologue : Memory → Info → List Info → Context → Option (List Instr)
+    → Answer CallerFrame
 past_prologue m i parents c (Some is) = in_epilogue m is c
 past_prologue m i parents c None = in_body m i parents c
 

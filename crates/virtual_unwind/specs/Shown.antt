@@ -14,7 +14,13 @@ handler_of None = None
 handler_of (Some i) = i.handler
 
 abbrev pub caller_of_found : CallerFrame → Caller
-caller_of_found f = record { frame = f.frame; context = f.context; handler = handler_of f.asked; in_body = is_some f.asked }
+caller_of_found f =
+    record {
+      frame = f.frame;
+      context = f.context;
+      handler = handler_of f.asked;
+      in_body = is_some f.asked;
+    }
 
 abbrev pub shown : Answer CallerFrame → Result Caller UnwindErr
 shown (Ok f) = Ok (caller_of_found f)

@@ -1,4 +1,5 @@
--- The trailing parts of a legal epilogue, as the machine fetches them, and what they do to a context (Microsoft x64 ABI, "Prolog and epilog").
+-- The trailing parts of a legal epilogue, as the machine fetches them, and what they do to a
+-- context (Microsoft x64 ABI, "Prolog and epilog").
 use Rattle.std.specs.Prelude.{ℕ, zero, suc, ◌+◌, ◌/◌, ◌%◌, ◌^◌, Bool, true, false, ◌==◌, if◌then◌else◌, List, [], ◌∷◌, Option, Some, None, Ok, slice_index}
 use Rattle.seh_num.specs.declared.width.Width.TheVariants.{W64}
 use Rattle.seh_num.specs.declared.size.TheConstants.{LONGEST_INSTRUCTION}
@@ -25,7 +26,8 @@ use Rattle.virtual_unwind.specs.Undone.{Answer, word, popped}
 
 -- ---- instructions as they are fetched
 
--- an instruction, how many bytes it has, and whether its spelling is one that an end of an epilogue may have
+-- an instruction, how many bytes it has, and whether its spelling is one that an end of an epilogue
+-- may have
 pub record FetchedInstr : Type 0 where
   pub instr : Instr
   pub size : ℕ
@@ -45,7 +47,8 @@ item_of bytes None = None
 item_of bytes (Some x) = Some (record { instr = x.0; size = x.1; plain = is_plain bytes x.1 x.0 })
 
 unfoldable pub fetched_at : Memory → ℕ → Option FetchedInstr
-fetched_at m at = item_of (executable m LONGEST_INSTRUCTION at) (leading (executable m LONGEST_INSTRUCTION at))
+fetched_at m at =
+    item_of (executable m LONGEST_INSTRUCTION at) (leading (executable m LONGEST_INSTRUCTION at))
 
 -- ---- what an instruction is to an epilogue
 
@@ -88,14 +91,16 @@ by_role others first x Restores = prepend_instr x.instr (others x.size)
 by_role others first x Ends = Some (x.instr ∷ [])
 by_role others first x Other = None
 
-abbrev pub from_item : (ℕ → Option (List Instr)) → ℕ → Bool → Option FetchedInstr → Option (List Instr)
+abbrev pub from_item : (ℕ → Option (List Instr)) → ℕ → Bool → Option FetchedInstr
+    → Option (List Instr)
 from_item others f first None = None
 from_item others f first (Some x) = by_role others first x (role_of f x.plain x.instr)
 
 -- the trailing part of at most so many instructions that begins at an address, if there is one
 unfoldable pub tail : ℕ → Bool → ℕ → Memory → ℕ → Option (List Instr)
 tail zero first f m at = None
-tail (suc n) first f m at = from_item (λ k. tail n false f m ((at + k) % 2 ^ 64)) f first (fetched_at m at)
+tail (suc n) first f m at =
+    from_item (λ k. tail n false f m ((at + k) % 2 ^ 64)) f first (fetched_at m at)
 
 -- no epilogue is longer than the addresses are many
 unfoldable pub tail_at : ℕ → Memory → ℕ → Option (List Instr)
@@ -113,7 +118,8 @@ constant o = 0
 
 abbrev pub left_by : Memory → Instr → Context → Answer Context
 left_by m (instrs.Arithmetic o w to by) c = Ok (rsp_raised c (constant by))
-left_by m (instrs.LoadAddress w to a) c = Ok (with_rsp c ((base_value c a.base + a.displacement) % 2 ^ 64))
+left_by m (instrs.LoadAddress w to a) c =
+    Ok (with_rsp c ((base_value c a.base + a.displacement) % 2 ^ 64))
 left_by m (instrs.Pop r) c = word m (rsp c) >>= λ v. Ok (set (rsp_raised c 8) (number r) v)
 left_by m i c = popped m c
 

@@ -38,7 +38,8 @@ going u c = Ok (record { context = c; is_returned = u.is_returned })
 
 -- one code undone. base: the establisher frame
 abbrev pub undone_one : Memory → ℕ → Info → Undo → UnwindOperation → Answer Undo
-undone_one m base i u (Push r) = word m (rsp u.context) >>= λ v. going u (rsp_raised (set u.context r v) 8)
+undone_one m base i u (Push r) =
+    word m (rsp u.context) >>= λ v. going u (rsp_raised (set u.context r v) 8)
 undone_one m base i u (Allocate n) = going u (rsp_raised u.context n)
 undone_one m base i u SetFrame = going u (with_rsp u.context (below_frame i u.context))
 undone_one m base i u (Save r n) = word m ((base + n) % 2 ^ 64) >>= λ v. going u (set u.context r v)

@@ -13,8 +13,10 @@ use Rattle.whole_runs.specs.Shadow.{KeepsShadow}
 abbrev pub IsLive : State → Type 0
 IsLive s = (s.cpu.rip == 0) ≡ false
 
--- a live state makes a turn, which shows the first of these events and keeps the shadow; the rest comes after it
-pub record Turns (t : Functions) (fs : List Funclet) (s : State) (events : List Event) (Rest : List Event → State → Type 0) : Type 0 where
+-- a live state makes a turn, which shows the first of these events and keeps the shadow; the rest
+-- comes after it
+pub record Turns (t : Functions) (fs : List Funclet) (s : State) (events : List Event)
+    (Rest : List Event → State → Type 0) : Type 0 where
   pub live : IsLive s
   pub state : State
   pub first : List Event
@@ -30,7 +32,8 @@ Comes t fs zero s events u = (events ≡ []) × (s ≡ u)
 Comes t fs (suc n) s events u = Turns t fs s events (λ others v. Comes t fs n v others u)
 
 -- a state leads, in at most so many turns that show nothing, to one that stands for a configuration
-pub record LeadsTo (t : Functions) (fs : List Funclet) (most : ℕ) (Stands : State → Configuration → Type 0) (s : State) (c : Configuration) : Type 0 where
+pub record LeadsTo (t : Functions) (fs : List Funclet) (most : ℕ)
+    (Stands : State → Configuration → Type 0) (s : State) (c : Configuration) : Type 0 where
   pub turns : ℕ
   pub few : turns ≤ most
   pub state : State

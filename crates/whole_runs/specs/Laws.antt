@@ -20,37 +20,45 @@ use Rattle.whole_runs.specs.Comes.{Comes}
 use Rattle.whole_runs.specs.Ends.{run_end_of, HasRule, IsCalm}
 use Rattle.whole_runs.specs.Matched.{Follows}
 
--- a run of the machine shows these events at least; where the program has ended, the run has ended so and shows nothing else
+-- a run of the machine shows these events at least; where the program has ended, the run has ended
+-- so and shows nothing else
 abbrev pub ShowsAll : Shown → machines.Shown → Type 0
 ShowsAll meant machine = Covers meant.events (run_end_of meant.end) machine
 
--- a run of the machine shows none but these events, from the first on; where it has ended, the program has ended so and shows nothing else
+-- a run of the machine shows none but these events, from the first on; where it has ended, the
+-- program has ended so and shows nothing else
 pub record ShowsNoMore (meant : Shown) (machine : machines.Shown) : Type 0 where
   pub shows : IsPrefixOf machine.events meant.events
-  pub ends : (e : RunEnd) → machine.end ≡ Some e → (run_end_of meant.end ≡ Some e) × (machine.events ≡ meant.events)
+  pub ends : (e : RunEnd) → machine.end ≡ Some e
+      → (run_end_of meant.end ≡ Some e) × (machine.events ≡ meant.events)
 
 -- ---- from a configuration on
 
 -- in enough turns the machine shows what so many steps show
 abbrev pub RunsShowAll : Type 0
 RunsShowAll =
-    (t : Functions) (fs : List Funclet) (program : LinearProgram) (pace : ℕ) (credit : Configuration → ℕ)
+    (t : Functions) (fs : List Funclet) (program : LinearProgram) (pace : ℕ)
+    (credit : Configuration → ℕ)
     (n turns : ℕ) (s : State) (c : Configuration)
-    → Follows t fs program pace credit n s c → HasRule (exec program n c) → pace * n + credit c ≤ turns
+    → Follows t fs program pace credit n s c → HasRule (exec program n c)
+    → pace * n + credit c ≤ turns
     → ShowsAll (shown (exec program n c)) (run t fs turns (host s) c.events)
 
 -- in as many turns at most the machine shows no more than these
 abbrev pub RunsShowNoMore : Type 0
 RunsShowNoMore =
-    (t : Functions) (fs : List Funclet) (program : LinearProgram) (pace : ℕ) (credit : Configuration → ℕ)
+    (t : Functions) (fs : List Funclet) (program : LinearProgram) (pace : ℕ)
+    (credit : Configuration → ℕ)
     (m n : ℕ) (s : State) (c : Configuration)
     → Follows t fs program pace credit n s c → IsCalm (exec program n c) → m ≤ n
     → ShowsNoMore (shown (exec program n c)) (run t fs m (host s) c.events)
 
 -- ---- whole programs
 
--- so many turns that show nothing lead to the beginning of `main`, and so many steps of linear code are matched from there on
-pub record Begins (t : Functions) (fs : List Funclet) (program : LinearProgram) (pace : ℕ) (credit : Configuration → ℕ) (arg : ℤ) (first : ℕ) (s : State) (n : ℕ) : Type 0 where
+-- so many turns that show nothing lead to the beginning of `main`, and so many steps of linear code
+-- are matched from there on
+pub record Begins (t : Functions) (fs : List Funclet) (program : LinearProgram) (pace : ℕ)
+    (credit : Configuration → ℕ) (arg : ℤ) (first : ℕ) (s : State) (n : ℕ) : Type 0 where
   pub main : LinearFunction
   pub is_main : slice_get program.functions program.main ≡ Some main
   pub state : State
@@ -60,27 +68,34 @@ pub record Begins (t : Functions) (fs : List Funclet) (program : LinearProgram) 
 
 abbrev pub ProgramsShowAll : Type 0
 ProgramsShowAll =
-    (t : Functions) (fs : List Funclet) (program : LinearProgram) (pace : ℕ) (credit : Configuration → ℕ)
+    (t : Functions) (fs : List Funclet) (program : LinearProgram) (pace : ℕ)
+    (credit : Configuration → ℕ)
     (arg : ℤ) (first n turns : ℕ) (s : State)
-    → Begins t fs program pace credit arg first s n → HasRule (seen program arg n) → first + pace * n ≤ turns
+    → Begins t fs program pace credit arg first s n → HasRule (seen program arg n)
+    → first + pace * n ≤ turns
     → ShowsAll (linear_meaning program arg n) (run t fs turns (host s) [])
 
 abbrev pub ProgramsShowNoMore : Type 0
 ProgramsShowNoMore =
-    (t : Functions) (fs : List Funclet) (program : LinearProgram) (pace : ℕ) (credit : Configuration → ℕ)
+    (t : Functions) (fs : List Funclet) (program : LinearProgram) (pace : ℕ)
+    (credit : Configuration → ℕ)
     (arg : ℤ) (first m n : ℕ) (s : State)
     → Begins t fs program pace credit arg first s n → IsCalm (seen program arg n) → m ≤ n
     → ShowsNoMore (linear_meaning program arg n) (run t fs m (host s) [])
 
--- where the walk gives these callers in the first state, it gives the shadow after each number of turns, up to an end; as long as the program's steps are calm
+-- where the walk gives these callers in the first state, it gives the shadow after each number of
+-- turns, up to an end; as long as the program's steps are calm
 abbrev pub ProgramsWalkTheShadow : Type 0
 ProgramsWalkTheShadow =
-    (t : Functions) (fs : List Funclet) (program : LinearProgram) (pace : ℕ) (credit : Configuration → ℕ)
+    (t : Functions) (fs : List Funclet) (program : LinearProgram) (pace : ℕ)
+    (credit : Configuration → ℕ)
     (arg : ℤ) (first m n : ℕ) (s : State) (cs : List Context)
     → Begins t fs program pace credit arg first s n → IsCalm (seen program arg n) → m ≤ n
     → WalkGives t s cs → (run t fs m (host s) []).end ≡ None
     → WalkGivesShadow t fs m s cs
 
--- linear code makes at most 16 turns for each step of a program, and 2 more: where the machine makes at most 16 for each of these, and 224 before them, it makes at most 256 for each step of the program, and as many again
+-- linear code makes at most 16 turns for each step of a program, and 2 more: where the machine
+-- makes at most 16 for each of these, and 224 before them, it makes at most 256 for each step of
+-- the program, and as many again
 abbrev pub TurnsAreEnough : Type 0
 TurnsAreEnough = (n first : ℕ) → first ≤ 224 → first + 16 * (16 * n + 2) ≤ 256 * n + 256

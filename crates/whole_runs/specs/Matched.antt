@@ -23,10 +23,13 @@ use Rattle.linear_machine.specs.Run.{instruction_at, exec}
 use Rattle.whole_runs.specs.Comes.{IsLive, Comes}
 use Rattle.whole_runs.specs.Ends.{HasRule}
 
--- a step takes at most `pace` turns, and those that earlier steps have left: `credit` says how many these are
-module _ (t : Functions) (fs : List Funclet) (program : LinearProgram) (pace : ℕ) (credit : Configuration → ℕ) where
+-- a step takes at most `pace` turns, and those that earlier steps have left: `credit` says how many
+-- these are
+module _ (t : Functions) (fs : List Funclet) (program : LinearProgram) (pace : ℕ)
+    (credit : Configuration → ℕ) where
   -- linear code goes on, and the machine comes to a state that stands for its next configuration
-  pub record Moves (Stands : State → Configuration → Type 0) (s : State) (c : Configuration) (i : Instruction) : Type 0 where
+  pub record Moves (Stands : State → Configuration → Type 0) (s : State) (c : Configuration)
+      (i : Instruction) : Type 0 where
     pub turns : ℕ
     pub some : 1 ≤ turns
     pub configuration : Configuration
@@ -48,7 +51,8 @@ module _ (t : Functions) (fs : List Funclet) (program : LinearProgram) (pace : �
     pub over : state.cpu.rip ≡ 0
     pub value : ℤ
     pub answer : signed W32 (register state.cpu Rax) ≡ value
-    pub acts : (next : Next) → act program i next c ≡ Finished (source.Exit value) (c.events ++ events)
+    pub acts : (next : Next) → act program i next c ≡ Finished (source.Exit value)
+        (c.events ++ events)
 
   -- nobody handles an exception: a last turn ends the run
   pub record Dies (s : State) (c : Configuration) (i : Instruction) : Type 0 where
@@ -61,9 +65,11 @@ module _ (t : Functions) (fs : List Funclet) (program : LinearProgram) (pace : �
     pub last : List Event
     pub code : Code
     pub ends : turn t fs state ≡ Ends last (ends.Unhandled code)
-    pub acts : (next : Next) → act program i next c ≡ Finished (source.Unhandled code) (c.events ++ (events ++ last))
+    pub acts : (next : Next) → act program i next c ≡ Finished (source.Unhandled code)
+        (c.events ++ (events ++ last))
 
-  -- linear code ends because a reserved byte is touched, or the depth would be too great: what it has shown, the machine shows too
+  -- linear code ends because a reserved byte is touched, or the depth would be too great: what it
+  -- has shown, the machine shows too
   pub record Fails (s : State) (c : Configuration) (i : Instruction) : Type 0 where
     pub turns : ℕ
     pub few : turns ≤ pace + credit c
@@ -76,12 +82,15 @@ module _ (t : Functions) (fs : List Funclet) (program : LinearProgram) (pace : �
     pub wild : is_calm (Some end) ≡ false
     pub acts : (next : Next) → act program i next c ≡ Finished end (c.events ++ events)
 
-  abbrev pub IsMatched : (State → Configuration → Type 0) → State → Configuration → Instruction → Type 0
+  abbrev pub IsMatched : (State → Configuration → Type 0) → State → Configuration → Instruction
+      → Type 0
   IsMatched Stands s c i = Moves Stands s c i ⊎ (Exits s c i ⊎ (Dies s c i ⊎ Fails s c i))
 
   -- an instruction that linear code is at, where a rule leads on, is matched
   abbrev pub StepIsMatched : (State → Configuration → Type 0) → State → Configuration → Type 0
-  StepIsMatched Stands s c = (i : Instruction) → instruction_at program c ≡ Some i → HasRule (act program i (exec program zero) c) → IsMatched Stands s c i
+  StepIsMatched Stands s c =
+      (i : Instruction) → instruction_at program c ≡ Some i
+      → HasRule (act program i (exec program zero) c) → IsMatched Stands s c i
 
   -- so many steps are matched, one after another
   abbrev pub Follows : ℕ → State → Configuration → Type 0

@@ -18,7 +18,8 @@ abbrev pub first_shadow : State → List Context
 first_shadow s = caller_at s ∷ []
 
 -- a turn that ends the run leads to no state
-abbrev pub by_turn : Functions → List Funclet → (State → List Context → Option Shadowed) → State → List Context → Turn → Option Shadowed
+abbrev pub by_turn : Functions → List Funclet → (State → List Context → Option Shadowed) → State
+    → List Context → Turn → Option Shadowed
 by_turn t fs rest s cs (Continues u es) = rest u (shadow_after t fs s u cs)
 by_turn t fs rest s cs (Ends es end) = None
 
@@ -30,10 +31,13 @@ unless_over next false = next
 -- after m turns more
 unfoldable pub shadowed : ℕ → Functions → List Funclet → State → List Context → Option Shadowed
 shadowed zero t fs s cs = Some (record { state = s; shadow = cs })
-shadowed (suc m) t fs s cs = unless_over (by_turn t fs (shadowed m t fs) s cs (turn t fs s)) (s.cpu.rip == 0)
+shadowed (suc m) t fs s cs =
+    unless_over (by_turn t fs (shadowed m t fs) s cs (turn t fs s)) (s.cpu.rip == 0)
 
--- m turns lead to a state, and the walk from there gives exactly the shadow, entry by entry, and then RIP 0
-pub record WalkGivesShadow (t : Functions) (fs : List Funclet) (m : ℕ) (s : State) (cs : List Context) : Type 0 where
+-- m turns lead to a state, and the walk from there gives exactly the shadow, entry by entry, and
+-- then RIP 0
+pub record WalkGivesShadow (t : Functions) (fs : List Funclet) (m : ℕ) (s : State)
+    (cs : List Context) : Type 0 where
   pub there : Shadowed
   pub comes : shadowed m t fs s cs ≡ Some there
   pub walk : WalkGives t there.state there.shadow

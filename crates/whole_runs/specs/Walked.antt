@@ -6,7 +6,8 @@ use Rattle.virtual_unwind.specs.CallerOf.{Functions}
 use Rattle.seh_walk.specs.declared.walk.WalkState.{WalkState}
 use Rattle.seh_walk.specs.Walk.{Visited, Over, Past, Frame, Broken, visited}
 
--- a frame: its stack pointer, and what its caller goes on with: the return address, the stack pointer after the return, and the nonvolatile registers
+-- a frame: its stack pointer, and what its caller goes on with: the return address, the stack
+-- pointer after the return, and the nonvolatile registers
 pub record LiveFrame : Type 0 where
   pub at : ℕ
   pub caller : Context
@@ -21,7 +22,8 @@ given_by rest (Past w) = rest w
 given_by rest (Frame f w) = with_frame (record { at = f.frame; caller = f.context }) (rest w)
 given_by rest (Broken why) = None
 
--- the frames that a walk gives one after another, where it comes to RIP 0 in fewer than so many steps
+-- the frames that a walk gives one after another, where it comes to RIP 0 in fewer than so many
+-- steps
 unfoldable pub walked : ℕ → Functions → Memory → WalkState → Option (List LiveFrame)
 walked zero t m w = None
 walked (suc n) t m w = given_by (walked n t m) (visited t m w)
