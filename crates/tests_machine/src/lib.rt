@@ -11,6 +11,6 @@ mod memory;
 #[cfg(test)]
 mod numbers;
 #[cfg(test)]
-mod spelling;
+mod rows;
 #[cfg(test)]
 mod streams;

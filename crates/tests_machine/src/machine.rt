@@ -1,18 +1,18 @@
+use crate::rows::{bytes_of, number};
 use host_layout::service::Service;
 use seh_num::event::Code;
-use seh_num::extension::zero_extend;
 use seh_num::width::Width;
 use std::alloc::{AllocError, Global};
+use std::process::Abort;
 use std::test::Fail;
 use x64_instr::decoding::decode;
-use x64_instr::instruction::{Condition, Instr};
 use x64_instr::register::Reg;
 use x64_machine::context::Context;
 use x64_machine::control::pop;
 use x64_machine::cpu::{Cpu, Flags};
 use x64_machine::outcome::{StepOutcome, Stop};
 use x64_machine::running::{execute, step};
-use x64_machine::words::{add, flags_of, merge, multiply, subtract};
+use x64_machine::words::merge;
 use x64_memory::page_map::PageMap;
 use x64_memory::region::Region;
 use x64_memory::space::AddressSpace;
@@ -71,6 +71,15 @@ fn cpu() -> Cpu {
         rip: 0x4000_0000,
         flags: flags(false, false, false, false),
     }
+}
+
+/// A code of 32 bits.
+fn code_of(number: u64) -> Code {
+    Code((number % 0x1_0000_0000) as u32)
+}
+
+fn space(alloc: Global) -> Result<PageMap, AllocError> {
+    PageMap::new(alloc, &REGIONS)
 }
 
 fn violation(write: bool, address: u64) -> StepOutcome {

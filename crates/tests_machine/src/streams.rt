@@ -74,53 +74,28 @@ fn lines_without_a_trace(rt: HostRuntime) -> Result<(), Fail> {
     Ok(())
 }
 
+fn stopped(why: Reason, address: u64) -> RunEnd {
+    RunEnd::Stopped { why, address }
+}
+
 #[test]
 fn lines_of_ends(rt: HostRuntime) -> Result<(), Fail> {
+    let limit = RunEnd::StackLimit { address: 0xABC };
+    let out_of_turns = RunEnd::OutOfTurns { turns: u64::MAX };
+    let illegal = stopped(Reason::Illegal, 1);
+    let bad_record = stopped(Reason::BadRecord, 2);
+    let unreadable = stopped(Reason::Unreadable, 3);
+    let backward = stopped(Reason::Backward, 4);
+    let lost_frame = stopped(Reason::LostFrame, 5);
     let cases = [
         (RunEnd::Exit(-2_147_483_648), "exit -2147483648\n"),
-        (
-            RunEnd::StackLimit { address: 0xABC },
-            "stack limit 0000000000000ABC\n",
-        ),
-        (
-            RunEnd::OutOfTurns { turns: u64::MAX },
-            "out of turns 18446744073709551615\n",
-        ),
-        (
-            RunEnd::Stopped {
-                why: Reason::Illegal,
-                address: 1,
-            },
-            "stopped Illegal 0000000000000001\n",
-        ),
-        (
-            RunEnd::Stopped {
-                why: Reason::BadRecord,
-                address: 2,
-            },
-            "stopped BadRecord 0000000000000002\n",
-        ),
-        (
-            RunEnd::Stopped {
-                why: Reason::Unreadable,
-                address: 3,
-            },
-            "stopped Unreadable 0000000000000003\n",
-        ),
-        (
-            RunEnd::Stopped {
-                why: Reason::Backward,
-                address: 4,
-            },
-            "stopped Backward 0000000000000004\n",
-        ),
-        (
-            RunEnd::Stopped {
-                why: Reason::LostFrame,
-                address: 5,
-            },
-            "stopped LostFrame 0000000000000005\n",
-        ),
+        (limit, "stack limit 0000000000000ABC\n"),
+        (out_of_turns, "out of turns 18446744073709551615\n"),
+        (illegal, "stopped Illegal 0000000000000001\n"),
+        (bad_record, "stopped BadRecord 0000000000000002\n"),
+        (unreadable, "stopped Unreadable 0000000000000003\n"),
+        (backward, "stopped Backward 0000000000000004\n"),
+        (lost_frame, "stopped LostFrame 0000000000000005\n"),
     ];
     for (end, text) in &cases {
         let mut out = VecSink::new(rt.alloc());

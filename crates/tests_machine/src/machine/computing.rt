@@ -1,525 +1,189 @@
+//! What instructions make of registers and flags.
+//!
+//! A row of the first three tables is
+//!
+//!     CODE | INSTRUCTION | RAX RCX FLAGS | RAX FLAGS
+//!
+//! with what stands there before, and after. All are in hexadecimal, but FLAGS are the letters of
+//! those that are set, or `-`.
+
 use super::*;
 
-// Registers RAX and RCX, the flags before; RAX and the flags after.
+const BITS_AND_FLAGS: &str = r"
+21 C8    | and eax, ecx  | FFFFFFFF0000F0F0 FF000FF0 CO         | F0 -
+48 21 C8 | and rax, rcx  | 8000000000000001 8000000000000000 CO | 8000000000000000 S
+09 C8    | or eax, ecx   | 0 0 CSO                              | 0 Z
+31 C8    | xor eax, ecx  | 80000001 1 CZO                       | 80000000 S
+39 C8    | cmp eax, ecx  | FFFFFFFF00000001 2 -                 | FFFFFFFF00000001 CS
+39 C8    | cmp eax, ecx  | 80000000 1 CZ                        | 80000000 O
+85 C8    | test eax, ecx | FFFFFFFF000000F0 F CSO               | FFFFFFFF000000F0 Z
+84 C8    | test al, cl   | 80 FF80 C                            | 80 S
+00 C8    | add al, cl    | 123456FF 1 -                         | 12345600 CZ
+00 C8    | add al, cl    | 7F 1 -                               | 80 SO
+66 29 C8 | sub ax, cx    | 10000 1 -                            | 1FFFF CS
+F7 D8    | neg eax       | 0 0 CSO                              | 0 Z
+F7 D8    | neg eax       | FFFFFFFF00000001 0 -                 | FFFFFFFF CS
+F7 D8    | neg eax       | 80000000 0 -                         | 80000000 CSO
+F6 D8    | neg al        | 180 0 -                              | 180 CSO
+F7 D0    | not eax       | FFFFFFFF000000FF 0 CZO               | FFFFFF00 CZO
+";
+
+/// CF: the last bit out. OF: for a count of 1 alone. A count of 0 leaves the flags.
+const SHIFTS: &str = r"
+C1 E0 01    | shl eax, 1                | 40000000 0 CZ          | 80000000 SO
+C1 E0 01    | shl eax, 1                | C0000000 0 O           | 80000000 CS
+C1 E0 04    | shl eax, 4                | 10000001 0 SO          | 10 CO
+C1 E0 20    | shl eax, 32               | FFFFFFFF00000001 0 CZS | 1 CZS
+48 C1 E0 3F | shl rax, 63               | 3 0 O                  | 8000000000000000 CSO
+C1 E8 01    | shr eax, 1                | 80000001 0 -           | 40000000 CO
+C1 E8 1F    | shr eax, 31               | 80000000 0 C           | 1 -
+48 C1 E8 01 | shr rax, 1                | 1 0 O                  | 0 CZ
+C1 F8 01    | sar eax, 1                | 80000001 0 O           | C0000000 CS
+C1 F8 04    | sar eax, 4                | 70000008 0 O           | 7000000 CO
+48 C1 F8 3F | sar rax, 63               | 8000000000000000 0 C   | FFFFFFFFFFFFFFFF S
+D3 E0       | shl eax, cl: 33 modulo 32 | 1 121 CZSO             | 2 -
+48 D3 F8    | sar rax, cl: 64 modulo 64 | 8000000000000000 40 C  | 8000000000000000 C
+";
+
+/// CF and OF of a product: it doesn't fit. The others leave the flags.
+const OTHERS: &str = r"
+6B C1 03             | imul eax, ecx, 3          | 0 55555555 ZS               | FFFFFFFF CZSO
+6B C1 FF             | imul eax, ecx, -1         | 0 5 CO                      | FFFFFFFB -
+48 69 C1 00 00 00 80 | imul rax, rcx, -80000000h | 0 2 CZO                     | FFFFFFFF00000000 Z
+0F B6 C1             | movzx eax, cl             | FFFFFFFFFFFFFFFF 12345680 C | 80 C
+48 0F B7 C1          | movzx rax, cx             | FFFFFFFFFFFFFFFF 87658000 C | 8000 C
+0F BE C1             | movsx eax, cl             | 0 80 C                      | FFFFFF80 C
+48 0F BF C1          | movsx rax, cx             | 0 8000 C                    | FFFFFFFFFFFF8000 C
+8D 44 88 08          | lea eax, [rax+rcx*4+8]    | FFFFFFFFFFFFFFF0 2 CZSO     | 0 CZSO
+48 8D 44 C8 FF       | lea rax, [rax+rcx*8-1]    | 10 3 -                      | 27 -
+C6 C0 80             | mov al, 80h               | 1111 0 Z                    | 1180 Z
+48 C7 C0 FE FF FF FF | mov rax, -2               | 0 0 -                       | FFFFFFFFFFFFFFFE -
+0F 94 C0             | sete al                   | FFFF 0 Z                    | FF01 Z
+0F 9C C0             | setl al                   | FFFF 0 SO                   | FF00 SO
+90                   | nop                       | 7 0 CZSO                    | 7 CZSO
+";
+
+/// DIV and IDIV of RDX and RAX by RCX: `CODE | INSTRUCTION | RDX RAX RCX | RAX RDX`, or in place of
+/// RAX RDX the code of the fault.
+const DIVISIONS: &str = r"
+F7 F1    | div ecx  | AAAAAAAA00000001 BBBBBBBB00000005 2                | 80000002 1
+F7 F1    | div ecx  | 2 0 2                                              | C0000095
+F7 F1    | div ecx  | 5 7 0                                              | C0000094
+48 F7 F1 | div rcx  | 1 0 2                                              | 8000000000000000 0
+48 F7 F1 | div rcx  | 2 0 2                                              | C0000095
+F7 F9    | idiv ecx | FFFFFFFF FFFFFFF9 2                                | FFFFFFFD FFFFFFFF
+F7 F9    | idiv ecx | 0 7 FFFFFFFE                                       | FFFFFFFD 1
+F7 F9    | idiv ecx | FFFFFFFF 80000000 FFFFFFFF                         | C0000095
+F7 F9    | idiv ecx | FFFFFFFF 80000000 1                                | 80000000 0
+48 F7 F9 | idiv rcx | FFFFFFFFFFFFFFFF 8000000000000000 FFFFFFFFFFFFFFFF | C0000095
+48 F7 F9 | idiv rcx | 8000000000000000 0 FFFFFFFFFFFFFFFF                | C0000095
+48 F7 F9 | idiv rcx | FFFFFFFFFFFFFFFF FFFFFFFFFFFFFFFF 2                | 0 FFFFFFFFFFFFFFFF
+48 F7 F9 | idiv rcx | 0 1 0                                              | C0000094
+";
+
+/// The flags that letters name.
+fn flags_named(letters: &str) -> Flags {
+    let mut named = flags(false, false, false, false);
+    for letter in letters.bytes() {
+        match letter {
+            b'C' => named.carry = true,
+            b'Z' => named.zero = true,
+            b'S' => named.sign = true,
+            b'O' => named.overflow = true,
+            _ => (),
+        }
+    }
+    named
+}
+
+/// The states before and after that a row tells.
+fn states_of(rt: &impl Abort, row: &str) -> Option<(Cpu, Cpu)> {
+    let mut columns = row.split('|').skip(2);
+    let mut words = columns.next()?.split_ascii_whitespace();
+    let mut before = cpu();
+    before.registers[0] = number(rt, words.next()?);
+    before.registers[1] = number(rt, words.next()?);
+    before.flags = flags_named(words.next()?);
+    let mut words = columns.next()?.split_ascii_whitespace();
+    let mut after = before;
+    after.registers[0] = number(rt, words.next()?);
+    after.flags = flags_named(words.next()?);
+    Some((before, after))
+}
+
+/// The state before a division, and what it comes to. A fault changes nothing.
+fn division_of(rt: &impl Abort, row: &str) -> Option<(Cpu, Result<Cpu, Stop>)> {
+    let mut columns = row.split('|').skip(2);
+    let mut words = columns.next()?.split_ascii_whitespace();
+    let mut before = cpu();
+    before.registers[2] = number(rt, words.next()?);
+    before.registers[0] = number(rt, words.next()?);
+    before.registers[1] = number(rt, words.next()?);
+    let mut words = columns.next()?.split_ascii_whitespace();
+    let first = number(rt, words.next()?);
+    let want = match words.next() {
+        None => Err(Stop::Fault {
+            code: code_of(first),
+            access: None,
+        }),
+        Some(remainder) => {
+            let mut after = before;
+            after.registers[0] = first;
+            after.registers[2] = number(rt, remainder);
+            Ok(after)
+        }
+    };
+    Some((before, want))
+}
+
+/// Compares the effect of a row's code.
+fn has_effect(
+    rt: &impl Abort,
+    alloc: Global,
+    row: &str,
+    before: Cpu,
+    want: Result<Cpu, Stop>,
+) -> Result<(), Fail> {
+    let mut space = space(alloc)?;
+    let (code, _) = row.split_once('|').unwrap_or((row, ""));
+    let code = bytes_of(rt, alloc, code)?;
+    assert_eq!(rt; effect_of(before, &mut space, &code), Some(want), "{row}");
+    Ok(())
+}
+
+/// Compares the effects of the rows of a table.
+fn all_have_effects(rt: &impl Abort, alloc: Global, table: &str) -> Result<(), Fail> {
+    for row in table.lines().skip(1) {
+        match states_of(rt, row) {
+            None => panic!(rt; "no row: {row}"),
+            Some((before, after)) => has_effect(rt, alloc, row, before, Ok(after))?,
+        }
+    }
+    Ok(())
+}
+
 #[test]
 fn bits_and_flags(rt: HostRuntime) -> Result<(), Fail> {
-    let mut space = PageMap::new(rt.alloc(), &REGIONS)?;
-    for (code, first, second, old, value, new) in [
-        // and eax, ecx
-        (
-            [0x21, 0xC8, 0x00, 0x00, 0x00, 0x00, 0x00],
-            0xFFFF_FFFF_0000_F0F0,
-            0xFF00_0FF0,
-            flags(true, false, false, true),
-            0xF0,
-            flags(false, false, false, false),
-        ),
-        // and rax, rcx
-        (
-            [0x48, 0x21, 0xC8, 0x00, 0x00, 0x00, 0x00],
-            0x8000_0000_0000_0001,
-            0x8000_0000_0000_0000,
-            flags(true, false, false, true),
-            0x8000_0000_0000_0000,
-            flags(false, false, true, false),
-        ),
-        // or eax, ecx
-        (
-            [0x09, 0xC8, 0x00, 0x00, 0x00, 0x00, 0x00],
-            0,
-            0,
-            flags(true, false, true, true),
-            0,
-            flags(false, true, false, false),
-        ),
-        // xor eax, ecx
-        (
-            [0x31, 0xC8, 0x00, 0x00, 0x00, 0x00, 0x00],
-            0x8000_0001,
-            1,
-            flags(true, true, false, true),
-            0x8000_0000,
-            flags(false, false, true, false),
-        ),
-        // cmp eax, ecx
-        (
-            [0x39, 0xC8, 0x00, 0x00, 0x00, 0x00, 0x00],
-            0xFFFF_FFFF_0000_0001,
-            2,
-            flags(false, false, false, false),
-            0xFFFF_FFFF_0000_0001,
-            flags(true, false, true, false),
-        ),
-        // cmp eax, ecx
-        (
-            [0x39, 0xC8, 0x00, 0x00, 0x00, 0x00, 0x00],
-            0x8000_0000,
-            1,
-            flags(true, true, false, false),
-            0x8000_0000,
-            flags(false, false, false, true),
-        ),
-        // test eax, ecx
-        (
-            [0x85, 0xC8, 0x00, 0x00, 0x00, 0x00, 0x00],
-            0xFFFF_FFFF_0000_00F0,
-            0xF,
-            flags(true, false, true, true),
-            0xFFFF_FFFF_0000_00F0,
-            flags(false, true, false, false),
-        ),
-        // test al, cl
-        (
-            [0x84, 0xC8, 0x00, 0x00, 0x00, 0x00, 0x00],
-            0x80,
-            0xFF80,
-            flags(true, false, false, false),
-            0x80,
-            flags(false, false, true, false),
-        ),
-        // add al, cl
-        (
-            [0x00, 0xC8, 0x00, 0x00, 0x00, 0x00, 0x00],
-            0x1234_56FF,
-            1,
-            flags(false, false, false, false),
-            0x1234_5600,
-            flags(true, true, false, false),
-        ),
-        // add al, cl
-        (
-            [0x00, 0xC8, 0x00, 0x00, 0x00, 0x00, 0x00],
-            0x7F,
-            1,
-            flags(false, false, false, false),
-            0x80,
-            flags(false, false, true, true),
-        ),
-        // sub ax, cx
-        (
-            [0x66, 0x29, 0xC8, 0x00, 0x00, 0x00, 0x00],
-            0x1_0000,
-            1,
-            flags(false, false, false, false),
-            0x1_FFFF,
-            flags(true, false, true, false),
-        ),
-        // neg eax
-        (
-            [0xF7, 0xD8, 0x00, 0x00, 0x00, 0x00, 0x00],
-            0,
-            0,
-            flags(true, false, true, true),
-            0,
-            flags(false, true, false, false),
-        ),
-        // neg eax
-        (
-            [0xF7, 0xD8, 0x00, 0x00, 0x00, 0x00, 0x00],
-            0xFFFF_FFFF_0000_0001,
-            0,
-            flags(false, false, false, false),
-            0xFFFF_FFFF,
-            flags(true, false, true, false),
-        ),
-        // neg eax
-        (
-            [0xF7, 0xD8, 0x00, 0x00, 0x00, 0x00, 0x00],
-            0x8000_0000,
-            0,
-            flags(false, false, false, false),
-            0x8000_0000,
-            flags(true, false, true, true),
-        ),
-        // neg al
-        (
-            [0xF6, 0xD8, 0x00, 0x00, 0x00, 0x00, 0x00],
-            0x180,
-            0,
-            flags(false, false, false, false),
-            0x180,
-            flags(true, false, true, true),
-        ),
-        // not eax
-        (
-            [0xF7, 0xD0, 0x00, 0x00, 0x00, 0x00, 0x00],
-            0xFFFF_FFFF_0000_00FF,
-            0,
-            flags(true, true, false, true),
-            0xFFFF_FF00,
-            flags(true, true, false, true),
-        ),
-    ] {
-        let mut before = cpu();
-        before.registers[0] = first;
-        before.registers[1] = second;
-        before.flags = old;
-        let mut after = before;
-        after.registers[0] = value;
-        after.flags = new;
-        let what = effect_of(before, &mut space, &code);
-        assert_eq!(rt; what, Some(Ok(after)), "{code:?} on {first} and {second}");
-    }
-    Ok(())
+    all_have_effects(&rt, rt.alloc(), BITS_AND_FLAGS)
 }
 
-// CF: the last bit out. OF: for a count of 1 alone. A count of 0 leaves the flags.
 #[test]
 fn shifts(rt: HostRuntime) -> Result<(), Fail> {
-    let mut space = PageMap::new(rt.alloc(), &REGIONS)?;
-    for (code, first, second, old, value, new) in [
-        // shl eax, 1
-        (
-            [0xC1, 0xE0, 0x01, 0x00, 0x00, 0x00, 0x00],
-            0x4000_0000,
-            0,
-            flags(true, true, false, false),
-            0x8000_0000,
-            flags(false, false, true, true),
-        ),
-        // shl eax, 1
-        (
-            [0xC1, 0xE0, 0x01, 0x00, 0x00, 0x00, 0x00],
-            0xC000_0000,
-            0,
-            flags(false, false, false, true),
-            0x8000_0000,
-            flags(true, false, true, false),
-        ),
-        // shl eax, 4
-        (
-            [0xC1, 0xE0, 0x04, 0x00, 0x00, 0x00, 0x00],
-            0x1000_0001,
-            0,
-            flags(false, false, true, true),
-            0x10,
-            flags(true, false, false, true),
-        ),
-        // shl eax, 32
-        (
-            [0xC1, 0xE0, 0x20, 0x00, 0x00, 0x00, 0x00],
-            0xFFFF_FFFF_0000_0001,
-            0,
-            flags(true, true, true, false),
-            1,
-            flags(true, true, true, false),
-        ),
-        // shl rax, 63
-        (
-            [0x48, 0xC1, 0xE0, 0x3F, 0x00, 0x00, 0x00],
-            3,
-            0,
-            flags(false, false, false, true),
-            0x8000_0000_0000_0000,
-            flags(true, false, true, true),
-        ),
-        // shr eax, 1
-        (
-            [0xC1, 0xE8, 0x01, 0x00, 0x00, 0x00, 0x00],
-            0x8000_0001,
-            0,
-            flags(false, false, false, false),
-            0x4000_0000,
-            flags(true, false, false, true),
-        ),
-        // shr eax, 31
-        (
-            [0xC1, 0xE8, 0x1F, 0x00, 0x00, 0x00, 0x00],
-            0x8000_0000,
-            0,
-            flags(true, false, false, false),
-            1,
-            flags(false, false, false, false),
-        ),
-        // shr rax, 1
-        (
-            [0x48, 0xC1, 0xE8, 0x01, 0x00, 0x00, 0x00],
-            1,
-            0,
-            flags(false, false, false, true),
-            0,
-            flags(true, true, false, false),
-        ),
-        // sar eax, 1
-        (
-            [0xC1, 0xF8, 0x01, 0x00, 0x00, 0x00, 0x00],
-            0x8000_0001,
-            0,
-            flags(false, false, false, true),
-            0xC000_0000,
-            flags(true, false, true, false),
-        ),
-        // sar eax, 4
-        (
-            [0xC1, 0xF8, 0x04, 0x00, 0x00, 0x00, 0x00],
-            0x7000_0008,
-            0,
-            flags(false, false, false, true),
-            0x700_0000,
-            flags(true, false, false, true),
-        ),
-        // sar rax, 63
-        (
-            [0x48, 0xC1, 0xF8, 0x3F, 0x00, 0x00, 0x00],
-            0x8000_0000_0000_0000,
-            0,
-            flags(true, false, false, false),
-            0xFFFF_FFFF_FFFF_FFFF,
-            flags(false, false, true, false),
-        ),
-        // shl eax, cl: 33 modulo 32
-        (
-            [0xD3, 0xE0, 0x00, 0x00, 0x00, 0x00, 0x00],
-            1,
-            0x121,
-            flags(true, true, true, true),
-            2,
-            flags(false, false, false, false),
-        ),
-        // sar rax, cl: 64 modulo 64
-        (
-            [0x48, 0xD3, 0xF8, 0x00, 0x00, 0x00, 0x00],
-            0x8000_0000_0000_0000,
-            0x40,
-            flags(true, false, false, false),
-            0x8000_0000_0000_0000,
-            flags(true, false, false, false),
-        ),
-    ] {
-        let mut before = cpu();
-        before.registers[0] = first;
-        before.registers[1] = second;
-        before.flags = old;
-        let mut after = before;
-        after.registers[0] = value;
-        after.flags = new;
-        let what = effect_of(before, &mut space, &code);
-        assert_eq!(rt; what, Some(Ok(after)), "{code:?} on {first} and {second}");
-    }
-    Ok(())
+    all_have_effects(&rt, rt.alloc(), SHIFTS)
 }
 
-// CF and OF of a product: it doesn't fit. The others leave the flags.
 #[test]
 fn other_registers(rt: HostRuntime) -> Result<(), Fail> {
-    let mut space = PageMap::new(rt.alloc(), &REGIONS)?;
-    for (code, first, second, old, value, new) in [
-        // imul eax, ecx, 3
-        (
-            [0x6B, 0xC1, 0x03, 0x00, 0x00, 0x00, 0x00],
-            0,
-            0x5555_5555,
-            flags(false, true, true, false),
-            0xFFFF_FFFF,
-            flags(true, true, true, true),
-        ),
-        // imul eax, ecx, -1
-        (
-            [0x6B, 0xC1, 0xFF, 0x00, 0x00, 0x00, 0x00],
-            0,
-            5,
-            flags(true, false, false, true),
-            0xFFFF_FFFB,
-            flags(false, false, false, false),
-        ),
-        // imul rax, rcx, -80000000h
-        (
-            [0x48, 0x69, 0xC1, 0x00, 0x00, 0x00, 0x80],
-            0,
-            2,
-            flags(true, true, false, true),
-            0xFFFF_FFFF_0000_0000,
-            flags(false, true, false, false),
-        ),
-        // movzx eax, cl
-        (
-            [0x0F, 0xB6, 0xC1, 0x00, 0x00, 0x00, 0x00],
-            0xFFFF_FFFF_FFFF_FFFF,
-            0x1234_5680,
-            flags(true, false, false, false),
-            0x80,
-            flags(true, false, false, false),
-        ),
-        // movzx rax, cx
-        (
-            [0x48, 0x0F, 0xB7, 0xC1, 0x00, 0x00, 0x00],
-            0xFFFF_FFFF_FFFF_FFFF,
-            0x8765_8000,
-            flags(true, false, false, false),
-            0x8000,
-            flags(true, false, false, false),
-        ),
-        // movsx eax, cl
-        (
-            [0x0F, 0xBE, 0xC1, 0x00, 0x00, 0x00, 0x00],
-            0,
-            0x80,
-            flags(true, false, false, false),
-            0xFFFF_FF80,
-            flags(true, false, false, false),
-        ),
-        // movsx rax, cx
-        (
-            [0x48, 0x0F, 0xBF, 0xC1, 0x00, 0x00, 0x00],
-            0,
-            0x8000,
-            flags(true, false, false, false),
-            0xFFFF_FFFF_FFFF_8000,
-            flags(true, false, false, false),
-        ),
-        // lea eax, [rax + rcx * 4 + 8]
-        (
-            [0x8D, 0x44, 0x88, 0x08, 0x00, 0x00, 0x00],
-            0xFFFF_FFFF_FFFF_FFF0,
-            2,
-            flags(true, true, true, true),
-            0,
-            flags(true, true, true, true),
-        ),
-        // lea rax, [rax + rcx * 8 - 1]
-        (
-            [0x48, 0x8D, 0x44, 0xC8, 0xFF, 0x00, 0x00],
-            0x10,
-            3,
-            flags(false, false, false, false),
-            0x27,
-            flags(false, false, false, false),
-        ),
-        // mov al, 80h
-        (
-            [0xC6, 0xC0, 0x80, 0x00, 0x00, 0x00, 0x00],
-            0x1111,
-            0,
-            flags(false, true, false, false),
-            0x1180,
-            flags(false, true, false, false),
-        ),
-        // mov rax, -2
-        (
-            [0x48, 0xC7, 0xC0, 0xFE, 0xFF, 0xFF, 0xFF],
-            0,
-            0,
-            flags(false, false, false, false),
-            0xFFFF_FFFF_FFFF_FFFE,
-            flags(false, false, false, false),
-        ),
-        // sete al
-        (
-            [0x0F, 0x94, 0xC0, 0x00, 0x00, 0x00, 0x00],
-            0xFFFF,
-            0,
-            flags(false, true, false, false),
-            0xFF01,
-            flags(false, true, false, false),
-        ),
-        // setl al
-        (
-            [0x0F, 0x9C, 0xC0, 0x00, 0x00, 0x00, 0x00],
-            0xFFFF,
-            0,
-            flags(false, false, true, true),
-            0xFF00,
-            flags(false, false, true, true),
-        ),
-        // nop
-        (
-            [0x90, 0x00, 0x00, 0x00, 0x00, 0x00, 0x00],
-            7,
-            0,
-            flags(true, true, true, true),
-            7,
-            flags(true, true, true, true),
-        ),
-    ] {
-        let mut before = cpu();
-        before.registers[0] = first;
-        before.registers[1] = second;
-        before.flags = old;
-        let mut after = before;
-        after.registers[0] = value;
-        after.flags = new;
-        let what = effect_of(before, &mut space, &code);
-        assert_eq!(rt; what, Some(Ok(after)), "{code:?} on {first} and {second}");
-    }
-    Ok(())
+    all_have_effects(&rt, rt.alloc(), OTHERS)
 }
 
-// DIV and IDIV of RDX and RAX by RCX. A fault changes nothing.
 #[test]
 fn divisions(rt: HostRuntime) -> Result<(), Fail> {
-    let mut space = PageMap::new(rt.alloc(), &REGIONS)?;
-    for (code, high, low, by, want) in [
-        (
-            [0xF7, 0xF1, 0x00],
-            0xAAAA_AAAA_0000_0001,
-            0xBBBB_BBBB_0000_0005,
-            2,
-            Ok((0x8000_0002, 1)),
-        ),
-        ([0xF7, 0xF1, 0x00], 2, 0, 2, Err(Code(0xC000_0095))),
-        ([0xF7, 0xF1, 0x00], 5, 7, 0, Err(Code(0xC000_0094))),
-        ([0x48, 0xF7, 0xF1], 1, 0, 2, Ok((0x8000_0000_0000_0000, 0))),
-        ([0x48, 0xF7, 0xF1], 2, 0, 2, Err(Code(0xC000_0095))),
-        (
-            [0xF7, 0xF9, 0x00],
-            0xFFFF_FFFF,
-            0xFFFF_FFF9,
-            2,
-            Ok((0xFFFF_FFFD, 0xFFFF_FFFF)),
-        ),
-        ([0xF7, 0xF9, 0x00], 0, 7, 0xFFFF_FFFE, Ok((0xFFFF_FFFD, 1))),
-        (
-            [0xF7, 0xF9, 0x00],
-            0xFFFF_FFFF,
-            0x8000_0000,
-            0xFFFF_FFFF,
-            Err(Code(0xC000_0095)),
-        ),
-        (
-            [0xF7, 0xF9, 0x00],
-            0xFFFF_FFFF,
-            0x8000_0000,
-            1,
-            Ok((0x8000_0000, 0)),
-        ),
-        (
-            [0x48, 0xF7, 0xF9],
-            0xFFFF_FFFF_FFFF_FFFF,
-            0x8000_0000_0000_0000,
-            0xFFFF_FFFF_FFFF_FFFF,
-            Err(Code(0xC000_0095)),
-        ),
-        (
-            [0x48, 0xF7, 0xF9],
-            0x8000_0000_0000_0000,
-            0,
-            0xFFFF_FFFF_FFFF_FFFF,
-            Err(Code(0xC000_0095)),
-        ),
-        (
-            [0x48, 0xF7, 0xF9],
-            0xFFFF_FFFF_FFFF_FFFF,
-            0xFFFF_FFFF_FFFF_FFFF,
-            2,
-            Ok((0, 0xFFFF_FFFF_FFFF_FFFF)),
-        ),
-        ([0x48, 0xF7, 0xF9], 0, 1, 0, Err(Code(0xC000_0094))),
-    ] {
-        let mut before = cpu();
-        before.registers[0] = low;
-        before.registers[1] = by;
-        before.registers[2] = high;
-        let want = match want {
-            Ok((quotient, remainder)) => {
-                let mut after = before;
-                after.registers[0] = quotient;
-                after.registers[2] = remainder;
-                Ok(after)
-            }
-            Err(code) => Err(Stop::Fault { code, access: None }),
-        };
-        let what = effect_of(before, &mut space, &code);
-        assert_eq!(rt; what, Some(want), "{high} {low} by {by}");
+    for row in DIVISIONS.lines().skip(1) {
+        match division_of(&rt, row) {
+            None => panic!(rt; "no row: {row}"),
+            Some((before, want)) => has_effect(&rt, rt.alloc(), row, before, want)?,
+        }
     }
     Ok(())
 }

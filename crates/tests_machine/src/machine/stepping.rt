@@ -3,7 +3,7 @@ use super::*;
 // From 40000000h, which is the next instruction's address.
 #[test]
 fn jumps(rt: HostRuntime) -> Result<(), Fail> {
-    let mut space = PageMap::new(rt.alloc(), &REGIONS)?;
+    let mut space = space(rt.alloc())?;
     for (code, zero, rip) in [
         ([0xE9, 0x10, 0, 0, 0, 0], false, 0x4000_0010),
         ([0xE9, 0xF0, 0xFF, 0xFF, 0xFF, 0], false, 0x3FFF_FFF0),
@@ -137,7 +137,7 @@ fn steps_through_a_routine(rt: HostRuntime) -> Result<(), Fail> {
     Ok(())
 }
 
-/// Instructions that are refused by what the registers hold, and one at the end of what is executed.
+/// Instructions that are refused by what the registers hold, and one at the end of the code.
 fn with_pieces(alloc: Global) -> Result<PageMap, AllocError> {
     let mut space = PageMap::new(alloc, &REGIONS)?;
     space.fill(
@@ -165,174 +165,76 @@ fn with_pieces(alloc: Global) -> Result<PageMap, AllocError> {
     Ok(space)
 }
 
+/// Steps that are refused: `RIP RAX RSP | WHAT WHERE | NOTE`, with the address that isn't read or
+/// written, or of the host's service, or RIP; for a fault with its code.
+const REFUSED: &str = r"
+40000000 1        70000000 | guard 6FFFFFF8
+40000000 1        70001008 | write 70001000
+40000000 1        0        | write FFFFFFFFFFFFFFF8
+40000001 10       70001000 | read 10
+40000001 6FFF0000 70001000 | guard 6FFF0000
+40000004 40000000 70001000 | write 40000000
+40000004 40001FFC 70001000 | write 40002000
+40000007 40001FFC 70001000 | read 40002000
+40000007 40001000 40000008 | write 40000000
+40000009 40000000 70001000 | write 40000000         | read and written: refused as a write
+4000000C 1        70001000 | illegal 4000000C
+4000000D 40000000 70001000 | write 40000000
+4000000F 40001FFD 70001000 | read 40002000
+40000011 40000000 70001000 | write 40000000
+40000014 40000000 70001000 | write 40000000
+40000017 40001800 70001000 | fault C0000094         | the number there is 0
+40000019 1        70001000 | illegal 40000019
+4000001A 1        70001000 | illegal 4000001A
+4000001C 1        70001000 | illegal 4000001C
+4000001E 40001FF9 70001000 | read 40002000
+40000FFF 1        70001000 | illegal 40000FFF
+40001000 1        70000000 | illegal 40001000
+0        1        70000000 | illegal 0
+7FF00010 1        70001000 | host 7FF00010
+7FF00070 1        70001000 | host 7FF00070
+7FF00040 1        70001000 | illegal 7FF00040       | the language handler isn't run as code
+7FF00011 1        70001000 | illegal 7FF00011       | between the services there is none
+";
+
+/// The state before a refused step, and what the step comes to.
+fn refusal_of(rt: &impl Abort, row: &str) -> Option<(Cpu, StepOutcome)> {
+    let mut columns = row.split('|');
+    let mut words = columns.next()?.split_ascii_whitespace();
+    let mut before = cpu();
+    before.rip = number(rt, words.next()?);
+    before.set_register(Width::W64, Reg::Rax, number(rt, words.next()?));
+    before.set_register(Width::W64, Reg::Rsp, number(rt, words.next()?));
+    let mut words = columns.next()?.split_ascii_whitespace();
+    let what = words.next()?;
+    let address = number(rt, words.next()?);
+    let outcome = match what {
+        "read" => violation(false, address),
+        "write" => violation(true, address),
+        "guard" => StepOutcome::Guard { address },
+        "host" => StepOutcome::Host { address },
+        "illegal" => StepOutcome::Illegal { rip: address },
+        "fault" => StepOutcome::Fault {
+            code: code_of(address),
+            access: None,
+        },
+        _ => return None,
+    };
+    Some((before, outcome))
+}
+
 #[test]
 fn refused_steps_change_nothing(rt: HostRuntime) -> Result<(), Fail> {
     let mut space = with_pieces(rt.alloc())?;
-    for (rip, rax, rsp, want) in [
-        (
-            0x4000_0000,
-            1,
-            0x7000_0000,
-            StepOutcome::Guard {
-                address: 0x6FFF_FFF8,
-            },
-        ),
-        (0x4000_0000, 1, 0x7000_1008, violation(true, 0x7000_1000)),
-        (0x4000_0000, 1, 0, violation(true, 0xFFFF_FFFF_FFFF_FFF8)),
-        (0x4000_0001, 0x10, 0x7000_1000, violation(false, 0x10)),
-        (
-            0x4000_0001,
-            0x6FFF_0000,
-            0x7000_1000,
-            StepOutcome::Guard {
-                address: 0x6FFF_0000,
-            },
-        ),
-        (
-            0x4000_0004,
-            0x4000_0000,
-            0x7000_1000,
-            violation(true, 0x4000_0000),
-        ),
-        (
-            0x4000_0004,
-            0x4000_1FFC,
-            0x7000_1000,
-            violation(true, 0x4000_2000),
-        ),
-        (
-            0x4000_0007,
-            0x4000_1FFC,
-            0x7000_1000,
-            violation(false, 0x4000_2000),
-        ),
-        (
-            0x4000_0007,
-            0x4000_1000,
-            0x4000_0008,
-            violation(true, 0x4000_0000),
-        ),
-        // A place that is read and written is refused as a write.
-        (
-            0x4000_0009,
-            0x4000_0000,
-            0x7000_1000,
-            violation(true, 0x4000_0000),
-        ),
-        (
-            0x4000_000C,
-            1,
-            0x7000_1000,
-            StepOutcome::Illegal { rip: 0x4000_000C },
-        ),
-        (
-            0x4000_000D,
-            0x4000_0000,
-            0x7000_1000,
-            violation(true, 0x4000_0000),
-        ),
-        (
-            0x4000_000F,
-            0x4000_1FFD,
-            0x7000_1000,
-            violation(false, 0x4000_2000),
-        ),
-        (
-            0x4000_0011,
-            0x4000_0000,
-            0x7000_1000,
-            violation(true, 0x4000_0000),
-        ),
-        (
-            0x4000_0014,
-            0x4000_0000,
-            0x7000_1000,
-            violation(true, 0x4000_0000),
-        ),
-        // The number there is 0.
-        (
-            0x4000_0017,
-            0x4000_1800,
-            0x7000_1000,
-            StepOutcome::Fault {
-                code: Code(0xC000_0094),
-                access: None,
-            },
-        ),
-        (
-            0x4000_0019,
-            1,
-            0x7000_1000,
-            StepOutcome::Illegal { rip: 0x4000_0019 },
-        ),
-        (
-            0x4000_001A,
-            1,
-            0x7000_1000,
-            StepOutcome::Illegal { rip: 0x4000_001A },
-        ),
-        (
-            0x4000_001C,
-            1,
-            0x7000_1000,
-            StepOutcome::Illegal { rip: 0x4000_001C },
-        ),
-        (
-            0x4000_001E,
-            0x4000_1FF9,
-            0x7000_1000,
-            violation(false, 0x4000_2000),
-        ),
-        (
-            0x4000_0FFF,
-            1,
-            0x7000_1000,
-            StepOutcome::Illegal { rip: 0x4000_0FFF },
-        ),
-        (
-            0x4000_1000,
-            1,
-            0x7000_0000,
-            StepOutcome::Illegal { rip: 0x4000_1000 },
-        ),
-        (0, 1, 0x7000_0000, StepOutcome::Illegal { rip: 0 }),
-        (
-            0x7FF0_0010,
-            1,
-            0x7000_1000,
-            StepOutcome::Host {
-                address: 0x7FF0_0010,
-            },
-        ),
-        (
-            0x7FF0_0070,
-            1,
-            0x7000_1000,
-            StepOutcome::Host {
-                address: 0x7FF0_0070,
-            },
-        ),
-        // The language handler isn't run as code, and between the services there is none.
-        (
-            0x7FF0_0040,
-            1,
-            0x7000_1000,
-            StepOutcome::Illegal { rip: 0x7FF0_0040 },
-        ),
-        (
-            0x7FF0_0011,
-            1,
-            0x7000_1000,
-            StepOutcome::Illegal { rip: 0x7FF0_0011 },
-        ),
-    ] {
-        let mut before = cpu();
-        before.rip = rip;
-        before.set_register(Width::W64, Reg::Rax, rax);
-        before.set_register(Width::W64, Reg::Rsp, rsp);
-        let mut after = before;
-        assert_eq!(rt; step(&mut after, &mut space), want, "{rax} at {rip}");
-        assert_eq!(rt; after, before, "{rax} at {rip}");
+    for row in REFUSED.lines().skip(1) {
+        match refusal_of(&rt, row) {
+            None => panic!(rt; "no row: {row}"),
+            Some((before, want)) => {
+                let mut after = before;
+                assert_eq!(rt; step(&mut after, &mut space), want, "{row}");
+                assert_eq!(rt; after, before, "{row}");
+            }
+        }
     }
     assert_eq!(rt; space.load(0x4000_1000, Width::W64), Ok(0xC3));
     assert_eq!(rt; space.load(0x4000_1FF8, Width::W64), Ok(0));
@@ -341,7 +243,7 @@ fn refused_steps_change_nothing(rt: HostRuntime) -> Result<(), Fail> {
 
 #[test]
 fn pushes_and_pops(rt: HostRuntime) -> Result<(), Fail> {
-    let mut space = PageMap::new(rt.alloc(), &REGIONS)?;
+    let mut space = space(rt.alloc())?;
     let before = cpu();
     // The old RSP is stored.
     // push rsp

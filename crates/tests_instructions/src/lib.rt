@@ -1,0 +1,6 @@
+//! Tests of how instructions are spelled and read: what no clause of those crates says. Expected
+//! values are from the Intel manual and from GNU as.
+#![tactic(auto)]
+
+#[cfg(test)]
+mod spelling;
