@@ -1,6 +1,9 @@
+use crate::rows::{bytes_of, columns_of, number, place_of, put_fields};
 use pe_image::{ImageErr, ImageView};
 use std::alloc::{AllocError, Global};
+use std::process::Abort;
 use std::test::Fail;
+use test_images::tables::put;
 
 /// Where the headers of [`image`] begin.
 const SIGNATURE: usize = 64;
@@ -10,69 +13,56 @@ const OPTIONAL: usize = SIGNATURE + 24;
 const TABLE: usize = OPTIONAL + 240;
 
 /// An image of two sections, field by field: `.data` of one page with nothing stored, and `.text`
-/// with six bytes in 512 of raw data.
-fn image(alloc: Global) -> Result<Vec<u8>, AllocError> {
-    let mut out = Vec::new(alloc);
-    out.extend_from_slice(b"MZ")?;
-    out.extend_from_slice(&[0; 58])?;
-    out.extend_from_slice(&[64, 0, 0, 0])?; // e_lfanew
-    out.extend_from_slice(b"PE\0\0")?;
-    out.extend_from_slice(&[0x64, 0x86])?; // Machine
-    out.extend_from_slice(&[2, 0])?; // NumberOfSections
-    out.extend_from_slice(&[0; 12])?;
-    out.extend_from_slice(&[240, 0])?; // SizeOfOptionalHeader
-    out.extend_from_slice(&[0x23, 0])?; // Characteristics
-    out.extend_from_slice(&[0x0B, 0x02])?; // Magic
-    out.extend_from_slice(&[0; 14])?;
-    out.extend_from_slice(&[0, 0x20, 0, 0])?; // AddressOfEntryPoint
-    out.extend_from_slice(&[0; 4])?;
-    out.extend_from_slice(&[0, 0, 0, 0x40, 1, 0, 0, 0])?; // ImageBase
-    out.extend_from_slice(&[0, 0x10, 0, 0])?; // SectionAlignment
-    out.extend_from_slice(&[0, 2, 0, 0])?; // FileAlignment
-    out.extend_from_slice(&[0; 16])?;
-    out.extend_from_slice(&[0, 0x30, 0, 0])?; // SizeOfImage
-    out.extend_from_slice(&[0, 4, 0, 0])?; // SizeOfHeaders
-    out.extend_from_slice(&[0; 44])?;
-    out.extend_from_slice(&[16, 0, 0, 0])?; // NumberOfRvaAndSizes
-    out.extend_from_slice(&[0; 8])?;
-    out.extend_from_slice(&[1, 0x10, 0, 0, 0, 0, 0, 0])?; // imports
-    out.extend_from_slice(&[0; 8])?;
-    out.extend_from_slice(&[3, 0x20, 0, 0, 12, 0, 0, 0])?; // exceptions
-    out.extend_from_slice(&[0; 96])?;
-    out.extend_from_slice(b".data\0\0\0")?;
-    out.extend_from_slice(&[0, 0x10, 0, 0])?; // VirtualSize
-    out.extend_from_slice(&[0, 0x10, 0, 0])?; // VirtualAddress
-    out.extend_from_slice(&[0, 0, 0, 0])?; // SizeOfRawData
-    out.extend_from_slice(&[0xFF, 0xFF, 0xFF, 0xFF])?; // PointerToRawData
-    out.extend_from_slice(&[0; 12])?;
-    out.extend_from_slice(&[0x40, 0, 0, 0xC0])?; // Characteristics
-    out.extend_from_slice(b".text\0\0\0")?;
-    out.extend_from_slice(&[6, 0, 0, 0])?;
-    out.extend_from_slice(&[0, 0x20, 0, 0])?;
-    out.extend_from_slice(&[0, 2, 0, 0])?;
-    out.extend_from_slice(&[0, 4, 0, 0])?;
-    out.extend_from_slice(&[0; 12])?;
-    out.extend_from_slice(&[0x20, 0, 0, 0x60])?;
-    out.extend_from_slice(&[0; 616])?;
-    out.extend_from_slice(&[0xB8, 7, 0, 0, 0, 0xC3])?; // mov eax, 7; ret
-    out.extend_from_slice(&[0xCC; 506])?;
+/// with six bytes in 512 of raw data, whose others are `int3`.
+const IMAGE: &str = r"
+0            | 'MZ'
+3C           | 40             | e_lfanew
+signature    | 50 45 00 00
+signature+4  | 64 86          | Machine
+signature+6  | 02             | NumberOfSections
+signature+14 | F0             | SizeOfOptionalHeader
+signature+16 | 23             | Characteristics
+optional     | 0B 02          | Magic
+optional+10  | 00 20          | AddressOfEntryPoint
+optional+18  | 00 00 00 40 01 | ImageBase
+optional+20  | 00 10          | SectionAlignment
+optional+24  | 00 02          | FileAlignment
+optional+38  | 00 30          | SizeOfImage
+optional+3C  | 00 04          | SizeOfHeaders
+optional+6C  | 10             | NumberOfRvaAndSizes
+optional+78  | 01 10          | imports
+optional+88  | 03 20 00 00 0C | exceptions
+table        | '.data'
+table+8      | 00 10          | VirtualSize
+table+C      | 00 10          | VirtualAddress
+table+14     | FF FF FF FF    | PointerToRawData
+table+24     | 40 00 00 C0    | Characteristics
+table+28     | '.text'
+table+30     | 06
+table+34     | 00 20
+table+38     | 00 02
+table+3C     | 00 04
+table+4C     | 20 00 00 60
+400          | B8 07 00 00 00 C3 | mov eax, 7; ret
+";
+
+fn image(rt: &impl Abort, alloc: Global) -> Result<Vec<u8>, AllocError> {
+    let mut out = vec![in alloc; 0; 0x400]?;
+    out.extend_from_slice(&[0xCC; 512])?;
+    put_fields(rt, alloc, &mut out, IMAGE)?;
     Ok(out)
 }
 
 /// The same with bytes put at an offset.
-fn edited(alloc: Global, at: usize, bytes: &[u8]) -> Result<Vec<u8>, AllocError> {
-    let mut out = image(alloc)?;
-    for (i, byte) in bytes.iter().enumerate() {
-        if let Some(place) = out.get_mut(at.saturating_add(i)) {
-            *place = *byte;
-        }
-    }
+fn edited(rt: &impl Abort, alloc: Global, at: usize, bytes: &[u8]) -> Result<Vec<u8>, AllocError> {
+    let mut out = image(rt, alloc)?;
+    put(&mut out, at, bytes);
     Ok(out)
 }
 
 #[test]
 fn reads_fields(rt: HostRuntime) -> Result<(), Fail> {
-    let bytes = image(rt.alloc())?;
+    let bytes = image(&rt, rt.alloc())?;
     let view = ImageView::read(rt.alloc(), &bytes)?;
     assert_eq!(rt; view.base(), 0x1_4000_0000);
     assert_eq!(rt; view.entry(), 0x2000);
@@ -102,7 +92,7 @@ fn reads_fields(rt: HostRuntime) -> Result<(), Fail> {
 
 #[test]
 fn refuses_short_files(rt: HostRuntime) -> Result<(), Fail> {
-    let whole = image(rt.alloc())?;
+    let whole = image(&rt, rt.alloc())?;
     for (len, at) in [
         (0, 0),
         (63, 0),
@@ -126,179 +116,99 @@ fn refuses_short_files(rt: HostRuntime) -> Result<(), Fail> {
     Ok(())
 }
 
+/// Edits of the image and their refusals, `NAME | PLACE | BYTES | REFUSAL`.
+const REFUSED: &str = r"
+MZ                    | 1            | 7A          | NotPe 0
+e_lfanew              | 3C           | E9 05 00 00 | Truncated 5E9
+e_lfanew past it      | 3C           | FF FF FF FF | Truncated FFFFFFFF
+signature             | signature+3  | 01          | NotPe 40
+Machine               | signature+4  | 4C 01       | Machine 14C
+optional size         | signature+14 | 6F          | Truncated 58
+Magic                 | optional     | 0B 01       | Magic 10B
+17 directories        | optional+6C  | 11          | Truncated C8
+all directories       | optional+6C  | FF FF FF FF | Truncated C8
+section count         | signature+6  | 1F          | Truncated 148
+optional size past it | signature+14 | FF FF       | Truncated 10057
+raw data              | table+38     | 01          | Layout 1
+raw pointer           | table+3C     | 01          | Layout 1
+raw data of the first | table+10     | 01          | Layout 0
+half a page           | table+35     | 28          | Layout 1
+same address          | table+35     | 10          | Layout 1
+one byte above        | table+8      | 01          | Layout 1
+image ends before     | optional+38  | 00 20       | Layout 1
+past the image        | table+30     | 01 10       | Layout 1
+";
+
+/// Edits of the image, a range, and how many bytes are found there, or `-`:
+/// `NAME | PLACE | BYTES | RVA SIZE | COUNT`.
+const RANGES: &str = r"
+whole                  | 0           |       | 2000 6                            | 6
+part                   | 0           |       | 2001 4                            | 4
+last                   | 0           |       | 2005 1                            | 1
+one past               | 0           |       | 2005 2                            | -
+following              | 0           |       | 2006 1                            | -
+before                 | 0           |       | 1FFF 1                            | -
+nothing stored         | 0           |       | 1000 1                            | -
+below all              | 0           |       | FFF 1                             | -
+headers                | 0           |       | 0 1                               | -
+empty                  | 0           |       | 2003 0                            | 0
+empty outside          | 0           |       | FFFFFFFFFFFFFFFF 0                | 0
+far                    | 0           |       | FFFFFFFFFFFFFFFF FFFFFFFFFFFFFFFF | -
+long                   | 0           |       | 2000 FFFFFFFFFFFFFFFF             | -
+raw shorter            | table+38    | 04 00 | 2000 4                            | 4
+past shorter raw       | table+38    | 04 00 | 2000 5                            | -
+VirtualSize 0          | table+30    | 00    | 2000 200                          | 200
+past it                | table+30    | 00    | 2000 201                          | -
+image ends in the page | optional+38 | 01 20 | 2000 6                            | 6
+";
+
+/// The refusal that a column names.
+fn refusal_of(rt: &impl Abort, column: &str) -> Option<ImageErr> {
+    let (name, word) = column.split_once(' ')?;
+    let value = number(rt, word);
+    Some(match name {
+        "Truncated" => ImageErr::Truncated { at: value },
+        "NotPe" => ImageErr::NotPe { at: value },
+        "Machine" => ImageErr::Machine { found: value },
+        "Magic" => ImageErr::Magic { found: value },
+        "Layout" => ImageErr::Layout { section: value },
+        _ => panic!(rt; "no refusal: {column}"),
+    })
+}
+
+/// The image with the edit of a row.
+fn edited_by(rt: &impl Abort, alloc: Global, columns: &[&str; 5]) -> Result<Vec<u8>, AllocError> {
+    let bytes = bytes_of(rt, alloc, columns[2])?;
+    edited(rt, alloc, place_of(rt, columns[1]), &bytes)
+}
+
 #[test]
 fn refuses_by_the_first_check(rt: HostRuntime) -> Result<(), Fail> {
-    let cases: [(&str, usize, &[u8], ImageErr); 19] = [
-        ("MZ", 1, b"z", ImageErr::NotPe { at: 0 }),
-        (
-            "e_lfanew",
-            0x3C,
-            &[0xE9, 5, 0, 0],
-            ImageErr::Truncated { at: 0x5E9 },
-        ),
-        (
-            "e_lfanew past it",
-            0x3C,
-            &[0xFF; 4],
-            ImageErr::Truncated { at: 0xFFFF_FFFF },
-        ),
-        ("signature", SIGNATURE + 3, &[1], ImageErr::NotPe { at: 64 }),
-        (
-            "Machine",
-            SIGNATURE + 4,
-            &[0x4C, 1],
-            ImageErr::Machine { found: 0x14C },
-        ),
-        (
-            "optional size",
-            SIGNATURE + 20,
-            &[111],
-            ImageErr::Truncated { at: 88 },
-        ),
-        (
-            "Magic",
-            OPTIONAL,
-            &[0x0B, 1],
-            ImageErr::Magic { found: 0x10B },
-        ),
-        (
-            "17 directories",
-            OPTIONAL + 108,
-            &[17],
-            ImageErr::Truncated { at: 200 },
-        ),
-        (
-            "all directories",
-            OPTIONAL + 108,
-            &[0xFF; 4],
-            ImageErr::Truncated { at: 200 },
-        ),
-        (
-            "section count",
-            SIGNATURE + 6,
-            &[31],
-            ImageErr::Truncated { at: 328 },
-        ),
-        (
-            "optional size past it",
-            SIGNATURE + 20,
-            &[0xFF; 2],
-            ImageErr::Truncated { at: 65623 },
-        ),
-        (
-            "raw data",
-            TABLE + 40 + 16,
-            &[1],
-            ImageErr::Layout { section: 1 },
-        ),
-        (
-            "raw pointer",
-            TABLE + 40 + 20,
-            &[1],
-            ImageErr::Layout { section: 1 },
-        ),
-        (
-            "raw data of the first",
-            TABLE + 16,
-            &[1],
-            ImageErr::Layout { section: 0 },
-        ),
-        (
-            "half a page",
-            TABLE + 40 + 13,
-            &[0x28],
-            ImageErr::Layout { section: 1 },
-        ),
-        (
-            "same address",
-            TABLE + 40 + 13,
-            &[0x10],
-            ImageErr::Layout { section: 1 },
-        ),
-        (
-            "one byte above",
-            TABLE + 8,
-            &[1],
-            ImageErr::Layout { section: 1 },
-        ),
-        (
-            "image ends before",
-            OPTIONAL + 56,
-            &[0, 0x20],
-            ImageErr::Layout { section: 1 },
-        ),
-        (
-            "past the image",
-            TABLE + 40 + 8,
-            &[1, 0x10],
-            ImageErr::Layout { section: 1 },
-        ),
-    ];
-    for (name, at, bytes, refusal) in cases {
-        let bytes = edited(rt.alloc(), at, bytes)?;
+    for row in REFUSED.lines().skip(1) {
+        let columns = columns_of(row);
+        let bytes = edited_by(&rt, rt.alloc(), &columns)?;
         let answer = ImageView::read(rt.alloc(), &bytes).err();
-        assert_eq!(rt; answer, Some(refusal), "{name}");
+        assert!(rt; answer.is_some(), "{row}");
+        assert_eq!(rt; answer, refusal_of(&rt, columns[3]), "{row}");
     }
     Ok(())
 }
 
 #[test]
 fn finds_what_is_stored(rt: HostRuntime) -> Result<(), Fail> {
-    // An edit of the image; a range; how many bytes are found there.
-    let cases: [(&str, usize, &[u8], (u64, u64), Option<usize>); 18] = [
-        ("whole", 0, &[], (0x2000, 6), Some(6)),
-        ("part", 0, &[], (0x2001, 4), Some(4)),
-        ("last", 0, &[], (0x2005, 1), Some(1)),
-        ("one past", 0, &[], (0x2005, 2), None),
-        ("following", 0, &[], (0x2006, 1), None),
-        ("before", 0, &[], (0x1FFF, 1), None),
-        ("nothing stored", 0, &[], (0x1000, 1), None),
-        ("below all", 0, &[], (0xFFF, 1), None),
-        ("headers", 0, &[], (0, 1), None),
-        ("empty", 0, &[], (0x2003, 0), Some(0)),
-        ("empty outside", 0, &[], (u64::MAX, 0), Some(0)),
-        ("far", 0, &[], (u64::MAX, u64::MAX), None),
-        ("long", 0, &[], (0x2000, u64::MAX), None),
-        (
-            "raw shorter",
-            TABLE + 40 + 16,
-            &[4, 0],
-            (0x2000, 4),
-            Some(4),
-        ),
-        (
-            "past shorter raw",
-            TABLE + 40 + 16,
-            &[4, 0],
-            (0x2000, 5),
-            None,
-        ),
-        (
-            "VirtualSize 0",
-            TABLE + 40 + 8,
-            &[0],
-            (0x2000, 512),
-            Some(512),
-        ),
-        ("past it", TABLE + 40 + 8, &[0], (0x2000, 513), None),
-        (
-            "image ends in the page",
-            OPTIONAL + 56,
-            &[1, 0x20],
-            (0x2000, 6),
-            Some(6),
-        ),
-    ];
-    for (name, at, bytes, (rva, len), found) in cases {
-        let bytes = edited(rt.alloc(), at, bytes)?;
+    for row in RANGES.lines().skip(1) {
+        let columns = columns_of(row);
+        let bytes = edited_by(&rt, rt.alloc(), &columns)?;
         let view = ImageView::read(rt.alloc(), &bytes)?;
-        assert_eq!(rt;
-            view.bytes(rva, len).map(|found| found.len()),
-            found,
-            "{name}"
-        );
+        let (rva, size) = columns[3].split_once(' ').unwrap_or((columns[3], "0"));
+        let found = view.bytes(number(&rt, rva), number(&rt, size));
+        let expected = match columns[4] {
+            "-" => None,
+            count => Some(number(&rt, count)),
+        };
+        assert_eq!(rt; found.map(|found| found.len() as u64), expected, "{row}");
     }
-    let bytes = image(rt.alloc())?;
+    let bytes = image(&rt, rt.alloc())?;
     let view = ImageView::read(rt.alloc(), &bytes)?;
     assert_eq!(rt; view.bytes(0x2000, 2), Some([0xB8u8, 7].as_slice()));
     Ok(())
@@ -313,7 +223,7 @@ fn counts_missing_directories_as_empty(rt: HostRuntime) -> Result<(), Fail> {
         (3, 0x1001, 0),
         (4, 0x1001, 12),
     ] {
-        let bytes = edited(rt.alloc(), OPTIONAL + 108, &[count])?;
+        let bytes = edited(&rt, rt.alloc(), OPTIONAL + 108, &[count])?;
         let view = ImageView::read(rt.alloc(), &bytes)?;
         assert_eq!(rt; view.import_directory().rva, imports, "{count}");
         assert_eq!(rt; view.exception_directory().size, exceptions, "{count}");
@@ -321,77 +231,82 @@ fn counts_missing_directories_as_empty(rt: HostRuntime) -> Result<(), Fail> {
     Ok(())
 }
 
-/// An image whose third section, at 0x3000, has two names of one library, with bytes put at an offset
-/// of that section, and its import directory at an address.
-fn importing(alloc: Global, directory: u8, at: usize, bytes: &[u8]) -> Result<Vec<u8>, AllocError> {
-    let mut tables = Vec::new(alloc);
-    tables.extend_from_slice(&[0x28, 0x30, 0, 0, 0, 0, 0, 0, 0, 0, 0, 0])?; // lookup table
-    tables.extend_from_slice(&[0x68, 0x30, 0, 0, 0x40, 0x30, 0, 0])?; // name, address table
-    tables.extend_from_slice(&[0; 20])?;
-    for _table in 0..2 {
-        tables.extend_from_slice(&[0x58, 0x30, 0, 0, 0, 0, 0, 0])?;
-        tables.extend_from_slice(&[0x5E, 0x30, 0, 0, 0, 0, 0, 0])?;
-        tables.extend_from_slice(&[0; 8])?;
-    }
-    tables.extend_from_slice(b"\0\0put\0\0\0protect\0sehhost.dll\0")?;
-    for (i, byte) in bytes.iter().enumerate() {
-        if let Some(place) = tables.get_mut(at.saturating_add(i)) {
-            *place = *byte;
-        }
-    }
-    let mut out = image(alloc)?;
-    let fields: [(usize, &[u8]); 4] = [
-        (SIGNATURE + 6, &[3]),
-        (OPTIONAL + 56, &[0, 0x40]),
-        (OPTIONAL + 120, &[directory, 0x30, 0, 0, 40]),
-        (
-            TABLE + 80,
-            &[
-                b'.', b'r', b'd', b'a', b't', b'a', 0, 0, 0x74, 0, 0, 0, 0, 0x30, 0, 0, 0x74, 0, 0,
-                0, 0, 6,
-            ],
-        ),
-    ];
-    for (at, field) in fields {
-        for (i, byte) in field.iter().enumerate() {
-            if let Some(place) = out.get_mut(at.saturating_add(i)) {
-                *place = *byte;
-            }
-        }
-    }
+/// A third section, at 0x3000, with two names of one library.
+const IMPORTS: &str = r"
+0  | 28 30         | lookup table
+C  | 68 30         | name
+10 | 40 30         | address table
+28 | 58 30
+30 | 5E 30
+40 | 58 30
+48 | 5E 30
+5A | 'put'
+60 | 'protect'
+68 | 'sehhost.dll'
+";
+
+/// What the headers say of it.
+const THIRD: &str = r"
+signature+6 | 03
+optional+38 | 00 40
+optional+78 | 00 30 00 00 28
+table+50    | '.rdata'
+table+58    | 74000000 00300000 74000000 0006
+";
+
+/// Where the import directory lies in that section, an edit of the section, and the import that
+/// can't be read, or `-`: `NAME | DIRECTORY | AT | BYTES | INDEX`.
+const IMPORTING: &str = r"
+as it is                 | 0  | 0  |                         | -
+address table alone      | 0  | 0  | 00 00                   | -
+first by ordinal         | 0  | 2F | 80                      | 0
+second by ordinal        | 0  | 37 | 80                      | 1
+entry past all           | 0  | 34 | 01                      | 1
+hint past the end        | 0  | 30 | 73                      | 1
+name past the end        | 0  | 73 | 78                      | -
+no end of the name       | 0  | 30 | 70 30 00 00 00 00 00 00 | -
+slots that aren't stored | 0  | 10 | 00 10                   | 0
+second slot past the end | 0  | 10 | 6C 30                   | 1
+descriptor past the end  | 61 | 0  |                         | 0
+";
+
+/// An image with that section, with bytes put at an offset of it, and its import directory at an
+/// offset of it.
+fn importing(
+    rt: &impl Abort,
+    alloc: Global,
+    directory: u8,
+    at: usize,
+    bytes: &[u8],
+) -> Result<Vec<u8>, AllocError> {
+    let mut tables = vec![in alloc; 0; 0x74]?;
+    put_fields(rt, alloc, &mut tables, IMPORTS)?;
+    put(&mut tables, at, bytes);
+    let mut out = image(rt, alloc)?;
+    put_fields(rt, alloc, &mut out, THIRD)?;
+    put(&mut out, OPTIONAL + 120, &[directory]);
     out.extend_from_slice(&tables)?;
     Ok(out)
 }
 
 #[test]
 fn reads_imports(rt: HostRuntime) -> Result<(), Fail> {
-    // Where the directory lies; an edit of the section; the index of the import that can't be read.
-    let cases: [(&str, u8, usize, &[u8], Option<u64>); 11] = [
-        ("as it is", 0, 0, &[], None),
-        ("address table alone", 0, 0, &[0, 0], None),
-        ("first by ordinal", 0, 0x2F, &[0x80], Some(0)),
-        ("second by ordinal", 0, 0x37, &[0x80], Some(1)),
-        ("entry past all", 0, 0x34, &[1], Some(1)),
-        ("hint past the end", 0, 0x30, &[0x73], Some(1)),
-        ("name past the end", 0, 0x73, &[b'x'], None),
-        (
-            "no end of the name",
-            0,
-            0x30,
-            &[0x70, 0x30, 0, 0, 0, 0, 0, 0],
-            None,
-        ),
-        ("slots that aren't stored", 0, 16, &[0, 0x10], Some(0)),
-        ("second slot past the end", 0, 16, &[0x6C, 0x30], Some(1)),
-        ("descriptor past the end", 0x61, 0, &[], Some(0)),
-    ];
-    for (name, directory, at, bytes, index) in cases {
-        let bytes = importing(rt.alloc(), directory, at, bytes)?;
+    for row in IMPORTING.lines().skip(1) {
+        let columns = columns_of(row);
+        let directory = (number(&rt, columns[1]) % 256) as u8;
+        let edit = bytes_of(&rt, rt.alloc(), columns[3])?;
+        let at = place_of(&rt, columns[2]);
+        let bytes = importing(&rt, rt.alloc(), directory, at, &edit)?;
         let answer = ImageView::read(rt.alloc(), &bytes).err();
-        let refusal = index.map(|index| ImageErr::ImportBad { index });
-        assert_eq!(rt; answer, refusal, "{name}");
+        let refusal = match columns[4] {
+            "-" => None,
+            index => Some(ImageErr::ImportBad {
+                index: number(&rt, index),
+            }),
+        };
+        assert_eq!(rt; answer, refusal, "{row}");
     }
-    let bytes = importing(rt.alloc(), 0, 0, &[])?;
+    let bytes = importing(&rt, rt.alloc(), 0, 0, &[])?;
     let view = ImageView::read(rt.alloc(), &bytes)?;
     let imports = view.imports();
     assert_eq!(rt; imports.len(), 2);

@@ -4,6 +4,8 @@
 #[cfg(test)]
 mod headers;
 #[cfg(test)]
+mod rows;
+#[cfg(test)]
 mod tables;
 #[cfg(test)]
 mod views;

@@ -1,6 +1,7 @@
 ghost use Rattle.std.specs.Prelude.{◌≡◌, ◌≤◌, ◌<◌, length};
 ghost use Rattle.eh_tables.specs.Tables.{IsWhole};
 
+use crate::rows::{bytes_of, columns_of, number, place_of};
 use eh_tables::{
     RuntimeFunction, ScopeRecord, TableErr, Tables, UnwindCode, UnwindOperation, read_again,
     write_pdata,
@@ -8,6 +9,7 @@ use eh_tables::{
 use pe_image::ImageView;
 use seh_num::steps::Steps;
 use std::marker::Brand;
+use std::process::Abort;
 use std::sync::ledger::{Blank, Ledger};
 use std::test::Fail;
 use test_images::tables::{ENTRY, put, table_image};
@@ -20,14 +22,16 @@ fn refusal(rt: &HostRuntime, info: &[u8], entries: &[u8]) -> Result<Option<Table
     Ok(answer)
 }
 
-/// Infos as LLVM writes them, with their fields as llvm-readobj prints them.
+/// An info as LLVM writes it.
+const WRITTEN_BY_LLVM: [u8; 24] = [
+    0x01, 0x19, 0x09, 0x85, 0x19, 0x68, 0x08, 0x00, 0x15, 0x34, 0x13, 0x00, 0x11, 0x03, 0x09, 0x01,
+    0x16, 0x00, 0x02, 0x60, 0x01, 0x50, 0x00, 0x00,
+];
+
+/// Its fields, as llvm-readobj prints them.
 #[test]
 fn reads_what_llvm_writes(rt: HostRuntime) -> Result<(), Fail> {
-    let info = [
-        0x01, 0x19, 0x09, 0x85, 0x19, 0x68, 0x08, 0x00, 0x15, 0x34, 0x13, 0x00, 0x11, 0x03, 0x09,
-        0x01, 0x16, 0x00, 0x02, 0x60, 0x01, 0x50, 0x00, 0x00,
-    ];
-    let bytes = table_image(rt.alloc(), &info, &ENTRY)?;
+    let bytes = table_image(rt.alloc(), &WRITTEN_BY_LLVM, &ENTRY)?;
     let view = ImageView::read(rt.alloc(), &bytes)?;
     let tables = Tables::read(&view)?;
     assert_eq!(rt; tables.len(), 1);
@@ -36,7 +40,7 @@ fn reads_what_llvm_writes(rt: HostRuntime) -> Result<(), Fail> {
     let own = entry.info();
     assert_eq!(rt; (own.flags(), own.prologue_size()), (0, 25));
     assert_eq!(rt; (own.frame_register(), own.frame_offset()), (5, 0x80));
-    assert_eq!(rt; own.bytes(), info.as_slice());
+    assert_eq!(rt; own.bytes(), WRITTEN_BY_LLVM.as_slice());
     assert!(rt; own.handler().is_none() && own.parent().is_none() && entry.parents().is_empty());
     let codes: [(u8, UnwindOperation); 6] = [
         (
@@ -107,151 +111,90 @@ fn reads_scope_tables_of_the_c_handler(rt: HostRuntime) -> Result<(), Fail> {
     Ok(())
 }
 
+/// Infos and their refusals, `BYTES | REFUSAL | NAME`, where `-` is none.
+const INFOS: &str = r"
+01 05 02 00 05 32 01 30                                    | -              | as it is
+02 00 00 00                                                | Version 0 2    | version 2
+29 00 00 00                                                | Flags 0        | flags 5
+41 00 00 00                                                | Flags 0        | flags 8
+01 07 01 00 07 01 00 00                                    | Op 0 0         | operand past the count
+01 07 02 00 07 11 00 00                                    | Op 0 0         | two operands past it
+01 05 02 00 02 32 05 32                                    | CodeOrder 0 1  | rising offset
+01 04 01 00 04 03 00 00                                    | Op 0 0         | no frame register
+01 04 01 00 04 06 00 00                                    | Op 0 0         | no operation 6
+01 04 02 00 04 21 01 00                                    | Op 0 0         | large with info 2
+01 04 01 00 04 2A 00 00                                    | Op 0 0         | machine frame 2
+01 04 01 00 04 1A 00 00                                    | -              | machine frame 1
+21000000 00200000 20200000 00300000                        | ChainLong 0    | chained to itself
+21000000 00200000 20200000 00500000                        | Truncated 5000 | chained to none stored
+09 00 00 00 00 36 00 00 FF FF FF FF                        | Truncated 3000 | all rows there may be
+09000000 00360000 01000000 00200000 00200000 01000000 0120 | ScopeRange 0 0 | empty row
+09000000 00360000 01000000 00200000 01200000 00500000 0120 | ScopeRange 0 0 | handler at the end
+";
+
+/// Edits of two entries, `NAME | AT | BYTES | REFUSAL`.
+const ENTRIES: &str = r"
+as they are     | 0  |                   | -
+empty           | 4  | 00 20             | EmptyRange 0
+same begin      | C  | 00 20             | Unsorted 1
+one byte below  | C  | 1F 20             | Unsorted 1
+empty and below | C  | 00 20 00 00 00 20 | EmptyRange 1
+misaligned      | 8  | 02                | Misaligned 3002
+nothing stored  | 15 | 60                | Truncated 6000
+";
+
+/// The refusal that a column names.
+fn refusal_of(rt: &impl Abort, column: &str) -> Option<TableErr> {
+    let (name, numbers) = column.split_once(' ')?;
+    let (first, second) = numbers.split_once(' ').unwrap_or((numbers, "0"));
+    let index = number(rt, first);
+    let second = number(rt, second);
+    Some(match name {
+        "Truncated" => TableErr::Truncated { rva: index },
+        "Misaligned" => TableErr::Misaligned { rva: index },
+        "EmptyRange" => TableErr::EmptyRange { index },
+        "Unsorted" => TableErr::Unsorted { index },
+        "Version" => TableErr::Version {
+            index,
+            found: (second % 256) as u8,
+        },
+        "Flags" => TableErr::Flags { index },
+        "Op" => TableErr::Op {
+            index,
+            slot: second,
+        },
+        "CodeOrder" => TableErr::CodeOrder {
+            index,
+            slot: second,
+        },
+        "ChainLong" => TableErr::ChainLong { index },
+        "ScopeRange" => TableErr::ScopeRange { index, row: second },
+        _ => panic!(rt; "no refusal: {column}"),
+    })
+}
+
 #[test]
 fn refuses_infos(rt: HostRuntime) -> Result<(), Fail> {
-    let cases: [(&str, &[u8], Option<TableErr>); 17] = [
-        ("as it is", &[1, 5, 2, 0, 5, 0x32, 1, 0x30], None),
-        (
-            "version 2",
-            &[2, 0, 0, 0],
-            Some(TableErr::Version { index: 0, found: 2 }),
-        ),
-        (
-            "flags 5",
-            &[0x29, 0, 0, 0],
-            Some(TableErr::Flags { index: 0 }),
-        ),
-        (
-            "flags 8",
-            &[0x41, 0, 0, 0],
-            Some(TableErr::Flags { index: 0 }),
-        ),
-        (
-            "operand past the count",
-            &[1, 7, 1, 0, 7, 1, 0, 0],
-            Some(TableErr::Op { index: 0, slot: 0 }),
-        ),
-        (
-            "two operands past it",
-            &[1, 7, 2, 0, 7, 0x11, 0, 0],
-            Some(TableErr::Op { index: 0, slot: 0 }),
-        ),
-        (
-            "rising offset",
-            &[1, 5, 2, 0, 2, 0x32, 5, 0x32],
-            Some(TableErr::CodeOrder { index: 0, slot: 1 }),
-        ),
-        (
-            "no frame register",
-            &[1, 4, 1, 0, 4, 3, 0, 0],
-            Some(TableErr::Op { index: 0, slot: 0 }),
-        ),
-        (
-            "no operation 6",
-            &[1, 4, 1, 0, 4, 6, 0, 0],
-            Some(TableErr::Op { index: 0, slot: 0 }),
-        ),
-        (
-            "large with info 2",
-            &[1, 4, 2, 0, 4, 0x21, 1, 0],
-            Some(TableErr::Op { index: 0, slot: 0 }),
-        ),
-        (
-            "machine frame 2",
-            &[1, 4, 1, 0, 4, 0x2A, 0, 0],
-            Some(TableErr::Op { index: 0, slot: 0 }),
-        ),
-        ("machine frame 1", &[1, 4, 1, 0, 4, 0x1A, 0, 0], None),
-        (
-            "chained to itself",
-            &[
-                0x21, 0, 0, 0, 0, 0x20, 0, 0, 0x20, 0x20, 0, 0, 0, 0x30, 0, 0,
-            ],
-            Some(TableErr::ChainLong { index: 0 }),
-        ),
-        (
-            "chained to nothing stored",
-            &[
-                0x21, 0, 0, 0, 0, 0x20, 0, 0, 0x20, 0x20, 0, 0, 0, 0x50, 0, 0,
-            ],
-            Some(TableErr::Truncated { rva: 0x5000 }),
-        ),
-        (
-            "all rows that there may be",
-            &[9, 0, 0, 0, 0, 0x36, 0, 0, 0xFF, 0xFF, 0xFF, 0xFF],
-            Some(TableErr::Truncated { rva: 0x3000 }),
-        ),
-        (
-            "empty row",
-            &[
-                9, 0, 0, 0, 0, 0x36, 0, 0, 1, 0, 0, 0, 0, 0x20, 0, 0, 0, 0x20, 0, 0, 1, 0, 0, 0, 1,
-                0x20,
-            ],
-            Some(TableErr::ScopeRange { index: 0, row: 0 }),
-        ),
-        (
-            "handler at the end",
-            &[
-                9, 0, 0, 0, 0, 0x36, 0, 0, 1, 0, 0, 0, 0, 0x20, 0, 0, 1, 0x20, 0, 0, 0, 0x50, 0, 0,
-                1, 0x20,
-            ],
-            Some(TableErr::ScopeRange { index: 0, row: 0 }),
-        ),
-    ];
-    for (name, info, expected) in cases {
-        assert_eq!(rt; refusal(&rt, info, &ENTRY)?, expected, "{name}");
+    for row in INFOS.lines().skip(1) {
+        let columns = columns_of(row);
+        let info = bytes_of(&rt, rt.alloc(), columns[0])?;
+        let expected = refusal_of(&rt, columns[1]);
+        assert_eq!(rt; refusal(&rt, &info, &ENTRY)?, expected, "{row}");
     }
     Ok(())
 }
 
 #[test]
 fn refuses_entries(rt: HostRuntime) -> Result<(), Fail> {
-    // The place of an edit in two entries; what is put there; the refusal.
-    let cases: [(&str, usize, &[u8], Option<TableErr>); 7] = [
-        ("as they are", 0, &[], None),
-        (
-            "empty",
-            4,
-            &[0, 0x20],
-            Some(TableErr::EmptyRange { index: 0 }),
-        ),
-        (
-            "same begin",
-            12,
-            &[0, 0x20],
-            Some(TableErr::Unsorted { index: 1 }),
-        ),
-        (
-            "one byte below",
-            12,
-            &[0x1F, 0x20],
-            Some(TableErr::Unsorted { index: 1 }),
-        ),
-        (
-            "empty and below",
-            12,
-            &[0, 0x20, 0, 0, 0, 0x20],
-            Some(TableErr::EmptyRange { index: 1 }),
-        ),
-        (
-            "misaligned",
-            8,
-            &[2],
-            Some(TableErr::Misaligned { rva: 12290 }),
-        ),
-        (
-            "nothing stored",
-            21,
-            &[0x60],
-            Some(TableErr::Truncated { rva: 0x6000 }),
-        ),
-    ];
-    for (name, at, bytes, expected) in cases {
+    for row in ENTRIES.lines().skip(1) {
+        let columns = columns_of(row);
         let mut entries = Vec::new(rt.alloc());
         entries.extend_from_slice(&ENTRY)?;
         entries.extend_from_slice(&[0x20, 0x20, 0, 0, 0x30, 0x20, 0, 0, 0, 0x30, 0, 0])?;
-        put(&mut entries, at, bytes);
-        assert_eq!(rt; refusal(&rt, &[1, 0, 0, 0], &entries)?, expected, "{name}");
+        let bytes = bytes_of(&rt, rt.alloc(), columns[2])?;
+        put(&mut entries, place_of(&rt, columns[1]), &bytes);
+        let expected = refusal_of(&rt, columns[3]);
+        assert_eq!(rt; refusal(&rt, &[1, 0, 0, 0], &entries)?, expected, "{row}");
     }
     let short = refusal(
         &rt,
@@ -327,8 +270,9 @@ fn finds_nothing_without_entries(rt: HostRuntime) -> Result<(), Fail> {
     Ok(())
 }
 
-/// Where the entry begins that holds an address, and the steps of the search. The number of steps takes
-/// no bytes, so that the contract alone tells it: 0 where there are no entries, at most 2 of 3.
+/// Where the entry begins that holds an address, and the steps of the search. The number of steps
+/// takes no bytes, so that the contract alone tells it: 0 where there are no entries, at most 2 of
+/// 3.
 fn looked_up<L: Ledger>(tables: &Tables<'_, '_>, rva: u64, blank: Blank) -> (Option<u32>, Steps<L>)
     requires whole { IsWhole tables.now }
     requires name { blank.name ≡ L.name }

@@ -1,6 +1,9 @@
+use crate::rows::bytes_of;
 use pe_image::ImageView;
 use seh_io::plain::VecSink;
 use seh_io::planned::{MemSink, Plan};
+use std::alloc::Global;
+use std::process::Abort;
 use std::test::Fail;
 use table_view::view;
 use test_images::tables::{ENTRY, table_image};
@@ -8,16 +11,24 @@ use test_images::tables::{ENTRY, table_image};
 /// An entry with the info of the first bytes of a prologue `push rbx; sub rsp, 32`.
 const INFO: [u8; 8] = [1, 5, 2, 0, 5, 0x32, 1, 0x30];
 
-const EXAMPLE: &[u8] = b"entry 0 00002000 00002020 00003000
+/// What is shown of images. A part begins with a line `# NAME`; lines `info` have the bytes of the
+/// unwind infos and lines `table` those of the function table, which is [`ENTRY`] where no line has
+/// them. After a line `shows` comes what is shown. Of the part `codes` llvm-readobj prints these
+/// codes; in `refused entry` the second of three entries is refused.
+const VIEWS: &str = r"
+# example
+info 01 05 02 00 05 32 01 30
+shows
+entry 0 00002000 00002020 00003000
  bytes 0105020005320130
  info prolog 5 flags 0 frame - 0
  code 5 alloc 32
  code 1 push rbx
 entries 1
-";
-
-/// With an info of which llvm-readobj prints these codes.
-const CODES: &[u8] = b"entry 0 00002000 00002020 00003000
+# codes
+info 01190985 19680800 15341300 11030901 16000260 0150
+shows
+entry 0 00002000 00002020 00003000
  bytes 011909851968080015341300110309011600026001500000
  info prolog 25 flags 0 frame rbp 128
  code 25 xmm 6 128
@@ -27,9 +38,12 @@ const CODES: &[u8] = b"entry 0 00002000 00002020 00003000
  code 2 push rsi
  code 1 push rbp
 entries 1
-";
-
-const SCOPES: &[u8] = b"entry 0 00002000 00002020 00003000
+# scopes
+info 19000000 00360000 03000000 00200000 10200000 18200000
+info 00000000 00200000 10200000 01000000 14200000 00200000
+info 20 20 00 00 1C 20 00 00 16 20
+shows
+entry 0 00002000 00002020 00003000
  bytes 19000000
  info prolog 0 flags 3 frame - 0
  handler 00003600 c
@@ -37,26 +51,31 @@ const SCOPES: &[u8] = b"entry 0 00002000 00002020 00003000
  scope 1 00002000 00002010 always jump 00002014
  scope 2 00002000 00002020 filter 0000201C jump 00002016
 entries 1
-";
-
-const CHAIN: &[u8] = b"entry 0 00002000 00002020 00003000
+# chain
+info 21000000 00200000 10200000 10300000 01
+shows
+entry 0 00002000 00002020 00003000
  bytes 21000000
  info prolog 0 flags 4 frame - 0
  chain 00002000 00002010 00003010
 entries 1
-";
-
-const MACHINE: &[u8] = b"entry 0 00002000 00002020 00003000
+# machine frame
+info 09 04 02 00 04 42 00 1A 0A 36
+shows
+entry 0 00002000 00002020 00003000
  bytes 090402000442001a
  info prolog 4 flags 1 frame - 0
  code 4 alloc 40
  code 0 machine 1
  handler 0000360A other
 entries 1
-";
-
-/// The second of three entries is refused.
-const REFUSED: &[u8] = b"entry 0 00002000 00002020 00003000
+# refused entry
+info 01 00 00 00 02
+table 00 20 00 00 20 20 00 00 00 30 00 00
+table 20 20 00 00 30 20 00 00 04 30 00 00
+table 30 20 00 00 40 20 00 00 00 30 00 00
+shows
+entry 0 00002000 00002020 00003000
  bytes 01000000
  info prolog 0 flags 0 frame - 0
 refused 1 Version 2
@@ -64,94 +83,73 @@ entry 2 00002030 00002040 00003000
  bytes 01000000
  info prolog 0 flags 0 frame - 0
 entries 3
+# operand past the count
+info 01 07 01 00 07 01
+shows
+refused 0 Op 0
+entries 1
+# chained to itself
+info 21000000 00200000 20200000 00300000
+shows
+refused 0 ChainLong
+entries 1
+# misaligned
+info 01
+table 00 20 00 00 20 20 00 00 02 30 00 00
+shows
+refused 0 Misaligned 12290
+entries 1
+# empty range
+info 01
+table 00 20 00 00 00 20 00 00 00 30 00 00
+shows
+refused 0 EmptyRange
+entries 1
+# short directory
+info 01
+table 00 20 00 00 20 20 00 00 00 30 00
+shows
+refused table Truncated 00004000
+entries 0
+# no directory
+info 01
+table
+shows
+entries 0
 ";
+
+/// Compares what is shown of the image of a part of a table.
+fn shows_part(rt: &impl Abort, alloc: Global, part: &str) -> Result<(), Fail> {
+    let (head, shown) = part.split_once("\nshows\n").unwrap_or((part, ""));
+    let mut infos = Vec::new(alloc);
+    let mut entries = Vec::new(alloc);
+    let mut is_given = false;
+    for line in head.lines() {
+        if let Some(words) = line.strip_prefix("info") {
+            let bytes = bytes_of(rt, alloc, words)?;
+            infos.extend_from_slice(&bytes)?;
+        } else if let Some(words) = line.strip_prefix("table") {
+            let bytes = bytes_of(rt, alloc, words)?;
+            entries.extend_from_slice(&bytes)?;
+            is_given = true;
+        }
+    }
+    if !is_given {
+        entries.extend_from_slice(&ENTRY)?;
+    }
+    let bytes = table_image(alloc, &infos, &entries)?;
+    let image = ImageView::read(alloc, &bytes)?;
+    let mut out = VecSink::new(alloc);
+    assert!(rt; view(&image, &mut out).is_ok(), "{head}");
+    let expected = format!(in alloc; "{}\n", shown.trim_end())?;
+    assert_eq!(rt; out.bytes.as_slice(), expected.as_bytes(), "{head}");
+    Ok(())
+}
 
 #[test]
 fn shows(rt: HostRuntime) -> Result<(), Fail> {
-    let cases: [(&str, &[u8], &[u8], &[u8]); 12] = [
-        ("example", &INFO, &ENTRY, EXAMPLE),
-        (
-            "codes",
-            &[
-                0x01, 0x19, 0x09, 0x85, 0x19, 0x68, 0x08, 0x00, 0x15, 0x34, 0x13, 0x00, 0x11, 0x03,
-                0x09, 0x01, 0x16, 0x00, 0x02, 0x60, 0x01, 0x50,
-            ],
-            &ENTRY,
-            CODES,
-        ),
-        (
-            "scopes",
-            &[
-                0x19, 0, 0, 0, 0, 0x36, 0, 0, 3, 0, 0, 0, 0, 0x20, 0, 0, 0x10, 0x20, 0, 0, 0x18,
-                0x20, 0, 0, 0, 0, 0, 0, 0, 0x20, 0, 0, 0x10, 0x20, 0, 0, 1, 0, 0, 0, 0x14, 0x20, 0,
-                0, 0, 0x20, 0, 0, 0x20, 0x20, 0, 0, 0x1C, 0x20, 0, 0, 0x16, 0x20,
-            ],
-            &ENTRY,
-            SCOPES,
-        ),
-        (
-            "chain",
-            &[
-                0x21, 0, 0, 0, 0, 0x20, 0, 0, 0x10, 0x20, 0, 0, 0x10, 0x30, 0, 0, 1,
-            ],
-            &ENTRY,
-            CHAIN,
-        ),
-        (
-            "machine frame",
-            &[9, 4, 2, 0, 4, 0x42, 0, 0x1A, 0x0A, 0x36],
-            &ENTRY,
-            MACHINE,
-        ),
-        (
-            "refused entry",
-            &[1, 0, 0, 0, 2],
-            &[
-                0, 0x20, 0, 0, 0x20, 0x20, 0, 0, 0, 0x30, 0, 0, 0x20, 0x20, 0, 0, 0x30, 0x20, 0, 0,
-                4, 0x30, 0, 0, 0x30, 0x20, 0, 0, 0x40, 0x20, 0, 0, 0, 0x30, 0, 0,
-            ],
-            REFUSED,
-        ),
-        (
-            "operand past the count",
-            &[1, 7, 1, 0, 7, 1],
-            &ENTRY,
-            b"refused 0 Op 0\nentries 1\n",
-        ),
-        (
-            "chained to itself",
-            &[
-                0x21, 0, 0, 0, 0, 0x20, 0, 0, 0x20, 0x20, 0, 0, 0, 0x30, 0, 0,
-            ],
-            &ENTRY,
-            b"refused 0 ChainLong\nentries 1\n",
-        ),
-        (
-            "misaligned",
-            &[1],
-            &[0, 0x20, 0, 0, 0x20, 0x20, 0, 0, 2, 0x30, 0, 0],
-            b"refused 0 Misaligned 12290\nentries 1\n",
-        ),
-        (
-            "empty range",
-            &[1],
-            &[0, 0x20, 0, 0, 0, 0x20, 0, 0, 0, 0x30, 0, 0],
-            b"refused 0 EmptyRange\nentries 1\n",
-        ),
-        (
-            "short directory",
-            &[1],
-            &[0, 0x20, 0, 0, 0x20, 0x20, 0, 0, 0, 0x30, 0],
-            b"refused table Truncated 00004000\nentries 0\n",
-        ),
-        ("no directory", &[1], &[], b"entries 0\n"),
-    ];
-    for (name, infos, entries, expected) in cases {
-        let bytes = table_image(rt.alloc(), infos, entries)?;
-        let image = ImageView::read(rt.alloc(), &bytes)?;
-        let mut out = VecSink::new(rt.alloc());
-        assert!(rt; view(&image, &mut out).is_ok(), "{name}");
-        assert_eq!(rt; out.bytes.as_slice(), expected, "{name}");
+    for part in VIEWS.split("\n# ").skip(1) {
+        shows_part(&rt, rt.alloc(), part)?;
     }
     Ok(())
 }

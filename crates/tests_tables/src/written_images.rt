@@ -1,27 +1,77 @@
+use crate::rows::put_fields;
 use pe_image::ImageView;
 use pe_write::{Image, Service, Sizes, write};
 use std::test::Fail;
 
-/// Where the optional header of a written image begins, its directories, and its section table.
-const OPTIONAL: usize = 0x58;
+/// All bytes that aren't 0 in the headers and `.data` of the image of [`writes_five_sections`].
+const HEADERS: &str = r"
+0              | 'MZ'
+3C             | 40
+40             | 50 45 00 00
+44             | 64 86 05
+54             | F0 00 23
+optional       | 0B 02
+optional+4     | 00 02
+optional+8     | 00 08
+optional+10    | 01 20
+optional+14    | 00 20
+optional+18    | 00 00 00 40 01
+optional+20    | 00 10
+optional+24    | 00 02
+optional+38    | 00 60
+optional+3C    | 00 04
+optional+44    | 03
+optional+6C    | 10
+directories+8  | 00 30 00 00 28
+directories+18 | 00 50 00 00 0C
+directories+60 | 58 30 00 00 30
+table          | '.data'
+table+28       | '.text'
+table+50       | '.rdata'
+table+78       | '.xdata'
+table+A0       | '.pdata'
+400            | 01 02 03 04
+";
 
-const DIRECTORIES: usize = OPTIONAL + 112;
+/// Its sections: VirtualSize, VirtualAddress, SizeOfRawData, PointerToRawData; Characteristics.
+const SECTIONS: &str = r"
+table+8  | 00100000 00100000 00020000 0004
+table+24 | 40 00 00 C0
+table+30 | 07000000 00200000 00020000 0006
+table+4C | 20 00 00 60
+table+58 | DE000000 00300000 00020000 0008
+table+74 | 40 00 00 40
+table+80 | 04000000 00400000 00020000 000A
+table+9C | 40 00 00 40
+table+A8 | 0C000000 00500000 00020000 000C
+table+C4 | 40 00 00 40
+";
 
-const TABLE: usize = OPTIONAL + 240;
-
-/// Where the raw data of `.rdata` begins in the image of [`writes_five_sections`].
-const RDATA: usize = 2048;
-
-/// Puts bytes at their places.
-fn put_fields(bytes: &mut [u8], fields: &[(usize, &[u8])]) {
-    for (at, field) in fields {
-        for (i, byte) in field.iter().enumerate() {
-            if let Some(place) = bytes.get_mut(at.saturating_add(i)) {
-                *place = *byte;
-            }
-        }
-    }
-}
+/// All bytes that aren't 0 in its other sections.
+const CONTENTS: &str = r"
+600      | 90 B8 07 00 00 00 C3
+rdata    | 28 30
+rdata+C  | D2 30
+rdata+10 | 58 30
+rdata+28 | 88 30
+rdata+30 | 9A 30
+rdata+38 | B2 30
+rdata+40 | C2 30
+rdata+48 | CC 30
+rdata+58 | 88 30
+rdata+60 | 9A 30
+rdata+68 | B2 30
+rdata+70 | C2 30
+rdata+78 | CC 30
+rdata+8A | 'RaiseException'
+rdata+9C | '__C_specific_handler'
+rdata+B4 | '_local_unwind'
+rdata+C4 | 'protect'
+rdata+CE | 'put'
+rdata+D2 | 'sehhost.dll'
+A00      | 01
+C00      | 00 20 00 00 07 20 00 00 00 40
+";
 
 #[test]
 fn writes_five_sections(rt: HostRuntime) -> Result<(), Fail> {
@@ -31,80 +81,10 @@ fn writes_five_sections(rt: HostRuntime) -> Result<(), Fail> {
     let pdata = [0, 0x20, 0, 0, 7, 0x20, 0, 0, 0, 0x40, 0, 0].to_vec(rt.alloc())?;
     let image = Image::new(0x1000, data, text, 1, xdata, pdata);
     let bytes = write(rt.alloc(), &image)?;
-
-    // All bytes that aren't 0, by their places in the file.
-    let headers: [(usize, &[u8]); 26] = [
-        (0, b"MZ"),
-        (0x3C, &[0x40]),
-        (0x40, b"PE\0\0"),
-        (0x44, &[0x64, 0x86, 5]),
-        (0x54, &[0xF0, 0, 0x23]),
-        (OPTIONAL, &[0x0B, 0x02]),
-        (OPTIONAL + 4, &[0, 2]),
-        (OPTIONAL + 8, &[0, 8]),
-        (OPTIONAL + 16, &[1, 0x20]),
-        (OPTIONAL + 20, &[0, 0x20]),
-        (OPTIONAL + 24, &[0, 0, 0, 0x40, 1]),
-        (OPTIONAL + 32, &[0, 0x10]),
-        (OPTIONAL + 36, &[0, 2]),
-        (OPTIONAL + 56, &[0, 0x60]),
-        (OPTIONAL + 60, &[0, 4]),
-        (OPTIONAL + 68, &[3]),
-        (OPTIONAL + 108, &[16]),
-        (DIRECTORIES + 8, &[0, 0x30, 0, 0, 40]),
-        (DIRECTORIES + 24, &[0, 0x50, 0, 0, 12]),
-        (DIRECTORIES + 96, &[0x58, 0x30, 0, 0, 48]),
-        (TABLE, b".data"),
-        (TABLE + 40, b".text"),
-        (TABLE + 80, b".rdata"),
-        (TABLE + 120, b".xdata"),
-        (TABLE + 160, b".pdata"),
-        (0x400, &[1, 2, 3, 4]),
-    ];
-    // VirtualSize, VirtualAddress, SizeOfRawData, PointerToRawData; Characteristics.
-    let sections: [(usize, &[u8]); 10] = [
-        (TABLE + 8, &[0, 0x10, 0, 0, 0, 0x10, 0, 0, 0, 2, 0, 0, 0, 4]),
-        (TABLE + 36, &[0x40, 0, 0, 0xC0]),
-        (TABLE + 48, &[7, 0, 0, 0, 0, 0x20, 0, 0, 0, 2, 0, 0, 0, 6]),
-        (TABLE + 76, &[0x20, 0, 0, 0x60]),
-        (TABLE + 88, &[222, 0, 0, 0, 0, 0x30, 0, 0, 0, 2, 0, 0, 0, 8]),
-        (TABLE + 116, &[0x40, 0, 0, 0x40]),
-        (TABLE + 128, &[4, 0, 0, 0, 0, 0x40, 0, 0, 0, 2, 0, 0, 0, 10]),
-        (TABLE + 156, &[0x40, 0, 0, 0x40]),
-        (
-            TABLE + 168,
-            &[12, 0, 0, 0, 0, 0x50, 0, 0, 0, 2, 0, 0, 0, 12],
-        ),
-        (TABLE + 196, &[0x40, 0, 0, 0x40]),
-    ];
-    let contents: [(usize, &[u8]); 22] = [
-        (1536, &[0x90, 0xB8, 7, 0, 0, 0, 0xC3]),
-        (RDATA, &[0x28, 0x30]),
-        (RDATA + 12, &[0xD2, 0x30]),
-        (RDATA + 16, &[0x58, 0x30]),
-        (RDATA + 40, &[0x88, 0x30]),
-        (RDATA + 48, &[0x9A, 0x30]),
-        (RDATA + 56, &[0xB2, 0x30]),
-        (RDATA + 64, &[0xC2, 0x30]),
-        (RDATA + 72, &[0xCC, 0x30]),
-        (RDATA + 88, &[0x88, 0x30]),
-        (RDATA + 96, &[0x9A, 0x30]),
-        (RDATA + 104, &[0xB2, 0x30]),
-        (RDATA + 112, &[0xC2, 0x30]),
-        (RDATA + 120, &[0xCC, 0x30]),
-        (RDATA + 138, b"RaiseException"),
-        (RDATA + 156, b"__C_specific_handler"),
-        (RDATA + 180, b"_local_unwind"),
-        (RDATA + 196, b"protect"),
-        (RDATA + 206, b"put"),
-        (RDATA + 210, b"sehhost.dll"),
-        (2560, &[1]),
-        (3072, &[0, 0x20, 0, 0, 7, 0x20, 0, 0, 0, 0x40]),
-    ];
     let mut expected = vec![in rt.alloc(); 0; 3584]?;
-    put_fields(&mut expected, &headers);
-    put_fields(&mut expected, &sections);
-    put_fields(&mut expected, &contents);
+    put_fields(&rt, rt.alloc(), &mut expected, HEADERS)?;
+    put_fields(&rt, rt.alloc(), &mut expected, SECTIONS)?;
+    put_fields(&rt, rt.alloc(), &mut expected, CONTENTS)?;
     assert_eq!(rt; bytes.as_slice(), expected.as_slice());
     Ok(())
 }

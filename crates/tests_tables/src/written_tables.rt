@@ -6,6 +6,8 @@ use eh_tables::{
     write_unwind,
 };
 use pe_image::ImageView;
+use std::alloc::Global;
+use std::process::Abort;
 use std::test::Fail;
 use test_images::tables::{ENTRY, table_image};
 
@@ -153,58 +155,60 @@ fn writes_the_smallest_of_three_slots(rt: HostRuntime) -> Result<(), Fail> {
     Ok(())
 }
 
-#[test]
-#[tactic(auto, unfolding(pe_image::specs::Numbers::u16, pe_image::specs::Numbers::u32))]
-fn reads_again_what_is_written(rt: HostRuntime) -> Result<(), Fail> {
-    let mut out = Vec::new(rt.alloc());
-    let mut codes = ArrayVec::new();
-    codes.push(UnwindCode {
-        offset: 40,
-        operation: UnwindOperation::SetFrame,
-    });
-    codes.push(UnwindCode {
-        offset: 36,
-        operation: UnwindOperation::SaveVector {
-            register: 15,
-            offset: 1048576,
-        },
-    });
-    codes.push(UnwindCode {
-        offset: 28,
-        operation: UnwindOperation::Save {
-            register: 12,
-            offset: 524288,
-        },
-    });
-    codes.push(UnwindCode {
-        offset: 16,
-        operation: UnwindOperation::Save {
-            register: 3,
-            offset: 72,
-        },
-    });
-    codes.push(UnwindCode {
-        offset: 12,
-        operation: UnwindOperation::Allocate { size: 524288 },
-    });
-    codes.push(UnwindCode {
-        offset: 2,
-        operation: UnwindOperation::Push { register: 15 },
-    });
-    codes.push(UnwindCode {
-        offset: 0,
-        operation: UnwindOperation::MachineFrame { info: 1 },
-    });
-    let info = UnwindInfo {
-        prologue_size: 40,
-        frame_register: 5,
-        frame_offset: 240,
-        codes,
-        trailer: Trailer::Nothing,
-    };
-    write_unwind(&info, &mut out)?;
-    let bytes = table_image(rt.alloc(), &out, &ENTRY)?;
-    let view = ImageView::read(rt.alloc(), &bytes)?;
+const FRAME: UnwindCode = UnwindCode {
+    offset: 40,
+    operation: UnwindOperation::SetFrame,
+};
+
+const FAR_VECTOR: UnwindCode = UnwindCode {
+    offset: 36,
+    operation: UnwindOperation::SaveVector {
+        register: 15,
+        offset: 1048576,
+    },
+};
+
+const FAR_SAVE: UnwindCode = UnwindCode {
+    offset: 28,
+    operation: UnwindOperation::Save {
+        register: 12,
+        offset: 524288,
+    },
+};
+
+const SAVE: UnwindCode = UnwindCode {
+    offset: 16,
+    operation: UnwindOperation::Save {
+        register: 3,
+        offset: 72,
+    },
+};
+
+const ALLOCATION: UnwindCode = UnwindCode {
+    offset: 12,
+    operation: UnwindOperation::Allocate { size: 524288 },
+};
+
+const PUSH: UnwindCode = UnwindCode {
+    offset: 2,
+    operation: UnwindOperation::Push { register: 15 },
+};
+
+const MACHINE: UnwindCode = UnwindCode {
+    offset: 0,
+    operation: UnwindOperation::MachineFrame { info: 1 },
+};
+
+/// Compares what is read of an info, of a frame register 5 at 240 and a prologue of 40 bytes, with
+/// its codes.
+fn reads_codes(
+    rt: &impl Abort,
+    alloc: Global,
+    info: &[u8],
+    codes: &[UnwindCode],
+) -> Result<(), Fail> {
+    let bytes = table_image(alloc, info, &ENTRY)?;
+    let view = ImageView::read(alloc, &bytes)?;
     let tables = Tables::read(&view)?;
     assert_eq!(rt; tables.len(), 1);
     let entry = tables.entry(0)?;
@@ -218,11 +222,34 @@ fn reads_again_what_is_written(rt: HostRuntime) -> Result<(), Fail> {
         (40, 5, 240)
     );
     let mut found = entry.codes();
-    for &code in &info.codes {
+    for &code in codes {
         assert_eq!(rt; found.next(), Some(code));
     }
     assert_eq!(rt; found.next(), None);
     Ok(())
+}
+
+#[test]
+#[tactic(auto, unfolding(pe_image::specs::Numbers::u16, pe_image::specs::Numbers::u32))]
+fn reads_again_what_is_written(rt: HostRuntime) -> Result<(), Fail> {
+    let mut out = Vec::new(rt.alloc());
+    let mut codes = ArrayVec::new();
+    codes.push(FRAME);
+    codes.push(FAR_VECTOR);
+    codes.push(FAR_SAVE);
+    codes.push(SAVE);
+    codes.push(ALLOCATION);
+    codes.push(PUSH);
+    codes.push(MACHINE);
+    let info = UnwindInfo {
+        prologue_size: 40,
+        frame_register: 5,
+        frame_offset: 240,
+        codes,
+        trailer: Trailer::Nothing,
+    };
+    write_unwind(&info, &mut out)?;
+    reads_codes(&rt, rt.alloc(), &out, info.codes.as_slice())
 }
 
 #[test]

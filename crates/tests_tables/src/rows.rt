@@ -1,0 +1,88 @@
+//! Readers of tables. A table of rows is one text, and each line after the first is a row, of
+//! columns between bars; numbers are in hexadecimal.
+
+use std::alloc::{AllocError, Global};
+use std::process::Abort;
+use test_images::tables::put;
+
+fn digit(rt: &impl Abort, byte: u8) -> u8 {
+    match byte {
+        b'0'..=b'9' => byte - b'0',
+        b'A'..=b'F' => byte - b'A' + 10,
+        _ => panic!(rt; "no digit: {byte}"),
+    }
+}
+
+/// A number in hexadecimal.
+pub fn number(rt: &impl Abort, word: &str) -> u64 {
+    let mut value = 0u64;
+    for byte in word.bytes() {
+        value = value.wrapping_mul(16).wrapping_add(digit(rt, byte) as u64);
+    }
+    value
+}
+
+/// The columns of a row, "" for those that it doesn't have.
+pub fn columns_of(row: &str) -> [&str; 5] {
+    let mut columns = [""; 5];
+    for (i, column) in row.split('|').enumerate() {
+        if let Some(place) = columns.get_mut(i) {
+            *place = column.trim();
+        }
+    }
+    columns
+}
+
+/// The bytes that pairs of digits spell, or those of a text between quotes.
+pub fn bytes_of(rt: &impl Abort, alloc: Global, column: &str) -> Result<Vec<u8>, AllocError> {
+    let mut bytes = Vec::new(alloc);
+    if let Some(text) = column.strip_prefix('\'') {
+        let text = text.strip_suffix('\'').unwrap_or(text);
+        bytes.extend_from_slice(text.as_bytes())?;
+        return Ok(bytes);
+    }
+    let mut high = None;
+    for byte in column.bytes() {
+        if byte != b' ' {
+            let low = digit(rt, byte);
+            match high {
+                None => high = Some(low),
+                Some(first) => {
+                    bytes.push(first.wrapping_mul(16).wrapping_add(low))?;
+                    high = None;
+                }
+            }
+        }
+    }
+    Ok(bytes)
+}
+
+/// A place in the file of an image: an offset, or `NAME+OFFSET` from a header, the directories, the
+/// section table, or the raw data of `.rdata`.
+pub fn place_of(rt: &impl Abort, column: &str) -> usize {
+    let (name, offset) = column.split_once('+').unwrap_or((column, "0"));
+    let start = match name {
+        "signature" => 0x40,
+        "optional" => 0x58,
+        "directories" => 0xC8,
+        "table" => 0x148,
+        "rdata" => 0x800,
+        _ => number(rt, name),
+    };
+    (start.wrapping_add(number(rt, offset)) % 65536) as usize
+}
+
+/// Puts the fields of a table, `PLACE | BYTES | NOTE`, at their places.
+pub fn put_fields(
+    rt: &impl Abort,
+    alloc: Global,
+    out: &mut Vec<u8>,
+    table: &str,
+) -> Result<(), AllocError> {
+    for row in table.lines().skip(1) {
+        let columns = columns_of(row);
+        let field = bytes_of(rt, alloc, columns[1])?;
+        put(out, place_of(rt, columns[0]), &field);
+    }
+    Ok(())
+}
