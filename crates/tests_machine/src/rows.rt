@@ -1,5 +1,5 @@
-//! Readers of tables. A table of rows is one text, and each line after the first is a row, of columns
-//! between bars.
+//! Readers of tables. A table of rows is one text, and each line after the first is a row, of
+//! columns between bars.
 
 use std::alloc::{AllocError, Global};
 use std::process::Abort;
