@@ -19,7 +19,10 @@ LoweredHasRegions = (p : Program) → HasRegions (lowered p)
 abbrev pub LoweredNamesFunclets : Type 0
 LoweredNamesFunclets = (p : Program) → IsSound p → NamesFunclets (lowered p)
 
--- the image of a sound program: one row for each `__try`, as many without JumpTarget as there are `__finally` blocks, as many with HandlerAddress 1 as there are filters that always accept; the other handler addresses are all different, and each is the first byte of an entry (`shape`, with `names`)
+-- the image of a sound program: one row for each `__try`, as many without JumpTarget as there are
+-- `__finally` blocks, as many with HandlerAddress 1 as there are filters that always accept; the
+-- other handler addresses are all different, and each is the first byte of an entry (`shape`, with
+-- `names`)
 pub record IsShaped (p : Program) : Type 0 where
   pub shape : HasShape (lowered p)
   -- each filter and `__finally` block is there, and is named by one region

@@ -41,7 +41,9 @@ pub record HasTable (program : Program) : Type 0 where
   pub read : tables (image_of (linked (lowered program))) ≡ Ok (entries (lowered program))
   pub shape : IsShaped program
 
--- the image of an accepted text is the one that its program's linear code is linked to, with its function table; it does what the program means, and nothing more; the walk finds the caller at every instruction of it, and gives the frames of its runs
+-- the image of an accepted text is the one that its program's linear code is linked to, with its
+-- function table; it does what the program means, and nothing more; the walk finds the caller at
+-- every instruction of it, and gives the frames of its runs
 pub record IsCompiled (text image : List ℕ) : Type 0 where
   pub whole : List ExternalDeclaration
   pub accepted : IsAccepted text whole

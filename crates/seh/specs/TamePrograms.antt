@@ -1,4 +1,5 @@
--- What comes of accepted texts whose programs are Tame: however long they run, they touch no reserved byte and stay within the depth.
+-- What comes of accepted texts whose programs are Tame: however long they run, they touch no
+-- reserved byte and stay within the depth.
 use Rattle.std.specs.Prelude.{◌≡◌, ◌≢◌, ℕ, ◌^◌, ◌<◌, List, pos, None}
 use Rattle.seh_num.specs.declared.end.Reason.{Reason}
 use Rattle.seh_num.specs.declared.end.RunEnd.{RunEnd}
@@ -10,7 +11,7 @@ use Rattle.calm_runs.specs.Tame.{Tame}
 use Rattle.image_runs.specs.Shadows.{WalksTheShadow}
 use Rattle.seh.specs.Images.{IsCompiled}
 
--- at every turn of the image's run that isn't an end, the walk over the stack gives exactly the shadow
+-- at every turn of the image's run that isn't an end, the walk over the stack gives the shadow
 abbrev pub TameProgramsWalk : Type 0
 TameProgramsWalk =
     (source image : List ℕ) (compiled : IsCompiled source image)

@@ -18,9 +18,9 @@ pub fn headline()
     ensures nothing_more { NothingMore }
 {}
 
-/// Completeness: no accepted text is refused, and no image of one. What `compile` answers to an accepted
-/// text is that its image was written, and what `exec` answers to such an image is the end of its run;
-/// but for a fault of the sink and want of memory.
+/// Completeness: no accepted text is refused, and no image of one. What `compile` answers to an
+/// accepted text is that its image was written, and what `exec` answers to such an image is the end
+/// of its run; but for a fault of the sink and want of memory.
 pub fn completeness()
     ensures compiles { AcceptedTextsCompile }
     ensures runs { CompiledImagesRun }
@@ -35,9 +35,9 @@ pub fn walks()
     ensures shadow { Walks }
 {}
 
-/// Of a program that is Tame, which however long it runs touches no reserved byte and is never more than
-/// 1,000 deep, this holds at every turn of its image's run, without a bound; and the run never ends at the
-/// stack's limit or at a place where no turn can be made.
+/// Of a program that is Tame, which however long it runs touches no reserved byte and is never more
+/// than 1,000 deep, this holds at every turn of its image's run, without a bound; and the run never
+/// ends at the stack's limit or at a place where no turn can be made.
 pub fn tame_programs()
     ensures walk { TameProgramsWalk }
     ensures end { TameProgramsEnd }
