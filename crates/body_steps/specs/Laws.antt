@@ -52,6 +52,7 @@ StepsWithinBodiesAreMatched =
     (t : Functions) (fs : List Funclet) (program : LinearProgram) (p : Plan) (q : Sites)
     → IsProgramImage t fs program p q → IsWellMade program p
     → (s : State) (c : Configuration) (i : Instruction)
-    → Begins t fs program p q s c → IsKnown program c → instruction_at program c ≡ Some i → IsWithinBody program c i
+    → Begins t fs program p q s c → IsKnown program c
+    → instruction_at program c ≡ Some i → IsWithinBody program c i
     → HasRule (act program i (exec program zero) c)
     → Moves t fs program pace turns_left (Begins t fs program p q) s c i

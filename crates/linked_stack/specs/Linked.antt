@@ -150,9 +150,10 @@ module _ (t : Functions) (fs : List Funclet) (program : LinearProgram) (p : Plan
   SameRegions body label other = AllByRecursion (λ (r : Region). holds label r ≡ holds other r) (regions_of body)
 
   -- a body waits: RIP is in the code of an instruction that the same regions hold as the one that it waits in (the same instruction, or where a call is the last of its code, the next one); its slots stand in memory, up to an end above RSP
-  -- Of memory it owns, by its layout from RSP up: its temporaries, up to `end`; a function its locals, up
-  -- to `size`; a funclet the word that keeps the base of its function's frame; a filter also the word that
-  -- keeps its EXCEPTION_POINTERS (`KeepsPointers`); and the return address of `FrameWaits` and `LeafWaits`.
+  -- Of memory it owns, by its layout from RSP up: its temporaries, up to `end`; a function its
+  -- locals, up to `size`; a funclet the word that keeps the base of its function's frame; a filter
+  -- also the word that keeps its EXCEPTION_POINTERS (`KeepsPointers`); and the return address of
+  -- `FrameWaits` and `LeafWaits`.
   pub record BodyWaits (m : Memory) (c : Context) (size end : ℕ) (b : Frame) (acts : List Activation) : Type 0 where
     pub code : LinearBody
     pub body : body_of program b.body ≡ Some code
@@ -283,7 +284,7 @@ module _ (t : Functions) (fs : List Funclet) (program : LinearProgram) (p : Plan
   Resumes resumption (Waits b ∷ below) saved = p.resumes resumption b saved ≡ true
   Resumes resumption items saved = Unit {0}
 
-  -- a search that asks a handler's filter, with the others after it; of memory it owns its record at RSP
+  -- a search that asks a handler's filter, with the others after it; it owns its record at RSP
   pub record SearchWaits (m : Memory) (c : Context) (r : DispatchRecord) (exception : Exception) (resumption : Resumption) (asked : Handler) (rest : List Handler) (is : List StackItem) (below : List Item) : Type 0 where
     pub own : IsOwnRecord m (rsp c) r
     pub carries : HasException r exception
@@ -299,7 +300,8 @@ module _ (t : Functions) (fs : List Funclet) (program : LinearProgram) (p : Plan
   HasPurpose (Some code) r = (r.kind ≡ ExceptionUnwind) × (r.code.0 ≡ code)
   HasPurpose None r = r.kind ≡ LocalUnwind
 
-  -- an unwinding that runs a `__finally` block, with the regions that are left in the body below; of memory it owns its record at RSP
+  -- an unwinding that runs a `__finally` block, with the regions that are left in the body below;
+  -- it owns its record at RSP
   pub record UnwindingWaits (m : Memory) (c : Context) (r : DispatchRecord) (rest : List Region) (target : Target) (is : List StackItem) (below : List Item) (acts : List Activation) : Type 0 where
     pub own : IsOwnRecord m (rsp c) r
     pub purpose : HasPurpose target.code r

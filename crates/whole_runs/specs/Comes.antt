@@ -29,8 +29,9 @@ abbrev pub Comes : Functions → List Funclet → ℕ → State → List Event �
 Comes t fs zero s events u = (events ≡ []) × (s ≡ u)
 Comes t fs (suc n) s events u = Turns t fs s events (λ others v. Comes t fs n v others u)
 
--- a state leads, in at most so many turns that show nothing, to one that stands for a configuration
-pub record LeadsTo (t : Functions) (fs : List Funclet) (most : ℕ) (Stands : State → Configuration → Type 0) (s : State) (c : Configuration) : Type 0 where
+-- a state leads to one that stands for a configuration, in at most so many turns that show nothing
+pub record LeadsTo (t : Functions) (fs : List Funclet) (most : ℕ)
+    (Stands : State → Configuration → Type 0) (s : State) (c : Configuration) : Type 0 where
   pub turns : ℕ
   pub few : turns ≤ most
   pub state : State
