@@ -30,12 +30,12 @@ abbrev pub has_rex : List ℕ → Bool
 has_rex bytes = slice_index bytes 0 / 16 == 4
 
 -- the slot that a jump at an address reads: of six bytes, or of seven with the prefix
-abbrev pub behind_rex : Image → ℕ → List ℕ → Bool → Option ℕ
-behind_rex image rva bytes true = option_and_then (λ all. plain_slot (rva + 1) (drop 1 all)) (stored image.sections rva 7)
-behind_rex image rva bytes false = plain_slot rva bytes
+abbrev pub after_rex : Image → ℕ → List ℕ → Bool → Option ℕ
+after_rex image rva bytes true = option_and_then (λ all. plain_slot (rva + 1) (drop 1 all)) (stored image.sections rva 7)
+after_rex image rva bytes false = plain_slot rva bytes
 
 abbrev pub jump_slot : Image → ℕ → Option ℕ
-jump_slot image rva = option_and_then (λ bytes. behind_rex image rva bytes (has_rex bytes)) (stored image.sections rva 6)
+jump_slot image rva = option_and_then (λ bytes. after_rex image rva bytes (has_rex bytes)) (stored image.sections rva 6)
 
 -- ---- the name that the slot is bound to
 

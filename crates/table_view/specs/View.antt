@@ -13,6 +13,7 @@ use Rattle.eh_tables.specs.declared.refusal.TableErr.{TableErr}
 use Rattle.eh_tables.specs.declared.refusal.TableErr.TheVariants as refusals
 use Rattle.eh_tables.specs.declared.scope.ScopeRecord.{ScopeRecord}
 use Rattle.eh_tables.specs.Infos.{Info}
+use Rattle.eh_tables.specs.Refusals.{refusal_name}
 use Rattle.eh_tables.specs.Tables.{Entry, entry, directory}
 
 abbrev pub rva_text : ℕ → List ℕ
@@ -117,26 +118,33 @@ info_lines i = bytes_line i.bytes ++ info_line i ++ flat_map code_line i.codes +
 
 -- ---- refusals
 
+-- the number after a refusal's name, where it has one
+abbrev pub number_text : TableErr → List ℕ
+number_text (refusals.Truncated rva) = spaced (decimal rva)
+number_text (refusals.Misaligned rva) = spaced (decimal rva)
+number_text (refusals.EmptyRange index) = []
+number_text (refusals.Unsorted index) = []
+number_text (refusals.Version index found) = spaced (decimal found)
+number_text (refusals.Flags index) = []
+number_text (refusals.Op index slot) = spaced (decimal slot)
+number_text (refusals.CodeOrder index slot) = spaced (decimal slot)
+number_text (refusals.ChainLong index) = []
+number_text (refusals.ScopeRange index row) = spaced (decimal row)
+
 abbrev pub refusal_text : TableErr → List ℕ
-refusal_text (refusals.Truncated rva) = codes "Truncated " ++ decimal rva
-refusal_text (refusals.Misaligned rva) = codes "Misaligned " ++ decimal rva
-refusal_text (refusals.EmptyRange index) = codes "EmptyRange"
-refusal_text (refusals.Unsorted index) = codes "Unsorted"
-refusal_text (refusals.Version index found) = codes "Version " ++ decimal found
-refusal_text (refusals.Flags index) = codes "Flags"
-refusal_text (refusals.Op index slot) = codes "Op " ++ decimal slot
-refusal_text (refusals.CodeOrder index slot) = codes "CodeOrder " ++ decimal slot
-refusal_text (refusals.ChainLong index) = codes "ChainLong"
-refusal_text (refusals.ScopeRange index row) = codes "ScopeRange " ++ decimal row
+refusal_text e = refusal_name e ++ number_text e
 
 abbrev pub refused_line : ℕ → TableErr → List ℕ
 refused_line index e = ended (codes "refused " ++ decimal index ++ codes " " ++ refusal_text e)
 
 -- a directory is refused with its address
+abbrev pub directory_number : TableErr → List ℕ
+directory_number (refusals.Truncated rva) = spaced (rva_text rva)
+directory_number (refusals.Misaligned rva) = spaced (rva_text rva)
+directory_number e = number_text e
+
 abbrev pub directory_text : TableErr → List ℕ
-directory_text (refusals.Truncated rva) = codes "Truncated " ++ rva_text rva
-directory_text (refusals.Misaligned rva) = codes "Misaligned " ++ rva_text rva
-directory_text e = refusal_text e
+directory_text e = refusal_name e ++ directory_number e
 
 abbrev pub refused_table_line : TableErr → List ℕ
 refused_table_line e = ended (codes "refused table " ++ directory_text e)
