@@ -20,11 +20,11 @@ pub enum TableErr {
     Unsorted { index: u64 },
     /// The version of an unwind info isn't 1: `found` is what is there.
     Version { index: u64, found: u8 },
-    /// The flags of an unwind info are none of those that are defined, or say that it is chained and
-    /// has a handler.
+    /// The flags of an unwind info are none of those that are defined, or say that it is chained
+    /// and has a handler.
     Flags { index: u64 },
-    /// The unwind code that begins at that slot has an operation that isn't defined, an info that its
-    /// operation doesn't allow, no frame register to set, or operands past the last slot.
+    /// The unwind code that begins at that slot has an operation that isn't defined, an info that
+    /// its operation doesn't allow, no frame register to set, or operands past the last slot.
     Op { index: u64, slot: u64 },
     /// The unwind code that begins at that slot has a greater prologue offset than the one before.
     CodeOrder { index: u64, slot: u64 },

@@ -88,8 +88,8 @@ fn statuses(rt: HostRuntime) {
     }
 }
 
-/// A case: the calls of the source, of `out` and of `err` that fail, how many bytes each call of all
-/// three moves, and what then comes: the status, `out` and `err`.
+/// A case: the calls of the source, of `out` and of `err` that fail, how many bytes each call of
+/// all three moves, and what then comes: the status, `out` and `err`.
 type Case<'a> = (
     &'a [u64],
     &'a [u64],

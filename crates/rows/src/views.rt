@@ -9,8 +9,8 @@ use std::process::Abort;
 use std::test::Fail;
 use test_images::one_section::FOURTEEN;
 
-/// The headers of an image with one section of 60 bytes at 0x3000, and a function table of this many
-/// entries at 0x3018.
+/// The headers of an image with one section of 60 bytes at 0x3000, and a function table of this
+/// many entries at 0x3018.
 fn headers(alloc: Global, count: u8) -> Result<Vec<u8>, AllocError> {
     let mut out = Vec::new(alloc);
     out.extend_from_slice(b"MZ")?;

@@ -1,7 +1,7 @@
-//! Images for tests, made by hand: code with functions, scope records and funclets ([`code`]), whole
-//! images of functions that call each other ([`calls`]), code that harms the dispatcher's records
-//! ([`forged`]), and the images of such code ([`built`]), as the product's own writers write them;
-//! images of given unwind infos and entries ([`tables`]); and images of one section
+//! Images for tests, made by hand: code with functions, scope records and funclets ([`code`]),
+//! whole images of functions that call each other ([`calls`]), code that harms the dispatcher's
+//! records ([`forged`]), and the images of such code ([`built`]), as the product's own writers
+//! write them; images of given unwind infos and entries ([`tables`]); and images of one section
 //! ([`one_section`]).
 #![tactic(auto)]
 

@@ -351,8 +351,8 @@ fn plan(alloc: Global, failing: &[u64], most: usize) -> Result<Plan, AllocError>
     Ok(Plan::new(failing.to_vec(alloc)?, most))
 }
 
-// No turn is made after the one whose line failed, and a later run continues from there: three turns
-// are left after the one that puts 14.
+// No turn is made after the one whose line failed, and a later run continues from there: three
+// turns are left after the one that puts 14.
 #[test]
 fn sinks_that_fail(rt: HostRuntime) -> Result<(), Fail> {
     let bytes = image(rt.alloc(), PLAIN, &FOURTEEN)?;
