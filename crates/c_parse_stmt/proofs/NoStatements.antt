@@ -155,6 +155,9 @@ pub record NothingBegins (ts : List Token) : Type 0 where
   pub class : 2 ≤ begins ts → begins ts ≤ 11 → ⊥
   pub semicolon : NoSemicolon ts
 
+some_is_something : (x : Token × List Token) → Some x ≡ None → ⊥
+some_is_something x e = cc
+
 pub nothing_begins : (ts : List Token) → None ≡ first ts → NothingBegins ts
 nothing_begins [] e = record { class = λ l u. omega arith; semicolon = λ t rest p q. cc }
-nothing_begins (x ∷ xs) e = let z : Some (x, xs) ≡ None = sym e in absurd cc
+nothing_begins (x ∷ xs) e = absurd (some_is_something (x, xs) (sym e))
