@@ -15,13 +15,14 @@ ghost use Rattle.c_expressions.specs.Views.{block_of, entity};
 use c_expressions::least::Least;
 use c_expressions::scopes::{Entity, declare, is_taken, spelled};
 use c_expressions::values::unless_holds;
+use c_lex::token::IntegerType;
 use c_resolved::fault::Fault;
 use c_syntax::declaration::{Constant, Global as Declarator, Initialiser, Length};
 use c_syntax::expression::{Base, CType, Identifier, Literal};
 use c_types::types::{bytes_in, is_scalar};
 use host_layout::range::FIRST_DATA;
 use indexmap::IndexMap;
-use seh_num::extension::wrap;
+use seh_num::extension::{wrap, zero_extend};
 use seh_num::width::Width;
 use std::alloc::{AllocError, Global};
 
@@ -45,15 +46,31 @@ fn literal_value(literal: Literal) -> u64
     }
 }
 
+/// The value of a negated literal modulo 2^64. It is negated in its type (C11, 6.2.5 and 6.5.3.3).
+fn negated(literal: Literal) -> u64
+    ensures { result ≡ definitions.negated literal }
+{
+    match literal {
+        Literal::Integer {
+            value,
+            of: IntegerType::Unsigned,
+        } => zero_extend(Width::W32, value.wrapping_neg()),
+        Literal::Integer {
+            value,
+            of: IntegerType::Int | IntegerType::LongLong | IntegerType::UnsignedLongLong,
+        } => value.wrapping_neg(),
+        Literal::CharacterConstant(value) => wrap(Width::W64, i128::from(value)).wrapping_neg(),
+    }
+}
+
 /// The value of a constant modulo 2^64.
 fn constant_value(constant: Constant) -> u64
     ensures { result ≡ definitions.constant_value constant }
 {
-    let value = literal_value(constant.literal);
     if constant.negative {
-        value.wrapping_neg()
+        negated(constant.literal)
     } else {
-        value
+        literal_value(constant.literal)
     }
 }
 

@@ -71,18 +71,75 @@ expressed_by_keyword text s keywords.Leave at end h = absurd (omega arith)
 expressed_by_keyword text s keywords.GetExceptionInformation at end h = record {
   more = punctuator punctuators.OpenParenthesis ∷ punctuator punctuators.CloseParenthesis ∷ punctuator punctuators.Arrow ∷ token kinds.Identifier s.of_record.start s.of_record.end ∷ punctuator punctuators.Arrow ∷ token kinds.Identifier s.of_code.start s.of_code.end ∷ [];
   tree = Information at fields.Code;
-  derives = λ other. record { fits = omega arith; spells = (_, _, _, _, _, _, (end, refl), (0, (0, refl)), (0, (0, refl)), (0, (0, refl)), (s.of_record, refl, s.spells_record), (0, (0, refl)), (s.of_code, refl, s.spells_code)) };
+  derives = λ other. record {
+    fits = omega arith;
+    spells = record {
+      after_introduction = _;
+      introduction = record {
+        after_keyword = _;
+        after_opening = _;
+        after_closing = _;
+        after_arrow = _;
+        after_record = _;
+        keyword = (end, refl);
+        opening = (0, (0, refl));
+        closing = (0, (0, refl));
+        arrow = (0, (0, refl));
+        of_record = (s.of_record, refl, s.spells_record);
+        last_arrow = (0, (0, refl));
+      };
+      field = (s.of_code, refl, s.spells_code);
+    };
+  };
   over = refl;
 }
 
 expressed_by_unary : (text : List ℕ) (op : UnaryOperator) (at end : ℕ) → Expressed text (token (kinds.Punctuator (unary_punctuator op)) at end)
-expressed_by_unary text op at end = record { more = name ∷ []; tree = Unary at op variable; derives = λ other. record { fits = omega arith; spells = (_, (end, refl), omega arith, refl) }; over = refl }
+expressed_by_unary text op at end = record {
+  more = name ∷ [];
+  tree = Unary at op variable;
+  derives = λ other. record {
+    fits = omega arith;
+    spells = record {
+      after_operator = _;
+      operator = (end, refl);
+      operand = record { fits = omega arith; spells = refl };
+    };
+  };
+  over = refl;
+}
 
 expressed_by_increment : (text : List ℕ) (op : Increment) (at end : ℕ) → Expressed text (token (kinds.Punctuator (increment_punctuator op)) at end)
-expressed_by_increment text op at end = record { more = name ∷ []; tree = Prefix at op variable; derives = λ other. record { fits = omega arith; spells = (_, (end, refl), omega arith, refl) }; over = refl }
+expressed_by_increment text op at end = record {
+  more = name ∷ [];
+  tree = Prefix at op variable;
+  derives = λ other. record {
+    fits = omega arith;
+    spells = record {
+      after_operator = _;
+      operator = (end, refl);
+      operand = record { fits = omega arith; spells = refl };
+    };
+  };
+  over = refl;
+}
 
 expressed_by_punctuator : (text : List ℕ) (s : Punctuator) (at end : ℕ) → punctuator_class s ≤ 5 → Expressed text (token (kinds.Punctuator s) at end)
-expressed_by_punctuator text punctuators.OpenParenthesis at end h = record { more = name ∷ punctuator punctuators.CloseParenthesis ∷ []; tree = Parentheses at variable; derives = λ other. record { fits = omega arith; spells = (_, _, (end, refl), refl, (0, (0, refl))) }; over = refl }
+expressed_by_punctuator text punctuators.OpenParenthesis at end h = record {
+  more = name ∷ punctuator punctuators.CloseParenthesis ∷ [];
+  tree = Parentheses at variable;
+  derives = λ other. record {
+    fits = omega arith;
+    spells = record {
+      after_opening = _;
+      after_inner = _;
+      opening = (end, refl);
+      inner = refl;
+      closing = (0, (0, refl));
+    };
+  };
+  over = refl;
+}
 expressed_by_punctuator text punctuators.CloseParenthesis at end h = absurd (omega arith)
 expressed_by_punctuator text punctuators.OpenBracket at end h = absurd (omega arith)
 expressed_by_punctuator text punctuators.CloseBracket at end h = absurd (omega arith)

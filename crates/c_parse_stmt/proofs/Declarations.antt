@@ -208,7 +208,13 @@ no_next text room whole left ts rest b found d c some =
               let g = m.again text' (inner ++ punctuator punctuators.Semicolon ∷ other) (alike_inner text text' d.before rest ts d.split a) in
               let p = flat (d.before ++ m.front) inner (punctuator punctuators.Semicolon ∷ []) other ∙ append_assoc d.before m.front (inner ++ punctuator punctuators.Semicolon ∷ other) in
               subst (λ (z : List Token). AreLocals text' (map local found ++ h.tree ∷ []) z other) (sym p)
-              (d.forward text' (m.front ++ (inner ++ punctuator punctuators.Semicolon ∷ other)) a (h.tree ∷ []) other (inner ++ punctuator punctuators.Semicolon ∷ other, punctuator punctuators.Semicolon ∷ other, g, h.is (punctuator punctuators.Semicolon ∷ other), (0, (0, refl))));
+              (d.forward text' (m.front ++ (inner ++ punctuator punctuators.Semicolon ∷ other)) a (h.tree ∷ []) other (record {
+                after_comma = inner ++ punctuator punctuators.Semicolon ∷ other;
+                after_element = punctuator punctuators.Semicolon ∷ other;
+                comma = g;
+                element = h.is (punctuator punctuators.Semicolon ∷ other);
+                others = (0, (0, refl));
+              }));
           within = record {
             expressions = λ k. height_more 64 (map local found) h.tree d.expressions (h.low k);
             statements = λ k. over_more room (map local found) h.tree d.statements (h.over k);

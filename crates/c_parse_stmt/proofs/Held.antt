@@ -254,7 +254,8 @@ block_items room left text ts a o =
     (λ n text' all other h e i none. no_block n text' room left all other i none)
     (λ n text' front inner h i has. able_now (HasStatement room left) n text' (front ++ inner) (record {
       tree = Block has.trees;
-      is = λ other. let x = both_fixed (Sig punctuators.OpenBrace) (Items has.trees) text' front inner i has.are other in (x.mid, x.first, x.second);
+      is = λ other. let x = both_fixed (Sig punctuators.OpenBrace) (Items has.trees) text' front inner i has.are other in
+          record { after_brace = x.mid; brace = x.first; items = x.second };
       statement = refl;
       within = record { statements = has.within.statements; expressions = has.within.expressions; locals = has.within.locals; funclets = has.within.funclets };
     }))
@@ -263,6 +264,24 @@ pub block_fails : (text : List ℕ) (room : ℕ) (left after : Left) (o : Openin
 block_fails text room left after o ts rest i e =
     let q : Opens text room left after openings.Block ts rest = subst (λ (x : Opening). Opens text room left after x ts rest) e i in
     subst (λ (x : Left). Wraps (NoBlockItems room x) (HasBlockItems room x) (NoStatement room left) (HasStatement room left) text rest ts) (sym q.0) (block_items room left text ts rest q.1)
+
+-- a brace, and what the block holds: the block is a statement
+pub block_found : (text : List ℕ) (room : ℕ) (left between after : Left) (o : Opening) (ss : Statements) (ts a rest : List Token) → Opens text room left between o ts a → o ≡ openings.Block → AreBlockItems text ss a rest → AllTaken text room between after ss → Reads text room left after (Block ss) ts rest
+block_found text room left between after o ss ts a rest i e are t =
+    let q : Opens text room left between openings.Block ts a = subst (λ (x : Opening). Opens text room left between x ts a) e i in
+    let same : between ≡ left = q.0 in
+    let k : AllTaken text room left after ss = subst (λ (x : Left). AllTaken text room x after ss) same t in
+    record {
+      is = record { after_brace = a; brace = q.1; items = are };
+      statement = refl;
+      closed = λ i. absurd cc;
+      taken = record {
+        statements = k.statements;
+        expressions = k.expressions;
+        locals = k.locals;
+        funclets = k.funclets;
+      };
+    }
 
 -- ---- where nothing is found
 

@@ -21,3 +21,4 @@ pub mod Heading
 pub mod Clauses
 pub mod Guarding
 pub mod Inside
+pub mod NoStatements

@@ -224,7 +224,7 @@ begins_evaluation ts h = (h.0, h.1, h.2, λ text s. evaluated text h.0 (h.3 text
 pub begins_is : (ts rest : List Token) (t : Token) (k : Kind) → Some (t, rest) ≡ first ts → t.kind ≡ k → begins ts ≡ kind_begins k
 begins_is ts rest t k e q = ap begins (front_is ts rest t e) ∙ ap kind_begins q
 
-abbrev Stating : Keyword → Type 0
+abbrev pub Stating : Keyword → Type 0
 Stating k = (k ≡ keywords.If) ⊎ ((k ≡ keywords.While) ⊎ ((k ≡ keywords.Do) ⊎ ((k ≡ keywords.For) ⊎ ((k ≡ keywords.Return) ⊎ ((k ≡ keywords.Break) ⊎ ((k ≡ keywords.Continue) ⊎ ((k ≡ keywords.Leave) ⊎ (k ≡ keywords.Try))))))))
 
 keyword_states : (k z : Keyword) → k ≡ z → 2 ≤ keyword_begins z → keyword_begins z ≤ 11 → (2 ≤ keyword_begins k) × (keyword_begins k ≤ 11)
@@ -240,3 +240,14 @@ stating_class k (inr (inr (inr (inr (inr (inl e)))))) = keyword_states k _ e (om
 stating_class k (inr (inr (inr (inr (inr (inr (inl e))))))) = keyword_states k _ e (omega arith) (omega arith)
 stating_class k (inr (inr (inr (inr (inr (inr (inr (inl e)))))))) = keyword_states k _ e (omega arith) (omega arith)
 stating_class k (inr (inr (inr (inr (inr (inr (inr (inr e)))))))) = keyword_states k _ e (omega arith) (omega arith)
+
+pub not_stating : (k : Keyword) → (k ≡ keywords.If → ⊥) → (k ≡ keywords.While → ⊥) → (k ≡ keywords.Do → ⊥) → (k ≡ keywords.For → ⊥) → (k ≡ keywords.Return → ⊥) → (k ≡ keywords.Break → ⊥) → (k ≡ keywords.Continue → ⊥) → (k ≡ keywords.Leave → ⊥) → (k ≡ keywords.Try → ⊥) → Stating k → ⊥
+not_stating k a b c d e f g h i (inl x) = a x
+not_stating k a b c d e f g h i (inr (inl x)) = b x
+not_stating k a b c d e f g h i (inr (inr (inl x))) = c x
+not_stating k a b c d e f g h i (inr (inr (inr (inl x)))) = d x
+not_stating k a b c d e f g h i (inr (inr (inr (inr (inl x))))) = e x
+not_stating k a b c d e f g h i (inr (inr (inr (inr (inr (inl x)))))) = f x
+not_stating k a b c d e f g h i (inr (inr (inr (inr (inr (inr (inl x))))))) = g x
+not_stating k a b c d e f g h i (inr (inr (inr (inr (inr (inr (inr (inl x)))))))) = h x
+not_stating k a b c d e f g h i (inr (inr (inr (inr (inr (inr (inr (inr x)))))))) = i x

@@ -1,9 +1,10 @@
 -- Programs: what each is resolved to, and all rules that it breaks (C11, 6.9). Every function and
 -- global is visible in the whole text.
 use Rattle.std.specs.Prelude.{ℕ, zero, suc, ◌+◌, ◌-◌, ◌*◌, ◌/◌, ◌%◌, ◌^◌, Bool, true, false, not, ◌&&◌, nat_lt, if◌then◌else◌, List, [], ◌∷◌, ◌++◌, length, map, take, drop, replicate, Option, Some, None}
-use Rattle.seh_num.specs.declared.width.Width.TheVariants.{W64}
-use Rattle.seh_num.specs.Widths.{wrapped}
+use Rattle.seh_num.specs.declared.width.Width.TheVariants.{W32, W64}
+use Rattle.seh_num.specs.Widths.{low, wrapped}
 use Rattle.host_layout.specs.declared.range.TheConstants.{FIRST_DATA}
+use Rattle.c_lex.specs.declared.token.IntegerType.TheVariants as integers
 use Rattle.c_operations.specs.declared.operation.Size.{Size}
 use Rattle.c_checked.specs.Statement as checked
 use Rattle.c_checked.specs.Program as checked_program
@@ -35,10 +36,21 @@ abbrev pub literal_value : Literal → ℕ
 literal_value (literals.Integer n of) = n
 literal_value (literals.CharacterConstant c) = wrapped W64 c
 
+-- minus a number, modulo 2^64
+abbrev pub minus : ℕ → ℕ
+minus v = (2 ^ 64 - v) % 2 ^ 64
+
+-- a literal is negated in its type: one of type `unsigned int` modulo 2^32 (C11, 6.2.5 and 6.5.3.3)
+abbrev pub negated : Literal → ℕ
+negated (literals.Integer n integers.Unsigned) = low W32 (minus n)
+negated (literals.Integer n integers.Int) = minus n
+negated (literals.Integer n integers.LongLong) = minus n
+negated (literals.Integer n integers.UnsignedLongLong) = minus n
+negated (literals.CharacterConstant c) = minus (wrapped W64 c)
+
 -- modulo 2^64
 abbrev pub constant_value : Constant → ℕ
-constant_value c =
-    if c.negative then (2 ^ 64 - literal_value c.literal) % 2 ^ 64 else literal_value c.literal
+constant_value c = if c.negative then negated c.literal else literal_value c.literal
 
 -- the n lowest bytes of a number, the lowest first
 abbrev pub bytes_of_number : ℕ → ℕ → List ℕ

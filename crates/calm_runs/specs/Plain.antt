@@ -23,7 +23,7 @@ is_raise next = false
 abbrev pub raises_inside : Machine → Bool
 raises_inside m = is_raise m.next && is_inside m.stack
 
+-- within n steps no exception is raised while a filter, or a `__finally` block with flag 1, runs;
 -- a raise that is about to begin counts too where no step is left for it
--- within n steps no exception is raised while a filter, or a `__finally` block with flag 1, runs
 abbrev pub Plain : Program → ℤ → ℕ → Type 0
 Plain program arg n = (k : ℕ) → raises_inside (after program k (first program arg n)) ≡ false

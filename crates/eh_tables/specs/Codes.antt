@@ -37,7 +37,8 @@ large info rest =
     if info == 0 then taken (λ n. Allocate (8 * n)) 1 (one_slot rest)
     else (if info == 1 then taken (λ n. Allocate n) 2 (two_slots rest) else None)
 
--- the table of unwind operation codes. None where the operation isn't listed, its info isn't allowed, there is no frame register to set, or its operands aren't there
+-- the table of unwind operation codes. None where the operation isn't listed, its info isn't
+-- allowed, there is no frame register to set, or its operands aren't there
 unfoldable pub operation : Bool → ℕ → ℕ → List ℕ → Taken
 operation framed op info rest =
     if op == UWOP_PUSH_NONVOL then Some (Push info, 0)
@@ -48,25 +49,30 @@ operation framed op info rest =
     else (if op == UWOP_SAVE_NONVOL_FAR then taken (λ n. Save info n) 2 (two_slots rest)
     else (if op == UWOP_SAVE_XMM128 then taken (λ n. SaveVector info (16 * n)) 1 (one_slot rest)
     else (if op == UWOP_SAVE_XMM128_FAR then taken (λ n. SaveVector info n) 2 (two_slots rest)
-    else (if op == UWOP_PUSH_MACHFRAME then (if nat_lt info 2 then Some (MachineFrame info, 0) else None)
+    else (if op == UWOP_PUSH_MACHFRAME
+    then (if nat_lt info 2 then Some (MachineFrame info, 0) else None)
     else None))))))))
 
 -- ---- the codes of the slots, of which the first `skip` are still operands
 
--- what they must be: each operation known, and no prologue offset above the one before. The first refusal names the first slot of its code
+-- what they must be: each operation known, and no prologue offset above the one before. The first
+-- refusal names the first slot of its code
 abbrev pub in_order : ℕ → ℕ → Table Unit → Bool → Table Unit
 in_order index slot others true = Err (refusals.CodeOrder index slot)
 in_order index slot others false = others
 
 abbrev pub code_checked : ℕ → ℕ → ℕ → ℕ → (ℕ → Table Unit) → Taken → Table Unit
 code_checked index slot last offset others None = Err (refusals.Op index slot)
-code_checked index slot last offset others (Some x) = in_order index slot (others x.1) (nat_lt last offset)
+code_checked index slot last offset others (Some x) =
+    in_order index slot (others x.1) (nat_lt last offset)
 
 abbrev pub checked : ℕ → Bool → ℕ → ℕ → ℕ → List ℕ → Table Unit
 checked index framed slot last skip [] = Ok tt
 checked index framed slot last skip (a ∷ []) = Ok tt
 checked index framed slot last (suc k) (a ∷ b ∷ rest) = checked index framed (slot + 1) last k rest
-checked index framed slot last zero (a ∷ b ∷ rest) = code_checked index slot last a (λ k. checked index framed (slot + 1) a k rest) (operation framed (b % 16) (b / 16) rest)
+checked index framed slot last zero (a ∷ b ∷ rest) =
+    code_checked index slot last a (λ k. checked index framed (slot + 1) a k rest)
+    (operation framed (b % 16) (b / 16) rest)
 
 -- what they say, up to the first that isn't known
 abbrev pub code_before : ℕ → (ℕ → List UnwindCode) → Taken → List UnwindCode
@@ -77,4 +83,5 @@ abbrev pub codes : Bool → ℕ → List ℕ → List UnwindCode
 codes framed skip [] = []
 codes framed skip (a ∷ []) = []
 codes framed (suc k) (a ∷ b ∷ rest) = codes framed k rest
-codes framed zero (a ∷ b ∷ rest) = code_before a (λ k. codes framed k rest) (operation framed (b % 16) (b / 16) rest)
+codes framed zero (a ∷ b ∷ rest) =
+    code_before a (λ k. codes framed k rest) (operation framed (b % 16) (b / 16) rest)

@@ -1,4 +1,5 @@
--- Which handler is the C handler: one whose code is a jump through the slot of `__C_specific_handler`.
+-- Which handler is the C handler: one whose code is a jump through the slot of
+-- `__C_specific_handler`.
 use Rattle.std.specs.Prelude.{ℕ, ◌+◌, ◌/◌, ◌%◌, ◌^◌, ◌-◌, Bool, true, false, ◌&&◌, ◌==◌, nat_lt, if◌then◌else◌, List, drop, slice_index, option_and_then, Option, Some, None}
 use Rattle.std.specs.Option.{option_map_or}
 use Rattle.std.specs.Str.{bytes_eq}
@@ -30,12 +31,15 @@ abbrev pub has_rex : List ℕ → Bool
 has_rex bytes = slice_index bytes 0 / 16 == 4
 
 -- the slot that a jump at an address reads: of six bytes, or of seven with the prefix
-abbrev pub behind_rex : Image → ℕ → List ℕ → Bool → Option ℕ
-behind_rex image rva bytes true = option_and_then (λ all. plain_slot (rva + 1) (drop 1 all)) (stored image.sections rva 7)
-behind_rex image rva bytes false = plain_slot rva bytes
+abbrev pub after_rex : Image → ℕ → List ℕ → Bool → Option ℕ
+after_rex image rva bytes true =
+    option_and_then (λ all. plain_slot (rva + 1) (drop 1 all)) (stored image.sections rva 7)
+after_rex image rva bytes false = plain_slot rva bytes
 
 abbrev pub jump_slot : Image → ℕ → Option ℕ
-jump_slot image rva = option_and_then (λ bytes. behind_rex image rva bytes (has_rex bytes)) (stored image.sections rva 6)
+jump_slot image rva =
+    option_and_then (λ bytes. after_rex image rva bytes (has_rex bytes))
+    (stored image.sections rva 6)
 
 -- ---- the name that the slot is bound to
 
@@ -43,4 +47,6 @@ abbrev pub is_c_name : List ℕ → Bool
 is_c_name name = bytes_eq name C_SPECIFIC_HANDLER.now
 
 unfoldable pub is_c_handler : Image → ℕ → Bool
-is_c_handler image rva = option_map_or is_c_name (option_and_then (λ slot. bound_name slot (imports_of image)) (jump_slot image rva)) false
+is_c_handler image rva =
+    option_map_or is_c_name (option_and_then (λ slot. bound_name slot (imports_of image))
+    (jump_slot image rva)) false

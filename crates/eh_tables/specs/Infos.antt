@@ -1,4 +1,5 @@
--- Unwind infos: what one says, and what it must be. Each definition answers what it reads, or the first refusal.
+-- Unwind infos: what one says, and what it must be. Each definition answers what it reads, or the
+-- first refusal.
 use Rattle.std.specs.Prelude.{◌≡◌, ◌≤◌, ℕ, ◌+◌, ◌*◌, ◌/◌, ◌%◌, Bool, true, false, not, ◌&&◌, ◌==◌, nat_le, nat_lt, if◌then◌else◌, List, [], length, take, drop, Option, Some, None, Result, Ok, Err, slice_index}
 use denote.Ref.{Bor}
 use Rattle.pe_image.specs.Field.{field}
@@ -17,7 +18,12 @@ use Rattle.eh_tables.specs.Scopes as scopes
 
 -- an entry of the function table, at a place
 abbrev pub range_at : List ℕ → ℕ → RuntimeFunction
-range_at bytes at = record { begin = field 4 bytes (at + BEGIN_ADDRESS); end = field 4 bytes (at + END_ADDRESS); unwind_info = field 4 bytes (at + UNWIND_INFO_ADDRESS) }
+range_at bytes at =
+    record {
+      begin = field 4 bytes (at + BEGIN_ADDRESS);
+      end = field 4 bytes (at + END_ADDRESS);
+      unwind_info = field 4 bytes (at + UNWIND_INFO_ADDRESS);
+    }
 
 -- ---- the header, of four bytes
 
@@ -65,7 +71,9 @@ slots_end bytes = UNWIND_CODES + 4 * ((slot_count bytes + 1) / 2)
 
 -- a handler's address, an entry of the function table, or nothing
 abbrev pub trailer_size : List ℕ → ℕ
-trailer_size bytes = if has_handler bytes then HANDLER_SIZE else (if is_chained bytes then RUNTIME_FUNCTION_SIZE else 0)
+trailer_size bytes =
+    if has_handler bytes then HANDLER_SIZE
+    else (if is_chained bytes then RUNTIME_FUNCTION_SIZE else 0)
 
 abbrev pub handler_at : List ℕ → ℕ
 handler_at bytes = field 4 bytes (slots_end bytes)
@@ -124,13 +132,16 @@ stored_info image index rva = do
   head ← or_refused (stored image.sections rva UNWIND_CODES) (refusals.Truncated rva)
   _ ← unless (version head == UNWIND_VERSION) (refusals.Version index (version head))
   _ ← unless (are_flags (flags head)) (refusals.Flags index)
-  or_refused (stored image.sections rva (slots_end head + trailer_size head)) (refusals.Truncated rva)
+  or_refused (stored image.sections rva (slots_end head + trailer_size head))
+      (refusals.Truncated rva)
 
--- the records of the scope table, which follows the handler's address: their count, and they themselves
+-- the records of the scope table, which follows the handler's address: their count, and they
+-- themselves
 abbrev pub scope_records_at : Image → ℕ → ℕ → Table (List ℕ)
 scope_records_at image rva at = do
   counted ← or_refused (stored image.sections rva (at + 4)) (refusals.Truncated rva)
-  all ← or_refused (stored image.sections rva (at + 4 + 16 * field 4 counted at)) (refusals.Truncated rva)
+  all ← or_refused (stored image.sections rva (at + 4 + 16 * field 4 counted at))
+      (refusals.Truncated rva)
   Ok (drop (at + 4) all)
 
 abbrev pub scope_records_if : Table (List ℕ) → Bool → Table (List ℕ)
@@ -141,9 +152,12 @@ abbrev pub is_c : Image → List ℕ → Bool
 is_c image bytes = has_handler bytes && is_c_handler image (handler_at bytes)
 
 unfoldable pub stored_scope_records : Image → ℕ → List ℕ → Table (List ℕ)
-stored_scope_records image rva bytes = scope_records_if (scope_records_at image rva (slots_end bytes + HANDLER_SIZE)) (is_c image bytes)
+stored_scope_records image rva bytes =
+    scope_records_if (scope_records_at image rva (slots_end bytes + HANDLER_SIZE))
+    (is_c image bytes)
 
--- The codes come before the chain, and the chain before the scope records; since a chained info has no handler, its rows are none.
+-- The codes come before the chain, and the chain before the scope records; since a chained info has
+-- no handler, its rows are none.
 unfoldable pub info : Image → ℕ → ℕ → Table Info
 info image index rva = do
   bytes ← stored_info image index rva

@@ -3,6 +3,7 @@ pub mod Codes
 pub mod Handler
 pub mod Infos
 pub mod ReadAgain
+pub mod Refusals
 pub mod Scopes
 pub mod Tables
 pub mod Written

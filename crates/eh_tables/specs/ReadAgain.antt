@@ -34,7 +34,8 @@ abbrev pub IsRange : RuntimeFunction → Type 0
 IsRange r = (r.begin < 2 ^ 32) × (r.end < 2 ^ 32) × (r.unwind_info < 2 ^ 32)
 
 abbrev pub IsScopeRecord : ScopeRecord → Type 0
-IsScopeRecord r = (r.begin < 2 ^ 32) × (r.end < 2 ^ 32) × (r.handler_address < 2 ^ 32) × (r.jump_target < 2 ^ 32)
+IsScopeRecord r =
+    (r.begin < 2 ^ 32) × (r.end < 2 ^ 32) × (r.handler_address < 2 ^ 32) × (r.jump_target < 2 ^ 32)
 
 abbrev pub HasTrailer : Trailer → Type 0
 HasTrailer Nothing = Unit {0}
@@ -81,20 +82,29 @@ info_written i is_c rows = record {
 
 -- without the C handler
 abbrev pub InfoIsReadAgain : Type 0
-InfoIsReadAgain = (image : Image) (index rva : ℕ) (i : UnwindInfo) → IsUnwindInfo i → CanBeWritten i → rva % 4 ≡ 0 → has_c_handler image i ≡ false
+InfoIsReadAgain =
+    (image : Image) (index rva : ℕ) (i : UnwindInfo) → IsUnwindInfo i → CanBeWritten i → rva % 4 ≡ 0
+    → has_c_handler image i ≡ false
     → IsStoredAt image rva (unwind_bytes i)
     → info image index rva ≡ Ok (info_written i false [])
 
--- with it and its scope table, where each row is a range of code in the image; else it is refused for the first that isn't
+-- with it and its scope table, where each row is a range of code in the image; else it is refused
+-- for the first that isn't
 abbrev pub ScopeRecordsAreReadAgain : Type 0
-ScopeRecordsAreReadAgain = (image : Image) (index rva : ℕ) (i : UnwindInfo) (rows : List ScopeRecord) → IsUnwindInfo i → CanBeWritten i → AllByRecursion IsScopeRecord rows → length rows < 2 ^ 32 → rva % 4 ≡ 0 → has_c_handler image i ≡ true
+ScopeRecordsAreReadAgain =
+    (image : Image) (index rva : ℕ) (i : UnwindInfo) (rows : List ScopeRecord) → IsUnwindInfo i
+    → CanBeWritten i → AllByRecursion IsScopeRecord rows → length rows < 2 ^ 32 → rva % 4 ≡ 0
+    → has_c_handler image i ≡ true
     → IsStoredAt image rva (unwind_bytes i ++ scope_bytes rows)
-    → info image index rva ≡ (scopes.checked index image.size 0 rows >>= λ _. Ok (info_written i true rows))
+    → info image index rva ≡ (scopes.checked index image.size 0 rows >>= λ _. Ok
+    (info_written i true rows))
 
 -- ---- function tables
 
 abbrev pub RangesAreReadAgain : Type 0
-RangesAreReadAgain = (image : Image) (rs : List RuntimeFunction) → AllByRecursion IsRange rs → image.exceptions.rva % 4 ≡ 0 → image.exceptions.size ≡ length (table_bytes rs)
+RangesAreReadAgain =
+    (image : Image) (rs : List RuntimeFunction) → AllByRecursion IsRange rs
+    → image.exceptions.rva % 4 ≡ 0 → image.exceptions.size ≡ length (table_bytes rs)
     → IsStoredAt image image.exceptions.rva (table_bytes rs)
     → directory image ≡ Ok rs
 
@@ -108,7 +118,8 @@ pub record WrittenEntry : Type 0 where
 
 -- without the C handler there is no scope table; with it the records are of code in the image
 abbrev pub HasScopes : Image → WrittenEntry → Bool → Type 0
-HasScopes image w false = (w.scopes ≡ []) × IsStoredAt image w.range.unwind_info (unwind_bytes w.info)
+HasScopes image w false =
+    (w.scopes ≡ []) × IsStoredAt image w.range.unwind_info (unwind_bytes w.info)
 HasScopes image w true =
     AllByRecursion IsScopeRecord w.scopes × (length w.scopes < 2 ^ 32)
     × ((index : ℕ) → scopes.checked index image.size 0 w.scopes ≡ Ok tt)
@@ -125,7 +136,8 @@ pub record IsWritten (image : Image) (w : WrittenEntry) : Type 0 where
 -- no range is empty, or begins below the end of the one before
 abbrev pub AreInOrder : ℕ → List WrittenEntry → Type 0
 AreInOrder last [] = Unit {0}
-AreInOrder last (w ∷ ws) = (last ≤ w.range.begin) × (w.range.begin < w.range.end) × AreInOrder w.range.end ws
+AreInOrder last (w ∷ ws) =
+    (last ≤ w.range.begin) × (w.range.begin < w.range.end) × AreInOrder w.range.end ws
 
 -- what is read of it
 abbrev pub as_read : Image → WrittenEntry → Entry

@@ -7,7 +7,13 @@ use Rattle.pe_image.specs.Answer.{◌>>=◌, unless}
 use Rattle.eh_tables.specs.Answer.{Table}
 
 abbrev pub scope_record : List ℕ → ScopeRecord
-scope_record bytes = record { begin = field 4 bytes 0; end = field 4 bytes 4; handler_address = field 4 bytes 8; jump_target = field 4 bytes 12 }
+scope_record bytes =
+    record {
+      begin = field 4 bytes 0;
+      end = field 4 bytes 4;
+      handler_address = field 4 bytes 8;
+      jump_target = field 4 bytes 12;
+    }
 
 -- so many rows, of 16 bytes each
 abbrev pub rows : ℕ → List ℕ → List ScopeRecord
@@ -19,7 +25,9 @@ scope_records_in bytes = rows (length bytes / 16) bytes
 
 -- a range that isn't empty, and all addresses in an image of that size
 abbrev pub is_within : ℕ → ScopeRecord → Bool
-is_within size r = nat_lt r.begin r.end && nat_lt r.begin size && nat_lt r.end size && nat_lt r.handler_address size && nat_lt r.jump_target size
+is_within size r =
+    nat_lt r.begin r.end && nat_lt r.begin size && nat_lt r.end size && nat_lt r.handler_address
+    size && nat_lt r.jump_target size
 
 -- rows from a number on
 abbrev pub checked : ℕ → ℕ → ℕ → List ScopeRecord → Table Unit

@@ -82,7 +82,8 @@ end_before rs zero = 0
 end_before rs (suc k) = (slice_index_or rs k no_range).end
 
 abbrev pub entry_at : Tables → ℕ → Table Entry
-entry_at t index = entry t.image index (end_before t.ranges index) (slice_index_or t.ranges index no_range)
+entry_at t index =
+    entry t.image index (end_before t.ranges index) (slice_index_or t.ranges index no_range)
 
 -- from an index on
 abbrev pub entries : Image → ℕ → ℕ → List RuntimeFunction → Table (List Entry)

@@ -29,11 +29,16 @@ is_small n = (n % 8 == 0) && nat_lt 0 n && nat_le n 128
 
 -- the shortest code of each operation
 abbrev pub allocation : ℕ → ℕ → List ℕ
-allocation offset n = if is_small n then slot offset UWOP_ALLOC_SMALL (n / 8 - 1) else (if is_short 8 n then slot offset UWOP_ALLOC_LARGE 0 ++ u16 (n / 8) else slot offset UWOP_ALLOC_LARGE 1 ++ u32 n)
+allocation offset n =
+    if is_small n then slot offset UWOP_ALLOC_SMALL (n / 8 - 1)
+    else (if is_short 8 n then slot offset UWOP_ALLOC_LARGE 0 ++ u16 (n / 8)
+    else slot offset UWOP_ALLOC_LARGE 1 ++ u32 n)
 
 -- in a unit by one operation, or unscaled by the other
 abbrev pub saving : ℕ → ℕ → ℕ → ℕ → ℕ → ℕ → List ℕ
-saving offset op far unit register n = if is_short unit n then slot offset op register ++ u16 (n / unit) else slot offset far register ++ u32 n
+saving offset op far unit register n =
+    if is_short unit n then slot offset op register ++ u16 (n / unit)
+    else slot offset far register ++ u32 n
 
 abbrev pub operation_bytes : ℕ → UnwindOperation → List ℕ
 operation_bytes offset (Push r) = slot offset UWOP_PUSH_NONVOL r
@@ -73,7 +78,9 @@ abbrev pub padded : List ℕ → List ℕ
 padded slots = slots ++ replicate (length slots % 4) 0
 
 abbrev pub header : UnwindInfo → ℕ → List ℕ
-header i size = (UNWIND_VERSION + 8 * trailer_flags i.trailer) ∷ i.prologue_size ∷ (size / 2) ∷ (i.frame_register + i.frame_offset) ∷ []
+header i size =
+    (UNWIND_VERSION + 8 * trailer_flags i.trailer) ∷ i.prologue_size ∷ (size / 2)
+    ∷ (i.frame_register + i.frame_offset) ∷ []
 
 unfoldable pub unwind_bytes : UnwindInfo → List ℕ
 unwind_bytes i =

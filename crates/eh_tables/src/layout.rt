@@ -12,7 +12,8 @@ pub const UNWIND_INFO_ADDRESS: usize = 8;
 /// The size of RUNTIME_FUNCTION.
 pub const RUNTIME_FUNCTION_SIZE: usize = 12;
 
-/// The fields of UNWIND_INFO ("struct UNWIND_INFO"): the version in three bits and the flags in five.
+/// The fields of UNWIND_INFO ("struct UNWIND_INFO"): the version in three bits and the flags in
+/// five.
 pub const VERSION_AND_FLAGS: usize = 0;
 
 pub const SIZE_OF_PROLOG: usize = 1;

@@ -19,8 +19,9 @@ impl<'image, 'bytes> Tables<'image, 'bytes> {
         lookup_with::<Brand>(self, rva, Blank::new(1))
     }
 
-    /// The same, with its steps counted: a step reads the range of one entry. The search sees nothing
-    /// of the table but its length and these ranges, and the entry that it finds is read after it.
+    /// The same, with its steps counted: a step reads the range of one entry. The search sees
+    /// nothing of the table but its length and these ranges, and the entry that it finds is read
+    /// after it.
     pub fn lookup_counted<L: Ledger>(&self, rva: u64, steps: &mut Steps<L>) -> Option<Entry<'bytes>>
         requires { spec.IsWhole self.now }
         ensures found { result ≡ spec.holding rva (spec.entries_of self.now) }

@@ -7,10 +7,10 @@ use crate::fields::u32_at;
 use crate::refusal::TableErr;
 use std::marker::Model;
 
-/// A record of a scope table: a `__try` whose body is the code from `begin` to before `end`. A `jump_target` of
-/// 0 means a `__finally`, whose block is at `handler`; else its `__except` block is at `jump`,
-/// and its filter at `handler`, where 1 means a filter that always accepts. All addresses are
-/// relative to the image base.
+/// A record of a scope table: a `__try` whose body is the code from `begin` to before `end`. A
+/// `jump_target` of 0 means a `__finally`, whose block is at `handler`; else its `__except` block
+/// is at `jump`, and its filter at `handler`, where 1 means a filter that always accepts. All
+/// addresses are relative to the image base.
 #[derive(Clone, Copy, Debug, PartialEq, Eq)]
 pub struct ScopeRecord {
     pub begin: u32,

@@ -26,8 +26,8 @@ impl<'image, 'bytes> Model for Tables<'image, 'bytes> {
 }
 
 impl<'image, 'bytes> Tables<'image, 'bytes> {
-    /// The table of an image, of which the directory alone is checked: it is 4-aligned, stored whole,
-    /// and its size is a multiple of 12. A directory of size 0 has no entries.
+    /// The table of an image, of which the directory alone is checked: it is 4-aligned, stored
+    /// whole, and its size is a multiple of 12. A directory of size 0 has no entries.
     #[tactic(auto, unfolding(crate::specs::Tables::directory))]
     pub fn of(image: &'image ImageView<'bytes>) -> Result<Tables<'image, 'bytes>, TableErr>
         ensures read { IfOk result
@@ -76,11 +76,11 @@ impl<'image, 'bytes> Tables<'image, 'bytes> {
         read_range(self.directory, 12 * index as usize)
     }
 
-    /// The entry of an index, with its unwind info and those that this is chained to. The checks come
-    /// in this order: its range isn't empty, and not below the entry before; its unwind info is
-    /// 4-aligned, its first four bytes are stored, its version is 1, its flags are known, all of it
-    /// is stored, the scope table of the C handler too; its codes, slot by slot; the infos that it is
-    /// chained to, in the same way; and the records of the scope table.
+    /// The entry of an index, with its unwind info and those that this is chained to. The checks
+    /// come in this order: its range isn't empty, and not below the entry before; its unwind info
+    /// is 4-aligned, its first four bytes are stored, its version is 1, its flags are known, all of
+    /// it is stored, the scope table of the C handler too; its codes, slot by slot; the infos that
+    /// it is chained to, in the same way; and the records of the scope table.
     pub fn entry(&self, index: u64) -> Result<Entry<'bytes>, TableErr>
         requires { index < length self.now.ranges }
         ensures { result ≡ spec.entry_at self.now index }
@@ -93,7 +93,8 @@ impl<'image, 'bytes> Tables<'image, 'bytes> {
         read_entry(self.image, index, last, self.range(index))
     }
 
-    /// The table of an image, in which all entries are read. The first refusal by index is answered.
+    /// The table of an image, in which all entries are read. The first refusal by index is
+    /// answered.
     pub fn read(image: &'image ImageView<'bytes>) -> Result<Tables<'image, 'bytes>, TableErr>
         ensures read { IfOk result
             (λ t. (spec.directory image.now ≡ Ok t.ranges) × (t.image ≡ image.now)) }

@@ -9,8 +9,8 @@ use arrayvec::ArrayVec;
 pub enum Trailer {
     /// Nothing.
     Nothing,
-    /// The address of a handler, which is asked in a search for a handler (UNW_FLAG_EHANDLER), while
-    /// unwinding (UNW_FLAG_UHANDLER), or in both. Its data follow, as a scope table.
+    /// The address of a handler, which is asked in a search for a handler (UNW_FLAG_EHANDLER),
+    /// while unwinding (UNW_FLAG_UHANDLER), or in both. Its data follow, as a scope table.
     Handler {
         searching: bool,
         unwinding: bool,

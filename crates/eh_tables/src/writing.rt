@@ -244,8 +244,8 @@ fn info_bytes(info: &UnwindInfo) -> InfoBytes
     out
 }
 
-/// Appends an unwind info. Each allocation and each offset is written by the shortest code that fits
-/// it. Where no memory is left, nothing is appended.
+/// Appends an unwind info. Each allocation and each offset is written by the shortest code that
+/// fits it. Where no memory is left, nothing is appended.
 pub fn write_unwind(info: &UnwindInfo, to: &mut Vec<u8>) -> Result<(), AllocError>
     requires { spec.CanBeWritten info.now }
     ensures written { OnOk result (to.new.items ≡ to.old.items ++ spec.unwind_bytes info.now) }
@@ -254,8 +254,8 @@ pub fn write_unwind(info: &UnwindInfo, to: &mut Vec<u8>) -> Result<(), AllocErro
     to.extend_from_slice(&info_bytes(info))
 }
 
-/// Appends a scope table: the count of its rows, and they themselves. Where no memory is left, nothing
-/// is appended.
+/// Appends a scope table: the count of its rows, and they themselves. Where no memory is left,
+/// nothing is appended.
 pub fn write_scopes(rows: &[ScopeRecord], to: &mut Vec<u8>) -> Result<(), AllocError>
     requires { length rows.now < 2 ^ 32 }
     ensures written { OnOk result (to.new.items ≡ to.old.items ++ spec.scope_bytes rows.now) }

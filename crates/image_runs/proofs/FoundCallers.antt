@@ -1,6 +1,7 @@
 -- The frames of every program that can be linked, for checked programs.
 use Rattle.seh_ir.specs.Lowered.{lowered}
 use Rattle.lowered_shape.proofs.Ranges.{lowered_has_regions}
+use Rattle.program_frames.specs.Laws.{IsFramed}
 use Rattle.program_frames.proofs.Callers.{frames_are_found, leaves_are_found', thunks_are_found, probes_are_found}
 use Rattle.image_runs.specs.Frames.{LoweredFindsCallers}
 
@@ -10,8 +11,11 @@ lowered_finds_callers program fits =
     let regions = lowered_has_regions program in
     record {
       functions = λ index x f e s distance there framed entry text here stands.
-          frames_are_found p index x f e s distance (record { fits = fits; there = there; framed = framed }) regions entry text here stands;
-      leaves = λ index x e s there frameless inside. leaves_are_found' p index x e s fits regions there frameless inside;
+          let is_framed : IsFramed p index x f =
+          record { fits = fits; there = there; framed = framed } in
+          frames_are_found p index x f e s distance is_framed regions entry text here stands;
+      leaves = λ index x e s there frameless inside.
+          leaves_are_found' p index x e s fits regions there frameless inside;
       thunks = λ service e s inside. thunks_are_found p service e s fits regions inside;
       probes = λ e s inside. probes_are_found p e s fits regions inside;
     }

@@ -15,13 +15,14 @@ use Rattle.program_frames.specs.Standing.{image_base, HasText}
 use Rattle.program_frames.specs.Functions.{function_of, leaf, thunk_of, probe}
 use Rattle.program_frames.specs.Laws.{FindsCaller, IsIn}
 
--- from each state of a routine the walk finds its caller, as it was at the routine's first byte (state e): in a
--- function or funclet with a frame, prologue and epilogues included; in a leaf function; in the thunk of a
--- service; in `__chkstk`
+-- from each state of a routine the walk finds its caller, as it was at the routine's first byte (in
+-- state e): in a function or funclet with a frame, prologue and epilogues included; in a leaf
+-- function; in the thunk of a service; in `__chkstk`
 pub record FindsCallers (p : LinearProgram) : Type 0 where
   pub functions :
       (index : ℕ) (x : Placed) (f : Frame) (e s : State) (distance : ℕ)
-      → slice_get (placed p) index ≡ Some x → x.routine.frame ≡ Some f → IsEntry f.size e → HasText s.memory p
+      → slice_get (placed p) index ≡ Some x → x.routine.frame ≡ Some f
+      → IsEntry f.size e → HasText s.memory p
       → s.cpu.rip ≡ image_base + x.begin + distance → Stands (function_of p x f) e s distance
       → FindsCaller p e s
   pub leaves :
@@ -30,7 +31,8 @@ pub record FindsCallers (p : LinearProgram) : Type 0 where
       → IsIn e s (leaf p x) x.begin (end_of x) → FindsCaller p e s
   pub thunks :
       (service : Service) (e s : State)
-      → IsIn e s (thunk_of p service) (thunk_at (site_of p).text service) (thunk_at (site_of p).text service + 6)
+      → IsIn e s (thunk_of p service)
+          (thunk_at (site_of p).text service) (thunk_at (site_of p).text service + 6)
       → FindsCaller p e s
   pub probes :
       (e s : State)
@@ -39,4 +41,5 @@ pub record FindsCallers (p : LinearProgram) : Type 0 where
 
 -- so it is of every checked program whose linear code is within the limits of linking
 abbrev pub LoweredFindsCallers : Type 0
-LoweredFindsCallers = (program : Program) → FitsProgram (lowered program) → FindsCallers (lowered program)
+LoweredFindsCallers =
+    (program : Program) → FitsProgram (lowered program) → FindsCallers (lowered program)

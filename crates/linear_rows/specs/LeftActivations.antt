@@ -21,10 +21,12 @@ with_number f n = evaluate (Call f (Next (lit n) Done))
 abbrev pub with_less : ℕ → Statement
 with_less f = evaluate (Call f (Next (kept (subtract (local 0) (lit 1))) Done))
 
--- int down(int n){ if (n) down(n - 1); else RaiseException(0xE0000001,0,0,0); } int up(int n){ if
--- (n) up(n - 1); }
--- int main(void){ __try{ __try{ down(497); } __finally{ up(n); } } __except(1){ up(499); } return
--- 0; }
+-- int down(int n){ if (n) down(n - 1); else RaiseException(0xE0000001,0,0,0); }
+-- int up(int n){ if (n) up(n - 1); }
+-- int main(void){
+--     __try{ __try{ down(497); } __finally{ up(n); } } __except(1){ up(499); }
+--     return 0;
+-- }
 abbrev pub left_activations : ℕ → Program
 left_activations n =
     with_main []

@@ -162,13 +162,10 @@ module _ (t : Functions) (fs : List Funclet) (program : LinearProgram) (p : Plan
 
   -- a body waits: RIP is in the code of an instruction that the same regions hold as the one that
   -- it waits in (the same instruction, or where a call is the last of its code, the next one); its
-  -- slots stand in memory, up to an end above RSP
-  -- Of memory it owns, by its layout from RSP up: its temporaries, up to `end`; a function its
-  -- locals, up
-  -- to `size`; a funclet the word that keeps the base of its function's frame; a filter also the
-  -- word that
-  -- keeps its EXCEPTION_POINTERS (`KeepsPointers`); and the return address of `FrameWaits` and
-  -- `LeafWaits`.
+  -- slots stand in memory, up to an end above RSP. Of memory it owns, by its layout from RSP up: its
+  -- temporaries, up to `end`; a function its locals, up to `size`; a funclet the word that keeps
+  -- the base of its function's frame; a filter also the word that keeps its EXCEPTION_POINTERS
+  -- (`KeepsPointers`); and the return address of `FrameWaits` and `LeafWaits`.
   pub record BodyWaits (m : Memory) (c : Context) (size end : ℕ) (b : Frame)
       (acts : List Activation) : Type 0 where
     pub code : LinearBody

@@ -98,9 +98,9 @@ fn continued_accesses(rt: HostRuntime) -> Result<(), Fail> {
 }
 
 // One run with all that a trace shows: an access that its filter lets be made again; a search in
-// which one filter answers 0 and the next accepts, from the callee up to `main`; a `__finally` block
-// that raises: that search asks both filters anew, and its unwinding goes on at the callee's next
-// block and at that of `main`; and the `__except` block of `main`.
+// which one filter answers 0 and the next accepts, from the callee up to `main`; a `__finally`
+// block that raises: that search asks both filters anew, and its unwinding goes on at the callee's
+// next block and at that of `main`; and the `__except` block of `main`.
 #[test]
 fn whole_trace(rt: HostRuntime) -> Result<(), Fail> {
     let bytes = store_and_collision(rt.alloc())?;

@@ -1,6 +1,6 @@
 //! What `exec` answers for images with imports and with function tables, over memory.
 
-use crate::image::{OPTIONAL, edited};
+use crate::image::edited;
 use crate::runs::answers;
 use crate::views::tables;
 use seh::status::Status;
@@ -9,6 +9,7 @@ use seh_io::plain::{SliceSource, VecSink};
 use std::alloc::{AllocError, Global};
 use std::process::Abort;
 use std::test::Fail;
+use test_images::one_section::{Fields, OPTIONAL, PLAIN, headers};
 
 /// Where the section of [`importing`] begins in the file. It stands at 0x1000 in the image.
 const SECTION: usize = 272;
@@ -51,23 +52,12 @@ const PUTS_SLOTS: [u8; 79] = [
 
 /// The headers of an image with four directories, of which that of imports isn't empty, and with
 /// one section at 0x1000 that may be read and executed.
-fn headers(alloc: Global) -> Result<Vec<u8>, AllocError> {
-    let mut out = Vec::new(alloc);
-    out.extend_from_slice(b"MZ")?;
-    out.extend_from_slice(&[0; 58])?;
-    out.extend_from_slice(&[64, 0, 0, 0])?; // e_lfanew
-    out.extend_from_slice(b"PE\0\0")?;
-    out.extend_from_slice(&[0x64, 0x86, 1, 0])?; // Machine, NumberOfSections
-    out.extend_from_slice(&[0; 12])?;
-    out.extend_from_slice(&[144, 0, 0x23, 0])?; // SizeOfOptionalHeader
-    out.extend_from_slice(&[0x0B, 0x02])?; // Magic
-    out.extend_from_slice(&[0; 14])?;
-    out.extend_from_slice(&[0x28, 0x11, 0, 0])?; // AddressOfEntryPoint
-    out.extend_from_slice(&[0; 4])?;
-    out.extend_from_slice(&[0, 0, 0, 0x40, 1, 0, 0, 0])?; // ImageBase
-    out.extend_from_slice(&[0; 24])?;
-    out.extend_from_slice(&[0, 0x20, 0, 0])?; // SizeOfImage
-    out.extend_from_slice(&[0; 48])?;
+fn with_imports(alloc: Global) -> Result<Vec<u8>, AllocError> {
+    let fields = Fields {
+        entry: 0x1128,
+        ..PLAIN
+    };
+    let mut out = headers(alloc, fields, 144)?;
     out.extend_from_slice(&[4, 0, 0, 0])?; // NumberOfRvaAndSizes
     out.extend_from_slice(&[0; 8])?;
     out.extend_from_slice(&[0, 0x10, 0, 0, 40, 0, 0, 0])?; // the import directory
@@ -85,7 +75,7 @@ fn headers(alloc: Global) -> Result<Vec<u8>, AllocError> {
 /// An image of one library and five imports: the descriptors stand at 0x1000, the lookup table at
 /// 0x1040, the slots at 0x1080, the names at 0x10B0 and the code at 0x1128.
 fn importing(alloc: Global) -> Result<Vec<u8>, AllocError> {
-    let mut out = headers(alloc)?;
+    let mut out = with_imports(alloc)?;
     out.extend_from_slice(&[0x40, 0x10, 0, 0])?; // the lookup table
     out.extend_from_slice(&[0; 12])?; // the library has no name
     out.extend_from_slice(&[0x80, 0x10, 0, 0])?; // the slots

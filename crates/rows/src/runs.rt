@@ -1,12 +1,13 @@
 //! What `exec` answers for images, over memory.
 
-use crate::image::{CODE, FOURTEEN, OPTIONAL, SIGNATURE, TABLE, edited, image, of_code};
+use crate::image::{edited, of_code, started_at};
 use seh::status::Status;
 use seh::top::top;
 use seh_io::plain::{SliceSource, VecSink};
 use std::alloc::Global;
 use std::process::Abort;
 use std::test::Fail;
+use test_images::one_section::{ENDLESS, FOURTEEN, OPTIONAL, SIGNATURE, TABLE};
 
 /// Compares the status of `exec`, and what was written.
 pub fn answers(
@@ -101,12 +102,7 @@ fn long_runs(rt: HostRuntime) -> Result<(), Fail> {
             Status::StackLimit,
             "stack limit 000000006FFFFFF8\n",
         ),
-        // mov rax, the entry point; push rax; ret: a loop without end
-        (
-            &[0x48, 0xB8, 0, 0x10, 0, 0x40, 1, 0, 0, 0, 0x50, 0xC3],
-            Status::OutOfTurns,
-            "out of turns 10000000\n",
-        ),
+        (&ENDLESS, Status::OutOfTurns, "out of turns 10000000\n"),
     ];
     for (code, status, text) in cases {
         let bytes = of_code(rt.alloc(), code)?;
@@ -121,7 +117,7 @@ fn falls_off_its_section(rt: HostRuntime) -> Result<(), Fail> {
     let mut code = Vec::new(rt.alloc());
     code.resize(4091, 0)?;
     code.extend_from_slice(&[0xB8, 1, 0, 0, 0])?; // mov eax, 1
-    let bytes = image(rt.alloc(), [0xFB, 0x1F, 0, 0], CODE, &code)?;
+    let bytes = started_at(rt.alloc(), 0x1FFB, &code)?;
     let text = "stopped Illegal 0000000140002000\n";
     answers(&rt, rt.alloc(), &bytes, Status::Stopped, text, "")
 }

@@ -2,7 +2,7 @@
 
 ghost use Rattle.std.specs.Prelude.{◌<◌};
 
-use crate::image::{FOURTEEN, of_code};
+use crate::image::of_code;
 use seh::status::Status;
 use seh::top::top;
 use seh_io::plain::{SliceSource, VecSink};
@@ -10,6 +10,7 @@ use seh_io::planned::{MemSink, MemSource, Plan};
 use std::alloc::{AllocError, Global};
 use std::process::Abort;
 use std::test::Fail;
+use test_images::one_section::FOURTEEN;
 
 fn words(alloc: Global, line: &[&str]) -> Result<Vec<String>, AllocError> {
     let mut words = Vec::new(alloc);
@@ -87,8 +88,8 @@ fn statuses(rt: HostRuntime) {
     }
 }
 
-/// A case: the calls of the source, of `out` and of `err` that fail, how many bytes each call of all
-/// three moves, and what then comes: the status, `out` and `err`.
+/// A case: the calls of the source, of `out` and of `err` that fail, how many bytes each call of
+/// all three moves, and what then comes: the status, `out` and `err`.
 type Case<'a> = (
     &'a [u64],
     &'a [u64],

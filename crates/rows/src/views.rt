@@ -1,15 +1,16 @@
 //! What `show` writes of images, over memory.
 
-use crate::image::{FOURTEEN, of_code};
+use crate::image::of_code;
 use seh::status::Status;
 use seh::top::top;
 use seh_io::plain::{SliceSource, VecSink};
 use std::alloc::{AllocError, Global};
 use std::process::Abort;
 use std::test::Fail;
+use test_images::one_section::FOURTEEN;
 
-/// The headers of an image with one section of 60 bytes at 0x3000, and a function table of this many
-/// entries at 0x3018.
+/// The headers of an image with one section of 60 bytes at 0x3000, and a function table of this
+/// many entries at 0x3018.
 fn headers(alloc: Global, count: u8) -> Result<Vec<u8>, AllocError> {
     let mut out = Vec::new(alloc);
     out.extend_from_slice(b"MZ")?;

@@ -61,6 +61,9 @@ int main(void){ return 1; } int a;
 # global array:
 int a[2] = {3, -4}; int main(void){ put(a[0] + a[1]); }
 => 0 -1 / exit 0
+# negated literals are negated in their type, in globals and in locals:
+long long x = -0x80000000; long long y = -1u; unsigned char c = -1u; long long a[3] = {-1u, -1, -4294967295u}; int main(void){ long long z = -0x80000000; put(x); put(y); put(c); put(a[0]); put(a[1]); put(a[2]); put(z); z = -1u; put(z); }
+=> 0 2147483648 / 4294967295 / 255 / 4294967295 / -1 / 1 / 2147483648 / 4294967295 / exit 0
 # argument that isn't given:
 int main(long long n){ put(n); return 2; }
 => 0 0 / exit 2

@@ -18,9 +18,12 @@ use Rattle.seh.specs.Statuses.{status_of, meaning_status}
 use Rattle.seh.specs.Headline.{Headline, NothingMore, Walks}
 
 -- an end of both has one status
-same_status : (ended : Ended) (e : RunEnd) → run_end ended ≡ Some e → status_of e ≡ meaning_status ended
+same_status :
+    (ended : Ended) (e : RunEnd)
+    → run_end ended ≡ Some e → status_of e ≡ meaning_status ended
 same_status (meant.Exit v) e h = let same : ends.Exit v ≡ e = cc in sym (ap status_of same)
-same_status (meant.Unhandled c) e h = let same : ends.Unhandled c ≡ e = cc in sym (ap status_of same)
+same_status (meant.Unhandled c) e h =
+    let same : ends.Unhandled c ≡ e = cc in sym (ap status_of same)
 same_status (meant.Undefined a) e h = let q : None ≡ Some e = h in absurd cc
 same_status (meant.Deep d) e h = let q : None ≡ Some e = h in absurd cc
 same_status (meant.OutOfSteps n) e h = let q : None ≡ Some e = h in absurd cc
@@ -39,12 +42,14 @@ headline source image compiled options arg n low enough =
     subst (λ (m : ℕ). Covers meant.events end (machine image options.argument m)) same
     (subst (λ (a : ℤ). Covers meant.events end (machine image a (k + j))) (sym enough.argument)
     (covers_then meant.events end (machine image (pos arg) k) (machine image (pos arg) (k + j)) (real.shows arg n low) (images_cover image (pos arg) k j))) in
-    let ended : (e : RunEnd) → end ≡ Some e → end_by options image ≡ e = λ e is. ap (λ (x : Shown). end_within options.turns x.end) (covers.ends e is) in
+    let ended : (e : RunEnd) → end ≡ Some e → end_by options image ≡ e =
+    λ e is. ap (λ (x : Shown). end_within options.turns x.end) (covers.ends e is) in
     record {
       covers = covers;
       ended = ended;
       whole = λ e is. ap (λ (x : Shown). text x.events (end_within options.turns x.end) options.trace) (covers.ends e is);
-      status = λ last e is end_is. ap status_of (ended e (ap run_end_of is ∙ end_is)) ∙ same_status last e end_is;
+      status = λ last e is end_is.
+          ap status_of (ended e (ap run_end_of is ∙ end_is)) ∙ same_status last e end_is;
     }
 
 pub nothing_more : NothingMore

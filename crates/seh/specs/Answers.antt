@@ -33,8 +33,7 @@ abbrev pub image_limit : ℕ
 image_limit = MOST_IMAGE
 
 -- these are the bytes that the source held, at most so many; where it is known what it held, they
--- are
--- that, and nothing is left
+-- are that, and nothing is left
 pub record IsInput (limit : ℕ) (source source' : Stream) (bytes : List ℕ) : Type 0 where
   pub within : length bytes ≤ limit
   pub all : ForSome source.bytes (λ held. bytes ≡ held)

@@ -21,8 +21,7 @@ pub record AreEnough (options : RunOptions) (arg n : ℕ) : Type 0 where
   pub turns : 256 * n + 256 ≤ options.turns
 
 -- a run of the image with these options shows the events of a meaning first; where the meaning has
--- an end
--- that runs have, the run has this end, with its status, and its text is that of the meaning
+-- an end that runs have, the run has this end, with its status, and its text is that of the meaning
 pub record ShowsMeaning (meant : Shown) (image : List ℕ) (options : RunOptions) : Type 0 where
   pub covers : Covers meant.events (run_end_of meant.end) (shown_by options image)
   pub ended : (e : RunEnd) → run_end_of meant.end ≡ Some e → end_by options image ≡ e

@@ -1,4 +1,5 @@
--- The lines of the view of an image's tables. Addresses are 8 hexadecimal digits, other numbers decimal.
+-- The lines of the view of an image's tables. Addresses are 8 hexadecimal digits, other numbers
+-- decimal.
 use Rattle.std.specs.Prelude.{ℕ, ◌+◌, ◌==◌, Bool, if◌then◌else◌, List, [], ◌∷◌, ◌++◌, length, Option, Some, None, Result, Ok, Err, codes}
 use Rattle.std.specs.List.{flat_map}
 use Rattle.std.specs.Fmt.{decimal}
@@ -13,6 +14,7 @@ use Rattle.eh_tables.specs.declared.refusal.TableErr.{TableErr}
 use Rattle.eh_tables.specs.declared.refusal.TableErr.TheVariants as refusals
 use Rattle.eh_tables.specs.declared.scope.ScopeRecord.{ScopeRecord}
 use Rattle.eh_tables.specs.Infos.{Info}
+use Rattle.eh_tables.specs.Refusals.{refusal_name}
 use Rattle.eh_tables.specs.Tables.{Entry, entry, directory}
 
 abbrev pub rva_text : ℕ → List ℕ
@@ -61,16 +63,21 @@ code_line c = code_begin c ++ ended (operation_text c.operation)
 
 -- a jump of 0 means a `__finally`, and a handler of 1 for a filter that always accepts
 abbrev pub filter_text : ℕ → List ℕ
-filter_text handler_address = if handler_address == 1 then codes " always" else codes " filter " ++ rva_text handler_address
+filter_text handler_address =
+    if handler_address == 1 then codes " always" else codes " filter " ++ rva_text handler_address
 
 abbrev pub except_text : ℕ → ℕ → List ℕ
-except_text jump_target handler_address = filter_text handler_address ++ codes " jump " ++ rva_text jump_target
+except_text jump_target handler_address =
+    filter_text handler_address ++ codes " jump " ++ rva_text jump_target
 
 abbrev pub kind_text : ScopeRecord → List ℕ
-kind_text r = if r.jump_target == 0 then codes " finally " ++ rva_text r.handler_address else except_text r.jump_target r.handler_address
+kind_text r =
+    if r.jump_target == 0 then codes " finally " ++ rva_text r.handler_address
+    else except_text r.jump_target r.handler_address
 
 abbrev pub scope_begin : ℕ → ScopeRecord → List ℕ
-scope_begin k r = codes " scope " ++ decimal k ++ codes " " ++ rva_text r.begin ++ codes " " ++ rva_text r.end
+scope_begin k r =
+    codes " scope " ++ decimal k ++ codes " " ++ rva_text r.begin ++ codes " " ++ rva_text r.end
 
 abbrev pub scope_line : ℕ → ScopeRecord → List ℕ
 scope_line k r = scope_begin k r ++ ended (kind_text r)
@@ -83,7 +90,8 @@ scope_lines k (r ∷ rs) = scope_line k r ++ scope_lines (k + 1) rs
 -- ---- an entry
 
 abbrev pub range_text : RuntimeFunction → List ℕ
-range_text r = rva_text r.begin ++ codes " " ++ rva_text r.end ++ codes " " ++ rva_text r.unwind_info
+range_text r =
+    rva_text r.begin ++ codes " " ++ rva_text r.end ++ codes " " ++ rva_text r.unwind_info
 
 abbrev pub entry_line : ℕ → RuntimeFunction → List ℕ
 entry_line index r = ended (codes "entry " ++ decimal index ++ codes " " ++ range_text r)
@@ -93,10 +101,13 @@ bytes_line bytes = codes " bytes " ++ ended (encode_lower bytes)
 
 -- no frame register, or one at an offset
 abbrev pub frame_text : Info → List ℕ
-frame_text i = if i.frame_register == 0 then codes " frame - 0" else codes " frame " ++ register_name i.frame_register ++ codes " " ++ decimal i.frame_offset
+frame_text i =
+    if i.frame_register == 0 then codes " frame - 0"
+    else codes " frame " ++ register_name i.frame_register ++ codes " " ++ decimal i.frame_offset
 
 abbrev pub prolog_text : Info → List ℕ
-prolog_text i = codes " info prolog " ++ decimal i.prologue_size ++ codes " flags " ++ decimal i.flags
+prolog_text i =
+    codes " info prolog " ++ decimal i.prologue_size ++ codes " flags " ++ decimal i.flags
 
 abbrev pub info_line : Info → List ℕ
 info_line i = prolog_text i ++ ended (frame_text i)
@@ -107,36 +118,46 @@ parent_line (Some r) = ended (codes " chain " ++ range_text r)
 
 abbrev pub handler_line : Bool → Option ℕ → List ℕ
 handler_line is_c None = []
-handler_line is_c (Some rva) = ended (codes " handler " ++ rva_text rva ++ (if is_c then codes " c" else codes " other"))
+handler_line is_c (Some rva) =
+    ended (codes " handler " ++ rva_text rva ++ (if is_c then codes " c" else codes " other"))
 
 abbrev pub trailer_lines : Info → List ℕ
 trailer_lines i = parent_line i.parent ++ handler_line i.has_c_handler i.handler
 
 abbrev pub info_lines : Info → List ℕ
-info_lines i = bytes_line i.bytes ++ info_line i ++ flat_map code_line i.codes ++ trailer_lines i ++ scope_lines 0 i.scopes
+info_lines i =
+    bytes_line i.bytes ++ info_line i ++ flat_map code_line i.codes ++ trailer_lines i
+    ++ scope_lines 0 i.scopes
 
 -- ---- refusals
 
+-- the number after a refusal's name, where it has one
+abbrev pub number_text : TableErr → List ℕ
+number_text (refusals.Truncated rva) = spaced (decimal rva)
+number_text (refusals.Misaligned rva) = spaced (decimal rva)
+number_text (refusals.EmptyRange index) = []
+number_text (refusals.Unsorted index) = []
+number_text (refusals.Version index found) = spaced (decimal found)
+number_text (refusals.Flags index) = []
+number_text (refusals.Op index slot) = spaced (decimal slot)
+number_text (refusals.CodeOrder index slot) = spaced (decimal slot)
+number_text (refusals.ChainLong index) = []
+number_text (refusals.ScopeRange index row) = spaced (decimal row)
+
 abbrev pub refusal_text : TableErr → List ℕ
-refusal_text (refusals.Truncated rva) = codes "Truncated " ++ decimal rva
-refusal_text (refusals.Misaligned rva) = codes "Misaligned " ++ decimal rva
-refusal_text (refusals.EmptyRange index) = codes "EmptyRange"
-refusal_text (refusals.Unsorted index) = codes "Unsorted"
-refusal_text (refusals.Version index found) = codes "Version " ++ decimal found
-refusal_text (refusals.Flags index) = codes "Flags"
-refusal_text (refusals.Op index slot) = codes "Op " ++ decimal slot
-refusal_text (refusals.CodeOrder index slot) = codes "CodeOrder " ++ decimal slot
-refusal_text (refusals.ChainLong index) = codes "ChainLong"
-refusal_text (refusals.ScopeRange index row) = codes "ScopeRange " ++ decimal row
+refusal_text e = refusal_name e ++ number_text e
 
 abbrev pub refused_line : ℕ → TableErr → List ℕ
 refused_line index e = ended (codes "refused " ++ decimal index ++ codes " " ++ refusal_text e)
 
 -- a directory is refused with its address
+abbrev pub directory_number : TableErr → List ℕ
+directory_number (refusals.Truncated rva) = spaced (rva_text rva)
+directory_number (refusals.Misaligned rva) = spaced (rva_text rva)
+directory_number e = number_text e
+
 abbrev pub directory_text : TableErr → List ℕ
-directory_text (refusals.Truncated rva) = codes "Truncated " ++ rva_text rva
-directory_text (refusals.Misaligned rva) = codes "Misaligned " ++ rva_text rva
-directory_text e = refusal_text e
+directory_text e = refusal_name e ++ directory_number e
 
 abbrev pub refused_table_line : TableErr → List ℕ
 refused_table_line e = ended (codes "refused table " ++ directory_text e)
@@ -151,7 +172,8 @@ entry_lines index (Err e) = refused_line index e
 -- from an index on, after an entry that ends there
 abbrev pub all_lines : Image → ℕ → ℕ → List RuntimeFunction → List ℕ
 all_lines image index last [] = []
-all_lines image index last (r ∷ rs) = entry_lines index (entry image index last r) ++ all_lines image (index + 1) r.end rs
+all_lines image index last (r ∷ rs) =
+    entry_lines index (entry image index last r) ++ all_lines image (index + 1) r.end rs
 
 abbrev pub count_line : ℕ → List ℕ
 count_line n = ended (codes "entries " ++ decimal n)

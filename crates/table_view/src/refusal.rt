@@ -8,15 +8,34 @@ ghost use Rattle.table_view.specs.View as spec;
 use eh_tables::TableErr;
 use seh_io::line::Line;
 
-/// Adds a word and a number after it.
-fn put_counted(line: &mut Line, word: &[u8], number: u64)
-    requires line { length line.old ≤ 29 }
-    requires word { length word.now ≤ 11 }
-    ensures value { line.new ≡ line.old ++ word.now ++ decimal number }
+/// Adds a number after a space.
+fn put_spaced(line: &mut Line, number: u64)
+    requires { length line.old ≤ 39 }
+    ensures value { line.new ≡ line.old ++ spec.spaced (decimal number) }
     ensures len { length line.new ≤ 60 }
 {
-    line.text(word);
+    line.text(b" ");
     line.natural(number);
+}
+
+/// Adds the number that follows a refusal's name, where it has one.
+fn put_number(line: &mut Line, error: &TableErr)
+    requires { length line.old ≤ 39 }
+    ensures value { line.new ≡ line.old ++ spec.number_text error.now }
+    ensures len { length line.new ≤ 60 }
+{
+    match error {
+        TableErr::Truncated { rva } => put_spaced(line, *rva),
+        TableErr::Misaligned { rva } => put_spaced(line, *rva),
+        TableErr::EmptyRange { .. } => {}
+        TableErr::Unsorted { .. } => {}
+        TableErr::Version { found, .. } => put_spaced(line, *found as u64),
+        TableErr::Flags { .. } => {}
+        TableErr::Op { slot, .. } => put_spaced(line, *slot),
+        TableErr::CodeOrder { slot, .. } => put_spaced(line, *slot),
+        TableErr::ChainLong { .. } => {}
+        TableErr::ScopeRange { row, .. } => put_spaced(line, *row),
+    }
 }
 
 /// Adds a refusal's name with its number.
@@ -25,18 +44,8 @@ fn put_refusal(line: &mut Line, error: &TableErr)
     ensures value { line.new ≡ line.old ++ spec.refusal_text error.now }
     ensures len { length line.new ≤ 60 }
 {
-    match error {
-        TableErr::Truncated { rva } => put_counted(line, b"Truncated ", *rva),
-        TableErr::Misaligned { rva } => put_counted(line, b"Misaligned ", *rva),
-        TableErr::EmptyRange { .. } => line.text(b"EmptyRange"),
-        TableErr::Unsorted { .. } => line.text(b"Unsorted"),
-        TableErr::Version { found, .. } => put_counted(line, b"Version ", *found as u64),
-        TableErr::Flags { .. } => line.text(b"Flags"),
-        TableErr::Op { slot, .. } => put_counted(line, b"Op ", *slot),
-        TableErr::CodeOrder { slot, .. } => put_counted(line, b"CodeOrder ", *slot),
-        TableErr::ChainLong { .. } => line.text(b"ChainLong"),
-        TableErr::ScopeRange { row, .. } => put_counted(line, b"ScopeRange ", *row),
-    }
+    line.text(error.name());
+    put_number(line, error);
 }
 
 /// The line of an entry that can't be read.
@@ -58,16 +67,17 @@ pub fn refused_table_line(error: &TableErr) -> Line
 {
     let mut line = Line::new();
     line.text(b"refused table ");
+    line.text(error.name());
     match error {
         TableErr::Truncated { rva } => {
-            line.text(b"Truncated ");
+            line.text(b" ");
             line.hexadecimal(8, *rva);
         }
         TableErr::Misaligned { rva } => {
-            line.text(b"Misaligned ");
+            line.text(b" ");
             line.hexadecimal(8, *rva);
         }
-        other => put_refusal(&mut line, other),
+        other => put_number(&mut line, other),
     }
     line.end();
     line

@@ -156,7 +156,8 @@ fn put_table<O: Sink>(out: &mut Lines<'_, O>, image: &ImageView<'_>)
     }
 }
 
-/// Writes the view of an image's function table, line by line. An entry that is refused is one line.
+/// Writes the view of an image's function table, line by line. An entry that is refused is one
+/// line.
 ///
 /// After a fault the sink has taken a part of the text from the front, of `taken` bytes; that count
 /// stays at 2^64 - 1.

@@ -180,8 +180,8 @@ fn tables(alloc: Global, parts: Parts<'_>) -> Result<(Vec<u8>, Vec<u8>), AllocEr
     Ok((infos, table))
 }
 
-/// The bytes of an image. There is no memory for parts that are larger than those limits, nor for an
-/// image without code.
+/// The bytes of an image. There is no memory for parts that are larger than those limits, nor for
+/// an image without code.
 pub fn built(alloc: Global, parts: Parts<'_>) -> Result<Vec<u8>, AllocError> {
     let (infos, table) = tables(alloc, parts)?;
     let data = parts.data.to_vec(alloc)?;

@@ -2,8 +2,8 @@
 //! services at 0x3058: RaiseException, the language handler, _local_unwind, protect and put. Each
 //! function takes 40 bytes of stack; the last instruction is the thunk of the language handler.
 
-/// A `__finally` block in an `__except` one: `__try { __try { RaiseException(0xE0000001, 0, 0, 0); }
-/// __finally { put(1); } } __except (2) { put(3); } return 0;`.
+/// A `__finally` block in an `__except` one: `__try { __try { RaiseException(0xE0000001, 0, 0, 0);
+/// } __finally { put(1); } } __except (2) { put(3); } return 0;`.
 pub const FILTER_AND_FINALLY: &[u8] = &[
     0x48, 0x83, 0xEC, 0x28, // sub rsp,0x28
     0xB9, 0x01, 0x00, 0x00, 0xE0, // mov ecx,0xe0000001
@@ -162,7 +162,8 @@ pub const RAISE_IN_FINALLY: &[u8] = &[
     0xFF, 0x25, 0xF0, 0x0F, 0x00, 0x00, // jmp [__C_specific_handler]
 ];
 
-/// A store to a page without rights: the filter sets them and answers -1, and the store is made again.
+/// A store to a page without rights: the filter sets them and answers -1, and the store is made
+/// again.
 pub const CONTINUED_ACCESS: &[u8] = &[
     0x48, 0x83, 0xEC, 0x28, // sub rsp,0x28
     0x48, 0xB8, 0x00, 0x00, 0x00, 0x20, 0x00, 0x00, 0x00, 0x00, // movabs rax,0x20000000

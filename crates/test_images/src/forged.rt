@@ -228,8 +228,8 @@ pub fn raising(alloc: Global, filter: &[u8]) -> Result<Vec<u8>, AllocError> {
     handled(alloc, filter, &[scope(0x2004, 0x2012, 0x2012, 0x2011)])
 }
 
-/// The funclet as a `__finally` block of that raise, in a `__try` whose handler accepts at once. The
-/// target lies outside the scope records, so that the unwinding runs the block.
+/// The funclet as a `__finally` block of that raise, in a `__try` whose handler accepts at once.
+/// The target lies outside the scope records, so that the unwinding runs the block.
 pub fn unwinding(alloc: Global, block: &[u8]) -> Result<Vec<u8>, AllocError> {
     let scopes = [
         scope(0x2004, 0x2012, 0x2012, 0),

@@ -11,8 +11,9 @@ pub fn put(out: &mut Vec<u8>, at: usize, bytes: &[u8]) {
     }
 }
 
-/// An image of two sections: at 0x3000 unwind infos, and at 0x4000 the function table. The C handler
-/// is imported to a slot at 0x3650; jumps through it are at 0x3600 and, with a prefix, at 0x3608.
+/// An image of two sections: at 0x3000 unwind infos, and at 0x4000 the function table. The C
+/// handler is imported to a slot at 0x3650; jumps through it are at 0x3600 and, with a prefix, at
+/// 0x3608.
 pub fn table_image(alloc: Global, infos: &[u8], entries: &[u8]) -> Result<Vec<u8>, AllocError> {
     let mut out = vec![in alloc; 0; 0x1400]?;
     put(&mut out, 0, b"MZ");

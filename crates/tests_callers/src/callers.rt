@@ -2,17 +2,17 @@
 //!
 //! The first six have the form of Wine's published tests (dlls/ntdll/tests/exception.c,
 //! "test_virtual_unwind"); the others are of our own making. The answers are those of Wine 8.0: its
-//! `RtlVirtualUnwind` was called for each row on these bytes and a stack of such words, for handlers of
-//! searching and of unwinding alike. Where our answer differs by our own choice, the row's note has
-//! Wine's, and the table says what was chosen. Wine tells a handler or none: that a row without one
-//! stands in a body is ours to say.
+//! `RtlVirtualUnwind` was called for each row on these bytes and a stack of such words, for
+//! handlers of searching and of unwinding alike. Where our answer differs by our own choice, the
+//! row's note has Wine's, and the table says what was chosen. Wine tells a handler or none: that a
+//! row without one stands in a body is ours to say.
 
 use crate::caller_rows::all_unwind;
 use std::test::Fail;
 
-/// The functions of the published tests. Where our answers differ: in an epilogue the establisher frame is
-/// RSP as it is, and Wine's is the frame register's; an entry without codes has epilogues too, which Wine
-/// looks for only where there are codes.
+/// The functions of the published tests. Where our answers differ: in an epilogue the establisher
+/// frame is RSP as it is, and Wine's is the frame register's; an entry without codes has epilogues
+/// too, which Wine looks for only where there are codes.
 const PUBLISHED: &str = r"
 # a frame register, saves and a large allocation
 info 09 1C 08 35 1C 64 25 00 15 34 24 00 0E 03 09 01 22 00 02 50 00 02 00 00
@@ -129,8 +129,8 @@ with rbp=50
 C3 | ret      | - 0 8 0      |
 ";
 
-/// Functions with a frame register. In an epilogue the establisher frame is RSP as it is; Wine's is the
-/// frame register's.
+/// Functions with a frame register. In an epilogue the establisher frame is RSP as it is; Wine's is
+/// the frame register's.
 const FRAME_REGISTERS: &str = r"
 # a frame register of the upper eight, and lea by one byte
 info 09 11 06 2D 11 F4 09 00 0D 03 08 B2 04 C0 02 D0 00 02 00 00
@@ -169,11 +169,11 @@ with rbp=10
 C3             | ret                    | - 0 8 0          |        | Wine's frame: 10
 ";
 
-/// What is an epilogue and what is none. Here an epilogue ends in a plain `ret`, or in a jump through memory
-/// whose ModRM mod is 00, as the x64 ABI has it. Wine takes no jump through memory for an end, and answers
-/// as in the body; and it takes a `ret` with a prefix or an operand for an end, and a jump to a `ret` of the
-/// same function, where our answer is that of the body. A REX prefix is one too: the machine runs such a
-/// `ret`, and it ends no epilogue.
+/// What is an epilogue and what is none. Here an epilogue ends in a plain `ret`, or in a jump
+/// through memory whose ModRM mod is 00, as the x64 ABI has it. Wine takes no jump through memory
+/// for an end, and answers as in the body; and it takes a `ret` with a prefix or an operand for an
+/// end, and a jump to a `ret` of the same function, where our answer is that of the body. A REX
+/// prefix is one too: the machine runs such a `ret`, and it ends no epilogue.
 const ENDS: &str = r"
 # a frame register, lea by one byte, and a jump through memory
 info 09 0A 03 15 0A 03 05 32 01 50 00 00 00 02 00 00
@@ -256,9 +256,9 @@ EB 00          | jmp to the next    | handler 30 38 0 | rsi=28 | Wine: - 0 8 0
 C3             | ret                | - 0 8 0         |
 ";
 
-/// Chained fragments. Here no handler is looked for in one, and in its own prologue the establisher frame is
-/// RSP as it is. Wine asks the parent's handler, in that prologue too, and takes the frame register's frame
-/// there, which the parent has set.
+/// Chained fragments. Here no handler is looked for in one, and in its own prologue the establisher
+/// frame is RSP as it is. Wine asks the parent's handler, in that prologue too, and takes the frame
+/// register's frame there, which the parent has set.
 const CHAINED: &str = r"
 # a fragment chained to its function
 info 21 05 02 00 05 64 04 00 00 22 00 00 40 22 00 00 20 30 00 00

@@ -34,7 +34,8 @@ pub fn shows_of(rt: &impl Abort, alloc: Global, bytes: &[u8], text: &str) -> Res
     Ok(())
 }
 
-/// Runs an image of one function with one scope record, and of one funclet after it, if there is one.
+/// Runs an image of one function with one scope record, and of one funclet after it, if there is
+/// one.
 fn shows_one(
     rt: &impl Abort,
     alloc: Global,

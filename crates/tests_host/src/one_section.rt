@@ -13,86 +13,8 @@ use seh_num::end::Reason;
 use seh_num::event::{Code, Event};
 use std::alloc::{AllocError, Global};
 use std::test::Fail;
+use test_images::one_section::{FOURTEEN, Fields, PLAIN, image};
 use x64_memory::region::Region;
-
-/// The fields of [`image`] that its tests vary.
-#[derive(Clone, Copy, Debug)]
-struct Fields {
-    base: u64,
-    entry: u64,
-    size: u64,
-    flags: u64,
-}
-
-/// An entry point at the start of a readable and executable section.
-const PLAIN: Fields = Fields {
-    base: 0x1_4000_0000,
-    entry: 0x1000,
-    size: 0x2000,
-    flags: 0x6000_0020,
-};
-
-/// Adds a number in so many bytes, the lowest first.
-fn number(out: &mut Vec<u8>, count: usize, n: u64) -> Result<(), AllocError> {
-    let mut rest = n;
-    for _i in 0..count {
-        out.push((rest % 256) as u8)?;
-        rest /= 256;
-    }
-    Ok(())
-}
-
-/// An image of one section, which is at 0x1000 and holds the code (PE format, "File Headers",
-/// "Optional Header" and "Section Table").
-fn image(alloc: Global, fields: Fields, code: &[u8]) -> Result<Vec<u8>, AllocError> {
-    let mut out = Vec::new(alloc);
-    out.extend_from_slice(b"MZ")?;
-    out.extend_from_slice(&[0; 58])?;
-    number(&mut out, 4, 64)?; // e_lfanew
-    out.extend_from_slice(b"PE\0\0")?;
-    number(&mut out, 2, 0x8664)?; // Machine
-    number(&mut out, 2, 1)?; // NumberOfSections
-    out.extend_from_slice(&[0; 12])?;
-    number(&mut out, 2, 112)?; // SizeOfOptionalHeader
-    number(&mut out, 2, 0x23)?; // Characteristics
-    number(&mut out, 2, 0x20B)?; // Magic
-    out.extend_from_slice(&[0; 14])?;
-    number(&mut out, 4, fields.entry)?; // AddressOfEntryPoint
-    out.extend_from_slice(&[0; 4])?;
-    number(&mut out, 8, fields.base)?; // ImageBase
-    number(&mut out, 4, 4096)?; // SectionAlignment
-    number(&mut out, 4, 512)?; // FileAlignment
-    out.extend_from_slice(&[0; 16])?;
-    number(&mut out, 4, fields.size)?; // SizeOfImage
-    number(&mut out, 4, 240)?; // SizeOfHeaders
-    out.extend_from_slice(&[0; 44])?;
-    number(&mut out, 4, 0)?; // NumberOfRvaAndSizes
-    out.extend_from_slice(b".text\0\0\0")?;
-    number(&mut out, 4, code.len() as u64)?; // VirtualSize
-    number(&mut out, 4, 0x1000)?; // VirtualAddress
-    number(&mut out, 4, code.len() as u64)?; // SizeOfRawData
-    number(&mut out, 4, 240)?; // PointerToRawData
-    out.extend_from_slice(&[0; 12])?;
-    number(&mut out, 4, fields.flags)?; // Characteristics
-    out.extend_from_slice(code)?;
-    Ok(out)
-}
-
-/// Puts 2 + 3 * 4 and returns 7, in 13 turns.
-const FOURTEEN: [u8; 49] = [
-    0x48, 0x83, 0xEC, 0x28, // sub rsp, 40
-    0xB8, 3, 0, 0, 0, // mov eax, 3
-    0xB9, 4, 0, 0, 0, // mov ecx, 4
-    0x0F, 0xAF, 0xC1, // imul eax, ecx
-    0xB9, 2, 0, 0, 0, // mov ecx, 2
-    0x01, 0xC8, // add eax, ecx
-    0x48, 0x63, 0xC8, // movsxd rcx, eax
-    0x48, 0xB8, 0x10, 0, 0xF0, 0x7F, 0, 0, 0, 0, // mov rax, 0x7FF00010
-    0xFF, 0xD0, // call rax
-    0xB8, 7, 0, 0, 0, // mov eax, 7
-    0x48, 0x83, 0xC4, 0x28, // add rsp, 40
-    0xC3, // ret
-];
 
 #[test]
 fn puts_and_exits(rt: HostRuntime) -> Result<(), Fail> {
@@ -253,7 +175,7 @@ fn accesses_that_are_refused(rt: HostRuntime) -> Result<(), Fail> {
 
 #[test]
 fn places_without_instructions(rt: HostRuntime) -> Result<(), Fail> {
-    let cases: [(u64, &[u8], u64); 5] = [
+    let cases: [(u32, &[u8], u64); 5] = [
         // mov eax, 7, and a byte that begins no instruction in 64-bit mode
         (0x1000, &[0xB8, 7, 0, 0, 0, 0x06], 0x1_4000_1005),
         // push rax as the section's last byte
@@ -289,7 +211,7 @@ fn places_without_instructions(rt: HostRuntime) -> Result<(), Fail> {
 #[test]
 fn images_that_are_not_loaded(rt: HostRuntime) -> Result<(), Fail> {
     let top = 0x7FFF_FFFF_0000;
-    for (base, size, entry, flags, want) in [
+    for (base, size, entry, characteristics, want) in [
         (0x1_0000_0000, 0x2000, 0x1000, 0x6000_0020, None),
         (0x1_4000_0000, 0x1000_0000, 0x1FFF, 0x2000_0020, None),
         (top, 0x1_0000, 0x1000, 0xE000_0020, None),
@@ -369,7 +291,7 @@ fn images_that_are_not_loaded(rt: HostRuntime) -> Result<(), Fail> {
             base,
             entry,
             size,
-            flags,
+            characteristics,
         };
         let bytes = image(rt.alloc(), fields, &FOURTEEN)?;
         let view = ImageView::read(rt.alloc(), &bytes)?;
@@ -429,8 +351,8 @@ fn plan(alloc: Global, failing: &[u64], most: usize) -> Result<Plan, AllocError>
     Ok(Plan::new(failing.to_vec(alloc)?, most))
 }
 
-// No turn is made after the one whose line failed, and a later run continues from there: three turns
-// are left after the one that puts 14.
+// No turn is made after the one whose line failed, and a later run continues from there: three
+// turns are left after the one that puts 14.
 #[test]
 fn sinks_that_fail(rt: HostRuntime) -> Result<(), Fail> {
     let bytes = image(rt.alloc(), PLAIN, &FOURTEEN)?;

@@ -143,7 +143,8 @@ fn all_is_written_but_the_home_space(rt: HostRuntime) -> Result<(), Fail> {
     Ok(())
 }
 
-// The record is of 1,568 bytes, and its return address is below it: the lowest place is at 0x70000010.
+// The record is of 1,568 bytes, and its return address is below it: the lowest place is at
+// 0x70000010.
 #[test]
 fn records_are_placed_in_the_stack(rt: HostRuntime) -> Result<(), Fail> {
     let refused = |address: u64| Err(Guard { address });

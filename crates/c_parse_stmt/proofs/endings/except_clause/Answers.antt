@@ -26,4 +26,16 @@ pub returns-clause-found : goal.returns-clause-found
 returns-clause-found c =
     let f = c.in_ok-filter in
     let o = c.in_ok-rest in
-    λ ts k. record { is = (c.args.tokens.now, f.following.now, k, f.ensures.found, o.ensures.found); statements = omega arith; low = f.ensures.low; locals = refl; funclets = f.ensures.taken }
+    λ ts k. record {
+      is = record {
+        after_keyword = c.args.tokens.now;
+        after_filter = f.following.now;
+        keyword = k;
+        filter = f.ensures.found;
+        brace = o.ensures.found;
+      };
+      statements = omega arith;
+      low = f.ensures.low;
+      locals = refl;
+      funclets = f.ensures.taken;
+    }

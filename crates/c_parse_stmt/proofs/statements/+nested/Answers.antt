@@ -4,7 +4,7 @@ use Rattle.c_syntax.specs.Statement.{statement, statements}
 use Rattle.c_syntax.proofs.Shorter.{item}
 use Rattle.c_parse_type.specs.Bases.{NoBase}
 use Rattle.c_parse_stmt.proofs.Guarding.{still, guards, try_body, last_block, guarded_found}
-use Rattle.c_parse_stmt.proofs.Held.{none_of, statement_item, block_fails, start, continues, ends, item_fails}
+use Rattle.c_parse_stmt.proofs.Held.{none_of, statement_item, block_fails, block_found, start, continues, ends, item_fails}
 use Rattle.c_parse_stmt.proofs.Inside.{opens_head, inner_fails, holds, otherwise_fails, otherwise_found, whole_found}
 use Rattle.c_parse_stmt.proofs.Sequences.{placed, placed_so, found_so}
 use Rattle.c_parse_stmt.proofs.statements.+nested.Goals as goal
@@ -112,6 +112,12 @@ pub items-returns-in-Some-clause-taken : goal.items-returns-in-Some-clause-taken
 items-returns-in-Some-clause-taken t c =
     let s = c.loop-end in
     (ends c.args.text.now c.args.room c.args.left s.left c.args.tokens.now s.rest.now c.in-Some.end.now s.found.items s.invariant c.in-Some.ensures.found).1
+
+pub statement-returns-in_ok-found-in-Block-clause-found : goal.statement-returns-in_ok-found-in-Block-clause-found
+statement-returns-in_ok-found-in-Block-clause-found t c =
+    let o = c.in_ok-opening in
+    let k = c.in_ok-found-in-Block in
+    rw c.block_of.ensures (block_found c.args.text.now c.args.room c.args.left o.left k.left o.opening (statements (map statement k.found.items)) c.args.tokens.now o.following.now k.rest.now o.ensures.found c.in-Block.is k.ensures.found k.ensures.taken)
 
 pub statement-returns-in_err-found-in-Block-clause-refused : goal.statement-returns-in_err-found-in-Block-clause-refused
 statement-returns-in_err-found-in-Block-clause-refused t c =

@@ -1,0 +1,91 @@
+//! Images of one section and no tables, field by field, as the PE format has them.
+
+use std::alloc::{AllocError, Global};
+
+/// Where the headers of [`image`] stand.
+pub const SIGNATURE: usize = 64;
+
+pub const OPTIONAL: usize = SIGNATURE + 24;
+
+/// The table of sections, after an optional header without directories.
+pub const TABLE: usize = OPTIONAL + 112;
+
+/// The fields of [`image`] that vary.
+#[derive(Clone, Copy, Debug)]
+pub struct Fields {
+    pub base: u64,
+    pub entry: u32,
+    pub size: u32,
+    pub characteristics: u32,
+}
+
+/// An entry point at the start of a section that may be read and executed.
+pub const PLAIN: Fields = Fields {
+    base: 0x1_4000_0000,
+    entry: 0x1000,
+    size: 0x2000,
+    characteristics: 0x6000_0020,
+};
+
+/// The headers of an image whose optional header has this size.
+pub fn headers(alloc: Global, fields: Fields, optional: u16) -> Result<Vec<u8>, AllocError> {
+    let mut out = Vec::new(alloc);
+    out.extend_from_slice(b"MZ")?;
+    out.extend_from_slice(&[0; 58])?;
+    out.extend_from_slice(&[64, 0, 0, 0])?; // e_lfanew
+    out.extend_from_slice(b"PE\0\0")?;
+    out.extend_from_slice(&[0x64, 0x86])?; // Machine
+    out.extend_from_slice(&[1, 0])?; // NumberOfSections
+    out.extend_from_slice(&[0; 12])?;
+    out.extend_from_slice(&optional.to_le_bytes())?; // SizeOfOptionalHeader
+    out.extend_from_slice(&[0x23, 0])?; // Characteristics
+    out.extend_from_slice(&[0x0B, 0x02])?; // Magic
+    out.extend_from_slice(&[0; 14])?;
+    out.extend_from_slice(&fields.entry.to_le_bytes())?; // AddressOfEntryPoint
+    out.extend_from_slice(&[0; 4])?;
+    out.extend_from_slice(&fields.base.to_le_bytes())?; // ImageBase
+    out.extend_from_slice(&[0; 24])?;
+    out.extend_from_slice(&fields.size.to_le_bytes())?; // SizeOfImage
+    out.extend_from_slice(&[0; 48])?;
+    Ok(out)
+}
+
+/// An image of one section, which is at 0x1000 and holds the code.
+pub fn image(alloc: Global, fields: Fields, code: &[u8]) -> Result<Vec<u8>, AllocError> {
+    let size = u32::try_from(code.len()).unwrap_or(0).to_le_bytes();
+    let mut out = headers(alloc, fields, 112)?;
+    out.extend_from_slice(&[0; 4])?; // NumberOfRvaAndSizes
+    out.extend_from_slice(b".text\0\0\0")?;
+    out.extend_from_slice(&size)?; // VirtualSize
+    out.extend_from_slice(&[0, 0x10, 0, 0])?; // VirtualAddress
+    out.extend_from_slice(&size)?; // SizeOfRawData
+    out.extend_from_slice(&[240, 0, 0, 0])?; // PointerToRawData
+    out.extend_from_slice(&[0; 12])?;
+    out.extend_from_slice(&fields.characteristics.to_le_bytes())?;
+    out.extend_from_slice(code)?;
+    Ok(out)
+}
+
+/// Computes 2 + 3 * 4, puts it and returns 7, in 13 turns. The image of it is `fourteen.exe` of the
+/// examples.
+pub const FOURTEEN: [u8; 49] = [
+    0x48, 0x83, 0xEC, 0x28, // sub rsp, 40
+    0xB8, 3, 0, 0, 0, // mov eax, 3
+    0xB9, 4, 0, 0, 0, // mov ecx, 4
+    0x0F, 0xAF, 0xC1, // imul eax, ecx
+    0xB9, 2, 0, 0, 0, // mov ecx, 2
+    0x01, 0xC8, // add eax, ecx
+    0x48, 0x63, 0xC8, // movsxd rcx, eax
+    0x48, 0xB8, 0x10, 0, 0xF0, 0x7F, 0, 0, 0, 0, // mov rax, the service put
+    0xFF, 0xD0, // call rax
+    0xB8, 7, 0, 0, 0, // mov eax, 7
+    0x48, 0x83, 0xC4, 0x28, // add rsp, 40
+    0xC3, // ret
+];
+
+/// A loop without an end. The image of it is `endless.exe` of the examples.
+pub const ENDLESS: [u8; 12] = [
+    0x48, 0xB8, 0, 0x10, 0, 0x40, 1, 0, 0, 0, // mov rax, the entry point
+    0x50, // push rax
+    0xC3, // ret
+];
