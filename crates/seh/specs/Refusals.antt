@@ -14,6 +14,7 @@ use Rattle.pe_image.specs.declared.refusal.ImageErr.{ImageErr}
 use Rattle.pe_image.specs.declared.refusal.ImageErr.TheVariants as images
 use Rattle.eh_tables.specs.declared.refusal.TableErr.{TableErr}
 use Rattle.eh_tables.specs.declared.refusal.TableErr.TheVariants as tables
+use Rattle.eh_tables.specs.Refusals.{refusal_name}
 use Rattle.host_model.specs.declared.refusal.LoadErr.{LoadErr}
 use Rattle.host_model.specs.declared.refusal.LoadErr.TheVariants as loads
 use Rattle.c_resolved.specs.declared.fault.Fault.{Fault}
@@ -31,10 +32,6 @@ use Rattle.seh.specs.Streams.{Stream}
 -- a name and a number after it
 abbrev pub named : List ℕ → ℕ → List ℕ
 named name n = name ++ decimal n
-
--- and one more
-abbrev pub named_two : List ℕ → ℕ → ℕ → List ℕ
-named_two name n m = name ++ decimal n ++ codes " " ++ decimal m
 
 abbrev pub lex_text : LexErr → List ℕ
 lex_text (lexes.BadByte at) = named (codes "refused BadByte ") at
@@ -90,17 +87,28 @@ image_text (images.Layout section) = named (codes "image Layout ") section
 image_text (images.ImportBad index) = named (codes "image ImportBad ") index
 image_text images.Memory = codes "no memory"
 
+-- two numbers
+abbrev pub number_pair : ℕ → ℕ → List ℕ
+number_pair n m = decimal n ++ codes " " ++ decimal m
+
+-- the numbers after the name of a table's refusal
+abbrev pub table_numbers : TableErr → List ℕ
+table_numbers (tables.Truncated rva) = decimal rva
+table_numbers (tables.Misaligned rva) = decimal rva
+table_numbers (tables.EmptyRange index) = decimal index
+table_numbers (tables.Unsorted index) = decimal index
+table_numbers (tables.Version index found) = number_pair index found
+table_numbers (tables.Flags index) = decimal index
+table_numbers (tables.Op index slot) = number_pair index slot
+table_numbers (tables.CodeOrder index slot) = number_pair index slot
+table_numbers (tables.ChainLong index) = decimal index
+table_numbers (tables.ScopeRange index row) = number_pair index row
+
+abbrev pub table_name : TableErr → List ℕ
+table_name e = codes "table " ++ refusal_name e ++ codes " "
+
 abbrev pub table_text : TableErr → List ℕ
-table_text (tables.Truncated rva) = named (codes "table Truncated ") rva
-table_text (tables.Misaligned rva) = named (codes "table Misaligned ") rva
-table_text (tables.EmptyRange index) = named (codes "table EmptyRange ") index
-table_text (tables.Unsorted index) = named (codes "table Unsorted ") index
-table_text (tables.Version index found) = named_two (codes "table Version ") index found
-table_text (tables.Flags index) = named (codes "table Flags ") index
-table_text (tables.Op index slot) = named_two (codes "table Op ") index slot
-table_text (tables.CodeOrder index slot) = named_two (codes "table CodeOrder ") index slot
-table_text (tables.ChainLong index) = named (codes "table ChainLong ") index
-table_text (tables.ScopeRange index row) = named_two (codes "table ScopeRange ") index row
+table_text e = table_name e ++ table_numbers e
 
 abbrev pub load_text : LoadErr → List ℕ
 load_text (loads.Table e) = table_text e

@@ -1,7 +1,7 @@
 //! Refusals, each with its line and its status.
 
 ghost use Rattle.std.specs.Prelude.{◌≡◌, ◌+◌, ◌≤◌, ◌++◌, length};
-ghost use Rattle.seh.specs.Refusals.{refusal_status, refusal_text, text_status, text_line, lex_text, count_text, parse_text, rule_name, check_text, image_text, table_text, load_text, named, named_two, Reported};
+ghost use Rattle.seh.specs.Refusals.{refusal_status, refusal_text, text_status, text_line, lex_text, count_text, parse_text, rule_name, check_text, image_text, number_pair, table_numbers, table_name, table_text, load_text, named, Reported};
 ghost use Rattle.seh.specs.Streams.{stream};
 
 use crate::status::Status;
@@ -77,13 +77,12 @@ fn named(line: &mut Line, name: &[u8], number: u64)
     line.natural(number);
 }
 
-/// A name and two numbers after it.
-fn named_two(line: &mut Line, name: &[u8], first: u64, second: u64)
-    requires { length line.old + length name.now ≤ 22 }
-    ensures value { line.new ≡ line.old ++ named_two name.now first second }
+/// Adds two numbers.
+fn put_pair(line: &mut Line, first: u64, second: u64)
+    requires { length line.old ≤ 22 }
+    ensures value { line.new ≡ line.old ++ number_pair first second }
     ensures len { length line.new ≤ 63 }
 {
-    line.text(name);
     line.natural(first);
     line.text(b" ");
     line.natural(second);
@@ -204,30 +203,45 @@ fn image_text(error: &ImageErr) -> Line
     line
 }
 
+/// The numbers after the name of a function table's refusal.
+fn put_numbers(line: &mut Line, error: &TableErr)
+    requires { length line.old ≤ 22 }
+    ensures value { line.new ≡ line.old ++ table_numbers error.now }
+    ensures len { length line.new ≤ 63 }
+{
+    match error {
+        TableErr::Truncated { rva } => line.natural(*rva),
+        TableErr::Misaligned { rva } => line.natural(*rva),
+        TableErr::EmptyRange { index } => line.natural(*index),
+        TableErr::Unsorted { index } => line.natural(*index),
+        TableErr::Version { index, found } => put_pair(line, *index, u64::from(*found)),
+        TableErr::Flags { index } => line.natural(*index),
+        TableErr::Op { index, slot } => put_pair(line, *index, *slot),
+        TableErr::CodeOrder { index, slot } => put_pair(line, *index, *slot),
+        TableErr::ChainLong { index } => line.natural(*index),
+        TableErr::ScopeRange { index, row } => put_pair(line, *index, *row),
+    }
+}
+
+/// The name of a function table's refusal, before its numbers.
+fn table_name(error: &TableErr) -> Line
+    ensures value { result ≡ table_name error.now }
+    ensures len { length result ≤ 22 }
+{
+    let mut line = Line::new();
+    line.text(b"table ");
+    line.text(error.name());
+    line.text(b" ");
+    line
+}
+
 /// The text of a function table's refusal.
 fn table_text(error: &TableErr) -> Line
     ensures value { result ≡ table_text error.now }
     ensures len { length result ≤ 63 }
 {
-    let mut line = Line::new();
-    match error {
-        TableErr::Truncated { rva } => named(&mut line, b"table Truncated ", *rva),
-        TableErr::Misaligned { rva } => named(&mut line, b"table Misaligned ", *rva),
-        TableErr::EmptyRange { index } => named(&mut line, b"table EmptyRange ", *index),
-        TableErr::Unsorted { index } => named(&mut line, b"table Unsorted ", *index),
-        TableErr::Version { index, found } => {
-            named_two(&mut line, b"table Version ", *index, u64::from(*found))
-        }
-        TableErr::Flags { index } => named(&mut line, b"table Flags ", *index),
-        TableErr::Op { index, slot } => named_two(&mut line, b"table Op ", *index, *slot),
-        TableErr::CodeOrder { index, slot } => {
-            named_two(&mut line, b"table CodeOrder ", *index, *slot)
-        }
-        TableErr::ChainLong { index } => named(&mut line, b"table ChainLong ", *index),
-        TableErr::ScopeRange { index, row } => {
-            named_two(&mut line, b"table ScopeRange ", *index, *row)
-        }
-    }
+    let mut line = table_name(error);
+    put_numbers(&mut line, error);
     line
 }
 
