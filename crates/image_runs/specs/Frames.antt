@@ -32,7 +32,7 @@ pub record FindsCallers (p : LinearProgram) : Type 0 where
   pub thunks :
       (service : Service) (e s : State)
       → IsIn e s (thunk_of p service)
-          (thunk_at (site_of p).text service) (thunk_at (site_of p).text service + 6)
+      (thunk_at (site_of p).text service) (thunk_at (site_of p).text service + 6)
       → FindsCaller p e s
   pub probes :
       (e s : State)
