@@ -56,3 +56,12 @@ covered (p ∷ ps) at text (g, gs) (after, k, c) = by p.is g refl (covered ps (a
 
 pub every_byte : (text : List ℕ) (ts : List Token) → IsTokens text ts → IsCovered 0 text ts
 every_byte text ts k = let e = k.exact in rw e (covered k.pieces 0 text k.good k.cut)
+
+-- each token is a byte at least
+rises_by : (at : ℕ) (ts : List Token) (end : ℕ) → Rises at ts end → length ts + at ≤ end
+rises_by at [] end h = omega arith
+rises_by at (t ∷ ts) end h = let a = h.0 in let b = h.1 in let c = rises_by t.end ts end h.2 in omega arith
+
+-- A text has no more tokens than bytes.
+pub few_tokens : (text : List ℕ) (ts : List Token) → IsTokens text ts → length ts ≤ length text
+few_tokens text ts h = let a = rises_by 0 ts (length text) (ranges_rise text ts h) in omega arith

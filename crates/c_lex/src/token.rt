@@ -32,10 +32,13 @@ pub enum Kind {
     Punctuator(Punctuator),
 }
 
-/// A token: what it is, and its bytes' places in the text, from `start` to below `end`.
+/// A token (C11, 6.4).
 #[derive(Clone, Copy, Debug, PartialEq, Eq)]
 pub struct Token {
+    /// What it is.
     pub kind: Kind,
+    /// The place in the text of its first byte.
     pub start: u64,
+    /// The place after its last byte.
     pub end: u64,
 }

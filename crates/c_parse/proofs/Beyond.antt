@@ -26,14 +26,6 @@ alike text beyond at (t ∷ ts) h = let c = h.1 in (part text beyond t.start t.e
 pub continues : (text beyond : List ℕ) (ts : List Token) → IsTokens text ts → Alike text (text ++ beyond) ts
 continues text beyond ts h = alike text beyond 0 ts (ranges_rise text ts h)
 
--- each token is a byte at least
-rises_by : (at : ℕ) (ts : List Token) (end : ℕ) → Rises at ts end → length ts + at ≤ end
-rises_by at [] end h = omega arith
-rises_by at (t ∷ ts) end h = let a = h.0 in let b = h.1 in let c = rises_by t.end ts end h.2 in omega arith
-
-pub few_tokens : (text : List ℕ) (ts : List Token) → IsTokens text ts → length ts ≤ length text
-few_tokens text ts h = let a = rises_by 0 ts (length text) (ranges_rise text ts h) in omega arith
-
 -- ---- the two words
 
 abbrev pub words : List ℕ

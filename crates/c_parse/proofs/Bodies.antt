@@ -5,12 +5,11 @@ use Rattle.c_lex.specs.declared.token.Kind.TheVariants as kinds
 use Rattle.c_lex.specs.declared.token.Token.{Token}
 use Rattle.c_syntax.specs.declared.declaration.Parameter.{Parameter}
 use Rattle.c_syntax.specs.Faults.{Wraps}
-use Rattle.c_syntax.specs.Limits.{FunctionWithin}
+use Rattle.c_syntax.specs.Limits.{every_limit, FunctionWithinFirst}
 use Rattle.c_syntax.specs.Programs.{AreParameters}
 use Rattle.c_syntax.specs.Statement.{Statements, Empty}
 use Rattle.c_syntax.specs.Statements.{AreBlockItems}
 use Rattle.c_syntax.specs.Tokens.{token, HasPunctuator}
-use Rattle.c_syntax.specs.Viable.{FunctionWithinFirst}
 use Rattle.c_syntax.proofs.Failing.{append_append, alike_same}
 use Rattle.c_syntax.proofs.MovesPrograms as programs
 use Rattle.c_syntax.proofs.Fronts.{has_same}
@@ -131,5 +130,11 @@ in_body text left ts b c found l is few o =
           };
     }
 
-pub whole : (text : List ℕ) (left after : Left) (ps : List Parameter) (body : Statements) → left.locals ≡ 256 → length ps ≤ 8 → AllTaken text 65 left after body → FunctionWithin ps body
-whole text left after ps body l few t = let a = t.locals in record { parameters = few; locals = omega arith; statements = t.statements; expressions = t.expressions }
+pub whole : (text : List ℕ) (left after : Left) (ps : List Parameter) (body : Statements) → left.locals ≡ 256 → length ps ≤ 8 → AllTaken text 65 left after body → FunctionWithinFirst every_limit ps body
+whole text left after ps body l few t =
+    let a = t.locals in record {
+      statements = λ one. t.statements;
+      expressions = λ one. t.expressions;
+      locals = λ two. omega arith;
+      parameters = λ three. few;
+    }

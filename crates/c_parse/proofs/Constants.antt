@@ -11,6 +11,7 @@ use Rattle.c_syntax.specs.declared.expression.Literal.TheVariants as literals
 use Rattle.c_syntax.specs.Expressions.{literal_kind}
 use Rattle.c_syntax.specs.Faults.{SameFirst, place, Failed, Wraps}
 use Rattle.c_syntax.specs.Follow.{Stops}
+use Rattle.c_syntax.specs.Operators.{assignment}
 use Rattle.c_syntax.specs.Program.{Initialiser, Single, Several}
 use Rattle.c_syntax.specs.Programs.{IsLiteral, IsConstant, AreMoreConstants, AreConstants, IsInitialiser}
 use Rattle.c_syntax.specs.Tokens.{token, IsKind, IsPunctuator, HasPunctuator}
@@ -64,16 +65,6 @@ neither text ts m none =
     missing NoConstant HasConstant text ts [] ts refl
     (λ text' other s c end h. not_alone c.negative c.at c.literal other end (firsts.no_kind (kinds.Punctuator punctuators.Minus) ts other s m) (firsts.no_literal ts other s none) h)
     (λ text'. record { more = digit 1 ∷ []; has = record { tree = record { at = 0; negative = false; literal = one }; is = λ other. (0, refl) } })
-
-literal_shorter : (negative : Bool) (at : ℕ) (literal : Literal) (ts end : List Token) → IsLiteral negative at literal ts end → length end < length ts
-literal_shorter false at literal ts end h = let a = ap length h.1 in omega arith
-literal_shorter true at literal ts end h =
-    let a = ap length h.minus.1 in
-    let b = ap length h.literal.1 in
-    omega arith
-
-pub constant_shorter : (c : Constant) (ts end : List Token) → IsConstant c ts end → length end < length ts
-constant_shorter c ts end h = literal_shorter c.negative c.at c.literal ts end h
 
 -- ---- a list of them
 
@@ -273,11 +264,11 @@ in_given text ts a o =
       };
     }
 
-further : (i : Initialiser) (ts a rest : List Token) → HasPunctuator punctuators.Assign ts a → IsGiven i a rest → (Stops 15 rest → ⊥) → NoInitialiser 0 [] ts
+further : (i : Initialiser) (ts a rest : List Token) → HasPunctuator punctuators.Assign ts a → IsGiven i a rest → (Stops assignment rest → ⊥) → NoInitialiser 0 [] ts
 further i ts a rest s g n None end h z = assign_not ts ts end a refl h z s
 further i ts a rest s g n (Some j) end h z =
     let b = after_assign j ts end h in
-    n (subst (λ (x : List Token). Stops 15 x) (sym (given_once i j a b.0 rest end (has_same punctuators.Assign ts ts a b.0 refl s b.1) g b.2)) z)
+    n (subst (λ (x : List Token). Stops assignment x) (sym (given_once i j a b.0 rest end (has_same punctuators.Assign ts ts a b.0 refl s b.1) g b.2)) z)
 
 record Given (i : Initialiser) (ts rest : List Token) : Type 0 where
   front : List Token
@@ -291,20 +282,20 @@ given_moves text (Several at cs) ts rest h =
     let t = token (kinds.Punctuator punctuators.OpenBrace) at h.1.0 in
     record { front = t ∷ m.front; split = h.1.1 ∙ ap (λ (z : List Token). t ∷ z) m.split; again = λ other. (m.front ++ other, (h.1.0, refl), m.again text other (alike_same text h.0)) }
 
-pub goes_further : (text : List ℕ) (i : Initialiser) (ts a rest : List Token) → HasPunctuator punctuators.Assign ts a → IsGiven i a rest → (Stops 15 rest → ⊥) → Failed 0 (place text rest) NoInitialiser HasInitialiser text ts
+pub goes_further : (text : List ℕ) (i : Initialiser) (ts a rest : List Token) → HasPunctuator punctuators.Assign ts a → IsGiven i a rest → (Stops assignment rest → ⊥) → Failed 0 (place text rest) NoInitialiser HasInitialiser text ts
 goes_further text i ts a rest o g n =
     let t = token (kinds.Punctuator punctuators.Assign) o.0 o.1.0 in
     let m = given_moves text i a rest g in
     missing NoInitialiser HasInitialiser text ts (t ∷ m.front) rest (o.1.1 ∙ ap (λ (z : List Token). t ∷ z) m.split)
-    (λ text' other s. further i (t ∷ (m.front ++ other)) (m.front ++ other) other (o.0, (o.1.0, refl)) (m.again other) (refusing_goes_on 15 rest other s n))
+    (λ text' other s. further i (t ∷ (m.front ++ other)) (m.front ++ other) other (o.0, (o.1.0, refl)) (m.again other) (refusing_goes_on assignment rest other s n))
     (λ text'. record { more = []; has = record { tree = Some i; is = λ other. following (λ z. IsInitialiser (Some i) z other) (t ∷ m.front) [] other (assigned i (t ∷ (m.front ++ other)) (m.front ++ other) other (o.0, (o.1.0, refl)) (m.again other)) } })
 
-unassigned : (ts : List Token) → Lacks punctuators.Assign ts → (Stops 15 ts → ⊥) → NoInitialiser 0 [] ts
-unassigned ts l n None end h z = n (subst (λ (x : List Token). Stops 15 x) (sym h) z)
+unassigned : (ts : List Token) → Lacks punctuators.Assign ts → (Stops assignment ts → ⊥) → NoInitialiser 0 [] ts
+unassigned ts l n None end h z = n (subst (λ (x : List Token). Stops assignment x) (sym h) z)
 unassigned ts l n (Some i) end h z = let b = after_assign i ts end h in l b.0 b.1
 
-pub not_assigned : (text : List ℕ) (ts : List Token) → Lacks punctuators.Assign ts → (Stops 15 ts → ⊥) → Failed 0 (place text ts) NoInitialiser HasInitialiser text ts
+pub not_assigned : (text : List ℕ) (ts : List Token) → Lacks punctuators.Assign ts → (Stops assignment ts → ⊥) → Failed 0 (place text ts) NoInitialiser HasInitialiser text ts
 not_assigned text ts l n =
     missing NoInitialiser HasInitialiser text ts [] ts refl
-    (λ text' other s. unassigned other (firsts.no_punctuator punctuators.Assign ts other s l) (refusing_goes_on 15 ts other s n))
+    (λ text' other s. unassigned other (firsts.no_punctuator punctuators.Assign ts other s l) (refusing_goes_on assignment ts other s n))
     (λ text'. record { more = []; has = record { tree = None; is = λ other. refl } })

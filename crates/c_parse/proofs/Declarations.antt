@@ -9,6 +9,7 @@ use Rattle.c_syntax.specs.declared.expression.Base.{Base}
 use Rattle.c_syntax.specs.Faults.{SameFirst, Wraps}
 use Rattle.c_syntax.specs.Follow.{Stops}
 use Rattle.c_syntax.specs.Limits.{end_of_globals}
+use Rattle.c_syntax.specs.Operators.{assignment}
 use Rattle.c_syntax.specs.Program.{Global, global}
 use Rattle.c_syntax.specs.Programs.{IsGlobal, AreMoreGlobals, AreGlobals}
 use Rattle.c_syntax.specs.Tokens.{token, HasPunctuator}
@@ -27,13 +28,13 @@ use Rattle.c_parse.proofs.Placing.{grows}
 abbrev pub Read : Base → ℕ → List Token → List Global' → List Token → ℕ → Type 0
 Read base at ts found rest now = Begun AreGlobals AreMoreGlobals ts (map global found) rest × ((gs : List Global) → end_of_globals base (map global found ++ gs) at ≡ end_of_globals base gs now)
 
-first_back : (ts rest : List Token) (x : Global) → IsGlobal x ts rest → Stops 15 rest → Back AreGlobals AreMoreGlobals ts (x ∷ []) rest
+first_back : (ts rest : List Token) (x : Global) → IsGlobal x ts rest → Stops assignment rest → Back AreGlobals AreMoreGlobals ts (x ∷ []) rest
 first_back ts rest x is s [] end h = absurd h
 first_back ts rest x is s (g ∷ gs) end h =
     let u = global_once x g ts ts rest h.0 refl s (globals_stop gs h.0 end h.2) is h.1 in
     (gs, ap (λ (z : Global). z ∷ gs) (sym u.0), subst (λ (z : List Token). AreMoreGlobals gs z end) (sym u.1) h.2)
 
-pub begins : (text : List ℕ) (base : Base) (at now : ℕ) (ts rest : List Token) (x : Global') → IsGlobal (global x) ts rest → Stops 15 rest → now ≡ end_of base (global x).pointers (global x).length at → Read base at ts (x ∷ []) rest now
+pub begins : (text : List ℕ) (base : Base) (at now : ℕ) (ts rest : List Token) (x : Global') → IsGlobal (global x) ts rest → Stops assignment rest → now ≡ end_of base (global x).pointers (global x).length at → Read base at ts (x ∷ []) rest now
 begins text base at now ts rest x is s e =
     let m = programs.global (global x) text ts rest is in
     let again : (other : List Token) → IsGlobal (global x) (m.front ++ other) other = λ other. m.again text other (alike_same text ts) in (
@@ -41,12 +42,12 @@ begins text base at now ts rest x is s e =
         front = m.front;
         split = m.split;
         forward = λ other gs end h. (other, again other, h);
-        back = λ other f. first_back (m.front ++ other) other (global x) (again other) (firsts.stops 15 rest other f s);
+        back = λ other f. first_back (m.front ++ other) other (global x) (again other) (firsts.stops assignment rest other f s);
       },
       λ gs. ap (λ (n : ℕ). end_of_globals base gs n) (sym e),
     )
 
-next_back : (rest b after : List Token) (x : Global) → HasPunctuator punctuators.Comma rest b → IsGlobal x b after → Stops 15 after → (xs : List Global) (end : List Token) → AreMoreGlobals xs rest end → (ys : List Global) × (xs ≡ x ∷ ys) × AreMoreGlobals ys after end
+next_back : (rest b after : List Token) (x : Global) → HasPunctuator punctuators.Comma rest b → IsGlobal x b after → Stops assignment after → (xs : List Global) (end : List Token) → AreMoreGlobals xs rest end → (ys : List Global) × (xs ≡ x ∷ ys) × AreMoreGlobals ys after end
 next_back rest b after x k is s [] end m = let e : punctuators.Comma ≡ punctuators.Semicolon = other_punctuator punctuators.Comma punctuators.Semicolon rest rest b end refl k m in absurd cc
 next_back rest b after x k is s (g ∷ gs) end m =
     let p = has_same punctuators.Comma rest rest b m.after_comma refl k m.comma in
@@ -61,7 +62,7 @@ mapped : (found : List Global') (x : Global') → map global (found ++ x ∷ [])
 mapped [] x = refl
 mapped (y ∷ found) x = ap (λ (z : List Global). global y ∷ z) (mapped found x)
 
-pub next : (text : List ℕ) (base : Base) (at now further : ℕ) (ts rest b after : List Token) (found : List Global') (x : Global') → HasPunctuator punctuators.Comma rest b → IsGlobal (global x) b after → Stops 15 after → further ≡ end_of base (global x).pointers (global x).length now → Read base at ts found rest now → Read base at ts (found ++ x ∷ []) after further
+pub next : (text : List ℕ) (base : Base) (at now further : ℕ) (ts rest b after : List Token) (found : List Global') (x : Global') → HasPunctuator punctuators.Comma rest b → IsGlobal (global x) b after → Stops assignment after → further ≡ end_of base (global x).pointers (global x).length now → Read base at ts found rest now → Read base at ts (found ++ x ∷ []) after further
 next text base at now further ts rest b after found x k is s e d =
     let m = programs.global (global x) text b after is in
     let again : (other : List Token) → IsGlobal (global x) (m.front ++ other) other = λ other. m.again text other (alike_same text b) in
@@ -74,7 +75,7 @@ next text base at now further ts rest b after found x k is s e d =
       element = again other;
       others = h;
     })
-    (λ other f. next_back (t ∷ (m.front ++ other)) (m.front ++ other) other (global x) (k.0, (k.1.0, refl)) (again other) (firsts.stops 15 after other f s))
+    (λ other f. next_back (t ∷ (m.front ++ other)) (m.front ++ other) other (global x) (k.0, (k.1.0, refl)) (again other) (firsts.stops assignment after other f s))
     d.0 in (
       subst (λ (z : List Global). Begun AreGlobals AreMoreGlobals ts z after) (sym (mapped found x)) r,
       λ gs. ap (λ (z : List Global). end_of_globals base (z ++ gs) at) (mapped found x) ∙ ap (λ (z : List Global). end_of_globals base z at) (snoc (map global found) (global x) gs) ∙ d.1 (global x ∷ gs) ∙ ap (λ (n : ℕ). end_of_globals base gs n) (sym e),

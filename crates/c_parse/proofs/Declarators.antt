@@ -11,6 +11,7 @@ use Rattle.c_syntax.specs.declared.expression.Identifier.{Identifier}
 use Rattle.c_syntax.specs.Expressions.{IsInteger}
 use Rattle.c_syntax.specs.Faults.{SameFirst, place, Onward, Failed, Wraps}
 use Rattle.c_syntax.specs.Follow.{follows, Stops}
+use Rattle.c_syntax.specs.Operators.{postfix}
 use Rattle.c_syntax.specs.Program.{Initialiser, Single, Several, Global}
 use Rattle.c_syntax.specs.Programs.{IsInitialiser, IsLength, AreMoreGlobals, AreGlobals}
 use Rattle.c_syntax.specs.Tokens.{token, IsIdentifier, HasPunctuator}
@@ -24,7 +25,6 @@ use Rattle.c_syntax.proofs.Spine.{follows_punctuator}
 use Rattle.c_syntax.proofs.Once.{integer_same}
 use Rattle.c_syntax.proofs.Blocks.{name_star}
 use Rattle.c_syntax.proofs.Files.{initialiser_stops, length_once, globals_stop}
-use Rattle.c_syntax.proofs.Shorter.{stars}
 use Rattle.c_parse_type.specs.Bases.{NoStar}
 use Rattle.c_syntax.specs.declared.limit.Count.TheVariants.{Globals}
 use Rattle.c_parse_expr.specs.declared.refusal.ParseErr.{ParseErr}
@@ -94,14 +94,14 @@ in_close text base pointers at value p ts b is w =
       };
     }
 
-pub goes_further : (text : List ℕ) (base : Base) (pointers at value p : ℕ) (ts b rest : List Token) → IsInteger value p ts b → HasPunctuator punctuators.CloseBracket b rest → end_of base pointers (Some (length_of p value)) at ≤ 1048576 → (Stops 1 rest → ⊥) → Failed 0 (place text rest) (NoneBracketed base pointers at) (HasBracketed base pointers at) text ts
+pub goes_further : (text : List ℕ) (base : Base) (pointers at value p : ℕ) (ts b rest : List Token) → IsInteger value p ts b → HasPunctuator punctuators.CloseBracket b rest → end_of base pointers (Some (length_of p value)) at ≤ 1048576 → (Stops postfix rest → ⊥) → Failed 0 (place text rest) (NoneBracketed base pointers at) (HasBracketed base pointers at) text ts
 goes_further text base pointers at value p ts b rest is c w z =
     let t = token (kinds.Integer value is.0) p is.1.0 in
     let u = token (kinds.Punctuator punctuators.CloseBracket) c.0 c.1.0 in
     missing (NoneBracketed base pointers at) (HasBracketed base pointers at) text ts (t ∷ u ∷ []) rest (is.1.1 ∙ ap (λ (x : List Token). t ∷ x) c.1.1)
     (λ text' other s l end h st low.
     let q = integer_same value l.value p l.at (t ∷ u ∷ other) (t ∷ u ∷ other) (u ∷ other) h.0 refl (is.0, (is.1.0, refl)) h.1 in
-    refusing_goes_on 1 rest other s z (subst (λ (x : List Token). Stops 1 x) (sym (has_same punctuators.CloseBracket (u ∷ other) h.0 other end q.2 (c.0, (c.1.0, refl)) h.2)) st))
+    refusing_goes_on postfix rest other s z (subst (λ (x : List Token). Stops postfix x) (sym (has_same punctuators.CloseBracket (u ∷ other) h.0 other end q.2 (c.0, (c.1.0, refl)) h.2)) st))
     (λ text'. record { more = []; has = record { tree = length_of p value; is = λ other. (u ∷ other, (is.0, (is.1.0, refl)), (c.0, (c.1.0, refl))); low = λ five. w } })
 
 -- ---- lengths
@@ -115,11 +115,11 @@ bracketed n ts a rest o h = record {
   closing = h.2;
 }
 
-bracket_not : (ts end b : List Token) → ts ≡ end → Stops 1 end → HasPunctuator punctuators.OpenBracket ts b → ⊥
-bracket_not ts end b p s o = let a = follows_punctuator punctuators.OpenBracket o.0 ts b 1 o.1 refl in let c = ap follows p in absurd (omega arith)
+bracket_not : (ts end b : List Token) → ts ≡ end → Stops postfix end → HasPunctuator punctuators.OpenBracket ts b → ⊥
+bracket_not ts end b p s o = let a = follows_punctuator punctuators.OpenBracket o.0 ts b postfix o.1 refl in let c = ap follows p in absurd (omega arith)
 
 -- nothing continues with a length
-stops : (i : Option Initialiser) (gs : List Global) (a b end : List Token) → IsInitialiser i a b → AreMoreGlobals gs b end → Stops 1 a
+stops : (i : Option Initialiser) (gs : List Global) (a b end : List Token) → IsInitialiser i a b → AreMoreGlobals gs b end → Stops postfix a
 stops i gs a b end h m = initialiser_stops i a b (globals_stop gs b end m) h
 
 none_bracketed : (base : Base) (pointers at n : ℕ) (text : List ℕ) (ts a : List Token) → HasPunctuator punctuators.OpenBracket ts a → NoneBracketed base pointers at n text a → NoLength base pointers at n text ts
@@ -194,17 +194,17 @@ array_has base pointers at n text w = record {
   low = λ five. no_elements base pointers at w;
 }
 
-no_scalar : (base : Base) (pointers at n : ℕ) (text : List ℕ) (ts : List Token) → Lacks punctuators.OpenBracket ts → (Stops 1 ts → ⊥) → NoLength base pointers at n text ts
+no_scalar : (base : Base) (pointers at n : ℕ) (text : List ℕ) (ts : List Token) → Lacks punctuators.OpenBracket ts → (Stops postfix ts → ⊥) → NoLength base pointers at n text ts
 no_scalar base pointers at n text ts l z None i gs end h low =
-    z (subst (λ (x : List Token). Stops 1 x) (sym h.length)
+    z (subst (λ (x : List Token). Stops postfix x) (sym h.length)
     (stops i gs h.after_length h.after_initialiser end h.initialiser h.others))
 no_scalar base pointers at n text ts l z (Some m) i gs end h low =
     l h.length.after_opening h.length.opening
 
-pub not_scalar : (text : List ℕ) (base : Base) (pointers at : ℕ) (ts : List Token) → at ≤ 1048576 → Lacks punctuators.OpenBracket ts → (Stops 1 ts → ⊥) → Failed 0 (place text ts) (NoLength base pointers at) (HasLength base pointers at) text ts
+pub not_scalar : (text : List ℕ) (base : Base) (pointers at : ℕ) (ts : List Token) → at ≤ 1048576 → Lacks punctuators.OpenBracket ts → (Stops postfix ts → ⊥) → Failed 0 (place text ts) (NoLength base pointers at) (HasLength base pointers at) text ts
 not_scalar text base pointers at ts w l z =
     missing (NoLength base pointers at) (HasLength base pointers at) text ts [] ts refl
-    (λ text' other s. no_scalar base pointers at 0 text' other (firsts.no_punctuator punctuators.OpenBracket ts other s l) (refusing_goes_on 1 ts other s z))
+    (λ text' other s. no_scalar base pointers at 0 text' other (firsts.no_punctuator punctuators.OpenBracket ts other s l) (refusing_goes_on postfix ts other s z))
     (λ text'. record { more = array; has = array_has base pointers at 6 text' w })
 
 scalar_far : (base : Base) (pointers at n : ℕ) (text : List ℕ) (ts : List Token) → 5 ≤ n → Lacks punctuators.OpenBracket ts → 1048576 < end_of base pointers None at → NoLength base pointers at n text ts
@@ -434,7 +434,7 @@ in_length text base at n called ts d b s e =
           };
     }
 
-no_initialiser : (base : Base) (at k n : ℕ) (text : List ℕ) (called : Identifier) (l : Option Length) (ts d b c : List Token) → AreStars n ts d → NoStar d → IsIdentifier called d b → IsLength l b c → Stops 1 c → NoInitialiser k text c → NoGlobal base at k text ts
+no_initialiser : (base : Base) (at k n : ℕ) (text : List ℕ) (called : Identifier) (l : Option Length) (ts d b c : List Token) → AreStars n ts d → NoStar d → IsIdentifier called d b → IsLength l b c → Stops postfix c → NoInitialiser k text c → NoGlobal base at k text ts
 no_initialiser base at k n text called l ts d b c s z m e t none g gs end h low =
     let st = globals_stop gs h.0 end h.2 in
     let p = stars_once n g.pointers ts ts d h.1.after_stars refl z
@@ -445,7 +445,7 @@ no_initialiser base at k n text called l ts d b c s z m e t none g gs end h low 
     none g.initialiser h.0 (subst (λ (x : List Token). IsInitialiser g.initialiser x h.0)
     (sym r.1) h.1.initialiser) st
 
-pub in_initialiser : (text : List ℕ) (base : Base) (at n : ℕ) (called : Identifier) (l : Option Length) (ts d b c : List Token) → AreStars n ts d → IsIdentifier called d b → IsLength l b c → Stops 1 c → end_of base n l at ≤ 1048576 → Wraps NoInitialiser HasInitialiser (NoGlobal base at) (HasGlobals base at) text c ts
+pub in_initialiser : (text : List ℕ) (base : Base) (at n : ℕ) (called : Identifier) (l : Option Length) (ts d b c : List Token) → AreStars n ts d → IsIdentifier called d b → IsLength l b c → Stops postfix c → end_of base n l at ≤ 1048576 → Wraps NoInitialiser HasInitialiser (NoGlobal base at) (HasGlobals base at) text c ts
 in_initialiser text base at n called l ts d b c s e i stop w =
     let m = moves.stars n text ts d s in
     let again : (other : List Token) → AreStars n (m.front ++ other) other = λ other. m.again text other (alike_same text ts) in

@@ -10,7 +10,7 @@ use Rattle.c_syntax.specs.declared.expression.Base.TheVariants as bases
 use Rattle.c_syntax.specs.declared.expression.CType.{CType}
 use Rattle.c_syntax.specs.declared.expression.Identifier.{Identifier}
 use Rattle.c_syntax.specs.Faults.{SameFirst, place, Failed, Wraps}
-use Rattle.c_syntax.specs.Limits.{end_of_globals, funclets_of_all, FunctionWithin}
+use Rattle.c_syntax.specs.Limits.{end_of_globals, funclets_of_all, every_limit, FunctionWithinFirst}
 use Rattle.c_syntax.specs.Program.{Global, ExternalDeclaration, Globals, Function}
 use Rattle.c_syntax.specs.Programs.{AreMoreGlobals, AreGlobals, AreMoreParameters, AreParameters, IsExternalDeclaration}
 use Rattle.c_syntax.specs.Statement.{Statements, Empty}
@@ -22,7 +22,6 @@ use Rattle.c_syntax.proofs.Moves as moves
 use Rattle.c_syntax.proofs.Fronts.{has_same, name_same, base_once, base_front, stars_once, stars_front, NoType}
 use Rattle.c_syntax.proofs.Blocks.{name_star, name_type}
 use Rattle.c_syntax.proofs.Files.{globals_type, apart}
-use Rattle.c_syntax.proofs.Shorter.{base, stars, items}
 use Rattle.c_parse_type.specs.Bases.{NoBase, NoStar, EndsBase}
 use Rattle.c_parse.specs.declared.counts.Counts.{Counts}
 use Rattle.c_parse.specs.Counts.{Taken, NoExternalDeclaration, HasExternalDeclaration}
@@ -30,7 +29,6 @@ use Rattle.c_parse.specs.Parts.{NoGlobals, HasGlobals, IsTail, NoTail, HasTail, 
 use Rattle.c_parse.proofs.Refusing.{missing, punctuator, named, name, has_it, following, Lacks, NoIdentifier}
 use Rattle.c_parse.proofs.Placing.{no_elements}
 use Rattle.c_parse.proofs.Declarators.{array, is_array}
-use Rattle.c_parse.proofs.Shorter.{global_shorter}
 use Rattle.c_parse.proofs.Parameters.{word}
 use Rattle.c_parse.proofs.Bodies.{empty}
 
@@ -315,7 +313,7 @@ in_tail text counts base n called ts d rest inner w h o z =
           };
     }
 
-pub function_taken : (text : List ℕ) (counts after : Counts) (type : CType) (called : Identifier) (ps : List Parameter) (body : Statements) → after.functions + 1 ≡ counts.functions → after.bytes ≡ counts.bytes → counts.bytes ≤ 1048576 → FunctionWithin ps body → after.funclets + length (funclets_of_all text body) ≡ counts.funclets → Taken text counts after (Function type called ps body)
+pub function_taken : (text : List ℕ) (counts after : Counts) (type : CType) (called : Identifier) (ps : List Parameter) (body : Statements) → after.functions + 1 ≡ counts.functions → after.bytes ≡ counts.bytes → counts.bytes ≤ 1048576 → FunctionWithinFirst every_limit ps body → after.funclets + length (funclets_of_all text body) ≡ counts.funclets → Taken text counts after (Function type called ps body)
 function_taken text counts after type called ps body f b low w n =
     let a = length-append (funclets_of_all text body) [] in
     record { each = (w, tt); functions = f; bytes = b; low = omega arith; funclets = omega arith }
@@ -411,45 +409,3 @@ as_globals text counts base n called ts d rest w h l kind at f =
 
 pub globals_taken : (text : List ℕ) (counts after : Counts) (base : Base) (gs : List Global) → after.functions ≡ counts.functions → after.bytes ≡ end_of_globals base gs counts.bytes → after.bytes ≤ 1048576 → after.funclets ≡ counts.funclets → Taken text counts after (Globals base gs)
 globals_taken text counts after base gs f b low n = record { each = tt; functions = omega arith; bytes = b; low = low; funclets = omega arith }
-
--- ---- what is read takes tokens
-
-more_globals : (gs : List Global) (ts end : List Token) → AreMoreGlobals gs ts end → length end < length ts
-more_globals [] ts end h = let a = ap length h.1.1 in omega arith
-more_globals (g ∷ gs) ts end h =
-    let a = ap length h.comma.1.1 in
-    let b = global_shorter g h.after_comma h.after_element h.element in
-    let c = more_globals gs h.after_element end h.others in
-    omega arith
-
-globals : (gs : List Global) (ts end : List Token) → AreGlobals gs ts end → length end < length ts
-globals [] ts end h = absurd h
-globals (g ∷ gs) ts end h = let b = global_shorter g ts h.0 h.1 in let c = more_globals gs h.0 end h.2 in omega arith
-
-more_parameters : (ps : List Parameter) (ts end : List Token) → AreMoreParameters ps ts end → length end ≤ length ts
-more_parameters [] ts end h = let a = ap length h.1.1 in omega arith
-more_parameters (p ∷ ps) ts end h =
-    let a = ap length h.comma.1.1 in
-    let b = base p.«of».base h.after_comma h.element.1.0 h.element.1.1 in
-    let c = stars p.«of».pointers h.element.1.0 h.element.0 h.element.1.2 in
-    let d = ap length h.element.2 in
-    let e = more_parameters ps h.after_element end h.others in
-    omega arith
-
-parameters : (ps : List Parameter) (ts end : List Token) → AreParameters ps ts end → length end ≤ length ts
-parameters [] ts end (inl h) = let a = ap length h.1.1 in omega arith
-parameters [] ts end (inr h) = let a = ap length h.1.1.1 in let b = ap length h.2.1.1 in omega arith
-parameters (p ∷ ps) ts end h =
-    let b = base p.«of».base ts h.1.1.0 h.1.1.1 in let c = stars p.«of».pointers h.1.1.0 h.1.0 h.1.1.2 in let d = ap length h.1.2 in let e = more_parameters ps h.0 end h.2 in omega arith
-
-pub shorter : (text : List ℕ) (x : ExternalDeclaration) (ts end : List Token) → IsExternalDeclaration text x ts end → length end < length ts
-shorter text (Globals b gs) ts end h = let a = base b ts h.0 h.1 in let c = globals gs h.0 end h.2 in omega arith
-shorter text (Function t name ps body) ts end h =
-    let a = base t.base ts h.returns.0 h.returns.1 in
-    let b = stars t.pointers h.returns.0 h.after_type h.returns.2 in
-    let c = ap length h.name in
-    let d = ap length h.parenthesis.1.1 in
-    let e = parameters ps h.after_parenthesis h.after_parameters h.parameters in
-    let f = ap length h.body.brace.1.1 in
-    let g = items text body h.body.after_brace end h.body.items in
-    omega arith

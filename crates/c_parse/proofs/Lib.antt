@@ -3,12 +3,10 @@ pub mod Lists
 pub mod Constants
 pub mod Placing
 pub mod Declarators
-pub mod Shorter
 pub mod Declarations
 pub mod Parameters
 pub mod Bodies
 pub mod ExternalDeclarations
-pub mod Nodes
 pub mod Beyond
 pub mod ProgramOrFault
 pub mod Programs

@@ -3,18 +3,18 @@ use Rattle.std.proofs.Common.{◌≡◌, ℕ, zero, suc, List, [], ◌∷◌, �
 use Rattle.std.proofs.lemmas.List.{append-nil}
 use Rattle.c_lex.specs.declared.token.Token.{Token}
 use Rattle.c_syntax.specs.Faults.{place}
+use Rattle.c_syntax.specs.Limits.{every_limit, Within}
 use Rattle.c_syntax.specs.Programs.{IsProgram}
-use Rattle.c_syntax.specs.Viable.{Viable, Continues, WithinFirst}
+use Rattle.c_syntax.specs.Viable.{Viable, Continues}
 use Rattle.c_syntax.proofs.Failing.{append_append}
-use Rattle.c_syntax.proofs.FirstFault.{within_whole}
 use Rattle.c_parse.specs.Laws.{IsNoProgram, HasNoFault, ProgramOrFault}
 
-nothing_within : (text : List ℕ) → WithinFirst 6 text []
+nothing_within : (text : List ℕ) → Within text []
 nothing_within text = record { each = tt; functions = λ four. omega arith; bytes = λ five. omega arith; numbered = λ six. omega arith }
 
 module _ (text : List ℕ) (ts : List Token) (faultless : HasNoFault text ts) where
   -- tokens before a place continue there within the first n limits: if they didn't, then they wouldn't within fewer, and there would be a fault
-  goes_on : (front fault : List Token) → ts ≡ front ++ fault → Viable 6 text front → (n : ℕ) → (Continues n text front fault → ⊥) → ⊥
+  goes_on : (front fault : List Token) → ts ≡ front ++ fault → Viable every_limit text front → (n : ℕ) → (Continues n text front fault → ⊥) → ⊥
   goes_on front fault split viable zero stops =
       faultless 0 (place text fault) (record { front = front; fault = fault; split = split; located = refl; viable = viable; stops = stops; fewer = λ k e. absurd (omega arith) })
   goes_on front fault split viable (suc n) stops =
@@ -29,11 +29,11 @@ module _ (text : List ℕ) (ts : List Token) (faultless : HasNoFault text ts) wh
       }))
 
   -- token by token, up to the end
-  whole : (front fault : List Token) → ts ≡ front ++ fault → Viable 6 text front → IsNoProgram text ts → ⊥
+  whole : (front fault : List Token) → ts ≡ front ++ fault → Viable every_limit text front → IsNoProgram text ts → ⊥
   whole front [] split viable none =
-      goes_on front [] split viable 6 (λ here. none here.0 (subst (λ (z : List Token). IsProgram text here.0 z) (sym (split ∙ append-nil front)) here.1) (within_whole text here.0 here.2))
+      goes_on front [] split viable every_limit (λ here. none here.0 (subst (λ (z : List Token). IsProgram text here.0 z) (sym (split ∙ append-nil front)) here.1) here.2)
   whole front (t ∷ rest) split viable none =
-      goes_on front (t ∷ rest) split viable 6 (λ here. whole (front ++ t ∷ []) rest (split ∙ sym (append_append front (t ∷ []) rest)) here none)
+      goes_on front (t ∷ rest) split viable every_limit (λ here. whole (front ++ t ∷ []) rest (split ∙ sym (append_append front (t ∷ []) rest)) here none)
 
 pub program_or_fault : ProgramOrFault
 program_or_fault text ts none faultless = whole text ts faultless [] ts refl ([], [], [], refl, nothing_within (text ++ [])) none

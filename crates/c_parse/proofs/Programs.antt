@@ -7,14 +7,14 @@ use Rattle.c_lex.specs.Text.{IsTokens}
 use Rattle.c_syntax.specs.declared.declaration.ExternalDeclaration.{ExternalDeclaration as ExternalDeclaration'}
 use Rattle.c_syntax.specs.declared.declaration.Parameter.{Parameter}
 use Rattle.c_syntax.specs.Faults.{Alike, SameFirst, Failed}
-use Rattle.c_syntax.specs.Limits.{Number, order, FunctionWithin, Within, end_of_globals, funclets_of_all, funclets_in, bytes_from}
+use Rattle.c_syntax.specs.Limits.{Number, order, every_limit, WithinFirst, Within, end_of_globals, funclets_of_all, funclets_in, bytes_from}
 use Rattle.c_syntax.specs.Program.{ExternalDeclaration, Globals, Function, external_declaration}
 use Rattle.c_syntax.specs.Programs.{IsExternalDeclaration, IsProgram}
 use Rattle.c_syntax.specs.Statement.{Statements}
-use Rattle.c_syntax.specs.Viable.{FunctionWithinFirst, WithinFirst, Continues, IsSyntaxFault}
+use Rattle.c_syntax.specs.Viable.{Continues, IsSyntaxFault}
 use Rattle.c_syntax.proofs.Failing.{append_append, alike_same, alike_inner}
 use Rattle.c_syntax.proofs.Fronts.{front}
-use Rattle.c_syntax.proofs.FirstFault.{within_whole, no_fault_in_program}
+use Rattle.c_syntax.proofs.FirstFault.{function_fewer, no_fault_in_program}
 use Rattle.c_syntax.proofs.Files.{external_declaration_once, external_declaration_front}
 use Rattle.c_syntax.proofs.MovesPrograms as moves
 use Rattle.c_parse_expr.specs.declared.refusal.ParseErr.{ParseErr}
@@ -61,9 +61,6 @@ begins text ts counts f b n = record {
 
 -- ---- one declaration more
 
-function_first : (n : ℕ) (ps : List Parameter) (body : Statements) → FunctionWithin ps body → FunctionWithinFirst n ps body
-function_first n ps body w = record { statements = λ k. w.statements; expressions = λ k. w.expressions; locals = λ k. w.locals; parameters = λ k. w.parameters }
-
 more : (n : ℕ) (text : List ℕ) (counts less : Counts) (x : ExternalDeclaration) (xs : List ExternalDeclaration) → Taken text counts less x → Fits n text less xs → Fits n text counts (x ∷ xs)
 more n text counts less (Globals b gs) xs t w =
     let p = t.functions in let v = t.funclets in record {
@@ -76,7 +73,7 @@ more n text counts less (Function r name ps body) xs t w =
     let p = t.functions in let v = t.funclets in
     let a = length-append (funclets_of_all text body) (funclets_in text xs) in
     let c = length-append (funclets_of_all text body) [] in record {
-      each = (function_first n ps body t.each.0, w.each);
+      each = (function_fewer every_limit n ps body (λ k a b. a) t.each.0, w.each);
       functions = λ four. let o = w.functions four in omega arith;
       bytes = λ five. subst (λ (k : ℕ). bytes_from xs k ≤ 1048576) t.bytes (w.bytes five);
       funclets = λ six. let u = w.funclets six in omega arith;
@@ -143,8 +140,8 @@ ends text ts rest found counts d e =
 
 pub within : (text : List ℕ) (ts rest : List Token) (found : List ExternalDeclaration') (counts : Counts) → Read text ts found rest counts → Within text (map external_declaration found)
 within text ts rest found counts d =
-    within_whole text (map external_declaration found) (subst (λ (z : List ExternalDeclaration). WithinFirst 6 text z) (append-nil (map external_declaration found))
-    (d.within 6 text (alike_same text ts) [] (record { each = tt; functions = λ four. omega arith; bytes = λ five. d.low; funclets = λ six. omega arith })))
+    subst (λ (z : List ExternalDeclaration). Within text z) (append-nil (map external_declaration found))
+    (d.within every_limit text (alike_same text ts) [] (record { each = tt; functions = λ four. omega arith; bytes = λ five. d.low; funclets = λ six. omega arith }))
 
 -- ---- refusals
 
@@ -216,7 +213,7 @@ fault n at text ts rest found counts d k e f =
       located = f.located;
       viable =
           let o = f.able text' inner (beyond.speaks text) in
-          let j = joined 6 text text' ts rest (f.front ++ o.more) found counts d a o.has in
+          let j = joined every_limit text text' ts rest (f.front ++ o.more) found counts d a o.has in
           (beyond.words, o.more, map external_declaration found ++ o.has.tree ∷ [], following (λ z. IsProgram text' (map external_declaration found ++ o.has.tree ∷ []) z) d.front f.front o.more j.0, j.1);
       stops = stops n at text ts rest (d.front ++ f.front) f.fault found counts d k e f refl refl;
       fewer = λ m p.

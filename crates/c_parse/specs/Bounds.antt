@@ -2,7 +2,7 @@
 use Rattle.std.specs.Prelude.{◌≡◌, ◌≤◌, ℕ, List, length}
 use Rattle.c_syntax.specs.Limits.{Within}
 use Rattle.c_syntax.specs.Program.{ExternalDeclaration}
-use Rattle.c_parse.specs.Nodes.{nodes_of}
+use Rattle.c_syntax.specs.Nodes.{nodes_of}
 
 -- within the limits in some text of so many bytes, and of no more nodes than these
 pub record IsBounded (bytes : ℕ) (xs : List ExternalDeclaration) : Type 0 where

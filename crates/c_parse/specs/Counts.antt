@@ -5,10 +5,9 @@ use Rattle.c_lex.specs.declared.token.Token.{Token}
 use Rattle.c_syntax.specs.declared.limit.Count.TheVariants.{Functions, Globals, Funclets}
 use Rattle.c_syntax.specs.declared.limit.TheConstants.{MOST_GLOBALS}
 use Rattle.c_syntax.specs.Limits as limits
-use Rattle.c_syntax.specs.Limits.{Number, IsInForce, EachWithin, bytes_from, funclets_in}
+use Rattle.c_syntax.specs.Limits.{Number, IsInForce, every_limit, EachWithinFirst, bytes_from, funclets_in}
 use Rattle.c_syntax.specs.Program.{ExternalDeclaration}
 use Rattle.c_syntax.specs.Programs.{IsExternalDeclaration}
-use Rattle.c_syntax.specs.Viable.{EachWithinFirst}
 use Rattle.c_parse.specs.declared.counts.Counts.{Counts}
 
 -- within the first n limits after what was counted
@@ -21,7 +20,7 @@ pub record Fits (n : ℕ) (text : List ℕ) (counts : Counts)
 
 -- within the limits, and so the counts are after it
 pub record Taken (text : List ℕ) (counts after : Counts) (x : ExternalDeclaration) : Type 0 where
-  pub each : EachWithin (x ∷ [])
+  pub each : EachWithinFirst every_limit (x ∷ [])
   pub functions : after.functions + limits.functions (x ∷ []) ≡ counts.functions
   pub bytes : after.bytes ≡ bytes_from (x ∷ []) counts.bytes
   pub low : after.bytes ≤ MOST_GLOBALS

@@ -1,6 +1,5 @@
 pub mod Parts
 pub mod Counts
 pub mod Laws
-pub mod Nodes
 pub mod Bounds
 pub mod Refused

@@ -13,7 +13,8 @@ use Rattle.c_syntax.specs.declared.limit.Count.TheVariants.{Parameters, Globals,
 use Rattle.c_syntax.specs.declared.limit.TheConstants.{MOST_GLOBALS, MOST_PARAMETERS}
 use Rattle.c_syntax.specs.Expressions.{IsInteger}
 use Rattle.c_syntax.specs.Follow.{Stops}
-use Rattle.c_syntax.specs.Limits.{Number, IsInForce, size, elements, aligned, end_of_globals, funclets_of_all}
+use Rattle.c_syntax.specs.Limits.{Number, IsInForce, FunctionWithinFirst, size, elements, aligned, end_of_globals, funclets_of_all}
+use Rattle.c_syntax.specs.Operators.{postfix, assignment}
 use Rattle.c_syntax.specs.Phrases.{InTurn}
 use Rattle.c_syntax.specs.Program.{Initialiser, Single, Several, Global}
 use Rattle.c_syntax.specs.Programs.{IsConstant, AreConstants, IsInitialiser, IsLength, AreMoreGlobals, AreGlobals, IsParameter, AreParameters}
@@ -21,7 +22,6 @@ use Rattle.c_syntax.specs.Statement.{Statements}
 use Rattle.c_syntax.specs.Statements.{IsBlock, AreBlockItems}
 use Rattle.c_syntax.specs.Tokens.{Phrase, IsPunctuator, IsIdentifier, HasPunctuator, HasKeyword}
 use Rattle.c_syntax.specs.Types.{IsBase, AreStars}
-use Rattle.c_syntax.specs.Viable.{FunctionWithinFirst}
 
 -- ---- initialisers
 
@@ -53,7 +53,7 @@ pub record HasGiven (n : ℕ) (text : List ℕ) (ts : List Token) : Type 0 where
 
 abbrev pub NoInitialiser : ℕ → List ℕ → List Token → Type 0
 NoInitialiser n text ts =
-    (i : Option Initialiser) (end : List Token) → IsInitialiser i ts end → Stops 15 end → ⊥
+    (i : Option Initialiser) (end : List Token) → IsInitialiser i ts end → Stops assignment end → ⊥
 
 pub record HasInitialiser (n : ℕ) (text : List ℕ) (ts : List Token) : Type 0 where
   pub tree : Option Initialiser
@@ -71,7 +71,7 @@ IsBracketed n = InTurn (IsInteger n.value n.at) (HasPunctuator punctuators.Close
 
 abbrev pub NoneBracketed : Base → ℕ → ℕ → ℕ → List ℕ → List Token → Type 0
 NoneBracketed base pointers at n text ts =
-    (l : Length) (end : List Token) → IsBracketed l ts end → Stops 1 end
+    (l : Length) (end : List Token) → IsBracketed l ts end → Stops postfix end
     → (IsInForce (Number Globals) n → end_of base pointers (Some l) at ≤ MOST_GLOBALS) → ⊥
 
 pub record HasBracketed (base : Base) (pointers at n : ℕ) (text : List ℕ)

@@ -112,7 +112,9 @@ fn parameters<'a>(
 /// What follows the name of a function and its parenthesis.
 #[derive(Drop)]
 pub struct FunctionTail<'a> {
+    /// The parameters.
     pub parameters: Vec<Parameter>,
+    /// The items of the body.
     pub body: Vec<Stmt>,
     /// How many funclets the program may still have.
     pub funclets: u64,
@@ -132,7 +134,8 @@ pub fn tail<'a>(
         IsTail text.now x.parameters.items (statements (map statement x.body.items)) tokens.now
         x.rest.now) }
     ensures within { IfOk result (λ x.
-        limits.FunctionWithin x.parameters.items (statements (map statement x.body.items))) }
+        limits.FunctionWithinFirst limits.every_limit x.parameters.items
+        (statements (map statement x.body.items))) }
     ensures taken { IfOk result (λ x. x.funclets
         + length (limits.funclets_of_all text.now (statements (map statement x.body.items)))
         ≡ funclets) }

@@ -2,6 +2,7 @@
 
 ghost use Rattle.std.specs.Prelude.{◌≡◌, ◌≤◌, ◌<◌, ◌+◌, ◌*◌, Some, IfOk, IfErr, IfSome, IfNone, map};
 ghost use Rattle.c_lex.specs.declared.punctuator.Punctuator.TheVariants as punctuators;
+ghost use Rattle.c_syntax.specs.declared.level.TheConstants.{ASSIGNMENT};
 ghost use Rattle.c_syntax.specs.Follow.{Stops};
 ghost use Rattle.c_syntax.specs.Limits as limits;
 ghost use Rattle.c_syntax.specs.Program as trees;
@@ -21,11 +22,9 @@ use c_parse_type::front::after;
 use c_parse_type::specifiers::stars;
 use c_syntax::declaration::{Global, Length};
 use c_syntax::expression::Base;
+use c_syntax::level::POSTFIX;
 use c_syntax::limit::{Count, MOST_GLOBALS};
 use std::alloc::Global as Allocator;
-
-/// The level of `[`: after a length is nothing with which a postfix expression continues.
-const POSTFIX: u8 = 1;
 
 /// How many bytes a type has: those of its base, or 8 of a pointer. `void` has none.
 fn size_of(base: Base, pointers: u64) -> u64
@@ -100,7 +99,7 @@ fn bracketed<'a>(
 ) -> Result<(Length, u64, &'a [Token]), ParseErr>
     requires { bytes ≤ MOST_GLOBALS }
     ensures found { IfOk result (λ x. parts.IsBracketed x.0 tokens.now x.2.now) }
-    ensures stops { IfOk result (λ x. Stops 1 x.2.now) }
+    ensures stops { IfOk result (λ x. Stops POSTFIX x.2.now) }
     ensures end { IfOk result (λ x. x.1 ≡ parts.end_of base pointers (Some x.0) bytes) }
     ensures low { IfOk result (λ x. x.1 ≤ MOST_GLOBALS) }
     ensures refused { IfErr result (λ e.
@@ -130,7 +129,7 @@ fn length<'a>(
 ) -> Result<(Option<Length>, u64, &'a [Token]), ParseErr>
     requires { bytes ≤ MOST_GLOBALS }
     ensures found { IfOk result (λ x. IsLength x.0 tokens.now x.2.now) }
-    ensures stops { IfOk result (λ x. Stops 1 x.2.now) }
+    ensures stops { IfOk result (λ x. Stops POSTFIX x.2.now) }
     ensures end { IfOk result (λ x. x.1 ≡ parts.end_of base pointers x.0 bytes) }
     ensures low { IfOk result (λ x. x.1 ≤ MOST_GLOBALS) }
     ensures refused { IfErr result (λ e. RefusesLength e base pointers bytes text.now tokens.now) }
@@ -160,7 +159,7 @@ fn global<'a>(
 ) -> Result<(Global, u64, &'a [Token]), ParseErr>
     requires { bytes ≤ MOST_GLOBALS }
     ensures found { IfOk result (λ x. IsGlobal (trees.global x.0) tokens.now x.2.now) }
-    ensures stops { IfOk result (λ x. Stops 15 x.2.now) }
+    ensures stops { IfOk result (λ x. Stops ASSIGNMENT x.2.now) }
     ensures end { IfOk result (λ x.
         x.1 ≡ parts.end_of base (trees.global x.0).pointers (trees.global x.0).length bytes) }
     ensures low { IfOk result (λ x. x.1 ≤ MOST_GLOBALS) }

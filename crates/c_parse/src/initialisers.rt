@@ -20,11 +20,8 @@ use c_parse_expr::step::first_punctuator;
 use c_parse_stmt::parts::expect;
 use c_parse_type::front::after;
 use c_syntax::declaration::{Constant, Initialiser};
+use c_syntax::level::ASSIGNMENT;
 use std::alloc::Global;
-
-/// The level of an assignment: after an initialiser is nothing with which such an expression goes
-/// on.
-const ASSIGNMENT: u8 = 15;
 
 /// The place of the wanted punctuator, and what follows it, if that is at the front.
 fn punctuator_at(wanted: Punctuator, tokens: &[Token]) -> Option<(u64, &[Token])>
@@ -138,7 +135,7 @@ pub fn initialiser<'a>(
 ) -> Result<(Option<Initialiser>, &'a [Token]), ParseErr>
     ensures found { IfOk result (λ x.
         IsInitialiser (option_map trees.initialiser x.0) tokens.now x.1.now) }
-    ensures stops { IfOk result (λ x. Stops 15 x.1.now) }
+    ensures stops { IfOk result (λ x. Stops ASSIGNMENT x.1.now) }
     ensures refused { IfErr result (λ e.
         Placed e NoInitialiser HasInitialiser text.now tokens.now) }
 {

@@ -13,7 +13,7 @@ ghost use Rattle.c_parse_expr.specs.declared.refusal.ParseErr.TheVariants.{TooMa
 ghost use Rattle.c_parse_expr.specs.Refusals.{Placed, Refuses};
 ghost use Rattle.c_parse.specs.Bounds.{IsBounded};
 ghost use Rattle.c_parse.specs.Counts.{Taken};
-ghost use Rattle.c_parse.specs.Nodes.{nodes_of};
+ghost use Rattle.c_syntax.specs.Nodes.{nodes_of};
 ghost use Rattle.c_parse.specs.Parts.{IsHead, NoHead, HasHead};
 ghost use Rattle.c_parse.specs.Refused.{RefusesExternalDeclaration};
 
@@ -31,10 +31,10 @@ use c_syntax::expression::{Base, CType, Identifier};
 use c_syntax::limit::{Count, MOST_FUNCLETS, MOST_FUNCTIONS, MOST_GLOBALS};
 use std::alloc::Global;
 
-/// A program: its external declarations, in their order. It is within the limits, and has no more
-/// nodes than its text has bytes.
+/// A program. It is within the limits, and has no more nodes than its text has bytes.
 #[derive(Drop)]
 pub struct Program {
+    /// Its external declarations, in their order.
     pub external_declarations: Vec<ExternalDeclaration>,
     /// How many bytes its text has.
     pub length: u64,

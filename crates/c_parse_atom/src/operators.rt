@@ -8,6 +8,10 @@ ghost use Rattle.c_syntax.specs.PunctuatorReaders as punctuators;
 use c_lex::punctuator::Punctuator;
 use c_lex::token::{Kind, Token};
 use c_parse_type::front::front;
+use c_syntax::level::{
+    ADDITIVE, AND, ASSIGNMENT, COMMA, CONDITIONAL, EQUALITY, EXCLUSIVE_OR, INCLUSIVE_OR,
+    LOGICAL_AND, LOGICAL_OR, MULTIPLICATIVE, NEVER, POSTFIX, PRIMARY, RELATIONAL, SHIFT,
+};
 use c_syntax::operator::{Arithmetic, BinaryOperator, Comparison, Increment, UnaryOperator};
 
 /// The operator between two operands that a punctuator is.
@@ -88,47 +92,47 @@ fn level_of_arithmetic(operator: Arithmetic) -> u8
     ensures { result ≡ operators.level_of_arithmetic operator }
 {
     match operator {
-        Arithmetic::Multiply | Arithmetic::Divide | Arithmetic::Remainder => 4,
-        Arithmetic::Add | Arithmetic::Subtract => 5,
-        Arithmetic::ShiftLeft | Arithmetic::ShiftRight => 6,
-        Arithmetic::And => 9,
-        Arithmetic::ExclusiveOr => 10,
-        Arithmetic::Or => 11,
+        Arithmetic::Multiply | Arithmetic::Divide | Arithmetic::Remainder => MULTIPLICATIVE,
+        Arithmetic::Add | Arithmetic::Subtract => ADDITIVE,
+        Arithmetic::ShiftLeft | Arithmetic::ShiftRight => SHIFT,
+        Arithmetic::And => AND,
+        Arithmetic::ExclusiveOr => EXCLUSIVE_OR,
+        Arithmetic::Or => INCLUSIVE_OR,
     }
 }
 
-/// How tightly an operator binds: 4 for products to 13 for `||` (C11, 6.5).
+/// How tightly an operator binds (C11, 6.5).
 pub fn level(operator: BinaryOperator) -> u8
     ensures { result ≡ operators.level operator }
 {
     match operator {
         BinaryOperator::Arithmetic(operator) => level_of_arithmetic(operator),
-        BinaryOperator::Comparison(Comparison::Equal | Comparison::NotEqual) => 8,
-        BinaryOperator::Comparison(_) => 7,
-        BinaryOperator::LogicalAnd => 12,
-        BinaryOperator::LogicalOr => 13,
+        BinaryOperator::Comparison(Comparison::Equal | Comparison::NotEqual) => EQUALITY,
+        BinaryOperator::Comparison(_) => RELATIONAL,
+        BinaryOperator::LogicalAnd => LOGICAL_AND,
+        BinaryOperator::LogicalOr => LOGICAL_OR,
     }
 }
 
-/// The level of the production in which a punctuator is after an operand; 17 where it never does.
+/// The level of the production in which a punctuator is after an operand.
 fn punctuator_follows(punctuator: Punctuator) -> u8
     ensures { result ≡ follow.punctuator_follows punctuator }
 {
     match punctuator {
-        Punctuator::OpenParenthesis => 0,
-        Punctuator::OpenBracket | Punctuator::PlusPlus | Punctuator::MinusMinus => 1,
-        Punctuator::Star | Punctuator::Slash | Punctuator::Percent => 4,
-        Punctuator::Plus | Punctuator::Minus => 5,
-        Punctuator::ShiftLeft | Punctuator::ShiftRight => 6,
+        Punctuator::OpenParenthesis => PRIMARY,
+        Punctuator::OpenBracket | Punctuator::PlusPlus | Punctuator::MinusMinus => POSTFIX,
+        Punctuator::Star | Punctuator::Slash | Punctuator::Percent => MULTIPLICATIVE,
+        Punctuator::Plus | Punctuator::Minus => ADDITIVE,
+        Punctuator::ShiftLeft | Punctuator::ShiftRight => SHIFT,
         Punctuator::Less | Punctuator::Greater | Punctuator::LessEqual | Punctuator::GreaterEqual =>
-            7,
-        Punctuator::Equal | Punctuator::NotEqual => 8,
-        Punctuator::Ampersand => 9,
-        Punctuator::Caret => 10,
-        Punctuator::Bar => 11,
-        Punctuator::AmpersandAmpersand => 12,
-        Punctuator::BarBar => 13,
-        Punctuator::Question => 14,
+            RELATIONAL,
+        Punctuator::Equal | Punctuator::NotEqual => EQUALITY,
+        Punctuator::Ampersand => AND,
+        Punctuator::Caret => EXCLUSIVE_OR,
+        Punctuator::Bar => INCLUSIVE_OR,
+        Punctuator::AmpersandAmpersand => LOGICAL_AND,
+        Punctuator::BarBar => LOGICAL_OR,
+        Punctuator::Question => CONDITIONAL,
         Punctuator::Assign
         | Punctuator::PlusAssign
         | Punctuator::MinusAssign
@@ -139,23 +143,22 @@ fn punctuator_follows(punctuator: Punctuator) -> u8
         | Punctuator::BarAssign
         | Punctuator::CaretAssign
         | Punctuator::ShiftLeftAssign
-        | Punctuator::ShiftRightAssign => 15,
-        Punctuator::Comma => 16,
-        _ => 17,
+        | Punctuator::ShiftRightAssign => ASSIGNMENT,
+        Punctuator::Comma => COMMA,
+        _ => NEVER,
     }
 }
 
-/// The level of the production in which an expression continues with these tokens: 0 for a call, 1
-/// for `[`, `++` and `--`, the operator's level, 14 for `?`, 15 for an assignment, 16 for a comma;
-/// 17 where none does.
+/// The level of the production in which an expression continues with these tokens, `NEVER` where
+/// none does.
 pub fn follows(tokens: &[Token]) -> u8
     ensures { result ≡ follow.follows tokens.now }
 {
     match front(tokens) {
         Some((token, _)) => match token.kind {
             Kind::Punctuator(punctuator) => punctuator_follows(punctuator),
-            _ => 17,
+            _ => NEVER,
         },
-        None => 17,
+        None => NEVER,
     }
 }

@@ -78,13 +78,13 @@ more_moves text [] ts rest h = moved.nothing text ts rest h
 more_moves text (e ∷ es) ts rest h =
     moved.map
     (moved.both (moved.has_punctuator punctuators.Comma text ts h.after_comma h.comma)
-    (moved.both (moved.derives assignment e text h.after_comma h.after_next h.next)
-    (more_moves text es h.after_next rest h.others)))
+    (moved.both (moved.derives assignment e text h.after_comma h.after_element h.element)
+    (more_moves text es h.after_element rest h.others)))
     (λ t us vs g. record {
       after_comma = g.0;
-      after_next = g.2.0;
+      after_element = g.2.0;
       comma = g.1;
-      next = g.2.1;
+      element = g.2.1;
       others = g.2.2;
     })
 

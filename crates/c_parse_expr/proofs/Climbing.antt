@@ -5,7 +5,7 @@ use Rattle.c_lex.specs.declared.token.Token.{Token}
 use Rattle.c_syntax.specs.Expression.{Expression}
 use Rattle.c_syntax.specs.Expressions.{rank, SpellsExpression, Derives}
 use Rattle.c_syntax.specs.Follow.{punctuator_follows, follows, Stops}
-use Rattle.c_syntax.specs.Operators.{comma}
+use Rattle.c_syntax.specs.Operators.{comma, never}
 use Rattle.c_syntax.specs.Steps.{Step, At, After, With, Choose, Set, And, apply, bound, Tail, Closes}
 use Rattle.c_syntax.specs.Tokens.{HasPunctuator}
 use Rattle.c_syntax.proofs.Fronts.{has_same}
@@ -54,14 +54,14 @@ continues text l left s ts rest end h f x =
 -- ---- an expression and the punctuator that ends it
 
 pub none_inside : (text : List ℕ) (w : ℕ) (close : Punctuator) (room : ℕ) (ts : List Token)
-    → punctuator_follows close ≡ 17 → NoExpression comma room w text ts
+    → punctuator_follows close ≡ never → NoExpression comma room w text ts
     → NoneEnclosed close room w text ts
 none_inside text w close room ts p n e end x low =
     n e x.mid (record { fits = rank_low e; spells = x.spells })
     (has_stops close x.mid end comma x.closed (omega arith)) low
 
 inside : (text : List ℕ) (close : Punctuator) (e f : Expression) (ts mid end : List Token)
-    → punctuator_follows close ≡ 17 → Derives text comma e ts mid → Stops comma mid
+    → punctuator_follows close ≡ never → Derives text comma e ts mid → Stops comma mid
     → Encloses text close f ts end → (e ≡ f) × HasPunctuator close mid end
 inside text close e f ts mid end p h s x =
     let q = one_expression text comma e f ts mid x.mid h
@@ -70,12 +70,12 @@ inside text close e f ts mid end p h s x =
     (q.0, subst (λ (z : List Token). HasPunctuator close z end) (sym q.1) x.closed)
 
 pub not_closed : (text : List ℕ) (w : ℕ) (close : Punctuator) (room : ℕ) (e : Expression)
-    (ts mid : List Token) → punctuator_follows close ≡ 17 → Derives text comma e ts mid → Stops
+    (ts mid : List Token) → punctuator_follows close ≡ never → Derives text comma e ts mid → Stops
     comma mid → ((end : List Token) → HasPunctuator close mid end → ⊥) → NoneEnclosed close room w
     text ts
 not_closed text w close room e ts mid p h s n f end x low = n end (inside text close e f ts mid end p h s x).1
 
-pub enclosed_once : (text : List ℕ) (close : Punctuator) (e f : Expression) (ts rest end : List Token) → punctuator_follows close ≡ 17 → Encloses text close e ts rest → Encloses text close f ts end → (e ≡ f) × (rest ≡ end)
+pub enclosed_once : (text : List ℕ) (close : Punctuator) (e f : Expression) (ts rest end : List Token) → punctuator_follows close ≡ never → Encloses text close e ts rest → Encloses text close f ts end → (e ≡ f) × (rest ≡ end)
 enclosed_once text close e f ts rest end p x y =
     let q = inside text close e f ts x.mid end p (record { fits = rank_low e; spells = x.spells })
     (has_stops close x.mid rest comma x.closed (omega arith)) y in

@@ -22,17 +22,17 @@ more_after : (text : List ℕ) (es : List Expression) (e : Expression) (ts rest 
     → Derives text assignment e b end → AreMore text (es ++ e ∷ []) ts end
 more_after text [] e ts rest b end h c d = record {
   after_comma = b;
-  after_next = end;
+  after_element = end;
   comma = subst (λ (z : List Token). HasPunctuator punctuators.Comma z b) (sym h) c;
-  next = d;
+  element = d;
   others = refl;
 }
 more_after text (x ∷ es) e ts rest b end h c d = record {
   after_comma = h.after_comma;
-  after_next = h.after_next;
+  after_element = h.after_element;
   comma = h.comma;
-  next = h.next;
-  others = more_after text es e h.after_next rest b end h.others c d;
+  element = h.element;
+  others = more_after text es e h.after_element rest b end h.others c d;
 }
 
 pub listed_after : (text : List ℕ) (es : List Expression) (e : Expression)
@@ -63,10 +63,10 @@ more_spelled : (text : List ℕ) (es : List Expression) (ts rest end : List Toke
 more_spelled text [] ts rest end h c = subst (λ (z : List Token). HasPunctuator punctuators.CloseParenthesis z end) (sym h) c
 more_spelled text (e ∷ es) ts rest end h c = record {
   after_comma = h.after_comma;
-  after_next = h.after_next;
+  after_element = h.after_element;
   comma = h.comma;
-  next = h.next;
-  others = more_spelled text es h.after_next rest end h.others c;
+  element = h.element;
+  others = more_spelled text es h.after_element rest end h.others c;
 }
 
 pub listed_spelled : (text : List ℕ) (es : List Expression) (ts rest end : List Token) → AreListed text es ts rest → HasPunctuator punctuators.CloseParenthesis rest end → SpellsArguments text (arguments es) ts end
@@ -122,10 +122,10 @@ more_back text w room (e ∷ es) Done ts rest end h s g low =
     absurd (not_both ts h.after_comma end h.comma g)
 more_back text w room (e ∷ es) (Next x xs) ts rest end h s g low =
     let p = has_same punctuators.Comma ts ts h.after_comma g.after_comma refl h.comma g.comma in
-    let q = same_next text e x h.after_comma g.after_comma h.after_next g.after_next p h.next
-    (more_stops text es h.after_next rest h.others s) g.next
-    (spelled_stops text xs g.after_next end g.others) in
-    more_back text w room es xs h.after_next rest end h.others s
+    let q = same_next text e x h.after_comma g.after_comma h.after_element g.after_element p h.element
+    (more_stops text es h.after_element rest h.others s) g.element
+    (spelled_stops text xs g.after_element end g.others) in
+    more_back text w room es xs h.after_element rest end h.others s
     (subst (λ (z : List Token). SpellsMoreArguments text xs z end) (sym q) g.others)
     (λ k. let a = low k in omega arith)
 
@@ -152,7 +152,7 @@ none_left : (text : List ℕ) (w room : ℕ) (xs : Arguments) (rest end : List T
     → ⊥
 none_left text w room Done rest end h low n m = n end h
 none_left text w room (Next x xs) rest end h low n m =
-    m x h.after_comma h.after_next h.comma h.next (spelled_stops text xs h.after_next end h.others)
+    m x h.after_comma h.after_element h.comma h.element (spelled_stops text xs h.after_element end h.others)
     (λ k. let a = low k in omega arith)
 
 pub stuck : (text : List ℕ) (w room : ℕ) (es : List Expression) (ts rest : List Token)

@@ -18,7 +18,7 @@ use Rattle.c_syntax.specs.declared.operator.UnaryOperator.TheVariants as unary_o
 use Rattle.c_syntax.specs.Expression.{Expression, Constant, Variable, Information, Call, Parentheses, Index, Postfix, Prefix, Unary, Cast, Binary, Conditional, Assign, Comma, Arguments, height, heights}
 use Rattle.c_syntax.specs.Expressions.{literal_kind, SpellsExpression, SpellsArguments, Derives}
 use Rattle.c_syntax.specs.Follow.{punctuator_follows, kind_follows, follows, Stops}
-use Rattle.c_syntax.specs.Operators.{unary, cast, unary_punctuator, increment_punctuator}
+use Rattle.c_syntax.specs.Operators.{unary, cast, unary_punctuator, increment_punctuator, primary}
 use Rattle.c_syntax.specs.PunctuatorReaders.{unary_of, increment_of}
 use Rattle.c_syntax.specs.Tokens.{token, IsKind, IsPunctuator, IsIdentifier, HasPunctuator}
 use Rattle.c_syntax.specs.Types.{IsType}
@@ -90,7 +90,7 @@ name_not_punctuator s e = cc
 -- ---- after a name
 
 pub none_named : (text : List ℕ) (w l room : ℕ) (x : Identifier) (ts rest : List Token) → IsIdentifier x ts rest
-    → (0 < follows rest → ⊥)
+    → (primary < follows rest → ⊥)
     → ((es : Arguments) (b end : List Token) → HasPunctuator punctuators.OpenParenthesis rest b → SpellsArguments text es b end → (1 ≤ w → heights es ≤ room) → ⊥)
     → NoOperand l room w text ts
 none_named text w l room x ts rest n v c (Constant at y) end o low = literal_name y (other_kind _ _ at x.start ts end rest o.derives.spells (identifier_kind x ts rest n))
@@ -129,7 +129,7 @@ none_named text w l room x ts rest n v c (Conditional e at f g) end o low = o.he
 none_named text w l room x ts rest n v c (Assign e at op f) end o low = o.head
 none_named text w l room x ts rest n v c (Comma e at f) end o low = o.head
 
-call_follows : (rest b : List Token) → HasPunctuator punctuators.OpenParenthesis rest b → follows rest ≡ 0
+call_follows : (rest b : List Token) → HasPunctuator punctuators.OpenParenthesis rest b → follows rest ≡ primary
 call_follows rest b h = ap follows h.1.1
 
 pub no_call : (text : List ℕ) (w l room : ℕ) (x : Identifier) (ts rest b : List Token) → IsIdentifier x ts rest → HasPunctuator punctuators.OpenParenthesis rest b → NoArguments room w text b → NoOperand l room w text ts
@@ -139,7 +139,7 @@ no_call text w l room x ts rest b n h a =
     (λ es d end g s low. a es end (subst (λ (z : List Token). SpellsArguments text es z end) (has_same punctuators.OpenParenthesis rest rest d b refl g h) s) low)
 
 -- no `(` is at the front
-positive_sign : (s : Punctuator) → (s ≡ punctuators.OpenParenthesis → ⊥) → 0 < punctuator_follows s
+positive_sign : (s : Punctuator) → (s ≡ punctuators.OpenParenthesis → ⊥) → primary < punctuator_follows s
 positive_sign punctuators.OpenParenthesis n = absurd (n refl)
 positive_sign punctuators.CloseParenthesis n = omega arith
 positive_sign punctuators.OpenBracket n = omega arith
@@ -185,7 +185,7 @@ positive_sign punctuators.Tilde n = omega arith
 positive_sign punctuators.PlusPlus n = omega arith
 positive_sign punctuators.MinusMinus n = omega arith
 
-positive_kind : (k : Kind) (at end : ℕ) (ts : List Token) → ((b : List Token) → HasPunctuator punctuators.OpenParenthesis (token k at end ∷ ts) b → ⊥) → 0 < kind_follows k
+positive_kind : (k : Kind) (at end : ℕ) (ts : List Token) → ((b : List Token) → HasPunctuator punctuators.OpenParenthesis (token k at end ∷ ts) b → ⊥) → primary < kind_follows k
 positive_kind kinds.Identifier at end ts n = omega arith
 positive_kind (kinds.Keyword k) at end ts n = omega arith
 positive_kind (kinds.Reserved r) at end ts n = omega arith
@@ -193,7 +193,7 @@ positive_kind (kinds.Integer value type) at end ts n = omega arith
 positive_kind (kinds.CharacterConstant value) at end ts n = omega arith
 positive_kind (kinds.Punctuator s) at end ts n = positive_sign s (λ e. n ts (at, (end, ap (λ (z : Punctuator). token (kinds.Punctuator z) at end ∷ ts) e)))
 
-pub no_parenthesis : (ts : List Token) → ((b : List Token) → HasPunctuator punctuators.OpenParenthesis ts b → ⊥) → 0 < follows ts
+pub no_parenthesis : (ts : List Token) → ((b : List Token) → HasPunctuator punctuators.OpenParenthesis ts b → ⊥) → primary < follows ts
 no_parenthesis [] n = omega arith
 no_parenthesis (t ∷ ts) n = positive_kind t.kind t.start t.end ts n
 

@@ -8,7 +8,7 @@ use Rattle.c_syntax.specs.Expression.{Expression, height}
 use Rattle.c_syntax.specs.Expressions.{rank, SpellsExpression, Derives}
 use Rattle.c_syntax.specs.Faults.{SameFirst, place, Failed, Wraps}
 use Rattle.c_syntax.specs.Follow.{punctuator_follows, follows, Stops}
-use Rattle.c_syntax.specs.Operators.{conditional, comma}
+use Rattle.c_syntax.specs.Operators.{conditional, comma, never}
 use Rattle.c_syntax.specs.Steps.{At, After, With, Choose, Set, And, apply, Tail, Closes}
 use Rattle.c_syntax.specs.Tokens.{token, IsPunctuator, HasPunctuator}
 use Rattle.c_syntax.proofs.Firsts as firsts
@@ -63,7 +63,7 @@ step_wraps l room left text ts rest d c f low =
 -- ---- an expression and the punctuator that ends it
 
 pub enclosed_wraps : (close : Punctuator) (room : ℕ) (text : List ℕ) (ts : List Token)
-    → punctuator_follows close ≡ 17
+    → punctuator_follows close ≡ never
     → Wraps (NoExpression comma room) (HasExpression comma room) (NoneEnclosed close room)
     (HasEnclosed close room) text ts ts
 enclosed_wraps close room text ts p = record {
@@ -85,7 +85,7 @@ enclosed_wraps close room text ts p = record {
 }
 
 pub unclosed : (close : Punctuator) (room : ℕ) (e : Expression) (text : List ℕ)
-    (ts rest : List Token) → punctuator_follows close ≡ 17 → Derives text comma e ts rest → Stops
+    (ts rest : List Token) → punctuator_follows close ≡ never → Derives text comma e ts rest → Stops
     comma rest → ((end : List Token) → HasPunctuator close rest end → ⊥) → height e ≤ room
     → Failed 0 (place text rest) (NoneEnclosed close room) (HasEnclosed close room) text ts
 unclosed close room e text ts rest p d st n low =

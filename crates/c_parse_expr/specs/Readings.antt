@@ -7,12 +7,13 @@ use Rattle.c_lex.specs.declared.token.Token.{Token}
 use Rattle.c_syntax.specs.declared.expression.Field.{Field}
 use Rattle.c_syntax.specs.Limits.{Nesting, IsInForce}
 use Rattle.c_syntax.specs.Expression.{Expression, Information, Arguments, height, heights}
-use Rattle.c_syntax.specs.Expressions.{rank, IsApplied, IsField, AreArguments, AreMoreArguments, SpellsExpression, SpellsArguments, Derives}
+use Rattle.c_syntax.specs.Expressions.{rank, IsApplied, IsField, AreArguments, SpellsExpression, SpellsArguments, Derives}
 use Rattle.c_syntax.specs.Faults.{SameFirst, Speaks, Onward}
 use Rattle.c_syntax.specs.Follow.{Stops}
 use Rattle.c_syntax.specs.declared.operator.Increment.{Increment}
 use Rattle.c_syntax.specs.declared.operator.UnaryOperator.{UnaryOperator}
 use Rattle.c_syntax.specs.Operators.{level, conditional, assignment}
+use Rattle.c_syntax.specs.Phrases.{IsAnother}
 use Rattle.c_syntax.specs.PunctuatorReaders.{increment_of, unary_of}
 use Rattle.c_syntax.specs.Steps.{Step, At, After, With, Choose, Set, And, apply, bound, Tail, IsHead, Closes}
 use Rattle.c_syntax.specs.Tokens.{IsPunctuator, HasPunctuator}
@@ -72,7 +73,7 @@ pub record HasArguments (room n : ℕ) (text : List ℕ) (ts : List Token) : Typ
 abbrev pub AreMore : List ℕ → List Expression → List Token → List Token → Type 0
 AreMore text [] ts rest = ts ≡ rest
 AreMore text (e ∷ es) ts rest =
-    AreMoreArguments (Derives text assignment e) (AreMore text es) ts rest
+    IsAnother (Derives text assignment e) (AreMore text es) ts rest
 
 abbrev pub AreListed : List ℕ → List Expression → List Token → List Token → Type 0
 AreListed text [] ts rest = ⊥

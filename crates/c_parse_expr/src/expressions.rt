@@ -3,6 +3,7 @@
 ghost use Rattle.std.specs.Prelude.{◌≡◌, ◌≤◌, ◌<◌, ◌+◌, List, max, map, IfOk, IfErr};
 ghost use Rattle.c_lex.specs.declared.punctuator.Punctuator.TheVariants as punctuators;
 ghost use Rattle.c_lex.specs.declared.token.Token.{Token};
+ghost use Rattle.c_syntax.specs.declared.level.TheConstants.{NEVER};
 ghost use Rattle.c_syntax.specs.Expression.{expression, arguments, height, heights};
 ghost use Rattle.c_syntax.specs.Expressions.{SpellsArguments, Derives};
 ghost use Rattle.c_syntax.specs.Follow.{Stops, punctuator_follows, follows};
@@ -28,14 +29,18 @@ use c_parse_atom::operators::{follows, increment_of, unary_of};
 use c_parse_type::front::after;
 use c_parse_type::specifiers::c_type;
 use c_syntax::expression::{Expr, Identifier};
+use c_syntax::level::{ASSIGNMENT, CAST, COMMA, CONDITIONAL, UNARY};
 use c_syntax::limit::MOST_EXPRESSIONS;
 use std::alloc::Global;
 
-/// An expression, the most expressions around one of its parts, and what follows it.
+/// An expression that was read.
 #[derive(Drop)]
 pub struct Parsed<'a> {
+    /// The expression.
     pub expr: Expr,
+    /// The most expressions around one of its parts.
     pub over: u64,
+    /// What follows it.
     pub rest: &'a [Token],
     ghost exact: { over ≡ height (expression expr) },
 }
@@ -86,8 +91,8 @@ fn extended<'a>(
 }
 
 /// The expression of a level or a tighter one at the front, as far as it goes, with at most `room`
-/// expressions around each part. The levels are those of the productions of C11, 6.5: 2 is unary, 3
-/// a cast, 4 products to 13 `||`, 14 is `?:`, 15 an assignment, 16 a comma.
+/// expressions around each part. The levels are those of the productions (`c_syntax::level`), from
+/// `UNARY` on.
 #[cycle(reader)]
 pub fn expression<'a>(
     alloc: Global,
@@ -97,7 +102,7 @@ pub fn expression<'a>(
     tokens: &'a [Token],
 ) -> Result<Parsed<'a>, ParseErr>
     requires room { room ≤ MOST_EXPRESSIONS }
-    requires level { 2 ≤ level }
+    requires level { UNARY ≤ level }
     ensures found { IfOk result (λ x.
         Derives text.now level (expression x.expr) tokens.now x.rest.now) }
     ensures stops { IfOk result (λ x. Stops level x.rest.now) }
@@ -206,7 +211,7 @@ fn chosen<'a>(
         RefusesAfterPunctuator e room operations.Conditional at text.now tokens.now) }
 {
     let yes = enclosed(alloc, text, room, Punctuator::Colon, tokens)?;
-    let no = expression(alloc, text, room, 14, yes.rest)?;
+    let no = expression(alloc, text, room, CONDITIONAL, yes.rest)?;
     let over = higher(yes.over, no.over);
     let rest = no.rest;
     let (yes, no) = (yes.expr, no.expr);
@@ -224,13 +229,13 @@ fn enclosed<'a>(
     tokens: &'a [Token],
 ) -> Result<Parsed<'a>, ParseErr>
     requires room { room < MOST_EXPRESSIONS }
-    requires close { punctuator_follows close ≡ 17 }
+    requires close { punctuator_follows close ≡ NEVER }
     ensures found { IfOk result (λ x.
         Encloses text.now close (expression x.expr) tokens.now x.rest.now) }
     ensures low { IfOk result (λ x. x.over ≤ room) }
     ensures refused { IfErr result (λ e. RefusesEnclosed e close room text.now tokens.now) }
 {
-    let inner = expression(alloc, text, room, 16, tokens)?;
+    let inner = expression(alloc, text, room, COMMA, tokens)?;
     match after(close, inner.rest) {
         Some(rest) => {
             let (expr, over) = (inner.expr, inner.over);
@@ -250,7 +255,7 @@ fn operand<'a>(
     tokens: &'a [Token],
 ) -> Result<Parsed<'a>, ParseErr>
     requires room { room ≤ MOST_EXPRESSIONS }
-    requires level { 2 ≤ level }
+    requires level { UNARY ≤ level }
     ensures found { IfOk result (λ x.
         IsOperand text.now level (expression x.expr) tokens.now x.rest.now) }
     ensures low { IfOk result (λ x. x.over ≤ room) }
@@ -355,11 +360,11 @@ fn arguments<'a>(
     if room == 0 {
         return Err(no_argument(text, tokens));
     }
-    let first = expression(alloc, text, room - 1, 15, tokens)?;
+    let first = expression(alloc, text, room - 1, ASSIGNMENT, tokens)?;
     let (mut over, mut rest) = (first.over + 1, first.rest);
     exprs.push(first.expr)?;
     while let Some(following) = after(Punctuator::Comma, rest) {
-        let next = expression(alloc, text, room - 1, 15, following)?;
+        let next = expression(alloc, text, room - 1, ASSIGNMENT, following)?;
         over = higher(over, next.over + 1);
         rest = next.rest;
         exprs.push(next.expr)?;
@@ -383,7 +388,7 @@ fn signed<'a>(
     rest: &'a [Token],
 ) -> Result<Parsed<'a>, ParseErr>
     requires room { room ≤ MOST_EXPRESSIONS }
-    requires level { 2 ≤ level }
+    requires level { UNARY ≤ level }
     requires punctuator { IsPunctuator punctuator at tokens.now rest.now }
     ensures found { IfOk result (λ x.
         IsOperand text.now level (expression x.expr) tokens.now x.rest.now) }
@@ -397,13 +402,13 @@ fn signed<'a>(
         return Err(too_deep(text, tokens));
     }
     if let Some(operator) = increment_of(punctuator) {
-        let inner = expression(alloc, text, room - 1, 2, rest)?;
+        let inner = expression(alloc, text, room - 1, UNARY, rest)?;
         let (over, rest) = (inner.over + 1, inner.rest);
         let expr = prefix(alloc, at, operator, inner.expr)?;
         return Ok(Parsed { expr, over, rest });
     }
     if let Some(operator) = unary_of(punctuator) {
-        let inner = expression(alloc, text, room - 1, 3, rest)?;
+        let inner = expression(alloc, text, room - 1, CAST, rest)?;
         let (over, rest) = (inner.over + 1, inner.rest);
         let expr = unary(alloc, at, operator, inner.expr)?;
         return Ok(Parsed { expr, over, rest });
@@ -423,14 +428,14 @@ fn parenthesised<'a>(
     rest: &'a [Token],
 ) -> Result<Parsed<'a>, ParseErr>
     requires room { room < MOST_EXPRESSIONS }
-    requires level { 2 ≤ level }
+    requires level { UNARY ≤ level }
     requires punctuator { IsPunctuator punctuators.OpenParenthesis at tokens.now rest.now }
     ensures found { IfOk result (λ x.
         IsOperand text.now level (expression x.expr) tokens.now x.rest.now) }
     ensures low { IfOk result (λ x. x.over ≤ room + 1) }
     ensures refused { IfErr result (λ e. RefusesOperand e level (room + 1) text.now tokens.now) }
 {
-    if level == 2 {
+    if level == UNARY {
         return grouped(alloc, text, room, level, at, tokens, rest);
     }
     match c_type(rest) {
@@ -438,7 +443,7 @@ fn parenthesised<'a>(
             let Some(rest) = after(Punctuator::CloseParenthesis, rest) else {
                 return Err(unexpected(text, rest));
             };
-            let inner = expression(alloc, text, room, 3, rest)?;
+            let inner = expression(alloc, text, room, CAST, rest)?;
             let (over, rest) = (inner.over + 1, inner.rest);
             let operand = Box::new(alloc, inner.expr)?;
             let expr = Expr::Cast { at, to, operand };
@@ -460,9 +465,9 @@ fn grouped<'a>(
     rest: &'a [Token],
 ) -> Result<Parsed<'a>, ParseErr>
     requires room { room < MOST_EXPRESSIONS }
-    requires level { 2 ≤ level }
+    requires level { UNARY ≤ level }
     requires punctuator { IsPunctuator punctuators.OpenParenthesis at tokens.now rest.now }
-    requires base { (3 ≤ level) → NoBase rest.now }
+    requires base { (CAST ≤ level) → NoBase rest.now }
     ensures found { IfOk result (λ x.
         IsOperand text.now level (expression x.expr) tokens.now x.rest.now) }
     ensures low { IfOk result (λ x. x.over ≤ room + 1) }

@@ -17,6 +17,7 @@ use c_lex::token::Token;
 use c_parse_atom::operators::{assignment_of, binary_of, increment_of, level};
 use c_parse_type::front::punctuator;
 use c_syntax::expression::{Expr, Identifier};
+use c_syntax::level::{ASSIGNMENT, CAST, COMMA, CONDITIONAL, LOGICAL_OR, POSTFIX, PRIMARY, UNARY};
 use c_syntax::operator::{Arithmetic, BinaryOperator, Increment, UnaryOperator};
 use std::alloc::Global;
 
@@ -35,8 +36,8 @@ impl Infix {
     {
         match self {
             Infix::Binary(operator) => level(operator),
-            Infix::Assign(_) => 2,
-            Infix::Comma => 16,
+            Infix::Assign(_) => UNARY,
+            Infix::Comma => COMMA,
         }
     }
 
@@ -46,7 +47,7 @@ impl Infix {
     {
         match self {
             Infix::Binary(operator) => level(operator) - 1,
-            Infix::Assign(_) | Infix::Comma => 15,
+            Infix::Assign(_) | Infix::Comma => ASSIGNMENT,
         }
     }
 }
@@ -66,9 +67,9 @@ impl Operation {
         ensures { result ≡ operations.bound self }
     {
         match self {
-            Operation::Index | Operation::Postfix(_) => 1,
+            Operation::Index | Operation::Postfix(_) => POSTFIX,
             Operation::Infix(operator) => operator.left(),
-            Operation::Conditional => 13,
+            Operation::Conditional => LOGICAL_OR,
         }
     }
 }
@@ -120,14 +121,14 @@ pub fn rank(expr: &Expr) -> u8
         | Expr::Variable(_)
         | Expr::Information { .. }
         | Expr::Call { .. }
-        | Expr::Parentheses { .. } => 0,
-        Expr::Index { .. } | Expr::Postfix { .. } => 1,
-        Expr::Prefix { .. } | Expr::Unary { .. } => 2,
-        Expr::Cast { .. } => 3,
+        | Expr::Parentheses { .. } => PRIMARY,
+        Expr::Index { .. } | Expr::Postfix { .. } => POSTFIX,
+        Expr::Prefix { .. } | Expr::Unary { .. } => UNARY,
+        Expr::Cast { .. } => CAST,
         Expr::Binary { operator, .. } => level(*operator),
-        Expr::Conditional { .. } => 14,
-        Expr::Assign { .. } => 15,
-        Expr::Comma { .. } => 16,
+        Expr::Conditional { .. } => CONDITIONAL,
+        Expr::Assign { .. } => ASSIGNMENT,
+        Expr::Comma { .. } => COMMA,
     }
 }
 

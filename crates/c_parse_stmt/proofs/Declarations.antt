@@ -9,6 +9,7 @@ use Rattle.c_syntax.specs.declared.statement.Local.{Local as Local'}
 use Rattle.c_syntax.specs.Faults.{Alike, SameFirst, place, Onward, Failed, Wraps}
 use Rattle.c_syntax.specs.Follow.{Stops}
 use Rattle.c_syntax.specs.Limits.{height_of, one_over, height_of_locals, one_over_locals}
+use Rattle.c_syntax.specs.Operators.{assignment}
 use Rattle.c_syntax.specs.Statement.{Local, local}
 use Rattle.c_syntax.specs.Statements.{IsLocal, AreMoreLocals, AreLocals}
 use Rattle.c_syntax.specs.Tokens.{token, HasPunctuator}
@@ -43,13 +44,13 @@ less n room whole left l ls c w = record {
   count = λ k. let e = w.count k in omega arith;
 }
 
-first_back : (text : List ℕ) (room whole left n : ℕ) (ts rest : List Token) (x : Local) → IsLocal text x ts rest → Stops 15 rest → left + 1 ≡ whole → NoMoreLocals room left n text rest → NoLocals room whole n text ts
+first_back : (text : List ℕ) (room whole left n : ℕ) (ts rest : List Token) (x : Local) → IsLocal text x ts rest → Stops assignment rest → left + 1 ≡ whole → NoMoreLocals room left n text rest → NoLocals room whole n text ts
 first_back text room whole left n ts rest x is st c none [] end h w = absurd h
 first_back text room whole left n ts rest x is st c none (l ∷ ls) end h w =
     let u = one_local text x l ts ts rest h.0 refl st (locals_stop text ls h.0 end h.2) is h.1 in
     none ls end (subst (λ (z : List Token). AreMoreLocals text ls z end) (sym u.1) h.2) (less n room whole left l ls c w)
 
-pub begins : (text : List ℕ) (room whole left : ℕ) (ts rest : List Token) (x : Local') → IsLocal text (local x) ts rest → Stops 15 rest → height_of (local x).initialiser ≤ 64 → one_over (local x).initialiser ≤ room → left + 1 ≡ whole → Begun text room whole ts (x ∷ []) rest left
+pub begins : (text : List ℕ) (room whole left : ℕ) (ts rest : List Token) (x : Local') → IsLocal text (local x) ts rest → Stops assignment rest → height_of (local x).initialiser ≤ 64 → one_over (local x).initialiser ≤ room → left + 1 ≡ whole → Begun text room whole ts (x ∷ []) rest left
 begins text room whole left ts rest x is st low over c =
     let m = local_moves (local x) text ts rest is in
     record {
@@ -59,7 +60,7 @@ begins text room whole left ts rest x is st low over c =
       expressions = omega arith;
       statements = omega arith;
       count = c;
-      back = λ n text' other a same. first_back text' room whole left n (m.front ++ other) other (local x) (m.again text' other a) (stops_first 15 rest other same st) c;
+      back = λ n text' other a same. first_back text' room whole left n (m.front ++ other) other (local x) (m.again text' other a) (stops_first assignment rest other same st) c;
     }
 
 map_snoc : (xs : List Local') (x : Local') (ls : List Local) → map local (xs ++ x ∷ []) ++ ls ≡ map local xs ++ local x ∷ ls
@@ -84,7 +85,7 @@ map_more xs x = sym (append-nil (map local (xs ++ x ∷ []))) ∙ map_snoc xs x 
 other_punctuator : (s z : Punctuator) (ts rest end : List Token) → HasPunctuator s ts rest → HasPunctuator z ts end → s ≡ z
 other_punctuator s z ts rest end h g = (punctuator_same s z h.0 g.0 ts ts rest end refl h.1 g.1).0
 
-next_back : (text : List ℕ) (room left more n : ℕ) (rest b after : List Token) (x : Local) → HasPunctuator punctuators.Comma rest b → IsLocal text x b after → Stops 15 after → more + 1 ≡ left → NoMoreLocals room more n text after → NoMoreLocals room left n text rest
+next_back : (text : List ℕ) (room left more n : ℕ) (rest b after : List Token) (x : Local) → HasPunctuator punctuators.Comma rest b → IsLocal text x b after → Stops assignment after → more + 1 ≡ left → NoMoreLocals room more n text after → NoMoreLocals room left n text rest
 next_back text room left more n rest b after x c is st e none [] end h w = let e : punctuators.Comma ≡ punctuators.Semicolon = other_punctuator punctuators.Comma punctuators.Semicolon rest b end c h in cc
 next_back text room left more n rest b after x c is st e none (l ∷ ls) end h w =
     let p = has_same punctuators.Comma rest rest b h.after_comma refl c h.comma in
@@ -93,7 +94,7 @@ next_back text room left more n rest b after x c is st e none (l ∷ ls) end h w
     none ls end (subst (λ (z : List Token). AreMoreLocals text ls z end) (sym u.1) h.others)
     (less n room left more l ls e w)
 
-pub continues : (text : List ℕ) (room whole left more : ℕ) (ts rest b after : List Token) (found : List Local') (x : Local') → Begun text room whole ts found rest left → HasPunctuator punctuators.Comma rest b → IsLocal text (local x) b after → Stops 15 after → height_of (local x).initialiser ≤ 64 → one_over (local x).initialiser ≤ room → more + 1 ≡ left → Begun text room whole ts (found ++ x ∷ []) after more
+pub continues : (text : List ℕ) (room whole left more : ℕ) (ts rest b after : List Token) (found : List Local') (x : Local') → Begun text room whole ts found rest left → HasPunctuator punctuators.Comma rest b → IsLocal text (local x) b after → Stops assignment after → height_of (local x).initialiser ≤ 64 → one_over (local x).initialiser ≤ room → more + 1 ≡ left → Begun text room whole ts (found ++ x ∷ []) after more
 continues text room whole left more ts rest b after found x d c is st low over e =
     let m = both (has_punctuator punctuators.Comma text rest b c) (local_moves (local x) text b after is) in
     record {
@@ -115,7 +116,7 @@ continues text room whole left more ts rest b after found x d c is st low over e
       back = λ n text' other a same none.
           let g = m.again text' other (alike_inner text text' d.before rest ts d.split a) in
           subst (λ (z : List Token). NoLocals room whole n text' z) (sym (append_assoc d.before m.front other))
-          (d.back n text' (m.front ++ other) a (same_after m.front after rest other m.split same) (next_back text' room left more n (m.front ++ other) g.0 other (local x) g.1 g.2 (stops_first 15 after other same st) e none));
+          (d.back n text' (m.front ++ other) a (same_after m.front after rest other m.split same) (next_back text' room left more n (m.front ++ other) g.0 other (local x) g.1 g.2 (stops_first assignment after other same st) e none));
     }
 
 pub ends : (text : List ℕ) (room whole left : ℕ) (ts rest end : List Token) (found : List Local') → Begun text room whole ts found rest left → HasPunctuator punctuators.Semicolon rest end → AreLocals text (map local found) ts end

@@ -9,6 +9,7 @@ use Rattle.c_syntax.specs.Expression.{Expression}
 use Rattle.c_syntax.specs.Expressions.{Derives}
 use Rattle.c_syntax.specs.Faults.{Alike, SameFirst, place, Able, Onward, Failed, Wraps}
 use Rattle.c_syntax.specs.Follow.{follows, Stops}
+use Rattle.c_syntax.specs.Operators.{assignment}
 use Rattle.c_syntax.specs.Statement.{Local}
 use Rattle.c_syntax.specs.Statements.{IsInitialiser, IsLocal}
 use Rattle.c_syntax.specs.Tokens.{token, IsIdentifier, HasPunctuator}
@@ -28,9 +29,9 @@ use Rattle.c_parse_stmt.proofs.Placing.{Lacks, lacks_first, has_elsewhere, missi
 
 -- ---- initialisers
 
-assigned : (ts value rest : List Token) → HasPunctuator punctuators.Assign ts value → ts ≡ rest → Stops 15 rest → ⊥
+assigned : (ts value rest : List Token) → HasPunctuator punctuators.Assign ts value → ts ≡ rest → Stops assignment rest → ⊥
 assigned ts value rest h e s =
-    let f = follows_punctuator punctuators.Assign h.0 ts value 15 h.1 refl in
+    let f = follows_punctuator punctuators.Assign h.0 ts value assignment h.1 refl in
     let g = ap follows e in absurd (omega arith)
 
 pub has_first : (s : Punctuator) (ts rest other : List Token) → HasPunctuator s ts rest → SameFirst ts other → (end : List Token) × HasPunctuator s other end
@@ -61,7 +62,7 @@ no_room text ts value h = record {
     against text' other a same None end g st low over = let x = has_first punctuators.Assign ts value other h same in assigned other x.0 end x.1 g st
     against text' other a same (Some e) end g st low over = let x = over (omega arith) in absurd (omega arith)
 
-pub in_initialiser : (text : List ℕ) (room : ℕ) (ts value : List Token) → HasPunctuator punctuators.Assign ts value → 1 ≤ room → Wraps (NoExpression 15 64) (HasExpression 15 64) (NoInitialiser room) (HasInitialiser room) text value ts
+pub in_initialiser : (text : List ℕ) (room : ℕ) (ts value : List Token) → HasPunctuator punctuators.Assign ts value → 1 ≤ room → Wraps (NoExpression assignment 64) (HasExpression assignment 64) (NoInitialiser room) (HasInitialiser room) text value ts
 in_initialiser text room ts value h some = record {
   before = m.front;
   split = m.split;
@@ -80,13 +81,13 @@ in_initialiser text room ts value h some = record {
     m : Moves (λ t. HasPunctuator punctuators.Assign) text ts value
     m = has_punctuator punctuators.Assign text ts value h
 
-    against : (n : ℕ) (text' : List ℕ) (other : List Token) → Alike text text' ts → SameFirst value other → NoExpression 15 64 n text' other → NoInitialiser room n text' (m.front ++ other)
+    against : (n : ℕ) (text' : List ℕ) (other : List Token) → Alike text text' ts → SameFirst value other → NoExpression assignment 64 n text' other → NoInitialiser room n text' (m.front ++ other)
     against n text' other a same none None end g st low over = assigned (m.front ++ other) other end (m.again text' other a) g st
     against n text' other a same none (Some e) end g st low over =
         let p = has_same punctuators.Assign (m.front ++ other) (m.front ++ other) g.0 other refl g.1 (m.again text' other a) in
-        none e end (subst (λ (x : List Token). Derives text' 15 e x end) p g.2) st low
+        none e end (subst (λ (x : List Token). Derives text' assignment e x end) p g.2) st low
 
-pub operator_after : (text : List ℕ) (room : ℕ) (ts : List Token) → follows ts ≤ 15 → Lacks punctuators.Assign ts → Failed 0 (place text ts) (NoInitialiser room) (HasInitialiser room) text ts
+pub operator_after : (text : List ℕ) (room : ℕ) (ts : List Token) → follows ts ≤ assignment → Lacks punctuators.Assign ts → Failed 0 (place text ts) (NoInitialiser room) (HasInitialiser room) text ts
 operator_after text room ts l none = missing (NoInitialiser room) (HasInitialiser room) text ts [] ts refl against (λ text' a k. unassigned room 6 text')
   where
     against : (text' : List ℕ) (other : List Token) → Alike text text' ts → SameFirst ts other → NoInitialiser room 0 text' other

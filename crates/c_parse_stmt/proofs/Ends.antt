@@ -7,6 +7,7 @@ use Rattle.c_syntax.specs.Expression.{Expression, height}
 use Rattle.c_syntax.specs.Expressions.{Derives}
 use Rattle.c_syntax.specs.Faults.{Alike, SameFirst, Wraps}
 use Rattle.c_syntax.specs.Follow.{punctuator_follows, Stops}
+use Rattle.c_syntax.specs.Operators.{comma}
 use Rattle.c_syntax.specs.Statements.{IsCondition}
 use Rattle.c_syntax.specs.Tokens.{HasPunctuator}
 use Rattle.c_syntax.proofs.Failing.{first_keeps, first_after}
@@ -56,7 +57,7 @@ unopened text ts = record {
   };
 }
 
-pub in_condition : (text : List ℕ) (ts a : List Token) → HasPunctuator punctuators.OpenParenthesis ts a → Wraps (NoExpression 16 64) (HasExpression 16 64) NoCondition HasCondition text a ts
+pub in_condition : (text : List ℕ) (ts a : List Token) → HasPunctuator punctuators.OpenParenthesis ts a → Wraps (NoExpression comma 64) (HasExpression comma 64) NoCondition HasCondition text a ts
 in_condition text ts a o =
     let m = has_punctuator punctuators.OpenParenthesis text ts a o in
     record {
@@ -65,8 +66,8 @@ in_condition text ts a o =
       no = λ n text' other k same none e end h low.
           let p = has_same punctuators.OpenParenthesis (m.front ++ other)
           (m.front ++ other) h.after_opening other refl h.opening (m.again text' other k) in
-          none e h.after_inner (subst (λ (x : List Token). Derives text' 16 e x h.after_inner) p
-          h.inner) (has_stops punctuators.CloseParenthesis h.after_inner end 16 h.closing
+          none e h.after_inner (subst (λ (x : List Token). Derives text' comma e x h.after_inner) p
+          h.inner) (has_stops punctuators.CloseParenthesis h.after_inner end comma h.closing
           (omega arith)) low;
       has = λ n text' inner k speaks h. record {
         more = punctuator punctuators.CloseParenthesis ∷ [];
@@ -87,23 +88,23 @@ in_condition text ts a o =
       };
     }
 
-unclosed_at : (text : List ℕ) (e : Expression) (ts a b : List Token) (n : ℕ) → HasPunctuator punctuators.OpenParenthesis ts a → Derives text 16 e a b → Stops 16 b → Lacks punctuators.CloseParenthesis b → NoCondition n text ts
+unclosed_at : (text : List ℕ) (e : Expression) (ts a b : List Token) (n : ℕ) → HasPunctuator punctuators.OpenParenthesis ts a → Derives text comma e a b → Stops comma b → Lacks punctuators.CloseParenthesis b → NoCondition n text ts
 unclosed_at text e ts a b n o d s none f end h low =
     let p = has_same punctuators.OpenParenthesis ts ts h.after_opening a refl h.opening o in
-    let k : Derives text 16 f a h.after_inner = subst (λ (x : List Token). Derives text 16 f x
+    let k : Derives text comma f a h.after_inner = subst (λ (x : List Token). Derives text comma f x
     h.after_inner) p h.inner in
-    let u = one_expression text 16 e f a b h.after_inner d k s
-    (has_stops punctuators.CloseParenthesis h.after_inner end 16 h.closing (omega arith)) in
+    let u = one_expression text comma e f a b h.after_inner d k s
+    (has_stops punctuators.CloseParenthesis h.after_inner end comma h.closing (omega arith)) in
     none end (subst (λ (x : List Token). HasPunctuator punctuators.CloseParenthesis x end)
     (sym u.1) h.closing)
 
-pub unclosed : (text : List ℕ) (e : Expression) (ts a b : List Token) → HasPunctuator punctuators.OpenParenthesis ts a → Derives text 16 e a b → Stops 16 b → height e ≤ 64 → Wraps (NoPunctuator punctuators.CloseParenthesis) (APunctuator punctuators.CloseParenthesis) NoCondition HasCondition text b ts
+pub unclosed : (text : List ℕ) (e : Expression) (ts a b : List Token) → HasPunctuator punctuators.OpenParenthesis ts a → Derives text comma e a b → Stops comma b → height e ≤ 64 → Wraps (NoPunctuator punctuators.CloseParenthesis) (APunctuator punctuators.CloseParenthesis) NoCondition HasCondition text b ts
 unclosed text e ts a b o d s low =
-    let m = both (has_punctuator punctuators.OpenParenthesis text ts a o) (derives 16 e text a b d) in
+    let m = both (has_punctuator punctuators.OpenParenthesis text ts a o) (derives comma e text a b d) in
     record {
       before = m.front;
       split = m.split;
-      no = λ n text' other k same none. let g = m.again text' other k in unclosed_at text' e (m.front ++ other) g.0 other n g.1 g.2 (stops_first 16 b other same s) none;
+      no = λ n text' other k same none. let g = m.again text' other k in unclosed_at text' e (m.front ++ other) g.0 other n g.1 g.2 (stops_first comma b other same s) none;
       has = λ n text' inner k speaks h. record {
         more = [];
         has = record {
@@ -125,7 +126,7 @@ unclosed text e ts a b o d s low =
 
 -- ---- expressions or nothing
 
-pub no_expression : (text : List ℕ) (s : Punctuator) (room : ℕ) (ts : List Token) → 16 < punctuator_follows s → Lacks s ts → 1 ≤ room → Wraps (NoExpression 16 64) (HasExpression 16 64) (NoneUpTo s room) (HasUpTo s room) text ts ts
+pub no_expression : (text : List ℕ) (s : Punctuator) (room : ℕ) (ts : List Token) → comma < punctuator_follows s → Lacks s ts → 1 ≤ room → Wraps (NoExpression comma 64) (HasExpression comma 64) (NoneUpTo s room) (HasUpTo s room) text ts ts
 no_expression text s room ts l lacks some = record {
   before = [];
   split = refl;
@@ -134,35 +135,35 @@ no_expression text s room ts l lacks some = record {
     more = punctuator s ∷ [];
     has = record {
       tree = Some h.tree;
-      is = λ other. (punctuator s ∷ other, subst (λ (z : List Token). Derives text' 16 h.tree z (punctuator s ∷ other)) (sym (append_assoc inner (punctuator s ∷ []) other)) (h.derives (punctuator s ∷ other)), (0, (0, refl)));
+      is = λ other. (punctuator s ∷ other, subst (λ (z : List Token). Derives text' comma h.tree z (punctuator s ∷ other)) (sym (append_assoc inner (punctuator s ∷ []) other)) (h.derives (punctuator s ∷ other)), (0, (0, refl)));
       low = h.low;
       over = λ k. some;
     };
   };
 }
   where
-    against : (n : ℕ) (text' : List ℕ) (other : List Token) → Alike text text' ts → SameFirst ts other → NoExpression 16 64 n text' other → NoneUpTo s room n text' other
+    against : (n : ℕ) (text' : List ℕ) (other : List Token) → Alike text text' ts → SameFirst ts other → NoExpression comma 64 n text' other → NoneUpTo s room n text' other
     against n text' other a same nothing None end h low over = lacks_first s ts other same lacks end (subst (λ (x : List Token). HasPunctuator s x end) (sym h.1) h.2)
-    against n text' other a same nothing (Some e) end h low over = nothing e h.0 h.1 (has_stops s h.0 end 16 h.2 l) low
+    against n text' other a same nothing (Some e) end h low over = nothing e h.0 h.1 (has_stops s h.0 end comma h.2 l) low
 
-unended_at : (text : List ℕ) (s : Punctuator) (room : ℕ) (e : Expression) (ts b : List Token) (n : ℕ) → 16 < punctuator_follows s → Lacks s ts → Derives text 16 e ts b → Stops 16 b → Lacks s b → NoneUpTo s room n text ts
+unended_at : (text : List ℕ) (s : Punctuator) (room : ℕ) (e : Expression) (ts b : List Token) (n : ℕ) → comma < punctuator_follows s → Lacks s ts → Derives text comma e ts b → Stops comma b → Lacks s b → NoneUpTo s room n text ts
 unended_at text s room e ts b n l none d st lacks None end h low over = none end (subst (λ (x : List Token). HasPunctuator s x end) (sym h.1) h.2)
 unended_at text s room e ts b n l none d st lacks (Some f) end h low over =
-    let u = one_expression text 16 e f ts b h.0 d h.1 st (has_stops s h.0 end 16 h.2 l) in
+    let u = one_expression text comma e f ts b h.0 d h.1 st (has_stops s h.0 end comma h.2 l) in
     lacks end (subst (λ (x : List Token). HasPunctuator s x end) (sym u.1) h.2)
 
-pub unended : (text : List ℕ) (s : Punctuator) (room : ℕ) (e : Expression) (ts b : List Token) → 16 < punctuator_follows s → Lacks s ts → Derives text 16 e ts b → Stops 16 b → height e ≤ 64 → 1 ≤ room → Wraps (NoPunctuator s) (APunctuator s) (NoneUpTo s room) (HasUpTo s room) text b ts
+pub unended : (text : List ℕ) (s : Punctuator) (room : ℕ) (e : Expression) (ts b : List Token) → comma < punctuator_follows s → Lacks s ts → Derives text comma e ts b → Stops comma b → height e ≤ 64 → 1 ≤ room → Wraps (NoPunctuator s) (APunctuator s) (NoneUpTo s room) (HasUpTo s room) text b ts
 unended text s room e ts b l lacks d st low some =
-    let m = derives 16 e text ts b d in
+    let m = derives comma e text ts b d in
     record {
       before = m.front;
       split = m.split;
-      no = λ n text' other k same none. unended_at text' s room e (m.front ++ other) other n l (lacks_first s ts (m.front ++ other) (same_after m.front b ts other m.split same) lacks) (m.again text' other k) (stops_first 16 b other same st) none;
+      no = λ n text' other k same none. unended_at text' s room e (m.front ++ other) other n l (lacks_first s ts (m.front ++ other) (same_after m.front b ts other m.split same) lacks) (m.again text' other k) (stops_first comma b other same st) none;
       has = λ n text' inner k speaks h. record {
         more = [];
         has = record {
           tree = Some e;
-          is = λ other. (inner ++ other, subst (λ (z : List Token). Derives text' 16 e z (inner ++ other)) (sym (flat m.front inner [] other)) (m.again text' (inner ++ other) k), h other);
+          is = λ other. (inner ++ other, subst (λ (z : List Token). Derives text' comma e z (inner ++ other)) (sym (flat m.front inner [] other)) (m.again text' (inner ++ other) k), h other);
           low = λ k. low;
           over = λ k. some;
         };

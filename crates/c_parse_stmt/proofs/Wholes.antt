@@ -9,6 +9,7 @@ use Rattle.c_lex.specs.declared.token.Token.{Token}
 use Rattle.c_syntax.specs.Expression.{Expression, height}
 use Rattle.c_syntax.specs.Follow.{punctuator_follows, NoElse, Closed}
 use Rattle.c_syntax.specs.Limits.{height_of, one_over, statements_over, locals, numbered}
+use Rattle.c_syntax.specs.Operators.{comma}
 use Rattle.c_syntax.specs.Statement.{Statement, Declare, Block, Evaluate, If, IfElse, While, DoWhile, For, Return, Break, Continue, Leave, TryExcept, TryFinally, Statements}
 use Rattle.c_syntax.specs.Statements.{IsUpTo, IsCondition, dangles, IsBlockItem, AreBlockItems}
 use Rattle.c_syntax.specs.Tokens.{IsKeyword, HasPunctuator, HasKeyword}
@@ -170,7 +171,7 @@ if_else_found text room less at left mid after c z y a b d e rest n is low r els
 
 -- ---- expressions, `return` and jumps
 
-pub up_to : (text : List ℕ) (s : Punctuator) (e f : Option Expression) (ts us r q : List Token) → ts ≡ us → 16 < punctuator_follows s → punctuator_class s ≡ 6 → IsUpTo text s e ts r → IsUpTo text s f us q → r ≡ q
+pub up_to : (text : List ℕ) (s : Punctuator) (e f : Option Expression) (ts us r q : List Token) → ts ≡ us → comma < punctuator_follows s → punctuator_class s ≡ 6 → IsUpTo text s e ts r → IsUpTo text s f us q → r ≡ q
 up_to text s e f ts us r q p l c h g = (optional text s e f ts us h.0 g.0 r q p l c h.1 g.1 h.2 g.2).1
 
 pub evaluated : (text : List ℕ) (room : ℕ) (left : Left) (e : Option Expression) (ts rest : List Token) → IsUpTo text punctuators.Semicolon e ts rest → height_of e ≤ 64 → one_over e ≤ room → Reads text room left left (Evaluate e) ts rest

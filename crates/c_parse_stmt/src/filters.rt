@@ -25,15 +25,13 @@ use c_parse_expr::refusal::{ParseErr, place};
 use c_parse_type::front::{after, front};
 use c_parse_type::specifiers::base;
 use c_syntax::expression::{Expr, Identifier, Literal};
+use c_syntax::level::{COMMA, PRIMARY};
 use c_syntax::limit::{Count, MOST_EXPRESSIONS};
 use std::alloc::Global;
 
 /// The most opening parentheses that a filter may have: its own, and those of the expressions
 /// around a part of it.
 const OPENING: u64 = MOST_EXPRESSIONS + 1;
-
-/// The level of a whole expression, commas too (C11, 6.5.17).
-const COMMA: u8 = 16;
 
 /// Whether a literal is an integer of value 1.
 fn is_one(literal: Literal) -> bool
@@ -176,7 +174,7 @@ fn continues_after(opened: u64, closed: u64, atom: Token, tokens: &[Token]) -> b
     ensures none { IsFalse result → NoneAfter opened closed atom tokens.now }
 {
     let level = follows(tokens);
-    if level == 0 {
+    if level == PRIMARY {
         return closed == 0 && matches!(atom.kind, Kind::Identifier);
     }
     level <= COMMA && opened < OPENING

@@ -21,12 +21,10 @@ use c_parse_expr::refusal::{ParseErr, place, too_deep, unexpected};
 use c_parse_type::front::after;
 use c_parse_type::specifiers::{base, stars};
 use c_syntax::expression::Expr;
+use c_syntax::level::ASSIGNMENT;
 use c_syntax::limit::{Count, MOST_EXPRESSIONS};
 use c_syntax::statement::{Declaration, ForInitialiser, Local};
 use std::alloc::Global;
-
-/// The level of an assignment, which is what an initialiser is (C11, 6.7.9).
-const ASSIGNMENT: u8 = 15;
 
 /// The refusal of the first token, with which the function has one local too many.
 fn too_many_locals(text: &[u8], tokens: &[Token]) -> ParseErr
@@ -48,7 +46,7 @@ fn initialiser<'a>(
 ) -> Result<(Option<Expr>, &'a [Token]), ParseErr>
     ensures found { IfOk result (λ x.
         IsInitialiser text.now (option_map expression x.0) tokens.now x.1.now) }
-    ensures stops { IfOk result (λ x. Stops 15 x.1.now) }
+    ensures stops { IfOk result (λ x. Stops ASSIGNMENT x.1.now) }
     ensures low { IfOk result (λ x. height_of (option_map expression x.0) ≤ MOST_EXPRESSIONS) }
     ensures over { IfOk result (λ x. one_over (option_map expression x.0) ≤ room) }
     ensures refused { IfErr result (λ e. RefusesInitialiser e room text.now tokens.now) }
@@ -78,7 +76,7 @@ fn local<'a>(
     tokens: &'a [Token],
 ) -> Result<(Local, &'a [Token]), ParseErr>
     ensures found { IfOk result (λ x. IsLocal text.now (trees.local x.0) tokens.now x.1.now) }
-    ensures stops { IfOk result (λ x. Stops 15 x.1.now) }
+    ensures stops { IfOk result (λ x. Stops ASSIGNMENT x.1.now) }
     ensures low { IfOk result (λ x. height_of (trees.local x.0).initialiser ≤ MOST_EXPRESSIONS) }
     ensures over { IfOk result (λ x. one_over (trees.local x.0).initialiser ≤ room) }
     ensures refused { IfErr result (λ e. RefusesLocal e room text.now tokens.now) }

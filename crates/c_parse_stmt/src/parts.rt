@@ -22,11 +22,9 @@ use c_parse_expr::expressions::expression;
 use c_parse_expr::refusal::{ParseErr, too_deep, unexpected};
 use c_parse_type::front::{after, front};
 use c_syntax::expression::Expr;
+use c_syntax::level::COMMA;
 use c_syntax::limit::MOST_EXPRESSIONS;
 use std::alloc::Global;
-
-/// The level of a whole expression, commas too (C11, 6.5.17).
-const COMMA: u8 = 16;
 
 /// The keyword at the front, its place, and what follows it.
 pub fn keyword_at(tokens: &[Token]) -> Option<(Keyword, u64, &[Token])>
@@ -183,7 +181,7 @@ pub fn optional<'a>(
     end: Punctuator,
     tokens: &'a [Token],
 ) -> Result<(Option<Expr>, &'a [Token]), ParseErr>
-    requires { 16 < punctuator_follows end }
+    requires { COMMA < punctuator_follows end }
     ensures found { IfOk result (λ x.
         IsUpTo text.now end (option_map expression x.0) tokens.now x.1.now) }
     ensures low { IfOk result (λ x. height_of (option_map expression x.0) ≤ MOST_EXPRESSIONS) }

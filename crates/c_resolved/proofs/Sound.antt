@@ -14,7 +14,7 @@ use Rattle.c_syntax.specs.declared.expression.Base.TheVariants.{Void, Char, Unsi
 use Rattle.c_syntax.specs.declared.expression.CType.{CType}
 use Rattle.c_syntax.specs.declared.expression.Identifier.{Identifier}
 use Rattle.c_syntax.specs.Limits as limits
-use Rattle.c_syntax.specs.Limits.{Within, EachWithin, FunctionWithin, funclets_of_all}
+use Rattle.c_syntax.specs.Limits.{every_limit, FunctionWithinFirst, EachWithinFirst, Within, funclets_of_all}
 use Rattle.c_syntax.specs.Program.{ExternalDeclaration, Globals, Function}
 use Rattle.c_syntax.specs.Statement.{Statements}
 use Rattle.c_resolved.specs.declared.fault.Fault.TheVariants.{Duplicate, TypeClash}
@@ -92,7 +92,7 @@ checked_function text file t n ps body number =
     let m = body_of text file t ps body number in
     record { name = spelled text n; parameters = parameter_sizes ps; locals = drop (length ps) m.counts.sizes; returns = result_size t; body = checked.statements m.done }
 
-function_holds : (fs : List checked_program.Function) (text : List ℕ) (file : Scope) (t : CType) (n : Identifier) (ps : List Parameter) (body : Statements) (number : ℕ) → FunctionWithin ps body
+function_holds : (fs : List checked_program.Function) (text : List ℕ) (file : Scope) (t : CType) (n : Identifier) (ps : List Parameter) (body : Statements) (number : ℕ) → FunctionWithinFirst every_limit ps body
     → ((zs : List Size) → ScopeFits fs zs file) → (function_of text file t n ps body number).faults ≡ [] → function_sound fs (checked_function text file t n ps body number) ≡ true
 function_holds fs text file t n ps body number within fit none =
     let m = body_of text file t ps body number in
@@ -106,9 +106,9 @@ function_holds fs text file t n ps body number within fit none =
     λ w. record { scope = record { functions = fs; sizes = w; code = false; information = false; abnormal = false }; returns = result_size t; loop = false; body = false; function = true } in
     let sound = subst (λ w. statements_sound (env w) (checked.statements m.done) ≡ true) (sym e) r.sound in
     let same : length (parameter_sizes ps) ≡ length ps = length-map ps (λ (p : Parameter). size_of p.of) in
-    let few : length (parameter_sizes ps) ≤ 8 = omega (arith, within.parameters) in
+    let few : length (parameter_sizes ps) ≤ 8 = omega (arith, within.parameters (omega arith)) in
     let dropped = length-drop (length ps) zs in
-    let locals : length (drop (length ps) zs) ≤ 256 = omega (arith, within.locals, c.sizes) in
+    let locals : length (drop (length ps) zs) ≤ 256 = omega (arith, within.locals (omega arith), c.sizes) in
     and_true (and_true sound (le-leb (length (parameter_sizes ps)) 8 few)) (le-leb (length (drop (length ps) zs)) 256 locals)
 
 -- ---- all functions
@@ -119,7 +119,7 @@ record FunctionsHold (fs : List checked_program.Function) (text : List ℕ) (xs 
   count : length done ≡ limits.functions xs
   within : length (all_funclets done) ≤ length (limits.funclets_in text xs)
 
-functions_hold : (fs : List checked_program.Function) (text : List ℕ) (file : Scope) → ((zs : List Size) → ScopeFits fs zs file) → (xs : List ExternalDeclaration) (number : ℕ) → EachWithin xs
+functions_hold : (fs : List checked_program.Function) (text : List ℕ) (file : Scope) → ((zs : List Size) → ScopeFits fs zs file) → (xs : List ExternalDeclaration) (number : ℕ) → EachWithinFirst every_limit xs
     → (functions_of text file xs number).faults ≡ [] → FunctionsHold fs text xs number (functions_of text file xs number).done
 functions_hold fs text file fit [] number within none = record { sound = refl; up = refl; count = refl; within = omega arith }
 functions_hold fs text file fit (Globals base gs ∷ xs) number within none =
@@ -205,12 +205,12 @@ accepted_is_sound text xs within none =
     let apart = none_in_both (main.faults ++ file.faults) functions.faults none in
     let first = none_in_both main.faults file.faults apart.0 in
     let bytes = file_length text xs empty_file first.1 in
-    let few : length file.bytes ≤ 1048576 = omega (arith, bytes, within.bytes) in
+    let few : length file.bytes ≤ 1048576 = omega (arith, bytes, within.bytes (omega arith)) in
     let fit : (zs : List Size) → ScopeFits fs zs file.scope = λ zs. file_fits fs zs text xs empty_file first.1 few (functions_from text file.scope xs 1 []) tt in
     let r = functions_hold fs text file.scope fit xs 1 within.each apart.1 in
     let main_fits = main_holds fs [] xs (meaning_in file.scope main_name) (meaning_fits fs [] file.scope (fit []) main_name) first.0 in
-    let many : length fs ≤ 4096 = omega (arith, r.count, within.functions) in
-    let numbered : length (all_funclets fs) ≤ 16384 = omega (arith, r.within, within.numbered) in
+    let many : length fs ≤ 4096 = omega (arith, r.count, within.functions (omega arith)) in
+    let numbered : length (all_funclets fs) ≤ 16384 = omega (arith, r.within, within.numbered (omega arith)) in
     and_true
     (and_true (and_true (and_true (and_true r.sound main_fits) r.up) (le-leb (length fs) 4096 many)) (le-leb (length (all_funclets fs)) 16384 numbered))
     (le-leb (length file.bytes) 1048576 few)

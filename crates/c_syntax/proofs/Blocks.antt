@@ -12,6 +12,7 @@ use Rattle.c_syntax.specs.declared.expression.Identifier.{Identifier}
 use Rattle.c_syntax.specs.Expression.{Expression}
 use Rattle.c_syntax.specs.Expressions.{Derives}
 use Rattle.c_syntax.specs.Follow.{punctuator_follows, follows, Stops, NoElse, Closed, OneStatement}
+use Rattle.c_syntax.specs.Operators.{assignment, comma}
 use Rattle.c_syntax.specs.Statement.{Local, ForInitialiser, Declaring, Evaluating, Statement, Declare, Block, Evaluate, If, IfElse, While, DoWhile, For, Return, Break, Continue, Leave, TryExcept, TryFinally, Statements, Empty, Then}
 use Rattle.c_syntax.specs.Statements.{IsInitialiser, IsLocal, AreMoreLocals, AreLocals, IsDeclaration, IsOptional, IsCondition, IsForInitialiser, dangles, IsBlockItem, AreBlockItems}
 use Rattle.c_syntax.specs.Tokens.{IsKeyword, IsIdentifier, HasPunctuator, HasKeyword}
@@ -265,13 +266,13 @@ typed_begins (t ∷ ts) h = kind_typed t.kind h
 -- ---- expressions between punctuators
 
 -- an expression up to a punctuator that ends it
-pub up_to : (text : List ℕ) (s : Punctuator) (e f : Expression) (ts us rest end r q : List Token) → ts ≡ us → 16 < punctuator_follows s → Derives text 16 e ts rest → Derives text 16 f us end → HasPunctuator s rest r → HasPunctuator s end q → (e ≡ f) × (r ≡ q)
+pub up_to : (text : List ℕ) (s : Punctuator) (e f : Expression) (ts us rest end r q : List Token) → ts ≡ us → comma < punctuator_follows s → Derives text comma e ts rest → Derives text comma f us end → HasPunctuator s rest r → HasPunctuator s end q → (e ≡ f) × (r ≡ q)
 up_to text s e f ts us rest end r q p l h g x y =
-    let k : Derives text 16 f ts end = subst (λ (z : List Token). Derives text 16 f z end) (sym p) g in
-    let a = one_expression text 16 e f ts rest end h k (has_stops s rest r 16 x l) (has_stops s end q 16 y l) in
+    let k : Derives text comma f ts end = subst (λ (z : List Token). Derives text comma f z end) (sym p) g in
+    let a = one_expression text comma e f ts rest end h k (has_stops s rest r comma x l) (has_stops s end q comma y l) in
     (a.0, has_same s rest end r q a.1 x y)
 
-pub optional : (text : List ℕ) (s : Punctuator) (e f : Option Expression) (ts us rest end r q : List Token) → ts ≡ us → 16 < punctuator_follows s → punctuator_class s ≡ 6 → IsOptional text e ts rest → IsOptional text f us end → HasPunctuator s rest r → HasPunctuator s end q → (e ≡ f) × (r ≡ q)
+pub optional : (text : List ℕ) (s : Punctuator) (e f : Option Expression) (ts us rest end r q : List Token) → ts ≡ us → comma < punctuator_follows s → punctuator_class s ≡ 6 → IsOptional text e ts rest → IsOptional text f us end → HasPunctuator s rest r → HasPunctuator s end q → (e ≡ f) × (r ≡ q)
 optional text s None None ts us rest end r q p l c h g x y = (refl, has_same s rest end r q (sym h ∙ p ∙ g) x y)
 optional text s None (Some f) ts us rest end r q p l c h g x y =
     let a = has_front s rest r x in let b = expression_front text f us end g.spells in let d = ap front h in let m = ap front p in absurd (omega arith)
@@ -292,14 +293,14 @@ condition text e f ts us rest end p h g =
 abbrev present : Expression → Option Expression
 present e = Some e
 
-pub initialiser : (text : List ℕ) (e f : Option Expression) (ts us rest end : List Token) → ts ≡ us → Stops 15 rest → Stops 15 end → IsInitialiser text e ts rest → IsInitialiser text f us end → (e ≡ f) × (rest ≡ end)
+pub initialiser : (text : List ℕ) (e f : Option Expression) (ts us rest end : List Token) → ts ≡ us → Stops assignment rest → Stops assignment end → IsInitialiser text e ts rest → IsInitialiser text f us end → (e ≡ f) × (rest ≡ end)
 initialiser text None None ts us rest end p s z h g = (refl, sym h ∙ p ∙ g)
-initialiser text None (Some f) ts us rest end p s z h g = let a = follows_punctuator punctuators.Assign g.1.0 us g.0 15 g.1.1 refl in let b = ap follows h in let c = ap follows p in absurd (omega arith)
-initialiser text (Some e) None ts us rest end p s z h g = let a = follows_punctuator punctuators.Assign h.1.0 ts h.0 15 h.1.1 refl in let b = ap follows g in let c = ap follows p in absurd (omega arith)
+initialiser text None (Some f) ts us rest end p s z h g = let a = follows_punctuator punctuators.Assign g.1.0 us g.0 assignment g.1.1 refl in let b = ap follows h in let c = ap follows p in absurd (omega arith)
+initialiser text (Some e) None ts us rest end p s z h g = let a = follows_punctuator punctuators.Assign h.1.0 ts h.0 assignment h.1.1 refl in let b = ap follows g in let c = ap follows p in absurd (omega arith)
 initialiser text (Some e) (Some f) ts us rest end p s z h g =
     let a = has_same punctuators.Assign ts us h.0 g.0 p h.1 g.1 in
-    let k : Derives text 15 f h.0 end = subst (λ (x : List Token). Derives text 15 f x end) (sym a) g.2 in
-    let b = one_expression text 15 e f h.0 rest end h.2 k s z in
+    let k : Derives text assignment f h.0 end = subst (λ (x : List Token). Derives text assignment f x end) (sym a) g.2 in
+    let b = one_expression text assignment e f h.0 rest end h.2 k s z in
     (ap present b.0, b.1)
 
 pub name_star : (name : Identifier) (ts rest : List Token) → IsIdentifier name ts rest → NoStar ts
@@ -313,14 +314,14 @@ name_type name ts rest h = λ e. let q : front ts ≡ 0 = ap front h in absurd (
 abbrev make : ℕ → Identifier → Option Expression → Local
 make n name e = record { pointers = n; name = name; initialiser = e }
 
-pub local : (text : List ℕ) (l m : Local) (ts us rest end : List Token) → ts ≡ us → Stops 15 rest → Stops 15 end → IsLocal text l ts rest → IsLocal text m us end → (l ≡ m) × (rest ≡ end)
+pub local : (text : List ℕ) (l m : Local) (ts us rest end : List Token) → ts ≡ us → Stops assignment rest → Stops assignment end → IsLocal text l ts rest → IsLocal text m us end → (l ≡ m) × (rest ≡ end)
 local text l m ts us rest end p s z h g =
     let a = stars_once l.pointers m.pointers ts us h.after_stars g.after_stars p (name_star l.name h.after_stars h.after_name h.name) (name_star m.name g.after_stars g.after_name g.name) h.stars g.stars in
     let b = name_same l.name m.name h.after_stars g.after_stars h.after_name g.after_name a.1 h.name g.name in
     let c = initialiser text l.initialiser m.initialiser h.after_name g.after_name rest end b.1 s z h.initialiser g.initialiser in
     (ap (λ (n : ℕ). make n l.name l.initialiser) a.0 ∙ ap (λ (n : Identifier). make m.pointers n l.initialiser) b.0 ∙ ap (λ (e : Option Expression). make m.pointers m.name e) c.0, c.1)
 
-pub locals_stop : (text : List ℕ) (ls : List Local) (ts rest : List Token) → AreMoreLocals text ls ts rest → Stops 15 ts
+pub locals_stop : (text : List ℕ) (ls : List Local) (ts rest : List Token) → AreMoreLocals text ls ts rest → Stops assignment ts
 locals_stop text ls ts rest h = more_stop (IsLocal text) punctuators.Semicolon ls ts rest (omega arith) h
 
 pub locals : (text : List ℕ) (ls ms : List Local) (ts us rest end : List Token) → ts ≡ us → AreLocals text ls ts rest → AreLocals text ms us end → (ls ≡ ms) × (rest ≡ end)

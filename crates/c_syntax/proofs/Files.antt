@@ -17,6 +17,7 @@ use Rattle.c_syntax.specs.declared.expression.Literal.TheVariants as literals
 use Rattle.c_syntax.specs.declared.expression.Identifier.{Identifier}
 use Rattle.c_syntax.specs.Expressions.{literal_kind}
 use Rattle.c_syntax.specs.Follow.{follows, Stops}
+use Rattle.c_syntax.specs.Operators.{postfix, primary, assignment}
 use Rattle.c_syntax.specs.Program.{Initialiser, Single, Several, Global, ExternalDeclaration, Globals, Function}
 use Rattle.c_syntax.specs.Programs.{IsLiteral, IsConstant, AreConstants, IsInitialiser, IsLength, IsGlobal, AreMoreGlobals, AreGlobals, IsParameter, AreParameters, IsExternalDeclaration, IsProgram, OneProgram}
 use Rattle.c_syntax.specs.Statement.{Statements}
@@ -65,8 +66,8 @@ constants cs ds ts us rest end p h g =
 
 -- ---- globals
 
-pub assign_not : (ts us rest end : List Token) → ts ≡ us → ts ≡ rest → Stops 15 rest → HasPunctuator punctuators.Assign us end → ⊥
-assign_not ts us rest end p q s h = let a = follows_punctuator punctuators.Assign h.0 us end 15 h.1 refl in let b = ap follows q in let c = ap follows p in absurd (omega arith)
+pub assign_not : (ts us rest end : List Token) → ts ≡ us → ts ≡ rest → Stops assignment rest → HasPunctuator punctuators.Assign us end → ⊥
+assign_not ts us rest end p q s h = let a = follows_punctuator punctuators.Assign h.0 us end assignment h.1 refl in let b = ap follows q in let c = ap follows p in absurd (omega arith)
 
 pub brace_not : (c : Constant) (at : ℕ) (ts us rest end : List Token) → ts ≡ us → IsConstant c ts rest → IsPunctuator punctuators.OpenBrace at us end → ⊥
 brace_not c at ts us rest end p h g = let a = literal_front c.negative c.at c.literal ts rest h in let b = ap front g.1 in let d = ap front p in absurd (omega arith)
@@ -74,7 +75,7 @@ brace_not c at ts us rest end p h g = let a = literal_front c.negative c.at c.li
 abbrev begun : Initialiser → Option Initialiser
 begun i = Some i
 
-pub initialiser_once : (i j : Option Initialiser) (ts us rest end : List Token) → ts ≡ us → Stops 15 rest → Stops 15 end → IsInitialiser i ts rest → IsInitialiser j us end → (i ≡ j) × (rest ≡ end)
+pub initialiser_once : (i j : Option Initialiser) (ts us rest end : List Token) → ts ≡ us → Stops assignment rest → Stops assignment end → IsInitialiser i ts rest → IsInitialiser j us end → (i ≡ j) × (rest ≡ end)
 initialiser_once None None ts us rest end p s z h g = (refl, sym h ∙ p ∙ g)
 initialiser_once None (Some (Single d)) ts us rest end p s z h g = absurd (assign_not ts us rest g.0 p h s g.1)
 initialiser_once None (Some (Several to ds)) ts us rest end p s z h g = absurd (assign_not ts us rest g.after_assign p h s g.assign)
@@ -92,18 +93,18 @@ initialiser_once (Some (Several at cs)) (Some (Several to ds)) ts us rest end p 
     let c = constants cs ds h.after_brace g.after_brace rest end b.2 h.constants g.constants in
     (ap (λ (x : ℕ). begun (Several x cs)) b.1 ∙ ap (λ (x : List Constant). begun (Several to x)) c.0, c.1)
 
-pub initialiser_stops : (i : Option Initialiser) (ts rest : List Token) → Stops 15 rest → IsInitialiser i ts rest → Stops 1 ts
+pub initialiser_stops : (i : Option Initialiser) (ts rest : List Token) → Stops assignment rest → IsInitialiser i ts rest → Stops postfix ts
 initialiser_stops None ts rest s h = let a = ap follows h in omega arith
-initialiser_stops (Some (Single c)) ts rest s h = has_stops punctuators.Assign ts h.0 1 h.1 (omega arith)
-initialiser_stops (Some (Several at cs)) ts rest s h = has_stops punctuators.Assign ts h.after_assign 1 h.assign (omega arith)
+initialiser_stops (Some (Single c)) ts rest s h = has_stops punctuators.Assign ts h.0 postfix h.1 (omega arith)
+initialiser_stops (Some (Several at cs)) ts rest s h = has_stops punctuators.Assign ts h.after_assign postfix h.assign (omega arith)
 
 abbrev sized : ℕ → ℕ → Option Length
 sized at value = Some (record { at = at; value = value })
 
-bracket_not : (ts us rest end : List Token) → ts ≡ us → ts ≡ rest → Stops 1 rest → HasPunctuator punctuators.OpenBracket us end → ⊥
-bracket_not ts us rest end p q s h = let a = follows_punctuator punctuators.OpenBracket h.0 us end 1 h.1 refl in let b = ap follows q in let c = ap follows p in absurd (omega arith)
+bracket_not : (ts us rest end : List Token) → ts ≡ us → ts ≡ rest → Stops postfix rest → HasPunctuator punctuators.OpenBracket us end → ⊥
+bracket_not ts us rest end p q s h = let a = follows_punctuator punctuators.OpenBracket h.0 us end postfix h.1 refl in let b = ap follows q in let c = ap follows p in absurd (omega arith)
 
-pub length_once : (i j : Option Length) (ts us rest end : List Token) → ts ≡ us → Stops 1 rest → Stops 1 end → IsLength i ts rest → IsLength j us end → (i ≡ j) × (rest ≡ end)
+pub length_once : (i j : Option Length) (ts us rest end : List Token) → ts ≡ us → Stops postfix rest → Stops postfix end → IsLength i ts rest → IsLength j us end → (i ≡ j) × (rest ≡ end)
 length_once None None ts us rest end p s z h g = (refl, sym h ∙ p ∙ g)
 length_once None (Some m) ts us rest end p s z h g = absurd (bracket_not ts us rest g.after_opening p h s g.opening)
 length_once (Some n) None ts us rest end p s z h g = absurd (bracket_not us ts end h.after_opening (sym p) g z h.opening)
@@ -112,14 +113,14 @@ length_once (Some n) (Some m) ts us rest end p s z h g =
     let b = integer_same n.value m.value n.at m.at h.after_opening g.after_opening h.after_inner g.after_inner a h.inner g.inner in
     (ap (λ (x : ℕ). sized n.at x) b.0 ∙ ap (λ (x : ℕ). sized x m.value) b.1, has_same punctuators.CloseBracket h.after_inner g.after_inner rest end b.2 h.closing g.closing)
 
-pub length_stops : (i : Option Length) (ts rest : List Token) → Stops 1 rest → IsLength i ts rest → Stops 0 ts
+pub length_stops : (i : Option Length) (ts rest : List Token) → Stops postfix rest → IsLength i ts rest → Stops primary ts
 length_stops None ts rest s h = let a = ap follows h in omega arith
-length_stops (Some n) ts rest s h = has_stops punctuators.OpenBracket ts h.after_opening 0 h.opening (omega arith)
+length_stops (Some n) ts rest s h = has_stops punctuators.OpenBracket ts h.after_opening primary h.opening (omega arith)
 
 abbrev make : ℕ → Identifier → Option Length → Option Initialiser → Global
 make n name l i = record { pointers = n; name = name; length = l; initialiser = i }
 
-pub global_once : (k m : Global) (ts us rest end : List Token) → ts ≡ us → Stops 15 rest → Stops 15 end → IsGlobal k ts rest → IsGlobal m us end → (k ≡ m) × (rest ≡ end)
+pub global_once : (k m : Global) (ts us rest end : List Token) → ts ≡ us → Stops assignment rest → Stops assignment end → IsGlobal k ts rest → IsGlobal m us end → (k ≡ m) × (rest ≡ end)
 global_once k m ts us rest end p s z h g =
     let a = stars_once k.pointers m.pointers ts us h.after_stars g.after_stars p (name_star k.name h.after_stars h.after_name h.name) (name_star m.name g.after_stars g.after_name g.name) h.stars g.stars in
     let b = name_same k.name m.name h.after_stars g.after_stars h.after_name g.after_name a.1 h.name g.name in
@@ -127,7 +128,7 @@ global_once k m ts us rest end p s z h g =
     let d = initialiser_once k.initialiser m.initialiser h.after_length g.after_length rest end c.1 s z h.initialiser g.initialiser in
     (ap (λ (x : ℕ). make x k.name k.length k.initialiser) a.0 ∙ ap (λ (x : Identifier). make m.pointers x k.length k.initialiser) b.0 ∙ ap (λ (x : Option Length). make m.pointers m.name x k.initialiser) c.0 ∙ ap (λ (x : Option Initialiser). make m.pointers m.name m.length x) d.0, d.1)
 
-pub globals_stop : (gs : List Global) (ts rest : List Token) → AreMoreGlobals gs ts rest → Stops 15 ts
+pub globals_stop : (gs : List Global) (ts rest : List Token) → AreMoreGlobals gs ts rest → Stops assignment ts
 globals_stop gs ts rest h = more_stop IsGlobal punctuators.Semicolon gs ts rest (omega arith) h
 
 globals : (ks ms : List Global) (ts us rest end : List Token) → ts ≡ us → AreGlobals ks ts rest → AreGlobals ms us end → (ks ≡ ms) × (rest ≡ end)

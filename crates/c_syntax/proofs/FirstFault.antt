@@ -1,23 +1,36 @@
 -- A list of tokens has one first fault at most, and none where it is a program.
 use Rattle.std.proofs.Common.{◌≡◌, ◌≤◌, ◌<◌, ℕ, zero, suc, List, [], ◌∷◌, ◌++◌, refl, sym, ap, ◌∙◌, subst, arith, append_assoc, append-nil}
 use Rattle.c_lex.specs.declared.token.Token.{Token}
+use Rattle.c_syntax.specs.declared.declaration.Parameter.{Parameter}
 use Rattle.c_syntax.specs.Faults.{place}
-use Rattle.c_syntax.specs.Limits.{Within, EachWithin}
+use Rattle.c_syntax.specs.Limits.{every_limit, FunctionWithinFirst, EachWithinFirst, WithinFirst}
 use Rattle.c_syntax.specs.Program.{ExternalDeclaration, Globals, Function}
 use Rattle.c_syntax.specs.Programs.{IsProgram}
-use Rattle.c_syntax.specs.Viable.{WithinIsWithinEach, EachWithinFirst, WithinFirst, Viable, Continues, IsSyntaxFault, OneFirstFault, NoFaultInProgram}
+use Rattle.c_syntax.specs.Statement.{Statements}
+use Rattle.c_syntax.specs.Viable.{Viable, Continues, IsSyntaxFault, OneFirstFault, NoFaultInProgram}
 
 -- ---- fewer limits
 
-each_fewer : (n m : ℕ) (xs : List ExternalDeclaration) → ((k : ℕ) → k ≤ 6 → k ≤ m → k ≤ n) → EachWithinFirst n xs → EachWithinFirst m xs
+-- the limits of m are among those of n
+abbrev AreAmong : ℕ → ℕ → Type 0
+AreAmong m n = (k : ℕ) → k ≤ every_limit → k ≤ m → k ≤ n
+
+-- What is within some limits is within fewer of them.
+pub function_fewer : (n m : ℕ) (ps : List Parameter) (body : Statements) → AreAmong m n → FunctionWithinFirst n ps body → FunctionWithinFirst m ps body
+function_fewer n m ps body f h = record {
+  statements = λ k. h.statements (f 1 (omega arith) k);
+  expressions = λ k. h.expressions (f 1 (omega arith) k);
+  locals = λ k. h.locals (f 2 (omega arith) k);
+  parameters = λ k. h.parameters (f 3 (omega arith) k);
+}
+
+each_fewer : (n m : ℕ) (xs : List ExternalDeclaration) → AreAmong m n → EachWithinFirst n xs → EachWithinFirst m xs
 each_fewer n m [] f h = tt
 each_fewer n m (Globals base gs ∷ xs) f h = each_fewer n m xs f h
-each_fewer n m (Function returns name ps body ∷ xs) f h = (
-  record { statements = λ k. h.0.statements (f 1 (omega arith) k); expressions = λ k. h.0.expressions (f 1 (omega arith) k); locals = λ k. h.0.locals (f 2 (omega arith) k); parameters = λ k. h.0.parameters (f 3 (omega arith) k) },
-  each_fewer n m xs f h.1,
-)
+each_fewer n m (Function returns name ps body ∷ xs) f h =
+    (function_fewer n m ps body f h.0, each_fewer n m xs f h.1)
 
-fewer : (n m : ℕ) (text : List ℕ) (xs : List ExternalDeclaration) → ((k : ℕ) → k ≤ 6 → k ≤ m → k ≤ n) → WithinFirst n text xs → WithinFirst m text xs
+fewer : (n m : ℕ) (text : List ℕ) (xs : List ExternalDeclaration) → AreAmong m n → WithinFirst n text xs → WithinFirst m text xs
 fewer n m text xs f h = record {
   each = each_fewer n m xs f h.each;
   functions = λ k. h.functions (f 4 (omega arith) k);
@@ -25,32 +38,9 @@ fewer n m text xs f h = record {
   numbered = λ k. h.numbered (f 6 (omega arith) k);
 }
 
-goes_on_fewer : (n m : ℕ) (text : List ℕ) (front fault : List Token) → ((k : ℕ) → k ≤ 6 → k ≤ m → k ≤ n) → Continues n text front fault → Continues m text front fault
+goes_on_fewer : (n m : ℕ) (text : List ℕ) (front fault : List Token) → AreAmong m n → Continues n text front fault → Continues m text front fault
 goes_on_fewer n m text front [] f h = (h.0, h.1, fewer n m text h.0 f h.2)
 goes_on_fewer n m text front (t ∷ fault) f h = (h.0, h.1, h.2, h.3, fewer n m (text ++ h.0) h.2 f h.4)
-
--- ---- all limits
-
-each_within : (xs : List ExternalDeclaration) → EachWithin xs → EachWithinFirst 6 xs
-each_within [] h = tt
-each_within (Globals base gs ∷ xs) h = each_within xs h
-each_within (Function returns name ps body ∷ xs) h =
-    (record { statements = λ k. h.0.statements; expressions = λ k. h.0.expressions; locals = λ k. h.0.locals; parameters = λ k. h.0.parameters }, each_within xs h.1)
-
-pub within_first : (text : List ℕ) (xs : List ExternalDeclaration) → Within text xs → WithinFirst 6 text xs
-within_first text xs h = record { each = each_within xs h.each; functions = λ k. h.functions; bytes = λ k. h.bytes; numbered = λ k. h.numbered }
-
-each_whole : (xs : List ExternalDeclaration) → EachWithinFirst 6 xs → EachWithin xs
-each_whole [] h = tt
-each_whole (Globals base gs ∷ xs) h = each_whole xs h
-each_whole (Function returns name ps body ∷ xs) h =
-    (record { parameters = h.0.parameters (omega arith); locals = h.0.locals (omega arith); statements = h.0.statements (omega arith); expressions = h.0.expressions (omega arith) }, each_whole xs h.1)
-
-pub within_whole : (text : List ℕ) (xs : List ExternalDeclaration) → WithinFirst 6 text xs → Within text xs
-within_whole text xs h = record { each = each_whole xs h.each; functions = h.functions (omega arith); bytes = h.bytes (omega arith); numbered = h.numbered (omega arith) }
-
-pub within_is_within_each : WithinIsWithinEach
-within_is_within_each text xs = (within_first text xs, within_whole text xs)
 
 -- ---- one first fault
 
@@ -81,12 +71,12 @@ cuts (t ∷ front) fault (t' ∷ front') fault' e =
     let q : front ++ fault ≡ front' ++ fault' = cc in
     subst (λ z. Cuts (t ∷ front) fault (z ∷ front') fault') p (further t front fault front' fault' (cuts front fault front' fault' q))
 
-goes_to : (n : ℕ) (text : List ℕ) (front fault front' : List Token) → Longer front fault front' → Viable 6 text front' → Continues n text front fault
+goes_to : (n : ℕ) (text : List ℕ) (front fault front' : List Token) → Longer front fault front' → Viable every_limit text front' → Continues n text front fault
 goes_to n text front fault front' l v =
     let e : front' ++ v.1 ≡ (front ++ l.token ∷ []) ++ (l.more ++ v.1) =
     ap (λ z. z ++ v.1) l.longer ∙ append_assoc front (l.token ∷ l.more) v.1 ∙ sym (append_assoc front (l.token ∷ []) (l.more ++ v.1)) in
     subst (λ z. Continues n text front z) (sym l.is)
-    (v.0, l.more ++ v.1, v.2, subst (λ z. IsProgram (text ++ v.0) v.2 z) e v.3, fewer 6 n (text ++ v.0) v.2 (λ k a b. a) v.4)
+    (v.0, l.more ++ v.1, v.2, subst (λ z. IsProgram (text ++ v.0) v.2 z) e v.3, fewer every_limit n (text ++ v.0) v.2 (λ k a b. a) v.4)
 
 -- the limits before one are fewer
 order : (n m : ℕ) (text : List ℕ) (front fault : List Token) → n < m → (Continues n text front fault → ⊥) → ((k : ℕ) → m ≡ suc k → Continues k text front fault) → ⊥
@@ -120,4 +110,4 @@ whole_goes n text front (t ∷ fault) xs h w =
 
 pub no_fault_in_program : NoFaultInProgram
 no_fault_in_program text ts n at xs f h w =
-    f.stops (whole_goes n text f.front f.fault xs (subst (λ z. IsProgram text xs z) f.split h) (fewer 6 n text xs (λ k a b. a) (within_first text xs w)))
+    f.stops (whole_goes n text f.front f.fault xs (subst (λ z. IsProgram text xs z) f.split h) (fewer every_limit n text xs (λ k a b. a) w))

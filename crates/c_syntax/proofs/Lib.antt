@@ -8,6 +8,7 @@ pub mod Separated
 pub mod Blocks
 pub mod Files
 pub mod Passing
+pub mod Nodes
 pub mod Shorter
 pub mod Failing
 pub mod Moves

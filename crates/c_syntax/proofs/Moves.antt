@@ -15,10 +15,11 @@ use Rattle.c_syntax.specs.declared.expression.Field.TheVariants as fields
 use Rattle.c_syntax.specs.declared.expression.Literal.TheVariants as literals
 use Rattle.c_syntax.specs.declared.expression.Identifier.{Identifier}
 use Rattle.c_syntax.specs.Expression.{Expression, Constant, Variable, Information, Call, Parentheses, Index, Postfix, Prefix, Unary, Cast, Binary, Conditional, Assign, Comma, Arguments, Done, Next}
-use Rattle.c_syntax.specs.Expressions.{rank, literal_kind, IsInteger, OfLevel, TighterThan, IsEnclosed, IsApplied, IsContinued, IsIntroduced, IsElement, IsField, SpellsExpression, SpellsArguments, SpellsMoreArguments, Derives}
+use Rattle.c_syntax.specs.Expressions.{rank, literal_kind, IsInteger, OfLevel, TighterThan, IsApplied, IsContinued, IsIntroduced, IsElement, IsField, SpellsExpression, SpellsArguments, SpellsMoreArguments, Derives}
 use Rattle.c_syntax.specs.Faults.{Alike}
 use Rattle.c_syntax.specs.Limits as limits
 use Rattle.c_syntax.specs.Operators.{postfix, unary, cast, logical_or, conditional, assignment, comma, level, binary_punctuator, unary_punctuator, increment_punctuator, assignment_punctuator}
+use Rattle.c_syntax.specs.Phrases.{IsEnclosed}
 use Rattle.c_syntax.specs.Steps.{Step, At, After, With, Choose, Set, And, Tail}
 use Rattle.c_syntax.specs.Tokens.{token, IsKind, IsPunctuator, IsIdentifier, HasPunctuator, HasKeyword, HasWord}
 use Rattle.c_syntax.specs.Types.{spellings, AreKeywords, IsOneOf, IsBase, AreStars, IsType}
@@ -118,13 +119,12 @@ tighter_than : {R : Phrase} {text : List ℕ} {ts rest : List Token} (l : ℕ) (
     → rank e < l → Moves R text ts rest → Moves (λ t. TighterThan l e (R t)) text ts rest
 tighter_than l e f m = map m (λ t us vs g. record { fits = f; spells = g })
 
-enclosed : {R : Phrase} {text : List ℕ} {ts a b rest : List Token} (left right : Punctuator)
-    (at : ℕ)
-    → IsPunctuator left at ts a → Moves R text a b → HasPunctuator right b rest
-    → Moves (λ t. IsEnclosed left right at (R t)) text ts rest
-enclosed {text = text} {ts = ts} {a = a} {b = b} {rest = rest} left right at opening m closing =
-    map (both (punctuator left at text ts a opening)
-    (both m (has_punctuator right text b rest closing)))
+-- An enclosed phrase moves where what opens it and what is in it do.
+pub enclosed : {O R : Phrase} {text : List ℕ} {ts a b rest : List Token} (close : Punctuator)
+    → Moves O text ts a → Moves R text a b → HasPunctuator close b rest
+    → Moves (λ t. IsEnclosed (O t) (R t) close) text ts rest
+enclosed {text = text} {b = b} {rest = rest} close opening m closing =
+    map (both opening (both m (has_punctuator close text b rest closing)))
     (λ t us vs g. record {
       after_opening = g.0;
       after_inner = g.2.0;
@@ -227,12 +227,15 @@ mutual
         arguments = g.2.2;
       })
   expression (Parentheses at e) text ts rest h =
-      enclosed punctuators.OpenParenthesis punctuators.CloseParenthesis at h.opening
+      enclosed punctuators.CloseParenthesis
+      (punctuator punctuators.OpenParenthesis at text ts h.after_opening h.opening)
       (expression e text h.after_opening h.after_inner h.inner) h.closing
   expression (Index e at i) text ts rest h =
       continued
       (of_level postfix e h.operand.fits (expression e text ts h.after_operand h.operand.spells))
-      (enclosed punctuators.OpenBracket punctuators.CloseBracket at h.step.opening
+      (enclosed punctuators.CloseBracket
+      (punctuator punctuators.OpenBracket at text h.after_operand h.step.after_opening
+      h.step.opening)
       (expression i text h.step.after_opening h.step.after_inner h.step.inner) h.step.closing)
   expression (Postfix e op at) text ts rest h =
       continued
@@ -246,7 +249,9 @@ mutual
       (of_level cast e h.operand.fits (expression e text h.after_operator rest h.operand.spells))
   expression (Cast at to e) text ts rest h =
       applied
-      (enclosed punctuators.OpenParenthesis punctuators.CloseParenthesis at h.operator.opening
+      (enclosed punctuators.CloseParenthesis
+      (punctuator punctuators.OpenParenthesis at text ts h.operator.after_opening
+      h.operator.opening)
       (type to text h.operator.after_opening h.operator.after_inner h.operator.inner)
       h.operator.closing)
       (of_level cast e h.operand.fits (expression e text h.after_operator rest h.operand.spells))
@@ -264,7 +269,9 @@ mutual
       (of_level logical_or e h.operand.fits
       (expression e text ts h.after_operand h.operand.spells))
       (applied
-      (enclosed punctuators.Question punctuators.Colon at h.step.operator.opening
+      (enclosed punctuators.Colon
+      (punctuator punctuators.Question at text h.after_operand h.step.operator.after_opening
+      h.step.operator.opening)
       (expression f text h.step.operator.after_opening h.step.operator.after_inner
       h.step.operator.inner) h.step.operator.closing)
       (of_level conditional i h.step.operand.fits
@@ -302,14 +309,14 @@ mutual
       map
       (both (has_punctuator punctuators.Comma text ts h.after_comma h.comma)
       (both
-      (of_level assignment e h.next.fits
-      (expression e text h.after_comma h.after_next h.next.spells))
-      (more_arguments es text h.after_next rest h.others)))
+      (of_level assignment e h.element.fits
+      (expression e text h.after_comma h.after_element h.element.spells))
+      (more_arguments es text h.after_element rest h.others)))
       (λ t us vs g. record {
         after_comma = g.0;
-        after_next = g.2.0;
+        after_element = g.2.0;
         comma = g.1;
-        next = g.2.1;
+        element = g.2.1;
         others = g.2.2;
       })
 
@@ -320,7 +327,8 @@ derives l e text ts rest h = of_level l e h.fits (expression e text ts rest h.sp
 pub tail : (s : Step) (text : List ℕ) (ts rest : List Token) → Tail text s ts rest
     → Moves (λ t. Tail t s) text ts rest
 tail (At at i) text ts rest h =
-    enclosed punctuators.OpenBracket punctuators.CloseBracket at h.opening
+    enclosed punctuators.CloseBracket
+    (punctuator punctuators.OpenBracket at text ts h.after_opening h.opening)
     (expression i text h.after_opening h.after_inner h.inner) h.closing
 tail (After op at) text ts rest h = punctuator (increment_punctuator op) at text ts rest h
 tail (With at op f) text ts rest h =
@@ -329,7 +337,8 @@ tail (With at op f) text ts rest h =
     (expression f text h.after_operator rest h.operand.spells))
 tail (Choose at f i) text ts rest h =
     applied
-    (enclosed punctuators.Question punctuators.Colon at h.operator.opening
+    (enclosed punctuators.Colon
+    (punctuator punctuators.Question at text ts h.operator.after_opening h.operator.opening)
     (expression f text h.operator.after_opening h.operator.after_inner h.operator.inner)
     h.operator.closing)
     (derives conditional i text h.after_operator rest h.operand)

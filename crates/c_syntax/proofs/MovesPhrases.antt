@@ -1,26 +1,11 @@
--- A phrase between punctuators, and elements between commas, stand before any other rest too, and in any text that spells their names alike, where what they are made of does.
+-- Elements between commas are before any other rest too, and in any text that spells their names alike, where each element is.
 use Rattle.std.specs.Prelude.{ℕ, List, [], ◌∷◌}
 use Rattle.c_lex.specs.declared.punctuator.Punctuator.{Punctuator}
 use Rattle.c_lex.specs.declared.punctuator.Punctuator.TheVariants as punctuators
 use Rattle.c_lex.specs.declared.token.Token.{Token}
-use Rattle.c_syntax.specs.Phrases.{Between, AreMore, AreSeparated}
+use Rattle.c_syntax.specs.Phrases.{AreMore, AreSeparated}
 use Rattle.c_syntax.specs.Tokens.{Phrase}
 use Rattle.c_syntax.proofs.Moves.{Moves, map, both, has_punctuator}
-
-pub between : {Inner : List ℕ → Phrase} (left right : Punctuator) (text : List ℕ) (ts rest : List Token) (h : Between left (Inner text) right ts rest) → Moves Inner text h.after_opening h.after_inner → Moves (λ t. Between left (Inner t) right) text ts rest
-between left right text ts rest h inner =
-    map
-    (both (has_punctuator left text ts h.after_opening h.opening)
-    (both inner (has_punctuator right text h.after_inner rest h.closing)))
-    (λ t us vs g. record {
-      after_opening = g.0;
-      after_inner = g.2.0;
-      opening = g.1;
-      inner = g.2.1;
-      closing = g.2.2;
-    })
-
--- ---- lists
 
 abbrev pub EachMoves : {A : Type 0} → (A → List ℕ → Phrase) → Type 0
 EachMoves {A = A} Element =

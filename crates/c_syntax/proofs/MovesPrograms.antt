@@ -13,8 +13,8 @@ use Rattle.c_syntax.specs.Limits as limits
 use Rattle.c_syntax.specs.Program.{Initialiser, Single, Several, Global, ExternalDeclaration, Globals, Function}
 use Rattle.c_syntax.specs.Programs.{IsLiteral, IsConstant, AreConstants, IsInitialiser, IsLength, IsGlobal, AreGlobals, IsParameter, AreParameters, IsExternalDeclaration, IsProgram}
 use Rattle.c_syntax.proofs.Failing.{alike_same}
-use Rattle.c_syntax.proofs.Moves.{Moves, map, both, nothing, alike_after, kind, punctuator, has_punctuator, has_keyword, name, base, stars, type}
-use Rattle.c_syntax.proofs.MovesPhrases.{between, separated}
+use Rattle.c_syntax.proofs.Moves.{enclosed, Moves, map, both, nothing, alike_after, kind, punctuator, has_punctuator, has_keyword, name, base, stars, type}
+use Rattle.c_syntax.proofs.MovesPhrases.{separated}
 use Rattle.c_syntax.proofs.MovesStatements as statements
 pub use Rattle.c_syntax.proofs.Moves.{integer}
 
@@ -53,8 +53,9 @@ initialiser (Some (Several at cs)) text ts rest h =
 pub length : (n : Option Length) (text : List ℕ) (ts rest : List Token) → IsLength n ts rest → Moves (λ t. IsLength n) text ts rest
 length None text ts rest h = nothing text ts rest h
 length (Some n) text ts rest h =
-    between punctuators.OpenBracket punctuators.CloseBracket text ts rest h
-    (integer n.value n.at text h.after_opening h.after_inner h.inner)
+    enclosed punctuators.CloseBracket
+    (has_punctuator punctuators.OpenBracket text ts h.after_opening h.opening)
+    (integer n.value n.at text h.after_opening h.after_inner h.inner) h.closing
 
 pub global : (g : Global) (text : List ℕ) (ts rest : List Token) → IsGlobal g ts rest → Moves (λ t. IsGlobal g) text ts rest
 global v text ts rest h =

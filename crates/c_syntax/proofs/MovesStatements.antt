@@ -15,8 +15,8 @@ use Rattle.c_syntax.specs.Statement.{Local, ForInitialiser, Declaring, Evaluatin
 use Rattle.c_syntax.specs.Statements.{IsInitialiser, IsLocal, AreLocals, IsDeclaration, IsOptional, IsUpTo, IsCondition, IsForInitialiser, is_declaration, IsStatement, IsBlock, IsConditional, IsForHead, IsJump, IsBlockItem, AreBlockItems}
 use Rattle.c_syntax.specs.Tokens.{Phrase, IsKeyword}
 use Rattle.c_syntax.proofs.Moves as moves
-use Rattle.c_syntax.proofs.Moves.{Moves, map, both, nothing, alike_after, has_punctuator, has_keyword, name, base, stars, derives}
-use Rattle.c_syntax.proofs.MovesPhrases.{between, separated}
+use Rattle.c_syntax.proofs.Moves.{enclosed, Moves, map, both, nothing, alike_after, has_punctuator, has_keyword, name, base, stars, derives}
+use Rattle.c_syntax.proofs.MovesPhrases.{separated}
 
 pub keyword : (k : Keyword) (at : ℕ) (text : List ℕ) (ts rest : List Token) → IsKeyword k at ts rest → Moves (λ t. IsKeyword k at) text ts rest
 keyword k at text ts rest h = moves.kind (kinds.Keyword k) at text ts rest h
@@ -58,8 +58,9 @@ up_to s e text ts rest h = map (both (optional e text ts h.0 h.1) (has_punctuato
 
 pub condition : (e : Expression) (text : List ℕ) (ts rest : List Token) → IsCondition text e ts rest → Moves (λ t. IsCondition t e) text ts rest
 condition e text ts rest h =
-    between punctuators.OpenParenthesis punctuators.CloseParenthesis text ts rest h
-    (derives comma e text h.after_opening h.after_inner h.inner)
+    enclosed punctuators.CloseParenthesis
+    (has_punctuator punctuators.OpenParenthesis text ts h.after_opening h.opening)
+    (derives comma e text h.after_opening h.after_inner h.inner) h.closing
 
 pub first : (f : ForInitialiser) (text : List ℕ) (ts rest : List Token) → IsForInitialiser text f ts rest → Moves (λ t. IsForInitialiser t f) text ts rest
 first (Declaring b ls) text ts rest h = declaration b ls text ts rest h

@@ -111,10 +111,10 @@ more_once text n (Next e es) Done ts us rest end u p low h g =
     absurd cc
 more_once text n (Next e es) (Next f fs) ts us rest end u p low h g =
     let a = has_same punctuators.Comma ts us h.after_comma g.after_comma p h.comma g.comma in
-    let b = part text n assignment e f h.after_comma g.after_comma h.after_next g.after_next u a
-    (omega arith) h.next g.next (more_stops text es h.after_next rest h.others)
-    (more_stops text fs g.after_next end g.others) in
-    let c = more_once text n es fs h.after_next g.after_next rest end u b.1 (omega arith) h.others
+    let b = part text n assignment e f h.after_comma g.after_comma h.after_element g.after_element u a
+    (omega arith) h.element g.element (more_stops text es h.after_element rest h.others)
+    (more_stops text fs g.after_element end g.others) in
+    let c = more_once text n es fs h.after_element g.after_element rest end u b.1 (omega arith) h.others
     g.others in
     (ap (λ (x : Expression). Next x es) b.0 ∙ ap (λ (x : Arguments). Next f x) c.0, c.1)
 

@@ -3,7 +3,8 @@ use Rattle.std.proofs.Common.{◌≤◌, ◌<◌, ℕ, List, refl, arith, inl}
 use Rattle.c_lex.specs.declared.punctuator.Punctuator.{Punctuator}
 use Rattle.c_lex.specs.declared.token.Token.{Token}
 use Rattle.c_syntax.specs.Expression.{Expression}
-use Rattle.c_syntax.specs.Expressions.{rank, OfLevel, TighterThan, IsEnclosed, IsApplied, IsContinued}
+use Rattle.c_syntax.specs.Expressions.{rank, OfLevel, TighterThan, IsApplied, IsContinued}
+use Rattle.c_syntax.specs.Phrases.{IsEnclosed}
 use Rattle.c_syntax.specs.Rows.{Differences, Product, CastOfElement, Choices, Assignments, TwoArguments, NearestIf, NoOtherIf}
 use Rattle.c_syntax.specs.Tokens.{Phrase, IsPunctuator, HasPunctuator}
 
@@ -17,10 +18,9 @@ tighter : {l : ℕ} {e : Expression} {R : Phrase} {ts rest : List Token} → ran
     → TighterThan l e R ts rest
 tighter f h = record { fits = f; spells = h }
 
-enclosed : {left right : Punctuator} {at : ℕ} {R : Phrase} {ts a b rest : List Token}
-    → IsPunctuator left at ts a → R a b → HasPunctuator right b rest
-    → IsEnclosed left right at R ts rest
-enclosed {a = a} {b = b} h i j =
+enclosed : {O R : Phrase} {close : Punctuator} {ts rest : List Token} (a b : List Token)
+    → O ts a → R a b → HasPunctuator close b rest → IsEnclosed O R close ts rest
+enclosed a b h i j =
     record { after_opening = a; after_inner = b; opening = h; inner = i; closing = j }
 
 applied : {R S : Phrase} {ts rest : List Token} (mid : List Token) → R ts mid → S mid rest
@@ -53,19 +53,19 @@ pub cast_of_element : CastOfElement
 cast_of_element =
     operand (omega arith)
     (applied _
-    (enclosed (1, refl) (_, inl (_, (1, (4, refl)), refl), (_, (4, (5, refl)), refl))
+    (enclosed _ _ (1, refl) (_, inl (_, (1, (4, refl)), refl), (_, (4, (5, refl)), refl))
     (5, (6, refl)))
     (operand (omega arith)
-    (continued _ (operand (omega arith) refl) (enclosed (8, refl) refl (9, (10, refl))))))
+    (continued _ (operand (omega arith) refl) (enclosed _ _ (8, refl) refl (9, (10, refl))))))
 
 pub choices : Choices
 choices =
     operand (omega arith)
     (continued _ (operand (omega arith) refl)
-    (applied _ (enclosed (2, refl) refl (3, (4, refl)))
+    (applied _ (enclosed _ _ (2, refl) refl (3, (4, refl)))
     (operand (omega arith)
     (continued _ (operand (omega arith) refl)
-    (applied _ (enclosed (6, refl) refl (7, (8, refl))) (operand (omega arith) refl))))))
+    (applied _ (enclosed _ _ (6, refl) refl (7, (8, refl))) (operand (omega arith) refl))))))
 
 pub assignments : Assignments
 assignments =
@@ -88,9 +88,9 @@ two_arguments =
         first = operand (omega arith) refl;
         others = record {
           after_comma = _;
-          after_next = _;
+          after_element = _;
           comma = (3, (4, refl));
-          next = operand (omega arith) (applied _ (5, refl) (operand (omega arith) refl));
+          element = operand (omega arith) (applied _ (5, refl) (operand (omega arith) refl));
           others = (6, (7, refl));
         };
       };

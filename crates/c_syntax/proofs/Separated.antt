@@ -4,6 +4,7 @@ use Rattle.c_lex.specs.declared.punctuator.Punctuator.{Punctuator}
 use Rattle.c_lex.specs.declared.punctuator.Punctuator.TheVariants as punctuators
 use Rattle.c_lex.specs.declared.token.Token.{Token}
 use Rattle.c_syntax.specs.Follow.{punctuator_follows, Stops}
+use Rattle.c_syntax.specs.Operators.{assignment}
 use Rattle.c_syntax.specs.Phrases.{AreMore, AreSeparated}
 use Rattle.c_syntax.specs.Tokens.{Phrase, HasPunctuator}
 use Rattle.c_syntax.proofs.Fronts.{punctuator_same, has_same}
@@ -12,7 +13,7 @@ use Rattle.c_syntax.proofs.Once.{has_stops}
 -- one element at most, before a rest that no assignment continues with
 abbrev pub Once : {A : Type 0} → (A → Phrase) → Type 0
 Once {A = A} Element =
-    (x y : A) (ts us rest end : List Token) → ts ≡ us → Stops 15 rest → Stops 15 end
+    (x y : A) (ts us rest end : List Token) → ts ≡ us → Stops assignment rest → Stops assignment end
     → Element x ts rest → Element y us end → (x ≡ y) × (rest ≡ end)
 
 -- the same tokens begin with one punctuator
@@ -20,11 +21,11 @@ pub other_punctuator : (s z : Punctuator) (ts us rest end : List Token) → ts �
 other_punctuator s z ts us rest end p h g = (punctuator_same s z h.0 g.0 ts us rest end p h.1 g.1).0
 
 -- no assignment continues with further elements
-pub more_stop : {A : Type 0} (Element : A → Phrase) (s : Punctuator) (xs : List A) (ts rest : List Token) → 15 < punctuator_follows s → AreMore Element s xs ts rest → Stops 15 ts
-more_stop Element s [] ts rest l h = has_stops s ts rest 15 h l
-more_stop Element s (x ∷ xs) ts rest l h = has_stops punctuators.Comma ts h.after_comma 15 h.comma (omega arith)
+pub more_stop : {A : Type 0} (Element : A → Phrase) (s : Punctuator) (xs : List A) (ts rest : List Token) → assignment < punctuator_follows s → AreMore Element s xs ts rest → Stops assignment ts
+more_stop Element s [] ts rest l h = has_stops s ts rest assignment h l
+more_stop Element s (x ∷ xs) ts rest l h = has_stops punctuators.Comma ts h.after_comma assignment h.comma (omega arith)
 
-pub more_once : {A : Type 0} (Element : A → Phrase) (s : Punctuator) (xs ys : List A) (ts us rest end : List Token) → Once Element → 15 < punctuator_follows s → (s ≡ punctuators.Comma → ⊥) → ts ≡ us → AreMore Element s xs ts rest → AreMore Element s ys us end → (xs ≡ ys) × (rest ≡ end)
+pub more_once : {A : Type 0} (Element : A → Phrase) (s : Punctuator) (xs ys : List A) (ts us rest end : List Token) → Once Element → assignment < punctuator_follows s → (s ≡ punctuators.Comma → ⊥) → ts ≡ us → AreMore Element s xs ts rest → AreMore Element s ys us end → (xs ≡ ys) × (rest ≡ end)
 more_once Element s [] [] ts us rest end once l other p h g = (refl, has_same s ts us rest end p h g)
 more_once Element s [] (y ∷ ys) ts us rest end once l other p h g =
     absurd (other (other_punctuator s punctuators.Comma ts us rest g.after_comma p h g.comma))
@@ -38,7 +39,7 @@ more_once {A = A} Element s (x ∷ xs) (y ∷ ys) ts us rest end once l other p 
     let f = more_once Element s xs ys h.after_element g.after_element rest end once l other e.1 h.others g.others in
     (ap (λ (z : A). z ∷ xs) e.0 ∙ ap (λ (zs : List A). y ∷ zs) f.0, f.1)
 
-pub separated_once : {A : Type 0} (Element : A → Phrase) (s : Punctuator) (xs ys : List A) (ts us rest end : List Token) → Once Element → 15 < punctuator_follows s → (s ≡ punctuators.Comma → ⊥) → ts ≡ us → AreSeparated Element s xs ts rest → AreSeparated Element s ys us end → (xs ≡ ys) × (rest ≡ end)
+pub separated_once : {A : Type 0} (Element : A → Phrase) (s : Punctuator) (xs ys : List A) (ts us rest end : List Token) → Once Element → assignment < punctuator_follows s → (s ≡ punctuators.Comma → ⊥) → ts ≡ us → AreSeparated Element s xs ts rest → AreSeparated Element s ys us end → (xs ≡ ys) × (rest ≡ end)
 separated_once Element s [] ys ts us rest end once l other p h g = absurd h
 separated_once Element s (x ∷ xs) [] ts us rest end once l other p h g = absurd g
 separated_once {A = A} Element s (x ∷ xs) (y ∷ ys) ts us rest end once l other p h g =

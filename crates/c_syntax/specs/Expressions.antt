@@ -23,6 +23,7 @@ use Rattle.c_syntax.specs.declared.expression.Literal.{Literal}
 use Rattle.c_syntax.specs.declared.expression.Literal.TheVariants as literals
 use Rattle.c_syntax.specs.Expression.{Expression, Constant, Variable, Information, Call, Parentheses, Index, Postfix, Prefix, Unary, Cast, Binary, Conditional, Assign, Comma, Arguments, Done, Next}
 use Rattle.c_syntax.specs.Operators.{primary, postfix, unary, cast, logical_or, conditional, assignment, comma, level, binary_punctuator, unary_punctuator, increment_punctuator, assignment_punctuator}
+use Rattle.c_syntax.specs.Phrases.{IsEnclosed, IsAnother}
 use Rattle.c_syntax.specs.Tokens.{Phrase, IsKind, IsPunctuator, IsKeyword, IsIdentifier, HasPunctuator, HasWord}
 use Rattle.c_syntax.specs.Types.{IsType}
 
@@ -63,15 +64,6 @@ pub record TighterThan (l : ℕ) (e : Expression) (Spelled : Phrase) (ts rest : 
     : Type 0 where
   pub fits : rank e < l
   pub spells : Spelled ts rest
-
--- a phrase between two punctuators, of which the left one is at a place
-pub record IsEnclosed (left right : Punctuator) (at : ℕ) (Inner : Phrase) (ts rest : List Token)
-    : Type 0 where
-  pub after_opening : List Token
-  pub after_inner : List Token
-  pub opening : IsPunctuator left at ts after_opening
-  pub inner : Inner after_opening after_inner
-  pub closing : HasPunctuator right after_inner rest
 
 -- an operator and the operand after it
 pub record IsApplied (Operator Operand : Phrase) (ts rest : List Token) : Type 0 where
@@ -138,14 +130,6 @@ pub record AreArguments (First Others : Phrase) (ts rest : List Token) : Type 0 
   pub first : First ts after_first
   pub others : Others after_first rest
 
--- a comma, the next argument and the others
-pub record AreMoreArguments (Next Others : Phrase) (ts rest : List Token) : Type 0 where
-  pub after_comma : List Token
-  pub after_next : List Token
-  pub comma : HasPunctuator punctuators.Comma ts after_comma
-  pub next : Next after_comma after_next
-  pub others : Others after_next rest
-
 -- ---- the productions
 
 -- The tokens before the rest spell the expression; each operand is of the level that the production
@@ -157,11 +141,12 @@ abbrev mutual
   SpellsExpression text (Information at field) = IsInformation text at field
   SpellsExpression text (Call name es) = IsCall name (SpellsArguments text es)
   SpellsExpression text (Parentheses at e) =
-      IsEnclosed punctuators.OpenParenthesis punctuators.CloseParenthesis at
-      (SpellsExpression text e)
+      IsEnclosed (IsPunctuator punctuators.OpenParenthesis at) (SpellsExpression text e)
+      punctuators.CloseParenthesis
   SpellsExpression text (Index e at i) =
       IsContinued (OfLevel postfix e (SpellsExpression text e))
-      (IsEnclosed punctuators.OpenBracket punctuators.CloseBracket at (SpellsExpression text i))
+      (IsEnclosed (IsPunctuator punctuators.OpenBracket at) (SpellsExpression text i)
+      punctuators.CloseBracket)
   SpellsExpression text (Postfix e op at) =
       IsContinued (OfLevel postfix e (SpellsExpression text e))
       (IsPunctuator (increment_punctuator op) at)
@@ -172,7 +157,8 @@ abbrev mutual
       IsApplied (IsPunctuator (unary_punctuator op) at) (OfLevel cast e (SpellsExpression text e))
   SpellsExpression text (Cast at to e) =
       IsApplied
-      (IsEnclosed punctuators.OpenParenthesis punctuators.CloseParenthesis at (IsType to))
+      (IsEnclosed (IsPunctuator punctuators.OpenParenthesis at) (IsType to)
+      punctuators.CloseParenthesis)
       (OfLevel cast e (SpellsExpression text e))
   SpellsExpression text (Binary e at op f) =
       IsContinued (OfLevel (level op) e (SpellsExpression text e))
@@ -180,7 +166,9 @@ abbrev mutual
       (TighterThan (level op) f (SpellsExpression text f)))
   SpellsExpression text (Conditional e at f g) =
       IsContinued (OfLevel logical_or e (SpellsExpression text e))
-      (IsApplied (IsEnclosed punctuators.Question punctuators.Colon at (SpellsExpression text f))
+      (IsApplied
+      (IsEnclosed (IsPunctuator punctuators.Question at) (SpellsExpression text f)
+      punctuators.Colon)
       (OfLevel conditional g (SpellsExpression text g)))
   SpellsExpression text (Assign e at op f) =
       IsContinued (OfLevel unary e (SpellsExpression text e))
@@ -200,8 +188,7 @@ abbrev mutual
   pub SpellsMoreArguments : List ℕ → Arguments → Phrase
   SpellsMoreArguments text Done = HasPunctuator punctuators.CloseParenthesis
   SpellsMoreArguments text (Next e es) =
-      AreMoreArguments (OfLevel assignment e (SpellsExpression text e))
-      (SpellsMoreArguments text es)
+      IsAnother (OfLevel assignment e (SpellsExpression text e)) (SpellsMoreArguments text es)
 
 -- The tokens before the rest are an expression of a level.
 abbrev pub Derives : List ℕ → ℕ → Expression → Phrase

@@ -5,28 +5,29 @@ use Rattle.c_lex.specs.declared.punctuator.Punctuator.TheVariants as punctuators
 use Rattle.c_lex.specs.declared.token.Kind.{Kind}
 use Rattle.c_lex.specs.declared.token.Kind.TheVariants as kinds
 use Rattle.c_lex.specs.declared.token.Token.{Token}
+use Rattle.c_syntax.specs.declared.level.TheConstants as levels
 use Rattle.c_syntax.specs.Expression.{Expression, start}
 use Rattle.c_lex.specs.declared.keyword.Keyword.TheVariants as keywords
 use Rattle.c_syntax.specs.Expressions.{Derives}
-use Rattle.c_syntax.specs.Operators.{primary, postfix, logical_or, conditional, assignment, comma}
+use Rattle.c_syntax.specs.Operators.{primary, postfix, logical_or, conditional, assignment, comma, never}
 use Rattle.c_syntax.specs.Statement.{Statement}
 use Rattle.c_syntax.specs.Statements.{dangles, IsBlockItem}
 use Rattle.c_syntax.specs.Tokens.{HasKeyword}
 
 -- the level of the production in which a punctuator is after an operand, `(` after the name of a
--- call; 17 where it never does
+-- call
 abbrev pub punctuator_follows : Punctuator → ℕ
 punctuator_follows punctuators.OpenParenthesis = primary
-punctuator_follows punctuators.CloseParenthesis = 17
+punctuator_follows punctuators.CloseParenthesis = never
 punctuator_follows punctuators.OpenBracket = postfix
-punctuator_follows punctuators.CloseBracket = 17
-punctuator_follows punctuators.OpenBrace = 17
-punctuator_follows punctuators.CloseBrace = 17
-punctuator_follows punctuators.Semicolon = 17
+punctuator_follows punctuators.CloseBracket = never
+punctuator_follows punctuators.OpenBrace = never
+punctuator_follows punctuators.CloseBrace = never
+punctuator_follows punctuators.Semicolon = never
 punctuator_follows punctuators.Comma = comma
 punctuator_follows punctuators.Question = conditional
-punctuator_follows punctuators.Colon = 17
-punctuator_follows punctuators.Arrow = 17
+punctuator_follows punctuators.Colon = never
+punctuator_follows punctuators.Arrow = never
 punctuator_follows punctuators.Assign = assignment
 punctuator_follows punctuators.PlusAssign = assignment
 punctuator_follows punctuators.MinusAssign = assignment
@@ -39,38 +40,38 @@ punctuator_follows punctuators.CaretAssign = assignment
 punctuator_follows punctuators.ShiftLeftAssign = assignment
 punctuator_follows punctuators.ShiftRightAssign = assignment
 punctuator_follows punctuators.BarBar = logical_or
-punctuator_follows punctuators.AmpersandAmpersand = 12
-punctuator_follows punctuators.Bar = 11
-punctuator_follows punctuators.Caret = 10
-punctuator_follows punctuators.Ampersand = 9
-punctuator_follows punctuators.Equal = 8
-punctuator_follows punctuators.NotEqual = 8
-punctuator_follows punctuators.Less = 7
-punctuator_follows punctuators.Greater = 7
-punctuator_follows punctuators.LessEqual = 7
-punctuator_follows punctuators.GreaterEqual = 7
-punctuator_follows punctuators.ShiftLeft = 6
-punctuator_follows punctuators.ShiftRight = 6
-punctuator_follows punctuators.Plus = 5
-punctuator_follows punctuators.Minus = 5
-punctuator_follows punctuators.Star = 4
-punctuator_follows punctuators.Slash = 4
-punctuator_follows punctuators.Percent = 4
-punctuator_follows punctuators.Exclamation = 17
-punctuator_follows punctuators.Tilde = 17
+punctuator_follows punctuators.AmpersandAmpersand = levels.LOGICAL_AND
+punctuator_follows punctuators.Bar = levels.INCLUSIVE_OR
+punctuator_follows punctuators.Caret = levels.EXCLUSIVE_OR
+punctuator_follows punctuators.Ampersand = levels.AND
+punctuator_follows punctuators.Equal = levels.EQUALITY
+punctuator_follows punctuators.NotEqual = levels.EQUALITY
+punctuator_follows punctuators.Less = levels.RELATIONAL
+punctuator_follows punctuators.Greater = levels.RELATIONAL
+punctuator_follows punctuators.LessEqual = levels.RELATIONAL
+punctuator_follows punctuators.GreaterEqual = levels.RELATIONAL
+punctuator_follows punctuators.ShiftLeft = levels.SHIFT
+punctuator_follows punctuators.ShiftRight = levels.SHIFT
+punctuator_follows punctuators.Plus = levels.ADDITIVE
+punctuator_follows punctuators.Minus = levels.ADDITIVE
+punctuator_follows punctuators.Star = levels.MULTIPLICATIVE
+punctuator_follows punctuators.Slash = levels.MULTIPLICATIVE
+punctuator_follows punctuators.Percent = levels.MULTIPLICATIVE
+punctuator_follows punctuators.Exclamation = never
+punctuator_follows punctuators.Tilde = never
 punctuator_follows punctuators.PlusPlus = postfix
 punctuator_follows punctuators.MinusMinus = postfix
 
 abbrev pub kind_follows : Kind → ℕ
-kind_follows kinds.Identifier = 17
-kind_follows (kinds.Keyword k) = 17
-kind_follows (kinds.Reserved r) = 17
-kind_follows (kinds.Integer value type) = 17
-kind_follows (kinds.CharacterConstant value) = 17
+kind_follows kinds.Identifier = never
+kind_follows (kinds.Keyword k) = never
+kind_follows (kinds.Reserved r) = never
+kind_follows (kinds.Integer value type) = never
+kind_follows (kinds.CharacterConstant value) = never
 kind_follows (kinds.Punctuator s) = punctuator_follows s
 
 abbrev pub follows : List Token → ℕ
-follows [] = 17
+follows [] = never
 follows (t ∷ ts) = kind_follows t.kind
 
 -- no expression of the level or a tighter one continues with these tokens

@@ -12,6 +12,7 @@ pub mod Phrases
 pub mod Statements
 pub mod Programs
 pub mod Limits
+pub mod Nodes
 pub mod Faults
 pub mod Viable
 pub mod Rows

@@ -260,20 +260,28 @@ every_limit = order (Number counts.Funclets)
 abbrev pub IsInForce : Limit → ℕ → Type 0
 IsInForce l n = order l ≤ n
 
-pub record FunctionWithin (ps : List Parameter) (body : Statements) : Type 0 where
-  pub parameters : length ps ≤ MOST_PARAMETERS
-  pub locals : locals_of_all body ≤ MOST_LOCALS
+-- A function is within the first n limits.
+pub record FunctionWithinFirst (n : ℕ) (ps : List Parameter) (body : Statements) : Type 0 where
   -- the function's own block is no statement
-  pub statements : statements_over_all body ≤ MOST_STATEMENTS
-  pub expressions : expressions_over_all body ≤ MOST_EXPRESSIONS
+  pub statements : IsInForce Nesting n → statements_over_all body ≤ MOST_STATEMENTS
+  pub expressions : IsInForce Nesting n → expressions_over_all body ≤ MOST_EXPRESSIONS
+  pub locals : IsInForce (Number counts.Locals) n → locals_of_all body ≤ MOST_LOCALS
+  pub parameters : IsInForce (Number counts.Parameters) n → length ps ≤ MOST_PARAMETERS
 
-abbrev pub EachWithin : List ExternalDeclaration → Type 0
-EachWithin [] = Unit {0}
-EachWithin (Globals base gs ∷ xs) = EachWithin xs
-EachWithin (Function returns name ps body ∷ xs) = FunctionWithin ps body × EachWithin xs
+abbrev pub EachWithinFirst : ℕ → List ExternalDeclaration → Type 0
+EachWithinFirst n [] = Unit {0}
+EachWithinFirst n (Globals base gs ∷ xs) = EachWithinFirst n xs
+EachWithinFirst n (Function returns name ps body ∷ xs) =
+    FunctionWithinFirst n ps body × EachWithinFirst n xs
 
-pub record Within (text : List ℕ) (program : List ExternalDeclaration) : Type 0 where
-  pub each : EachWithin program
-  pub functions : functions program ≤ MOST_FUNCTIONS
-  pub bytes : bytes_from program 0 ≤ MOST_GLOBALS
-  pub numbered : length (funclets_in text program) ≤ MOST_FUNCLETS
+-- A program is within the first n limits.
+pub record WithinFirst (n : ℕ) (text : List ℕ) (program : List ExternalDeclaration) : Type 0 where
+  pub each : EachWithinFirst n program
+  pub functions : IsInForce (Number counts.Functions) n → functions program ≤ MOST_FUNCTIONS
+  pub bytes : IsInForce (Number counts.Globals) n → bytes_from program 0 ≤ MOST_GLOBALS
+  pub numbered : IsInForce (Number counts.Funclets) n
+      → length (funclets_in text program) ≤ MOST_FUNCLETS
+
+-- A program is within all limits.
+abbrev pub Within : List ℕ → List ExternalDeclaration → Type 0
+Within text program = WithinFirst every_limit text program

@@ -2,6 +2,7 @@
 use Rattle.std.specs.Prelude.{ℕ, Option, Some, None}
 use Rattle.c_lex.specs.declared.punctuator.Punctuator.{Punctuator}
 use Rattle.c_lex.specs.declared.punctuator.Punctuator.TheVariants as punctuators
+use Rattle.c_syntax.specs.declared.level.TheConstants as levels
 use Rattle.c_syntax.specs.declared.operator.Arithmetic.{Arithmetic}
 use Rattle.c_syntax.specs.declared.operator.Arithmetic.TheVariants.{Multiply, Divide, Remainder, Add, Subtract, ShiftLeft, ShiftRight, And, ExclusiveOr, Or}
 use Rattle.c_syntax.specs.declared.operator.Comparison.{Comparison}
@@ -16,53 +17,56 @@ use Rattle.c_syntax.specs.declared.operator.Increment.TheVariants as increments
 -- ---- levels
 
 abbrev pub primary : ℕ
-primary = 0
+primary = levels.PRIMARY
 
 abbrev pub postfix : ℕ
-postfix = 1
+postfix = levels.POSTFIX
 
 abbrev pub unary : ℕ
-unary = 2
+unary = levels.UNARY
 
 abbrev pub cast : ℕ
-cast = 3
+cast = levels.CAST
 
 abbrev pub logical_or : ℕ
-logical_or = 13
+logical_or = levels.LOGICAL_OR
 
 abbrev pub conditional : ℕ
-conditional = 14
+conditional = levels.CONDITIONAL
 
 abbrev pub assignment : ℕ
-assignment = 15
+assignment = levels.ASSIGNMENT
 
 abbrev pub comma : ℕ
-comma = 16
+comma = levels.COMMA
+
+abbrev pub never : ℕ
+never = levels.NEVER
 
 abbrev pub level_of_arithmetic : Arithmetic → ℕ
-level_of_arithmetic Multiply = 4
-level_of_arithmetic Divide = 4
-level_of_arithmetic Remainder = 4
-level_of_arithmetic Add = 5
-level_of_arithmetic Subtract = 5
-level_of_arithmetic ShiftLeft = 6
-level_of_arithmetic ShiftRight = 6
-level_of_arithmetic And = 9
-level_of_arithmetic ExclusiveOr = 10
-level_of_arithmetic Or = 11
+level_of_arithmetic Multiply = levels.MULTIPLICATIVE
+level_of_arithmetic Divide = levels.MULTIPLICATIVE
+level_of_arithmetic Remainder = levels.MULTIPLICATIVE
+level_of_arithmetic Add = levels.ADDITIVE
+level_of_arithmetic Subtract = levels.ADDITIVE
+level_of_arithmetic ShiftLeft = levels.SHIFT
+level_of_arithmetic ShiftRight = levels.SHIFT
+level_of_arithmetic And = levels.AND
+level_of_arithmetic ExclusiveOr = levels.EXCLUSIVE_OR
+level_of_arithmetic Or = levels.INCLUSIVE_OR
 
 abbrev pub level_of_comparison : Comparison → ℕ
-level_of_comparison Less = 7
-level_of_comparison Greater = 7
-level_of_comparison LessEqual = 7
-level_of_comparison GreaterEqual = 7
-level_of_comparison Equal = 8
-level_of_comparison NotEqual = 8
+level_of_comparison Less = levels.RELATIONAL
+level_of_comparison Greater = levels.RELATIONAL
+level_of_comparison LessEqual = levels.RELATIONAL
+level_of_comparison GreaterEqual = levels.RELATIONAL
+level_of_comparison Equal = levels.EQUALITY
+level_of_comparison NotEqual = levels.EQUALITY
 
 abbrev pub level : BinaryOperator → ℕ
 level (binary.Arithmetic a) = level_of_arithmetic a
 level (binary.Comparison c) = level_of_comparison c
-level binary.LogicalAnd = 12
+level binary.LogicalAnd = levels.LOGICAL_AND
 level binary.LogicalOr = logical_or
 
 -- ---- punctuators

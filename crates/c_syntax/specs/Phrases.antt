@@ -1,4 +1,4 @@
--- What productions share: phrases in turn, between punctuators, and separated by commas.
+-- What productions share: phrases in turn, enclosed phrases, and elements with commas between them.
 use Rattle.std.specs.Prelude.{List, [], ◌∷◌}
 use Rattle.c_lex.specs.declared.punctuator.Punctuator.{Punctuator}
 use Rattle.c_lex.specs.declared.punctuator.Punctuator.TheVariants as punctuators
@@ -9,14 +9,14 @@ use Rattle.c_syntax.specs.Tokens.{Phrase, HasPunctuator}
 abbrev pub InTurn : Phrase → Phrase → Phrase
 InTurn First Second ts rest = (mid : List Token) × First ts mid × Second mid rest
 
--- a phrase between two punctuators
-pub record Between (left : Punctuator) (Inner : Phrase) (right : Punctuator)
+-- a phrase after what opens it, and the punctuator that closes it
+pub record IsEnclosed (Opening Inner : Phrase) (close : Punctuator)
     (ts rest : List Token) : Type 0 where
   pub after_opening : List Token
   pub after_inner : List Token
-  pub opening : HasPunctuator left ts after_opening
+  pub opening : Opening ts after_opening
   pub inner : Inner after_opening after_inner
-  pub closing : HasPunctuator right after_inner rest
+  pub closing : HasPunctuator close after_inner rest
 
 -- ---- lists
 

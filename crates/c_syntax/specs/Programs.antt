@@ -11,7 +11,7 @@ use Rattle.c_syntax.specs.declared.expression.CType.{CType}
 use Rattle.c_syntax.specs.declared.expression.Identifier.{Identifier}
 use Rattle.c_syntax.specs.declared.expression.Literal.{Literal}
 use Rattle.c_syntax.specs.Expressions.{literal_kind, IsInteger}
-use Rattle.c_syntax.specs.Phrases.{InTurn, Between, AreMore, AreSeparated}
+use Rattle.c_syntax.specs.Phrases.{InTurn, IsEnclosed, AreMore, AreSeparated}
 use Rattle.c_syntax.specs.Program.{Initialiser, Single, Several, Global, ExternalDeclaration, Globals, Function}
 use Rattle.c_syntax.specs.Statement.{Statements}
 use Rattle.c_syntax.specs.Statements.{IsBlock, AreBlockItems}
@@ -57,7 +57,8 @@ IsInitialiser (Some (Several at cs)) ts rest = IsInitialiserList at cs ts rest
 abbrev pub IsLength : Option Length → Phrase
 IsLength None ts rest = ts ≡ rest
 IsLength (Some n) ts rest =
-    Between punctuators.OpenBracket (IsInteger n.value n.at) punctuators.CloseBracket ts rest
+    IsEnclosed (HasPunctuator punctuators.OpenBracket) (IsInteger n.value n.at)
+    punctuators.CloseBracket ts rest
 
 pub record IsGlobal (g : Global) (ts rest : List Token) : Type 0 where
   pub after_stars : List Token

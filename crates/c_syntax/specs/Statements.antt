@@ -10,7 +10,7 @@ use Rattle.c_syntax.specs.declared.expression.Base.{Base}
 use Rattle.c_syntax.specs.Expression.{Expression}
 use Rattle.c_syntax.specs.Expressions.{Derives}
 use Rattle.c_syntax.specs.Operators.{assignment, comma}
-use Rattle.c_syntax.specs.Phrases.{InTurn, Between, AreMore, AreSeparated}
+use Rattle.c_syntax.specs.Phrases.{InTurn, IsEnclosed, AreMore, AreSeparated}
 use Rattle.c_syntax.specs.Statement.{Local, ForInitialiser, Declaring, Evaluating, Statement, Declare, Block, Evaluate, If, IfElse, While, DoWhile, For, Return, Break, Continue, Leave, TryExcept, TryFinally, Statements, Empty, Then}
 use Rattle.c_syntax.specs.Tokens.{Phrase, IsIdentifier, IsKeyword, HasPunctuator, HasKeyword}
 use Rattle.c_syntax.specs.Types.{IsBase, AreStars}
@@ -51,7 +51,8 @@ IsUpTo text end e = InTurn (IsOptional text e) (HasPunctuator end)
 
 abbrev pub IsCondition : List ℕ → Expression → Phrase
 IsCondition text e =
-    Between punctuators.OpenParenthesis (Derives text comma e) punctuators.CloseParenthesis
+    IsEnclosed (HasPunctuator punctuators.OpenParenthesis) (Derives text comma e)
+    punctuators.CloseParenthesis
 
 abbrev pub IsForInitialiser : List ℕ → ForInitialiser → Phrase
 IsForInitialiser text (Declaring base ls) = IsDeclaration text base ls

@@ -6,9 +6,10 @@ use Rattle.c_syntax.specs.declared.operator.Arithmetic.{Arithmetic}
 use Rattle.c_syntax.specs.declared.operator.BinaryOperator.{BinaryOperator}
 use Rattle.c_syntax.specs.declared.operator.Increment.{Increment}
 use Rattle.c_syntax.specs.Expression.{Expression, Constant, Variable, Information, Call, Parentheses, Index, Postfix, Prefix, Unary, Cast, Binary, Conditional, Assign, Comma}
-use Rattle.c_syntax.specs.Expressions.{rank, TighterThan, IsEnclosed, IsApplied, SpellsExpression, Derives}
+use Rattle.c_syntax.specs.Expressions.{rank, TighterThan, IsApplied, SpellsExpression, Derives}
 use Rattle.c_syntax.specs.Follow.{follows}
 use Rattle.c_syntax.specs.Operators.{primary, postfix, unary, cast, logical_or, conditional, assignment, comma, level, binary_punctuator, increment_punctuator, assignment_punctuator}
+use Rattle.c_syntax.specs.Phrases.{IsEnclosed}
 use Rattle.c_syntax.specs.Tokens.{Phrase, IsPunctuator}
 
 -- ---- what is after an operand
@@ -41,13 +42,15 @@ bound (And at f) = comma
 -- the tokens of a step
 abbrev pub Tail : List ℕ → Step → Phrase
 Tail text (At at i) =
-    IsEnclosed punctuators.OpenBracket punctuators.CloseBracket at (SpellsExpression text i)
+    IsEnclosed (IsPunctuator punctuators.OpenBracket at) (SpellsExpression text i)
+    punctuators.CloseBracket
 Tail text (After op at) = IsPunctuator (increment_punctuator op) at
 Tail text (With at op f) =
     IsApplied (IsPunctuator (binary_punctuator op) at)
     (TighterThan (level op) f (SpellsExpression text f))
 Tail text (Choose at f g) =
-    IsApplied (IsEnclosed punctuators.Question punctuators.Colon at (SpellsExpression text f))
+    IsApplied
+    (IsEnclosed (IsPunctuator punctuators.Question at) (SpellsExpression text f) punctuators.Colon)
     (Derives text conditional g)
 Tail text (Set at op f) =
     IsApplied (IsPunctuator (assignment_punctuator op) at) (Derives text assignment f)

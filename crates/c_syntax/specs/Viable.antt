@@ -1,46 +1,10 @@
 -- Which tokens begin a program, and where a list of tokens first doesn't.
-use Rattle.std.specs.Prelude.{◌≡◌, ◌≤◌, ℕ, suc, List, [], ◌∷◌, ◌++◌, length}
+use Rattle.std.specs.Prelude.{◌≡◌, ℕ, suc, List, [], ◌∷◌, ◌++◌}
 use Rattle.c_lex.specs.declared.token.Token.{Token}
-use Rattle.c_syntax.specs.declared.declaration.Parameter.{Parameter}
-use Rattle.c_syntax.specs.declared.limit.Count.TheVariants as counts
-use Rattle.c_syntax.specs.declared.limit.TheConstants.{MOST_EXPRESSIONS, MOST_STATEMENTS, MOST_LOCALS, MOST_PARAMETERS, MOST_FUNCTIONS, MOST_GLOBALS, MOST_FUNCLETS}
 use Rattle.c_syntax.specs.Faults.{place}
-use Rattle.c_syntax.specs.Limits as limits
-use Rattle.c_syntax.specs.Limits.{Nesting, Number, IsInForce, every_limit, Within, statements_over_all, expressions_over_all, locals_of_all, bytes_from, funclets_in}
-use Rattle.c_syntax.specs.Program.{ExternalDeclaration, Globals, Function}
+use Rattle.c_syntax.specs.Limits.{every_limit, WithinFirst, Within}
+use Rattle.c_syntax.specs.Program.{ExternalDeclaration}
 use Rattle.c_syntax.specs.Programs.{IsProgram}
-use Rattle.c_syntax.specs.Statement.{Statements}
-
--- ---- the first n limits
-
-pub record FunctionWithinFirst (n : ℕ) (ps : List Parameter) (body : Statements) : Type 0 where
-  -- the function's own block is no statement
-  pub statements : IsInForce Nesting n → statements_over_all body ≤ MOST_STATEMENTS
-  pub expressions : IsInForce Nesting n → expressions_over_all body ≤ MOST_EXPRESSIONS
-  pub locals : IsInForce (Number counts.Locals) n → locals_of_all body ≤ MOST_LOCALS
-  pub parameters : IsInForce (Number counts.Parameters) n → length ps ≤ MOST_PARAMETERS
-
-abbrev pub EachWithinFirst : ℕ → List ExternalDeclaration → Type 0
-EachWithinFirst n [] = Unit {0}
-EachWithinFirst n (Globals base gs ∷ xs) = EachWithinFirst n xs
-EachWithinFirst n (Function returns name ps body ∷ xs) =
-    FunctionWithinFirst n ps body × EachWithinFirst n xs
-
-pub record WithinFirst (n : ℕ) (text : List ℕ) (program : List ExternalDeclaration) : Type 0 where
-  pub each : EachWithinFirst n program
-  pub functions : IsInForce (Number counts.Functions) n → limits.functions program ≤ MOST_FUNCTIONS
-  pub bytes : IsInForce (Number counts.Globals) n → bytes_from program 0 ≤ MOST_GLOBALS
-  pub numbered : IsInForce (Number counts.Funclets) n
-      → length (funclets_in text program) ≤ MOST_FUNCLETS
-
--- A program is within the limits where it is within the first of them up to the last.
-abbrev pub WithinIsWithinEach : Type 0
-WithinIsWithinEach =
-    (text : List ℕ) (program : List ExternalDeclaration)
-    → (Within text program → WithinFirst every_limit text program)
-    × (WithinFirst every_limit text program → Within text program)
-
--- ---- beginnings
 
 -- Some program within the first n limits begins with these tokens, in some text that continues this
 -- one.

@@ -6,10 +6,12 @@ ghost use Rattle.c_syntax.specs.Expression.{expression, start};
 use crate::operator::{Arithmetic, BinaryOperator, Increment, UnaryOperator};
 use c_lex::token::IntegerType;
 
-/// A name: its bytes' places in the text, from `start` to below `end`.
+/// A name, by where it is in the text.
 #[derive(Clone, Copy, Debug, PartialEq, Eq)]
 pub struct Identifier {
+    /// The place of its first byte.
     pub start: u64,
+    /// The place after its last byte.
     pub end: u64,
 }
 
@@ -37,10 +39,12 @@ pub enum Base {
     UnsignedLongLong,
 }
 
-/// A type: what its specifiers name after so many `*`.
+/// A type.
 #[derive(Clone, Copy, Debug, PartialEq, Eq)]
 pub struct CType {
+    /// What its specifiers name.
     pub base: Base,
+    /// How many `*` are after them.
     pub pointers: u64,
 }
 

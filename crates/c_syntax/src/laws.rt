@@ -2,14 +2,13 @@
 
 ghost use Rattle.c_syntax.specs.Follow.{OneExpression, OneStatement, Begins};
 ghost use Rattle.c_syntax.specs.Programs.{OneProgram};
-ghost use Rattle.c_syntax.specs.Viable.{WithinIsWithinEach, OneFirstFault, NoFaultInProgram};
+ghost use Rattle.c_syntax.specs.Viable.{OneFirstFault, NoFaultInProgram};
 ghost use Rattle.c_syntax.specs.Rows.{Differences, Product, CastOfElement, Choices, Assignments, TwoArguments, NearestIf, NoOtherIf};
 
 /// A text is one program at most. An expression that no operator continues with has one tree and
 /// one end, and so has a statement that no `else` continues with; the start of an expression is
 /// that of its first token. Tokens have one first fault at most, of one kind, and those of a
-/// program within the limits have none; and a program is within the limits where it is within the
-/// first of them up to the last.
+/// program within the limits have none.
 pub fn laws()
     ensures one_program { OneProgram }
     ensures one_statement { OneStatement }
@@ -17,7 +16,6 @@ pub fn laws()
     ensures begins { Begins }
     ensures one_first_fault { OneFirstFault }
     ensures no_fault_in_program { NoFaultInProgram }
-    ensures within_is_within_each { WithinIsWithinEach }
 {}
 
 /// Binary operators group to the left, `?:` and assignments to the right, casts over their operand;

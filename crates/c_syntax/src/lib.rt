@@ -12,6 +12,7 @@
 pub mod declaration;
 pub mod expression;
 pub mod laws;
+pub mod level;
 pub mod limit;
 pub mod operator;
 pub mod statement;

@@ -2,18 +2,23 @@
 
 use crate::expression::{Base, Expr, Identifier};
 
-/// A local of a declaration: `pointers` stars, its name and its initialiser.
+/// A local of a declaration (C11, 6.7.6).
 #[derive(Drop)]
 pub struct Local {
+    /// How many `*` are before its name.
     pub pointers: u64,
+    /// Its name.
     pub name: Identifier,
+    /// What it begins with, if that is given.
     pub initialiser: Option<Expr>,
 }
 
-/// A declaration of locals, of one base (C11, 6.7). It has at least one.
+/// A declaration of locals (C11, 6.7).
 #[derive(Drop)]
 pub struct Declaration {
+    /// What its specifiers name.
     pub base: Base,
+    /// The locals, at least one.
     pub locals: Vec<Local>,
 }
 

@@ -11,8 +11,8 @@ use Rattle.c_syntax.specs.declared.expression.Literal.TheVariants as literals
 use Rattle.c_syntax.specs.declared.operator.Arithmetic.{Arithmetic}
 use Rattle.c_syntax.specs.Expression as trees
 use Rattle.c_syntax.specs.Expression.{Expression, start}
-use Rattle.c_parse.specs.Nodes as counted
-use Rattle.c_parse.specs.Nodes.{nodes_of_arguments}
+use Rattle.c_syntax.specs.Nodes as counted
+use Rattle.c_syntax.specs.Nodes.{nodes_of_arguments}
 use Rattle.c_resolved.specs.declared.fault.Fault.{Fault}
 use Rattle.c_resolved.specs.Operators.{TypedNode, int, compound_assigned, assigned, comma_of}
 use Rattle.c_resolved.specs.Expressions.{Entity, LocalVariable, GlobalVariable, GlobalArray, UserFunction, BuiltInFunction, CodeFunction, AbnormalFunction, BuiltInConstant, Names, FaultAt, ResolvedExpression, ruled, rule_1, rule_2, rule_3, given_that, literal, name, field, Wanted, built_in_wants, fits, passed, Argument, Passed, before, spoiled, pass, pass_all, called, call_with, only_where, call, changed, resolve_expression, resolve_arguments, OfType, ZeroLiteral}

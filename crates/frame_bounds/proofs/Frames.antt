@@ -16,7 +16,7 @@ use Rattle.c_resolved.specs.Program.{file_of, empty_file, with_parameters, aroun
 use Rattle.c_resolved.specs.Scopes.{Scope}
 use Rattle.c_resolved.specs.Statements.{Near, Beyond, past_finally, with_number, Environment, Numbering, names_at, filter_names, inside, any, condition, to_type, to_answer, Value, Optional, optional, declare, declare_all, only, returned, always, ResolvedFilter, resolve_filter, names_only, resolve_for_initialiser, resolve_statement, resolve_statements}
 use Rattle.c_syntax.specs.Expression.{height}
-use Rattle.c_syntax.specs.Limits.{EachWithin, height_of, height_of_locals, height_of_for_initialiser, expressions_over, expressions_over_all, statements_over, statements_over_all, over_block_item}
+use Rattle.c_syntax.specs.Limits.{every_limit, EachWithinFirst, height_of, height_of_locals, height_of_for_initialiser, expressions_over, expressions_over_all, statements_over, statements_over_all, over_block_item}
 use Rattle.c_resolved.proofs.Sound.{accepted_is_sound}
 use Rattle.ir_sizes.specs.Sizes.{statement_notes, statements_notes}
 use Rattle.ir_bounds.specs.Nesting.{expression_nesting, expression_reads, most_of_optional, most_of_declared, most_of_filter, most_of_statement, most_of, AreShallow}
@@ -313,7 +313,7 @@ mutual
 
 -- ---- programs
 
-functions_shallow : (text : List ℕ) (file : Scope) (xs : List ExternalDeclaration) (number : ℕ) → EachWithin xs → AreShallow (functions_of text file xs number).done
+functions_shallow : (text : List ℕ) (file : Scope) (xs : List ExternalDeclaration) (number : ℕ) → EachWithinFirst every_limit xs → AreShallow (functions_of text file xs number).done
 functions_shallow text file [] number within = tt
 functions_shallow text file (Globals base gs ∷ xs) number within = functions_shallow text file xs number within
 functions_shallow text file (Function t n ps body ∷ xs) number within =
@@ -321,8 +321,8 @@ functions_shallow text file (Function t n ps body ∷ xs) number within =
     let i = statements_shallow body (around text file t) (with_parameters text ps [] 0) start' in
     let j = statements_blocks body (around text file t) (with_parameters text ps [] 0) start' in
     let p = i.0 in
-    let e = within.0.expressions in
-    let s = within.0.statements in
+    let e = within.0.expressions (omega arith) in
+    let s = within.0.statements (omega arith) in
     (record { expressions = omega arith; parameters = i.1; blocks = omega arith }, functions_shallow text file xs (function_of text file t n ps body number).number within.1)
 
 pub resolved_is_shallow : ResolvedIsShallow

@@ -2,7 +2,7 @@
 use Rattle.std.specs.Prelude.{◌≡◌, ℕ, ◌+◌, ◌*◌, ◌^◌, ◌<◌, ◌≤◌, true, List, pos}
 use Rattle.c_syntax.specs.Limits.{Within}
 use Rattle.c_syntax.specs.Program.{ExternalDeclaration}
-use Rattle.c_parse.specs.Nodes.{nodes_of}
+use Rattle.c_syntax.specs.Nodes.{nodes_of}
 use Rattle.c_resolved.specs.Accepted.{Accepted}
 use Rattle.c_model.specs.Meaning.{meaning, Calm}
 use Rattle.host_model.specs.Machine.{machine}

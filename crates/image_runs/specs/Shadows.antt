@@ -14,7 +14,7 @@ use Rattle.c_checked.specs.Sound.{IsSound}
 use Rattle.c_model.specs.Meaning.{Calm}
 use Rattle.c_syntax.specs.Limits.{Within}
 use Rattle.c_syntax.specs.Program.{ExternalDeclaration}
-use Rattle.c_parse.specs.Nodes.{nodes_of}
+use Rattle.c_syntax.specs.Nodes.{nodes_of}
 use Rattle.c_resolved.specs.Accepted.{Accepted}
 use Rattle.linear_code.specs.Program.{LinearFunction}
 use Rattle.seh_ir.specs.Lowered.{lowered}

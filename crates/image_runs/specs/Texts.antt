@@ -3,7 +3,7 @@ use Rattle.std.specs.Prelude.{◌≡◌, ℕ, ◌+◌, ◌*◌, ◌^◌, ◌<◌
 use Rattle.seh_num.specs.declared.end.RunEnd.{RunEnd}
 use Rattle.c_syntax.specs.Limits.{Within}
 use Rattle.c_syntax.specs.Program.{ExternalDeclaration}
-use Rattle.c_parse.specs.Nodes.{nodes_of}
+use Rattle.c_syntax.specs.Nodes.{nodes_of}
 use Rattle.c_resolved.specs.Accepted.{Accepted}
 use Rattle.c_model.specs.Meaning.{Calm}
 use Rattle.host_model.specs.Machine.{machine}

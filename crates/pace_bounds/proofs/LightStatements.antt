@@ -9,8 +9,8 @@ use Rattle.c_syntax.specs.Expression.{Expression, start}
 use Rattle.c_syntax.specs.Program.{ExternalDeclaration, Globals, Function}
 use Rattle.c_syntax.specs.Statement as statements
 use Rattle.c_syntax.specs.Statement.{Statement, Statements, Local, ForInitialiser, Declaring, Evaluating}
-use Rattle.c_parse.specs.Nodes as counted
-use Rattle.c_parse.specs.Nodes.{nodes_of_optional, nodes_of_locals, nodes_of_for_initialiser, nodes_of_statement, nodes_of_statements, nodes_of}
+use Rattle.c_syntax.specs.Nodes as counted
+use Rattle.c_syntax.specs.Nodes.{nodes_of_optional, nodes_of_locals, nodes_of_for_initialiser, nodes_of_statement, nodes_of_statements, nodes_of}
 use Rattle.c_resolved.specs.Types.{is_void, size_of}
 use Rattle.c_resolved.specs.Operators.{TypedNode}
 use Rattle.c_resolved.specs.Expressions.{Names, FaultAt, resolve_expression}

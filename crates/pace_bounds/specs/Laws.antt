@@ -3,7 +3,7 @@ use Rattle.std.specs.Prelude.{◌≤◌, ℕ, ◌+◌, ◌*◌, List}
 use Rattle.c_checked.specs.Program.{Program}
 use Rattle.c_syntax.specs.Limits.{Within}
 use Rattle.c_syntax.specs.Program.{ExternalDeclaration}
-use Rattle.c_parse.specs.Nodes.{nodes_of}
+use Rattle.c_syntax.specs.Nodes.{nodes_of}
 use Rattle.c_resolved.specs.Accepted.{Accepted}
 use Rattle.c_resolved.specs.Program.{resolve}
 use Rattle.seh_ir.specs.Lowered.{lowered}

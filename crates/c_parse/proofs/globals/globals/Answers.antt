@@ -5,7 +5,7 @@ use Rattle.c_lex.specs.declared.punctuator.Punctuator.TheVariants as punctuators
 use Rattle.c_parse_stmt.specs.Parts.{NoPunctuator, APunctuator}
 use Rattle.c_parse.specs.Parts.{NoGlobal, NoGlobals, HasGlobals}
 use Rattle.c_parse.proofs.Refusing.{placed_in}
-use Rattle.c_parse.proofs.Shorter.{global_shorter}
+use Rattle.c_syntax.proofs.Shorter as shorter
 use Rattle.c_parse.proofs.Declarations.{begins, next, ends, ends_at, in_first, in_next, in_end}
 use Rattle.c_parse.proofs.globals.globals.Goals as goal
 
@@ -36,7 +36,7 @@ pub loop-following-smaller : goal.loop-following-smaller
 loop-following-smaller c =
     let k = c.in_ok-next in
     let a = ap length c.in-Some.ensures.found.1.1 in
-    let b = global_shorter (global k.next) c.in-Some.following.now k.after.now k.ensures.found in
+    let b = shorter.global (global k.next) c.in-Some.following.now k.after.now k.ensures.found in
     omega arith
 
 pub returns-in_err-rest-clause-refused : goal.returns-in_err-rest-clause-refused

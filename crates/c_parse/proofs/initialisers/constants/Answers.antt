@@ -2,9 +2,10 @@ use Rattle.std.proofs.Common.{length, ap, arith}
 use Rattle.std.proofs.lemmas.Result.{err_from_is_err_and}
 use Rattle.c_parse_stmt.specs.Parts.{NoPunctuator, APunctuator}
 use Rattle.c_lex.specs.declared.punctuator.Punctuator.TheVariants as punctuators
+use Rattle.c_syntax.proofs.Shorter as shorter
 use Rattle.c_parse.specs.Parts.{NoConstant, HasConstant, NoConstants, HasConstants}
 use Rattle.c_parse.proofs.Refusing.{placed_in}
-use Rattle.c_parse.proofs.Constants.{constant_shorter, begins, next, ends, in_first, in_next, in_end}
+use Rattle.c_parse.proofs.Constants.{begins, next, ends, in_first, in_next, in_end}
 use Rattle.c_parse.proofs.initialisers.constants.Goals as goal
 
 pub returns-in_err-first-clause-refused : goal.returns-in_err-first-clause-refused
@@ -34,7 +35,7 @@ pub loop-following-smaller : goal.loop-following-smaller
 loop-following-smaller c =
     let k = c.in_ok-next in
     let a = ap length c.in-Some.ensures.found.1.1 in
-    let b = constant_shorter k.next c.in-Some.following.now k.after.now k.ensures.found in
+    let b = shorter.constant k.next c.in-Some.following.now k.after.now k.ensures.found in
     omega arith
 
 pub returns-in_err-end-clause-refused : goal.returns-in_err-end-clause-refused

@@ -2,10 +2,10 @@ use Rattle.std.proofs.lemmas.Result.{err_from_is_err_and}
 use Rattle.c_syntax.specs.Program.{external_declaration}
 use Rattle.c_syntax.proofs.Files.{program_once}
 use Rattle.std.proofs.Common.{length, map, refl, arith}
-use Rattle.c_parse.proofs.ExternalDeclarations.{shorter}
-use Rattle.c_parse.proofs.Nodes.{program}
+use Rattle.c_syntax.proofs.Shorter as shorter
+use Rattle.c_syntax.proofs.Nodes.{program}
 use Rattle.c_parse.specs.Bounds.{IsBounded}
-use Rattle.c_parse.proofs.Beyond.{few_tokens}
+use Rattle.c_lex.proofs.Covering.{few_tokens}
 use Rattle.c_parse.proofs.Programs.{begins, continues, ends, within, refuses, memory, some_left, none_left}
 use Rattle.c_parse.proofs.program.parse.Goals as goal
 
@@ -25,7 +25,7 @@ returns-in_err-next-clause-only c =
     λ xs h w. rw (p.1, p.2) (memory c.in_err-next.field-0.0 c.args.text.now c.args.tokens.now xs q h w)
 
 pub loop-rest-smaller : goal.loop-rest-smaller
-loop-rest-smaller c = shorter c.args.text.now (external_declaration c.in_ok-next.next) c.loop-rest.rest.now c.in_ok-next.following.now c.in_ok-next.ensures.found
+loop-rest-smaller c = shorter.external_declaration c.args.text.now (external_declaration c.in_ok-next.next) c.loop-rest.rest.now c.in_ok-next.following.now c.in_ok-next.ensures.found
 
 pub loop-rest-preserved : goal.loop-rest-preserved
 loop-rest-preserved c =
