@@ -51,14 +51,7 @@ positive (suc n) h = omega arith
 pub aligned_low : (base : Base) (n at : ℕ) → at ≤ 1048576 → aligned at (size base n) ≤ 1048576
 aligned_low base (suc n) at h = omega arith
 aligned_low bases.Void zero at h = h
-aligned_low bases.Char zero at h = omega arith
-aligned_low bases.UnsignedChar zero at h = omega arith
-aligned_low bases.Short zero at h = omega arith
-aligned_low bases.UnsignedShort zero at h = omega arith
-aligned_low bases.Int zero at h = omega arith
-aligned_low bases.Unsigned zero at h = omega arith
-aligned_low bases.LongLong zero at h = omega arith
-aligned_low bases.UnsignedLongLong zero at h = omega arith
+aligned_low base zero at h = omega arith
 
 -- an array with no elements has room
 pub no_elements : (base : Base) (n at : ℕ) → at ≤ 1048576 → end_of base n (Some (record { at = 0; value = 0 })) at ≤ 1048576

@@ -372,72 +372,20 @@ never_end = λ text other s e after h.
     absurd (omega arith)
 
 pub other_keyword : (k : Keyword) → (k ≡ keywords.GetExceptionInformation → ⊥) → 5 < kind_class (kinds.Keyword k)
-other_keyword keywords.Break n = omega arith
-other_keyword keywords.Char n = omega arith
-other_keyword keywords.Continue n = omega arith
-other_keyword keywords.Do n = omega arith
-other_keyword keywords.Else n = omega arith
-other_keyword keywords.For n = omega arith
-other_keyword keywords.If n = omega arith
-other_keyword keywords.Int n = omega arith
-other_keyword keywords.Long n = omega arith
-other_keyword keywords.Return n = omega arith
-other_keyword keywords.Short n = omega arith
-other_keyword keywords.Signed n = omega arith
-other_keyword keywords.Unsigned n = omega arith
-other_keyword keywords.Void n = omega arith
-other_keyword keywords.While n = omega arith
-other_keyword keywords.Try n = omega arith
-other_keyword keywords.Except n = omega arith
-other_keyword keywords.Finally n = omega arith
-other_keyword keywords.Leave n = omega arith
 other_keyword keywords.GetExceptionInformation n = absurd (n refl)
+other_keyword k n = omega arith
 
 pub other_punctuator : (s : Punctuator) → (Opens s → ⊥) → 5 < kind_class (kinds.Punctuator s)
 other_punctuator punctuators.OpenParenthesis n = absurd (n (Parenthesis refl))
-other_punctuator punctuators.CloseParenthesis n = omega arith
-other_punctuator punctuators.OpenBracket n = omega arith
-other_punctuator punctuators.CloseBracket n = omega arith
-other_punctuator punctuators.OpenBrace n = omega arith
-other_punctuator punctuators.CloseBrace n = omega arith
-other_punctuator punctuators.Semicolon n = omega arith
-other_punctuator punctuators.Comma n = omega arith
-other_punctuator punctuators.Question n = omega arith
-other_punctuator punctuators.Colon n = omega arith
-other_punctuator punctuators.Arrow n = omega arith
-other_punctuator punctuators.Assign n = omega arith
-other_punctuator punctuators.PlusAssign n = omega arith
-other_punctuator punctuators.MinusAssign n = omega arith
-other_punctuator punctuators.StarAssign n = omega arith
-other_punctuator punctuators.SlashAssign n = omega arith
-other_punctuator punctuators.PercentAssign n = omega arith
-other_punctuator punctuators.AmpersandAssign n = omega arith
-other_punctuator punctuators.BarAssign n = omega arith
-other_punctuator punctuators.CaretAssign n = omega arith
-other_punctuator punctuators.ShiftLeftAssign n = omega arith
-other_punctuator punctuators.ShiftRightAssign n = omega arith
-other_punctuator punctuators.BarBar n = omega arith
-other_punctuator punctuators.AmpersandAmpersand n = omega arith
-other_punctuator punctuators.Bar n = omega arith
-other_punctuator punctuators.Caret n = omega arith
 other_punctuator punctuators.Ampersand n = absurd (n (Operates unary_operators.AddressOf refl))
-other_punctuator punctuators.Equal n = omega arith
-other_punctuator punctuators.NotEqual n = omega arith
-other_punctuator punctuators.Less n = omega arith
-other_punctuator punctuators.Greater n = omega arith
-other_punctuator punctuators.LessEqual n = omega arith
-other_punctuator punctuators.GreaterEqual n = omega arith
-other_punctuator punctuators.ShiftLeft n = omega arith
-other_punctuator punctuators.ShiftRight n = omega arith
 other_punctuator punctuators.Plus n = absurd (n (Operates unary_operators.Plus refl))
 other_punctuator punctuators.Minus n = absurd (n (Operates unary_operators.Minus refl))
 other_punctuator punctuators.Star n = absurd (n (Operates unary_operators.Indirection refl))
-other_punctuator punctuators.Slash n = omega arith
-other_punctuator punctuators.Percent n = omega arith
 other_punctuator punctuators.Exclamation n = absurd (n (Operates unary_operators.LogicalNot refl))
 other_punctuator punctuators.Tilde n = absurd (n (Operates unary_operators.Complement refl))
 other_punctuator punctuators.PlusPlus n = absurd (n (Steps increments.Increment refl))
 other_punctuator punctuators.MinusMinus n = absurd (n (Steps increments.Decrement refl))
+other_punctuator s n = omega arith
 
 pub plain_begins : (k : Kind) → (k ≡ kinds.Identifier) ⊎ (((value : ℕ) × (type : IntegerType) × (k ≡ kinds.Integer value type)) ⊎ ((value : ℤ) × (k ≡ kinds.CharacterConstant value))) → (start end : ℕ) (rest : List Token) → Begins (token k start end ∷ rest)
 plain_begins k (inl e) start end rest = subst (λ (z : Kind). Begins (token z start end ∷ rest)) (sym e) (name_begins start end rest)

@@ -45,8 +45,6 @@ none_begins text w l room ts a b c d (Call x es) end o low =
 none_begins text w l room ts a b c d (Parentheses at e) end o low =
     let h = o.derives.spells in
     d punctuators.OpenParenthesis at h.after_opening h.opening
-none_begins text w l room ts a b c d (Index e at i) end o low = o.head
-none_begins text w l room ts a b c d (Postfix e op at) end o low = o.head
 none_begins text w l room ts a b c d (Prefix at op e) end o low =
     let h = o.derives.spells in
     d (increment_punctuator op) at h.after_operator h.operator
@@ -56,10 +54,7 @@ none_begins text w l room ts a b c d (Unary at op e) end o low =
 none_begins text w l room ts a b c d (Cast at to e) end o low =
     let h = o.derives.spells in
     d punctuators.OpenParenthesis at h.operator.after_opening h.operator.opening
-none_begins text w l room ts a b c d (Binary e at op f) end o low = o.head
-none_begins text w l room ts a b c d (Conditional e at f g) end o low = o.head
-none_begins text w l room ts a b c d (Assign e at op f) end o low = o.head
-none_begins text w l room ts a b c d (Comma e at f) end o low = o.head
+none_begins text w l room ts a b c d k end o low = o.head
 
 literal_name : (x : Literal) → literal_kind x ≡ kinds.Identifier → ⊥
 literal_name (literals.Integer value type) e = cc
@@ -110,8 +105,6 @@ none_named text w l room x ts rest n v c (Parentheses at e) end o low =
     let h = o.derives.spells in
     punctuator_not_name _ (other_kind _ _ at x.start ts h.after_opening rest h.opening
     (identifier_kind x ts rest n))
-none_named text w l room x ts rest n v c (Index e at i) end o low = o.head
-none_named text w l room x ts rest n v c (Postfix e op at) end o low = o.head
 none_named text w l room x ts rest n v c (Prefix at op e) end o low =
     let h = o.derives.spells in
     punctuator_not_name _ (other_kind _ _ at x.start ts h.after_operator rest h.operator
@@ -124,10 +117,7 @@ none_named text w l room x ts rest n v c (Cast at to e) end o low =
     let h = o.derives.spells in
     punctuator_not_name _ (other_kind _ _ at x.start ts h.operator.after_opening rest
     h.operator.opening (identifier_kind x ts rest n))
-none_named text w l room x ts rest n v c (Binary e at op f) end o low = o.head
-none_named text w l room x ts rest n v c (Conditional e at f g) end o low = o.head
-none_named text w l room x ts rest n v c (Assign e at op f) end o low = o.head
-none_named text w l room x ts rest n v c (Comma e at f) end o low = o.head
+none_named text w l room x ts rest n v c k end o low = o.head
 
 call_follows : (rest b : List Token) → HasPunctuator punctuators.OpenParenthesis rest b → follows rest ≡ primary
 call_follows rest b h = ap follows h.1.1
@@ -141,57 +131,11 @@ no_call text w l room x ts rest b n h a =
 -- no `(` is at the front
 positive_sign : (s : Punctuator) → (s ≡ punctuators.OpenParenthesis → ⊥) → primary < punctuator_follows s
 positive_sign punctuators.OpenParenthesis n = absurd (n refl)
-positive_sign punctuators.CloseParenthesis n = omega arith
-positive_sign punctuators.OpenBracket n = omega arith
-positive_sign punctuators.CloseBracket n = omega arith
-positive_sign punctuators.OpenBrace n = omega arith
-positive_sign punctuators.CloseBrace n = omega arith
-positive_sign punctuators.Semicolon n = omega arith
-positive_sign punctuators.Comma n = omega arith
-positive_sign punctuators.Question n = omega arith
-positive_sign punctuators.Colon n = omega arith
-positive_sign punctuators.Arrow n = omega arith
-positive_sign punctuators.Assign n = omega arith
-positive_sign punctuators.PlusAssign n = omega arith
-positive_sign punctuators.MinusAssign n = omega arith
-positive_sign punctuators.StarAssign n = omega arith
-positive_sign punctuators.SlashAssign n = omega arith
-positive_sign punctuators.PercentAssign n = omega arith
-positive_sign punctuators.AmpersandAssign n = omega arith
-positive_sign punctuators.BarAssign n = omega arith
-positive_sign punctuators.CaretAssign n = omega arith
-positive_sign punctuators.ShiftLeftAssign n = omega arith
-positive_sign punctuators.ShiftRightAssign n = omega arith
-positive_sign punctuators.BarBar n = omega arith
-positive_sign punctuators.AmpersandAmpersand n = omega arith
-positive_sign punctuators.Bar n = omega arith
-positive_sign punctuators.Caret n = omega arith
-positive_sign punctuators.Ampersand n = omega arith
-positive_sign punctuators.Equal n = omega arith
-positive_sign punctuators.NotEqual n = omega arith
-positive_sign punctuators.Less n = omega arith
-positive_sign punctuators.Greater n = omega arith
-positive_sign punctuators.LessEqual n = omega arith
-positive_sign punctuators.GreaterEqual n = omega arith
-positive_sign punctuators.ShiftLeft n = omega arith
-positive_sign punctuators.ShiftRight n = omega arith
-positive_sign punctuators.Plus n = omega arith
-positive_sign punctuators.Minus n = omega arith
-positive_sign punctuators.Star n = omega arith
-positive_sign punctuators.Slash n = omega arith
-positive_sign punctuators.Percent n = omega arith
-positive_sign punctuators.Exclamation n = omega arith
-positive_sign punctuators.Tilde n = omega arith
-positive_sign punctuators.PlusPlus n = omega arith
-positive_sign punctuators.MinusMinus n = omega arith
+positive_sign s n = omega arith
 
 positive_kind : (k : Kind) (at end : ℕ) (ts : List Token) → ((b : List Token) → HasPunctuator punctuators.OpenParenthesis (token k at end ∷ ts) b → ⊥) → primary < kind_follows k
-positive_kind kinds.Identifier at end ts n = omega arith
-positive_kind (kinds.Keyword k) at end ts n = omega arith
-positive_kind (kinds.Reserved r) at end ts n = omega arith
-positive_kind (kinds.Integer value type) at end ts n = omega arith
-positive_kind (kinds.CharacterConstant value) at end ts n = omega arith
 positive_kind (kinds.Punctuator s) at end ts n = positive_sign s (λ e. n ts (at, (end, ap (λ (z : Punctuator). token (kinds.Punctuator z) at end ∷ ts) e)))
+positive_kind k at end ts n = omega arith
 
 pub no_parenthesis : (ts : List Token) → ((b : List Token) → HasPunctuator punctuators.OpenParenthesis ts b → ⊥) → primary < follows ts
 no_parenthesis [] n = omega arith
@@ -230,8 +174,6 @@ none_signed text w l room s at ts rest n pa pr un ca (Parentheses to e) end o lo
       closed =
           h.closing;
     }) (λ k. let a = low k in omega arith)
-none_signed text w l room s at ts rest n pa pr un ca (Index e to i) end o low = o.head
-none_signed text w l room s at ts rest n pa pr un ca (Postfix e op to) end o low = o.head
 none_signed text w l room s at ts rest n pa pr un ca (Prefix to op e) end o low =
     let h = o.derives.spells in
     let q = punctuator_same s (increment_punctuator op) at to ts ts rest h.after_operator refl n
@@ -251,10 +193,7 @@ none_signed text w l room s at ts rest n pa pr un ca (Cast to type e) end o low 
     ca type e h.operator.after_inner h.after_operator end q.0 o.derives.fits
     (subst (λ (z : List Token). IsType type z h.operator.after_inner) (sym q.2) h.operator.inner)
     h.operator.closing h.operand o.closes (λ k. let a = low k in omega arith)
-none_signed text w l room s at ts rest n pa pr un ca (Binary e to op f) end o low = o.head
-none_signed text w l room s at ts rest n pa pr un ca (Conditional e to f g) end o low = o.head
-none_signed text w l room s at ts rest n pa pr un ca (Assign e to op f) end o low = o.head
-none_signed text w l room s at ts rest n pa pr un ca (Comma e to f) end o low = o.head
+none_signed text w l room s at ts rest n pa pr un ca k end o low = o.head
 
 pub not_open : (s : Punctuator) → s ≡ punctuators.OpenParenthesis → (op : Increment) → increment_of s ≡ Some op → ⊥
 not_open s e op p = let q : increment_of punctuators.OpenParenthesis ≡ Some op = ap increment_of (sym e) ∙ p in cc
@@ -277,11 +216,7 @@ no_room text l s at ts rest n =
 
 unary_no_increment : (o : UnaryOperator) (op : Increment) → increment_of (unary_punctuator o) ≡ Some op → ⊥
 unary_no_increment unary_operators.Plus op e = cc
-unary_no_increment unary_operators.Minus op e = cc
-unary_no_increment unary_operators.LogicalNot op e = cc
-unary_no_increment unary_operators.Complement op e = cc
-unary_no_increment unary_operators.Indirection op e = cc
-unary_no_increment unary_operators.AddressOf op e = cc
+unary_no_increment o op e = cc
 
 increment_no_unary : (o : Increment) (op : UnaryOperator) → unary_of (increment_punctuator o) ≡ Some op → ⊥
 increment_no_unary increments.Increment op e = cc
@@ -293,11 +228,7 @@ open_no_increment increments.Decrement e = cc
 
 open_no_unary : (o : UnaryOperator) → punctuators.OpenParenthesis ≡ unary_punctuator o → ⊥
 open_no_unary unary_operators.Plus e = cc
-open_no_unary unary_operators.Minus e = cc
-open_no_unary unary_operators.LogicalNot e = cc
-open_no_unary unary_operators.Complement e = cc
-open_no_unary unary_operators.Indirection e = cc
-open_no_unary unary_operators.AddressOf e = cc
+open_no_unary o e = cc
 
 pub no_prefixed : (text : List ℕ) (w l room : ℕ) (s : Punctuator) (op : Increment) (at : ℕ)
     (ts rest : List Token) → IsPunctuator s at ts rest → increment_of s ≡ Some op → NoExpression

@@ -32,51 +32,16 @@ some_same a b e = cc
 pub again : (o : Operation) → operation_of (punctuator o) ≡ Some o
 again Index = refl
 again (Postfix increments.Increment) = refl
-again (Postfix increments.Decrement) = refl
 again (Infix (infixes.Binary (binary.Arithmetic arithmetic.Multiply))) = refl
-again (Infix (infixes.Binary (binary.Arithmetic arithmetic.Divide))) = refl
-again (Infix (infixes.Binary (binary.Arithmetic arithmetic.Remainder))) = refl
-again (Infix (infixes.Binary (binary.Arithmetic arithmetic.Add))) = refl
-again (Infix (infixes.Binary (binary.Arithmetic arithmetic.Subtract))) = refl
-again (Infix (infixes.Binary (binary.Arithmetic arithmetic.ShiftLeft))) = refl
-again (Infix (infixes.Binary (binary.Arithmetic arithmetic.ShiftRight))) = refl
-again (Infix (infixes.Binary (binary.Arithmetic arithmetic.And))) = refl
-again (Infix (infixes.Binary (binary.Arithmetic arithmetic.ExclusiveOr))) = refl
-again (Infix (infixes.Binary (binary.Arithmetic arithmetic.Or))) = refl
 again (Infix (infixes.Binary (binary.Comparison comparisons.Less))) = refl
-again (Infix (infixes.Binary (binary.Comparison comparisons.Greater))) = refl
-again (Infix (infixes.Binary (binary.Comparison comparisons.LessEqual))) = refl
-again (Infix (infixes.Binary (binary.Comparison comparisons.GreaterEqual))) = refl
-again (Infix (infixes.Binary (binary.Comparison comparisons.Equal))) = refl
-again (Infix (infixes.Binary (binary.Comparison comparisons.NotEqual))) = refl
-again (Infix (infixes.Binary binary.LogicalAnd)) = refl
-again (Infix (infixes.Binary binary.LogicalOr)) = refl
 again (Infix (infixes.Assign None)) = refl
 again (Infix (infixes.Assign (Some arithmetic.Multiply))) = refl
-again (Infix (infixes.Assign (Some arithmetic.Divide))) = refl
-again (Infix (infixes.Assign (Some arithmetic.Remainder))) = refl
-again (Infix (infixes.Assign (Some arithmetic.Add))) = refl
-again (Infix (infixes.Assign (Some arithmetic.Subtract))) = refl
-again (Infix (infixes.Assign (Some arithmetic.ShiftLeft))) = refl
-again (Infix (infixes.Assign (Some arithmetic.ShiftRight))) = refl
-again (Infix (infixes.Assign (Some arithmetic.And))) = refl
-again (Infix (infixes.Assign (Some arithmetic.ExclusiveOr))) = refl
-again (Infix (infixes.Assign (Some arithmetic.Or))) = refl
-again (Infix infixes.Comma) = refl
-again Conditional = refl
+again o = refl
 
 pub only : (o : Operation) (s : Punctuator) → operation_of s ≡ Some o → s ≡ punctuator o
-only o punctuators.OpenParenthesis e = absurd cc
-only o punctuators.CloseParenthesis e = absurd cc
 only o punctuators.OpenBracket e = ap punctuator (some_same Index o e)
-only o punctuators.CloseBracket e = absurd cc
-only o punctuators.OpenBrace e = absurd cc
-only o punctuators.CloseBrace e = absurd cc
-only o punctuators.Semicolon e = absurd cc
 only o punctuators.Comma e = ap punctuator (some_same (Infix infixes.Comma) o e)
 only o punctuators.Question e = ap punctuator (some_same Conditional o e)
-only o punctuators.Colon e = absurd cc
-only o punctuators.Arrow e = absurd cc
 only o punctuators.Assign e = ap punctuator (some_same (Infix (infixes.Assign None)) o e)
 only o punctuators.PlusAssign e = ap punctuator (some_same (Infix (infixes.Assign (Some arithmetic.Add))) o e)
 only o punctuators.MinusAssign e = ap punctuator (some_same (Infix (infixes.Assign (Some arithmetic.Subtract))) o e)
@@ -106,28 +71,19 @@ only o punctuators.Minus e = ap punctuator (some_same (Infix (infixes.Binary (bi
 only o punctuators.Star e = ap punctuator (some_same (Infix (infixes.Binary (binary.Arithmetic arithmetic.Multiply))) o e)
 only o punctuators.Slash e = ap punctuator (some_same (Infix (infixes.Binary (binary.Arithmetic arithmetic.Divide))) o e)
 only o punctuators.Percent e = ap punctuator (some_same (Infix (infixes.Binary (binary.Arithmetic arithmetic.Remainder))) o e)
-only o punctuators.Exclamation e = absurd cc
-only o punctuators.Tilde e = absurd cc
 only o punctuators.PlusPlus e = ap punctuator (some_same (Postfix increments.Increment) o e)
 only o punctuators.MinusMinus e = ap punctuator (some_same (Postfix increments.Decrement) o e)
+only o s e = absurd cc
 
 -- ---- steps and what follows their punctuators
 
 pub same_bound : (s : Step) → bound (operation s) ≡ bound_of s
 same_bound (At at i) = refl
-same_bound (After op at) = refl
-same_bound (With at op e) = refl
-same_bound (Choose at a b) = refl
-same_bound (Set at op e) = refl
-same_bound (And at e) = refl
+same_bound s = refl
 
 pub applied_height : (e : Expression) (s : Step) → height (apply e s) ≡ 1 + max (height e) (over s)
-applied_height e (At at i) = refl
 applied_height e (After op at) = omega arith
-applied_height e (With at op f) = refl
-applied_height e (Choose at f g) = refl
-applied_height e (Set at op f) = refl
-applied_height e (And at f) = refl
+applied_height e s = refl
 
 -- what a step is after its punctuator
 pub record Begun (text : List ℕ) (s : Step) (ts end : List Token) : Type 0 where
@@ -233,11 +189,7 @@ tailed text e (And at f) ts end b = (
 
 pub none_indexed : (text : List ℕ) (w room : ℕ) (ts : List Token) → NoneEnclosed punctuators.CloseBracket room w text ts → NoneAfterPunctuator room Index w text ts
 none_indexed text w room ts n (At at i) end e b low = n i end b low
-none_indexed text w room ts n (After op at) end e b low = absurd cc
-none_indexed text w room ts n (With at op f) end e b low = absurd cc
-none_indexed text w room ts n (Choose at f g) end e b low = absurd cc
-none_indexed text w room ts n (Set at op f) end e b low = absurd cc
-none_indexed text w room ts n (And at f) end e b low = absurd cc
+none_indexed text w room ts n k end e b low = absurd cc
 
 same_infix : (a b : Infix') → Infix a ≡ Infix b → a ≡ b
 same_infix a b e = cc
@@ -258,27 +210,19 @@ none_right text w room op ts n (And at f) end e b low =
     b low
 
 pub none_first : (text : List ℕ) (w room : ℕ) (ts : List Token) → NoneEnclosed punctuators.Colon room w text ts → NoneAfterPunctuator room Conditional w text ts
-none_first text w room ts n (At at i) end e b low = absurd cc
-none_first text w room ts n (After op at) end e b low = absurd cc
-none_first text w room ts n (With at op f) end e b low = absurd cc
 none_first text w room ts n (Choose at f g) end e b low =
     n f b.after_operator b.operator (λ k. let a = low k in omega arith)
-none_first text w room ts n (Set at op f) end e b low = absurd cc
-none_first text w room ts n (And at f) end e b low = absurd cc
+none_first text w room ts n k end e b low = absurd cc
 
 pub none_second : (text : List ℕ) (w room : ℕ) (a : Expression) (ts mid : List Token)
     → Encloses text punctuators.Colon a ts mid → NoExpression conditional room w text mid
     → NoneAfterPunctuator room Conditional w text ts
-none_second text w room a ts mid x n (At at i) end e b low = absurd cc
-none_second text w room a ts mid x n (After op at) end e b low = absurd cc
-none_second text w room a ts mid x n (With at op f) end e b low = absurd cc
 none_second text w room a ts mid x n (Choose at f g) end e b low =
     let q = enclosed_once text punctuators.Colon a f ts mid b.after_operator refl x b.operator in
     let r = b.operand in
     n g end (subst (λ (z : List Token). Derives text conditional g z end) (sym q.1) r.derives)
     r.stops (λ k. let a = low k in omega arith)
-none_second text w room a ts mid x n (Set at op f) end e b low = absurd cc
-none_second text w room a ts mid x n (And at f) end e b low = absurd cc
+none_second text w room a ts mid x n k end e b low = absurd cc
 
 pub right_after : (text : List ℕ) (op : Infix') (at : ℕ) (e : Expression) (ts rest : List Token) → Derives text (right op) e ts rest → Stops (right op) rest → IsAfterPunctuator text (Infix op) at (with op at e) ts rest
 right_after text (infixes.Binary op) at e ts rest h s = record { operation = refl; place = refl; following = record { derives = h; stops = s } }

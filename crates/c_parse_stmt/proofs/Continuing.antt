@@ -59,11 +59,7 @@ atom text t h = atom_by text t.kind t.start t.end h
 
 alike_by : (text text' : List ℕ) (k : Kind) (at end : ℕ) → slice_range text at end ≡ slice_range text' at end → accepts_kind text k at end ≡ accepts_kind text' k at end
 alike_by text text' kinds.Identifier at end h = ap (λ z. bytes_eq z (codes "EXCEPTION_EXECUTE_HANDLER")) h
-alike_by text text' (kinds.Keyword k) at end h = refl
-alike_by text text' (kinds.Reserved r) at end h = refl
-alike_by text text' (kinds.Integer value type) at end h = refl
-alike_by text text' (kinds.CharacterConstant value) at end h = refl
-alike_by text text' (kinds.Punctuator s) at end h = refl
+alike_by text text' k at end h = refl
 
 pub accepts_alike : (text text' : List ℕ) (t : Token) → slice_range text t.start t.end ≡ slice_range text' t.start t.end → accepts_alone text t ≡ accepts_alone text' t
 accepts_alike text text' t h = alike_by text text' t.kind t.start t.end h
@@ -179,17 +175,9 @@ separating at end = record {
 
 by_punctuator : (s : Punctuator) (at end : ℕ) → postfix ≤ punctuator_follows s
     → punctuator_follows s ≤ comma → Stepped (token (kinds.Punctuator s) at end)
-by_punctuator punctuators.OpenParenthesis at end h l = absurd (omega arith)
-by_punctuator punctuators.CloseParenthesis at end h l = absurd (omega arith)
 by_punctuator punctuators.OpenBracket at end h l = index at end
-by_punctuator punctuators.CloseBracket at end h l = absurd (omega arith)
-by_punctuator punctuators.OpenBrace at end h l = absurd (omega arith)
-by_punctuator punctuators.CloseBrace at end h l = absurd (omega arith)
-by_punctuator punctuators.Semicolon at end h l = absurd (omega arith)
 by_punctuator punctuators.Comma at end h l = separating at end
 by_punctuator punctuators.Question at end h l = choice at end
-by_punctuator punctuators.Colon at end h l = absurd (omega arith)
-by_punctuator punctuators.Arrow at end h l = absurd (omega arith)
 by_punctuator punctuators.Assign at end h l = assigning None at end
 by_punctuator punctuators.PlusAssign at end h l = assigning (Some arithmetic.Add) at end
 by_punctuator punctuators.MinusAssign at end h l = assigning (Some arithmetic.Subtract) at end
@@ -220,76 +208,25 @@ by_punctuator punctuators.Minus at end h l = between (binary.Arithmetic arithmet
 by_punctuator punctuators.Star at end h l = between (binary.Arithmetic arithmetic.Multiply) at end
 by_punctuator punctuators.Slash at end h l = between (binary.Arithmetic arithmetic.Divide) at end
 by_punctuator punctuators.Percent at end h l = between (binary.Arithmetic arithmetic.Remainder) at end
-by_punctuator punctuators.Exclamation at end h l = absurd (omega arith)
-by_punctuator punctuators.Tilde at end h l = absurd (omega arith)
 by_punctuator punctuators.PlusPlus at end h l = increment increments.Increment at end
 by_punctuator punctuators.MinusMinus at end h l = increment increments.Decrement at end
+by_punctuator s at end h l = absurd (omega arith)
 
 by_kind : (k : Kind) (at end : ℕ) → postfix ≤ kind_follows k → kind_follows k ≤ comma
     → Stepped (token k at end)
-by_kind kinds.Identifier at end h l = absurd (omega arith)
-by_kind (kinds.Keyword k) at end h l = absurd (omega arith)
-by_kind (kinds.Reserved r) at end h l = absurd (omega arith)
-by_kind (kinds.Integer value type) at end h l = absurd (omega arith)
-by_kind (kinds.CharacterConstant value) at end h l = absurd (omega arith)
 by_kind (kinds.Punctuator s) at end h l = by_punctuator s at end h l
+by_kind k at end h l = absurd (omega arith)
 
 stepped : (t : Token) → postfix ≤ kind_follows t.kind → kind_follows t.kind ≤ comma → Stepped t
 stepped t h l = by_kind t.kind t.start t.end h l
 
 open_by : (s : Punctuator) → punctuator_follows s ≡ primary → s ≡ punctuators.OpenParenthesis
 open_by punctuators.OpenParenthesis h = refl
-open_by punctuators.CloseParenthesis h = absurd (omega arith)
-open_by punctuators.OpenBracket h = absurd (omega arith)
-open_by punctuators.CloseBracket h = absurd (omega arith)
-open_by punctuators.OpenBrace h = absurd (omega arith)
-open_by punctuators.CloseBrace h = absurd (omega arith)
-open_by punctuators.Semicolon h = absurd (omega arith)
-open_by punctuators.Comma h = absurd (omega arith)
-open_by punctuators.Question h = absurd (omega arith)
-open_by punctuators.Colon h = absurd (omega arith)
-open_by punctuators.Arrow h = absurd (omega arith)
-open_by punctuators.Assign h = absurd (omega arith)
-open_by punctuators.PlusAssign h = absurd (omega arith)
-open_by punctuators.MinusAssign h = absurd (omega arith)
-open_by punctuators.StarAssign h = absurd (omega arith)
-open_by punctuators.SlashAssign h = absurd (omega arith)
-open_by punctuators.PercentAssign h = absurd (omega arith)
-open_by punctuators.AmpersandAssign h = absurd (omega arith)
-open_by punctuators.BarAssign h = absurd (omega arith)
-open_by punctuators.CaretAssign h = absurd (omega arith)
-open_by punctuators.ShiftLeftAssign h = absurd (omega arith)
-open_by punctuators.ShiftRightAssign h = absurd (omega arith)
-open_by punctuators.BarBar h = absurd (omega arith)
-open_by punctuators.AmpersandAmpersand h = absurd (omega arith)
-open_by punctuators.Bar h = absurd (omega arith)
-open_by punctuators.Caret h = absurd (omega arith)
-open_by punctuators.Ampersand h = absurd (omega arith)
-open_by punctuators.Equal h = absurd (omega arith)
-open_by punctuators.NotEqual h = absurd (omega arith)
-open_by punctuators.Less h = absurd (omega arith)
-open_by punctuators.Greater h = absurd (omega arith)
-open_by punctuators.LessEqual h = absurd (omega arith)
-open_by punctuators.GreaterEqual h = absurd (omega arith)
-open_by punctuators.ShiftLeft h = absurd (omega arith)
-open_by punctuators.ShiftRight h = absurd (omega arith)
-open_by punctuators.Plus h = absurd (omega arith)
-open_by punctuators.Minus h = absurd (omega arith)
-open_by punctuators.Star h = absurd (omega arith)
-open_by punctuators.Slash h = absurd (omega arith)
-open_by punctuators.Percent h = absurd (omega arith)
-open_by punctuators.Exclamation h = absurd (omega arith)
-open_by punctuators.Tilde h = absurd (omega arith)
-open_by punctuators.PlusPlus h = absurd (omega arith)
-open_by punctuators.MinusMinus h = absurd (omega arith)
+open_by s h = absurd (omega arith)
 
 open_kind : (k : Kind) → kind_follows k ≡ primary → k ≡ kinds.Punctuator punctuators.OpenParenthesis
-open_kind kinds.Identifier h = absurd (omega arith)
-open_kind (kinds.Keyword k) h = absurd (omega arith)
-open_kind (kinds.Reserved r) h = absurd (omega arith)
-open_kind (kinds.Integer value type) h = absurd (omega arith)
-open_kind (kinds.CharacterConstant value) h = absurd (omega arith)
 open_kind (kinds.Punctuator s) h = ap kinds.Punctuator (open_by s h)
+open_kind k h = absurd (omega arith)
 
 -- ---- where another condition continues
 
@@ -306,11 +243,7 @@ call_by text kinds.Identifier at end u n o =
         arguments = (0, (0, refl));
       },
     )
-call_by text (kinds.Keyword k) at end u n o = absurd cc
-call_by text (kinds.Reserved r) at end u n o = absurd cc
-call_by text (kinds.Integer value type) at end u n o = absurd cc
-call_by text (kinds.CharacterConstant value) at end u n o = absurd cc
-call_by text (kinds.Punctuator s) at end u n o = absurd cc
+call_by text k at end u n o = absurd cc
 
 pub goes_call : (opened closed : ℕ) (a : Token) (ts : List Token) → closed < opened → opened ≤ 65
     → closed ≡ 0 → a.kind ≡ kinds.Identifier → follows ts ≡ primary
@@ -422,19 +355,11 @@ through text closed a us other e n f l g end r s k =
   where
     taller : (e : Expression) (s : Step) → 1 + height e ≤ height (apply e s)
     taller e (At at i) = omega arith
-    taller e (After op at) = omega arith
-    taller e (With at op f) = omega arith
-    taller e (Choose at f g) = omega arith
-    taller e (Set at op f) = omega arith
-    taller e (And at f) = omega arith
+    taller e s = omega arith
 
     looser : (e : Expression) (s : Step) → 1 ≤ rank (apply e s)
-    looser e (At at i) = omega arith
-    looser e (After op at) = omega arith
     looser e (With at op f) = let x = (levels op).0 in omega arith
-    looser e (Choose at f g) = omega arith
-    looser e (Set at op f) = omega arith
-    looser e (And at f) = omega arith
+    looser e s = omega arith
 
 pub no_call : (opened closed : ℕ) (a : Token) (ts : List Token) → closed < opened
     → follows ts ≡ primary → (closed ≡ 0 → a.kind ≡ kinds.Identifier → ⊥)

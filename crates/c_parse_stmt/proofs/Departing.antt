@@ -44,10 +44,7 @@ record Shape (text : List ℕ) (e : Expression) (ts rest : List Token) : Type 0 
 
 shape : (text : List ℕ) (e : Expression) (ts rest : List Token) → accepts text e ≡ true → SpellsExpression text e ts rest → Shape text e ts rest
 shape text (Constant at (literals.Integer value type)) ts rest y s = record { n = 0; high = refl; mid = ts; opening = refl; atom = token (kinds.Integer value type) at s.0; following = rest; is = s.1; yes = y; closing = refl }
-shape text (Constant at (literals.CharacterConstant value)) ts rest y s = absurd cc
 shape text (Variable named) ts rest y s = record { n = 0; high = refl; mid = ts; opening = refl; atom = token kinds.Identifier named.start named.end; following = rest; is = s; yes = y; closing = refl }
-shape text (Information at field) ts rest y s = absurd cc
-shape text (Call named es) ts rest y s = absurd cc
 shape text (Parentheses at e) ts rest y s =
     let x = shape text e s.after_opening s.after_inner y s.inner in
     let h = x.high in
@@ -62,15 +59,7 @@ shape text (Parentheses at e) ts rest y s =
       yes = x.yes;
       closing = (s.after_inner, x.closing, s.closing);
     }
-shape text (Index a at i) ts rest y s = absurd cc
-shape text (Postfix e op at) ts rest y s = absurd cc
-shape text (Prefix at op e) ts rest y s = absurd cc
-shape text (Unary at op e) ts rest y s = absurd cc
-shape text (Cast at to e) ts rest y s = absurd cc
-shape text (Binary a at op b) ts rest y s = absurd cc
-shape text (Conditional c at a b) ts rest y s = absurd cc
-shape text (Assign a at op b) ts rest y s = absurd cc
-shape text (Comma a at b) ts rest y s = absurd cc
+shape text e ts rest y s = absurd cc
 
 -- no parenthesis opens there
 atom_lacks : (text : List ℕ) (t : Token) (mid ts : List Token) → accepts_alone text t ≡ true → mid ≡ t ∷ ts → Lacks punctuators.OpenParenthesis mid

@@ -111,10 +111,7 @@ stays kind at text ts rest l d f = record {
 
 number_low : (what : Count) → order (Number what) ≤ 6
 number_low Locals = omega arith
-number_low Parameters = omega arith
-number_low Functions = omega arith
-number_low Globals = omega arith
-number_low Funclets = omega arith
+number_low what = omega arith
 
 pub placed_stays : (e : ParseErr) (text : List ℕ) (ts rest : List Token) → Departs text ts rest → Placed e NoCondition HasCondition text ts → Placed e (NoFilter 0) (HasFilter 0) text ts
 placed_stays (Unexpected at) text ts rest d f = stays 0 at text ts rest (omega arith) d f

@@ -32,19 +32,7 @@ use Rattle.c_parse_stmt.proofs.Clauses.{Tries, Items, Guard, Except, Finally, ex
 
 bare_item : (text : List ℕ) (s : Statement) → statements_over_all (Then s Empty) ≤ 0 → length (numbered text s) ≡ 0
 bare_item text (Declare b ls) h = refl
-bare_item text (Block ss) h = absurd (omega arith)
-bare_item text (Evaluate e) h = absurd (omega arith)
-bare_item text (If at c s) h = absurd (omega arith)
-bare_item text (IfElse at c s t) h = absurd (omega arith)
-bare_item text (While at c s) h = absurd (omega arith)
-bare_item text (DoWhile s at c) h = absurd (omega arith)
-bare_item text (For at f c n s) h = absurd (omega arith)
-bare_item text (Return at e) h = absurd (omega arith)
-bare_item text (Break at) h = absurd (omega arith)
-bare_item text (Continue at) h = absurd (omega arith)
-bare_item text (Leave at) h = absurd (omega arith)
-bare_item text (TryExcept b at f l) h = absurd (omega arith)
-bare_item text (TryFinally b at l) h = absurd (omega arith)
+bare_item text s h = absurd (omega arith)
 
 pub bare : (text : List ℕ) (ss : Statements) → statements_over_all ss ≤ 0 → length (funclets_of_all text ss) ≡ 0
 bare text Empty h = refl

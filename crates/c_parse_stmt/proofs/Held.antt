@@ -39,19 +39,8 @@ data Kind (s : Statement) : Type 0 where
 
 kind : (s : Statement) → Kind s
 kind (Declare b ls) = declares b ls refl
-kind (Block ss) = counts refl (λ n. refl)
-kind (Evaluate e) = counts refl (λ n. refl)
-kind (If at c s) = counts refl (λ n. refl)
-kind (IfElse at c s t) = counts refl (λ n. refl)
-kind (While at c s) = counts refl (λ n. refl)
-kind (DoWhile s at c) = counts refl (λ n. refl)
 kind (For at f c n s) = counts refl (λ n. refl)
-kind (Return at e) = counts refl (λ n. refl)
-kind (Break at) = counts refl (λ n. refl)
-kind (Continue at) = counts refl (λ n. refl)
-kind (Leave at) = counts refl (λ n. refl)
-kind (TryExcept b at f h) = counts refl (λ n. refl)
-kind (TryFinally b at l) = counts refl (λ n. refl)
+kind s = counts refl (λ n. refl)
 
 both : (b : Bool) → b ≡ false → b ≡ true → ⊥
 both b f t = let e = sym f ∙ t in cc
@@ -100,19 +89,7 @@ declared text room left after b ls ts rest is low over n f = record { is = is; c
 
 class_one : (s : Statement) → item_class s ≡ 1 → (b : Base) × (ls : List Local) × (s ≡ Declare b ls)
 class_one (Declare b ls) h = (b, ls, refl)
-class_one (Block ss) h = absurd (omega arith)
-class_one (Evaluate e) h = absurd (omega arith)
-class_one (If at c s) h = absurd (omega arith)
-class_one (IfElse at c s t) h = absurd (omega arith)
-class_one (While at c s) h = absurd (omega arith)
-class_one (DoWhile s at c) h = absurd (omega arith)
-class_one (For at f c n s) h = absurd (omega arith)
-class_one (Return at e) h = absurd (omega arith)
-class_one (Break at) h = absurd (omega arith)
-class_one (Continue at) h = absurd (omega arith)
-class_one (Leave at) h = absurd (omega arith)
-class_one (TryExcept body at f h') h = absurd (omega arith)
-class_one (TryFinally body at l) h = absurd (omega arith)
+class_one s h = absurd (omega arith)
 
 no_declared : (limits : ℕ) (text : List ℕ) (room : ℕ) (left : Left) (ts : List Token) → begins ts ≡ 1 → NoDeclaration room left.locals limits text ts → NoBlockItem room left limits text ts
 no_declared limits text room left ts typed none s end h c w =

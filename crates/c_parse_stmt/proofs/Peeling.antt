@@ -50,8 +50,6 @@ inner_head text n ts y o bare f (Parentheses at e) after i s =
     let q = f e s.after_inner after
     (subst (λ (z : List Token). SpellsExpression text e z s.after_inner) p s.inner) s.closing in
     omega arith
-inner_head text n ts y o bare f (Index a at j) after i s = absurd i
-inner_head text n ts y o bare f (Postfix e op at) after i s = absurd i
 inner_head text n ts y o bare f (Prefix at op e) after i s =
     let p = has_front punctuators.OpenParenthesis ts y o in
     let q : front ts ≡ 4 = ap front s.operator.1 ∙ increment_class op in absurd (omega arith)
@@ -64,10 +62,7 @@ inner_head text n ts y o bare f (Cast at to e) after i s =
     absurd (bare
     (ap front (sym p) ∙ base_front to.base s.operator.after_opening s.operator.inner.0
     s.operator.inner.1))
-inner_head text n ts y o bare f (Binary a at op b) after i s = absurd i
-inner_head text n ts y o bare f (Conditional c at a b) after i s = absurd i
-inner_head text n ts y o bare f (Assign a at op b) after i s = absurd i
-inner_head text n ts y o bare f (Comma a at b) after i s = absurd i
+inner_head text n ts y o bare f h after i s = absurd i
 
 pub least : (m n : ℕ) (text : List ℕ) (ts v : List Token) → AreOpening m ts v → ((e : Expression) (rest r : List Token) → SpellsExpression text e v rest → HasPunctuator punctuators.CloseParenthesis rest r → n ≤ height e) → (1 ≤ m → front v ≡ 7 → ⊥) → (e : Expression) (rest r : List Token) → SpellsExpression text e ts rest → HasPunctuator punctuators.CloseParenthesis rest r → m + n ≤ height e
 least zero n text ts v h f bare e rest r s c = let q = f e rest r (subst (λ (z : List Token). SpellsExpression text e z rest) h s) c in omega arith
@@ -89,17 +84,12 @@ head_over text (Information at field) ts after i s =
     omega arith
 head_over text (Call named es) ts after i s = let p = ap first_over s.called in omega arith
 head_over text (Parentheses at e) ts after i s = let p = ap first_over s.opening.1 in omega arith
-head_over text (Index a at j) ts after i s = absurd i
-head_over text (Postfix e op at) ts after i s = absurd i
 head_over text (Prefix at op e) ts after i s = let p = ap first_over s.operator.1 in omega arith
 head_over text (Unary at op e) ts after i s = let p = ap first_over s.operator.1 in omega arith
 head_over text (Cast at to e) ts after i s =
     let p = ap first_over s.operator.opening.1 in
     omega arith
-head_over text (Binary a at op b) ts after i s = absurd i
-head_over text (Conditional c at a b) ts after i s = absurd i
-head_over text (Assign a at op b) ts after i s = absurd i
-head_over text (Comma a at b) ts after i s = absurd i
+head_over text h ts after i s = absurd i
 
 over_least : (text : List ℕ) (e : Expression) (ts rest : List Token) → SpellsExpression text e ts rest → first_over ts ≤ height e
 over_least text e ts rest s =
@@ -112,12 +102,8 @@ over_same : (ts other : List Token) → SameFirst ts other → first_over ts ≡
 over_same ts other same = first_keeps (λ z. first_over ts ≡ first_over z) (λ t xs ys n. n) ts other same refl
 
 kind_untyped : (k : Kind) → over_first k ≡ 1 → kind_class k ≡ 7 → ⊥
-kind_untyped kinds.Identifier h e = absurd (omega arith)
-kind_untyped (kinds.Keyword k) h e = absurd (omega arith)
-kind_untyped (kinds.Reserved r) h e = absurd (omega arith)
-kind_untyped (kinds.Integer value type) h e = absurd (omega arith)
-kind_untyped (kinds.CharacterConstant value) h e = absurd (omega arith)
 kind_untyped (kinds.Punctuator s) h e = punctuator_untyped s e
+kind_untyped k h e = absurd (omega arith)
 
 over_untyped : (ts : List Token) → first_over ts ≡ 1 → front ts ≡ 7 → ⊥
 over_untyped [] h e = absurd (omega arith)
@@ -204,11 +190,7 @@ goes_type (suc (suc n)) (t ∷ ts) l k h = (t, ts, refl, λ text before speaks o
 
 kind_low : (k : Kind) → over_first k ≤ 1
 kind_low kinds.Identifier = omega arith
-kind_low (kinds.Keyword k) = omega arith
-kind_low (kinds.Reserved r) = omega arith
-kind_low (kinds.Integer value type) = omega arith
-kind_low (kinds.CharacterConstant value) = omega arith
-kind_low (kinds.Punctuator s) = omega arith
+kind_low k = omega arith
 
 pub over_low : (ts : List Token) → first_over ts ≤ 1
 over_low [] = omega arith

@@ -50,35 +50,11 @@ deep_expression s text ts lacks b = record {
 
 undeclared : (text : List ℕ) (s : Statement) (ts rest : List Token) → IsBlockItem text s ts rest → NoBase ts → IsFalse (is_declaration s)
 undeclared text (Declare base ls) ts rest h none = absurd (none base h.0 h.1)
-undeclared text (Block ss) ts rest h none = refl
-undeclared text (Evaluate e) ts rest h none = refl
-undeclared text (If at c s) ts rest h none = refl
-undeclared text (IfElse at c s t) ts rest h none = refl
-undeclared text (While at c s) ts rest h none = refl
-undeclared text (DoWhile s at c) ts rest h none = refl
-undeclared text (For at f c n s) ts rest h none = refl
-undeclared text (Return at e) ts rest h none = refl
-undeclared text (Break at) ts rest h none = refl
-undeclared text (Continue at) ts rest h none = refl
-undeclared text (Leave at) ts rest h none = refl
-undeclared text (TryExcept b at f g) ts rest h none = refl
-undeclared text (TryFinally b at l) ts rest h none = refl
+undeclared text s ts rest h none = refl
 
 room_for : (s : Statement) (n : ℕ) → IsFalse (is_declaration s) → over_block_item s n ≡ suc n
 room_for (Declare base ls) n d = absurd cc
-room_for (Block ss) n d = omega arith
-room_for (Evaluate e) n d = omega arith
-room_for (If at c s) n d = omega arith
-room_for (IfElse at c s t) n d = omega arith
-room_for (While at c s) n d = omega arith
-room_for (DoWhile s at c) n d = omega arith
-room_for (For at f c x s) n d = omega arith
-room_for (Return at e) n d = omega arith
-room_for (Break at) n d = omega arith
-room_for (Continue at) n d = omega arith
-room_for (Leave at) n d = omega arith
-room_for (TryExcept b at f h) n d = omega arith
-room_for (TryFinally b at l) n d = omega arith
+room_for s n d = omega arith
 
 pub no_statement : (left : Left) (text : List ℕ) (ts : List Token) → NoBase ts → BeginsNoStatement ts → Failed 0 (place text ts) (NoBlockItem 0 left) (HasBlockItem 0 left) text ts
 no_statement left text ts none free =

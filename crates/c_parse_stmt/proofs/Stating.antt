@@ -37,7 +37,6 @@ empty text other = (_, refl, (0, (0, refl)))
 
 stated_by_keyword : (text : List ℕ) (k : Keyword) (at end : ℕ) → 2 ≤ keyword_begins k → keyword_begins k ≤ 11 → Stated text (token (kinds.Keyword k) at end)
 stated_by_keyword text keywords.Break at end h l = record { more = punctuator punctuators.Semicolon ∷ []; tree = Break at; is = λ other. (_, (end, refl), (0, (0, refl))); statement = refl }
-stated_by_keyword text keywords.Char at end h l = absurd (omega arith)
 stated_by_keyword text keywords.Continue at end h l = record { more = punctuator punctuators.Semicolon ∷ []; tree = Continue at; is = λ other. (_, (end, refl), (0, (0, refl))); statement = refl }
 stated_by_keyword text keywords.Do at end h l = record {
   more =
@@ -57,7 +56,6 @@ stated_by_keyword text keywords.Do at end h l = record {
   };
   statement = refl;
 }
-stated_by_keyword text keywords.Else at end h l = absurd (omega arith)
 stated_by_keyword text keywords.For at end h l = record {
   more =
       punctuator punctuators.OpenParenthesis ∷ punctuator punctuators.Semicolon
@@ -93,18 +91,12 @@ stated_by_keyword text keywords.If at end h l = record {
   };
   statement = refl;
 }
-stated_by_keyword text keywords.Int at end h l = absurd (omega arith)
-stated_by_keyword text keywords.Long at end h l = absurd (omega arith)
 stated_by_keyword text keywords.Return at end h l = record {
   more = punctuator punctuators.Semicolon ∷ [];
   tree = Return at None;
   is = λ other. (_, (end, refl), empty text other);
   statement = refl;
 }
-stated_by_keyword text keywords.Short at end h l = absurd (omega arith)
-stated_by_keyword text keywords.Signed at end h l = absurd (omega arith)
-stated_by_keyword text keywords.Unsigned at end h l = absurd (omega arith)
-stated_by_keyword text keywords.Void at end h l = absurd (omega arith)
 stated_by_keyword text keywords.While at end h l = record {
   more = conditional (punctuator punctuators.Semicolon ∷ []);
   tree = While at variable (Evaluate None);
@@ -134,61 +126,17 @@ stated_by_keyword text keywords.Try at end h l = record {
   };
   statement = refl;
 }
-stated_by_keyword text keywords.Except at end h l = absurd (omega arith)
-stated_by_keyword text keywords.Finally at end h l = absurd (omega arith)
 stated_by_keyword text keywords.Leave at end h l = record { more = punctuator punctuators.Semicolon ∷ []; tree = Leave at; is = λ other. (_, (end, refl), (0, (0, refl))); statement = refl }
-stated_by_keyword text keywords.GetExceptionInformation at end h l = absurd (omega arith)
+stated_by_keyword text k at end h l = absurd (omega arith)
 
 stated_by_punctuator : (text : List ℕ) (s : Punctuator) (at end : ℕ) → 2 ≤ punctuator_begins s → punctuator_begins s ≤ 11 → Stated text (token (kinds.Punctuator s) at end)
-stated_by_punctuator text punctuators.OpenParenthesis at end h l = absurd (omega arith)
-stated_by_punctuator text punctuators.CloseParenthesis at end h l = absurd (omega arith)
-stated_by_punctuator text punctuators.OpenBracket at end h l = absurd (omega arith)
-stated_by_punctuator text punctuators.CloseBracket at end h l = absurd (omega arith)
 stated_by_punctuator text punctuators.OpenBrace at end h l = record {
   more = punctuator punctuators.CloseBrace ∷ [];
   tree = Block Empty;
   is = λ other. record { after_brace = _; brace = (at, (end, refl)); items = (0, (0, refl)) };
   statement = refl;
 }
-stated_by_punctuator text punctuators.CloseBrace at end h l = absurd (omega arith)
-stated_by_punctuator text punctuators.Semicolon at end h l = absurd (omega arith)
-stated_by_punctuator text punctuators.Comma at end h l = absurd (omega arith)
-stated_by_punctuator text punctuators.Question at end h l = absurd (omega arith)
-stated_by_punctuator text punctuators.Colon at end h l = absurd (omega arith)
-stated_by_punctuator text punctuators.Arrow at end h l = absurd (omega arith)
-stated_by_punctuator text punctuators.Assign at end h l = absurd (omega arith)
-stated_by_punctuator text punctuators.PlusAssign at end h l = absurd (omega arith)
-stated_by_punctuator text punctuators.MinusAssign at end h l = absurd (omega arith)
-stated_by_punctuator text punctuators.StarAssign at end h l = absurd (omega arith)
-stated_by_punctuator text punctuators.SlashAssign at end h l = absurd (omega arith)
-stated_by_punctuator text punctuators.PercentAssign at end h l = absurd (omega arith)
-stated_by_punctuator text punctuators.AmpersandAssign at end h l = absurd (omega arith)
-stated_by_punctuator text punctuators.BarAssign at end h l = absurd (omega arith)
-stated_by_punctuator text punctuators.CaretAssign at end h l = absurd (omega arith)
-stated_by_punctuator text punctuators.ShiftLeftAssign at end h l = absurd (omega arith)
-stated_by_punctuator text punctuators.ShiftRightAssign at end h l = absurd (omega arith)
-stated_by_punctuator text punctuators.BarBar at end h l = absurd (omega arith)
-stated_by_punctuator text punctuators.AmpersandAmpersand at end h l = absurd (omega arith)
-stated_by_punctuator text punctuators.Bar at end h l = absurd (omega arith)
-stated_by_punctuator text punctuators.Caret at end h l = absurd (omega arith)
-stated_by_punctuator text punctuators.Ampersand at end h l = absurd (omega arith)
-stated_by_punctuator text punctuators.Equal at end h l = absurd (omega arith)
-stated_by_punctuator text punctuators.NotEqual at end h l = absurd (omega arith)
-stated_by_punctuator text punctuators.Less at end h l = absurd (omega arith)
-stated_by_punctuator text punctuators.Greater at end h l = absurd (omega arith)
-stated_by_punctuator text punctuators.LessEqual at end h l = absurd (omega arith)
-stated_by_punctuator text punctuators.GreaterEqual at end h l = absurd (omega arith)
-stated_by_punctuator text punctuators.ShiftLeft at end h l = absurd (omega arith)
-stated_by_punctuator text punctuators.ShiftRight at end h l = absurd (omega arith)
-stated_by_punctuator text punctuators.Plus at end h l = absurd (omega arith)
-stated_by_punctuator text punctuators.Minus at end h l = absurd (omega arith)
-stated_by_punctuator text punctuators.Star at end h l = absurd (omega arith)
-stated_by_punctuator text punctuators.Slash at end h l = absurd (omega arith)
-stated_by_punctuator text punctuators.Percent at end h l = absurd (omega arith)
-stated_by_punctuator text punctuators.Exclamation at end h l = absurd (omega arith)
-stated_by_punctuator text punctuators.Tilde at end h l = absurd (omega arith)
-stated_by_punctuator text punctuators.PlusPlus at end h l = absurd (omega arith)
-stated_by_punctuator text punctuators.MinusMinus at end h l = absurd (omega arith)
+stated_by_punctuator text s at end h l = absurd (omega arith)
 
 stated_by : (text : List ℕ) (k : Kind) (at end : ℕ) → 2 ≤ kind_begins k → kind_begins k ≤ 11 → Stated text (token k at end)
 stated_by text kinds.Identifier at end h l = absurd (omega arith)

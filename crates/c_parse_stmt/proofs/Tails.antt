@@ -108,9 +108,6 @@ pub record AfterFinally (text : List ℕ) (z : Statement) (ts end : List Token) 
 -- ---- each statement that begins with the keyword
 
 pub after_if : (text : List ℕ) (at : ℕ) (z : Statement) (ts a end : List Token) → IsKeyword keywords.If at ts a → IsBlockItem text z ts end → AfterIf text at z a end ⊎ AfterIfElse text at z a end
-after_if text at (Declare b ls) ts a end k h = absurd (let p : begins ts ≡ 3 = ap begins k.1 in let q = item_begins text (Declare b ls) ts end h in omega arith)
-after_if text at (Block ss) ts a end k h = absurd (let p : begins ts ≡ 3 = ap begins k.1 in let q = item_begins text (Block ss) ts end h in omega arith)
-after_if text at (Evaluate e) ts a end k h = absurd (let p : begins ts ≡ 3 = ap begins k.1 in let q = item_begins text (Evaluate e) ts end h in omega arith)
 after_if text at (If at' c s) ts a end k h =
     let p = place keywords.If at at' ts ts a h.after_keyword refl k h.keyword in
     inl (record {
@@ -139,22 +136,9 @@ after_if text at (IfElse at' c s t) ts a end k h =
       else_keyword = h.else_keyword;
       is_else_body = h.else_body;
     })
-after_if text at (While at' c s) ts a end k h = absurd (let p : begins ts ≡ 3 = ap begins k.1 in let q = item_begins text (While at' c s) ts end h in omega arith)
-after_if text at (DoWhile s at' c) ts a end k h = absurd (let p : begins ts ≡ 3 = ap begins k.1 in let q = item_begins text (DoWhile s at' c) ts end h in omega arith)
-after_if text at (For at' f c n s) ts a end k h = absurd (let p : begins ts ≡ 3 = ap begins k.1 in let q = item_begins text (For at' f c n s) ts end h in omega arith)
-after_if text at (Return at' e) ts a end k h = absurd (let p : begins ts ≡ 3 = ap begins k.1 in let q = item_begins text (Return at' e) ts end h in omega arith)
-after_if text at (Break at') ts a end k h = absurd (let p : begins ts ≡ 3 = ap begins k.1 in let q = item_begins text (Break at') ts end h in omega arith)
-after_if text at (Continue at') ts a end k h = absurd (let p : begins ts ≡ 3 = ap begins k.1 in let q = item_begins text (Continue at') ts end h in omega arith)
-after_if text at (Leave at') ts a end k h = absurd (let p : begins ts ≡ 3 = ap begins k.1 in let q = item_begins text (Leave at') ts end h in omega arith)
-after_if text at (TryExcept body at' f handler) ts a end k h = absurd (let p : begins ts ≡ 3 = ap begins k.1 in let q = item_begins text (TryExcept body at' f handler) ts end h in omega arith)
-after_if text at (TryFinally body at' last) ts a end k h = absurd (let p : begins ts ≡ 3 = ap begins k.1 in let q = item_begins text (TryFinally body at' last) ts end h in omega arith)
+after_if text at z ts a end k h = absurd (let p : begins ts ≡ 3 = ap begins k.1 in let q = item_begins text z ts end h in omega arith)
 
 pub after_while : (text : List ℕ) (at : ℕ) (z : Statement) (ts a end : List Token) → IsKeyword keywords.While at ts a → IsBlockItem text z ts end → AfterWhile text at z a end
-after_while text at (Declare b ls) ts a end k h = absurd (let p : begins ts ≡ 4 = ap begins k.1 in let q = item_begins text (Declare b ls) ts end h in omega arith)
-after_while text at (Block ss) ts a end k h = absurd (let p : begins ts ≡ 4 = ap begins k.1 in let q = item_begins text (Block ss) ts end h in omega arith)
-after_while text at (Evaluate e) ts a end k h = absurd (let p : begins ts ≡ 4 = ap begins k.1 in let q = item_begins text (Evaluate e) ts end h in omega arith)
-after_while text at (If at' c s) ts a end k h = absurd (let p : begins ts ≡ 4 = ap begins k.1 in let q = item_begins text (If at' c s) ts end h in omega arith)
-after_while text at (IfElse at' c s t) ts a end k h = absurd (let p : begins ts ≡ 4 = ap begins k.1 in let q = item_begins text (IfElse at' c s t) ts end h in omega arith)
 after_while text at (While at' c s) ts a end k h =
     let p = place keywords.While at at' ts ts a h.after_keyword refl k h.keyword in
     record {
@@ -166,22 +150,9 @@ after_while text at (While at' c s) ts a end k h =
           subst (λ (x : List Token). IsCondition text c x h.after_condition) (sym p.1) h.condition;
       is_body = h.body;
     }
-after_while text at (DoWhile s at' c) ts a end k h = absurd (let p : begins ts ≡ 4 = ap begins k.1 in let q = item_begins text (DoWhile s at' c) ts end h in omega arith)
-after_while text at (For at' f c n s) ts a end k h = absurd (let p : begins ts ≡ 4 = ap begins k.1 in let q = item_begins text (For at' f c n s) ts end h in omega arith)
-after_while text at (Return at' e) ts a end k h = absurd (let p : begins ts ≡ 4 = ap begins k.1 in let q = item_begins text (Return at' e) ts end h in omega arith)
-after_while text at (Break at') ts a end k h = absurd (let p : begins ts ≡ 4 = ap begins k.1 in let q = item_begins text (Break at') ts end h in omega arith)
-after_while text at (Continue at') ts a end k h = absurd (let p : begins ts ≡ 4 = ap begins k.1 in let q = item_begins text (Continue at') ts end h in omega arith)
-after_while text at (Leave at') ts a end k h = absurd (let p : begins ts ≡ 4 = ap begins k.1 in let q = item_begins text (Leave at') ts end h in omega arith)
-after_while text at (TryExcept body at' f handler) ts a end k h = absurd (let p : begins ts ≡ 4 = ap begins k.1 in let q = item_begins text (TryExcept body at' f handler) ts end h in omega arith)
-after_while text at (TryFinally body at' last) ts a end k h = absurd (let p : begins ts ≡ 4 = ap begins k.1 in let q = item_begins text (TryFinally body at' last) ts end h in omega arith)
+after_while text at z ts a end k h = absurd (let p : begins ts ≡ 4 = ap begins k.1 in let q = item_begins text z ts end h in omega arith)
 
 pub after_do : (text : List ℕ) (at : ℕ) (z : Statement) (ts a end : List Token) → IsKeyword keywords.Do at ts a → IsBlockItem text z ts end → AfterDo text z a end
-after_do text at (Declare b ls) ts a end k h = absurd (let p : begins ts ≡ 5 = ap begins k.1 in let q = item_begins text (Declare b ls) ts end h in omega arith)
-after_do text at (Block ss) ts a end k h = absurd (let p : begins ts ≡ 5 = ap begins k.1 in let q = item_begins text (Block ss) ts end h in omega arith)
-after_do text at (Evaluate e) ts a end k h = absurd (let p : begins ts ≡ 5 = ap begins k.1 in let q = item_begins text (Evaluate e) ts end h in omega arith)
-after_do text at (If at' c s) ts a end k h = absurd (let p : begins ts ≡ 5 = ap begins k.1 in let q = item_begins text (If at' c s) ts end h in omega arith)
-after_do text at (IfElse at' c s t) ts a end k h = absurd (let p : begins ts ≡ 5 = ap begins k.1 in let q = item_begins text (IfElse at' c s t) ts end h in omega arith)
-after_do text at (While at' c s) ts a end k h = absurd (let p : begins ts ≡ 5 = ap begins k.1 in let q = item_begins text (While at' c s) ts end h in omega arith)
 after_do text at (DoWhile s at' c) ts a end k h =
     let p = word keywords.Do ts ts a h.after_do refl (at, k) h.do_keyword in
     record {
@@ -199,22 +170,9 @@ after_do text at (DoWhile s at' c) ts a end k h =
       is_condition = h.condition;
       semicolon = h.semicolon;
     }
-after_do text at (For at' f c n s) ts a end k h = absurd (let p : begins ts ≡ 5 = ap begins k.1 in let q = item_begins text (For at' f c n s) ts end h in omega arith)
-after_do text at (Return at' e) ts a end k h = absurd (let p : begins ts ≡ 5 = ap begins k.1 in let q = item_begins text (Return at' e) ts end h in omega arith)
-after_do text at (Break at') ts a end k h = absurd (let p : begins ts ≡ 5 = ap begins k.1 in let q = item_begins text (Break at') ts end h in omega arith)
-after_do text at (Continue at') ts a end k h = absurd (let p : begins ts ≡ 5 = ap begins k.1 in let q = item_begins text (Continue at') ts end h in omega arith)
-after_do text at (Leave at') ts a end k h = absurd (let p : begins ts ≡ 5 = ap begins k.1 in let q = item_begins text (Leave at') ts end h in omega arith)
-after_do text at (TryExcept body at' f handler) ts a end k h = absurd (let p : begins ts ≡ 5 = ap begins k.1 in let q = item_begins text (TryExcept body at' f handler) ts end h in omega arith)
-after_do text at (TryFinally body at' last) ts a end k h = absurd (let p : begins ts ≡ 5 = ap begins k.1 in let q = item_begins text (TryFinally body at' last) ts end h in omega arith)
+after_do text at z ts a end k h = absurd (let p : begins ts ≡ 5 = ap begins k.1 in let q = item_begins text z ts end h in omega arith)
 
 pub after_for : (text : List ℕ) (at : ℕ) (z : Statement) (ts a end : List Token) → IsKeyword keywords.For at ts a → IsBlockItem text z ts end → AfterFor text at z a end
-after_for text at (Declare b ls) ts a end k h = absurd (let p : begins ts ≡ 6 = ap begins k.1 in let q = item_begins text (Declare b ls) ts end h in omega arith)
-after_for text at (Block ss) ts a end k h = absurd (let p : begins ts ≡ 6 = ap begins k.1 in let q = item_begins text (Block ss) ts end h in omega arith)
-after_for text at (Evaluate e) ts a end k h = absurd (let p : begins ts ≡ 6 = ap begins k.1 in let q = item_begins text (Evaluate e) ts end h in omega arith)
-after_for text at (If at' c s) ts a end k h = absurd (let p : begins ts ≡ 6 = ap begins k.1 in let q = item_begins text (If at' c s) ts end h in omega arith)
-after_for text at (IfElse at' c s t) ts a end k h = absurd (let p : begins ts ≡ 6 = ap begins k.1 in let q = item_begins text (IfElse at' c s t) ts end h in omega arith)
-after_for text at (While at' c s) ts a end k h = absurd (let p : begins ts ≡ 6 = ap begins k.1 in let q = item_begins text (While at' c s) ts end h in omega arith)
-after_for text at (DoWhile s at' c) ts a end k h = absurd (let p : begins ts ≡ 6 = ap begins k.1 in let q = item_begins text (DoWhile s at' c) ts end h in omega arith)
 after_for text at (For at' f c n s) ts a end k h =
     let p = place keywords.For at at' ts ts a h.after_keyword refl k h.keyword in
     record {
@@ -235,95 +193,30 @@ after_for text at (For at' f c n s) ts a end k h =
       is_next = h.next;
       is_body = h.body;
     }
-after_for text at (Return at' e) ts a end k h = absurd (let p : begins ts ≡ 6 = ap begins k.1 in let q = item_begins text (Return at' e) ts end h in omega arith)
-after_for text at (Break at') ts a end k h = absurd (let p : begins ts ≡ 6 = ap begins k.1 in let q = item_begins text (Break at') ts end h in omega arith)
-after_for text at (Continue at') ts a end k h = absurd (let p : begins ts ≡ 6 = ap begins k.1 in let q = item_begins text (Continue at') ts end h in omega arith)
-after_for text at (Leave at') ts a end k h = absurd (let p : begins ts ≡ 6 = ap begins k.1 in let q = item_begins text (Leave at') ts end h in omega arith)
-after_for text at (TryExcept body at' f handler) ts a end k h = absurd (let p : begins ts ≡ 6 = ap begins k.1 in let q = item_begins text (TryExcept body at' f handler) ts end h in omega arith)
-after_for text at (TryFinally body at' last) ts a end k h = absurd (let p : begins ts ≡ 6 = ap begins k.1 in let q = item_begins text (TryFinally body at' last) ts end h in omega arith)
+after_for text at z ts a end k h = absurd (let p : begins ts ≡ 6 = ap begins k.1 in let q = item_begins text z ts end h in omega arith)
 
 pub after_return : (text : List ℕ) (at : ℕ) (z : Statement) (ts a end : List Token) → IsKeyword keywords.Return at ts a → IsBlockItem text z ts end → AfterReturn text at z a end
-after_return text at (Declare b ls) ts a end k h = absurd (let p : begins ts ≡ 7 = ap begins k.1 in let q = item_begins text (Declare b ls) ts end h in omega arith)
-after_return text at (Block ss) ts a end k h = absurd (let p : begins ts ≡ 7 = ap begins k.1 in let q = item_begins text (Block ss) ts end h in omega arith)
-after_return text at (Evaluate e) ts a end k h = absurd (let p : begins ts ≡ 7 = ap begins k.1 in let q = item_begins text (Evaluate e) ts end h in omega arith)
-after_return text at (If at' c s) ts a end k h = absurd (let p : begins ts ≡ 7 = ap begins k.1 in let q = item_begins text (If at' c s) ts end h in omega arith)
-after_return text at (IfElse at' c s t) ts a end k h = absurd (let p : begins ts ≡ 7 = ap begins k.1 in let q = item_begins text (IfElse at' c s t) ts end h in omega arith)
-after_return text at (While at' c s) ts a end k h = absurd (let p : begins ts ≡ 7 = ap begins k.1 in let q = item_begins text (While at' c s) ts end h in omega arith)
-after_return text at (DoWhile s at' c) ts a end k h = absurd (let p : begins ts ≡ 7 = ap begins k.1 in let q = item_begins text (DoWhile s at' c) ts end h in omega arith)
-after_return text at (For at' f c n s) ts a end k h = absurd (let p : begins ts ≡ 7 = ap begins k.1 in let q = item_begins text (For at' f c n s) ts end h in omega arith)
 after_return text at (Return at' e) ts a end k h =
     let p = place keywords.Return at at' ts ts a h.0 refl k h.1 in (
       e,
       ap (λ (x : ℕ). Return x e) (sym p.0),
       subst (λ (x : List Token). IsUpTo text punctuators.Semicolon e x end) (sym p.1) h.2,
     )
-after_return text at (Break at') ts a end k h = absurd (let p : begins ts ≡ 7 = ap begins k.1 in let q = item_begins text (Break at') ts end h in omega arith)
-after_return text at (Continue at') ts a end k h = absurd (let p : begins ts ≡ 7 = ap begins k.1 in let q = item_begins text (Continue at') ts end h in omega arith)
-after_return text at (Leave at') ts a end k h = absurd (let p : begins ts ≡ 7 = ap begins k.1 in let q = item_begins text (Leave at') ts end h in omega arith)
-after_return text at (TryExcept body at' f handler) ts a end k h = absurd (let p : begins ts ≡ 7 = ap begins k.1 in let q = item_begins text (TryExcept body at' f handler) ts end h in omega arith)
-after_return text at (TryFinally body at' last) ts a end k h = absurd (let p : begins ts ≡ 7 = ap begins k.1 in let q = item_begins text (TryFinally body at' last) ts end h in omega arith)
+after_return text at z ts a end k h = absurd (let p : begins ts ≡ 7 = ap begins k.1 in let q = item_begins text z ts end h in omega arith)
 
 pub after_break : (text : List ℕ) (at : ℕ) (z : Statement) (ts a end : List Token) → IsKeyword keywords.Break at ts a → IsBlockItem text z ts end → HasPunctuator punctuators.Semicolon a end
-after_break text at (Declare b ls) ts a end k h = absurd (let p : begins ts ≡ 8 = ap begins k.1 in let q = item_begins text (Declare b ls) ts end h in omega arith)
-after_break text at (Block ss) ts a end k h = absurd (let p : begins ts ≡ 8 = ap begins k.1 in let q = item_begins text (Block ss) ts end h in omega arith)
-after_break text at (Evaluate e) ts a end k h = absurd (let p : begins ts ≡ 8 = ap begins k.1 in let q = item_begins text (Evaluate e) ts end h in omega arith)
-after_break text at (If at' c s) ts a end k h = absurd (let p : begins ts ≡ 8 = ap begins k.1 in let q = item_begins text (If at' c s) ts end h in omega arith)
-after_break text at (IfElse at' c s t) ts a end k h = absurd (let p : begins ts ≡ 8 = ap begins k.1 in let q = item_begins text (IfElse at' c s t) ts end h in omega arith)
-after_break text at (While at' c s) ts a end k h = absurd (let p : begins ts ≡ 8 = ap begins k.1 in let q = item_begins text (While at' c s) ts end h in omega arith)
-after_break text at (DoWhile s at' c) ts a end k h = absurd (let p : begins ts ≡ 8 = ap begins k.1 in let q = item_begins text (DoWhile s at' c) ts end h in omega arith)
-after_break text at (For at' f c n s) ts a end k h = absurd (let p : begins ts ≡ 8 = ap begins k.1 in let q = item_begins text (For at' f c n s) ts end h in omega arith)
-after_break text at (Return at' e) ts a end k h = absurd (let p : begins ts ≡ 8 = ap begins k.1 in let q = item_begins text (Return at' e) ts end h in omega arith)
 after_break text at (Break at') ts a end k h = let p = place keywords.Break at at' ts ts a h.0 refl k h.1 in subst (λ (x : List Token). HasPunctuator punctuators.Semicolon x end) (sym p.1) h.2
-after_break text at (Continue at') ts a end k h = absurd (let p : begins ts ≡ 8 = ap begins k.1 in let q = item_begins text (Continue at') ts end h in omega arith)
-after_break text at (Leave at') ts a end k h = absurd (let p : begins ts ≡ 8 = ap begins k.1 in let q = item_begins text (Leave at') ts end h in omega arith)
-after_break text at (TryExcept body at' f handler) ts a end k h = absurd (let p : begins ts ≡ 8 = ap begins k.1 in let q = item_begins text (TryExcept body at' f handler) ts end h in omega arith)
-after_break text at (TryFinally body at' last) ts a end k h = absurd (let p : begins ts ≡ 8 = ap begins k.1 in let q = item_begins text (TryFinally body at' last) ts end h in omega arith)
+after_break text at z ts a end k h = absurd (let p : begins ts ≡ 8 = ap begins k.1 in let q = item_begins text z ts end h in omega arith)
 
 pub after_continue : (text : List ℕ) (at : ℕ) (z : Statement) (ts a end : List Token) → IsKeyword keywords.Continue at ts a → IsBlockItem text z ts end → HasPunctuator punctuators.Semicolon a end
-after_continue text at (Declare b ls) ts a end k h = absurd (let p : begins ts ≡ 9 = ap begins k.1 in let q = item_begins text (Declare b ls) ts end h in omega arith)
-after_continue text at (Block ss) ts a end k h = absurd (let p : begins ts ≡ 9 = ap begins k.1 in let q = item_begins text (Block ss) ts end h in omega arith)
-after_continue text at (Evaluate e) ts a end k h = absurd (let p : begins ts ≡ 9 = ap begins k.1 in let q = item_begins text (Evaluate e) ts end h in omega arith)
-after_continue text at (If at' c s) ts a end k h = absurd (let p : begins ts ≡ 9 = ap begins k.1 in let q = item_begins text (If at' c s) ts end h in omega arith)
-after_continue text at (IfElse at' c s t) ts a end k h = absurd (let p : begins ts ≡ 9 = ap begins k.1 in let q = item_begins text (IfElse at' c s t) ts end h in omega arith)
-after_continue text at (While at' c s) ts a end k h = absurd (let p : begins ts ≡ 9 = ap begins k.1 in let q = item_begins text (While at' c s) ts end h in omega arith)
-after_continue text at (DoWhile s at' c) ts a end k h = absurd (let p : begins ts ≡ 9 = ap begins k.1 in let q = item_begins text (DoWhile s at' c) ts end h in omega arith)
-after_continue text at (For at' f c n s) ts a end k h = absurd (let p : begins ts ≡ 9 = ap begins k.1 in let q = item_begins text (For at' f c n s) ts end h in omega arith)
-after_continue text at (Return at' e) ts a end k h = absurd (let p : begins ts ≡ 9 = ap begins k.1 in let q = item_begins text (Return at' e) ts end h in omega arith)
-after_continue text at (Break at') ts a end k h = absurd (let p : begins ts ≡ 9 = ap begins k.1 in let q = item_begins text (Break at') ts end h in omega arith)
 after_continue text at (Continue at') ts a end k h = let p = place keywords.Continue at at' ts ts a h.0 refl k h.1 in subst (λ (x : List Token). HasPunctuator punctuators.Semicolon x end) (sym p.1) h.2
-after_continue text at (Leave at') ts a end k h = absurd (let p : begins ts ≡ 9 = ap begins k.1 in let q = item_begins text (Leave at') ts end h in omega arith)
-after_continue text at (TryExcept body at' f handler) ts a end k h = absurd (let p : begins ts ≡ 9 = ap begins k.1 in let q = item_begins text (TryExcept body at' f handler) ts end h in omega arith)
-after_continue text at (TryFinally body at' last) ts a end k h = absurd (let p : begins ts ≡ 9 = ap begins k.1 in let q = item_begins text (TryFinally body at' last) ts end h in omega arith)
+after_continue text at z ts a end k h = absurd (let p : begins ts ≡ 9 = ap begins k.1 in let q = item_begins text z ts end h in omega arith)
 
 pub after_leave : (text : List ℕ) (at : ℕ) (z : Statement) (ts a end : List Token) → IsKeyword keywords.Leave at ts a → IsBlockItem text z ts end → HasPunctuator punctuators.Semicolon a end
-after_leave text at (Declare b ls) ts a end k h = absurd (let p : begins ts ≡ 10 = ap begins k.1 in let q = item_begins text (Declare b ls) ts end h in omega arith)
-after_leave text at (Block ss) ts a end k h = absurd (let p : begins ts ≡ 10 = ap begins k.1 in let q = item_begins text (Block ss) ts end h in omega arith)
-after_leave text at (Evaluate e) ts a end k h = absurd (let p : begins ts ≡ 10 = ap begins k.1 in let q = item_begins text (Evaluate e) ts end h in omega arith)
-after_leave text at (If at' c s) ts a end k h = absurd (let p : begins ts ≡ 10 = ap begins k.1 in let q = item_begins text (If at' c s) ts end h in omega arith)
-after_leave text at (IfElse at' c s t) ts a end k h = absurd (let p : begins ts ≡ 10 = ap begins k.1 in let q = item_begins text (IfElse at' c s t) ts end h in omega arith)
-after_leave text at (While at' c s) ts a end k h = absurd (let p : begins ts ≡ 10 = ap begins k.1 in let q = item_begins text (While at' c s) ts end h in omega arith)
-after_leave text at (DoWhile s at' c) ts a end k h = absurd (let p : begins ts ≡ 10 = ap begins k.1 in let q = item_begins text (DoWhile s at' c) ts end h in omega arith)
-after_leave text at (For at' f c n s) ts a end k h = absurd (let p : begins ts ≡ 10 = ap begins k.1 in let q = item_begins text (For at' f c n s) ts end h in omega arith)
-after_leave text at (Return at' e) ts a end k h = absurd (let p : begins ts ≡ 10 = ap begins k.1 in let q = item_begins text (Return at' e) ts end h in omega arith)
-after_leave text at (Break at') ts a end k h = absurd (let p : begins ts ≡ 10 = ap begins k.1 in let q = item_begins text (Break at') ts end h in omega arith)
-after_leave text at (Continue at') ts a end k h = absurd (let p : begins ts ≡ 10 = ap begins k.1 in let q = item_begins text (Continue at') ts end h in omega arith)
 after_leave text at (Leave at') ts a end k h = let p = place keywords.Leave at at' ts ts a h.0 refl k h.1 in subst (λ (x : List Token). HasPunctuator punctuators.Semicolon x end) (sym p.1) h.2
-after_leave text at (TryExcept body at' f handler) ts a end k h = absurd (let p : begins ts ≡ 10 = ap begins k.1 in let q = item_begins text (TryExcept body at' f handler) ts end h in omega arith)
-after_leave text at (TryFinally body at' last) ts a end k h = absurd (let p : begins ts ≡ 10 = ap begins k.1 in let q = item_begins text (TryFinally body at' last) ts end h in omega arith)
+after_leave text at z ts a end k h = absurd (let p : begins ts ≡ 10 = ap begins k.1 in let q = item_begins text z ts end h in omega arith)
 
 pub after_try : (text : List ℕ) (at : ℕ) (z : Statement) (ts a end : List Token) → IsKeyword keywords.Try at ts a → IsBlockItem text z ts end → AfterExcept text z a end ⊎ AfterFinally text z a end
-after_try text at (Declare b ls) ts a end k h = absurd (let p : begins ts ≡ 11 = ap begins k.1 in let q = item_begins text (Declare b ls) ts end h in omega arith)
-after_try text at (Block ss) ts a end k h = absurd (let p : begins ts ≡ 11 = ap begins k.1 in let q = item_begins text (Block ss) ts end h in omega arith)
-after_try text at (Evaluate e) ts a end k h = absurd (let p : begins ts ≡ 11 = ap begins k.1 in let q = item_begins text (Evaluate e) ts end h in omega arith)
-after_try text at (If at' c s) ts a end k h = absurd (let p : begins ts ≡ 11 = ap begins k.1 in let q = item_begins text (If at' c s) ts end h in omega arith)
-after_try text at (IfElse at' c s t) ts a end k h = absurd (let p : begins ts ≡ 11 = ap begins k.1 in let q = item_begins text (IfElse at' c s t) ts end h in omega arith)
-after_try text at (While at' c s) ts a end k h = absurd (let p : begins ts ≡ 11 = ap begins k.1 in let q = item_begins text (While at' c s) ts end h in omega arith)
-after_try text at (DoWhile s at' c) ts a end k h = absurd (let p : begins ts ≡ 11 = ap begins k.1 in let q = item_begins text (DoWhile s at' c) ts end h in omega arith)
-after_try text at (For at' f c n s) ts a end k h = absurd (let p : begins ts ≡ 11 = ap begins k.1 in let q = item_begins text (For at' f c n s) ts end h in omega arith)
-after_try text at (Return at' e) ts a end k h = absurd (let p : begins ts ≡ 11 = ap begins k.1 in let q = item_begins text (Return at' e) ts end h in omega arith)
-after_try text at (Break at') ts a end k h = absurd (let p : begins ts ≡ 11 = ap begins k.1 in let q = item_begins text (Break at') ts end h in omega arith)
-after_try text at (Continue at') ts a end k h = absurd (let p : begins ts ≡ 11 = ap begins k.1 in let q = item_begins text (Continue at') ts end h in omega arith)
-after_try text at (Leave at') ts a end k h = absurd (let p : begins ts ≡ 11 = ap begins k.1 in let q = item_begins text (Leave at') ts end h in omega arith)
 after_try text at (TryExcept body at' f handler) ts a end k h =
     let p = word keywords.Try ts ts a h.after_try refl (at, k) h.try_keyword in
     inl (record {
@@ -353,24 +246,13 @@ after_try text at (TryFinally body at' last) ts a end k h =
       keyword = h.keyword;
       is_last = h.last;
     })
+after_try text at z ts a end k h = absurd (let p : begins ts ≡ 11 = ap begins k.1 in let q = item_begins text z ts end h in omega arith)
 
 abbrev pub AfterBrace : List ℕ → Statement → List Token → List Token → Type 0
 AfterBrace text z ts end = (ss : Statements) × (z ≡ Block ss) × AreBlockItems text ss ts end
 
 pub after_brace : (text : List ℕ) (z : Statement) (ts a end : List Token) → HasPunctuator punctuators.OpenBrace ts a → IsBlockItem text z ts end → AfterBrace text z a end
-after_brace text (Declare b ls) ts a end k h = absurd (let p : begins ts ≡ 2 = ap begins k.1.1 in let q = item_begins text (Declare b ls) ts end h in omega arith)
 after_brace text (Block ss) ts a end k h =
     let p = has_same punctuators.OpenBrace ts ts h.after_brace a refl h.brace k in
     (ss, refl, subst (λ (x : List Token). AreBlockItems text ss x end) p h.items)
-after_brace text (Evaluate e) ts a end k h = absurd (let p : begins ts ≡ 2 = ap begins k.1.1 in let q = item_begins text (Evaluate e) ts end h in omega arith)
-after_brace text (If at' c s) ts a end k h = absurd (let p : begins ts ≡ 2 = ap begins k.1.1 in let q = item_begins text (If at' c s) ts end h in omega arith)
-after_brace text (IfElse at' c s t) ts a end k h = absurd (let p : begins ts ≡ 2 = ap begins k.1.1 in let q = item_begins text (IfElse at' c s t) ts end h in omega arith)
-after_brace text (While at' c s) ts a end k h = absurd (let p : begins ts ≡ 2 = ap begins k.1.1 in let q = item_begins text (While at' c s) ts end h in omega arith)
-after_brace text (DoWhile s at' c) ts a end k h = absurd (let p : begins ts ≡ 2 = ap begins k.1.1 in let q = item_begins text (DoWhile s at' c) ts end h in omega arith)
-after_brace text (For at' f c n s) ts a end k h = absurd (let p : begins ts ≡ 2 = ap begins k.1.1 in let q = item_begins text (For at' f c n s) ts end h in omega arith)
-after_brace text (Return at' e) ts a end k h = absurd (let p : begins ts ≡ 2 = ap begins k.1.1 in let q = item_begins text (Return at' e) ts end h in omega arith)
-after_brace text (Break at') ts a end k h = absurd (let p : begins ts ≡ 2 = ap begins k.1.1 in let q = item_begins text (Break at') ts end h in omega arith)
-after_brace text (Continue at') ts a end k h = absurd (let p : begins ts ≡ 2 = ap begins k.1.1 in let q = item_begins text (Continue at') ts end h in omega arith)
-after_brace text (Leave at') ts a end k h = absurd (let p : begins ts ≡ 2 = ap begins k.1.1 in let q = item_begins text (Leave at') ts end h in omega arith)
-after_brace text (TryExcept body at' f handler) ts a end k h = absurd (let p : begins ts ≡ 2 = ap begins k.1.1 in let q = item_begins text (TryExcept body at' f handler) ts end h in omega arith)
-after_brace text (TryFinally body at' last) ts a end k h = absurd (let p : begins ts ≡ 2 = ap begins k.1.1 in let q = item_begins text (TryFinally body at' last) ts end h in omega arith)
+after_brace text z ts a end k h = absurd (let p : begins ts ≡ 2 = ap begins k.1.1 in let q = item_begins text z ts end h in omega arith)

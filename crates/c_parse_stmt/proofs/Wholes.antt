@@ -243,25 +243,15 @@ no_block limits text room left ts a o none s end h d c w =
 -- no production of a statement begins with this keyword, but for an expression
 abbrev pub Plain : Keyword → Type 0
 Plain keywords.Break = ⊥
-Plain keywords.Char = Unit {0}
 Plain keywords.Continue = ⊥
 Plain keywords.Do = ⊥
-Plain keywords.Else = Unit {0}
 Plain keywords.For = ⊥
 Plain keywords.If = ⊥
-Plain keywords.Int = Unit {0}
-Plain keywords.Long = Unit {0}
 Plain keywords.Return = ⊥
-Plain keywords.Short = Unit {0}
-Plain keywords.Signed = Unit {0}
-Plain keywords.Unsigned = Unit {0}
-Plain keywords.Void = Unit {0}
 Plain keywords.While = ⊥
 Plain keywords.Try = ⊥
-Plain keywords.Except = Unit {0}
-Plain keywords.Finally = Unit {0}
 Plain keywords.Leave = ⊥
-Plain keywords.GetExceptionInformation = Unit {0}
+Plain k = Unit {0}
 
 pub only_evaluations : (limits : ℕ) (text : List ℕ) (room : ℕ) (left : Left) (ts : List Token) → Lacks punctuators.OpenBrace ts → ((k : Keyword) (rest : List Token) → HasKeyword k ts rest → Plain k) → NoEvaluation room left limits text ts → NoStatement room left limits text ts
 only_evaluations limits text room left ts o p none (Declare b ls) end h d c w = cc
@@ -289,25 +279,15 @@ only_evaluations limits text room left ts o p none (TryFinally body at l) end h 
 
 pub plain_by : (k : Keyword) → (k ≡ keywords.If → ⊥) → (k ≡ keywords.While → ⊥) → (k ≡ keywords.Do → ⊥) → (k ≡ keywords.For → ⊥) → (k ≡ keywords.Try → ⊥) → (k ≡ keywords.Return → ⊥) → (k ≡ keywords.Break → ⊥) → (k ≡ keywords.Continue → ⊥) → (k ≡ keywords.Leave → ⊥) → Plain k
 plain_by keywords.Break i w d f t r b c l = b refl
-plain_by keywords.Char i w d f t r b c l = tt
 plain_by keywords.Continue i w d f t r b c l = c refl
 plain_by keywords.Do i w d f t r b c l = d refl
-plain_by keywords.Else i w d f t r b c l = tt
 plain_by keywords.For i w d f t r b c l = f refl
 plain_by keywords.If i w d f t r b c l = i refl
-plain_by keywords.Int i w d f t r b c l = tt
-plain_by keywords.Long i w d f t r b c l = tt
 plain_by keywords.Return i w d f t r b c l = r refl
-plain_by keywords.Short i w d f t r b c l = tt
-plain_by keywords.Signed i w d f t r b c l = tt
-plain_by keywords.Unsigned i w d f t r b c l = tt
-plain_by keywords.Void i w d f t r b c l = tt
 plain_by keywords.While i w d f t r b c l = w refl
 plain_by keywords.Try i w d f t r b c l = t refl
-plain_by keywords.Except i w d f t r b c l = tt
-plain_by keywords.Finally i w d f t r b c l = tt
 plain_by keywords.Leave i w d f t r b c l = l refl
-plain_by keywords.GetExceptionInformation i w d f t r b c l = tt
+plain_by k i w d f t r b c l = tt
 
 pub front_of : (k j : Keyword) (at : ℕ) (ts rest : List Token) → k ≡ j → IsKeyword k at ts rest → IsKeyword j at ts rest
 front_of k j at ts rest e h = subst (λ (x : Keyword). IsKeyword x at ts rest) e h

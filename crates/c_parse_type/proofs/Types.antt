@@ -26,14 +26,10 @@ pub keyword_at : (k : Keyword) (ts rest : List Token) → HasKeyword k ts rest �
 keyword_at k ts rest h = ap after_keyword h.1.1
 
 of_kind : (kind : Kind) (start end : ℕ) (ts rest : List Token) (k : Keyword) → keyword_of kind ts ≡ Some (k, rest) → HasKeyword k (token kind start end ∷ ts) rest
-of_kind kinds.Identifier start end ts rest k e = absurd cc
 of_kind (kinds.Keyword j) start end ts rest k e =
     let p : ◌≡◌ {A = Keyword × List Token} (j, ts) (k, rest) = cc in
     subst (λ (x : Keyword × List Token). HasKeyword x.0 (token (kinds.Keyword j) start end ∷ ts) x.1) p (start, (end, refl))
-of_kind (kinds.Reserved r) start end ts rest k e = absurd cc
-of_kind (kinds.Integer value type) start end ts rest k e = absurd cc
-of_kind (kinds.CharacterConstant value) start end ts rest k e = absurd cc
-of_kind (kinds.Punctuator s) start end ts rest k e = absurd cc
+of_kind kind start end ts rest k e = absurd cc
 
 pub keyword_is : (ts rest : List Token) (k : Keyword) → after_keyword ts ≡ Some (k, rest) → HasKeyword k ts rest
 keyword_is [] rest k e = absurd cc
@@ -46,14 +42,10 @@ pub punctuator_at : (s : Punctuator) (at : ℕ) (ts rest : List Token) → IsPun
 punctuator_at s at ts rest h = ap after_punctuator h.1
 
 of_punctuator : (kind : Kind) (start end : ℕ) (ts rest : List Token) (s : Punctuator) (at : ℕ) → punctuator_of kind start ts ≡ Some (s, at, rest) → IsPunctuator s at (token kind start end ∷ ts) rest
-of_punctuator kinds.Identifier start end ts rest s at e = absurd cc
-of_punctuator (kinds.Keyword j) start end ts rest s at e = absurd cc
-of_punctuator (kinds.Reserved r) start end ts rest s at e = absurd cc
-of_punctuator (kinds.Integer value type) start end ts rest s at e = absurd cc
-of_punctuator (kinds.CharacterConstant value) start end ts rest s at e = absurd cc
 of_punctuator (kinds.Punctuator z) start end ts rest s at e =
     let p : ◌≡◌ {A = Punctuator × ℕ × List Token} (z, start, ts) (s, at, rest) = cc in
     subst (λ (x : Punctuator × ℕ × List Token). IsPunctuator x.0 x.1 (token (kinds.Punctuator z) start end ∷ ts) x.2) p (end, refl)
+of_punctuator kind start end ts rest s at e = absurd cc
 
 pub punctuator_is : (ts rest : List Token) (s : Punctuator) (at : ℕ) → after_punctuator ts ≡ Some (s, at, rest) → IsPunctuator s at ts rest
 punctuator_is [] rest s at e = absurd cc
@@ -62,27 +54,14 @@ punctuator_is (t ∷ ts) rest s at e = of_punctuator t.kind t.start t.end ts res
 -- ---- nothing of a type is at the front
 
 still_int : (o : Option (Keyword × List Token)) (ts : List Token) → base_or o ≡ None → int_or o ts ≡ ts
-still_int None ts e = refl
-still_int (Some (keywords.Break, rest)) ts e = refl
 still_int (Some (keywords.Char, rest)) ts e = absurd cc
-still_int (Some (keywords.Continue, rest)) ts e = refl
-still_int (Some (keywords.Do, rest)) ts e = refl
-still_int (Some (keywords.Else, rest)) ts e = refl
-still_int (Some (keywords.For, rest)) ts e = refl
-still_int (Some (keywords.If, rest)) ts e = refl
 still_int (Some (keywords.Int, rest)) ts e = absurd cc
 still_int (Some (keywords.Long, rest)) ts e = absurd cc
-still_int (Some (keywords.Return, rest)) ts e = refl
 still_int (Some (keywords.Short, rest)) ts e = absurd cc
 still_int (Some (keywords.Signed, rest)) ts e = absurd cc
 still_int (Some (keywords.Unsigned, rest)) ts e = absurd cc
 still_int (Some (keywords.Void, rest)) ts e = absurd cc
-still_int (Some (keywords.While, rest)) ts e = refl
-still_int (Some (keywords.Try, rest)) ts e = refl
-still_int (Some (keywords.Except, rest)) ts e = refl
-still_int (Some (keywords.Finally, rest)) ts e = refl
-still_int (Some (keywords.Leave, rest)) ts e = refl
-still_int (Some (keywords.GetExceptionInformation, rest)) ts e = refl
+still_int o ts e = refl
 
 abbrev paired : Base → List Token → Base × List Token
 paired p ts = (p, ts)
@@ -91,73 +70,34 @@ long_pair : (p : Base) {ts us : List Token} → ts ≡ us → paired p ts ≡ pa
 long_pair p e = ap (paired p) e
 
 still_long : (p w : Base) (o : Option (Keyword × List Token)) (ts : List Token) → base_or o ≡ None → after_keyword ts ≡ o → long_or p w o ts ≡ (p, ts)
-still_long p w None ts e q = long_pair p (rw q refl)
-still_long p w (Some (keywords.Break, rest)) ts e q = long_pair p (rw q refl)
 still_long p w (Some (keywords.Char, rest)) ts e q = absurd cc
-still_long p w (Some (keywords.Continue, rest)) ts e q = long_pair p (rw q refl)
-still_long p w (Some (keywords.Do, rest)) ts e q = long_pair p (rw q refl)
-still_long p w (Some (keywords.Else, rest)) ts e q = long_pair p (rw q refl)
-still_long p w (Some (keywords.For, rest)) ts e q = long_pair p (rw q refl)
-still_long p w (Some (keywords.If, rest)) ts e q = long_pair p (rw q refl)
 still_long p w (Some (keywords.Int, rest)) ts e q = absurd cc
 still_long p w (Some (keywords.Long, rest)) ts e q = absurd cc
-still_long p w (Some (keywords.Return, rest)) ts e q = long_pair p (rw q refl)
 still_long p w (Some (keywords.Short, rest)) ts e q = absurd cc
 still_long p w (Some (keywords.Signed, rest)) ts e q = absurd cc
 still_long p w (Some (keywords.Unsigned, rest)) ts e q = absurd cc
 still_long p w (Some (keywords.Void, rest)) ts e q = absurd cc
-still_long p w (Some (keywords.While, rest)) ts e q = long_pair p (rw q refl)
-still_long p w (Some (keywords.Try, rest)) ts e q = long_pair p (rw q refl)
-still_long p w (Some (keywords.Except, rest)) ts e q = long_pair p (rw q refl)
-still_long p w (Some (keywords.Finally, rest)) ts e q = long_pair p (rw q refl)
-still_long p w (Some (keywords.Leave, rest)) ts e q = long_pair p (rw q refl)
-still_long p w (Some (keywords.GetExceptionInformation, rest)) ts e q = long_pair p (rw q refl)
+still_long p w o ts e q = long_pair p (rw q refl)
 
 still_signed : (o : Option (Keyword × List Token)) (ts : List Token) → base_or o ≡ None → signed_or o ts ≡ (bases.Int, ts)
-still_signed None ts e = refl
-still_signed (Some (keywords.Break, rest)) ts e = refl
 still_signed (Some (keywords.Char, rest)) ts e = absurd cc
-still_signed (Some (keywords.Continue, rest)) ts e = refl
-still_signed (Some (keywords.Do, rest)) ts e = refl
-still_signed (Some (keywords.Else, rest)) ts e = refl
-still_signed (Some (keywords.For, rest)) ts e = refl
-still_signed (Some (keywords.If, rest)) ts e = refl
 still_signed (Some (keywords.Int, rest)) ts e = absurd cc
 still_signed (Some (keywords.Long, rest)) ts e = absurd cc
-still_signed (Some (keywords.Return, rest)) ts e = refl
 still_signed (Some (keywords.Short, rest)) ts e = absurd cc
 still_signed (Some (keywords.Signed, rest)) ts e = absurd cc
 still_signed (Some (keywords.Unsigned, rest)) ts e = absurd cc
 still_signed (Some (keywords.Void, rest)) ts e = absurd cc
-still_signed (Some (keywords.While, rest)) ts e = refl
-still_signed (Some (keywords.Try, rest)) ts e = refl
-still_signed (Some (keywords.Except, rest)) ts e = refl
-still_signed (Some (keywords.Finally, rest)) ts e = refl
-still_signed (Some (keywords.Leave, rest)) ts e = refl
-still_signed (Some (keywords.GetExceptionInformation, rest)) ts e = refl
+still_signed o ts e = refl
 
 still_unsigned : (o : Option (Keyword × List Token)) (ts : List Token) → base_or o ≡ None → unsigned_or o ts ≡ (bases.Unsigned, ts)
-still_unsigned None ts e = refl
-still_unsigned (Some (keywords.Break, rest)) ts e = refl
 still_unsigned (Some (keywords.Char, rest)) ts e = absurd cc
-still_unsigned (Some (keywords.Continue, rest)) ts e = refl
-still_unsigned (Some (keywords.Do, rest)) ts e = refl
-still_unsigned (Some (keywords.Else, rest)) ts e = refl
-still_unsigned (Some (keywords.For, rest)) ts e = refl
-still_unsigned (Some (keywords.If, rest)) ts e = refl
 still_unsigned (Some (keywords.Int, rest)) ts e = absurd cc
 still_unsigned (Some (keywords.Long, rest)) ts e = absurd cc
-still_unsigned (Some (keywords.Return, rest)) ts e = refl
 still_unsigned (Some (keywords.Short, rest)) ts e = absurd cc
 still_unsigned (Some (keywords.Signed, rest)) ts e = absurd cc
 still_unsigned (Some (keywords.Unsigned, rest)) ts e = absurd cc
 still_unsigned (Some (keywords.Void, rest)) ts e = absurd cc
-still_unsigned (Some (keywords.While, rest)) ts e = refl
-still_unsigned (Some (keywords.Try, rest)) ts e = refl
-still_unsigned (Some (keywords.Except, rest)) ts e = refl
-still_unsigned (Some (keywords.Finally, rest)) ts e = refl
-still_unsigned (Some (keywords.Leave, rest)) ts e = refl
-still_unsigned (Some (keywords.GetExceptionInformation, rest)) ts e = refl
+still_unsigned o ts e = refl
 
 -- ---- what has a type is read
 
@@ -236,54 +176,16 @@ abbrev maybe_long : List (List Keyword)
 maybe_long = [] ∷ (keywords.Int ∷ []) ∷ (keywords.Long ∷ []) ∷ (keywords.Long ∷ keywords.Int ∷ []) ∷ []
 
 int_read : (o : Option (Keyword × List Token)) (ts : List Token) → after_keyword ts ≡ o → IsOneOf maybe_int ts (int_or o ts)
-int_read None ts e = inl refl
-int_read (Some (keywords.Break, rest)) ts e = inl refl
-int_read (Some (keywords.Char, rest)) ts e = inl refl
-int_read (Some (keywords.Continue, rest)) ts e = inl refl
-int_read (Some (keywords.Do, rest)) ts e = inl refl
-int_read (Some (keywords.Else, rest)) ts e = inl refl
-int_read (Some (keywords.For, rest)) ts e = inl refl
-int_read (Some (keywords.If, rest)) ts e = inl refl
 int_read (Some (keywords.Int, rest)) ts e = inr (inl (rest, keyword_is ts rest keywords.Int e, refl))
-int_read (Some (keywords.Long, rest)) ts e = inl refl
-int_read (Some (keywords.Return, rest)) ts e = inl refl
-int_read (Some (keywords.Short, rest)) ts e = inl refl
-int_read (Some (keywords.Signed, rest)) ts e = inl refl
-int_read (Some (keywords.Unsigned, rest)) ts e = inl refl
-int_read (Some (keywords.Void, rest)) ts e = inl refl
-int_read (Some (keywords.While, rest)) ts e = inl refl
-int_read (Some (keywords.Try, rest)) ts e = inl refl
-int_read (Some (keywords.Except, rest)) ts e = inl refl
-int_read (Some (keywords.Finally, rest)) ts e = inl refl
-int_read (Some (keywords.Leave, rest)) ts e = inl refl
-int_read (Some (keywords.GetExceptionInformation, rest)) ts e = inl refl
+int_read o ts e = inl refl
 
 -- `long` names the one base or the other
 record Longs (plain wide b : Base) (ts rest : List Token) : Type 0 where
   read : ((b ≡ plain) × IsOneOf maybe_int ts rest) ⊎ ((b ≡ wide) × IsOneOf (prefixed keywords.Long maybe_int) ts rest)
 
 long_read : (p w : Base) (o : Option (Keyword × List Token)) (ts : List Token) → after_keyword ts ≡ o → Longs p w (long_or p w o ts).0 ts (long_or p w o ts).1
-long_read p w None ts e = record { read = inl (refl, int_read (after_keyword ts) ts refl) }
-long_read p w (Some (keywords.Break, rest)) ts e = record { read = inl (refl, int_read (after_keyword ts) ts refl) }
-long_read p w (Some (keywords.Char, rest)) ts e = record { read = inl (refl, int_read (after_keyword ts) ts refl) }
-long_read p w (Some (keywords.Continue, rest)) ts e = record { read = inl (refl, int_read (after_keyword ts) ts refl) }
-long_read p w (Some (keywords.Do, rest)) ts e = record { read = inl (refl, int_read (after_keyword ts) ts refl) }
-long_read p w (Some (keywords.Else, rest)) ts e = record { read = inl (refl, int_read (after_keyword ts) ts refl) }
-long_read p w (Some (keywords.For, rest)) ts e = record { read = inl (refl, int_read (after_keyword ts) ts refl) }
-long_read p w (Some (keywords.If, rest)) ts e = record { read = inl (refl, int_read (after_keyword ts) ts refl) }
-long_read p w (Some (keywords.Int, rest)) ts e = record { read = inl (refl, int_read (after_keyword ts) ts refl) }
 long_read p w (Some (keywords.Long, rest)) ts e = record { read = inr (refl, following keywords.Long maybe_int ts rest (past_int rest) (keyword_is ts rest keywords.Long e) (int_read (after_keyword rest) rest refl)) }
-long_read p w (Some (keywords.Return, rest)) ts e = record { read = inl (refl, int_read (after_keyword ts) ts refl) }
-long_read p w (Some (keywords.Short, rest)) ts e = record { read = inl (refl, int_read (after_keyword ts) ts refl) }
-long_read p w (Some (keywords.Signed, rest)) ts e = record { read = inl (refl, int_read (after_keyword ts) ts refl) }
-long_read p w (Some (keywords.Unsigned, rest)) ts e = record { read = inl (refl, int_read (after_keyword ts) ts refl) }
-long_read p w (Some (keywords.Void, rest)) ts e = record { read = inl (refl, int_read (after_keyword ts) ts refl) }
-long_read p w (Some (keywords.While, rest)) ts e = record { read = inl (refl, int_read (after_keyword ts) ts refl) }
-long_read p w (Some (keywords.Try, rest)) ts e = record { read = inl (refl, int_read (after_keyword ts) ts refl) }
-long_read p w (Some (keywords.Except, rest)) ts e = record { read = inl (refl, int_read (after_keyword ts) ts refl) }
-long_read p w (Some (keywords.Finally, rest)) ts e = record { read = inl (refl, int_read (after_keyword ts) ts refl) }
-long_read p w (Some (keywords.Leave, rest)) ts e = record { read = inl (refl, int_read (after_keyword ts) ts refl) }
-long_read p w (Some (keywords.GetExceptionInformation, rest)) ts e = record { read = inl (refl, int_read (after_keyword ts) ts refl) }
+long_read p w o ts e = record { read = inl (refl, int_read (after_keyword ts) ts refl) }
 
 -- Lists after keywords that were read, as spellings of a base.
 abbrev Puts : List (List Keyword) → Base → Type 0
@@ -338,14 +240,7 @@ as_base : (b c : Base) (ts rest : List Token) → c ≡ b → IsBase b ts rest �
 as_base b c ts rest e h = subst (λ (x : Base). IsBase x ts rest) (sym e) h
 
 signed_read : (o : Option (Keyword × List Token)) (ts mid : List Token) → HasKeyword keywords.Signed ts mid → after_keyword mid ≡ o → IsBase (signed_or o mid).0 ts (signed_or o mid).1
-signed_read None ts mid h e = inr (inl (mid, h, refl))
-signed_read (Some (keywords.Break, rest)) ts mid h e = inr (inl (mid, h, refl))
 signed_read (Some (keywords.Char, rest)) ts mid h e = inr (inl (mid, h, (rest, keyword_is mid rest keywords.Char e, refl)))
-signed_read (Some (keywords.Continue, rest)) ts mid h e = inr (inl (mid, h, refl))
-signed_read (Some (keywords.Do, rest)) ts mid h e = inr (inl (mid, h, refl))
-signed_read (Some (keywords.Else, rest)) ts mid h e = inr (inl (mid, h, refl))
-signed_read (Some (keywords.For, rest)) ts mid h e = inr (inl (mid, h, refl))
-signed_read (Some (keywords.If, rest)) ts mid h e = inr (inl (mid, h, refl))
 signed_read (Some (keywords.Int, rest)) ts mid h e = inr (inr (inl (mid, h, (rest, keyword_is mid rest keywords.Int e, refl))))
 signed_read (Some (keywords.Long, rest)) ts mid h e =
     let r = long_read bases.Int bases.LongLong (after_keyword rest) rest refl in
@@ -354,27 +249,11 @@ signed_read (Some (keywords.Long, rest)) ts mid h e =
       | inl x ↦ as_base bases.Int (long bases.Int bases.LongLong rest).0 ts ((long bases.Int bases.LongLong rest).1) x.0 (signed_long_puts ts ((long bases.Int bases.LongLong rest).1) (following keywords.Signed (prefixed keywords.Long maybe_int) ts mid ((long bases.Int bases.LongLong rest).1) h (following keywords.Long maybe_int mid rest ((long bases.Int bases.LongLong rest).1) k x.1)))
       | inr x ↦ as_base bases.LongLong (long bases.Int bases.LongLong rest).0 ts ((long bases.Int bases.LongLong rest).1) x.0 (signed_long_long_puts ts ((long bases.Int bases.LongLong rest).1) (following keywords.Signed (prefixed keywords.Long (prefixed keywords.Long maybe_int)) ts mid ((long bases.Int bases.LongLong rest).1) h (following keywords.Long (prefixed keywords.Long maybe_int) mid rest ((long bases.Int bases.LongLong rest).1) k x.1)))
     ]
-signed_read (Some (keywords.Return, rest)) ts mid h e = inr (inl (mid, h, refl))
 signed_read (Some (keywords.Short, rest)) ts mid h e = signed_short_puts ts (past_int rest) (following keywords.Signed (prefixed keywords.Short maybe_int) ts mid (past_int rest) h (following keywords.Short maybe_int mid rest (past_int rest) (keyword_is mid rest keywords.Short e) (int_read (after_keyword rest) rest refl)))
-signed_read (Some (keywords.Signed, rest)) ts mid h e = inr (inl (mid, h, refl))
-signed_read (Some (keywords.Unsigned, rest)) ts mid h e = inr (inl (mid, h, refl))
-signed_read (Some (keywords.Void, rest)) ts mid h e = inr (inl (mid, h, refl))
-signed_read (Some (keywords.While, rest)) ts mid h e = inr (inl (mid, h, refl))
-signed_read (Some (keywords.Try, rest)) ts mid h e = inr (inl (mid, h, refl))
-signed_read (Some (keywords.Except, rest)) ts mid h e = inr (inl (mid, h, refl))
-signed_read (Some (keywords.Finally, rest)) ts mid h e = inr (inl (mid, h, refl))
-signed_read (Some (keywords.Leave, rest)) ts mid h e = inr (inl (mid, h, refl))
-signed_read (Some (keywords.GetExceptionInformation, rest)) ts mid h e = inr (inl (mid, h, refl))
+signed_read o ts mid h e = inr (inl (mid, h, refl))
 
 unsigned_read : (o : Option (Keyword × List Token)) (ts mid : List Token) → HasKeyword keywords.Unsigned ts mid → after_keyword mid ≡ o → IsBase (unsigned_or o mid).0 ts (unsigned_or o mid).1
-unsigned_read None ts mid h e = inl (mid, h, refl)
-unsigned_read (Some (keywords.Break, rest)) ts mid h e = inl (mid, h, refl)
 unsigned_read (Some (keywords.Char, rest)) ts mid h e = inl (mid, h, (rest, keyword_is mid rest keywords.Char e, refl))
-unsigned_read (Some (keywords.Continue, rest)) ts mid h e = inl (mid, h, refl)
-unsigned_read (Some (keywords.Do, rest)) ts mid h e = inl (mid, h, refl)
-unsigned_read (Some (keywords.Else, rest)) ts mid h e = inl (mid, h, refl)
-unsigned_read (Some (keywords.For, rest)) ts mid h e = inl (mid, h, refl)
-unsigned_read (Some (keywords.If, rest)) ts mid h e = inl (mid, h, refl)
 unsigned_read (Some (keywords.Int, rest)) ts mid h e = inr (inl (mid, h, (rest, keyword_is mid rest keywords.Int e, refl)))
 unsigned_read (Some (keywords.Long, rest)) ts mid h e =
     let r = long_read bases.Unsigned bases.UnsignedLongLong (after_keyword rest) rest refl in
@@ -383,31 +262,15 @@ unsigned_read (Some (keywords.Long, rest)) ts mid h e =
       | inl x ↦ as_base bases.Unsigned (long bases.Unsigned bases.UnsignedLongLong rest).0 ts ((long bases.Unsigned bases.UnsignedLongLong rest).1) x.0 (unsigned_long_puts ts ((long bases.Unsigned bases.UnsignedLongLong rest).1) (following keywords.Unsigned (prefixed keywords.Long maybe_int) ts mid ((long bases.Unsigned bases.UnsignedLongLong rest).1) h (following keywords.Long maybe_int mid rest ((long bases.Unsigned bases.UnsignedLongLong rest).1) k x.1)))
       | inr x ↦ as_base bases.UnsignedLongLong (long bases.Unsigned bases.UnsignedLongLong rest).0 ts ((long bases.Unsigned bases.UnsignedLongLong rest).1) x.0 (unsigned_long_long_puts ts ((long bases.Unsigned bases.UnsignedLongLong rest).1) (following keywords.Unsigned (prefixed keywords.Long (prefixed keywords.Long maybe_int)) ts mid ((long bases.Unsigned bases.UnsignedLongLong rest).1) h (following keywords.Long (prefixed keywords.Long maybe_int) mid rest ((long bases.Unsigned bases.UnsignedLongLong rest).1) k x.1)))
     ]
-unsigned_read (Some (keywords.Return, rest)) ts mid h e = inl (mid, h, refl)
 unsigned_read (Some (keywords.Short, rest)) ts mid h e = unsigned_short_puts ts (past_int rest) (following keywords.Unsigned (prefixed keywords.Short maybe_int) ts mid (past_int rest) h (following keywords.Short maybe_int mid rest (past_int rest) (keyword_is mid rest keywords.Short e) (int_read (after_keyword rest) rest refl)))
-unsigned_read (Some (keywords.Signed, rest)) ts mid h e = inl (mid, h, refl)
-unsigned_read (Some (keywords.Unsigned, rest)) ts mid h e = inl (mid, h, refl)
-unsigned_read (Some (keywords.Void, rest)) ts mid h e = inl (mid, h, refl)
-unsigned_read (Some (keywords.While, rest)) ts mid h e = inl (mid, h, refl)
-unsigned_read (Some (keywords.Try, rest)) ts mid h e = inl (mid, h, refl)
-unsigned_read (Some (keywords.Except, rest)) ts mid h e = inl (mid, h, refl)
-unsigned_read (Some (keywords.Finally, rest)) ts mid h e = inl (mid, h, refl)
-unsigned_read (Some (keywords.Leave, rest)) ts mid h e = inl (mid, h, refl)
-unsigned_read (Some (keywords.GetExceptionInformation, rest)) ts mid h e = inl (mid, h, refl)
+unsigned_read o ts mid h e = inl (mid, h, refl)
 
 abbrev Based : List Token → Option (Base × List Token) → Type 0
 Based ts None = Unit {0}
 Based ts (Some x) = IsBase x.0 ts x.1
 
 base_read : (o : Option (Keyword × List Token)) (ts : List Token) → after_keyword ts ≡ o → Based ts (base_or o)
-base_read None ts e = tt
-base_read (Some (keywords.Break, rest)) ts e = tt
 base_read (Some (keywords.Char, rest)) ts e = inl (rest, keyword_is ts rest keywords.Char e, refl)
-base_read (Some (keywords.Continue, rest)) ts e = tt
-base_read (Some (keywords.Do, rest)) ts e = tt
-base_read (Some (keywords.Else, rest)) ts e = tt
-base_read (Some (keywords.For, rest)) ts e = tt
-base_read (Some (keywords.If, rest)) ts e = tt
 base_read (Some (keywords.Int, rest)) ts e = inl (rest, keyword_is ts rest keywords.Int e, refl)
 base_read (Some (keywords.Long, rest)) ts e =
     let r = long_read bases.Int bases.LongLong (after_keyword rest) rest refl in
@@ -416,17 +279,11 @@ base_read (Some (keywords.Long, rest)) ts e =
       | inl x ↦ as_base bases.Int (long bases.Int bases.LongLong rest).0 ts ((long bases.Int bases.LongLong rest).1) x.0 (long_puts ts ((long bases.Int bases.LongLong rest).1) (following keywords.Long maybe_int ts rest ((long bases.Int bases.LongLong rest).1) k x.1))
       | inr x ↦ as_base bases.LongLong (long bases.Int bases.LongLong rest).0 ts ((long bases.Int bases.LongLong rest).1) x.0 (long_long_puts ts ((long bases.Int bases.LongLong rest).1) (following keywords.Long (prefixed keywords.Long maybe_int) ts rest ((long bases.Int bases.LongLong rest).1) k x.1))
     ]
-base_read (Some (keywords.Return, rest)) ts e = tt
 base_read (Some (keywords.Short, rest)) ts e = short_puts ts (past_int rest) (following keywords.Short maybe_int ts rest (past_int rest) (keyword_is ts rest keywords.Short e) (int_read (after_keyword rest) rest refl))
 base_read (Some (keywords.Signed, rest)) ts e = signed_read (after_keyword rest) ts rest (keyword_is ts rest keywords.Signed e) refl
 base_read (Some (keywords.Unsigned, rest)) ts e = unsigned_read (after_keyword rest) ts rest (keyword_is ts rest keywords.Unsigned e) refl
 base_read (Some (keywords.Void, rest)) ts e = inl (rest, keyword_is ts rest keywords.Void e, refl)
-base_read (Some (keywords.While, rest)) ts e = tt
-base_read (Some (keywords.Try, rest)) ts e = tt
-base_read (Some (keywords.Except, rest)) ts e = tt
-base_read (Some (keywords.Finally, rest)) ts e = tt
-base_read (Some (keywords.Leave, rest)) ts e = tt
-base_read (Some (keywords.GetExceptionInformation, rest)) ts e = tt
+base_read o ts e = tt
 
 pub base_sound : (ts : List Token) (x : Base × List Token) → base ts ≡ Some x → IsBase x.0 ts x.1
 base_sound ts x e = subst (λ (o : Option (Base × List Token)). Based ts o) e (base_read (after_keyword ts) ts refl)

@@ -56,19 +56,7 @@ stops l ts other s h = subst (λ n. l < n) (sym (same_follows ts other s)) h
 
 closes_too : (e : Expression) (t : Token) (xs ys : List Token) → Closes e (t ∷ xs) → Closes e (t ∷ ys)
 closes_too (Constant at literal) t xs ys h = h
-closes_too (Variable name) t xs ys h = h
-closes_too (Information at field) t xs ys h = h
-closes_too (Call name es) t xs ys h = h
-closes_too (Parentheses at e) t xs ys h = h
-closes_too (Index a at i) t xs ys h = h
-closes_too (Postfix e op at) t xs ys h = h
-closes_too (Prefix at op e) t xs ys h = h
-closes_too (Unary at op e) t xs ys h = h
-closes_too (Cast at to e) t xs ys h = h
-closes_too (Binary a at op b) t xs ys h = h
-closes_too (Conditional c at a b) t xs ys h = h
-closes_too (Assign a at op b) t xs ys h = h
-closes_too (Comma a at b) t xs ys h = h
+closes_too e t xs ys h = h
 
 pub closes : (e : Expression) (ts other : List Token) → SameFirst ts other → Closes e ts → Closes e other
 closes e ts other s h = first_keeps (λ z. Closes e z) (closes_too e) ts other s h
@@ -116,26 +104,14 @@ no_type ts other s none = λ e. none (sym (same_front ts other s) ∙ e)
 
 -- each keyword of a type is a base alone
 pub alone : (k : Keyword) (ts rest : List Token) → keyword_class k ≡ 7 → HasKeyword k ts rest → (b : Base) × IsBase b ts rest
-alone keywords.Break ts rest c h = absurd (omega arith)
 alone keywords.Char ts rest c h = (bases.Char, inl (rest, h, refl))
-alone keywords.Continue ts rest c h = absurd (omega arith)
-alone keywords.Do ts rest c h = absurd (omega arith)
-alone keywords.Else ts rest c h = absurd (omega arith)
-alone keywords.For ts rest c h = absurd (omega arith)
-alone keywords.If ts rest c h = absurd (omega arith)
 alone keywords.Int ts rest c h = (bases.Int, inl (rest, h, refl))
 alone keywords.Long ts rest c h = (bases.Int, inr (inr (inr (inl (rest, h, refl)))))
-alone keywords.Return ts rest c h = absurd (omega arith)
 alone keywords.Short ts rest c h = (bases.Short, inl (rest, h, refl))
 alone keywords.Signed ts rest c h = (bases.Int, inr (inl (rest, h, refl)))
 alone keywords.Unsigned ts rest c h = (bases.Unsigned, inl (rest, h, refl))
 alone keywords.Void ts rest c h = (bases.Void, inl (rest, h, refl))
-alone keywords.While ts rest c h = absurd (omega arith)
-alone keywords.Try ts rest c h = absurd (omega arith)
-alone keywords.Except ts rest c h = absurd (omega arith)
-alone keywords.Finally ts rest c h = absurd (omega arith)
-alone keywords.Leave ts rest c h = absurd (omega arith)
-alone keywords.GetExceptionInformation ts rest c h = absurd (omega arith)
+alone k ts rest c h = absurd (omega arith)
 
 first_word : (ks : List Keyword) (ts rest : List Token) → Typed ks → Begun ks → AreKeywords ks ts rest → (k : Keyword) × (mid : List Token) × (keyword_class k ≡ 7) × HasKeyword k ts mid
 first_word [] ts rest t b h = absurd b

@@ -70,44 +70,17 @@ some_same a b o p q = let e = sym p ∙ q in cc
 
 binary_again : (op : BinaryOperator) → binary_of (binary_punctuator op) ≡ Some op
 binary_again (binary.Arithmetic arithmetic.Multiply) = refl
-binary_again (binary.Arithmetic arithmetic.Divide) = refl
-binary_again (binary.Arithmetic arithmetic.Remainder) = refl
-binary_again (binary.Arithmetic arithmetic.Add) = refl
-binary_again (binary.Arithmetic arithmetic.Subtract) = refl
-binary_again (binary.Arithmetic arithmetic.ShiftLeft) = refl
-binary_again (binary.Arithmetic arithmetic.ShiftRight) = refl
-binary_again (binary.Arithmetic arithmetic.And) = refl
-binary_again (binary.Arithmetic arithmetic.ExclusiveOr) = refl
-binary_again (binary.Arithmetic arithmetic.Or) = refl
 binary_again (binary.Comparison comparisons.Less) = refl
-binary_again (binary.Comparison comparisons.Greater) = refl
-binary_again (binary.Comparison comparisons.LessEqual) = refl
-binary_again (binary.Comparison comparisons.GreaterEqual) = refl
-binary_again (binary.Comparison comparisons.Equal) = refl
-binary_again (binary.Comparison comparisons.NotEqual) = refl
-binary_again binary.LogicalAnd = refl
-binary_again binary.LogicalOr = refl
+binary_again op = refl
 
 assignment_again : (op : Option Arithmetic) → assignment_of (assignment_punctuator op) ≡ Some op
 assignment_again None = refl
 assignment_again (Some arithmetic.Multiply) = refl
-assignment_again (Some arithmetic.Divide) = refl
-assignment_again (Some arithmetic.Remainder) = refl
-assignment_again (Some arithmetic.Add) = refl
-assignment_again (Some arithmetic.Subtract) = refl
-assignment_again (Some arithmetic.ShiftLeft) = refl
-assignment_again (Some arithmetic.ShiftRight) = refl
-assignment_again (Some arithmetic.And) = refl
-assignment_again (Some arithmetic.ExclusiveOr) = refl
-assignment_again (Some arithmetic.Or) = refl
+assignment_again op = refl
 
 unary_again : (op : UnaryOperator) → unary_of (unary_punctuator op) ≡ Some op
 unary_again unary_operators.Plus = refl
-unary_again unary_operators.Minus = refl
-unary_again unary_operators.LogicalNot = refl
-unary_again unary_operators.Complement = refl
-unary_again unary_operators.Indirection = refl
-unary_again unary_operators.AddressOf = refl
+unary_again op = refl
 
 increment_again : (op : Increment) → increment_of (increment_punctuator op) ≡ Some op
 increment_again increments.Increment = refl
@@ -128,72 +101,27 @@ same_increment a b e = some_same a b (increment_of (increment_punctuator a)) (in
 -- ---- what the first token begins: 0 to 5 an expression, 7 a type, 6 neither
 
 abbrev pub keyword_class : Keyword → ℕ
-keyword_class keywords.Break = 6
 keyword_class keywords.Char = 7
-keyword_class keywords.Continue = 6
-keyword_class keywords.Do = 6
-keyword_class keywords.Else = 6
-keyword_class keywords.For = 6
-keyword_class keywords.If = 6
 keyword_class keywords.Int = 7
 keyword_class keywords.Long = 7
-keyword_class keywords.Return = 6
 keyword_class keywords.Short = 7
 keyword_class keywords.Signed = 7
 keyword_class keywords.Unsigned = 7
 keyword_class keywords.Void = 7
-keyword_class keywords.While = 6
-keyword_class keywords.Try = 6
-keyword_class keywords.Except = 6
-keyword_class keywords.Finally = 6
-keyword_class keywords.Leave = 6
 keyword_class keywords.GetExceptionInformation = 1
+keyword_class k = 6
 
 abbrev pub punctuator_class : Punctuator → ℕ
 punctuator_class punctuators.OpenParenthesis = 3
-punctuator_class punctuators.CloseParenthesis = 6
-punctuator_class punctuators.OpenBracket = 6
-punctuator_class punctuators.CloseBracket = 6
-punctuator_class punctuators.OpenBrace = 6
-punctuator_class punctuators.CloseBrace = 6
-punctuator_class punctuators.Semicolon = 6
-punctuator_class punctuators.Comma = 6
-punctuator_class punctuators.Question = 6
-punctuator_class punctuators.Colon = 6
-punctuator_class punctuators.Arrow = 6
-punctuator_class punctuators.Assign = 6
-punctuator_class punctuators.PlusAssign = 6
-punctuator_class punctuators.MinusAssign = 6
-punctuator_class punctuators.StarAssign = 6
-punctuator_class punctuators.SlashAssign = 6
-punctuator_class punctuators.PercentAssign = 6
-punctuator_class punctuators.AmpersandAssign = 6
-punctuator_class punctuators.BarAssign = 6
-punctuator_class punctuators.CaretAssign = 6
-punctuator_class punctuators.ShiftLeftAssign = 6
-punctuator_class punctuators.ShiftRightAssign = 6
-punctuator_class punctuators.BarBar = 6
-punctuator_class punctuators.AmpersandAmpersand = 6
-punctuator_class punctuators.Bar = 6
-punctuator_class punctuators.Caret = 6
 punctuator_class punctuators.Ampersand = 5
-punctuator_class punctuators.Equal = 6
-punctuator_class punctuators.NotEqual = 6
-punctuator_class punctuators.Less = 6
-punctuator_class punctuators.Greater = 6
-punctuator_class punctuators.LessEqual = 6
-punctuator_class punctuators.GreaterEqual = 6
-punctuator_class punctuators.ShiftLeft = 6
-punctuator_class punctuators.ShiftRight = 6
 punctuator_class punctuators.Plus = 5
 punctuator_class punctuators.Minus = 5
 punctuator_class punctuators.Star = 5
-punctuator_class punctuators.Slash = 6
-punctuator_class punctuators.Percent = 6
 punctuator_class punctuators.Exclamation = 5
 punctuator_class punctuators.Tilde = 5
 punctuator_class punctuators.PlusPlus = 4
 punctuator_class punctuators.MinusMinus = 4
+punctuator_class s = 6
 
 abbrev pub kind_class : Kind → ℕ
 kind_class kinds.Identifier = 0
@@ -213,36 +141,18 @@ increment_class increments.Decrement = refl
 
 pub unary_class : (op : UnaryOperator) → punctuator_class (unary_punctuator op) ≡ 5
 unary_class unary_operators.Plus = refl
-unary_class unary_operators.Minus = refl
-unary_class unary_operators.LogicalNot = refl
-unary_class unary_operators.Complement = refl
-unary_class unary_operators.Indirection = refl
-unary_class unary_operators.AddressOf = refl
+unary_class op = refl
 
 -- ---- types
 
 -- the base that keywords write is reported by how many there are of each
 abbrev weight_of : Keyword → ℕ
-weight_of keywords.Break = 0
 weight_of keywords.Char = 10
-weight_of keywords.Continue = 0
-weight_of keywords.Do = 0
-weight_of keywords.Else = 0
-weight_of keywords.For = 0
-weight_of keywords.If = 0
-weight_of keywords.Int = 0
 weight_of keywords.Long = 1000
-weight_of keywords.Return = 0
 weight_of keywords.Short = 100
-weight_of keywords.Signed = 0
 weight_of keywords.Unsigned = 10000
 weight_of keywords.Void = 1
-weight_of keywords.While = 0
-weight_of keywords.Try = 0
-weight_of keywords.Except = 0
-weight_of keywords.Finally = 0
-weight_of keywords.Leave = 0
-weight_of keywords.GetExceptionInformation = 0
+weight_of k = 0
 
 abbrev weight : List Keyword → ℕ
 weight [] = 0

@@ -232,11 +232,9 @@ filter f text text' ts rest h a =
 
 mutual
   pub numbered : (s : Statement) (text text' : List ℕ) (ts rest : List Token) → IsBlockItem text s ts rest → Alike text text' ts → limits.numbered text' s ≡ limits.numbered text s
-  numbered (Declare b ls) text text' ts rest h a = refl
   numbered (Block ss) text text' ts rest h a =
       let b = alike_after text' (has_punctuator punctuators.OpenBrace text ts h.after_brace h.brace) a in
       funclets_of_all ss text text' h.after_brace rest h.items b
-  numbered (Evaluate e) text text' ts rest h a = refl
   numbered (If at c s) text text' ts rest h a =
       let b = alike_after text' (keyword keywords.If at text ts h.after_keyword h.keyword) a in
       let d = alike_after text' (condition c text h.after_keyword h.after_condition h.condition) b in
@@ -258,10 +256,6 @@ mutual
   numbered (For at f c n s) text text' ts rest h a =
       numbered s text text' h.after_head rest h.body.item
       (alike_after text' (for_head at f c n text ts h.after_head h.head) a)
-  numbered (Return at e) text text' ts rest h a = refl
-  numbered (Break at) text text' ts rest h a = refl
-  numbered (Continue at) text text' ts rest h a = refl
-  numbered (Leave at) text text' ts rest h a = refl
   numbered (TryExcept body at f handler) text text' ts rest h a =
       let b = alike_after text' (has_keyword keywords.Try text ts h.after_try h.try_keyword) a in
       let d = alike_after text' (has_punctuator punctuators.OpenBrace text h.after_try h.body.after_brace h.body.brace) b in
@@ -282,6 +276,7 @@ mutual
       let i = alike_after text' (has_punctuator punctuators.OpenBrace text h.after_finally h.last.after_brace h.last.brace) g in
       joined (joined (funclets_of_all body text text' h.body.after_brace h.after_body h.body.items d) refl)
       (funclets_of_all last text text' h.last.after_brace rest h.last.items i)
+  numbered s text text' ts rest h a = refl
 
   pub funclets_of_all : (ss : Statements) (text text' : List ℕ) (ts rest : List Token) → AreBlockItems text ss ts rest → Alike text text' ts → limits.funclets_of_all text' ss ≡ limits.funclets_of_all text ss
   funclets_of_all Empty text text' ts rest h a = refl

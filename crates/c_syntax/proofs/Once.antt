@@ -28,19 +28,12 @@ use Rattle.c_syntax.proofs.OneStep.{part, whole, same_run}
 
 abbrev head_class : Expression → ℕ
 head_class (Constant at literal) = 2
-head_class (Variable name) = 0
 head_class (Information at field) = 1
-head_class (Call name es) = 0
 head_class (Parentheses at e) = 3
-head_class (Index a at i) = 0
-head_class (Postfix e op at) = 0
 head_class (Prefix at op e) = 4
 head_class (Unary at op e) = 5
 head_class (Cast at to e) = 3
-head_class (Binary a at op b) = 0
-head_class (Conditional c at a b) = 0
-head_class (Assign a at op b) = 0
-head_class (Comma a at b) = 0
+head_class e = 0
 
 literal_class : (literal : Literal) → kind_class (literal_kind literal) ≡ 2
 literal_class (literals.Integer value type) = refl
@@ -52,31 +45,14 @@ head_front text (Variable name) ts rest i h = ap front h
 head_front text (Information at field) ts rest i h = ap front h.introduction.keyword.1
 head_front text (Call name es) ts rest i h = ap front h.called
 head_front text (Parentheses at e) ts rest i h = ap front h.opening.1
-head_front text (Index a at j) ts rest i h = absurd i
-head_front text (Postfix e op at) ts rest i h = absurd i
 head_front text (Prefix at op e) ts rest i h = ap front h.operator.1 ∙ increment_class op
 head_front text (Unary at op e) ts rest i h = ap front h.operator.1 ∙ unary_class op
 head_front text (Cast at to e) ts rest i h = ap front h.operator.opening.1
-head_front text (Binary a at op b) ts rest i h = absurd i
-head_front text (Conditional c at a b) ts rest i h = absurd i
-head_front text (Assign a at op b) ts rest i h = absurd i
-head_front text (Comma a at b) ts rest i h = absurd i
+head_front text e ts rest i h = absurd i
 
 class_low : (e : Expression) → head_class e ≤ 5
 class_low (Constant at literal) = omega arith
-class_low (Variable name) = omega arith
-class_low (Information at field) = omega arith
-class_low (Call name es) = omega arith
-class_low (Parentheses at e) = omega arith
-class_low (Index a at i) = omega arith
-class_low (Postfix e op at) = omega arith
-class_low (Prefix at op e) = omega arith
-class_low (Unary at op e) = omega arith
-class_low (Cast at to e) = omega arith
-class_low (Binary a at op b) = omega arith
-class_low (Conditional c at a b) = omega arith
-class_low (Assign a at op b) = omega arith
-class_low (Comma a at b) = omega arith
+class_low e = omega arith
 
 pub expression_front : (text : List ℕ) (e : Expression) (ts rest : List Token) → SpellsExpression text e ts rest → front ts ≤ 5
 expression_front text e ts rest h =
@@ -219,42 +195,27 @@ pub same_head : (text : List ℕ) (n : ℕ) (e f : Expression) (ts rest end : Li
 same_head text n (Constant at literal) (Constant at' literal') ts rest end u low k m r z h g =
     let a = kind_same (literal_kind literal) (literal_kind literal') at at' ts ts rest end refl h g in
     (ap (λ (x : ℕ). Constant x literal) a.1 ∙ ap (λ (x : Literal). Constant at' x) (literal_same literal literal' a.0), a.2)
-same_head text n (Constant at literal) (Variable name') ts rest end u low k m r z h g = let a = head_front text (Constant at literal) ts rest k h in let b = head_front text (Variable name') ts end m g in absurd (omega arith)
-same_head text n (Constant at literal) (Information at' field') ts rest end u low k m r z h g = let a = head_front text (Constant at literal) ts rest k h in let b = head_front text (Information at' field') ts end m g in absurd (omega arith)
-same_head text n (Constant at literal) (Call name' es') ts rest end u low k m r z h g = let a = head_front text (Constant at literal) ts rest k h in let b = head_front text (Call name' es') ts end m g in absurd (omega arith)
-same_head text n (Constant at literal) (Parentheses at' e') ts rest end u low k m r z h g = let a = head_front text (Constant at literal) ts rest k h in let b = head_front text (Parentheses at' e') ts end m g in absurd (omega arith)
-same_head text n (Constant at literal) (Prefix at' op' e') ts rest end u low k m r z h g = let a = head_front text (Constant at literal) ts rest k h in let b = head_front text (Prefix at' op' e') ts end m g in absurd (omega arith)
-same_head text n (Constant at literal) (Unary at' op' e') ts rest end u low k m r z h g = let a = head_front text (Constant at literal) ts rest k h in let b = head_front text (Unary at' op' e') ts end m g in absurd (omega arith)
-same_head text n (Constant at literal) (Cast at' to' e') ts rest end u low k m r z h g = let a = head_front text (Constant at literal) ts rest k h in let b = head_front text (Cast at' to' e') ts end m g in absurd (omega arith)
 same_head text n (Constant at literal) (Index v vt w) ts rest end u low k m r z h g = absurd m
 same_head text n (Constant at literal) (Postfix v op2 vt) ts rest end u low k m r z h g = absurd m
 same_head text n (Constant at literal) (Binary v vt op2 w) ts rest end u low k m r z h g = absurd m
 same_head text n (Constant at literal) (Conditional y vt v w) ts rest end u low k m r z h g = absurd m
 same_head text n (Constant at literal) (Assign v vt op2 w) ts rest end u low k m r z h g = absurd m
 same_head text n (Constant at literal) (Comma v vt w) ts rest end u low k m r z h g = absurd m
-same_head text n (Variable name) (Constant at' literal') ts rest end u low k m r z h g = let a = head_front text (Variable name) ts rest k h in let b = head_front text (Constant at' literal') ts end m g in absurd (omega arith)
 same_head text n (Variable name) (Variable name') ts rest end u low k m r z h g =
     let a = name_same name name' ts ts rest end refl h g in
     (ap (λ (x : Identifier). Variable x) a.0, a.1)
-same_head text n (Variable name) (Information at' field') ts rest end u low k m r z h g = let a = head_front text (Variable name) ts rest k h in let b = head_front text (Information at' field') ts end m g in absurd (omega arith)
 same_head text n (Variable name) (Call name' es') ts rest end u low k m r z h g =
     let a = name_same name name' ts ts rest g.after_name refl h g.called in
     let b = follows_punctuator punctuators.OpenParenthesis g.opening.0 g.after_name g.after_opening
     primary g.opening.1 refl in
     let c = ap follows a.1 in
     absurd (omega arith)
-same_head text n (Variable name) (Parentheses at' e') ts rest end u low k m r z h g = let a = head_front text (Variable name) ts rest k h in let b = head_front text (Parentheses at' e') ts end m g in absurd (omega arith)
-same_head text n (Variable name) (Prefix at' op' e') ts rest end u low k m r z h g = let a = head_front text (Variable name) ts rest k h in let b = head_front text (Prefix at' op' e') ts end m g in absurd (omega arith)
-same_head text n (Variable name) (Unary at' op' e') ts rest end u low k m r z h g = let a = head_front text (Variable name) ts rest k h in let b = head_front text (Unary at' op' e') ts end m g in absurd (omega arith)
-same_head text n (Variable name) (Cast at' to' e') ts rest end u low k m r z h g = let a = head_front text (Variable name) ts rest k h in let b = head_front text (Cast at' to' e') ts end m g in absurd (omega arith)
 same_head text n (Variable name) (Index v vt w) ts rest end u low k m r z h g = absurd m
 same_head text n (Variable name) (Postfix v op2 vt) ts rest end u low k m r z h g = absurd m
 same_head text n (Variable name) (Binary v vt op2 w) ts rest end u low k m r z h g = absurd m
 same_head text n (Variable name) (Conditional y vt v w) ts rest end u low k m r z h g = absurd m
 same_head text n (Variable name) (Assign v vt op2 w) ts rest end u low k m r z h g = absurd m
 same_head text n (Variable name) (Comma v vt w) ts rest end u low k m r z h g = absurd m
-same_head text n (Information at field) (Constant at' literal') ts rest end u low k m r z h g = let a = head_front text (Information at field) ts rest k h in let b = head_front text (Constant at' literal') ts end m g in absurd (omega arith)
-same_head text n (Information at field) (Variable name') ts rest end u low k m r z h g = let a = head_front text (Information at field) ts rest k h in let b = head_front text (Variable name') ts end m g in absurd (omega arith)
 same_head text n (Information at field) (Information at' field') ts rest end u low k m r z h g =
     let k = kind_same (kinds.Keyword keywords.GetExceptionInformation)
     (kinds.Keyword keywords.GetExceptionInformation) at at' ts ts h.introduction.after_keyword
@@ -277,25 +238,18 @@ same_head text n (Information at field) (Information at' field') ts rest end u l
     let q = field_once text field field' h.after_introduction g.after_introduction rest end v
     h.field g.field in
     (ap (λ (x : ℕ). Information x field) k.1 ∙ ap (λ (x : Field). Information at' x) q.0, q.1)
-same_head text n (Information at field) (Call name' es') ts rest end u low k m r z h g = let a = head_front text (Information at field) ts rest k h in let b = head_front text (Call name' es') ts end m g in absurd (omega arith)
-same_head text n (Information at field) (Parentheses at' e') ts rest end u low k m r z h g = let a = head_front text (Information at field) ts rest k h in let b = head_front text (Parentheses at' e') ts end m g in absurd (omega arith)
-same_head text n (Information at field) (Prefix at' op' e') ts rest end u low k m r z h g = let a = head_front text (Information at field) ts rest k h in let b = head_front text (Prefix at' op' e') ts end m g in absurd (omega arith)
-same_head text n (Information at field) (Unary at' op' e') ts rest end u low k m r z h g = let a = head_front text (Information at field) ts rest k h in let b = head_front text (Unary at' op' e') ts end m g in absurd (omega arith)
-same_head text n (Information at field) (Cast at' to' e') ts rest end u low k m r z h g = let a = head_front text (Information at field) ts rest k h in let b = head_front text (Cast at' to' e') ts end m g in absurd (omega arith)
 same_head text n (Information at field) (Index v vt w) ts rest end u low k m r z h g = absurd m
 same_head text n (Information at field) (Postfix v op2 vt) ts rest end u low k m r z h g = absurd m
 same_head text n (Information at field) (Binary v vt op2 w) ts rest end u low k m r z h g = absurd m
 same_head text n (Information at field) (Conditional y vt v w) ts rest end u low k m r z h g = absurd m
 same_head text n (Information at field) (Assign v vt op2 w) ts rest end u low k m r z h g = absurd m
 same_head text n (Information at field) (Comma v vt w) ts rest end u low k m r z h g = absurd m
-same_head text n (Call name es) (Constant at' literal') ts rest end u low k m r z h g = let a = head_front text (Call name es) ts rest k h in let b = head_front text (Constant at' literal') ts end m g in absurd (omega arith)
 same_head text n (Call name es) (Variable name') ts rest end u low k m r z h g =
     let a = name_same name name' ts ts h.after_name end refl h.called g in
     let b = follows_punctuator punctuators.OpenParenthesis h.opening.0 h.after_name h.after_opening
     primary h.opening.1 refl in
     let c = ap follows a.1 in
     absurd (omega arith)
-same_head text n (Call name es) (Information at' field') ts rest end u low k m r z h g = let a = head_front text (Call name es) ts rest k h in let b = head_front text (Information at' field') ts end m g in absurd (omega arith)
 same_head text n (Call name es) (Call name' es') ts rest end u low k m r z h g =
     let a = name_same name name' ts ts h.after_name g.after_name refl h.called g.called in
     let b = has_same punctuators.OpenParenthesis h.after_name g.after_name h.after_opening
@@ -303,20 +257,12 @@ same_head text n (Call name es) (Call name' es') ts rest end u low k m r z h g =
     let c = arguments_once text n es es' h.after_opening g.after_opening rest end u b low
     h.arguments g.arguments in
     (ap (λ (x : Identifier). Call x es) a.0 ∙ ap (λ (x : Arguments). Call name' x) c.0, c.1)
-same_head text n (Call name es) (Parentheses at' e') ts rest end u low k m r z h g = let a = head_front text (Call name es) ts rest k h in let b = head_front text (Parentheses at' e') ts end m g in absurd (omega arith)
-same_head text n (Call name es) (Prefix at' op' e') ts rest end u low k m r z h g = let a = head_front text (Call name es) ts rest k h in let b = head_front text (Prefix at' op' e') ts end m g in absurd (omega arith)
-same_head text n (Call name es) (Unary at' op' e') ts rest end u low k m r z h g = let a = head_front text (Call name es) ts rest k h in let b = head_front text (Unary at' op' e') ts end m g in absurd (omega arith)
-same_head text n (Call name es) (Cast at' to' e') ts rest end u low k m r z h g = let a = head_front text (Call name es) ts rest k h in let b = head_front text (Cast at' to' e') ts end m g in absurd (omega arith)
 same_head text n (Call name es) (Index v vt w) ts rest end u low k m r z h g = absurd m
 same_head text n (Call name es) (Postfix v op2 vt) ts rest end u low k m r z h g = absurd m
 same_head text n (Call name es) (Binary v vt op2 w) ts rest end u low k m r z h g = absurd m
 same_head text n (Call name es) (Conditional y vt v w) ts rest end u low k m r z h g = absurd m
 same_head text n (Call name es) (Assign v vt op2 w) ts rest end u low k m r z h g = absurd m
 same_head text n (Call name es) (Comma v vt w) ts rest end u low k m r z h g = absurd m
-same_head text n (Parentheses at e) (Constant at' literal') ts rest end u low k m r z h g = let a = head_front text (Parentheses at e) ts rest k h in let b = head_front text (Constant at' literal') ts end m g in absurd (omega arith)
-same_head text n (Parentheses at e) (Variable name') ts rest end u low k m r z h g = let a = head_front text (Parentheses at e) ts rest k h in let b = head_front text (Variable name') ts end m g in absurd (omega arith)
-same_head text n (Parentheses at e) (Information at' field') ts rest end u low k m r z h g = let a = head_front text (Parentheses at e) ts rest k h in let b = head_front text (Information at' field') ts end m g in absurd (omega arith)
-same_head text n (Parentheses at e) (Call name' es') ts rest end u low k m r z h g = let a = head_front text (Parentheses at e) ts rest k h in let b = head_front text (Call name' es') ts end m g in absurd (omega arith)
 same_head text n (Parentheses at e) (Parentheses at' e') ts rest end u low k m r z h g =
     let a = punctuator_same punctuators.OpenParenthesis punctuators.OpenParenthesis at at' ts ts
     h.after_opening g.after_opening refl h.opening g.opening in
@@ -328,8 +274,6 @@ same_head text n (Parentheses at e) (Parentheses at' e') ts rest end u low k m r
       has_same punctuators.CloseParenthesis h.after_inner g.after_inner rest end b.1 h.closing
           g.closing,
     )
-same_head text n (Parentheses at e) (Prefix at' op' e') ts rest end u low k m r z h g = let a = head_front text (Parentheses at e) ts rest k h in let b = head_front text (Prefix at' op' e') ts end m g in absurd (omega arith)
-same_head text n (Parentheses at e) (Unary at' op' e') ts rest end u low k m r z h g = let a = head_front text (Parentheses at e) ts rest k h in let b = head_front text (Unary at' op' e') ts end m g in absurd (omega arith)
 same_head text n (Parentheses at e) (Cast at' to' e') ts rest end u low k m r z h g =
     let a = punctuator_same punctuators.OpenParenthesis punctuators.OpenParenthesis at at' ts ts
     h.after_opening g.operator.after_opening refl h.opening g.operator.opening in
@@ -343,48 +287,30 @@ same_head text n (Parentheses at e) (Binary v vt op2 w) ts rest end u low k m r 
 same_head text n (Parentheses at e) (Conditional y vt v w) ts rest end u low k m r z h g = absurd m
 same_head text n (Parentheses at e) (Assign v vt op2 w) ts rest end u low k m r z h g = absurd m
 same_head text n (Parentheses at e) (Comma v vt w) ts rest end u low k m r z h g = absurd m
-same_head text n (Prefix at op e) (Constant at' literal') ts rest end u low k m r z h g = let a = head_front text (Prefix at op e) ts rest k h in let b = head_front text (Constant at' literal') ts end m g in absurd (omega arith)
-same_head text n (Prefix at op e) (Variable name') ts rest end u low k m r z h g = let a = head_front text (Prefix at op e) ts rest k h in let b = head_front text (Variable name') ts end m g in absurd (omega arith)
-same_head text n (Prefix at op e) (Information at' field') ts rest end u low k m r z h g = let a = head_front text (Prefix at op e) ts rest k h in let b = head_front text (Information at' field') ts end m g in absurd (omega arith)
-same_head text n (Prefix at op e) (Call name' es') ts rest end u low k m r z h g = let a = head_front text (Prefix at op e) ts rest k h in let b = head_front text (Call name' es') ts end m g in absurd (omega arith)
-same_head text n (Prefix at op e) (Parentheses at' e') ts rest end u low k m r z h g = let a = head_front text (Prefix at op e) ts rest k h in let b = head_front text (Parentheses at' e') ts end m g in absurd (omega arith)
 same_head text n (Prefix at op e) (Prefix at' op' e') ts rest end u low k m r z h g =
     let a = punctuator_same (increment_punctuator op) (increment_punctuator op') at at' ts ts
     h.after_operator g.after_operator refl h.operator g.operator in
     let b = part text n unary e e' h.after_operator g.after_operator rest end u a.2 (omega arith)
     h.operand g.operand r z in
     (ap (λ (x : ℕ). Prefix x op e) a.1 ∙ ap (λ (x : Increment). Prefix at' x e) (same_increment op op' a.0) ∙ ap (λ (x : Expression). Prefix at' op' x) b.0, b.1)
-same_head text n (Prefix at op e) (Unary at' op' e') ts rest end u low k m r z h g = let a = head_front text (Prefix at op e) ts rest k h in let b = head_front text (Unary at' op' e') ts end m g in absurd (omega arith)
-same_head text n (Prefix at op e) (Cast at' to' e') ts rest end u low k m r z h g = let a = head_front text (Prefix at op e) ts rest k h in let b = head_front text (Cast at' to' e') ts end m g in absurd (omega arith)
 same_head text n (Prefix at op e) (Index v vt w) ts rest end u low k m r z h g = absurd m
 same_head text n (Prefix at op e) (Postfix v op2 vt) ts rest end u low k m r z h g = absurd m
 same_head text n (Prefix at op e) (Binary v vt op2 w) ts rest end u low k m r z h g = absurd m
 same_head text n (Prefix at op e) (Conditional y vt v w) ts rest end u low k m r z h g = absurd m
 same_head text n (Prefix at op e) (Assign v vt op2 w) ts rest end u low k m r z h g = absurd m
 same_head text n (Prefix at op e) (Comma v vt w) ts rest end u low k m r z h g = absurd m
-same_head text n (Unary at op e) (Constant at' literal') ts rest end u low k m r z h g = let a = head_front text (Unary at op e) ts rest k h in let b = head_front text (Constant at' literal') ts end m g in absurd (omega arith)
-same_head text n (Unary at op e) (Variable name') ts rest end u low k m r z h g = let a = head_front text (Unary at op e) ts rest k h in let b = head_front text (Variable name') ts end m g in absurd (omega arith)
-same_head text n (Unary at op e) (Information at' field') ts rest end u low k m r z h g = let a = head_front text (Unary at op e) ts rest k h in let b = head_front text (Information at' field') ts end m g in absurd (omega arith)
-same_head text n (Unary at op e) (Call name' es') ts rest end u low k m r z h g = let a = head_front text (Unary at op e) ts rest k h in let b = head_front text (Call name' es') ts end m g in absurd (omega arith)
-same_head text n (Unary at op e) (Parentheses at' e') ts rest end u low k m r z h g = let a = head_front text (Unary at op e) ts rest k h in let b = head_front text (Parentheses at' e') ts end m g in absurd (omega arith)
-same_head text n (Unary at op e) (Prefix at' op' e') ts rest end u low k m r z h g = let a = head_front text (Unary at op e) ts rest k h in let b = head_front text (Prefix at' op' e') ts end m g in absurd (omega arith)
 same_head text n (Unary at op e) (Unary at' op' e') ts rest end u low k m r z h g =
     let a = punctuator_same (unary_punctuator op) (unary_punctuator op') at at' ts ts
     h.after_operator g.after_operator refl h.operator g.operator in
     let b = part text n cast e e' h.after_operator g.after_operator rest end u a.2 (omega arith)
     h.operand g.operand r z in
     (ap (λ (x : ℕ). Unary x op e) a.1 ∙ ap (λ (x : UnaryOperator). Unary at' x e) (same_unary op op' a.0) ∙ ap (λ (x : Expression). Unary at' op' x) b.0, b.1)
-same_head text n (Unary at op e) (Cast at' to' e') ts rest end u low k m r z h g = let a = head_front text (Unary at op e) ts rest k h in let b = head_front text (Cast at' to' e') ts end m g in absurd (omega arith)
 same_head text n (Unary at op e) (Index v vt w) ts rest end u low k m r z h g = absurd m
 same_head text n (Unary at op e) (Postfix v op2 vt) ts rest end u low k m r z h g = absurd m
 same_head text n (Unary at op e) (Binary v vt op2 w) ts rest end u low k m r z h g = absurd m
 same_head text n (Unary at op e) (Conditional y vt v w) ts rest end u low k m r z h g = absurd m
 same_head text n (Unary at op e) (Assign v vt op2 w) ts rest end u low k m r z h g = absurd m
 same_head text n (Unary at op e) (Comma v vt w) ts rest end u low k m r z h g = absurd m
-same_head text n (Cast at to e) (Constant at' literal') ts rest end u low k m r z h g = let a = head_front text (Cast at to e) ts rest k h in let b = head_front text (Constant at' literal') ts end m g in absurd (omega arith)
-same_head text n (Cast at to e) (Variable name') ts rest end u low k m r z h g = let a = head_front text (Cast at to e) ts rest k h in let b = head_front text (Variable name') ts end m g in absurd (omega arith)
-same_head text n (Cast at to e) (Information at' field') ts rest end u low k m r z h g = let a = head_front text (Cast at to e) ts rest k h in let b = head_front text (Information at' field') ts end m g in absurd (omega arith)
-same_head text n (Cast at to e) (Call name' es') ts rest end u low k m r z h g = let a = head_front text (Cast at to e) ts rest k h in let b = head_front text (Call name' es') ts end m g in absurd (omega arith)
 same_head text n (Cast at to e) (Parentheses at' e') ts rest end u low k m r z h g =
     let a = punctuator_same punctuators.OpenParenthesis punctuators.OpenParenthesis at at' ts ts
     h.operator.after_opening g.after_opening refl h.operator.opening g.opening in
@@ -392,8 +318,6 @@ same_head text n (Cast at to e) (Parentheses at' e') ts rest end u low k m r z h
     let c = base_front to.base h.operator.after_opening h.operator.inner.0 h.operator.inner.1 in
     let d = ap front a.2 in
     absurd (omega arith)
-same_head text n (Cast at to e) (Prefix at' op' e') ts rest end u low k m r z h g = let a = head_front text (Cast at to e) ts rest k h in let b = head_front text (Prefix at' op' e') ts end m g in absurd (omega arith)
-same_head text n (Cast at to e) (Unary at' op' e') ts rest end u low k m r z h g = let a = head_front text (Cast at to e) ts rest k h in let b = head_front text (Unary at' op' e') ts end m g in absurd (omega arith)
 same_head text n (Cast at to e) (Cast at' to' e') ts rest end u low k m r z h g =
     let a = punctuator_same punctuators.OpenParenthesis punctuators.OpenParenthesis at at' ts ts
     h.operator.after_opening g.operator.after_opening refl h.operator.opening
@@ -422,6 +346,7 @@ same_head text n (Binary a at op b) f ts rest end u low k m r z h g = absurd k
 same_head text n (Conditional c at a b) f ts rest end u low k m r z h g = absurd k
 same_head text n (Assign a at op b) f ts rest end u low k m r z h g = absurd k
 same_head text n (Comma a at b) f ts rest end u low k m r z h g = absurd k
+same_head text n e f ts rest end u low k m r z h g = let a = head_front text e ts rest k h in let b = head_front text f ts end m g in absurd (omega arith)
 
 -- ---- all expressions
 

@@ -22,20 +22,8 @@ abbrev pub Below : List ℕ → ℕ → Type 0
 Below text n = (l : ℕ) (e f : Expression) (ts rest end : List Token) → height e < n → Derives text l e ts rest → Derives text l f ts end → Stops l rest → Stops l end → (e ≡ f) × (rest ≡ end)
 
 pub rank_low : (e : Expression) → rank e ≤ comma
-rank_low (Constant at literal) = omega arith
-rank_low (Variable name) = omega arith
-rank_low (Information at field) = omega arith
-rank_low (Call name es) = omega arith
-rank_low (Parentheses at e) = omega arith
-rank_low (Index a at i) = omega arith
-rank_low (Postfix e op at) = omega arith
-rank_low (Prefix at op e) = omega arith
-rank_low (Unary at op e) = omega arith
-rank_low (Cast at to e) = omega arith
 rank_low (Binary a at op b) = let x = (levels op).1 in omega arith
-rank_low (Conditional c at a b) = omega arith
-rank_low (Assign a at op b) = omega arith
-rank_low (Comma a at b) = omega arith
+rank_low e = omega arith
 
 pub part : (text : List ℕ) (n l : ℕ) (e f : Expression) (ts us rest end : List Token) → Below text n
     → ts ≡ us → height e < n → Derives text l e ts rest → Derives text l f us end → Stops l rest
@@ -84,9 +72,6 @@ same_tail text n left left' (At at i) (After op' to) ts rest end u low r z h g =
     (punctuator_same (increment_punctuator op') punctuators.OpenBracket to at ts ts end
     h.after_opening refl g h.opening).0)
 same_tail text n left left' (At at i) (With to op' f') ts rest end u low r z h g = let p = step_follows text left (At at i) ts rest h in let q = step_follows text left' (With to op' f') ts end g in let x' = (levels op').0 in let y' = (levels op').1 in absurd (omega arith)
-same_tail text n left left' (At at i) (Choose to f' g'') ts rest end u low r z h g = let p = step_follows text left (At at i) ts rest h in let q = step_follows text left' (Choose to f' g'') ts end g in absurd (omega arith)
-same_tail text n left left' (At at i) (Set to op' f') ts rest end u low r z h g = let p = step_follows text left (At at i) ts rest h in let q = step_follows text left' (Set to op' f') ts end g in absurd (omega arith)
-same_tail text n left left' (At at i) (And to f') ts rest end u low r z h g = let p = step_follows text left (At at i) ts rest h in let q = step_follows text left' (And to f') ts end g in absurd (omega arith)
 same_tail text n left left' (After op at) (At to j) ts rest end u low r z h g =
     absurd (bracket_not op
     (punctuator_same (increment_punctuator op) punctuators.OpenBracket at to ts ts rest
@@ -95,9 +80,6 @@ same_tail text n left left' (After op at) (After op' to) ts rest end u low r z h
     let a = punctuator_same (increment_punctuator op) (increment_punctuator op') at to ts ts rest end refl h g in
     (ap (λ (x : Increment). After x at) (same_increment op op' a.0) ∙ ap (λ (x : ℕ). After op' x) a.1, a.2)
 same_tail text n left left' (After op at) (With to op' f') ts rest end u low r z h g = let p = step_follows text left (After op at) ts rest h in let q = step_follows text left' (With to op' f') ts end g in let x' = (levels op').0 in let y' = (levels op').1 in absurd (omega arith)
-same_tail text n left left' (After op at) (Choose to f' g'') ts rest end u low r z h g = let p = step_follows text left (After op at) ts rest h in let q = step_follows text left' (Choose to f' g'') ts end g in absurd (omega arith)
-same_tail text n left left' (After op at) (Set to op' f') ts rest end u low r z h g = let p = step_follows text left (After op at) ts rest h in let q = step_follows text left' (Set to op' f') ts end g in absurd (omega arith)
-same_tail text n left left' (After op at) (And to f') ts rest end u low r z h g = let p = step_follows text left (After op at) ts rest h in let q = step_follows text left' (And to f') ts end g in absurd (omega arith)
 same_tail text n left left' (With at op f) (At to j) ts rest end u low r z h g = let p = step_follows text left (With at op f) ts rest h in let q = step_follows text left' (At to j) ts end g in let x = (levels op).0 in let y = (levels op).1 in absurd (omega arith)
 same_tail text n left left' (With at op f) (After op' to) ts rest end u low r z h g = let p = step_follows text left (With at op f) ts rest h in let q = step_follows text left' (After op' to) ts end g in let x = (levels op).0 in let y = (levels op).1 in absurd (omega arith)
 same_tail text n left left' (With at op f) (With to op' f') ts rest end u low r z h g =
@@ -114,8 +96,6 @@ same_tail text n left left' (With at op f) (With to op' f') ts rest end u low r 
 same_tail text n left left' (With at op f) (Choose to f' g'') ts rest end u low r z h g = let p = step_follows text left (With at op f) ts rest h in let q = step_follows text left' (Choose to f' g'') ts end g in let x = (levels op).0 in let y = (levels op).1 in absurd (omega arith)
 same_tail text n left left' (With at op f) (Set to op' f') ts rest end u low r z h g = let p = step_follows text left (With at op f) ts rest h in let q = step_follows text left' (Set to op' f') ts end g in let x = (levels op).0 in let y = (levels op).1 in absurd (omega arith)
 same_tail text n left left' (With at op f) (And to f') ts rest end u low r z h g = let p = step_follows text left (With at op f) ts rest h in let q = step_follows text left' (And to f') ts end g in let x = (levels op).0 in let y = (levels op).1 in absurd (omega arith)
-same_tail text n left left' (Choose at f g') (At to j) ts rest end u low r z h g = let p = step_follows text left (Choose at f g') ts rest h in let q = step_follows text left' (At to j) ts end g in absurd (omega arith)
-same_tail text n left left' (Choose at f g') (After op' to) ts rest end u low r z h g = let p = step_follows text left (Choose at f g') ts rest h in let q = step_follows text left' (After op' to) ts end g in absurd (omega arith)
 same_tail text n left left' (Choose at f g') (With to op' f') ts rest end u low r z h g = let p = step_follows text left (Choose at f g') ts rest h in let q = step_follows text left' (With to op' f') ts end g in let x' = (levels op').0 in let y' = (levels op').1 in absurd (omega arith)
 same_tail text n left left' (Choose at f g') (Choose to f' g'') ts rest end u low r z h g =
     let a = punctuator_same punctuators.Question punctuators.Question at to ts ts
@@ -132,12 +112,7 @@ same_tail text n left left' (Choose at f g') (Choose to f' g'') ts rest end u lo
     let d = part text n conditional g' g'' h.after_operator g.after_operator rest end u c
     (omega arith) h.operand g.operand r z in
     (ap (λ (x : ℕ). Choose x f g') a.1 ∙ ap (λ (x : Expression). Choose to x g') b.0 ∙ ap (λ (x : Expression). Choose to f' x) d.0, d.1)
-same_tail text n left left' (Choose at f g') (Set to op' f') ts rest end u low r z h g = let p = step_follows text left (Choose at f g') ts rest h in let q = step_follows text left' (Set to op' f') ts end g in absurd (omega arith)
-same_tail text n left left' (Choose at f g') (And to f') ts rest end u low r z h g = let p = step_follows text left (Choose at f g') ts rest h in let q = step_follows text left' (And to f') ts end g in absurd (omega arith)
-same_tail text n left left' (Set at op f) (At to j) ts rest end u low r z h g = let p = step_follows text left (Set at op f) ts rest h in let q = step_follows text left' (At to j) ts end g in absurd (omega arith)
-same_tail text n left left' (Set at op f) (After op' to) ts rest end u low r z h g = let p = step_follows text left (Set at op f) ts rest h in let q = step_follows text left' (After op' to) ts end g in absurd (omega arith)
 same_tail text n left left' (Set at op f) (With to op' f') ts rest end u low r z h g = let p = step_follows text left (Set at op f) ts rest h in let q = step_follows text left' (With to op' f') ts end g in let x' = (levels op').0 in let y' = (levels op').1 in absurd (omega arith)
-same_tail text n left left' (Set at op f) (Choose to f' g'') ts rest end u low r z h g = let p = step_follows text left (Set at op f) ts rest h in let q = step_follows text left' (Choose to f' g'') ts end g in absurd (omega arith)
 same_tail text n left left' (Set at op f) (Set to op' f') ts rest end u low r z h g =
     let a = punctuator_same (assignment_punctuator op) (assignment_punctuator op') at to ts ts
     h.after_operator g.after_operator refl h.operator g.operator in
@@ -145,18 +120,14 @@ same_tail text n left left' (Set at op f) (Set to op' f') ts rest end u low r z 
     let b = part text n assignment f f' h.after_operator g.after_operator rest end u a.2
     (omega arith) h.operand g.operand r z in
     (ap (λ (y : ℕ). Set y op f) a.1 ∙ ap (λ (y : Option Arithmetic). Set to y f) q ∙ ap (λ (y : Expression). Set to op' y) b.0, b.1)
-same_tail text n left left' (Set at op f) (And to f') ts rest end u low r z h g = let p = step_follows text left (Set at op f) ts rest h in let q = step_follows text left' (And to f') ts end g in absurd (omega arith)
-same_tail text n left left' (And at f) (At to j) ts rest end u low r z h g = let p = step_follows text left (And at f) ts rest h in let q = step_follows text left' (At to j) ts end g in absurd (omega arith)
-same_tail text n left left' (And at f) (After op' to) ts rest end u low r z h g = let p = step_follows text left (And at f) ts rest h in let q = step_follows text left' (After op' to) ts end g in absurd (omega arith)
 same_tail text n left left' (And at f) (With to op' f') ts rest end u low r z h g = let p = step_follows text left (And at f) ts rest h in let q = step_follows text left' (With to op' f') ts end g in let x' = (levels op').0 in let y' = (levels op').1 in absurd (omega arith)
-same_tail text n left left' (And at f) (Choose to f' g'') ts rest end u low r z h g = let p = step_follows text left (And at f) ts rest h in let q = step_follows text left' (Choose to f' g'') ts end g in absurd (omega arith)
-same_tail text n left left' (And at f) (Set to op' f') ts rest end u low r z h g = let p = step_follows text left (And at f) ts rest h in let q = step_follows text left' (Set to op' f') ts end g in absurd (omega arith)
 same_tail text n left left' (And at f) (And to f') ts rest end u low r z h g =
     let a = punctuator_same punctuators.Comma punctuators.Comma at to ts ts h.after_operator
     g.after_operator refl h.operator g.operator in
     let b = part text n assignment f f' h.after_operator g.after_operator rest end u a.2
     (omega arith) h.operand g.operand r z in
     (ap (λ (y : ℕ). And y f) a.1 ∙ ap (λ (y : Expression). And to y) b.0, b.1)
+same_tail text n left left' s s' ts rest end u low r z h g = let p = step_follows text left s ts rest h in let q = step_follows text left' s' ts end g in absurd (omega arith)
 
 pub same_run : (text : List ℕ) (n l : ℕ) (left : Expression) (steps steps' : List Step) (ts : List Token) (e f : Expression) (rest end : List Token) → Below text n → height e ≤ n → rank e ≤ l → rank f ≤ l → Stops l rest → Stops l end → Run text left steps ts e rest → Run text left steps' ts f end → (e ≡ f) × (rest ≡ end)
 same_run text n l left [] [] ts e f rest end u low a b s z h g = (sym h.0 ∙ g.0, sym h.1 ∙ g.1)

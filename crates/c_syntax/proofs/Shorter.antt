@@ -13,19 +13,7 @@ use Rattle.c_syntax.proofs.Nodes as counted
 
 some_nodes : (e : Expression) → 1 ≤ nodes e
 some_nodes (Constant at literal) = omega arith
-some_nodes (Variable name) = omega arith
-some_nodes (Information at f) = omega arith
-some_nodes (Call name es) = omega arith
-some_nodes (Parentheses at e) = omega arith
-some_nodes (Index e at i) = omega arith
-some_nodes (Postfix e op at) = omega arith
-some_nodes (Prefix at op e) = omega arith
-some_nodes (Unary at op e) = omega arith
-some_nodes (Cast at to e) = omega arith
-some_nodes (Binary e at op f) = omega arith
-some_nodes (Conditional e at f g) = omega arith
-some_nodes (Assign e at op f) = omega arith
-some_nodes (Comma e at f) = omega arith
+some_nodes e = omega arith
 
 pub expression : (text : List ℕ) (e : Expression) (ts rest : List Token) → SpellsExpression text e ts rest → length rest < length ts
 expression text e ts rest h =
@@ -33,19 +21,7 @@ expression text e ts rest h =
 
 some_nodes_of_statement : (s : Statement) → 1 ≤ nodes_of_statement s
 some_nodes_of_statement (Declare b ls) = omega arith
-some_nodes_of_statement (Block ss) = omega arith
-some_nodes_of_statement (Evaluate e) = omega arith
-some_nodes_of_statement (If at c s) = omega arith
-some_nodes_of_statement (IfElse at c s t) = omega arith
-some_nodes_of_statement (While at c s) = omega arith
-some_nodes_of_statement (DoWhile s at c) = omega arith
-some_nodes_of_statement (For at f c n s) = omega arith
-some_nodes_of_statement (Return at e) = omega arith
-some_nodes_of_statement (Break at) = omega arith
-some_nodes_of_statement (Continue at) = omega arith
-some_nodes_of_statement (Leave at) = omega arith
-some_nodes_of_statement (TryExcept body at f handler) = omega arith
-some_nodes_of_statement (TryFinally body at last) = omega arith
+some_nodes_of_statement s = omega arith
 
 pub item : (text : List ℕ) (s : Statement) (ts rest : List Token) → IsBlockItem text s ts rest → length rest < length ts
 item text s ts rest h =

@@ -68,18 +68,10 @@ one_more text e s ts end h c = record {
 
 pub spine : (text : List ℕ) (e : Expression) (ts end : List Token) → SpellsExpression text e ts end
     → Spine text e ts end
-spine text (Constant at literal) ts end h = alone text (Constant at literal) ts end tt h
-spine text (Variable name) ts end h = alone text (Variable name) ts end tt h
-spine text (Information at field) ts end h = alone text (Information at field) ts end tt h
-spine text (Call name es) ts end h = alone text (Call name es) ts end tt h
-spine text (Parentheses at e) ts end h = alone text (Parentheses at e) ts end tt h
 spine text (Index e at i) ts end h =
     one_more text e (At at i) ts end h (spine text e ts h.after_operand h.operand.spells)
 spine text (Postfix e op at) ts end h =
     one_more text e (After op at) ts end h (spine text e ts h.after_operand h.operand.spells)
-spine text (Prefix at op e) ts end h = alone text (Prefix at op e) ts end tt h
-spine text (Unary at op e) ts end h = alone text (Unary at op e) ts end tt h
-spine text (Cast at to e) ts end h = alone text (Cast at to e) ts end tt h
 spine text (Binary e at op f) ts end h =
     one_more text e (With at op f) ts end h (spine text e ts h.after_operand h.operand.spells)
 spine text (Conditional e at f g) ts end h =
@@ -88,6 +80,7 @@ spine text (Assign e at op f) ts end h =
     one_more text e (Set at op f) ts end h (spine text e ts h.after_operand h.operand.spells)
 spine text (Comma e at f) ts end h =
     one_more text e (And at f) ts end h (spine text e ts h.after_operand h.operand.spells)
+spine text e ts end h = alone text e ts end tt h
 
 -- ---- levels
 
@@ -95,25 +88,13 @@ arithmetic_levels : (op : Arithmetic)
     → (cast < level_of_arithmetic op) × (level_of_arithmetic op ≤ logical_or) ×
     (punctuator_follows (punctuator_of_arithmetic op) ≡ level_of_arithmetic op)
 arithmetic_levels arithmetic.Multiply = (omega arith, omega arith, refl)
-arithmetic_levels arithmetic.Divide = (omega arith, omega arith, refl)
-arithmetic_levels arithmetic.Remainder = (omega arith, omega arith, refl)
-arithmetic_levels arithmetic.Add = (omega arith, omega arith, refl)
-arithmetic_levels arithmetic.Subtract = (omega arith, omega arith, refl)
-arithmetic_levels arithmetic.ShiftLeft = (omega arith, omega arith, refl)
-arithmetic_levels arithmetic.ShiftRight = (omega arith, omega arith, refl)
-arithmetic_levels arithmetic.And = (omega arith, omega arith, refl)
-arithmetic_levels arithmetic.ExclusiveOr = (omega arith, omega arith, refl)
-arithmetic_levels arithmetic.Or = (omega arith, omega arith, refl)
+arithmetic_levels op = (omega arith, omega arith, refl)
 
 comparison_levels : (op : Comparison)
     → (cast < level_of_comparison op) × (level_of_comparison op ≤ logical_or) ×
     (punctuator_follows (punctuator_of_comparison op) ≡ level_of_comparison op)
 comparison_levels comparisons.Less = (omega arith, omega arith, refl)
-comparison_levels comparisons.Greater = (omega arith, omega arith, refl)
-comparison_levels comparisons.LessEqual = (omega arith, omega arith, refl)
-comparison_levels comparisons.GreaterEqual = (omega arith, omega arith, refl)
-comparison_levels comparisons.Equal = (omega arith, omega arith, refl)
-comparison_levels comparisons.NotEqual = (omega arith, omega arith, refl)
+comparison_levels op = (omega arith, omega arith, refl)
 
 pub levels : (op : BinaryOperator)
     → (cast < level op) × (level op ≤ logical_or) ×
@@ -131,15 +112,7 @@ assignment_follows : (op : Option Arithmetic)
     → punctuator_follows (assignment_punctuator op) ≡ assignment
 assignment_follows None = refl
 assignment_follows (Some arithmetic.Multiply) = refl
-assignment_follows (Some arithmetic.Divide) = refl
-assignment_follows (Some arithmetic.Remainder) = refl
-assignment_follows (Some arithmetic.Add) = refl
-assignment_follows (Some arithmetic.Subtract) = refl
-assignment_follows (Some arithmetic.ShiftLeft) = refl
-assignment_follows (Some arithmetic.ShiftRight) = refl
-assignment_follows (Some arithmetic.And) = refl
-assignment_follows (Some arithmetic.ExclusiveOr) = refl
-assignment_follows (Some arithmetic.Or) = refl
+assignment_follows op = refl
 
 -- the level of a step is that of the punctuator with which it begins
 pub follows_punctuator : (s : Punctuator) (at : ℕ) (ts rest : List Token) (l : ℕ) → IsPunctuator s at ts rest → punctuator_follows s ≡ l → follows ts ≡ l
@@ -165,57 +138,11 @@ step_follows text e (And at f) ts rest h =
 -- no punctuator is after an operand at the levels of unary operators and casts
 punctuator_gap : (s : Punctuator) → unary < punctuator_follows s → cast < punctuator_follows s
 punctuator_gap punctuators.OpenParenthesis h = omega arith
-punctuator_gap punctuators.CloseParenthesis h = omega arith
-punctuator_gap punctuators.OpenBracket h = omega arith
-punctuator_gap punctuators.CloseBracket h = omega arith
-punctuator_gap punctuators.OpenBrace h = omega arith
-punctuator_gap punctuators.CloseBrace h = omega arith
-punctuator_gap punctuators.Semicolon h = omega arith
-punctuator_gap punctuators.Comma h = omega arith
-punctuator_gap punctuators.Question h = omega arith
-punctuator_gap punctuators.Colon h = omega arith
-punctuator_gap punctuators.Arrow h = omega arith
-punctuator_gap punctuators.Assign h = omega arith
-punctuator_gap punctuators.PlusAssign h = omega arith
-punctuator_gap punctuators.MinusAssign h = omega arith
-punctuator_gap punctuators.StarAssign h = omega arith
-punctuator_gap punctuators.SlashAssign h = omega arith
-punctuator_gap punctuators.PercentAssign h = omega arith
-punctuator_gap punctuators.AmpersandAssign h = omega arith
-punctuator_gap punctuators.BarAssign h = omega arith
-punctuator_gap punctuators.CaretAssign h = omega arith
-punctuator_gap punctuators.ShiftLeftAssign h = omega arith
-punctuator_gap punctuators.ShiftRightAssign h = omega arith
-punctuator_gap punctuators.BarBar h = omega arith
-punctuator_gap punctuators.AmpersandAmpersand h = omega arith
-punctuator_gap punctuators.Bar h = omega arith
-punctuator_gap punctuators.Caret h = omega arith
-punctuator_gap punctuators.Ampersand h = omega arith
-punctuator_gap punctuators.Equal h = omega arith
-punctuator_gap punctuators.NotEqual h = omega arith
-punctuator_gap punctuators.Less h = omega arith
-punctuator_gap punctuators.Greater h = omega arith
-punctuator_gap punctuators.LessEqual h = omega arith
-punctuator_gap punctuators.GreaterEqual h = omega arith
-punctuator_gap punctuators.ShiftLeft h = omega arith
-punctuator_gap punctuators.ShiftRight h = omega arith
-punctuator_gap punctuators.Plus h = omega arith
-punctuator_gap punctuators.Minus h = omega arith
-punctuator_gap punctuators.Star h = omega arith
-punctuator_gap punctuators.Slash h = omega arith
-punctuator_gap punctuators.Percent h = omega arith
-punctuator_gap punctuators.Exclamation h = omega arith
-punctuator_gap punctuators.Tilde h = omega arith
-punctuator_gap punctuators.PlusPlus h = omega arith
-punctuator_gap punctuators.MinusMinus h = omega arith
+punctuator_gap s h = omega arith
 
 kind_gap : (k : Kind) → unary < kind_follows k → cast < kind_follows k
-kind_gap kinds.Identifier h = omega arith
-kind_gap (kinds.Keyword k) h = omega arith
-kind_gap (kinds.Reserved r) h = omega arith
-kind_gap (kinds.Integer value type) h = omega arith
-kind_gap (kinds.CharacterConstant value) h = omega arith
 kind_gap (kinds.Punctuator s) h = punctuator_gap s h
+kind_gap k h = omega arith
 
 gap : (ts : List Token) → unary < follows ts → cast < follows ts
 gap [] h = omega arith
@@ -240,19 +167,12 @@ reach (Comma a at b) = assignment
 
 pub closes : (e : Expression) (ts : List Token) → reach e < follows ts → Closes e ts
 closes (Constant at literal) ts h = tt
-closes (Variable name) ts h = h
 closes (Information at field) ts h = tt
 closes (Call name es) ts h = tt
 closes (Parentheses at e) ts h = tt
 closes (Index a at i) ts h = tt
 closes (Postfix e op at) ts h = tt
-closes (Prefix at op e) ts h = h
-closes (Unary at op e) ts h = h
-closes (Cast at to e) ts h = h
-closes (Binary a at op b) ts h = h
-closes (Conditional c at a b) ts h = h
-closes (Assign a at op b) ts h = h
-closes (Comma a at b) ts h = h
+closes e ts h = h
 
 -- what follows an expression of a level b ends its last operand too
 pub record Wide (b f : ℕ) : Type 0 where
@@ -263,13 +183,6 @@ pub record Wide (b f : ℕ) : Type 0 where
   from_assignment : assignment ≤ b → assignment < f
 
 pub reaches : (e : Expression) (b f : ℕ) → rank e ≤ b → Wide b f → reach e < f
-reaches (Constant at literal) b f h w = w.positive
-reaches (Variable name) b f h w = w.positive
-reaches (Information at field) b f h w = w.positive
-reaches (Call name es) b f h w = w.positive
-reaches (Parentheses at e) b f h w = w.positive
-reaches (Index a at i) b f h w = w.positive
-reaches (Postfix e op at) b f h w = w.positive
 reaches (Prefix at op e) b f h w = let x = w.from_unary (omega arith) in omega arith
 reaches (Unary at op e) b f h w = let x = w.from_unary (omega arith) in omega arith
 reaches (Cast at to e) b f h w = let x = w.from_unary (omega arith) in omega arith
@@ -277,6 +190,7 @@ reaches (Binary a at op c) b f h w = let x = w.low in let y = (levels op).0 in o
 reaches (Conditional c at a d) b f h w = let x = w.from_conditional (omega arith) in omega arith
 reaches (Assign a at op c) b f h w = let x = w.from_assignment (omega arith) in omega arith
 reaches (Comma a at c) b f h w = let x = w.from_assignment (omega arith) in omega arith
+reaches e b f h w = w.positive
 
 pub wide_step : (s : Step) (e : Expression) → Wide (bound s) (rank (apply e s))
 wide_step (At at i) e = record {
@@ -359,11 +273,7 @@ run_rank text left (x ∷ steps) ts e end r =
 
 step_height : (s : Step) (e : Expression) → height e ≤ height (apply e s)
 step_height (At at i) e = omega arith
-step_height (After op at) e = omega arith
-step_height (With at op f) e = omega arith
-step_height (Choose at f g) e = omega arith
-step_height (Set at op f) e = omega arith
-step_height (And at f) e = omega arith
+step_height s e = omega arith
 
 pub run_height : (text : List ℕ) (left : Expression) (steps : List Step) (ts : List Token) (e : Expression) (end : List Token) → Run text left steps ts e end → height left ≤ height e
 run_height text left [] ts e end r = let p : height left ≡ height e = ap height r.0 in omega arith
