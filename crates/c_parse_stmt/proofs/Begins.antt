@@ -73,8 +73,8 @@ expressed_by_keyword text s keywords.GetExceptionInformation at end h = record {
     };
   };
   over = refl;
-expressed_by_keyword text s k at end h = absurd (omega arith)
 }
+expressed_by_keyword text s k at end h = absurd (omega arith)
 
 expressed_by_unary : (text : List ℕ) (op : UnaryOperator) (at end : ℕ) → Expressed text (token (kinds.Punctuator (unary_punctuator op)) at end)
 expressed_by_unary text op at end = record {
