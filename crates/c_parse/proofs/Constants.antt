@@ -1,5 +1,5 @@
 -- Constants and initialisers are read as far as they go.
-use Rattle.std.proofs.Common.{◌≡◌, ◌<◌, ℕ, Bool, true, false, List, [], ◌∷◌, ◌++◌, length, Some, None, refl, sym, ap, ◌∙◌, subst, arith}
+use Rattle.std.proofs.Common.{◌≡◌, ℕ, Bool, true, false, List, [], ◌∷◌, ◌++◌, Some, None, refl, sym, ap, ◌∙◌, subst, arith}
 use Rattle.std.proofs.lemmas.List.{append-nil}
 use Rattle.c_lex.specs.declared.punctuator.Punctuator.TheVariants as punctuators
 use Rattle.c_lex.specs.declared.token.IntegerType.TheVariants as types

@@ -1,5 +1,5 @@
 -- ExternalDeclaration declarations are read by their heads.
-use Rattle.std.proofs.Common.{◌≡◌, ◌≤◌, ◌<◌, ◌+◌, ◌⊎◌, ℕ, List, [], ◌∷◌, ◌++◌, length, length-append, refl, sym, ap, ◌∙◌, subst, arith, inl, inr, Some, None}
+use Rattle.std.proofs.Common.{◌≡◌, ◌≤◌, ◌+◌, ◌⊎◌, ℕ, List, [], ◌∷◌, ◌++◌, length, length-append, refl, sym, ap, ◌∙◌, subst, arith, inl, inr, Some, None}
 use Rattle.std.proofs.lemmas.List.{append_cancel_right}
 use Rattle.c_lex.specs.declared.punctuator.Punctuator.TheVariants as punctuators
 use Rattle.c_lex.specs.declared.token.Kind.TheVariants as kinds
@@ -11,8 +11,8 @@ use Rattle.c_syntax.specs.declared.expression.CType.{CType}
 use Rattle.c_syntax.specs.declared.expression.Identifier.{Identifier}
 use Rattle.c_syntax.specs.Faults.{SameFirst, place, Failed, Wraps}
 use Rattle.c_syntax.specs.Limits.{end_of_globals, funclets_of_all, every_limit, FunctionWithinFirst}
-use Rattle.c_syntax.specs.Program.{Global, ExternalDeclaration, Globals, Function}
-use Rattle.c_syntax.specs.Programs.{AreMoreGlobals, AreGlobals, AreMoreParameters, AreParameters, IsExternalDeclaration}
+use Rattle.c_syntax.specs.Program.{Global, Globals, Function}
+use Rattle.c_syntax.specs.Programs.{AreGlobals, AreParameters, IsExternalDeclaration}
 use Rattle.c_syntax.specs.Statement.{Statements, Empty}
 use Rattle.c_syntax.specs.Tokens.{token, IsIdentifier, HasPunctuator}
 use Rattle.c_syntax.specs.Types.{IsBase, AreStars}

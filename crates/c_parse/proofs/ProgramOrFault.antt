@@ -36,4 +36,4 @@ module _ (text : List ℕ) (ts : List Token) (faultless : HasNoFault text ts) wh
       goes_on front (t ∷ rest) split viable every_limit (λ here. whole (front ++ t ∷ []) rest (split ∙ sym (append_append front (t ∷ []) rest)) here none)
 
 pub program_or_fault : ProgramOrFault
-program_or_fault text ts none faultless = whole text ts faultless [] ts refl ([], [], [], refl, nothing_within (text ++ [])) none
+program_or_fault text ts none faultless = whole text ts faultless [] ts refl (record { beyond = []; more = []; program = []; derives = refl; within = nothing_within (text ++ []) }) none

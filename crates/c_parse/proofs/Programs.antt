@@ -5,12 +5,10 @@ use Rattle.std.proofs.lemmas.Bool.{eqb-true}
 use Rattle.c_lex.specs.declared.token.Token.{Token}
 use Rattle.c_lex.specs.Text.{IsTokens}
 use Rattle.c_syntax.specs.declared.declaration.ExternalDeclaration.{ExternalDeclaration as ExternalDeclaration'}
-use Rattle.c_syntax.specs.declared.declaration.Parameter.{Parameter}
 use Rattle.c_syntax.specs.Faults.{Alike, SameFirst, Failed}
 use Rattle.c_syntax.specs.Limits.{Number, order, every_limit, WithinFirst, Within, end_of_globals, funclets_of_all, funclets_in, bytes_from}
 use Rattle.c_syntax.specs.Program.{ExternalDeclaration, Globals, Function, external_declaration}
 use Rattle.c_syntax.specs.Programs.{IsExternalDeclaration, IsProgram}
-use Rattle.c_syntax.specs.Statement.{Statements}
 use Rattle.c_syntax.specs.Viable.{Continues, IsSyntaxFault}
 use Rattle.c_syntax.proofs.Failing.{append_append, alike_same, alike_inner}
 use Rattle.c_syntax.proofs.Fronts.{front}
@@ -192,8 +190,8 @@ stops n at text ts rest begin [] found counts d k e f p q h =
 stops n at text ts rest begin (t ∷ us) found counts d k e f p q h =
     let text' = text ++ h.0 in
     let a = beyond.continues text h.0 ts k in
-    let o : (begin ++ t ∷ []) ++ h.1 ≡ d.front ++ (f.front ++ t ∷ h.1) = append_append begin (t ∷ []) h.1 ∙ ap (λ (z : List Token). z ++ t ∷ h.1) p ∙ append_append d.front f.front (t ∷ h.1) in
-    stuck n text text' ts rest (f.front ++ t ∷ h.1) found counts h.2 d a (not_empty f.front t h.1) (f.against text' (t ∷ h.1) (alike_inner text text' d.front rest ts d.split a) (subst (λ (z : List Token). SameFirst z (t ∷ h.1)) q (h.1, refl))) (subst (λ (z : List Token). IsProgram text' h.2 z) o h.3) h.4
+    let o : (begin ++ t ∷ []) ++ h.more ≡ d.front ++ (f.front ++ t ∷ h.more) = append_append begin (t ∷ []) h.more ∙ ap (λ (z : List Token). z ++ t ∷ h.more) p ∙ append_append d.front f.front (t ∷ h.more) in
+    stuck n text text' ts rest (f.front ++ t ∷ h.more) found counts h.program d a (not_empty f.front t h.more) (f.against text' (t ∷ h.more) (alike_inner text text' d.front rest ts d.split a) (subst (λ (z : List Token). SameFirst z (t ∷ h.more)) q (h.more, refl))) (subst (λ (z : List Token). IsProgram text' h.program z) o h.derives) h.within
 
 -- what was read and one declaration more
 joined : (n : ℕ) (text text' : List ℕ) (ts rest inner : List Token) (found : List ExternalDeclaration') (counts : Counts) → (d : Read text ts found rest counts) → Alike text text' ts → (h : HasExternalDeclaration counts n text' inner) → IsProgram text' (map external_declaration found ++ h.tree ∷ []) (d.front ++ inner) × WithinFirst n text' (map external_declaration found ++ h.tree ∷ [])
@@ -214,14 +212,27 @@ fault n at text ts rest found counts d k e f =
       viable =
           let o = f.able text' inner (beyond.speaks text) in
           let j = joined every_limit text text' ts rest (f.front ++ o.more) found counts d a o.has in
-          (beyond.words, o.more, map external_declaration found ++ o.has.tree ∷ [], following (λ z. IsProgram text' (map external_declaration found ++ o.has.tree ∷ []) z) d.front f.front o.more j.0, j.1);
+          let xs = map external_declaration found ++ o.has.tree ∷ [] in
+          record {
+            beyond = beyond.words;
+            more = o.more;
+            program = xs;
+            derives = following (λ z. IsProgram text' xs z) d.front f.front o.more j.0;
+            within = j.1;
+          };
       stops = stops n at text ts rest (d.front ++ f.front) f.fault found counts d k e f refl refl;
       fewer = λ m p.
           let o = f.further text' m inner (beyond.speaks text) p in
           let j = joined m text text' ts rest (f.front ++ o.token ∷ o.more) found counts d a o.has in
           let xs = map external_declaration found ++ o.has.tree ∷ [] in
           subst (λ (z : List Token). Continues m text (d.front ++ f.front) z) (sym o.is)
-          (beyond.words, o.more, xs, following (λ z. IsProgram text' xs z) (d.front ++ f.front) (o.token ∷ []) o.more (following (λ z. IsProgram text' xs z) d.front f.front (o.token ∷ o.more) j.0), j.1);
+          (record {
+            beyond = beyond.words;
+            more = o.more;
+            program = xs;
+            derives = following (λ z. IsProgram text' xs z) (d.front ++ f.front) (o.token ∷ []) o.more (following (λ z. IsProgram text' xs z) d.front f.front (o.token ∷ o.more) j.0);
+            within = j.1;
+          });
     }
 
 pub refuses : (e : ParseErr) (text : List ℕ) (ts rest : List Token) (found : List ExternalDeclaration') (counts : Counts) → Read text ts found rest counts → IsTokens text ts → (rest ≡ [] → ⊥) → Placed e (NoExternalDeclaration counts) (HasExternalDeclaration counts) text rest → Refuses e text ts

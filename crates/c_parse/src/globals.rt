@@ -1,7 +1,6 @@
 //! Globals, and where they lie.
 
 ghost use Rattle.std.specs.Prelude.{◌≡◌, ◌≤◌, ◌<◌, ◌+◌, ◌*◌, Some, IfOk, IfErr, IfSome, IfNone, map};
-ghost use Rattle.c_lex.specs.declared.punctuator.Punctuator.TheVariants as punctuators;
 ghost use Rattle.c_syntax.specs.declared.level.TheConstants.{ASSIGNMENT};
 ghost use Rattle.c_syntax.specs.Follow.{Stops};
 ghost use Rattle.c_syntax.specs.Limits as limits;

@@ -1,5 +1,5 @@
--- Operators and their punctuators.
-use Rattle.std.proofs.Common.{◌≡◌, Option, Some, None, refl, ap}
+-- No other punctuator is an operator.
+use Rattle.std.proofs.Common.{◌≡◌, Option, Some, None, ap}
 use Rattle.c_lex.specs.declared.punctuator.Punctuator.{Punctuator}
 use Rattle.c_lex.specs.declared.punctuator.Punctuator.TheVariants as punctuators
 use Rattle.c_syntax.specs.declared.operator.Arithmetic.{Arithmetic}
@@ -16,11 +16,6 @@ use Rattle.c_syntax.specs.PunctuatorReaders.{binary_of, assignment_of, unary_of,
 
 some_same : {A : Type 0} (a b : A) → Some a ≡ Some b → a ≡ b
 some_same a b e = cc
-
-pub binary_again : (op : BinaryOperator) → binary_of (binary_punctuator op) ≡ Some op
-binary_again (binary.Arithmetic arithmetic.Multiply) = refl
-binary_again (binary.Comparison comparisons.Less) = refl
-binary_again op = refl
 
 pub binary_only : (op : BinaryOperator) (s : Punctuator) → binary_of s ≡ Some op → s ≡ binary_punctuator op
 binary_only op punctuators.BarBar e = ap binary_punctuator (some_same binary.LogicalOr op e)
@@ -43,11 +38,6 @@ binary_only op punctuators.Slash e = ap binary_punctuator (some_same (binary.Ari
 binary_only op punctuators.Percent e = ap binary_punctuator (some_same (binary.Arithmetic arithmetic.Remainder) op e)
 binary_only op s e = absurd cc
 
-pub assignment_again : (op : Option Arithmetic) → assignment_of (assignment_punctuator op) ≡ Some op
-assignment_again None = refl
-assignment_again (Some arithmetic.Multiply) = refl
-assignment_again op = refl
-
 pub assignment_only : (op : Option Arithmetic) (s : Punctuator) → assignment_of s ≡ Some op → s ≡ assignment_punctuator op
 assignment_only op punctuators.Assign e = ap assignment_punctuator (some_same None op e)
 assignment_only op punctuators.PlusAssign e = ap assignment_punctuator (some_same (Some arithmetic.Add) op e)
@@ -62,10 +52,6 @@ assignment_only op punctuators.ShiftLeftAssign e = ap assignment_punctuator (som
 assignment_only op punctuators.ShiftRightAssign e = ap assignment_punctuator (some_same (Some arithmetic.ShiftRight) op e)
 assignment_only op s e = absurd cc
 
-pub unary_again : (op : UnaryOperator) → unary_of (unary_punctuator op) ≡ Some op
-unary_again unary_operators.Plus = refl
-unary_again op = refl
-
 pub unary_only : (op : UnaryOperator) (s : Punctuator) → unary_of s ≡ Some op → s ≡ unary_punctuator op
 unary_only op punctuators.Ampersand e = ap unary_punctuator (some_same unary_operators.AddressOf op e)
 unary_only op punctuators.Plus e = ap unary_punctuator (some_same unary_operators.Plus op e)
@@ -74,10 +60,6 @@ unary_only op punctuators.Star e = ap unary_punctuator (some_same unary_operator
 unary_only op punctuators.Exclamation e = ap unary_punctuator (some_same unary_operators.LogicalNot op e)
 unary_only op punctuators.Tilde e = ap unary_punctuator (some_same unary_operators.Complement op e)
 unary_only op s e = absurd cc
-
-pub increment_again : (op : Increment) → increment_of (increment_punctuator op) ≡ Some op
-increment_again increments.Increment = refl
-increment_again increments.Decrement = refl
 
 pub increment_only : (op : Increment) (s : Punctuator) → increment_of s ≡ Some op → s ≡ increment_punctuator op
 increment_only op punctuators.PlusPlus e = ap increment_punctuator (some_same increments.Increment op e)

@@ -1,5 +1,5 @@
 -- Arguments, one after another.
-use Rattle.std.proofs.Common.{◌≡◌, ◌≤◌, ◌<◌, ◌+◌, ◌-◌, ℕ, zero, suc, max, List, [], ◌∷◌, ◌++◌, map, refl, sym, ap, subst, arith}
+use Rattle.std.proofs.Common.{◌≡◌, ◌≢◌, ◌≤◌, ◌<◌, ◌+◌, ◌-◌, ℕ, zero, suc, max, List, [], ◌∷◌, ◌++◌, map, refl, sym, ap, subst, arith}
 use Rattle.c_lex.specs.declared.punctuator.Punctuator.TheVariants as punctuators
 use Rattle.c_lex.specs.declared.token.Token.{Token}
 use Rattle.c_syntax.specs.Expression.{Expression, Arguments, Done, Next, arguments, height, heights}
@@ -185,3 +185,13 @@ no_first text w room ts n m (Next x xs) end g low =
 pub no_place : (text : List ℕ) (ts : List Token) → ((b : List Token) → HasPunctuator punctuators.CloseParenthesis ts b → ⊥) → NoArguments 0 1 text ts
 no_place text ts n Done end g low = n end g
 no_place text ts n (Next x xs) end g low = let a = low (omega arith) in absurd (omega arith)
+
+-- ---- the loop
+
+-- Arguments were read up to the rest, and so many expressions are around a part of one.
+pub record AreArgumentsRead (room over : ℕ) (text : List ℕ) (es : List Expression) (ts rest : List Token) : Type 0 where
+  pub some_room : room ≢ 0
+  pub low : over ≤ room
+  pub exact : over ≡ heights (arguments es)
+  pub listed : AreListed text es ts rest
+  pub stops : Stops assignment rest

@@ -15,16 +15,15 @@ use Rattle.c_syntax.specs.declared.operator.Increment.{Increment}
 use Rattle.c_syntax.specs.declared.operator.Increment.TheVariants as increments
 use Rattle.c_syntax.specs.declared.operator.UnaryOperator.{UnaryOperator}
 use Rattle.c_syntax.specs.declared.operator.UnaryOperator.TheVariants as unary_operators
-use Rattle.c_syntax.specs.Expression.{Expression, Constant, Variable, Information, Call, Parentheses, Index, Postfix, Prefix, Unary, Cast, Binary, Conditional, Assign, Comma, Arguments, height, heights}
+use Rattle.c_syntax.specs.Expression.{Expression, Constant, Variable, Information, Call, Parentheses, Prefix, Unary, Cast, Arguments, height, heights}
 use Rattle.c_syntax.specs.Expressions.{literal_kind, SpellsExpression, SpellsArguments, Derives}
 use Rattle.c_syntax.specs.Follow.{punctuator_follows, kind_follows, follows, Stops}
 use Rattle.c_syntax.specs.Operators.{unary, cast, unary_punctuator, increment_punctuator, primary}
 use Rattle.c_syntax.specs.PunctuatorReaders.{unary_of, increment_of}
 use Rattle.c_syntax.specs.Tokens.{token, IsKind, IsPunctuator, IsIdentifier, HasPunctuator}
 use Rattle.c_syntax.specs.Types.{IsType}
-use Rattle.c_syntax.proofs.Fronts.{kind_same, punctuator_same, name_same, has_same, base_front, close_star, front, NoStar}
+use Rattle.c_syntax.proofs.Fronts.{kind_same, punctuator_same, name_same, has_same, base_front, close_star, front, NoStar, unary_again, increment_again}
 use Rattle.c_syntax.proofs.Once.{expression_front}
-use Rattle.c_parse_atom.proofs.Punctuators.{unary_again, increment_again}
 use Rattle.c_parse_type.specs.Bases.{NoBase}
 use Rattle.c_parse_expr.specs.Readings.{NoExpression, Encloses, NoneEnclosed, NoArguments, NoOperand}
 

@@ -145,7 +145,7 @@ expressed text s t h = expressed_by text s t.kind t.start t.end h
 
 pub begins_expression : (ts : List Token) → front ts ≤ 5 → BeginsExpression ts
 begins_expression [] h = absurd (omega arith)
-begins_expression (t ∷ ts) h = (t, ts, refl, λ text s. expressed text s t h)
+begins_expression (t ∷ ts) h = record { first = t; rest = ts; split = refl; holds = λ text s. expressed text s t h }
 
 pub begins_none : (ts : List Token) → (front ts ≤ 5 → ⊥) → BeginsNoExpression ts
 begins_none ts shut text other same e rest h = let p = front_first ts other same in let q = expression_front text e other rest h.spells in shut (omega arith)

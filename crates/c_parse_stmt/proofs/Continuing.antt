@@ -251,7 +251,7 @@ pub goes_call : (opened closed : ℕ) (a : Token) (ts : List Token) → closed <
 goes_call opened closed a [] l k z n f = absurd (omega arith)
 goes_call zero closed a (t ∷ ts) l k z n f = absurd (omega arith)
 goes_call (suc m) (suc c) a (t ∷ ts) l k z n f = absurd (omega arith)
-goes_call (suc m) zero a (t ∷ ts) l k z n f = (t, ts, refl, λ text before middle o y c. called text before middle o c)
+goes_call (suc m) zero a (t ∷ ts) l k z n f = record { first = t; rest = ts; split = refl; holds = λ text before middle o y c. called text before middle o c }
   where
     called : (text : List ℕ) (before middle : List Token) → AreOpening (suc m) before [] → middle ≡ [] → Continued text (before ++ a ∷ middle) t
     called text before middle o c =
@@ -279,7 +279,7 @@ pub goes_step : (opened closed : ℕ) (a : Token) (ts : List Token) → closed <
     → postfix ≤ follows ts → follows ts ≤ comma → ContinuesAfter opened closed a ts
 goes_step opened closed a [] l k g f = absurd (omega arith)
 goes_step zero closed a (t ∷ ts) l k g f = absurd (omega arith)
-goes_step (suc m) closed a (t ∷ ts) l k g f = (t, ts, refl, λ text before middle o y c. continued text before middle o (atom text a y) c (stepped t g f))
+goes_step (suc m) closed a (t ∷ ts) l k g f = record { first = t; rest = ts; split = refl; holds = λ text before middle o y c. continued text before middle o (atom text a y) c (stepped t g f) }
   where
     continued : (text : List ℕ) (before middle : List Token) → AreOpening (suc m) before [] → Atom text a → AreClosing closed middle [] → Stepped t → Continued text (before ++ a ∷ middle) t
     continued text before middle o e c s =

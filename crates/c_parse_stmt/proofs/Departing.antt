@@ -6,7 +6,7 @@ use Rattle.c_lex.specs.declared.token.IntegerType.TheVariants as integers
 use Rattle.c_lex.specs.declared.token.Kind.TheVariants as kinds
 use Rattle.c_lex.specs.declared.token.Token.{Token}
 use Rattle.c_syntax.specs.declared.expression.Literal.TheVariants as literals
-use Rattle.c_syntax.specs.Expression.{Expression, Constant, Variable, Information, Call, Parentheses, Index, Postfix, Prefix, Unary, Cast, Binary, Conditional, Assign, Comma, height}
+use Rattle.c_syntax.specs.Expression.{Expression, Constant, Variable, Parentheses, height}
 use Rattle.c_syntax.specs.Expressions.{SpellsExpression}
 use Rattle.c_syntax.specs.Faults.{Alike, SameFirst, place, Able, Onward, Failed}
 use Rattle.c_syntax.specs.Limits.{accepts}
@@ -166,7 +166,7 @@ goes_on_inside n text ts rest l k h lacks no_one g =
       located = refl;
       against = λ text' other a same. none_accepts n text' (m.front ++ other) other k (m.again text' other a) (λ d. lacks_first punctuators.OpenParenthesis rest other same (lacks d)) (refuses_first text text' rest other (alike_after text' m a) same no_one);
       able = λ text' a s. able_inside n text' m.front l k o;
-      further = λ text' j a s e. onward text' m.front rest g.1 g.0 j e g.2 (g.3 text' m.front s o);
+      further = λ text' j a s e. onward text' m.front rest g.rest g.first j e g.split (g.holds text' m.front s o);
     }
 
 pub departs_inside : (n : ℕ) (text : List ℕ) (ts rest : List Token) → 1 ≤ n → n ≤ 65 → AreOpening n ts rest → NoneInside n rest → Departs text ts rest
@@ -245,7 +245,7 @@ failed_after n c text t ts mid following rest l k h is good g lacks f =
       located = refl;
       against = λ text' other a same. against_after n c text' t x.before x.middle other l k x.opening (x.accepts text' a) x.closing (lacks_first punctuators.CloseParenthesis rest other same lacks);
       able = λ text' a s. able_after n c text' t x.before x.middle l k x.opening (x.accepts text' a) x.closing;
-      further = λ text' j a s e. onward text' (x.before ++ t ∷ x.middle) rest f.1 f.0 j e f.2 (f.3 text' x.before x.middle x.opening (x.accepts text' a) x.closing);
+      further = λ text' j a s e. onward text' (x.before ++ t ∷ x.middle) rest f.rest f.first j e f.split (f.holds text' x.before x.middle x.opening (x.accepts text' a) x.closing);
     }
 
 pub departs_after : (n c : ℕ) (text : List ℕ) (t : Token) (ts mid following rest : List Token) → c < n → n ≤ 65 → AreOpening n ts mid → mid ≡ t ∷ following → accepts_alone text t ≡ true → AreClosing c following rest → NoneAfter n c t rest → Departs text ts rest

@@ -8,7 +8,7 @@ use Rattle.c_syntax.specs.Statements.{IsCondition}
 use Rattle.c_syntax.proofs.Blocks.{condition}
 use Rattle.c_syntax.proofs.Failing.{alike_same, first_same}
 use Rattle.c_syntax.specs.declared.limit.Count.{Count}
-use Rattle.c_syntax.specs.declared.limit.Count.TheVariants.{Locals, Parameters, Functions, Globals, Funclets}
+use Rattle.c_syntax.specs.declared.limit.Count.TheVariants.{Locals}
 use Rattle.c_parse_expr.specs.declared.refusal.ParseErr.{ParseErr}
 use Rattle.c_parse_expr.specs.declared.refusal.ParseErr.TheVariants.{Unexpected, TooDeep, TooMany, Memory}
 use Rattle.c_parse_expr.specs.Refusals.{Placed}

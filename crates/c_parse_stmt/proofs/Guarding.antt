@@ -7,7 +7,7 @@ use Rattle.c_lex.specs.declared.token.Token.{Token}
 use Rattle.c_syntax.specs.Expression.{Expression, expression, height}
 use Rattle.c_syntax.specs.Faults.{Alike, place, Able, Failed, Wraps}
 use Rattle.c_syntax.specs.Limits.{statements_over_all, accepts, numbered, funclets_of_all}
-use Rattle.c_syntax.specs.Statement.{Statement, Declare, Block, Evaluate, If, IfElse, While, DoWhile, For, Return, Break, Continue, Leave, TryExcept, TryFinally, Statements, Empty, Then}
+use Rattle.c_syntax.specs.Statement.{Statement, Declare, TryExcept, TryFinally, Statements, Empty, Then}
 use Rattle.c_syntax.specs.Statements.{IsCondition, IsBlockItem, AreBlockItems}
 use Rattle.c_syntax.specs.Tokens.{token, IsKeyword, HasPunctuator, HasKeyword}
 use Rattle.c_syntax.proofs.Failing.{alike_inner}

@@ -21,7 +21,7 @@ use Rattle.c_syntax.proofs.MovesStatements.{first, up_to as up_to_moves}
 use Rattle.c_parse_stmt.specs.declared.left.Left.{Left}
 use Rattle.c_parse_stmt.specs.Parts.{NoPunctuator, APunctuator, NoCondition, HasCondition, NoneUpTo, HasUpTo, NoForInitialiser, HasForInitialiser}
 use Rattle.c_parse_stmt.specs.Within.{NoStatement, HasStatement, NoEvaluation, HasEvaluation, AfterKeyword}
-use Rattle.c_parse_stmt.proofs.Sequences.{Both, Fixed, both_fixed, both_moves, moves_so, able_now, wraps, punctuator, word, a_punctuator, a_word, first_kind, kind_place}
+use Rattle.c_parse_stmt.proofs.Sequences.{Both, Fixed, both_fixed, both_moves, able_now, wraps, punctuator, word, a_punctuator, a_word, first_kind, kind_place}
 use Rattle.c_parse_stmt.proofs.Tries.{no_try}
 use Rattle.c_parse_stmt.proofs.Loops.{no_while_room, no_while_condition, no_do_room, no_for_room, no_for_open, no_for_initialiser, Started, no_for_condition, no_for_next}
 use Rattle.c_parse_stmt.proofs.Wholes.{no_if_room, no_if_condition, no_return, no_break, no_continue, no_leave, no_evaluation, Lacks, Plain, only_evaluations}

@@ -8,7 +8,7 @@ use Rattle.c_syntax.specs.declared.statement.Stmt.{Stmt}
 use Rattle.c_syntax.specs.Faults.{Alike, Able, Wraps}
 use Rattle.c_syntax.specs.Follow.{Closed}
 use Rattle.c_syntax.specs.Limits.{height_of_locals, one_over_locals, statements_over, over_block_item, locals, numbered}
-use Rattle.c_syntax.specs.Statement.{Local, Statement, Declare, Block, Evaluate, If, IfElse, While, DoWhile, For, Return, Break, Continue, Leave, TryExcept, TryFinally, Statements, Empty, Then, statement, statements}
+use Rattle.c_syntax.specs.Statement.{Local, Statement, Declare, Block, For, Statements, Empty, Then, statement, statements}
 use Rattle.c_syntax.specs.Statements.{is_declaration, IsDeclaration, IsBlockItem, AreBlockItems}
 use Rattle.c_syntax.specs.Tokens.{HasPunctuator}
 use Rattle.c_syntax.specs.Types.{IsBase}

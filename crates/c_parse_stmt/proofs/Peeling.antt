@@ -6,7 +6,7 @@ use Rattle.c_lex.specs.declared.token.Kind.{Kind}
 use Rattle.c_lex.specs.declared.token.Kind.TheVariants as kinds
 use Rattle.c_lex.specs.declared.token.Token.{Token}
 use Rattle.c_syntax.specs.declared.expression.Literal.TheVariants as literals
-use Rattle.c_syntax.specs.Expression.{Expression, Constant, Variable, Information, Call, Parentheses, Index, Postfix, Prefix, Unary, Cast, Binary, Conditional, Assign, Comma, height}
+use Rattle.c_syntax.specs.Expression.{Expression, Constant, Variable, Information, Call, Parentheses, Prefix, Unary, Cast, height}
 use Rattle.c_syntax.specs.Expressions.{SpellsExpression}
 use Rattle.c_syntax.specs.Faults.{SameFirst}
 use Rattle.c_syntax.specs.Statements.{IsCondition}
@@ -151,21 +151,21 @@ closing_all n = subst (λ (z : List Token). AreClosing n z []) (append-nil (clos
 
 pub goes : (opened : ℕ) (ts : List Token) → 1 ≤ opened → opened ≤ 65 → BeginsExpression ts → opened + first_over ts ≤ 65 → ContinuesInside opened ts
 goes zero ts l k b d = absurd (omega arith)
-goes (suc m) ts l k b d = (b.0, b.1, b.2, λ text before speaks o. continued text before o (b.3 text speaks))
+goes (suc m) ts l k b d = record { first = b.first; rest = b.rest; split = b.split; holds = λ text before speaks o. continued text before o (b.holds text speaks) }
   where
-    continued : (text : List ℕ) (before : List Token) → AreOpening (suc m) before [] → Expressed text b.0 → Continued text before b.0
+    continued : (text : List ℕ) (before : List Token) → AreOpening (suc m) before [] → Expressed text b.first → Continued text before b.first
     continued text before o x =
-        let q : first_over ts ≡ over_first b.0.kind = ap first_over b.2 in
+        let q : first_over ts ≡ over_first b.first.kind = ap first_over b.split in
         let h = x.over in
-        let n = enclosed m text x.tree (before ++ b.0 ∷ (x.more ++ closing (suc m))) (b.0 ∷ (x.more ++ closing (suc m))) (closing (suc m)) [] (opening_again (suc m) before (b.0 ∷ (x.more ++ closing (suc m))) o) (x.derives (closing (suc m))).spells (closing_all (suc m)) in
+        let n = enclosed m text x.tree (before ++ b.first ∷ (x.more ++ closing (suc m))) (b.first ∷ (x.more ++ closing (suc m))) (closing (suc m)) [] (opening_again (suc m) before (b.first ∷ (x.more ++ closing (suc m))) o) (x.derives (closing (suc m))).spells (closing_all (suc m)) in
         let w = n.high in
-        record { more = x.more ++ closing (suc m); has = has_condition 1 text (before ++ b.0 ∷ (x.more ++ closing (suc m))) n.tree n.is (omega arith) }
+        record { more = x.more ++ closing (suc m); has = has_condition 1 text (before ++ b.first ∷ (x.more ++ closing (suc m))) n.tree n.is (omega arith) }
 
 pub goes_type : (opened : ℕ) (ts : List Token) → 2 ≤ opened → opened ≤ 65 → front ts ≡ 7 → ContinuesInside opened ts
 goes_type opened [] l k h = absurd (omega arith)
 goes_type zero (t ∷ ts) l k h = absurd (omega arith)
 goes_type (suc zero) (t ∷ ts) l k h = absurd (omega arith)
-goes_type (suc (suc n)) (t ∷ ts) l k h = (t, ts, refl, λ text before speaks o. continued text before o)
+goes_type (suc (suc n)) (t ∷ ts) l k h = record { first = t; rest = ts; split = refl; holds = λ text before speaks o. continued text before o }
   where
     continued : (text : List ℕ) (before : List Token) → AreOpening (suc (suc n)) before [] → Continued text before t
     continued text before o =

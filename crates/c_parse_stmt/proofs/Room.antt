@@ -5,7 +5,8 @@ use Rattle.c_lex.specs.declared.token.Token.{Token}
 use Rattle.c_syntax.specs.Expressions.{Derives}
 use Rattle.c_syntax.specs.Faults.{Alike, SameFirst, place, Able, Onward, Failed}
 use Rattle.c_syntax.specs.Limits.{statements_over, over_block_item}
-use Rattle.c_syntax.specs.Statement.{Statement, Declare, Block, Evaluate, If, IfElse, While, DoWhile, For, Return, Break, Continue, Leave, TryExcept, TryFinally}
+use Rattle.c_syntax.specs.Operators.{comma}
+use Rattle.c_syntax.specs.Statement.{Statement, Declare}
 use Rattle.c_syntax.specs.Statements.{is_declaration, IsBlockItem}
 use Rattle.c_syntax.specs.Tokens.{HasPunctuator}
 use Rattle.c_parse_type.specs.Bases.{NoBase}
@@ -29,7 +30,7 @@ no_expression s text ts lacks free = missing (NoneUpTo s 0) (HasUpTo s 0) text t
     against text text' other a same (Some e) end h low over = free text' other same e h.0 h.1
 
 evaluated : (s : Punctuator) (text : List ℕ) (t : Token) → Expressed text t → (more : List Token) × HasUpTo s 0 0 text (t ∷ more)
-evaluated s text t x = (x.more ++ punctuator s ∷ [], record { tree = Some x.tree; is = λ other. (punctuator s ∷ other, subst (λ z. Derives text 16 x.tree (t ∷ z) (punctuator s ∷ other)) (sym (append_assoc x.more (punctuator s ∷ []) other)) (x.derives (punctuator s ∷ other)), (0, (0, refl))); low = λ k. absurd (omega arith); over = λ k. absurd (omega arith) })
+evaluated s text t x = (x.more ++ punctuator s ∷ [], record { tree = Some x.tree; is = λ other. (punctuator s ∷ other, subst (λ z. Derives text comma x.tree (t ∷ z) (punctuator s ∷ other)) (sym (append_assoc x.more (punctuator s ∷ []) other)) (x.derives (punctuator s ∷ other)), (0, (0, refl))); low = λ k. absurd (omega arith); over = λ k. absurd (omega arith) })
 
 pub deep_expression : (s : Punctuator) (text : List ℕ) (ts : List Token) → Lacks s ts → BeginsExpression ts → Failed 1 (place text ts) (NoneUpTo s 0) (HasUpTo s 0) text ts
 deep_expression s text ts lacks b = record {
@@ -39,7 +40,7 @@ deep_expression s text ts lacks b = record {
   located = refl;
   against = against;
   able = λ text' a k. nothing s 6 text';
-  further = λ text' k a speaks e. let x = evaluated s text' b.0 (b.3 text' speaks) in let z : 0 ≡ k = omega arith in subst (λ n. Onward (HasUpTo s 0) n text' [] ts) z (record { token = b.0; rest = b.1; more = x.0; is = b.2; has = x.1 });
+  further = λ text' k a speaks e. let x = evaluated s text' b.first (b.holds text' speaks) in let z : 0 ≡ k = omega arith in subst (λ n. Onward (HasUpTo s 0) n text' [] ts) z (record { token = b.first; rest = b.rest; more = x.0; is = b.split; has = x.1 });
 }
   where
     against : (text' : List ℕ) (other : List Token) → Alike text text' ts → SameFirst ts other → NoneUpTo s 0 1 text' other
@@ -77,5 +78,5 @@ deep_statement left text ts none b = record {
       let z = w.statements (omega arith) in
       absurd (omega arith);
   able = λ text' a k. record { more = []; has = inl refl };
-  further = λ text' k a speaks e. let x = stated left text' b.0 (b.3 text' speaks) in let z : 0 ≡ k = omega arith in subst (λ n. Onward (HasBlockItem 0 left) n text' [] ts) z (record { token = b.0; rest = b.1; more = x.0; is = b.2; has = x.1 });
+  further = λ text' k a speaks e. let x = stated left text' b.first (b.holds text' speaks) in let z : 0 ≡ k = omega arith in subst (λ n. Onward (HasBlockItem 0 left) n text' [] ts) z (record { token = b.first; rest = b.rest; more = x.0; is = b.split; has = x.1 });
 }

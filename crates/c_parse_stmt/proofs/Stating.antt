@@ -8,6 +8,7 @@ use Rattle.c_lex.specs.declared.token.Kind.{Kind}
 use Rattle.c_lex.specs.declared.token.Kind.TheVariants as kinds
 use Rattle.c_lex.specs.declared.token.Token.{Token}
 use Rattle.c_syntax.specs.Expressions.{Derives}
+use Rattle.c_syntax.specs.Operators.{comma}
 use Rattle.c_syntax.specs.Statement.{Block, Evaluate, If, While, DoWhile, For, Return, Break, Continue, Leave, TryFinally, Evaluating, Empty}
 use Rattle.c_syntax.specs.Statements.{IsCondition, IsBlockItem}
 use Rattle.c_syntax.specs.Tokens.{token}
@@ -148,24 +149,24 @@ stated_by text (kinds.Punctuator s) at end h l = stated_by_punctuator text s at 
 
 pub begins_statement : (ts : List Token) → 2 ≤ begins ts → begins ts ≤ 11 → BeginsStatement ts
 begins_statement [] h l = absurd (omega arith)
-begins_statement (t ∷ ts) h l = (t, ts, refl, λ text s. stated_by text t.kind t.start t.end h l)
+begins_statement (t ∷ ts) h l = record { first = t; rest = ts; split = refl; holds = λ text s. stated_by text t.kind t.start t.end h l }
 
 alone : (text : List ℕ) (k : Kind) (at end : ℕ) → k ≡ kinds.Punctuator punctuators.Semicolon → Stated text (token k at end)
 alone text k at end e = subst (λ (z : Kind). Stated text (token z at end)) (sym e) (record { more = []; tree = Evaluate None; is = λ other. (_, refl, (at, (end, refl))); statement = refl })
 
 pub begins_empty : (ts rest : List Token) (t : Token) → ts ≡ t ∷ rest → t.kind ≡ kinds.Punctuator punctuators.Semicolon → BeginsStatement ts
-begins_empty ts rest t e q = (t, rest, e, λ text s. alone text t.kind t.start t.end q)
+begins_empty ts rest t e q = record { first = t; rest = rest; split = e; holds = λ text s. alone text t.kind t.start t.end q }
 
 evaluated : (text : List ℕ) (t : Token) → Expressed text t → Stated text t
 evaluated text t x = record {
   more = x.more ++ punctuator punctuators.Semicolon ∷ [];
   tree = Evaluate (Some x.tree);
-  is = λ other. (punctuator punctuators.Semicolon ∷ other, subst (λ z. Derives text 16 x.tree (t ∷ z) (punctuator punctuators.Semicolon ∷ other)) (sym (append_assoc x.more (punctuator punctuators.Semicolon ∷ []) other)) (x.derives (punctuator punctuators.Semicolon ∷ other)), (0, (0, refl)));
+  is = λ other. (punctuator punctuators.Semicolon ∷ other, subst (λ z. Derives text comma x.tree (t ∷ z) (punctuator punctuators.Semicolon ∷ other)) (sym (append_assoc x.more (punctuator punctuators.Semicolon ∷ []) other)) (x.derives (punctuator punctuators.Semicolon ∷ other)), (0, (0, refl)));
   statement = refl;
 }
 
 pub begins_evaluation : (ts : List Token) → BeginsExpression ts → BeginsStatement ts
-begins_evaluation ts h = (h.0, h.1, h.2, λ text s. evaluated text h.0 (h.3 text s))
+begins_evaluation ts h = record { first = h.first; rest = h.rest; split = h.split; holds = λ text s. evaluated text h.first (h.holds text s) }
 
 -- ---- by the token that was found at the front
 

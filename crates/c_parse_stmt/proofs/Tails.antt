@@ -5,7 +5,7 @@ use Rattle.c_lex.specs.declared.keyword.Keyword.TheVariants as keywords
 use Rattle.c_lex.specs.declared.punctuator.Punctuator.TheVariants as punctuators
 use Rattle.c_lex.specs.declared.token.Token.{Token}
 use Rattle.c_syntax.specs.Expression.{Expression}
-use Rattle.c_syntax.specs.Statement.{ForInitialiser, Statement, Declare, Block, Evaluate, If, IfElse, While, DoWhile, For, Return, Break, Continue, Leave, TryExcept, TryFinally, Statements}
+use Rattle.c_syntax.specs.Statement.{ForInitialiser, Statement, Block, If, IfElse, While, DoWhile, For, Return, Break, Continue, Leave, TryExcept, TryFinally, Statements}
 use Rattle.c_syntax.specs.Statements.{IsUpTo, IsCondition, IsForInitialiser, dangles, IsStatement, IsBlock, IsBlockItem, AreBlockItems}
 use Rattle.c_syntax.specs.Tokens.{Phrase, IsKeyword, HasPunctuator, HasKeyword}
 use Rattle.c_syntax.proofs.Fronts.{has_same}

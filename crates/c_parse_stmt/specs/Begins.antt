@@ -23,6 +23,13 @@ abbrev pub first_over : List Token → ℕ
 first_over [] = 0
 first_over (t ∷ ts) = over_first t.kind
 
+-- There is a first token, and something holds of it.
+pub record HasFirst (Holds : Token → Type 0) (ts : List Token) : Type 0 where
+  pub first : Token
+  pub rest : List Token
+  pub split : ts ≡ first ∷ rest
+  pub holds : Holds first
+
 -- an expression that begins with a token, with no more expressions around each part than there have
 -- to be
 pub record Expressed (text : List ℕ) (t : Token) : Type 0 where
@@ -32,9 +39,7 @@ pub record Expressed (text : List ℕ) (t : Token) : Type 0 where
   pub over : height tree ≡ over_first t.kind
 
 abbrev pub BeginsExpression : List Token → Type 0
-BeginsExpression ts =
-    (t : Token) × (rest : List Token) × (ts ≡ t ∷ rest)
-    × ((text : List ℕ) → Speaks text → Expressed text t)
+BeginsExpression = HasFirst (λ t. (text : List ℕ) → Speaks text → Expressed text t)
 
 abbrev pub BeginsNoExpression : List Token → Type 0
 BeginsNoExpression ts =
@@ -49,9 +54,7 @@ pub record Stated (text : List ℕ) (t : Token) : Type 0 where
   pub statement : IsFalse (is_declaration tree)
 
 abbrev pub BeginsStatement : List Token → Type 0
-BeginsStatement ts =
-    (t : Token) × (rest : List Token) × (ts ≡ t ∷ rest)
-    × ((text : List ℕ) → Speaks text → Stated text t)
+BeginsStatement = HasFirst (λ t. (text : List ℕ) → Speaks text → Stated text t)
 
 abbrev pub BeginsNoStatement : List Token → Type 0
 BeginsNoStatement ts =

@@ -14,6 +14,7 @@ use Rattle.c_syntax.specs.Faults.{Alike, SameFirst, Speaks, Able}
 use Rattle.c_syntax.specs.Limits.{Nesting, Number, IsInForce, every_limit, accepts}
 use Rattle.c_syntax.specs.Statements.{IsCondition}
 use Rattle.c_syntax.specs.Tokens.{HasPunctuator}
+use Rattle.c_parse_stmt.specs.Begins.{HasFirst}
 use Rattle.c_parse_stmt.specs.Parts.{NoCondition, HasCondition}
 
 abbrev pub is_one : Literal → Bool
@@ -59,10 +60,9 @@ pub record Continued (text : List ℕ) (front : List Token) (t : Token) : Type 0
 
 -- after so many opening parentheses one does with the first of these tokens
 abbrev pub ContinuesInside : ℕ → List Token → Type 0
-ContinuesInside opened ts =
-    (t : Token) × (rest : List Token) × (ts ≡ t ∷ rest)
-    × ((text : List ℕ) (before : List Token) → Speaks text → AreOpening opened before []
-    → Continued text before t)
+ContinuesInside opened =
+    HasFirst (λ t. (text : List ℕ) (before : List Token) → Speaks text
+    → AreOpening opened before [] → Continued text before t)
 
 abbrev pub NoneInside : ℕ → List Token → Type 0
 NoneInside opened ts =
@@ -71,9 +71,8 @@ NoneInside opened ts =
 
 -- or after opening ones, a token that accepts alone, and closing ones
 abbrev pub ContinuesAfter : ℕ → ℕ → Token → List Token → Type 0
-ContinuesAfter opened closed atom ts =
-    (t : Token) × (rest : List Token) × (ts ≡ t ∷ rest)
-    × ((text : List ℕ) (before between : List Token) → AreOpening opened before []
+ContinuesAfter opened closed atom =
+    HasFirst (λ t. (text : List ℕ) (before between : List Token) → AreOpening opened before []
     → accepts_alone text atom ≡ true → AreClosing closed between []
     → Continued text (before ++ atom ∷ between) t)
 

@@ -3,7 +3,7 @@
 ghost use Rattle.std.specs.Prelude.{◌≡◌, IfOk, IfErr, map, option_map};
 ghost use Rattle.c_syntax.specs.Expression.{expression};
 ghost use Rattle.c_syntax.specs.Statement as trees;
-ghost use Rattle.c_syntax.specs.Statement.{statement, statements, choice};
+ghost use Rattle.c_syntax.specs.Statement.{statement, statements};
 ghost use Rattle.c_parse_expr.specs.declared.refusal.ParseErr.TheVariants.{Memory};
 
 use c_parse_expr::refusal::ParseErr;

@@ -40,7 +40,13 @@ fewer n m text xs f h = record {
 
 goes_on_fewer : (n m : ℕ) (text : List ℕ) (front fault : List Token) → AreAmong m n → Continues n text front fault → Continues m text front fault
 goes_on_fewer n m text front [] f h = (h.0, h.1, fewer n m text h.0 f h.2)
-goes_on_fewer n m text front (t ∷ fault) f h = (h.0, h.1, h.2, h.3, fewer n m (text ++ h.0) h.2 f h.4)
+goes_on_fewer n m text front (t ∷ fault) f h = record {
+  beyond = h.beyond;
+  more = h.more;
+  program = h.program;
+  derives = h.derives;
+  within = fewer n m (text ++ h.beyond) h.program f h.within;
+}
 
 -- ---- one first fault
 
@@ -73,10 +79,16 @@ cuts (t ∷ front) fault (t' ∷ front') fault' e =
 
 goes_to : (n : ℕ) (text : List ℕ) (front fault front' : List Token) → Longer front fault front' → Viable every_limit text front' → Continues n text front fault
 goes_to n text front fault front' l v =
-    let e : front' ++ v.1 ≡ (front ++ l.token ∷ []) ++ (l.more ++ v.1) =
-    ap (λ z. z ++ v.1) l.longer ∙ append_assoc front (l.token ∷ l.more) v.1 ∙ sym (append_assoc front (l.token ∷ []) (l.more ++ v.1)) in
+    let e : front' ++ v.more ≡ (front ++ l.token ∷ []) ++ (l.more ++ v.more) =
+    ap (λ z. z ++ v.more) l.longer ∙ append_assoc front (l.token ∷ l.more) v.more ∙ sym (append_assoc front (l.token ∷ []) (l.more ++ v.more)) in
     subst (λ z. Continues n text front z) (sym l.is)
-    (v.0, l.more ++ v.1, v.2, subst (λ z. IsProgram (text ++ v.0) v.2 z) e v.3, fewer every_limit n (text ++ v.0) v.2 (λ k a b. a) v.4)
+    (record {
+      beyond = v.beyond;
+      more = l.more ++ v.more;
+      program = v.program;
+      derives = subst (λ z. IsProgram (text ++ v.beyond) v.program z) e v.derives;
+      within = fewer every_limit n (text ++ v.beyond) v.program (λ k a b. a) v.within;
+    })
 
 -- the limits before one are fewer
 order : (n m : ℕ) (text : List ℕ) (front fault : List Token) → n < m → (Continues n text front fault → ⊥) → ((k : ℕ) → m ≡ suc k → Continues k text front fault) → ⊥
@@ -106,7 +118,13 @@ whole_goes : (n : ℕ) (text : List ℕ) (front fault : List Token) (xs : List E
 whole_goes n text front [] xs h w = (xs, subst (λ z. IsProgram text xs z) (append-nil front) h, w)
 whole_goes n text front (t ∷ fault) xs h w =
     let e : text ≡ text ++ [] = sym (append-nil text) in
-    ([], fault, xs, subst (λ z. IsProgram z xs ((front ++ t ∷ []) ++ fault)) e (subst (λ z. IsProgram text xs z) (sym (append_assoc front (t ∷ []) fault)) h), subst (λ z. WithinFirst n z xs) e w)
+    record {
+      beyond = [];
+      more = fault;
+      program = xs;
+      derives = subst (λ z. IsProgram z xs ((front ++ t ∷ []) ++ fault)) e (subst (λ z. IsProgram text xs z) (sym (append_assoc front (t ∷ []) fault)) h);
+      within = subst (λ z. WithinFirst n z xs) e w;
+    }
 
 pub no_fault_in_program : NoFaultInProgram
 no_fault_in_program text ts n at xs f h w =

@@ -68,21 +68,22 @@ name_same a b ts us rest end p h g =
 some_same : {A : Type 0} (a b : A) (o : Option A) → o ≡ Some a → o ≡ Some b → a ≡ b
 some_same a b o p q = let e = sym p ∙ q in cc
 
-binary_again : (op : BinaryOperator) → binary_of (binary_punctuator op) ≡ Some op
+-- Each operator is what its punctuator is.
+pub binary_again : (op : BinaryOperator) → binary_of (binary_punctuator op) ≡ Some op
 binary_again (binary.Arithmetic arithmetic.Multiply) = refl
 binary_again (binary.Comparison comparisons.Less) = refl
 binary_again op = refl
 
-assignment_again : (op : Option Arithmetic) → assignment_of (assignment_punctuator op) ≡ Some op
+pub assignment_again : (op : Option Arithmetic) → assignment_of (assignment_punctuator op) ≡ Some op
 assignment_again None = refl
 assignment_again (Some arithmetic.Multiply) = refl
 assignment_again op = refl
 
-unary_again : (op : UnaryOperator) → unary_of (unary_punctuator op) ≡ Some op
+pub unary_again : (op : UnaryOperator) → unary_of (unary_punctuator op) ≡ Some op
 unary_again unary_operators.Plus = refl
 unary_again op = refl
 
-increment_again : (op : Increment) → increment_of (increment_punctuator op) ≡ Some op
+pub increment_again : (op : Increment) → increment_of (increment_punctuator op) ≡ Some op
 increment_again increments.Increment = refl
 increment_again increments.Decrement = refl
 

@@ -8,10 +8,12 @@ use Rattle.c_syntax.specs.Programs.{IsProgram}
 
 -- Some program within the first n limits begins with these tokens, in some text that continues this
 -- one.
-abbrev pub Viable : ℕ → List ℕ → List Token → Type 0
-Viable n text front =
-    (beyond : List ℕ) × (more : List Token) × (xs : List ExternalDeclaration)
-    × IsProgram (text ++ beyond) xs (front ++ more) × WithinFirst n (text ++ beyond) xs
+pub record Viable (n : ℕ) (text : List ℕ) (front : List Token) : Type 0 where
+  pub beyond : List ℕ
+  pub more : List Token
+  pub program : List ExternalDeclaration
+  pub derives : IsProgram (text ++ beyond) program (front ++ more)
+  pub within : WithinFirst n (text ++ beyond) program
 
 -- It begins with the first token of the others too; where there is none, the tokens are a program.
 abbrev pub Continues : ℕ → List ℕ → List Token → List Token → Type 0

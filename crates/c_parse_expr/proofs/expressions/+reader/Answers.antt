@@ -374,10 +374,10 @@ pub arguments-returns-in_err-next-clause-refused : goal.arguments-returns-in_err
 arguments-returns-in_err-next-clause-refused t c =
     let p = err_from_is_err_and c.from_residual-in_err-next.result c.from_residual-in_err-next.ensures.1 in
     let i = c.loop-following.invariant in
-    let a = i.1 in
-    let b = i.2 in
+    let a = i.low in
+    let b = i.exact in
     rw (p.1, p.2) (placed_so c.in_err-next.field-0.0 _ _ _ _ _ _ _
-    (next_wraps c.args.room (map expression c.loop-following.exprs.items) c.args.text.now c.args.tokens.now c.loop-following.rest.now c.in-Some-after.following.now (positive c.args.room i.0) i.3 i.4 c.in-Some-after.ensures.found (omega arith))
+    (next_wraps c.args.room (map expression c.loop-following.exprs.items) c.args.text.now c.args.tokens.now c.loop-following.rest.now c.in-Some-after.following.now (positive c.args.room i.some_room) i.listed i.stops c.in-Some-after.ensures.found (omega arith))
     c.in_err-next.ensures.refused)
 
 pub arguments-loop-following-smaller : goal.arguments-loop-following-smaller
@@ -391,30 +391,30 @@ arguments-loop-following-preserved t c =
     let old = c.loop-following.exprs.items in
     let e = expression c.in_ok-next.next.expr in
     let q = ap (map expression) c.in_ok-push-2.ensures.items ∙ mapped_after expression old c.in_ok-next.next.expr in
-    let r = positive c.args.room i.0 in
+    let r = positive c.args.room i.some_room in
     let a = c.higher-over.ensures in
     let b = c.in_ok-next.ensures.low in
     let d = c.in_ok-next.next.exact in
     let h = heights_after (map expression old) e in
     let k = ap (λ (z : List Expression). heights (arguments z)) q in
-    let l = i.1 in
-    let m = i.2 in (
-      i.0,
-      omega arith,
-      omega arith,
-      subst (λ (z : List Expression). AreListed c.args.text.now z c.args.tokens.now c.in_ok-next.next.rest.now) (sym q)
-          (listed_after c.args.text.now (map expression old) e c.args.tokens.now c.loop-following.rest.now c.in-Some-after.following.now c.in_ok-next.next.rest.now i.3 c.in-Some-after.ensures.found c.in_ok-next.ensures.found),
-      c.in_ok-next.ensures.stops,
-    )
+    let l = i.low in
+    let m = i.exact in record {
+      some_room = i.some_room;
+      low = omega arith;
+      exact = omega arith;
+      listed = subst (λ (z : List Expression). AreListed c.args.text.now z c.args.tokens.now c.in_ok-next.next.rest.now) (sym q)
+          (listed_after c.args.text.now (map expression old) e c.args.tokens.now c.loop-following.rest.now c.in-Some-after.following.now c.in_ok-next.next.rest.now i.listed c.in-Some-after.ensures.found c.in_ok-next.ensures.found);
+      stops = c.in_ok-next.ensures.stops;
+    }
 
 pub arguments-returns-in-Some-after-2-clause-found : goal.arguments-returns-in-Some-after-2-clause-found
 arguments-returns-in-Some-after-2-clause-found t c =
-    listed_spelled c.args.text.now (map expression c.loop-following.exprs.items) c.args.tokens.now c.loop-following.rest.now c.in-Some-after-2.rest.now c.loop-following.invariant.3 c.in-Some-after-2.ensures.found
+    listed_spelled c.args.text.now (map expression c.loop-following.exprs.items) c.args.tokens.now c.loop-following.rest.now c.in-Some-after-2.rest.now c.loop-following.invariant.listed c.in-Some-after-2.ensures.found
 
 pub arguments-returns-clause-refused : goal.arguments-returns-clause-refused
 arguments-returns-clause-refused t c =
     let i = c.loop-following.invariant in
-    let a = i.1 in
-    let b = i.2 in
+    let a = i.low in
+    let b = i.exact in
     placed_as _ _ _ _ _ _ c.unexpected.ensures
-    (stuck_there c.args.room (map expression c.loop-following.exprs.items) c.args.text.now c.args.tokens.now c.loop-following.rest.now i.3 i.4 c.in-None.ensures.none c.in_default-after.ensures.none (omega arith))
+    (stuck_there c.args.room (map expression c.loop-following.exprs.items) c.args.text.now c.args.tokens.now c.loop-following.rest.now i.listed i.stops c.in-None.ensures.none c.in_default-after.ensures.none (omega arith))

@@ -1,10 +1,8 @@
-use Rattle.std.proofs.Common.{◌≡◌, ◌≤◌, ◌≢◌, ◌+◌, ◌-◌, ◌*◌, length, map}
-use Rattle.c_syntax.specs.Expression.{expression, arguments, heights}
+use Rattle.std.proofs.Common.{◌≤◌, ◌+◌, ◌-◌, ◌*◌, length, map}
+use Rattle.c_syntax.specs.Expression.{expression}
 use Rattle.c_syntax.specs.Expressions.{Derives}
-use Rattle.c_syntax.specs.Follow.{Stops}
-use Rattle.c_syntax.specs.Operators.{assignment}
 use Rattle.c_syntax.specs.Steps.{Closes}
-use Rattle.c_parse_expr.specs.Readings.{AreListed}
+use Rattle.c_parse_expr.proofs.Listing.{AreArgumentsRead}
 use Rattle.c_parse_expr.proofs.expressions.+reader.Given as goal
 
 abbrev pub decreases-expression : goal.decreases-expression
@@ -42,9 +40,7 @@ decreases-grouped l = 8 * l.room + 9
 
 abbrev pub invariant-arguments-loop-following : goal.invariant-arguments-loop-following
 invariant-arguments-loop-following l =
-    (l.room ≢ 0) × (l.over ≤ l.room) ×
-    (l.over ≡ heights (arguments (map expression l.exprs.items))) × AreListed l.text
-    (map expression l.exprs.items) l.tokens l.rest × Stops assignment l.rest
+    AreArgumentsRead l.room l.over l.text (map expression l.exprs.items) l.tokens l.rest
 
 abbrev pub decreases-arguments-loop-following : goal.decreases-arguments-loop-following
 decreases-arguments-loop-following l = length l.rest
