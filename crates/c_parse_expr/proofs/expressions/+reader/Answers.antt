@@ -289,7 +289,7 @@ signed-returns-in-Some-unary_of-clause-found t c =
 pub parenthesised-returns-in_default-clause-refused : goal.parenthesised-returns-in_default-clause-refused
 parenthesised-returns-in_default-clause-refused t c =
     let l = c.requires.level in
-    let m = c.if-level-eq2.false in
+    let m = c.if-level-eq-UNARY.false in
     placed_as _ _ _ _ _ _ c.unexpected.ensures
     (cast_unclosed c.args.level c.args.room c.args.at c.in-Some.to c.args.text.now c.args.tokens.now c.args.rest.now c.in-Some.rest.now (omega arith) c.requires.punctuator c.in-Some.ensures.found c.in-Some.ensures.far c.in_default.ensures.none)
 
@@ -297,7 +297,7 @@ pub parenthesised-returns-in_err-inner-in-Some-clause-refused : goal.parenthesis
 parenthesised-returns-in_err-inner-in-Some-clause-refused t c =
     let p = err_from_is_err_and c.from_residual.result c.from_residual.ensures.1 in
     let l = c.requires.level in
-    let m = c.if-level-eq2.false in
+    let m = c.if-level-eq-UNARY.false in
     rw (p.1, p.2) (placed_so c.in_err-inner-in-Some.field-0.0 _ _ _ _ _ _ _
     (cast_wraps c.args.level c.args.room c.args.at c.in-Some.to c.args.text.now c.args.tokens.now c.args.rest.now c.in-Some.rest.now c.in-Some-after.rest.now (omega arith) c.requires.punctuator c.in-Some.ensures.found c.in-Some.ensures.far c.in-Some-after.ensures.found)
     c.in_err-inner-in-Some.ensures.refused)
@@ -312,7 +312,7 @@ parenthesised-returns-in_ok-operand-in-Some-clause-found t c =
     let same : boxed.value ≡ k.inner.expr = c.in_ok-operand-in-Some.ensures.ok in
     let made = cast_is c.args.at to boxed ∙ ap (λ x. Cast c.args.at to (expression x)) same in
     let l = c.requires.level in
-    let m = c.if-level-eq2.false in
+    let m = c.if-level-eq-UNARY.false in
     let to_cast : SpellsExpression c.args.text.now (Cast c.args.at to e) c.args.tokens.now
     k.inner.rest.now =
     record {
