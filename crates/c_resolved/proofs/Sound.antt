@@ -106,9 +106,11 @@ function_holds fs text file t n ps body number within fit none =
     λ w. record { scope = record { functions = fs; sizes = w; code = false; information = false; abnormal = false }; returns = result_size t; loop = false; body = false; function = true } in
     let sound = subst (λ w. statements_sound (env w) (checked.statements m.done) ≡ true) (sym e) r.sound in
     let same : length (parameter_sizes ps) ≡ length ps = length-map ps (λ (p : Parameter). size_of p.of) in
-    let few : length (parameter_sizes ps) ≤ 8 = omega (arith, within.parameters (omega arith)) in
+    let parameters = within.parameters (omega arith) in
+    let few : length (parameter_sizes ps) ≤ 8 = omega (arith, parameters) in
     let dropped = length-drop (length ps) zs in
-    let locals : length (drop (length ps) zs) ≤ 256 = omega (arith, within.locals (omega arith), c.sizes) in
+    let declared = within.locals (omega arith) in
+    let locals : length (drop (length ps) zs) ≤ 256 = omega (arith, declared, c.sizes) in
     and_true (and_true sound (le-leb (length (parameter_sizes ps)) 8 few)) (le-leb (length (drop (length ps) zs)) 256 locals)
 
 -- ---- all functions
@@ -205,12 +207,15 @@ accepted_is_sound text xs within none =
     let apart = none_in_both (main.faults ++ file.faults) functions.faults none in
     let first = none_in_both main.faults file.faults apart.0 in
     let bytes = file_length text xs empty_file first.1 in
-    let few : length file.bytes ≤ 1048576 = omega (arith, bytes, within.bytes (omega arith)) in
+    let most_bytes = within.bytes (omega arith) in
+    let few : length file.bytes ≤ 1048576 = omega (arith, bytes, most_bytes) in
     let fit : (zs : List Size) → ScopeFits fs zs file.scope = λ zs. file_fits fs zs text xs empty_file first.1 few (functions_from text file.scope xs 1 []) tt in
     let r = functions_hold fs text file.scope fit xs 1 within.each apart.1 in
     let main_fits = main_holds fs [] xs (meaning_in file.scope main_name) (meaning_fits fs [] file.scope (fit []) main_name) first.0 in
-    let many : length fs ≤ 4096 = omega (arith, r.count, within.functions (omega arith)) in
-    let numbered : length (all_funclets fs) ≤ 16384 = omega (arith, r.within, within.numbered (omega arith)) in
+    let most_functions = within.functions (omega arith) in
+    let many : length fs ≤ 4096 = omega (arith, r.count, most_functions) in
+    let most_numbered = within.numbered (omega arith) in
+    let numbered : length (all_funclets fs) ≤ 16384 = omega (arith, r.within, most_numbered) in
     and_true
     (and_true (and_true (and_true (and_true r.sound main_fits) r.up) (le-leb (length fs) 4096 many)) (le-leb (length (all_funclets fs)) 16384 numbered))
     (le-leb (length file.bytes) 1048576 few)
