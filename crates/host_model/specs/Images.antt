@@ -8,7 +8,7 @@ use Rattle.seh_num.specs.declared.end.RunEnd.{RunEnd}
 use Rattle.seh_num.specs.declared.end.RunEnd.TheVariants as ends
 use Rattle.pe_image.specs.Numbers.{u16, u32, u64, zeros}
 use Rattle.host_model.specs.Worked.{dos_header}
-use Rattle.host_model.specs.Machine.{Shown, machine}
+use Rattle.host_model.specs.Machine.{machine}
 
 -- ---- headers
 

@@ -2,18 +2,19 @@
 use Rattle.std.specs.Prelude.{◌≡◌, ℕ, zero, suc, ◌+◌, List, [], ◌++◌, ℤ, Option, Some}
 use Rattle.seh_num.specs.declared.event.Event.{Event}
 use Rattle.seh_num.specs.declared.end.RunEnd.{RunEnd}
+use Rattle.seh_num.specs.Shown.{Shown}
 use Rattle.virtual_unwind.specs.CallerOf.{Functions}
 use Rattle.host_model.specs.declared.funclet.Funclet.{Funclet}
 use Rattle.host_model.specs.HostStep.{Host, Ended, next, shown_next, end_of}
-use Rattle.host_model.specs.Machine.{Shown, run, machine}
+use Rattle.host_model.specs.Machine.{run, machine}
 
 -- a run shows these events at least; if there is this end, it has ended so and shows nothing else
-pub record Covers (events : List Event) (end : Option RunEnd) (shown : Shown) : Type 0 where
+pub record Covers (events : List Event) (end : Option RunEnd) (shown : Shown RunEnd) : Type 0 where
   pub shows : (more : List Event) × (shown.events ≡ events ++ more)
   pub ends : (e : RunEnd) → end ≡ Some e → shown ≡ record { events = events; end = Some e }
 
 -- a run shows what was shown before it
-abbrev pub Begins : List Event → Shown → Type 0
+abbrev pub Begins : List Event → Shown RunEnd → Type 0
 Begins out shown = (more : List Event) × (shown.events ≡ out ++ more)
 
 abbrev pub RunsShowWhatWasShown : Type 0
@@ -36,7 +37,7 @@ ImagesCover =
 -- what covers what covers these events covers them
 abbrev pub CoveringIsTransitive : Type 0
 CoveringIsTransitive =
-    (events : List Event) (end : Option RunEnd) (x y : Shown) → Covers events end x
+    (events : List Event) (end : Option RunEnd) (x y : Shown RunEnd) → Covers events end x
     → Covers x.events x.end y → Covers events end y
 
 -- ---- runs as turns one after another

@@ -3,10 +3,11 @@ use Rattle.std.specs.Prelude.{ℕ, zero, suc, ◌-◌, List, [], ◌∷◌, ◌+
 use Rattle.seh_num.specs.declared.width.Width.TheVariants.{W64}
 use Rattle.seh_num.specs.Widths.{wrapped}
 use Rattle.seh_num.specs.declared.event.Event.{Event}
+use Rattle.seh_num.specs.Shown.{Shown}
 use Rattle.linear_code.specs.declared.instruction.Instruction.{Instruction}
 use Rattle.linear_code.specs.Program.{LinearProgram, LinearBody, LinearFunction}
-use Rattle.c_model.specs.Meaning.{Shown}
 use Rattle.c_model.specs.Source.{first_memory}
+use Rattle.c_model.specs.declared.ended.Ended.{Ended}
 use Rattle.linear_machine.specs.Frames.{body_of, Configuration, Seen, Running, Finished, Stuck, Next, pick, with_some}
 use Rattle.linear_machine.specs.Instructions.{begin_function, act}
 
@@ -42,12 +43,12 @@ seen program arg n =
     (λ main. exec program n (start program arg main))
 
 -- the events and the end; a run that is stuck has none
-abbrev pub shown : Seen → Shown
+abbrev pub shown : Seen → Shown Ended
 shown (Running es) = record { events = es; end = None }
 shown (Finished e es) = record { events = es; end = Some e }
 shown (Stuck es) = record { events = es; end = None }
 
-abbrev pub linear_meaning : LinearProgram → ℤ → ℕ → Shown
+abbrev pub linear_meaning : LinearProgram → ℤ → ℕ → Shown Ended
 linear_meaning program arg n = shown (seen program arg n)
 
 -- what a proof opens, by `unfolding computed_linear`, to compute a run
