@@ -1,7 +1,6 @@
 -- What a program means: what it shows within some steps, and how it ends.
 use Rattle.std.specs.Prelude.{ℕ, zero, suc, Bool, true, false, List, [], ◌∷◌, slice_get, ℤ, Option, Some, None}
 use Rattle.seh_num.specs.declared.width.Width.TheVariants.{W32, W64}
-use Rattle.seh_num.specs.declared.event.Event.{Event}
 use Rattle.seh_num.specs.Widths.{signed, wrapped}
 use Rattle.seh_num.specs.Shown.{Shown}
 use Rattle.flat_memory.specs.Memory.{first_refused, number_at, with_number}

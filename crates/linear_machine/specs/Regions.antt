@@ -5,7 +5,7 @@ use Rattle.linear_code.specs.declared.program.Region.{Region}
 use Rattle.linear_code.specs.declared.program.RegionKind.{RegionKind}
 use Rattle.linear_code.specs.declared.program.RegionKind.TheVariants as kinds
 use Rattle.linear_code.specs.Program.{LinearProgram, LinearBody}
-use Rattle.linear_machine.specs.Frames.{BodyName, body_of, Frame, Handler, Target, Item, Waits, Searches, Unwinds}
+use Rattle.linear_machine.specs.Frames.{BodyName, body_of, Handler, Target, Item, Waits, Searches, Unwinds}
 
 abbrev pub holds : ℕ → Region → Bool
 holds label r = nat_le r.begin label && nat_lt label r.end

@@ -1,8 +1,7 @@
 -- Runs of linear code.
-use Rattle.std.specs.Prelude.{ℕ, zero, suc, ◌-◌, List, [], ◌∷◌, ◌++◌, nat_eq, if◌then◌else◌, replicate, slice_get, ℤ, Option, Some, None}
+use Rattle.std.specs.Prelude.{ℕ, zero, suc, List, [], ◌∷◌, nat_eq, if◌then◌else◌, slice_get, ℤ, Option, Some, None}
 use Rattle.seh_num.specs.declared.width.Width.TheVariants.{W64}
 use Rattle.seh_num.specs.Widths.{wrapped}
-use Rattle.seh_num.specs.declared.event.Event.{Event}
 use Rattle.seh_num.specs.Shown.{Shown}
 use Rattle.linear_code.specs.declared.instruction.Instruction.{Instruction}
 use Rattle.linear_code.specs.Program.{LinearProgram, LinearBody, LinearFunction}

@@ -1,5 +1,5 @@
 -- Raises and the search for a handler (C reference, "Writing an exception handler").
-use Rattle.std.specs.Prelude.{ℕ, suc, ◌+◌, ◌^◌, Bool, true, false, nat_eq, nat_lt, List, [], ◌∷◌, ◌++◌, Option, Some, None}
+use Rattle.std.specs.Prelude.{ℕ, ◌+◌, ◌^◌, nat_eq, nat_lt, List, [], ◌∷◌, ◌++◌, Option, Some, None}
 use Rattle.seh_num.specs.declared.width.Width.TheVariants.{W32}
 use Rattle.seh_num.specs.declared.event.Event.{Event}
 use Rattle.seh_num.specs.declared.event.Event.TheVariants as events
@@ -8,7 +8,7 @@ use Rattle.linear_code.specs.Program.{LinearProgram}
 use Rattle.c_model.specs.declared.ended.Ended.TheVariants.{Unhandled}
 use Rattle.c_model.specs.State.{Exception}
 use Rattle.c_model.specs.Raises.{noncontinuable, raise_event}
-use Rattle.linear_machine.specs.Frames.{FuncletBody, Frame, Handler, Target, Resumption, AfterCall, SameOperation, Item, Waits, Searches, Unwinds, Store, Configuration, Seen, Finished, Stuck, Next, pick, deeper, forth, with_last}
+use Rattle.linear_machine.specs.Frames.{FuncletBody, Handler, Target, Resumption, AfterCall, SameOperation, Item, Waits, Searches, Store, Configuration, Seen, Finished, Stuck, Next, pick, deeper, forth, with_last}
 use Rattle.linear_machine.specs.Regions.{handlers}
 use Rattle.linear_machine.specs.Unwinding.{unwind}
 

@@ -1,5 +1,5 @@
 -- Unwinding (Microsoft x64 ABI, "Unwind procedure"; C reference, "try-finally statement").
-use Rattle.std.specs.Prelude.{ℕ, suc, ◌+◌, Bool, true, false, nat_eq, if◌then◌else◌, List, [], ◌∷◌, ◌++◌, length, take, slice_get, Option, Some, None}
+use Rattle.std.specs.Prelude.{ℕ, ◌+◌, Bool, true, nat_eq, List, [], ◌∷◌, ◌++◌, length, take, slice_get, Option, Some, None}
 use Rattle.seh_num.specs.declared.event.Event.{Event}
 use Rattle.seh_num.specs.declared.event.Event.TheVariants as events
 use Rattle.linear_code.specs.declared.program.Region.{Region}
@@ -9,7 +9,7 @@ use Rattle.linear_code.specs.declared.program.FuncletKind.{FuncletKind}
 use Rattle.linear_code.specs.declared.program.FuncletKind.TheVariants.{Filter, Finally}
 use Rattle.linear_code.specs.Program.{LinearProgram, LinearFunclet}
 use Rattle.c_model.specs.Expressions.{of_test, no_exception}
-use Rattle.linear_machine.specs.Frames.{BodyName, FunctionBody, FuncletBody, Frame, Target, Item, Waits, Searches, Unwinds, Store, Configuration, Seen, Stuck, Next, pick, with_some, deeper, set_local}
+use Rattle.linear_machine.specs.Frames.{BodyName, FunctionBody, FuncletBody, Target, Item, Waits, Searches, Unwinds, Store, Configuration, Seen, Stuck, Next, pick, with_some, deeper, set_local}
 use Rattle.linear_machine.specs.Regions.{regions_at, regions_left, stops}
 
 -- ---- `__finally` blocks
