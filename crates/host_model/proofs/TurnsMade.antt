@@ -9,7 +9,7 @@ use Rattle.host_model.specs.declared.funclet.Funclet.{Funclet}
 use Rattle.host_model.specs.Turns.{shown_in}
 use Rattle.host_model.specs.HostStep.{Host, Live, Ended, next, shown_next, turn, after, end_of}
 use Rattle.host_model.specs.Machine.{or_turn, run}
-use Rattle.host_model.specs.Laws.{after_turns, shown_in_turns, RunsAreTurns, LaterTurnsGoOn, EndsStay}
+use Rattle.host_model.specs.Laws.{after_turns, shown_in_turns, RunsAreTurns, TurnsSplit, EndsStay}
 
 -- a turn more, at the end
 pub after_one_more : (f : Functions) (fs : List Funclet) (n : ℕ) (h : Host) → after_turns f fs (suc n) h ≡ next f fs (after_turns f fs n h)
@@ -41,8 +41,8 @@ shown_more f fs (suc n) m h =
     ∙ ap (λ t. shown_next f fs h ++ t) (shown_more f fs n m (next f fs h))
     ∙ sym (append_assoc (shown_next f fs h) (shown_in_turns f fs n (next f fs h)) (shown_in_turns f fs m (after_turns f fs n (next f fs h))))
 
-pub later_turns : LaterTurnsGoOn
-later_turns f fs n m h = record { host = after_more f fs n m h; shown = shown_more f fs n m h }
+pub turns_split : TurnsSplit
+turns_split f fs n m h = record { host = after_more f fs n m h; shown = shown_more f fs n m h }
 
 -- an end stays
 pub ends_stay : EndsStay

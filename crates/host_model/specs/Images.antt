@@ -231,12 +231,15 @@ continued_access =
 
 -- ---- what they show
 
+-- an exception code
 abbrev pub code : ℕ → Code
 code n = record { 0 = n }
 
+-- an exception that can be continued, of no refused access
 abbrev pub raise : ℕ → Event
 raise n = events.Raise (code n) false None
 
+-- within so many turns, with the argument 0
 abbrev pub ShowsInTurns : List ℕ → ℕ → List Event → RunEnd → Type 0
 ShowsInTurns bytes n shown end = machine bytes (pos 0) n ≡ record { events = shown; end = Some end }
 

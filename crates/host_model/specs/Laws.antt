@@ -17,6 +17,7 @@ pub record Covers (events : List Event) (end : Option RunEnd) (shown : Shown Run
 abbrev pub Begins : List Event → Shown RunEnd → Type 0
 Begins out shown = (more : List Event) × (shown.events ≡ out ++ more)
 
+-- whatever was shown before is at the front
 abbrev pub RunsShowWhatWasShown : Type 0
 RunsShowWhatWasShown =
     (f : Functions) (fs : List Funclet) (k : ℕ) (h : Host) (out : List Event)
@@ -66,14 +67,16 @@ pub record Stays (f : Functions) (fs : List Funclet) (n : ℕ) (e : RunEnd) : Ty
   pub host : after_turns f fs n (Ended e) ≡ Ended e
   pub shown : shown_in_turns f fs n (Ended e) ≡ []
 
+-- of every host that has ended
 abbrev pub EndsStay : Type 0
 EndsStay = (f : Functions) (fs : List Funclet) (n : ℕ) (e : RunEnd) → Stays f fs n e
 
--- turns made later go on from the host that earlier ones leave
-pub record GoesOn (f : Functions) (fs : List Funclet) (n m : ℕ) (h : Host) : Type 0 where
+-- n + m turns are n turns, and then m from the host that those leave
+pub record Splits (f : Functions) (fs : List Funclet) (n m : ℕ) (h : Host) : Type 0 where
   pub host : after_turns f fs (n + m) h ≡ after_turns f fs m (after_turns f fs n h)
   pub shown : shown_in_turns f fs (n + m) h
       ≡ shown_in_turns f fs n h ++ shown_in_turns f fs m (after_turns f fs n h)
 
-abbrev pub LaterTurnsGoOn : Type 0
-LaterTurnsGoOn = (f : Functions) (fs : List Funclet) (n m : ℕ) (h : Host) → GoesOn f fs n m h
+-- of any numbers of turns
+abbrev pub TurnsSplit : Type 0
+TurnsSplit = (f : Functions) (fs : List Funclet) (n m : ℕ) (h : Host) → Splits f fs n m h

@@ -33,9 +33,11 @@ run t fs (suc n) h out = or_turn t fs (run t fs n) out h
 abbrev pub functions_in : Image → Functions
 functions_in image = record { base = image.base; entries = or_none (tables image) }
 
+-- a run of an image from its entry point, with the argument
 abbrev pub run_from : Image → ℤ → ℕ → Functions → Shown RunEnd
 run_from image arg m t = run t (funclets t.entries) m (host (start image arg)) []
 
+-- what isn't an image shows nothing, and has no end
 abbrev pub machine_of : Result Image ImageErr → ℤ → ℕ → Shown RunEnd
 machine_of (Ok image) arg m = run_from image arg m (functions_in image)
 machine_of (Err e) arg m = record { events = []; end = None }

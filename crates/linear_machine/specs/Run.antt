@@ -10,6 +10,7 @@ use Rattle.c_model.specs.declared.ended.Ended.{Ended}
 use Rattle.linear_machine.specs.Frames.{body_of, Configuration, Seen, Running, Finished, Stuck, Next, pick, with_some}
 use Rattle.linear_machine.specs.Instructions.{begin_function, act}
 
+-- an instruction of a body, by its number
 abbrev pub instruction_in : Option LinearBody → ℕ → Option Instruction
 instruction_in None label = None
 instruction_in (Some b) label = slice_get b.code label
@@ -30,6 +31,7 @@ exec program (suc n) c =
 abbrev pub main_arguments : ℕ → ℤ → List ℕ
 main_arguments parameters arg = if nat_eq parameters 0 then [] else wrapped W64 arg ∷ []
 
+-- the configuration that a program starts from: `main` begins
 abbrev pub start : LinearProgram → ℤ → LinearFunction → Configuration
 start program arg main =
     begin_function program.main main (main_arguments main.parameters arg) 0 []
@@ -47,6 +49,7 @@ shown (Running es) = record { events = es; end = None }
 shown (Finished e es) = record { events = es; end = Some e }
 shown (Stuck es) = record { events = es; end = None }
 
+-- what a linear program shows within n turns
 abbrev pub linear_meaning : LinearProgram → ℤ → ℕ → Shown Ended
 linear_meaning program arg n = shown (seen program arg n)
 

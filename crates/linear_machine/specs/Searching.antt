@@ -12,6 +12,7 @@ use Rattle.linear_machine.specs.Frames.{FuncletBody, Handler, Target, Resumption
 use Rattle.linear_machine.specs.Regions.{handlers}
 use Rattle.linear_machine.specs.Unwinding.{unwind}
 
+-- the target of an unwinding to a handler's block
 abbrev pub target_of : Handler → ℕ → ℕ → Target
 target_of h code held = record { depth = h.depth; label = h.target; code = Some code; held = held }
 
@@ -47,6 +48,7 @@ consult program None h rest exception resumption next c = accept program h excep
 consult program (Some k) h rest exception resumption next c =
     deeper 2 c.frame.held c.store c.events (next (begin_filter k h rest exception resumption c))
 
+-- a search: its handlers in order; without one the exception is unhandled
 abbrev pub search : LinearProgram → Next → List Handler → Exception → Resumption → Configuration
     → Seen
 search program next [] exception resumption c =

@@ -13,11 +13,11 @@ use Rattle.linear_runs.proofs.Longer.{events_of}
 use Rattle.linear_runs.proofs.Stretch.{Part, Site, Way, Never, To, Out, Ways, Kept, value_ways, normal_ways, first_ways, Prefix, Before, Price, price, Join, Dearer, Reaches, Finishes, Stops, unwound, Arrival, Arrives, Targets, Meets, Claim}
 
 module _ (linear : LinearProgram) (pace : ℕ) where
-  before_more : (seen : Seen) (es es' : List Event) → Before seen es → Prefix es es' → Before seen es'
-  before_more seen es es' b p = (b.0, b.1, (b.2.0 ++ p.0, p.1 ∙ ap (λ x. x ++ p.0) b.2.1 ∙ append_assoc b.0 b.2.0 p.0))
-
   prefix_more : (a b c : List Event) → Prefix a b → Prefix b c → Prefix a c
   prefix_more a b c p q = (p.0 ++ q.0, q.1 ∙ ap (λ x. x ++ q.0) p.1 ∙ append_assoc a p.0 q.0)
+
+  before_more : (seen : Seen) (es es' : List Event) → Before seen es → Prefix es es' → Before seen es'
+  before_more seen es es' b p = (b.0, b.1, prefix_more b.0 es es' b.2 p)
 
   -- the turn before the last, of two stretches
   prior_after : (s t : Part) (mid end : List Event) (c d : ℕ) → ((i : ℕ) → suc i ≡ c → Before (s (exec linear i)) mid) → ((k : ℕ) → (j : ℕ) × (j ≡ c + k) × (s (exec linear j) ≡ t (exec linear k)))

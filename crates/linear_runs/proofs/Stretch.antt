@@ -14,7 +14,7 @@ use Rattle.linear_machine.specs.Searching.{target_of}
 use Rattle.linear_machine.specs.Run.{exec}
 use Rattle.linear_runs.proofs.Longer.{events_of}
 
--- a place in a run, maybe within a turn, from which it goes on
+-- a place in a run, maybe within a turn, from which it continues
 abbrev pub Part : Type 0
 Part = Next → Seen
 
@@ -101,7 +101,7 @@ abbrev pub Dearer : Price → Price → Type 0
 Dearer p r = (p.turns ≤ r.turns) × (r.extra + p.slack ≤ p.extra + r.slack) × (r.extra + p.out ≤ p.extra + r.out)
 
 module _ (linear : LinearProgram) (pace : ℕ) where
-  -- the handlers that a search meets from there
+  -- the handlers that a search comes to from there
   abbrev pub found : Context → Site → List Handler
   found context site = handlers_in site.regions context.activation (length site.below) ++ handlers linear site.below None
 
