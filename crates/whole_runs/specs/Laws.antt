@@ -66,6 +66,7 @@ pub record Begins (t : Functions) (fs : List Funclet) (program : LinearProgram) 
   pub no_credit : credit (start program arg main) ≡ 0
   pub follows : Follows t fs program pace credit n state (start program arg main)
 
+-- a program's run shows all that its linear code shows
 abbrev pub ProgramsShowAll : Type 0
 ProgramsShowAll =
     (t : Functions) (fs : List Funclet) (program : LinearProgram) (pace : ℕ)
@@ -75,6 +76,7 @@ ProgramsShowAll =
     → first + pace * n ≤ turns
     → ShowsAll (linear_meaning program arg n) (run t fs turns (host s) [])
 
+-- a program's run shows no more than its linear code
 abbrev pub ProgramsShowNoMore : Type 0
 ProgramsShowNoMore =
     (t : Functions) (fs : List Funclet) (program : LinearProgram) (pace : ℕ)
